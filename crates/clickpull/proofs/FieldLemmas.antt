@@ -1,0 +1,110 @@
+-- The fields and lines of a text, one after another.
+use Rattle.std.proofs.Common.{◌≡◌, ℕ, Result, Ok, Err, IsTrue, ◌&&◌, ◌^◌, nat_lt, ◌<◌, ◌==◌, Bool, true, false, List, [], ◌∷◌, length, take, drop, refl, sym, ap, ◌∙◌, add_comm, add-one, arith}
+use Rattle.std.specs.List.{position_or_len, prefix_len, slice_split, filter, before_first, after_first}
+use Rattle.std.proofs.lemmas.List.Splits.{slice_split_first, slice_split_none, length-slice_split}
+use Rattle.std.proofs.lemmas.List.Sums.{fails_before_first}
+use Rattle.std.specs.Str.Lines.{lines, lines_of_parts, strip_carriage_return}
+use Rattle.std.proofs.lemmas.Bool.Decides.{nat_tests}
+use Rattle.std.specs.List.{list_all}
+use Rattle.std.specs.Option.{SomeIff}
+use Rattle.std.specs.Result.{OkIff, result_ok}
+use Rattle.std.specs.Char.{is_ascii_digit}
+use Rattle.std.specs.Str.{all_ascii_digits, IsUtf8}
+use Rattle.std.specs.Str.Parse.{digits_value, ParsesUnsigned}
+use Rattle.std.proofs.lemmas.Str.{IsUtf8-from_ascii}
+use Rattle.std.proofs.lemmas.Fmt.{IsAscii-from_digits}
+use Rattle.std.proofs.lemmas.Str.Parse.{IsNumeralModel, numerals_by_value, tells_all_ascii_digits, parse_digits}
+use Rattle.clickpull.specs.Script.{is_blank, has_bytes, fields}
+use Rattle.clickpull.specs.Fields.{field_at}
+
+-- blanks at the front change no field
+pub fields-skip : (text : List ℕ) → fields text ≡ fields (drop (prefix_len is_blank text) text)
+fields-skip [] = refl
+fields-skip (byte ∷ text) = by_test (is_blank byte) refl (fields-skip text)
+  where
+    by_test : (b : Bool) → is_blank byte ≡ b → fields text ≡ fields (drop (prefix_len is_blank text) text) → fields (byte ∷ text) ≡ fields (drop (prefix_len is_blank (byte ∷ text)) (byte ∷ text))
+    by_test true e h = rw (e, add_comm 1 (prefix_len is_blank text), add-one) h
+    by_test false e h = rw (e, e) refl
+
+-- the parts of a text: the bytes before the first at which it is cut, and then parts whose fields are those of what follows
+pub record Parts (text : List ℕ) : Type 0 where
+  pub more : List (List ℕ)
+  pub split : slice_split is_blank text ≡ take (position_or_len is_blank text) text ∷ more
+  pub later : filter has_bytes more ≡ fields (drop (position_or_len is_blank text) text)
+
+pub parts : (text : List ℕ) → Parts text
+parts [] = record { more = []; split = refl; later = refl }
+parts (byte ∷ text) = by_test (is_blank byte) refl (parts text)
+  where
+    by_test : (b : Bool) → is_blank byte ≡ b → Parts text → Parts (byte ∷ text)
+    by_test true e p = record { more = slice_split is_blank text; split = rw e refl; later = rw (e, e) refl }
+    by_test false e p = record { more = p.more; split = rw (e, add_comm 1 (position_or_len is_blank text), add-one) (rw p.split refl); later = rw (e, add_comm 1 (position_or_len is_blank text), add-one) p.later }
+
+-- The bytes up to the first blank are the first field, unless there are none, where this is the end.
+pub record FirstField (text : List ℕ) : Type 0 where
+  pub field : take (position_or_len is_blank text) text ≡ field_at (fields text) 0
+  pub rest : fields (drop (position_or_len is_blank text) text) ≡ drop 1 (fields text)
+
+-- a text that begins with no blank
+pub fields-first : (text : List ℕ) → prefix_len is_blank text ≡ 0 → FirstField text
+fields-first [] none = record { field = refl; rest = refl }
+fields-first (byte ∷ text) none = by_test (is_blank byte) refl (parts text) none
+  where
+    by_test : (b : Bool) → is_blank byte ≡ b → Parts text → prefix_len is_blank (byte ∷ text) ≡ 0 → FirstField (byte ∷ text)
+    by_test true e p none = absurd (omega (arith, rw e at none))
+    by_test false e p none =
+        record {
+          field = rw (e, add_comm 1 (position_or_len is_blank text), add-one) (rw p.split refl);
+          rest = rw (e, add_comm 1 (position_or_len is_blank text), add-one) (rw p.split (sym p.later));
+        }
+
+-- after the blanks at its front, a text begins with no blank
+pub skipped : (text : List ℕ) → prefix_len is_blank (drop (prefix_len is_blank text) text) ≡ 0
+skipped [] = refl
+skipped (byte ∷ text) = by_test (is_blank byte) refl (skipped text)
+  where
+    by_test : (b : Bool) → is_blank byte ≡ b → prefix_len is_blank (drop (prefix_len is_blank text) text) ≡ 0 → prefix_len is_blank (drop (prefix_len is_blank (byte ∷ text)) (byte ∷ text)) ≡ 0
+    by_test true e h = rw (e, add_comm 1 (prefix_len is_blank text), add-one) h
+    by_test false e h = rw (e, e) refl
+
+-- the first line of a text that goes on after it
+pub lines-first : (text : List ℕ) → position_or_len (λ byte. byte == 10) text < length text → lines text ≡ strip_carriage_return (before_first (λ byte. byte == 10) text) ∷ lines (after_first (λ byte. byte == 10) text)
+lines-first text h =
+    let first = slice_split_first (λ byte. byte == 10) text 0 h in
+    ap lines_of_parts first ∙ later (before_first (λ byte. byte == 10) text) (after_first (λ byte. byte == 10) text) (slice_split (λ byte. byte == 10) (after_first (λ byte. byte == 10) text)) refl
+  where
+    later : (line rest : List ℕ) (parts : List (List ℕ)) → slice_split (λ byte. byte == 10) rest ≡ parts → lines_of_parts (line ∷ slice_split (λ byte. byte == 10) rest) ≡ strip_carriage_return line ∷ lines rest
+    later line rest [] e = absurd (omega (arith, length-slice_split (λ byte. byte == 10) rest, ap length e))
+    later line rest (part ∷ more) e = rw e refl
+
+-- a text with no line feed is one line
+pub lines-last : (text : List ℕ) → 0 < length text → position_or_len (λ byte. byte == 10) text ≡ length text → lines text ≡ text ∷ lines []
+lines-last [] h e = absurd (omega arith)
+lines-last (byte ∷ text) h e =
+    ap lines_of_parts (slice_split_none (λ byte. byte == 10) (byte ∷ text) (λ k d l. fails_before_first (λ byte. byte == 10) (byte ∷ text) k d (omega arith))) ∙ kept
+  where
+    kept : lines_of_parts ((byte ∷ text) ∷ []) ≡ (byte ∷ text) ∷ lines []
+    kept = grind (arith, nat_tests)
+
+digits-all : (ds : List ℕ) → list_all is_ascii_digit ds ≡ all_ascii_digits ds
+digits-all [] = refl
+digits-all (d ∷ ds) = ap (λ b. is_ascii_digit d && b) (digits-all ds)
+
+-- digits are a number's digits
+numerals : IsNumeralModel (λ ds. all_ascii_digits ds ≡ true) (digits_value 10)
+numerals = numerals_by_value _ tells_all_ascii_digits
+
+pub IsUtf8-digits : (ds : List ℕ) → list_all is_ascii_digit ds ≡ true → IsUtf8 ds
+IsUtf8-digits ds e = IsUtf8-from_ascii ds (IsAscii-from_digits ds (numerals.to ds (sym (digits-all ds) ∙ e)))
+
+-- what reading digits as a number of 64 bits gives
+pub number-parsed : {E : Type 0} (ds : List ℕ) (r : Result ℕ E) → list_all is_ascii_digit ds ≡ true → ParsesUnsigned 64 10 ds r
+    → SomeIff (result_ok r) (IsTrue (all_ascii_digits ds && has_bytes ds && nat_lt (digits_value 10 ds) (2 ^ 64))) (digits_value 10 ds)
+number-parsed ds r e h = by_cases ds r (sym (digits-all ds) ∙ e) (parse_digits numerals 64 ds r h (sym (digits-all ds) ∙ e))
+  where
+    by_cases : {E : Type 0} (ds : List ℕ) (r : Result ℕ E) → all_ascii_digits ds ≡ true → OkIff r ((0 < length ds) × (digits_value 10 ds < 2 ^ 64)) (digits_value 10 ds)
+        → SomeIff (result_ok r) (IsTrue (all_ascii_digits ds && has_bytes ds && nat_lt (digits_value 10 ds) (2 ^ 64))) (digits_value 10 ds)
+    by_cases [] (Ok x) e h = absurd (omega (arith, h.0.0))
+    by_cases (d ∷ ds) (Ok x) e h = let small = h.0.1 in (grind (arith, nat_tests), h.1)
+    by_cases [] (Err x) e h = λ t. absurd (grind (arith, nat_tests))
+    by_cases (d ∷ ds) (Err x) e h = λ t. h (omega arith, grind (arith, nat_tests))

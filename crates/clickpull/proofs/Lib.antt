@@ -1,0 +1,12 @@
+-- Lemmas that answers cite.
+pub mod FieldLemmas
+pub mod LineLemmas
+pub mod QueueLemmas
+pub mod RunLemmas
+pub mod EventLemmas
+pub mod BuiltinLemmas
+pub mod RouterLemmas
+pub mod AnswerLemmas
+pub mod BytesLemmas
+pub mod ScriptLemmas
+pub mod RefusalLemmas

@@ -1,0 +1,165 @@
+-- How the built-in router goes on by one event.
+use Rattle.std.proofs.Common.{◌≡◌, ℕ, ◌+◌, ◌<◌, ◌==◌, true, false, List, [], ◌∷◌, ◌++◌, length, max, fold, Option, refl, sym, ap, ◌∙◌, subst, arith}
+use Rattle.std.specs.List.{filter_map, AllByRecursion}
+use Rattle.std.proofs.lemmas.List.{append_assoc, append-nil, length-append}
+use Rattle.std.proofs.lemmas.List.Concat.{flat_map-append}
+use Rattle.std.proofs.lemmas.List.Elements.{filter_map-append}
+use Rattle.clk_packet.specs.declared.packet.Packet.{Packet}
+use Rattle.clk_packet.specs.declared.packet.Offered.{Offered}
+use Rattle.clk_packet.specs.declared.packet.Kind.TheVariants.{TailDrop}
+use Rattle.clk_sched.specs.declared.visit.Visit.{Visit}
+use Rattle.clickpull.specs.declared.ring.Ring.{Ring}
+use Rattle.clickpull.specs.declared.router.Router.{Router}
+use Rattle.clickpull.specs.QueueHistory.{QueueEvent, IsQueueHistory, offer_events, answer}
+use Rattle.clk_sched.specs.Log.{asking}
+use Rattle.clickpull.specs.Meaning.{Event, offered, pulled, number_from, numbers_of, pull_in, moment_in, visits_in, log_of, sends_to, at_queue, history}
+use Rattle.clickpull.specs.Builtin.{builtin}
+use Rattle.clickpull.specs.Router.{IsLeft, prio_visits, second_events, PrioPulls, IsAt, Pulls}
+use Rattle.clickpull.proofs.RunLemmas.{AllByRecursion-append, AllByRecursion-weaker}
+use Rattle.clickpull.proofs.EventLemmas.{builtin-histories, CanHappen-offer, CanHappen-pull}
+use Rattle.clickpull.proofs.BuiltinLemmas.{router_visits, IsPull-builtin, result-builtin, first-builtin, second-builtin}
+
+-- what happened to a queue, with an offer of its sender or of another
+history-sent : (q : ℕ) (events : List Event) (p : Packet) (outcome : Offered) → sends_to builtin.senders p.sender q ≡ true
+    → history builtin q (events ++ offered p outcome ∷ []) ≡ history builtin q events ++ offer_events p outcome
+history-sent q events p outcome e = flat_map-append (at_queue builtin q) events (offered p outcome ∷ []) ∙ ap (λ l. history builtin q events ++ l) (rw e (append-nil (offer_events p outcome)))
+
+history-other : (q : ℕ) (events : List Event) (p : Packet) (outcome : Offered) → sends_to builtin.senders p.sender q ≡ false
+    → history builtin q (events ++ offered p outcome ∷ []) ≡ history builtin q events
+history-other q events p outcome e = flat_map-append (at_queue builtin q) events (offered p outcome ∷ []) ∙ ap (λ l. history builtin q events ++ l) (rw e refl) ∙ append-nil (history builtin q events)
+
+-- how many packets a sender has offered, with one of its own or of another
+numbers-sent : (s : ℕ) (events : List Event) (p : Packet) (outcome : Offered) → (p.sender == s) ≡ true → length (numbers_of s (events ++ offered p outcome ∷ [])) ≡ length (numbers_of s events) + 1
+numbers-sent s events p outcome e = rw (filter_map-append (number_from s) events (offered p outcome ∷ []), e, length-append) refl
+
+numbers-other : (s : ℕ) (events : List Event) (p : Packet) (outcome : Offered) → (p.sender == s) ≡ false → length (numbers_of s (events ++ offered p outcome ∷ [])) ≡ length (numbers_of s events)
+numbers-other s events p outcome e = rw (filter_map-append (number_from s) events (offered p outcome ∷ []), e, append-nil) refl
+
+-- what an offer leaves as it was
+record SameLog (old new : Router) : Type 0 where
+  log : new.log.items ≡ old.log.items
+  pulls : new.pulls ≡ old.pulls
+  now : new.now ≡ old.now
+
+at_capacity : (events : List QueueEvent) (ring : Ring) → IsLeft events ring → ring.capacity ≡ 2 → IsQueueHistory TailDrop 2 events
+at_capacity events ring left e = subst (λ (n : ℕ). IsQueueHistory TailDrop n events) e left.whole
+
+-- An offer to either queue leads on.
+IsAt-offer : (events : List Event) (old new : Router) (p : Packet) (outcome : Offered) → IsAt events old → SameLog old new
+    → p.number ≡ length (numbers_of p.sender events)
+    → new.first_sent ≡ length (numbers_of 0 (events ++ offered p outcome ∷ [])) → new.second_sent ≡ length (numbers_of 1 (events ++ offered p outcome ∷ []))
+    → IsLeft (history builtin 0 (events ++ offered p outcome ∷ [])) new.scheduler.first → IsLeft (history builtin 1 (events ++ offered p outcome ∷ [])) new.scheduler.second
+    → new.scheduler.first.capacity ≡ 2 → new.scheduler.second.capacity ≡ 2
+    → IsAt (events ++ offered p outcome ∷ []) new
+IsAt-offer events old new p outcome at same number first_sent second_sent first second first_capacity second_capacity =
+    let log = flat_map-append visits_in events (offered p outcome ∷ []) ∙ append-nil (log_of events) in
+    let turns = filter_map-append pull_in events (offered p outcome ∷ []) ∙ append-nil (filter_map pull_in events) in
+    let moments = filter_map-append moment_in events (offered p outcome ∷ []) ∙ append-nil (filter_map moment_in events) in
+    record {
+      can_happen =
+          CanHappen-offer events p outcome at.can_happen number
+          (builtin-histories (events ++ offered p outcome ∷ []) (at_capacity _ new.scheduler.first first first_capacity) (at_capacity _ new.scheduler.second second second_capacity));
+      first_sent = first_sent;
+      second_sent = second_sent;
+      first_queue = first;
+      second_queue = second;
+      first_capacity = first_capacity;
+      second_capacity = second_capacity;
+      log = same.log ∙ at.log ∙ sym log;
+      pulls = same.pulls ∙ at.pulls ∙ ap length (sym turns);
+      pulls_before = subst (λ (n : ℕ). AllByRecursion (λ (v : Visit). v.pull < n) (log_of (events ++ offered p outcome ∷ []))) (sym same.pulls) (rw log at.pulls_before);
+      now = same.now ∙ at.now ∙ ap (fold max 0) (sym moments);
+    }
+
+-- An offer of sender 0 leads on.
+pub IsAt-first : (events : List Event) (old : Router) (p : Packet) (outcome : Offered) (sent : ℕ) (ring : Ring) → IsAt events old → p.sender ≡ 0 → p.number ≡ old.first_sent
+    → sent ≡ old.first_sent + 1 → ((h : List QueueEvent) → IsLeft h old.scheduler.first → IsLeft (h ++ offer_events p outcome) ring) → ring.capacity ≡ old.scheduler.first.capacity
+    → IsAt (events ++ offered p outcome ∷ []) (record old { first_sent = sent; scheduler = record old.scheduler { first = ring } })
+IsAt-first events old p outcome sent ring at zero number counted event capacity =
+    let here : sends_to builtin.senders p.sender 0 ≡ true = rw zero refl in
+    let there : sends_to builtin.senders p.sender 1 ≡ false = rw zero refl in
+    let mine : (p.sender == 0) ≡ true = rw zero refl in
+    let other : (p.sender == 1) ≡ false = rw zero refl in
+    IsAt-offer events old (record old { first_sent = sent; scheduler = record old.scheduler { first = ring } }) p outcome at (record { log = refl; pulls = refl; now = refl })
+    (number ∙ at.first_sent ∙ ap (λ s. length (numbers_of s events)) (sym zero))
+    (counted ∙ ap (λ n. n + 1) at.first_sent ∙ sym (numbers-sent 0 events p outcome mine)) (at.second_sent ∙ sym (numbers-other 1 events p outcome other))
+    (rw (history-sent 0 events p outcome here) (event (history builtin 0 events) at.first_queue)) (rw (history-other 1 events p outcome there) at.second_queue)
+    (capacity ∙ at.first_capacity) at.second_capacity
+
+-- An offer of sender 1 leads on.
+pub IsAt-second : (events : List Event) (old : Router) (p : Packet) (outcome : Offered) (sent : ℕ) (ring : Ring) → IsAt events old → p.sender ≡ 1 → p.number ≡ old.second_sent
+    → sent ≡ old.second_sent + 1 → ((h : List QueueEvent) → IsLeft h old.scheduler.second → IsLeft (h ++ offer_events p outcome) ring) → ring.capacity ≡ old.scheduler.second.capacity
+    → IsAt (events ++ offered p outcome ∷ []) (record old { second_sent = sent; scheduler = record old.scheduler { second = ring } })
+IsAt-second events old p outcome sent ring at one number counted event capacity =
+    let here : sends_to builtin.senders p.sender 1 ≡ true = rw one refl in
+    let there : sends_to builtin.senders p.sender 0 ≡ false = rw one refl in
+    let mine : (p.sender == 1) ≡ true = rw one refl in
+    let other : (p.sender == 0) ≡ false = rw one refl in
+    IsAt-offer events old (record old { second_sent = sent; scheduler = record old.scheduler { second = ring } }) p outcome at (record { log = refl; pulls = refl; now = refl })
+    (number ∙ at.second_sent ∙ ap (λ s. length (numbers_of s events)) (sym one))
+    (at.first_sent ∙ sym (numbers-other 0 events p outcome other)) (counted ∙ ap (λ n. n + 1) at.second_sent ∙ sym (numbers-sent 1 events p outcome mine))
+    (rw (history-other 0 events p outcome there) at.first_queue) (rw (history-sent 1 events p outcome here) (event (history builtin 1 events) at.second_queue))
+    at.first_capacity (capacity ∙ at.second_capacity)
+
+fold-more : (a : ℕ) (ms : List ℕ) (m : ℕ) → fold max a (ms ++ m ∷ []) ≡ max (fold max a ms) m
+fold-more a [] m = refl
+fold-more a (n ∷ ms) m = fold-more (max a n) ms m
+
+-- A pull leads on.
+pub Pulls-builtin : (events : List Event) (old new : Router) (moment : ℕ) (mid : List Visit) (got : Option Packet) → IsAt events old
+    → PrioPulls old.scheduler new.scheduler old.log.items mid old.pulls (max old.now moment) got
+    → new.log.items ≡ mid ++ asking old.pulls (max old.now moment) 0 0 got ∷ [] → new.first_sent ≡ old.first_sent → new.second_sent ≡ old.second_sent
+    → new.pulls ≡ old.pulls + 1 → new.now ≡ max old.now moment → Pulls new moment got events
+Pulls-builtin events old new moment mid got at prio logged first_sent second_sent counted now =
+    let k = length (filter_map pull_in events) in
+    let t = max (fold max 0 (filter_map moment_in events)) moment in
+    let visits = router_visits k t prio.first prio.second in
+    let is = IsPull-builtin k t prio.first prio.second in
+    let log_is : new.log.items ≡ log_of events ++ visits =
+    logged ∙ ap (λ l. l ++ asking old.pulls (max old.now moment) 0 0 got ∷ []) (prio.visits ∙ ap (λ l. l ++ prio_visits old.pulls (max old.now moment) prio.first prio.second) at.log)
+    ∙ append_assoc (log_of events) (prio_visits old.pulls (max old.now moment) prio.first prio.second) (asking old.pulls (max old.now moment) 0 0 got ∷ [])
+    ∙ ap (λ n. log_of events ++ (prio_visits n (max old.now moment) prio.first prio.second ++ asking n (max old.now moment) 0 0 got ∷ [])) at.pulls
+    ∙ ap (λ n. log_of events ++ (prio_visits k (max n moment) prio.first prio.second ++ asking k (max n moment) 0 0 got ∷ [])) at.now
+    ∙ ap (λ o. log_of events ++ (prio_visits k t prio.first prio.second ++ asking k t 0 0 o ∷ [])) prio.result
+    in
+    let log : log_of (events ++ pulled moment visits ∷ []) ≡ log_of events ++ visits =
+    flat_map-append visits_in events (pulled moment visits ∷ []) ∙ ap (λ l. log_of events ++ l) (append-nil visits)
+    in
+    let first_history : history builtin 0 (events ++ pulled moment visits ∷ []) ≡ history builtin 0 events ++ answer prio.first ∷ [] =
+    flat_map-append (at_queue builtin 0) events (pulled moment visits ∷ [])
+    ∙ ap (λ l. history builtin 0 events ++ l) (append-nil (at_queue builtin 0 (pulled moment visits)) ∙ first-builtin moment k t prio.first prio.second)
+    in
+    let second_history : history builtin 1 (events ++ pulled moment visits ∷ []) ≡ history builtin 1 events ++ second_events prio.first prio.second =
+    flat_map-append (at_queue builtin 1) events (pulled moment visits ∷ [])
+    ∙ ap (λ l. history builtin 1 events ++ l) (append-nil (at_queue builtin 1 (pulled moment visits)) ∙ second-builtin moment k t prio.first prio.second)
+    in
+    let first : IsLeft (history builtin 0 (events ++ pulled moment visits ∷ [])) new.scheduler.first =
+    subst (λ (h : List QueueEvent). IsLeft h new.scheduler.first) (sym first_history) (prio.first_queue (history builtin 0 events) at.first_queue)
+    in
+    let second : IsLeft (history builtin 1 (events ++ pulled moment visits ∷ [])) new.scheduler.second =
+    subst (λ (h : List QueueEvent). IsLeft h new.scheduler.second) (sym second_history) (prio.second_queue (history builtin 1 events) at.second_queue)
+    in
+    let total : new.pulls ≡ k + 1 = counted ∙ ap (λ n. n + 1) at.pulls in
+    record {
+      visits = visits;
+      result = result-builtin k t prio.first prio.second ∙ sym prio.result;
+      leads = record {
+        can_happen =
+            CanHappen-pull events moment visits at.can_happen (subst (λ (n : ℕ). AllByRecursion (λ (v : Visit). v.pull < n) (log_of events)) at.pulls at.pulls_before) is
+            (builtin-histories (events ++ pulled moment visits ∷ []) (at_capacity _ new.scheduler.first first (prio.first_capacity ∙ at.first_capacity)) (at_capacity _ new.scheduler.second second (prio.second_capacity ∙ at.second_capacity)));
+        first_sent = first_sent ∙ at.first_sent ∙ ap length (sym (filter_map-append (number_from 0) events (pulled moment visits ∷ []) ∙ append-nil (numbers_of 0 events)));
+        second_sent = second_sent ∙ at.second_sent ∙ ap length (sym (filter_map-append (number_from 1) events (pulled moment visits ∷ []) ∙ append-nil (numbers_of 1 events)));
+        first_queue = first;
+        second_queue = second;
+        first_capacity = prio.first_capacity ∙ at.first_capacity;
+        second_capacity = prio.second_capacity ∙ at.second_capacity;
+        log = log_is ∙ sym log;
+        pulls = total ∙ sym (length-append (filter_map pull_in events) (visits ∷ [])) ∙ ap length (sym (filter_map-append pull_in events (pulled moment visits ∷ [])));
+        pulls_before =
+            subst (λ (n : ℕ). AllByRecursion (λ (v : Visit). v.pull < n) (log_of (events ++ pulled moment visits ∷ []))) (sym total)
+            (rw log (AllByRecursion-append (λ (v : Visit). v.pull < k + 1) (log_of events) visits
+            (AllByRecursion-weaker (λ (v : Visit). v.pull < old.pulls) (λ (v : Visit). v.pull < k + 1) (λ v l. omega (arith, at.pulls)) (log_of events) at.pulls_before)
+            (AllByRecursion-weaker (λ (v : Visit). v.pull ≡ k) (λ (v : Visit). v.pull < k + 1) (λ v e. omega arith) visits is.number)));
+        now = now ∙ ap (λ n. max n moment) at.now ∙ sym (fold-more 0 (filter_map moment_in events) moment) ∙ ap (fold max 0) (sym (filter_map-append moment_in events (pulled moment visits ∷ [])));
+      };
+    }

@@ -1,0 +1,109 @@
+-- What a script with no fault is, and what faults a script may have.
+use Rattle.std.proofs.Common.{◌≡◌, ℕ, ◌+◌, ◌≤◌, ◌^◌, ◌-◌, ◌&&◌, ◌==◌, Bool, true, false, cond, nat_lt, nat_le, List, [], ◌∷◌, length, codes, slice_get, Option, Some, None, refl, IfSome, arith}
+use Rattle.std.specs.Bool.{⊤}
+use Rattle.std.specs.List.{filter_map, enumerate_from, AllByRecursion, All, list_any}
+use Rattle.std.specs.Str.{all_ascii_digits, bytes_eq}
+use Rattle.std.specs.Str.Parse.{digits_value}
+use Rattle.std.specs.Str.Lines.{lines}
+use Rattle.std.proofs.lemmas.Bool.Decides.{nat_tests}
+use Rattle.std.proofs.lemmas.List.Elements.{All-from_recursion}
+use Rattle.clk_packet.specs.declared.fault.Fault.{Fault}
+use Rattle.clickpull.specs.declared.script.Command.{Command}
+use Rattle.clickpull.specs.declared.script.Command.TheVariants.{Send, Pull}
+use Rattle.clickpull.specs.declared.script.Line.{Line}
+use Rattle.clickpull.specs.declared.script.Line.TheVariants as line
+use Rattle.clickpull.specs.Script.{most_bytes, has_bytes, number_in, send_of, pull_line, send_line, line_of_fields, line_of, fields, line_fault, fault_at, script_fault, command_in, commands_of}
+use Rattle.clickpull.specs.Router.{IsSound}
+
+-- a line sends no packet without length
+abbrev SendsSome : Line → Type 0
+SendsSome line.Blank = ⊤
+SendsSome line.Malformed = ⊤
+SendsSome (line.Command (Send sender length)) = 1 ≤ length
+SendsSome (line.Command (Pull moment)) = ⊤
+
+-- a test that answers with its number
+tested : (v n : ℕ) (a b : Bool) → cond (a && nat_le 1 v && b) (Some v) None ≡ Some n → 1 ≤ n
+tested v n true true e = grind (arith, nat_tests)
+tested v n true false e = grind (arith, nat_tests)
+tested v n false true e = absurd (cc e)
+tested v n false false e = absurd (cc e)
+
+number_in-least : (digits : List ℕ) (o : Option ℕ) → number_in 1 65535 digits ≡ o → IfSome o (λ n. 1 ≤ n)
+number_in-least digits None e = tt
+number_in-least digits (Some n) e = tested (digits_value 10 digits) n (all_ascii_digits digits && has_bytes digits) (nat_le (digits_value 10 digits) 65535) e
+
+sends_of : (sender length : Option ℕ) → IfSome length (λ n. 1 ≤ n) → SendsSome (send_of sender length)
+sends_of None length h = tt
+sends_of (Some s) None h = tt
+sends_of (Some s) (Some n) h = h
+
+sends_line : (word sender length : List ℕ) → SendsSome (send_line word sender length)
+sends_line word sender length = by_test (bytes_eq word (codes "send")) refl
+  where
+    by_test : (b : Bool) → bytes_eq word (codes "send") ≡ b → SendsSome (send_line word sender length)
+    by_test true e = rw e (sends_of (number_in 0 65535 sender) (number_in 1 65535 length) (number_in-least length (number_in 1 65535 length) refl))
+    by_test false e = rw e tt
+
+pulls_line : (word moment : List ℕ) → SendsSome (pull_line word moment)
+pulls_line word moment = by_test (bytes_eq word (codes "pull")) refl (number_in 0 (2 ^ 40 - 1) moment) refl
+  where
+    by_test : (b : Bool) → bytes_eq word (codes "pull") ≡ b → (o : Option ℕ) → number_in 0 (2 ^ 40 - 1) moment ≡ o → SendsSome (pull_line word moment)
+    by_test true e None f = rw (e, f) tt
+    by_test true e (Some m) f = rw (e, f) tt
+    by_test false e o f = rw e tt
+
+sends_some : (all : List (List ℕ)) → SendsSome (line_of_fields all)
+sends_some [] = tt
+sends_some (word ∷ []) = tt
+sends_some (word ∷ moment ∷ []) = pulls_line word moment
+sends_some (word ∷ sender ∷ size ∷ []) = sends_line word sender size
+sends_some (word ∷ first ∷ second ∷ third ∷ more) = tt
+
+-- a line with no fault can be carried out
+line_sound : (senders : List ℕ) (number : ℕ) (l : Line) → SendsSome l → line_fault senders number l ≡ None → IfSome (command_in l) (IsSound senders)
+line_sound senders number line.Blank s e = tt
+line_sound senders number line.Malformed s e = tt
+line_sound senders number (line.Command (Pull moment)) s e = tt
+line_sound senders number (line.Command (Send sender size)) s e = by_test (list_any (λ x. x == sender) senders) refl
+  where
+    by_test : (b : Bool) → list_any (λ x. x == sender) senders ≡ b → (list_any (λ x. x == sender) senders ≡ true) × (1 ≤ size)
+    by_test true f = (f, s)
+    by_test false f = let no = rw f at e in absurd (cc)
+
+-- the lines from the n-th on have no fault
+pub record HasNoFault (senders : List ℕ) (n : ℕ) (texts : List (List ℕ)) : Type 0 where
+  pub sound : AllByRecursion (IsSound senders) (filter_map (λ text. command_in (line_of text)) texts)
+  pub few : n + length (filter_map (λ text. command_in (line_of text)) texts) ≤ 1000001
+
+no_fault : (senders : List ℕ) (n : ℕ) (texts : List (List ℕ)) → n ≤ 1000001 → slice_get (filter_map (fault_at senders) (enumerate_from n texts)) 0 ≡ None → HasNoFault senders n texts
+no_fault senders n [] h e = record { sound = tt; few = omega arith }
+no_fault senders n (text ∷ texts) h e = by_fault (fault_at senders (n, text)) refl (no_fault senders (n + 1) texts)
+  where
+    by_command : (o : Option Command) → command_in (line_of text) ≡ o → IfSome o (IsSound senders) → n ≤ 1000000 → HasNoFault senders (n + 1) texts → HasNoFault senders n (text ∷ texts)
+    by_command None f sound l rest = record { sound = rw f rest.sound; few = rw f (let few = rest.few in omega arith) }
+    by_command (Some command) f sound l rest = record { sound = rw f (sound, rest.sound); few = rw f (let few = rest.few in omega arith) }
+
+    by_test : (b : Bool) → nat_lt 1000000 n ≡ b → fault_at senders (n, text) ≡ None → (n ≤ 1000000) × (line_fault senders n (line_of text) ≡ None)
+    by_test true f g = let no = rw f at g in absurd (cc)
+    by_test false f g = (grind (arith, nat_tests), rw f at g)
+
+    by_fault : (o : Option Fault) → fault_at senders (n, text) ≡ o → (n + 1 ≤ 1000001 → slice_get (filter_map (fault_at senders) (enumerate_from (n + 1) texts)) 0 ≡ None → HasNoFault senders (n + 1) texts) → HasNoFault senders n (text ∷ texts)
+    by_fault None f rest =
+        let t = by_test (nat_lt 1000000 n) refl f in
+        by_command (command_in (line_of text)) refl (line_sound senders n (line_of text) (sends_some (fields text)) t.1) t.0 (rest (omega (arith, t.0)) (rw f at e))
+    by_fault (Some fault) f rest = let no = rw f at e in absurd (cc)
+
+-- a script with no fault can be carried out
+script_lines : (senders script : List ℕ) → script_fault senders script ≡ None → slice_get (filter_map (fault_at senders) (enumerate_from 1 (lines script))) 0 ≡ None
+script_lines senders script e = by_test (nat_lt most_bytes (length script)) refl
+  where
+    by_test : (b : Bool) → nat_lt most_bytes (length script) ≡ b → slice_get (filter_map (fault_at senders) (enumerate_from 1 (lines script))) 0 ≡ None
+    by_test true f = let no = rw f at e in absurd (cc)
+    by_test false f = rw f at e
+
+pub commands-sound : (senders script : List ℕ) → script_fault senders script ≡ None → All (IsSound senders) (commands_of script)
+commands-sound senders script e = All-from_recursion (IsSound senders) (commands_of script) (no_fault senders 1 (lines script) (omega arith) (script_lines senders script e)).sound
+
+pub commands-few : (senders script : List ℕ) → script_fault senders script ≡ None → length (commands_of script) ≤ 1000000
+commands-few senders script e = let few = (no_fault senders 1 (lines script) (omega arith) (script_lines senders script e)).few in omega arith

@@ -1,0 +1,13 @@
+use Rattle.std.proofs.Common.{refl, ◌∙◌}
+use Rattle.clickpull.proofs.BytesLemmas.{HasWritten-more, HasWritten-none}
+use Rattle.clickpull.proofs.bytes.write_all.Goals as goal
+
+pub loop-rest-init : goal.loop-rest-init
+loop-rest-init g c = record { front = HasWritten-none _ _; failures = refl }
+
+pub loop-rest-preserved : goal.loop-rest-preserved
+loop-rest-preserved g c =
+    record {
+      front = rw c.split_at.ensures.back (HasWritten-more _ _ _ c.args.text.now c.loop-rest.rest.now c.in-Ok.count c.loop-rest.invariant.front c.in-Ok.ensures.bytes);
+      failures = c.in-Ok.ensures.counted ∙ c.loop-rest.invariant.failures;
+    }

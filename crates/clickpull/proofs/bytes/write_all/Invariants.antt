@@ -1,0 +1,12 @@
+use Rattle.std.proofs.Common.{◌≡◌, length}
+use Rattle.clickpull.proofs.BytesLemmas.{HasWritten}
+use Rattle.clickpull.proofs.bytes.write_all.Given as goal
+
+abbrev pub invariant-loop-rest : goal.invariant-loop-rest
+invariant-loop-rest g l = record {
+  front : HasWritten (g.W.Sink.taken l.fn.writer) (g.W.Sink.taken l.writer) l.text l.rest;
+  failures : g.W.Sink.failures l.writer ≡ g.W.Sink.failures l.fn.writer;
+}
+
+abbrev pub decreases-loop-rest : goal.decreases-loop-rest
+decreases-loop-rest g l = length l.rest

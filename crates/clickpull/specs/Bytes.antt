@@ -1,0 +1,37 @@
+-- What is read of a source and written to a sink, where the bytes are known.
+use Rattle.std.specs.Prelude.{◌≡◌, ℕ, ◌+◌, ◌≤◌, List, ◌++◌, length, ⊤, Option, Some, None, Result, Ok, Err, ◌⊎◌, OnOk, OnErr, IfErr}
+use Rattle.std.specs.Io.KnownBytes.{Appends}
+use Rattle.clk_packet.specs.declared.fault.Fault.{Fault}
+use Rattle.clk_packet.specs.declared.fault.Fault.TheVariants.{Memory, Read, Write}
+
+-- known bytes lose at most so many at their front
+abbrev pub Takes : ℕ → Option (List ℕ) → Option (List ℕ) → Type 0
+Takes most None new = ⊤
+Takes most (Some all) None = ⊥
+Takes most (Some all) (Some rest) = (front : List ℕ) × (all ≡ front ++ rest) × (length front ≤ most)
+
+-- A read fails for want of memory, or with `Read` where the source has failed once, and nowhere else.
+abbrev pub FailsToRead : {T : Type 0} → Result T Fault → ℕ → ℕ → Type 0
+FailsToRead (Ok x) before after = after ≡ before
+FailsToRead (Err fault) before after = ((fault ≡ Memory) × (after ≡ before)) ⊎ ((fault ≡ Read) × (after ≡ before + 1))
+
+-- known bytes grow by a front of the text
+abbrev pub AppendsFront : Option (List ℕ) → Option (List ℕ) → List ℕ → Type 0
+AppendsFront old new text = (front : List ℕ) × (rest : List ℕ) × (text ≡ front ++ rest) × Appends old new front
+
+-- The text was written, or the sink failed once, after a front of it.
+pub record Wrote (old new : Option (List ℕ)) (before after : ℕ) (result : Result (Unit {0}) Fault) (text : List ℕ) : Type 0 where
+  pub whole : OnOk result (Appends old new text)
+  pub front : OnErr result (AppendsFront old new text)
+  pub fault : IfErr result (λ e. e ≡ Write)
+  pub succeeds : OnOk result (after ≡ before)
+  pub fails : OnErr result (after ≡ before + 1)
+
+-- how often the reader and the writer have failed, once a call has ended in a result
+abbrev pub read_failures : Result (Unit {0}) Fault → ℕ → ℕ
+read_failures (Err Read) failures = failures + 1
+read_failures result failures = failures
+
+abbrev pub write_failures : Result (Unit {0}) Fault → ℕ → ℕ
+write_failures (Err Write) failures = failures + 1
+write_failures result failures = failures

@@ -1,0 +1,46 @@
+//! Whole texts from a source and to a sink.
+
+ghost use Rattle.std.specs.Prelude.{◌≡◌, take, IfSome, IfOk};
+ghost use Rattle.clickpull.specs.Bytes.{Takes, FailsToRead, Wrote};
+
+use clk_packet::{Fault, Sink, Source};
+use std::alloc::Global;
+
+/// How many bytes are read at a time.
+const CHUNK: usize = 4096;
+
+/// Reads a source to its end, but no more than `most` bytes. Faults 1, and 19 where the source fails.
+pub fn read_up_to<R: Source>(alloc: Global, reader: &mut R, most: usize) -> Result<Vec<u8>, Fault>
+    ensures bytes { IfOk result (λ bytes. IfSome (R.Source.remaining reader.old) (λ all. bytes.items ≡ take most all)) }
+    ensures taken { Takes most (R.Source.remaining reader.old) (R.Source.remaining reader.new) }
+    ensures fault { FailsToRead result (R.Source.failures reader.old) (R.Source.failures reader.new) }
+{
+    let mut bytes = Vec::new(alloc);
+    let mut chunk = [0; CHUNK];
+    while bytes.len() < most {
+        let room = (most - bytes.len()).min(CHUNK);
+        let Ok(count) = reader.read(&mut chunk[..room]) else {
+            return Err(Fault::Read);
+        };
+        if count == 0 {
+            return Ok(bytes);
+        }
+        bytes.extend_from_slice(&chunk[..count])?;
+    }
+    Ok(bytes)
+}
+
+/// Writes a whole text. Where the sink fails, it has taken a front of it (fault 20).
+pub fn write_all<W: Sink>(writer: &mut W, text: &[u8]) -> Result<(), Fault>
+    ensures { Wrote (W.Sink.taken writer.old) (W.Sink.taken writer.new)
+        (W.Sink.failures writer.old) (W.Sink.failures writer.new) result text.now }
+{
+    let mut rest = text;
+    while !rest.is_empty() {
+        let Ok(count) = writer.write(rest) else {
+            return Err(Fault::Write);
+        };
+        (_, rest) = rest.split_at(count);
+    }
+    Ok(())
+}

@@ -1,0 +1,101 @@
+//! Lines, fields and numbers in the bytes of a script.
+
+ghost use Rattle.std.specs.Prelude.{◌≡◌, ℕ, ◌<◌, ◌≤◌, ◌==◌, ◌^◌, ◌∷◌, ◌&&◌, length, drop, not, nat_lt, IsTrue};
+ghost use Rattle.std.specs.Char.{is_ascii_digit};
+ghost use Rattle.std.specs.List.{position_or_len, prefix_len, list_all};
+ghost use Rattle.std.specs.Option.{SomeIff};
+ghost use Rattle.std.specs.Str.{all_ascii_digits};
+ghost use Rattle.std.specs.Str.Parse.{digits_value};
+ghost use Rattle.std.specs.Str.Lines.{lines, strip_carriage_return};
+ghost use Rattle.clickpull.specs.Script.{is_blank, has_bytes, fields, number_in};
+ghost use Rattle.clickpull.specs.Fields.{field_at};
+
+/// Whether a byte parts fields.
+fn is_blank(byte: u8) -> bool
+    ensures { result ≡ is_blank byte }
+{
+    byte == b' ' || byte == b'\t'
+}
+
+/// How many blanks a text begins with.
+fn blanks_len(text: &[u8]) -> usize
+    ensures blanks { result ≡ prefix_len is_blank text.now }
+    ensures within { result ≤ length text.now }
+{
+    text.iter().take_while(|byte| is_blank(**byte)).count()
+}
+
+/// How many bytes that are no blanks a text begins with.
+fn field_len(text: &[u8]) -> usize
+    ensures place { result ≡ position_or_len is_blank text.now }
+    ensures within { result ≤ length text.now }
+{
+    text.iter().take_while(|byte| !is_blank(**byte)).count()
+}
+
+/// The first field of a text, and what follows it. The field is empty where there is none.
+pub fn first_field(text: &[u8]) -> (&[u8], &[u8])
+    ensures field { result.0.now ≡ field_at (fields text.now) 0 }
+    ensures rest { fields result.1.now ≡ drop 1 (fields text.now) }
+{
+    let (_, text) = text.split_at(blanks_len(text));
+    text.split_at(field_len(text))
+}
+
+/// Where the first line of a text ends: at its line feed, or at the end of the text.
+fn line_len(text: &[u8]) -> usize
+    ensures place { result ≡ position_or_len (λ byte. byte == 10) text.now }
+    ensures within { result ≤ length text.now }
+{
+    text.iter().take_while(|byte| **byte != b'\n').count()
+}
+
+/// A line without the carriage return at its end, if it has one.
+fn without_return(line: &[u8]) -> &[u8]
+    ensures { result.now ≡ strip_carriage_return line.now }
+{
+    match line {
+        [line @ .., b'\r'] => line,
+        _ => line,
+    }
+}
+
+/// The first line of a text that isn't empty, without its end, and what follows it.
+pub fn first_line(text: &[u8]) -> (&[u8], &[u8])
+    requires { 0 < length text.now }
+    ensures line { lines text.now ≡ result.0.now ∷ lines result.1.now }
+    ensures rest { length result.1.now < length text.now }
+{
+    let (line, rest) = text.split_at(line_len(text));
+    match rest {
+        [] => (line, rest),
+        [_, rest @ ..] => (without_return(line), rest),
+    }
+}
+
+/// The number that digits stand for, where it is in this range.
+pub fn number_in(digits: &[u8], least: u64, most: u64) -> Option<u64>
+    ensures { result ≡ number_in least most digits.now }
+{
+    let number = number_of(digits)?;
+    (least <= number && number <= most).then_some(number)
+}
+
+/// The number that digits stand for, where there are some and it is below 2^64.
+fn number_of(digits: &[u8]) -> Option<u64>
+    ensures { SomeIff result (IsTrue (all_ascii_digits digits.now && has_bytes digits.now && nat_lt (digits_value 10 digits.now) (2 ^ 64))) (digits_value 10 digits.now) }
+{
+    if !are_digits(digits) {
+        return None;
+    }
+    match str::from_utf8(digits) {
+        Ok(text) => text.parse().ok(),
+        Err(_) => None,
+    }
+}
+
+fn are_digits(text: &[u8]) -> bool
+    ensures { result ≡ list_all is_ascii_digit text.now }
+{
+    text.iter().all(|byte| byte.is_ascii_digit())
+}

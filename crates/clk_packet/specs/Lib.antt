@@ -1,0 +1,4 @@
+-- What the crates' contracts say of packets, faults and bytes.
+pub mod Failing
+pub mod Fault
+pub mod Io

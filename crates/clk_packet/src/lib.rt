@@ -1,0 +1,19 @@
+//! What every crate of the pull half of a router speaks of: packets, faults, and where bytes come from and go.
+#![tactic(auto)]
+
+mod failing;
+mod failures;
+mod fault;
+mod from_std;
+mod io;
+mod packet;
+
+pub use failing::{FailingSink, FailingSource};
+pub use failures::Failures;
+pub use fault::Fault;
+pub use from_std::{FromRead, ToWrite};
+pub use io::{Failed, Sink, Source};
+pub use packet::{Kind, Offered, Packet};
+
+#[cfg(test)]
+mod tests;

@@ -1,0 +1,34 @@
+ghost use Rattle.std.specs.Prelude.{◌≤◌};
+
+/// A packet: its sender, its place among that sender's packets, and its length. Contents aren't kept.
+// The number stands first so that a packet takes eight bytes.
+#[derive(Clone, Copy, Debug, PartialEq, Eq)]
+pub struct Packet {
+    /// Its place among the packets of its sender, from 0.
+    pub number: u32,
+    /// Its sender's number.
+    pub sender: u16,
+    /// Its length in bytes, at least 1.
+    pub length: u16,
+    ghost has_length: { 1 ≤ length },
+}
+
+/// What a queue does with a packet that arrives when it is full.
+#[derive(Clone, Copy, Debug, PartialEq, Eq)]
+pub enum Kind {
+    /// Click's Queue: the arriving packet is refused.
+    TailDrop,
+    /// Click's FrontDropQueue: the arriving packet is taken, and the packet at the front goes out.
+    FrontDrop,
+}
+
+/// What became of a packet that was offered to a queue.
+#[derive(Clone, Copy, Debug, PartialEq, Eq)]
+pub enum Offered {
+    /// The queue took it.
+    Accepted,
+    /// The queue was full. This is the packet that was offered.
+    Refused(Packet),
+    /// The queue took it, and the named packet, until then at its front, went out.
+    Evicted(Packet),
+}

@@ -1,0 +1,72 @@
+use crate::{Failed, FailingSink, FailingSource, FromRead, Sink, Source, ToWrite};
+use std::io::{self, ErrorKind, Read};
+use std::test::Fail;
+
+// Each function below goes through the bound alone.
+fn first_two<S: Source>(source: &mut S) -> ([u8; 2], Result<usize, Failed>) {
+    let mut buf = [0; 2];
+    let count = source.read(&mut buf);
+    (buf, count)
+}
+
+fn put<S: Sink>(sink: &mut S, bytes: &[u8]) -> Result<usize, Failed> {
+    sink.write(bytes)
+}
+
+// A reader that is interrupted each time.
+#[derive(Drop)]
+struct Interrupted;
+
+impl Read for Interrupted {
+    fn read(&mut self, _buf: &mut [u8]) -> io::Result<usize> {
+        Err(io::Error::from(ErrorKind::Interrupted))
+    }
+}
+
+#[test]
+fn a_reader_gives_its_bytes(rt: HostRuntime) {
+    let mut source = FromRead::new(&b"abc"[..]);
+    assert_eq!(rt; first_two(&mut source), (*b"ab", Ok(2)));
+    assert_eq!(rt; first_two(&mut source), (*b"c\0", Ok(1)));
+    assert_eq!(rt; first_two(&mut source), (*b"\0\0", Ok(0)));
+}
+
+#[test]
+fn an_interrupted_read_fails(rt: HostRuntime) {
+    let mut source = FromRead::new(Interrupted);
+    assert_eq!(rt; first_two(&mut source), ([0; 2], Err(Failed)));
+}
+
+#[test]
+fn a_writer_takes_bytes_until_it_is_full(rt: HostRuntime) {
+    let mut room = [0; 3];
+    let mut sink = ToWrite::new(&mut room[..]);
+    assert_eq!(rt; put(&mut sink, b"ab"), Ok(2));
+    assert_eq!(rt; put(&mut sink, b"cd"), Ok(1));
+    assert_eq!(rt; put(&mut sink, b""), Ok(0));
+    assert_eq!(rt; put(&mut sink, b"d"), Err(Failed));
+    drop(sink);
+    assert_eq!(rt; room, *b"abc");
+}
+
+#[test]
+fn a_failing_source_gives_what_it_may(rt: HostRuntime) -> Result<(), Fail> {
+    let mut source = FailingSource::new(b"abcd".to_vec(rt.alloc())?, 3);
+    assert_eq!(rt; first_two(&mut source), (*b"ab", Ok(2)));
+    assert_eq!(rt; first_two(&mut source), (*b"c\0", Ok(1)));
+    assert_eq!(rt; first_two(&mut source), (*b"\0\0", Err(Failed)));
+    let mut short = FailingSource::new(b"a".to_vec(rt.alloc())?, 2);
+    assert_eq!(rt; first_two(&mut short), (*b"a\0", Ok(1)));
+    assert_eq!(rt; first_two(&mut short), (*b"\0\0", Ok(0)));
+    Ok(())
+}
+
+#[test]
+fn a_failing_sink_takes_what_fits(rt: HostRuntime) -> Result<(), Fail> {
+    let mut sink = FailingSink::new([0; 3].to_vec(rt.alloc())?);
+    assert_eq!(rt; put(&mut sink, b"ab"), Ok(2));
+    assert_eq!(rt; put(&mut sink, b"cd"), Ok(1));
+    assert_eq!(rt; put(&mut sink, b"d"), Err(Failed));
+    assert_eq!(rt; sink.taken(), &b"abc"[..]);
+    Ok(())
+}

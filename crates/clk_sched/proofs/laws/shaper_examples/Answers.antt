@@ -1,0 +1,32 @@
+use Rattle.std.proofs.Common.{refl, lit≤}
+use Rattle.clk_sched.proofs.laws.shaper_examples.Goals as goal
+
+pub returns-clause-is_burst_of_two : goal.returns-clause-is_burst_of_two
+returns-clause-is_burst_of_two c =
+    record {
+      shape = record { blocks = refl; one_moment = ((refl, (refl, tt)), ((refl, (refl, tt)), ((refl, tt), ((refl, (refl, tt)), ((refl, tt), ((refl, (refl, tt)), tt)))))); moments = (lit≤ tt, (lit≤ tt, (lit≤ tt, (lit≤ tt, (lit≤ tt, (lit≤ tt, tt)))))) };
+      device = (record { plain = (record { fresh = refl; passed = refl }, tt); in_order = (refl, refl) }, (record { plain = (record { fresh = refl; passed = refl }, tt); in_order = (refl, refl) }, (record { plain = (record { fresh = refl; passed = refl }, tt); in_order = (refl, tt) }, (record { plain = (record { fresh = refl; passed = refl }, tt); in_order = (refl, refl) }, (record { plain = (record { fresh = refl; passed = refl }, tt); in_order = (refl, tt) }, (record { plain = (record { fresh = refl; passed = refl }, tt); in_order = (refl, refl) }, tt))))));
+      below = ((record { plain = (record { fresh = refl; passed = refl }, tt); in_order = (refl, refl) }, (record { plain = (record { fresh = refl; passed = refl }, tt); in_order = (refl, refl) }, (refl, (record { plain = (record { fresh = refl; passed = refl }, tt); in_order = (refl, refl) }, (refl, (record { plain = (record { fresh = refl; passed = refl }, tt); in_order = (refl, refl) }, tt)))))), ((refl, tt), ((refl, tt), ((refl, tt), ((refl, tt), ((refl, tt), ((refl, tt), tt)))))), tt, tt);
+    }
+
+pub returns-clause-is_late_burst : goal.returns-clause-is_late_burst
+returns-clause-is_late_burst c =
+    record {
+      shape = record { blocks = refl; one_moment = ((refl, (refl, tt)), ((refl, (refl, tt)), ((refl, tt), tt))); moments = (lit≤ tt, (lit≤ tt, (lit≤ tt, tt))) };
+      device = (record { plain = (record { fresh = refl; passed = refl }, tt); in_order = (refl, refl) }, (record { plain = (record { fresh = refl; passed = refl }, tt); in_order = (refl, refl) }, (record { plain = (record { fresh = refl; passed = refl }, tt); in_order = (refl, tt) }, tt)));
+      below = ((record { plain = (record { fresh = refl; passed = refl }, tt); in_order = (refl, refl) }, (record { plain = (record { fresh = refl; passed = refl }, tt); in_order = (refl, refl) }, (refl, tt))), ((refl, tt), ((refl, tt), ((refl, tt), tt))), tt, tt);
+    }
+
+pub returns-clause-is_below_deficit : goal.returns-clause-is_below_deficit
+returns-clause-is_below_deficit c =
+    record {
+      shape = record { blocks = refl; one_moment = ((refl, (refl, (refl, tt))), ((refl, (refl, tt)), ((refl, (refl, (refl, tt))), tt))); moments = (lit≤ tt, (lit≤ tt, (lit≤ tt, tt))) };
+      device = (record { plain = (record { fresh = refl; passed = refl }, tt); in_order = (refl, refl) }, (record { plain = (record { fresh = refl; passed = refl }, tt); in_order = (refl, tt) }, (record { plain = (record { fresh = refl; passed = refl }, tt); in_order = (refl, refl) }, tt)));
+      below = (record { visits = (record { in_turn = refl; fresh = refl; looks = tt; deficit = 500; deficit_is = refl; passes = refl }, (record { in_turn = refl; fresh = refl; looks = tt; deficit = 200; deficit_is = refl; passes = refl }, (record { in_turn = refl; fresh = refl; looks = tt; deficit = 500; deficit_is = refl; passes = refl }, tt))); pulls = (refl, ((0, refl, refl), (refl, tt))) }, ((refl, tt), ((refl, tt), ((refl, tt), tt))), ((record { plain = (record { fresh = refl; passed = refl }, tt); in_order = (refl, refl) }, (refl, (record { plain = (record { fresh = refl; passed = refl }, tt); in_order = (refl, refl) }, tt))), ((refl, tt), ((refl, tt), ((refl, tt), tt))), tt, tt), tt);
+    }
+
+pub returns-clause-not_fills_without_cap : goal.returns-clause-not_fills_without_cap
+returns-clause-not_fills_without_cap c = λ run. let none = run.below.0.1.1.0 in absurd (cc)
+
+pub returns-clause-not_asks_without_room : goal.returns-clause-not_asks_without_room
+returns-clause-not_asks_without_room c = λ run. let none = run.below.0.1.1.0 in absurd (cc)

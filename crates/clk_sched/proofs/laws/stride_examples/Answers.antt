@@ -1,0 +1,32 @@
+use Rattle.std.proofs.Common.{refl, lit≤, arith}
+use Rattle.clk_sched.proofs.laws.stride_examples.Goals as goal
+
+pub returns-clause-is_two_to_one : goal.returns-clause-is_two_to_one
+returns-clause-is_two_to_one c =
+    record {
+      shape = record { blocks = refl; one_moment = ((refl, (refl, tt)), ((refl, (refl, tt)), ((refl, (refl, tt)), ((refl, (refl, tt)), ((refl, (refl, tt)), ((refl, (refl, tt)), tt)))))); moments = (lit≤ tt, (lit≤ tt, (lit≤ tt, (lit≤ tt, (lit≤ tt, (lit≤ tt, tt)))))) };
+      device = (record { plain = (record { fresh = refl; passed = refl }, tt); in_order = (refl, refl) }, (record { plain = (record { fresh = refl; passed = refl }, tt); in_order = (refl, refl) }, (record { plain = (record { fresh = refl; passed = refl }, tt); in_order = (refl, refl) }, (record { plain = (record { fresh = refl; passed = refl }, tt); in_order = (refl, refl) }, (record { plain = (record { fresh = refl; passed = refl }, tt); in_order = (refl, refl) }, (record { plain = (record { fresh = refl; passed = refl }, tt); in_order = (refl, refl) }, tt))))));
+      below = ((record { plain = (record { fresh = refl; passed = refl }, tt); in_order = (refl, refl) }, (record { plain = (record { fresh = refl; passed = refl }, tt); in_order = (refl, refl) }, (record { plain = (record { fresh = refl; passed = refl }, tt); in_order = (refl, refl) }, (record { plain = (record { fresh = refl; passed = refl }, tt); in_order = (refl, refl) }, (record { plain = (record { fresh = refl; passed = refl }, tt); in_order = (refl, refl) }, (record { plain = (record { fresh = refl; passed = refl }, tt); in_order = (refl, refl) }, tt)))))), ((refl, tt), ((refl, tt), ((refl, tt), ((refl, tt), ((refl, tt), ((refl, tt), tt)))))), tt, tt);
+    }
+
+pub returns-clause-is_idle_input : goal.returns-clause-is_idle_input
+returns-clause-is_idle_input c =
+    record {
+      shape = record { blocks = refl; one_moment = ((refl, (refl, tt)), ((refl, (refl, (refl, tt))), ((refl, (refl, tt)), ((refl, (refl, tt)), tt)))); moments = (lit≤ tt, (lit≤ tt, (lit≤ tt, (lit≤ tt, tt)))) };
+      device = (record { plain = (record { fresh = refl; passed = refl }, tt); in_order = (refl, refl) }, (record { plain = (record { fresh = refl; passed = refl }, tt); in_order = (refl, refl) }, (record { plain = (record { fresh = refl; passed = refl }, tt); in_order = (refl, refl) }, (record { plain = (record { fresh = refl; passed = refl }, tt); in_order = (refl, refl) }, tt))));
+      below = ((record { plain = (record { fresh = refl; passed = refl }, tt); in_order = (refl, refl) }, (record { plain = (record { fresh = refl; passed = refl }, (record { fresh = refl; passed = refl }, tt)); in_order = (refl, (refl, refl)) }, (record { plain = (record { fresh = refl; passed = refl }, tt); in_order = (refl, refl) }, (record { plain = (record { fresh = refl; passed = refl }, tt); in_order = (refl, refl) }, tt)))), ((refl, tt), ((refl, tt), ((refl, tt), ((refl, tt), tt)))), tt, tt);
+    }
+
+pub returns-clause-is_idle_pass : goal.returns-clause-is_idle_pass
+returns-clause-is_idle_pass c =
+    record {
+      shape = record { blocks = refl; one_moment = ((refl, (refl, tt)), ((refl, (refl, (refl, tt))), ((refl, (refl, (refl, tt))), ((refl, (refl, tt)), ((refl, (refl, tt)), tt))))); moments = (lit≤ tt, (lit≤ tt, (lit≤ tt, (lit≤ tt, (lit≤ tt, tt))))) };
+      device = (record { plain = (record { fresh = refl; passed = refl }, tt); in_order = (refl, refl) }, (record { plain = (record { fresh = refl; passed = refl }, tt); in_order = (refl, refl) }, (record { plain = (record { fresh = refl; passed = refl }, tt); in_order = (refl, refl) }, (record { plain = (record { fresh = refl; passed = refl }, tt); in_order = (refl, refl) }, (record { plain = (record { fresh = refl; passed = refl }, tt); in_order = (refl, refl) }, tt)))));
+      below = ((record { plain = (record { fresh = refl; passed = refl }, tt); in_order = (refl, refl) }, (record { plain = (record { fresh = refl; passed = refl }, (record { fresh = refl; passed = refl }, tt)); in_order = (refl, (refl, refl)) }, (record { plain = (record { fresh = refl; passed = refl }, (record { fresh = refl; passed = refl }, tt)); in_order = (refl, (refl, refl)) }, (record { plain = (record { fresh = refl; passed = refl }, tt); in_order = (refl, refl) }, (record { plain = (record { fresh = refl; passed = refl }, tt); in_order = (refl, refl) }, tt))))), ((refl, tt), ((refl, tt), ((refl, tt), ((refl, tt), ((refl, tt), tt))))), tt, tt);
+    }
+
+pub returns-clause-not_pass_left_behind : goal.returns-clause-not_pass_left_behind
+returns-clause-not_pass_left_behind c = λ run. absurd (omega (arith, run.below.0.1.1.1.1.0.in_order.0))
+
+pub returns-clause-not_lowest_index_first : goal.returns-clause-not_lowest_index_first
+returns-clause-not_lowest_index_first c = λ run. absurd (omega (arith, run.below.0.1.0.in_order.0))

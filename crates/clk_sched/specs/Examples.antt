@@ -1,0 +1,24 @@
+-- Packets and visits of worked examples, and the examples by class.
+use Rattle.std.specs.Prelude.{ℕ, ◌≤◌, Bool, Option, List, map, filter, nat_lt}
+use Rattle.clk_packet.specs.declared.packet.Packet.{Packet}
+use Rattle.clk_sched.specs.declared.visit.Visit.{Visit}
+pub mod Priority
+pub mod RoundRobin
+pub mod Deficit
+pub mod Stride
+pub mod Shaper
+
+-- the n-th packet of sender s, of length l
+abbrev pub packet : (s n l : ℕ) → 1 ≤ l → Packet
+packet s n l h = record { number = n; sender = s; length = l; has_length = h }
+
+-- a visit of pull k at moment t, by node x to input i
+abbrev pub look : (k t x i : ℕ) → Bool → Option Packet → Bool → Visit
+look k t x i asked o result = record { pull = k; moment = t; got = o; node = x; input = i; fresh = asked; passed = result }
+
+abbrev pub lengths : List Packet → List ℕ
+lengths packets = map (λ (p : Packet). p.length) packets
+
+-- the log of the first n pulls
+abbrev pub first_pulls : ℕ → List Visit → List Visit
+first_pulls n log = filter (λ (v : Visit). nat_lt v.pull n) log

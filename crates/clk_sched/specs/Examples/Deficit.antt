@@ -1,0 +1,57 @@
+-- Logs of worked examples of a DRRSched, and some that are no runs.
+use Rattle.std.specs.Prelude.{List, [], ◌∷◌, Some, None, true, false}
+use Rattle.std.proofs.Common.{lit≤}
+use Rattle.clk_sched.specs.declared.visit.Visit.{Visit}
+use Rattle.clk_sched.specs.Tree.{Tree, end, leaf, node, scheduler, drr}
+use Rattle.clk_sched.specs.Log.{asking}
+use Rattle.clk_sched.specs.Examples.{packet, look}
+
+-- A DRRSched of quantum 500 over a packet of 600 and two of 200, and then one of 401 that waits for its deficit.
+abbrev pub two_deficits : List Visit
+two_deficits =
+    look 0 0 1 0 true (Some (packet 0 0 600 (lit≤ tt))) false ∷ asking 0 0 1 1 (Some (packet 1 0 200 (lit≤ tt))) ∷ asking 0 0 0 0 (Some (packet 1 0 200 (lit≤ tt))) ∷
+    asking 1 0 1 1 (Some (packet 1 1 200 (lit≤ tt))) ∷ asking 1 0 0 0 (Some (packet 1 1 200 (lit≤ tt))) ∷
+    asking 2 0 1 1 None ∷ look 2 0 1 0 false (Some (packet 0 0 600 (lit≤ tt))) true ∷ asking 2 0 0 0 (Some (packet 0 0 600 (lit≤ tt))) ∷
+    look 3 0 1 0 true (Some (packet 0 1 401 (lit≤ tt))) false ∷ asking 3 0 1 1 None ∷ asking 3 0 0 0 None ∷
+    look 4 0 1 0 false (Some (packet 0 1 401 (lit≤ tt))) true ∷ asking 4 0 0 0 (Some (packet 0 1 401 (lit≤ tt))) ∷ []
+
+abbrev pub two_deficits_tree : Tree
+two_deficits_tree = scheduler (drr 500) (leaf 0 (leaf 1 end))
+
+-- A packet of 1000 below a DRRSched of quantum 500: held in the first pull, and passed in the second.
+abbrev pub held_at_close : List Visit
+held_at_close =
+    look 0 0 1 0 true (Some (packet 0 0 1000 (lit≤ tt))) false ∷ asking 0 0 0 0 None ∷
+    look 1 1 1 0 false (Some (packet 0 0 1000 (lit≤ tt))) true ∷ asking 1 1 0 0 (Some (packet 0 0 1000 (lit≤ tt))) ∷ []
+
+abbrev pub held_at_close_tree : Tree
+held_at_close_tree = scheduler (drr 500) (leaf 0 end)
+
+-- A packet of 700 below a DRRSched of quantum 300 below one of quantum 500.
+abbrev pub nested : List Visit
+nested =
+    look 0 0 2 0 true (Some (packet 0 0 700 (lit≤ tt))) false ∷ asking 0 0 1 0 None ∷ asking 0 0 0 0 None ∷
+    look 1 0 2 0 false (Some (packet 0 0 700 (lit≤ tt))) false ∷ asking 1 0 1 0 None ∷ asking 1 0 0 0 None ∷
+    look 2 0 2 0 false (Some (packet 0 0 700 (lit≤ tt))) true ∷ look 2 0 1 0 true (Some (packet 0 0 700 (lit≤ tt))) false ∷ asking 2 0 0 0 None ∷
+    look 3 0 1 0 false (Some (packet 0 0 700 (lit≤ tt))) true ∷ asking 3 0 0 0 (Some (packet 0 0 700 (lit≤ tt))) ∷ []
+
+abbrev pub nested_tree : Tree
+nested_tree = scheduler (drr 500) (node (drr 300) (leaf 0 end) end)
+
+-- Over nested_tree: the outer scheduler keeps the deficit of an input found empty, and passes the packet a pull early
+abbrev pub deficit_kept : List Visit
+deficit_kept =
+    look 0 0 2 0 true (Some (packet 0 0 700 (lit≤ tt))) false ∷ asking 0 0 1 0 None ∷ asking 0 0 0 0 None ∷
+    look 1 0 2 0 false (Some (packet 0 0 700 (lit≤ tt))) false ∷ asking 1 0 1 0 None ∷ asking 1 0 0 0 None ∷
+    look 2 0 2 0 false (Some (packet 0 0 700 (lit≤ tt))) true ∷ asking 2 0 1 0 (Some (packet 0 0 700 (lit≤ tt))) ∷ asking 2 0 0 0 (Some (packet 0 0 700 (lit≤ tt))) ∷ []
+
+-- Over held_at_close_tree: the input is asked though a packet is held there
+abbrev pub asks_over_head : List Visit
+asks_over_head =
+    look 0 0 1 0 true (Some (packet 0 0 1000 (lit≤ tt))) false ∷ asking 0 0 0 0 None ∷
+    asking 1 1 1 0 None ∷ asking 1 1 0 0 None ∷ []
+
+-- Over held_at_close_tree: a packet longer than the deficit is passed
+abbrev pub passes_above_deficit : List Visit
+passes_above_deficit =
+    asking 0 0 1 0 (Some (packet 0 0 1000 (lit≤ tt))) ∷ asking 0 0 0 0 (Some (packet 0 0 1000 (lit≤ tt))) ∷ []

@@ -1,0 +1,32 @@
+-- Logs of worked examples of a RoundRobinSched, and some that are no runs.
+use Rattle.std.specs.Prelude.{List, [], ◌∷◌, Some, None}
+use Rattle.std.proofs.Common.{lit≤}
+use Rattle.clk_sched.specs.declared.visit.Visit.{Visit}
+use Rattle.clk_sched.specs.Tree.{Tree, end, leaf, scheduler, round_robin}
+use Rattle.clk_sched.specs.Log.{asking}
+use Rattle.clk_sched.specs.Examples.{packet}
+
+-- Queue 0 has two packets and queue 2 has two, below a RoundRobinSched over three: they take turns.
+abbrev pub three_in_turn : List Visit
+three_in_turn =
+    asking 0 0 1 0 (Some (packet 0 0 10 (lit≤ tt))) ∷ asking 0 0 0 0 (Some (packet 0 0 10 (lit≤ tt))) ∷
+    asking 1 0 1 1 None ∷ asking 1 0 1 2 (Some (packet 2 0 12 (lit≤ tt))) ∷ asking 1 0 0 0 (Some (packet 2 0 12 (lit≤ tt))) ∷
+    asking 2 0 1 0 (Some (packet 0 1 11 (lit≤ tt))) ∷ asking 2 0 0 0 (Some (packet 0 1 11 (lit≤ tt))) ∷
+    asking 3 0 1 1 None ∷ asking 3 0 1 2 (Some (packet 2 1 13 (lit≤ tt))) ∷ asking 3 0 0 0 (Some (packet 2 1 13 (lit≤ tt))) ∷
+    asking 4 0 1 0 None ∷ asking 4 0 1 1 None ∷ asking 4 0 1 2 None ∷ asking 4 0 0 0 None ∷ []
+
+abbrev pub three_in_turn_tree : Tree
+three_in_turn_tree = scheduler round_robin (leaf 0 (leaf 1 (leaf 2 end)))
+
+-- Over three_in_turn_tree: a beginning that moves by one in each pull
+abbrev pub moves_every_pull : List Visit
+moves_every_pull =
+    asking 0 0 1 0 (Some (packet 0 0 10 (lit≤ tt))) ∷ asking 0 0 0 0 (Some (packet 0 0 10 (lit≤ tt))) ∷
+    asking 1 0 1 1 None ∷ asking 1 0 1 2 (Some (packet 2 0 12 (lit≤ tt))) ∷ asking 1 0 0 0 (Some (packet 2 0 12 (lit≤ tt))) ∷
+    asking 2 0 1 2 (Some (packet 2 1 13 (lit≤ tt))) ∷ asking 2 0 0 0 (Some (packet 2 1 13 (lit≤ tt))) ∷ []
+
+-- Over three_in_turn_tree: a beginning at the input that gave
+abbrev pub begins_where_it_gave : List Visit
+begins_where_it_gave =
+    asking 0 0 1 0 (Some (packet 0 0 10 (lit≤ tt))) ∷ asking 0 0 0 0 (Some (packet 0 0 10 (lit≤ tt))) ∷
+    asking 1 0 1 0 (Some (packet 0 1 11 (lit≤ tt))) ∷ asking 1 0 0 0 (Some (packet 0 1 11 (lit≤ tt))) ∷ []

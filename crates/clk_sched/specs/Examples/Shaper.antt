@@ -1,0 +1,54 @@
+-- Logs of worked examples of a Shaper, and some that are no runs.
+use Rattle.std.specs.Prelude.{List, [], ◌∷◌, Some, None}
+use Rattle.std.proofs.Common.{lit≤}
+use Rattle.clk_sched.specs.declared.visit.Visit.{Visit}
+use Rattle.clk_sched.specs.Tree.{Tree, end, leaf, node, scheduler, drr, shaper}
+use Rattle.clk_sched.specs.Log.{asking}
+use Rattle.clk_sched.specs.Examples.{packet}
+
+-- A Shaper of rate 1 and burst 2, pulled three times at moment 0, and later.
+abbrev pub burst_of_two : List Visit
+burst_of_two =
+    asking 0 0 1 0 (Some (packet 0 0 10 (lit≤ tt))) ∷ asking 0 0 0 0 (Some (packet 0 0 10 (lit≤ tt))) ∷
+    asking 1 0 1 0 (Some (packet 0 1 10 (lit≤ tt))) ∷ asking 1 0 0 0 (Some (packet 0 1 10 (lit≤ tt))) ∷
+    asking 2 0 0 0 None ∷
+    asking 3 1 1 0 (Some (packet 0 2 10 (lit≤ tt))) ∷ asking 3 1 0 0 (Some (packet 0 2 10 (lit≤ tt))) ∷
+    asking 4 1 0 0 None ∷
+    asking 5 2 1 0 (Some (packet 0 3 10 (lit≤ tt))) ∷ asking 5 2 0 0 (Some (packet 0 3 10 (lit≤ tt))) ∷ []
+
+abbrev pub burst_of_two_tree : Tree
+burst_of_two_tree = scheduler (shaper 1 2) (leaf 0 end)
+
+-- A Shaper of rate 1 and burst 2, first pulled at moment 10.
+abbrev pub late_burst : List Visit
+late_burst =
+    asking 0 10 1 0 (Some (packet 0 0 10 (lit≤ tt))) ∷ asking 0 10 0 0 (Some (packet 0 0 10 (lit≤ tt))) ∷
+    asking 1 10 1 0 (Some (packet 0 1 10 (lit≤ tt))) ∷ asking 1 10 0 0 (Some (packet 0 1 10 (lit≤ tt))) ∷
+    asking 2 10 0 0 None ∷ []
+
+abbrev pub late_burst_tree : Tree
+late_burst_tree = scheduler (shaper 1 2) (leaf 0 end)
+
+-- A Shaper of rate 1 and burst 1 below a DRRSched.
+abbrev pub below_deficit : List Visit
+below_deficit =
+    asking 0 0 2 0 (Some (packet 0 0 300 (lit≤ tt))) ∷ asking 0 0 1 0 (Some (packet 0 0 300 (lit≤ tt))) ∷ asking 0 0 0 0 (Some (packet 0 0 300 (lit≤ tt))) ∷
+    asking 1 0 1 0 None ∷ asking 1 0 0 0 None ∷
+    asking 2 1 2 0 (Some (packet 0 1 300 (lit≤ tt))) ∷ asking 2 1 1 0 (Some (packet 0 1 300 (lit≤ tt))) ∷ asking 2 1 0 0 (Some (packet 0 1 300 (lit≤ tt))) ∷ []
+
+abbrev pub below_deficit_tree : Tree
+below_deficit_tree = scheduler (drr 500) (node (shaper 1 1) (leaf 0 end) end)
+
+-- Over late_burst_tree: three packets at once after idling, with a burst of two
+abbrev pub fills_without_cap : List Visit
+fills_without_cap =
+    asking 0 10 1 0 (Some (packet 0 0 10 (lit≤ tt))) ∷ asking 0 10 0 0 (Some (packet 0 0 10 (lit≤ tt))) ∷
+    asking 1 10 1 0 (Some (packet 0 1 10 (lit≤ tt))) ∷ asking 1 10 0 0 (Some (packet 0 1 10 (lit≤ tt))) ∷
+    asking 2 10 1 0 (Some (packet 0 2 10 (lit≤ tt))) ∷ asking 2 10 0 0 (Some (packet 0 2 10 (lit≤ tt))) ∷ []
+
+-- Over late_burst_tree: the input is asked where the window is full
+abbrev pub asks_without_room : List Visit
+asks_without_room =
+    asking 0 10 1 0 (Some (packet 0 0 10 (lit≤ tt))) ∷ asking 0 10 0 0 (Some (packet 0 0 10 (lit≤ tt))) ∷
+    asking 1 10 1 0 (Some (packet 0 1 10 (lit≤ tt))) ∷ asking 1 10 0 0 (Some (packet 0 1 10 (lit≤ tt))) ∷
+    asking 2 10 1 0 None ∷ asking 2 10 0 0 None ∷ []

@@ -1,0 +1,9 @@
+-- What a tree of schedulers is, and what its runs are.
+pub mod Tree
+pub mod Log
+pub mod Laws
+pub mod Run
+pub mod Examples
+pub mod Results
+pub mod Bound
+pub mod Service

@@ -1,0 +1,93 @@
+-- What a log says went in and came out: answers of queues, packets emitted, heads held, and where packets came from.
+use Rattle.std.specs.Prelude.{◌≡◌, ℕ, ◌+◌, ◌==◌, ◌&&◌, Bool, false, List, [], ◌∷◌, ◌++◌, map, reverse, suc, Option, Some, None, nat_lt, if◌then◌else◌}
+use Rattle.std.specs.List.{filter_map, flat_map, range_with_len}
+use Rattle.clk_packet.specs.declared.packet.Packet.{Packet}
+use Rattle.clk_sched.specs.declared.visit.Visit.{Visit}
+use Rattle.clk_sched.specs.Tree.{Row, end, leaf, node, Tree, root, width, nodes, queue_at, Class, prio, round_robin, drr, stride, shaper}
+use Rattle.clk_sched.specs.Log.{visits_of, in_pull, asks}
+use Rattle.clk_sched.specs.Laws.{head_at}
+
+-- the packets that came out at the device, in order
+abbrev pub emitted : List Visit → List Packet
+emitted log = filter_map (λ (v : Visit). if v.passed then v.got else None) (visits_of 0 log)
+
+abbrev pub is_queue : ℕ → Option ℕ → Bool
+is_queue q None = false
+is_queue q (Some other) = other == q
+
+-- the packets that the queue at this leaf gave, in order
+abbrev pub leaf_packets : Tree → ℕ → List Visit → List Packet
+leaf_packets tree q log = filter_map (λ (v : Visit). if v.fresh && is_queue q (queue_at tree v.node v.input) then v.got else None) log
+
+-- The packet that a node passed came in at this input, and was asked for in this pull: in the pull itself, or where it was
+-- a held head in the latest pull before it in which the input was asked.
+abbrev pub passed_input : List Visit → ℕ
+passed_input [] = 0
+passed_input (v ∷ visits) = if v.passed then v.input else passed_input visits
+
+abbrev pub asked_pull : ℕ → ℕ → List Visit → ℕ
+asked_pull input k [] = 0
+asked_pull input k (v ∷ latest_first) =
+    if (asks input v) && nat_lt v.pull (suc k) then v.pull else asked_pull input k latest_first
+
+-- The queue from which came what was got in pull k at an input, in a row that stands at the inputs from `first` on and
+-- whose schedulers are numbered from `next` on: the queue there, or that of what the scheduler there passed.
+abbrev pub origin_in : List Visit → ℕ → ℕ → Row → ℕ → ℕ → Option ℕ
+origin_in log first next end input k = None
+origin_in log first next (leaf q row) input k = if first == input then Some q else origin_in log (suc first) next row input k
+origin_in log first next (node class inputs row) input k =
+    if first == input
+    then origin_in log 0 (suc next) inputs (passed_input (visits_of next (in_pull k log)))
+    (asked_pull (passed_input (visits_of next (in_pull k log))) k (reverse (visits_of next log)))
+    else origin_in log (suc first) (suc (next + nodes inputs)) row input k
+
+-- a packet with the queue that it came from
+abbrev pub Traced : Type 0
+Traced = Packet × Option ℕ
+
+-- the packets emitted, with their origins
+abbrev pub traced_emitted : Tree → List Visit → List Traced
+traced_emitted tree log = flat_map (λ (v : Visit). if v.passed then traced v.got (origin_in log 0 1 (root tree) 0 v.pull) else []) (visits_of 0 log)
+  where
+    traced : Option Packet → Option ℕ → List Traced
+    traced None o = []
+    traced (Some p) o = (p, o) ∷ []
+
+abbrev pub first_pull : List Visit → ℕ
+first_pull [] = 0
+first_pull (v ∷ visits) = v.pull
+
+-- The heads held at the end of a log, with their origins, by node and then by input: what the last visit to an input of a
+-- DRRSched got and didn't pass.
+abbrev pub traced_heads : List Visit → ℕ → Row → List Traced
+traced_heads log next end = []
+traced_heads log next (leaf q row) = traced_heads log next row
+traced_heads log next (node class inputs row) =
+    own class ++ (traced_heads log (suc next) inputs ++ traced_heads log (suc (next + nodes inputs)) row)
+  where
+    latest : List Visit
+    latest = reverse (visits_of next log)
+
+    held : ℕ → Option Packet → List Traced
+    held input None = []
+    held input (Some p) = (p, origin_in log 0 (suc next) inputs input (asked_pull input (first_pull latest) latest)) ∷ []
+
+    own : Class → List Traced
+    own (drr quantum) = flat_map (λ input. held input (head_at input latest)) (range_with_len 0 (width inputs))
+    own prio = []
+    own round_robin = []
+    own (stride tickets) = []
+    own (shaper rate burst) = []
+
+-- the heads held, by node and then by input
+abbrev pub heads : Tree → List Visit → List Packet
+heads tree log = map (λ (t : Traced). t.0) (traced_heads log 1 (root tree))
+
+abbrev pub from_queue : ℕ → List Traced → List Packet
+from_queue q traced = filter_map (λ (t : Traced). if is_queue q t.1 then Some t.0 else None) traced
+
+-- Nothing is lost or made in the tree: what a queue gave is what was emitted of it, in order, and then what is held of it,
+-- the nearest to the device first.
+abbrev pub IsConserved : Tree → List Visit → ℕ → Type 0
+IsConserved tree log q =
+    leaf_packets tree q log ≡ from_queue q (traced_emitted tree log) ++ from_queue q (traced_heads log 1 (root tree))

@@ -1,0 +1,71 @@
+-- The shares that a DRRSched and a StrideSched give, as laws over whole histories of a node.
+use Rattle.std.specs.Prelude.{◌≡◌, ℕ, ◌+◌, ◌*◌, ◌<◌, ◌≤◌, ◌==◌, ◌&&◌, List, [], ◌∷◌, ◌++◌, length, reverse, max, Bool, false, Option, Some, None, IsSome, unwrap_or, slice_get, if◌then◌else◌}
+use Rattle.std.specs.List.{AllByRecursion}
+use Rattle.clk_sched.specs.declared.visit.Visit.{Visit}
+use Rattle.clk_sched.specs.Log.{Turn}
+use Rattle.clk_sched.specs.Laws.{arrives, arrivals, passed_bytes, bytes_of, stride_of, passes_of, giver, all_visits, IsDeficitRun, EachAfter, IsStrideTurn}
+
+-- the arrivals at an input in a range of visits, and the bytes passed from it there; the visits before are given with the
+-- latest first
+abbrev pub arrivals_in : ℕ → List Visit → List Visit → ℕ
+arrivals_in input earlier [] = 0
+arrivals_in input earlier (v ∷ range) = (if v.input == input then arrives earlier else 0) + arrivals_in input (v ∷ earlier) range
+
+abbrev pub bytes_in : ℕ → List Visit → ℕ
+bytes_in input [] = 0
+bytes_in input (v ∷ range) = (if (v.input == input) && v.passed then bytes_of v.got else 0) + bytes_in input range
+
+-- each visit of the range to this input got a packet
+abbrev pub AlwaysGets : ℕ → List Visit → Type 0
+AlwaysGets input range = AllByRecursion (λ (v : Visit). v.input ≡ input → IsSome v.got) range
+
+-- Two numbers differ by at most a bound.
+abbrev pub Near : ℕ → ℕ → ℕ → Type 0
+Near bound m n = (m ≤ n + bound) × (n ≤ m + bound)
+
+-- DRRSched: in any unbroken range of a node's visits the arrivals of two inputs differ by at most 1; no deficit is above the
+-- quantum and 65,534; and an input that always had a packet was given its quantum for each arrival, within that bound.
+pub record SharesByDeficit (quantum width : ℕ) (turns : List Turn) : Type 0 where
+  pub arrivals_near : (before range after : List Visit) → all_visits turns ≡ before ++ (range ++ after) → (i j : ℕ) → i < width → j < width
+      → Near 1 (arrivals_in i (reverse before) range) (arrivals_in j (reverse before) range)
+  pub deficit_bound : (before after : List Visit) (v : Visit) → all_visits turns ≡ before ++ v ∷ after
+      → quantum * (arrives (reverse before) + arrivals v.input (reverse before)) ≤ passed_bytes v.input (reverse before) + (quantum + 65534)
+  pub bytes_near : (before range after : List Visit) → all_visits turns ≡ before ++ (range ++ after) → (i : ℕ) → i < width → AlwaysGets i range
+      → Near (quantum + 65534) (bytes_in i range) (quantum * arrivals_in i (reverse before) range)
+
+-- for every history that the deficit law allows
+abbrev pub DeficitShares : Type 0
+DeficitShares = (quantum width : ℕ) (turns : List Turn) → 0 < quantum → 0 < width → IsDeficitRun quantum width turns → SharesByDeficit quantum width turns
+
+abbrev pub largest_stride : List ℕ → ℕ
+largest_stride [] = 0
+largest_stride (t ∷ tickets) = max (stride_of t) (largest_stride tickets)
+
+abbrev pub is_input : ℕ → Option ℕ → Bool
+is_input input None = false
+is_input input (Some other) = other == input
+
+-- how many packets an input gave in a range of pulls
+abbrev pub given_in : ℕ → List Turn → ℕ
+given_in input [] = 0
+given_in input (t ∷ range) = (if is_input input (giver t.visits) then 1 else 0) + given_in input range
+
+-- the pass of an input after these turns, the latest first, and its stride
+abbrev pub pass_at : List ℕ → List Turn → ℕ → ℕ
+pass_at tickets earlier input = unwrap_or (slice_get (passes_of tickets earlier) input) 0
+
+abbrev pub stride_at : List ℕ → ℕ → ℕ
+stride_at tickets input = stride_of (unwrap_or (slice_get tickets input) 1)
+
+-- StrideSched: two passes never differ by more than the largest stride; and in any unbroken range of pulls two inputs that
+-- always had a packet were served in inverse proportion to their strides, within twice the largest.
+pub record SharesByStride (tickets : List ℕ) (turns : List Turn) : Type 0 where
+  pub passes_near : (before after : List Turn) → turns ≡ before ++ after → (i j : ℕ) → i < length tickets → j < length tickets
+      → Near (largest_stride tickets) (pass_at tickets (reverse before) i) (pass_at tickets (reverse before) j)
+  pub served_near : (before range after : List Turn) → turns ≡ before ++ (range ++ after) → (i j : ℕ) → i < length tickets → j < length tickets
+      → AlwaysGets i (all_visits range) → AlwaysGets j (all_visits range)
+      → Near (2 * largest_stride tickets) (given_in i range * stride_at tickets i) (given_in j range * stride_at tickets j)
+
+-- for every history that the stride law allows
+abbrev pub StrideShares : Type 0
+StrideShares = (tickets : List ℕ) (turns : List Turn) → AllByRecursion (λ n. (1 ≤ n) × (n ≤ 32768)) tickets → EachAfter (IsStrideTurn tickets) [] turns → SharesByStride tickets turns

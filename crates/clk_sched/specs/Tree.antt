@@ -1,0 +1,75 @@
+-- Trees of schedulers over queues, below a device that has one input.
+use Rattle.std.specs.Prelude.{ℕ, ◌+◌, ◌==◌, ◌&&◌, List, Option, Some, None, suc, max, min, if◌then◌else◌}
+use Rattle.std.specs.Option.{option_or}
+
+-- What a scheduler does with its inputs, and its arguments: a quantum in bytes, the tickets of each input, and the rate in
+-- packets a tick with the burst in packets.
+pub data Class : Type 0 where
+  prio : Class
+  round_robin : Class
+  drr : ℕ → Class
+  stride : List ℕ → Class
+  shaper : ℕ → ℕ → Class
+
+-- What stands at inputs that follow one another: a queue, by its number, or a scheduler with inputs of its own.
+pub data Row : Type 0 where
+  end : Row
+  leaf : ℕ → Row → Row
+  node : Class → Row → Row → Row
+
+-- a tree: a queue alone, or a scheduler with its inputs
+pub data Tree : Type 0 where
+  queue : ℕ → Tree
+  scheduler : Class → Row → Tree
+
+-- the one input of the device
+abbrev pub root : Tree → Row
+root (queue q) = leaf q end
+root (scheduler class inputs) = node class inputs end
+
+-- how many inputs a row has
+abbrev pub width : Row → ℕ
+width end = 0
+width (leaf q row) = suc (width row)
+width (node class inputs row) = suc (width row)
+
+-- How many schedulers stand in a row. The device is node 0, and the others are numbered from 1, each before its inputs
+-- (this project's own choice).
+abbrev pub nodes : Row → ℕ
+nodes end = 0
+nodes (leaf q row) = nodes row
+nodes (node class inputs row) = suc (nodes inputs + nodes row)
+
+-- The queue at this input of this node, in a row that stands at the inputs of node `above` from `first` on, and whose
+-- own schedulers are numbered from `next` on.
+abbrev pub queue_in : ℕ → ℕ → ℕ → Row → ℕ → ℕ → Option ℕ
+queue_in above first next end x input = None
+queue_in above first next (leaf q row) x input =
+    if (above == x) && (first == input) then Some q else queue_in above (suc first) next row x input
+queue_in above first next (node class inputs row) x input =
+    option_or (queue_in next 0 (suc next) inputs x input) (queue_in above (suc first) (suc (next + nodes inputs)) row x input)
+
+-- the queue at this input of this node of a tree, if a queue stands there
+abbrev pub queue_at : Tree → ℕ → ℕ → Option ℕ
+queue_at tree x input = queue_in 0 0 1 (root tree) x input
+
+-- how many schedulers stand on the longest path through a row
+abbrev pub height : Row → ℕ
+height end = 0
+height (leaf q row) = height row
+height (node class inputs row) = max (suc (height inputs)) (height row)
+
+-- the least quantum of a DRRSched in a row, if there is one
+abbrev pub least_quantum : Row → Option ℕ
+least_quantum end = None
+least_quantum (leaf q row) = least_quantum row
+least_quantum (node (drr quantum) inputs row) = lesser (Some quantum) (lesser (least_quantum inputs) (least_quantum row))
+  where
+    lesser : Option ℕ → Option ℕ → Option ℕ
+    lesser None o = o
+    lesser (Some m) None = Some m
+    lesser (Some m) (Some n) = Some (min m n)
+least_quantum (node prio inputs row) = option_or (least_quantum inputs) (least_quantum row)
+least_quantum (node round_robin inputs row) = option_or (least_quantum inputs) (least_quantum row)
+least_quantum (node (stride tickets) inputs row) = option_or (least_quantum inputs) (least_quantum row)
+least_quantum (node (shaper rate burst) inputs row) = option_or (least_quantum inputs) (least_quantum row)
