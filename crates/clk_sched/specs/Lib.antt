@@ -1,5 +1,9 @@
 -- What a tree of schedulers is, and what its runs are.
 pub mod Tree
+pub mod Stored
+pub mod Built
+pub mod Falls
+pub mod Kept
 pub mod Log
 pub mod Laws
 pub mod Run

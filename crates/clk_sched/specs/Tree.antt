@@ -1,5 +1,5 @@
 -- Trees of schedulers over queues, below a device that has one input.
-use Rattle.std.specs.Prelude.{ℕ, ◌+◌, ◌==◌, ◌&&◌, List, Option, Some, None, suc, max, min, if◌then◌else◌}
+use Rattle.std.specs.Prelude.{ℕ, ◌+◌, ◌==◌, ◌&&◌, ◌||◌, ◌++◌, Bool, true, false, not, List, [], ◌∷◌, Option, Some, None, suc, max, min, if◌then◌else◌}
 use Rattle.std.specs.Option.{option_or}
 
 -- What a scheduler does with its inputs, and its arguments: a quantum in bytes, the tickets of each input, and the rate in
@@ -52,6 +52,25 @@ queue_in above first next (node class inputs row) x input =
 -- the queue at this input of this node of a tree, if a queue stands there
 abbrev pub queue_at : Tree → ℕ → ℕ → Option ℕ
 queue_at tree x input = queue_in 0 0 1 (root tree) x input
+
+-- the queues in a row, from the left
+abbrev pub leaves : Row → List ℕ
+leaves end = []
+leaves (leaf q row) = q ∷ leaves row
+leaves (node class inputs row) = leaves inputs ++ leaves row
+
+abbrev pub stands_in : ℕ → List ℕ → Bool
+stands_in q [] = false
+stands_in q (p ∷ ps) = (p == q) || stands_in q ps
+
+-- no number stands twice
+abbrev pub are_distinct : List ℕ → Bool
+are_distinct [] = true
+are_distinct (q ∷ qs) = not (stands_in q qs) && are_distinct qs
+
+-- no queue stands twice in a tree
+abbrev pub leaves_distinct : Tree → Bool
+leaves_distinct tree = are_distinct (leaves (root tree))
 
 -- how many schedulers stand on the longest path through a row
 abbrev pub height : Row → ℕ

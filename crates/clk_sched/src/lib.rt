@@ -3,6 +3,7 @@
 
 mod ask;
 mod laws;
+mod tree;
 mod visit;
 
 pub use ask::Ask;
@@ -10,4 +11,8 @@ pub use laws::{
     deficit_examples, priority_examples, result_examples, round_robin_examples, shaper_examples,
     stride_examples,
 };
+pub use tree::Tree;
 pub use visit::Visit;
+
+#[cfg(test)]
+mod tests;

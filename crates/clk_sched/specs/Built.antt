@@ -1,0 +1,41 @@
+-- Trees as their constructors build them.
+use Rattle.std.specs.Prelude.{ℕ, ◌+◌, ◌&&◌, Bool, true, not, List, [], ◌∷◌, length, nat_lt, Result, Ok, Err, suc, if◌then◌else◌}
+use Rattle.clk_packet.specs.declared.fault.Fault.{Fault}
+use Rattle.clk_packet.specs.declared.fault.Fault.TheVariants.{TooLarge}
+use Rattle.clk_sched.specs.Tree.{Class, Row, end, leaf, node, Tree, queue, scheduler, height, leaves, stands_in}
+
+-- trees at inputs that follow one another
+abbrev pub row : List Tree → Row
+row [] = end
+row (queue q ∷ trees) = leaf q (row trees)
+row (scheduler class inputs ∷ trees) = node class inputs (row trees)
+
+-- how many schedulers stand on the longest path of a tree
+abbrev pub levels : Tree → ℕ
+levels (queue q) = 0
+levels (scheduler class inputs) = suc (height inputs)
+
+-- the queues of a tree, from the left
+abbrev pub leaves_of : Tree → List ℕ
+leaves_of (queue q) = q ∷ []
+leaves_of (scheduler class inputs) = leaves inputs
+
+-- A scheduler over some trees, unless they are more than 64 or more than 64 schedulers would stand on a path.
+unfoldable pub built : Class → List Tree → Result Tree Fault
+built class children =
+    if nat_lt 64 (length children) then Err TooLarge else (if nat_lt 64 (suc (height (row children))) then Err TooLarge else Ok (scheduler class (row children)))
+
+-- no number of the first list stands in the second
+abbrev pub are_apart : List ℕ → List ℕ → Bool
+are_apart [] ps = true
+are_apart (q ∷ qs) ps = not (stands_in q ps) && are_apart qs ps
+
+-- how many queues and schedulers stand in a row
+abbrev pub elements : Row → ℕ
+elements end = 0
+elements (leaf q row) = suc (elements row)
+elements (node class inputs row) = suc (elements inputs + elements row)
+
+abbrev pub elements_of : Tree → ℕ
+elements_of (queue q) = 1
+elements_of (scheduler class inputs) = suc (elements inputs)

@@ -1,0 +1,74 @@
+//! The limits of trees, and each constructor.
+
+use crate::Tree;
+use clk_packet::Fault;
+use std::alloc::Global;
+use std::test::Fail;
+
+// A PrioSched over queues of these numbers.
+fn over(alloc: Global, queues: &[u16]) -> Result<Tree, Fault> {
+    let mut children = Vec::new(alloc);
+    for q in queues {
+        children.push(Tree::leaf(*q))?;
+    }
+    if children.is_empty() {
+        return Ok(Tree::leaf(0));
+    }
+    Tree::prio(children)
+}
+
+// A queue below so many Shapers.
+fn below(alloc: Global, shapers: u8) -> Result<Tree, Fault> {
+    let mut tree = Tree::leaf(0);
+    for _ in 0..shapers {
+        tree = Tree::shaper(alloc, 1, 1, tree)?;
+    }
+    Ok(tree)
+}
+
+#[test]
+fn a_scheduler_has_64_inputs_at_most(rt: HostRuntime) {
+    assert!(rt; over(rt.alloc(), &[0; 64]).is_ok());
+    assert_eq!(rt; over(rt.alloc(), &[0; 65]).err(), Some(Fault::TooLarge));
+}
+
+#[test]
+fn a_path_has_64_schedulers_at_most(rt: HostRuntime) {
+    assert!(rt; below(rt.alloc(), 64).is_ok());
+    assert_eq!(rt; below(rt.alloc(), 65).err(), Some(Fault::TooLarge));
+}
+
+// A DRRSched over a StrideSched over the first two queues and a RoundRobinSched over the third.
+fn mixed(alloc: Global, queues: [u16; 3]) -> Result<Tree, Fault> {
+    let [first, second, third] = queues;
+    let mut shared = Vec::new(alloc);
+    shared.push(Tree::leaf(first))?;
+    shared.push(Tree::leaf(second))?;
+    let mut tickets = Vec::new(alloc);
+    tickets.push(2)?;
+    tickets.push(1)?;
+    let mut alone = Vec::new(alloc);
+    alone.push(Tree::leaf(third))?;
+    let mut children = Vec::new(alloc);
+    children.push(Tree::stride(tickets, shared)?)?;
+    children.push(Tree::round_robin(alone)?)?;
+    Tree::drr(500, children)
+}
+
+#[test]
+fn queues_that_stand_twice_are_told(rt: HostRuntime) {
+    let cases = [
+        ([0, 1, 2], true),
+        ([7, 65_535, 0], true),
+        ([3, 3, 2], false),
+        ([0, 1, 0], false),
+        ([4, 1, 1], false),
+    ];
+    for (queues, expected) in cases {
+        assert_eq!(rt;
+            mixed(rt.alloc(), queues).map(|tree| tree.leaves_distinct()),
+            Ok(expected)
+        );
+    }
+    assert!(rt; Tree::leaf(5).leaves_distinct());
+}

@@ -1,0 +1,252 @@
+//! Trees of schedulers over queues.
+
+ghost use Rattle.std.specs.Prelude.{◌≡◌, ◌≤◌, length, suc};
+ghost use Rattle.clk_sched.specs.Tree.{prio, round_robin, drr, stride, shaper, queue, height, leaves, stands_in, are_distinct};
+ghost use Rattle.clk_sched.specs.Built.{built, row, are_apart, leaves_of};
+
+use clk_packet::Fault;
+use std::alloc::Global;
+use std::marker::Model;
+
+/// How many inputs a scheduler has at most.
+const MAX_INPUTS: usize = 64;
+
+/// How many schedulers stand on a path at most.
+const MAX_HEIGHT: u8 = 64;
+
+/// A tree of schedulers over queues: a queue alone, or a scheduler with its inputs.
+#[cycle(tree)]
+#[derive(Drop)]
+pub struct Tree {
+    node: Node,
+    // How many schedulers stand on the longest path.
+    height: u8,
+}
+
+#[cycle(tree)]
+#[derive(Drop)]
+enum Node {
+    Leaf(u16),
+    Scheduler(Class, Vec<Tree>),
+}
+
+/// What a scheduler does with its inputs, and its arguments.
+#[derive(Drop)]
+enum Class {
+    Prio,
+    RoundRobin,
+    /// The quantum in bytes.
+    Drr(u32),
+    /// The tickets of each input.
+    Stride(Vec<u32>),
+    /// The rate in packets a tick, and the burst in packets.
+    Shaper(u32, u32),
+}
+
+impl Model for Tree {
+    ghost use Rattle.std.specs.Prelude.{◌≡◌};
+    ghost use Rattle.clk_sched.specs.Tree as tree;
+    ghost use Rattle.clk_sched.specs.Stored.{tree_code};
+
+    ghost Value = { tree.Tree };
+
+    ghost coded = { tree_code };
+
+    ghost use Rattle.clk_sched.specs.Built.{levels};
+    ghost use Rattle.clk_sched.specs.Kept.{kept};
+
+    ghost view = { λ a. kept a.node };
+
+    ghost invariant = { λ a. a.height ≡ levels (kept a.node) };
+
+    ghost size = { levels };
+
+    ghost use Rattle.clk_sched.specs.Falls.{depth_le-levels};
+
+    ghost size_decreases = { λ a h. depth_le-levels a.node };
+}
+
+impl Tree {
+    ghost use Rattle.std.specs.Prelude.{◌≢◌, Err, [], ◌∷◌};
+    ghost use Rattle.clk_packet.specs.declared.fault.Fault.TheVariants.{Memory};
+    ghost use Rattle.std.specs.List.{AllByRecursion};
+    ghost use Rattle.clk_sched.specs.Tree.{leaves_distinct};
+    ghost use Rattle.clk_sched.specs.Kept.{class_of};
+
+    /// The queue of this number alone.
+    pub fn leaf(q: u16) -> Tree
+        ensures { result ≡ queue q }
+    {
+        Tree {
+            node: Node::Leaf(q),
+            height: 0,
+        }
+    }
+
+    /// A PrioSched over these trees, of which there is at least one.
+    ///
+    /// # Errors
+    ///
+    /// Fault 18 for more than 64 trees, and where more than 64 schedulers stand on a path.
+    pub fn prio(children: Vec<Tree>) -> Result<Tree, Fault>
+        requires inputs { 1 ≤ length children.items }
+        ensures { result ≡ built prio children.items }
+    {
+        Tree::scheduler(Class::Prio, children)
+    }
+
+    /// A RoundRobinSched over these trees, of which there is at least one.
+    ///
+    /// # Errors
+    ///
+    /// As `prio`.
+    pub fn round_robin(children: Vec<Tree>) -> Result<Tree, Fault>
+        requires inputs { 1 ≤ length children.items }
+        ensures { result ≡ built round_robin children.items }
+    {
+        Tree::scheduler(Class::RoundRobin, children)
+    }
+
+    /// A DRRSched over these trees, of which there is at least one, with a quantum in bytes, from 1 to 1,000,000.
+    ///
+    /// # Errors
+    ///
+    /// As `prio`.
+    pub fn drr(quantum: u32, children: Vec<Tree>) -> Result<Tree, Fault>
+        requires inputs { 1 ≤ length children.items }
+        requires quantum { (1 ≤ quantum) × (quantum ≤ 1000000) }
+        ensures { result ≡ built (drr quantum) children.items }
+    {
+        Tree::scheduler(Class::Drr(quantum), children)
+    }
+
+    /// A StrideSched over these trees, of which there is at least one, with the tickets of each, from 1 to 32,768.
+    ///
+    /// # Errors
+    ///
+    /// As `prio`.
+    pub fn stride(tickets: Vec<u32>, children: Vec<Tree>) -> Result<Tree, Fault>
+        requires inputs { 1 ≤ length children.items }
+        requires one_each { length tickets.items ≡ length children.items }
+        requires tickets { AllByRecursion (λ n. (1 ≤ n) × (n ≤ 32768)) tickets.items }
+        ensures { result ≡ built (stride tickets.items) children.items }
+    {
+        Tree::scheduler(Class::Stride(tickets), children)
+    }
+
+    /// A Shaper over a tree, which passes so many packets a tick, and so many at once. Each number is from 1 to
+    /// 1,000,000.
+    ///
+    /// # Errors
+    ///
+    /// As `prio`, and fault 1.
+    pub fn shaper(alloc: Global, rate: u32, burst: u32, child: Tree) -> Result<Tree, Fault>
+        requires rate { (1 ≤ rate) × (rate ≤ 1000000) }
+        requires burst { (1 ≤ burst) × (burst ≤ 1000000) }
+        ensures { result ≢ Err Memory → result ≡ built (shaper rate burst) (child ∷ []) }
+    {
+        let mut children = Vec::new(alloc);
+        children.push(child)?;
+        Tree::scheduler(Class::Shaper(rate, burst), children)
+    }
+
+    /// Whether no queue stands twice in this tree. Its time grows with the square of their number.
+    pub fn leaves_distinct(&self) -> bool
+        ensures { result ≡ leaves_distinct self.now }
+    {
+        self.is_distinct()
+    }
+
+    #[cycle(distinct)]
+    fn is_distinct(&self) -> bool
+        ensures { result ≡ are_distinct (leaves_of self.now) }
+    {
+        match &self.node {
+            Node::Leaf(_) => true,
+            Node::Scheduler(_, inputs) => are_distinct(inputs),
+        }
+    }
+
+    #[cycle(apart)]
+    fn is_apart(&self, others: &[Tree]) -> bool
+        ensures { result ≡ are_apart (leaves_of self.now) (leaves (row others.now)) }
+    {
+        match &self.node {
+            Node::Leaf(q) => !stands_in(*q, others),
+            Node::Scheduler(_, inputs) => are_apart(inputs, others),
+        }
+    }
+
+    #[cycle(stands)]
+    fn has(&self, q: u16) -> bool
+        ensures { result ≡ stands_in q (leaves_of self.now) }
+    {
+        match &self.node {
+            Node::Leaf(p) => *p == q,
+            Node::Scheduler(_, inputs) => stands_in(q, inputs),
+        }
+    }
+
+    fn scheduler(class: Class, children: Vec<Tree>) -> Result<Tree, Fault>
+        ensures { result ≡ built (class_of class) children.items }
+    {
+        if children.len() > MAX_INPUTS {
+            return Err(Fault::TooLarge);
+        }
+        let below = highest(&children);
+        if below >= MAX_HEIGHT {
+            return Err(Fault::TooLarge);
+        }
+        Ok(Tree {
+            node: Node::Scheduler(class, children),
+            height: below + 1,
+        })
+    }
+}
+
+/// How many schedulers stand on the longest path of these trees.
+fn highest(trees: &[Tree]) -> u8
+    ensures { result ≡ height (row trees.now) }
+{
+    let mut highest = 0;
+    for tree in trees {
+        highest = tree.height.max(highest);
+    }
+    highest
+}
+
+/// Whether no queue stands twice in these trees.
+#[cycle(distinct)]
+fn are_distinct(trees: &[Tree]) -> bool
+    ensures { result ≡ are_distinct (leaves (row trees.now)) }
+{
+    let [first, rest @ ..] = trees else {
+        return true;
+    };
+    if !first.is_distinct() {
+        return false;
+    }
+    first.is_apart(rest) && are_distinct(rest)
+}
+
+/// Whether no queue of these trees stands in the others.
+#[cycle(apart)]
+fn are_apart(trees: &[Tree], others: &[Tree]) -> bool
+    ensures { result ≡ are_apart (leaves (row trees.now)) (leaves (row others.now)) }
+{
+    let [first, rest @ ..] = trees else {
+        return true;
+    };
+    first.is_apart(others) && are_apart(rest, others)
+}
+
+/// Whether a queue stands in these trees.
+#[cycle(stands)]
+fn stands_in(q: u16, trees: &[Tree]) -> bool
+    ensures { result ≡ stands_in q (leaves (row trees.now)) }
+{
+    let [first, rest @ ..] = trees else {
+        return false;
+    };
+    first.has(q) || stands_in(q, rest)
+}
