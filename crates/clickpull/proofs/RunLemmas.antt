@@ -10,7 +10,8 @@ use Rattle.clk_sched.specs.declared.visit.Visit.{Visit}
 use Rattle.std.specs.Bool.{⊤}
 use Rattle.clk_sched.specs.Tree.{Row, end, leaf, node, Tree, root, nodes, width, prio, round_robin, drr, stride, shaper}
 use Rattle.clk_sched.specs.Log.{visits_of, in_pull, pulls, block, moment_of, HasOneMoment, NeverFalls, turn, asks, pulls_below}
-use Rattle.clk_sched.specs.Laws.{IsDeviceTurn, IsPrioTurn}
+use Rattle.clk_sched.specs.Laws.Device.{IsDeviceTurn}
+use Rattle.clk_sched.specs.Laws.Priority.{IsPrioTurn}
 use Rattle.clk_sched.specs.Run.{GetsResult, EachObeys, IsRun}
 
 pub AllByRecursion-append : {X : Type 0} (P : X → Type 0) (xs ys : List X) → AllByRecursion P xs → AllByRecursion P ys → AllByRecursion P (xs ++ ys)

@@ -3,8 +3,9 @@ use Rattle.std.proofs.Common.{◌≡◌, ℕ, ◌+◌, ◌-◌, ◌<◌, ◌≤�
 use Rattle.std.proofs.lemmas.Bool.Decides.{nat_tests}
 use Rattle.std.proofs.lemmas.List.{take_all}
 use Rattle.clk_packet.specs.declared.fault.Fault.TheVariants.{TooLarge}
-use Rattle.clk_sched.specs.Tree.{Class, Tree, queue, scheduler, height, leaves, stands_in, are_distinct}
-use Rattle.clk_sched.specs.Built.{built, row, leaves_of, elements, elements_of, are_apart}
+use Rattle.clk_sched.specs.Tree.{Class, Tree, queue, scheduler, height, width, leaves, stands_in, are_distinct}
+use Rattle.clk_sched.specs.Built.{built, row, leaves_of, are_apart}
+use Rattle.clk_sched.proofs.Elements.{elements, elements_of}
 
 pub built-wide : (class : Class) (children : List Tree) → 64 < length children → Err TooLarge ≡ built class children
 unfolding built
@@ -25,6 +26,11 @@ built-fits class children narrow low =
     let e : nat_lt 64 (length children) ≡ false = grind (arith, nat_tests) in
     let f : nat_lt 64 (suc (height (row children))) ≡ false = grind (arith, nat_tests) in
     rw (e, f) refl
+
+pub width-row : (trees : List Tree) → length trees ≡ width (row trees)
+width-row [] = refl
+width-row (queue q ∷ trees) = omega (arith, width-row trees)
+width-row (scheduler class inputs ∷ trees) = omega (arith, width-row trees)
 
 or_assoc : (a b c : Bool) → ((a || b) || c) ≡ (a || (b || c))
 or_assoc true b c = refl

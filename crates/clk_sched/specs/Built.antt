@@ -1,5 +1,5 @@
 -- Trees as their constructors build them.
-use Rattle.std.specs.Prelude.{ℕ, ◌+◌, ◌&&◌, Bool, true, not, List, [], ◌∷◌, length, nat_lt, Result, Ok, Err, suc, if◌then◌else◌}
+use Rattle.std.specs.Prelude.{ℕ, ◌&&◌, Bool, true, not, List, [], ◌∷◌, length, nat_lt, Result, Ok, Err, suc, if◌then◌else◌}
 use Rattle.clk_packet.specs.declared.fault.Fault.{Fault}
 use Rattle.clk_packet.specs.declared.fault.Fault.TheVariants.{TooLarge}
 use Rattle.clk_sched.specs.Tree.{Class, Row, end, leaf, node, Tree, queue, scheduler, height, leaves, stands_in}
@@ -29,13 +29,3 @@ built class children =
 abbrev pub are_apart : List ℕ → List ℕ → Bool
 are_apart [] ps = true
 are_apart (q ∷ qs) ps = not (stands_in q ps) && are_apart qs ps
-
--- how many queues and schedulers stand in a row
-abbrev pub elements : Row → ℕ
-elements end = 0
-elements (leaf q row) = suc (elements row)
-elements (node class inputs row) = suc (elements inputs + elements row)
-
-abbrev pub elements_of : Tree → ℕ
-elements_of (queue q) = 1
-elements_of (scheduler class inputs) = suc (elements inputs)

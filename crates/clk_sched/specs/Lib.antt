@@ -4,6 +4,7 @@ pub mod Stored
 pub mod Built
 pub mod Falls
 pub mod Kept
+pub mod Turns
 pub mod Log
 pub mod Laws
 pub mod Run
@@ -11,3 +12,4 @@ pub mod Examples
 pub mod Results
 pub mod Bound
 pub mod Service
+pub mod Choice

@@ -3,6 +3,7 @@ use Rattle.std.specs.Prelude.{◌≡◌, ℕ, ◌+◌, ◌≤◌, Bool, ◌==◌
 use Rattle.std.specs.List.{flat_map, range_with_len, AllByRecursion, list_any}
 use Rattle.clk_packet.specs.declared.packet.Packet.{Packet}
 use Rattle.clk_sched.specs.declared.visit.Visit.{Visit}
+use Rattle.clk_sched.specs.Turns.{Turn}
 use Rattle.clk_sched.specs.Tree.{Row, end, leaf, node, Tree, root, nodes}
 
 -- the visits of one node
@@ -52,11 +53,7 @@ pub record HasLogShape (tree : Tree) (log : List Visit) : Type 0 where
   pub one_moment : AllByRecursion HasOneMoment (pulls log)
   pub moments : NeverFalls 0 (map moment_of (pulls log))
 
--- what a node did in one pull: the counted moment, and its visits in order
-pub record Turn : Type 0 where
-  pub moment : ℕ
-  pub visits : List Visit
-
+-- what a node did in one pull
 abbrev pub turn : ℕ → List Visit → Turn
 turn x pull = record { moment = moment_of pull; visits = visits_of x pull }
 

@@ -5,7 +5,7 @@ use Rattle.clk_packet.specs.declared.packet.Packet.{Packet}
 use Rattle.clk_sched.specs.declared.visit.Visit.{Visit}
 use Rattle.clk_sched.specs.Tree.{Row, end, leaf, node, Tree, root, width, nodes, queue_at, Class, prio, round_robin, drr, stride, shaper}
 use Rattle.clk_sched.specs.Log.{visits_of, in_pull, asks}
-use Rattle.clk_sched.specs.Laws.{head_at}
+use Rattle.clk_sched.specs.Laws.Deficit.{head_at}
 
 -- the packets that came out at the device, in order
 abbrev pub emitted : List Visit → List Packet

@@ -4,7 +4,8 @@ use Rattle.std.specs.List.{AllByRecursion}
 use Rattle.clk_sched.specs.declared.visit.Visit.{Visit}
 use Rattle.clk_sched.specs.Tree.{Row, end, leaf, node, Tree, root, width, nodes}
 use Rattle.clk_sched.specs.Log.{HasLogShape, pulls, visits_of, turn, asks, pulls_below, result_of}
-use Rattle.clk_sched.specs.Laws.{Obeys, IsDeviceTurn}
+use Rattle.clk_sched.specs.Laws.{Obeys}
+use Rattle.clk_sched.specs.Laws.Device.{IsDeviceTurn}
 
 -- what node x got from the child at an input, which is node y, is the child's result in the same pull
 abbrev pub GetsResult : ℕ → ℕ → ℕ → List Visit → Type 0

@@ -2,8 +2,9 @@
 use Rattle.std.specs.Prelude.{◌≡◌, ℕ, ◌+◌, ◌*◌, ◌<◌, ◌≤◌, ◌==◌, ◌&&◌, List, [], ◌∷◌, ◌++◌, length, reverse, max, Bool, false, Option, Some, None, IsSome, unwrap_or, slice_get, if◌then◌else◌}
 use Rattle.std.specs.List.{AllByRecursion}
 use Rattle.clk_sched.specs.declared.visit.Visit.{Visit}
-use Rattle.clk_sched.specs.Log.{Turn}
-use Rattle.clk_sched.specs.Laws.{arrives, arrivals, passed_bytes, bytes_of, stride_of, passes_of, giver, all_visits, IsDeficitRun, EachAfter, IsStrideTurn}
+use Rattle.clk_sched.specs.Turns.{Turn, EachAfter, giver, all_visits}
+use Rattle.clk_sched.specs.Laws.Deficit.{arrives, arrivals, passed_bytes, bytes_of, IsDeficitRun}
+use Rattle.clk_sched.specs.Laws.Stride.{stride_of, passes_of, IsStrideTurn}
 
 -- the arrivals at an input in a range of visits, and the bytes passed from it there; the visits before are given with the
 -- latest first

@@ -1,6 +1,7 @@
 -- Trees of schedulers over queues, below a device that has one input.
-use Rattle.std.specs.Prelude.{ℕ, ◌+◌, ◌==◌, ◌&&◌, ◌||◌, ◌++◌, Bool, true, false, not, List, [], ◌∷◌, Option, Some, None, suc, max, min, if◌then◌else◌}
+use Rattle.std.specs.Prelude.{◌≡◌, ℕ, ◌+◌, ◌≤◌, ◌==◌, ◌&&◌, ◌||◌, ◌++◌, Bool, true, false, not, List, [], ◌∷◌, length, ⊤, Option, Some, None, suc, max, min, if◌then◌else◌}
 use Rattle.std.specs.Option.{option_or}
+use Rattle.std.specs.List.{AllByRecursion}
 
 -- What a scheduler does with its inputs, and its arguments: a quantum in bytes, the tickets of each input, and the rate in
 -- packets a tick with the burst in packets.
@@ -71,6 +72,21 @@ are_distinct (q ∷ qs) = not (stands_in q qs) && are_distinct qs
 -- no queue stands twice in a tree
 abbrev pub leaves_distinct : Tree → Bool
 leaves_distinct tree = are_distinct (leaves (root tree))
+
+-- the arguments of a scheduler over so many inputs are within their limits
+abbrev pub HasArguments : Class → ℕ → Type 0
+HasArguments prio inputs = ⊤
+HasArguments round_robin inputs = ⊤
+HasArguments (drr quantum) inputs = (1 ≤ quantum) × (quantum ≤ 1000000)
+HasArguments (stride tickets) inputs = (length tickets ≡ inputs) × AllByRecursion (λ n. (1 ≤ n) × (n ≤ 32768)) tickets
+HasArguments (shaper rate burst) inputs = (inputs ≡ 1) × ((1 ≤ rate) × (rate ≤ 1000000)) × ((1 ≤ burst) × (burst ≤ 1000000))
+
+-- Each scheduler of a row has an input at least, and arguments within their limits: a StrideSched has tickets for each input,
+-- and a Shaper has one input.
+abbrev pub IsWellFormed : Row → Type 0
+IsWellFormed end = ⊤
+IsWellFormed (leaf q row) = IsWellFormed row
+IsWellFormed (node class inputs row) = (1 ≤ width inputs) × HasArguments class (width inputs) × IsWellFormed inputs × IsWellFormed row
 
 -- how many schedulers stand on the longest path through a row
 abbrev pub height : Row → ℕ

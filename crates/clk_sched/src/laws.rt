@@ -7,7 +7,7 @@ ghost use Rattle.clk_sched.specs.Bound.{closing_bound};
 ghost use Rattle.clk_sched.specs.Examples.{lengths, first_pulls};
 ghost use Rattle.clk_sched.specs.Examples.Priority.{two_queues, visit_left_out, visit_doubled, passed_turned, other_result, two_queues_tree};
 ghost use Rattle.clk_sched.specs.Examples.RoundRobin.{three_in_turn, moves_every_pull, begins_where_it_gave, three_in_turn_tree};
-ghost use Rattle.clk_sched.specs.Examples.Deficit.{two_deficits, held_at_close, nested, deficit_kept, asks_over_head, passes_above_deficit, two_deficits_tree, held_at_close_tree, nested_tree};
+ghost use Rattle.clk_sched.specs.Examples.Deficit.{two_deficits, held_at_close, nested, deficit_kept, asks_over_head, visits_twice, passes_above_deficit, two_deficits_tree, held_at_close_tree, nested_tree};
 ghost use Rattle.clk_sched.specs.Examples.Stride.{two_to_one, idle_input, idle_pass, pass_left_behind, lowest_index_first, two_to_one_tree, idle_input_tree, idle_pass_tree};
 ghost use Rattle.clk_sched.specs.Examples.Shaper.{burst_of_two, late_burst, below_deficit, fills_without_cap, asks_without_room, burst_of_two_tree, late_burst_tree, below_deficit_tree};
 
@@ -34,6 +34,7 @@ pub fn deficit_examples()
     ensures is_nested { IsRun nested_tree nested }
     ensures not_deficit_kept { ¬ (IsRun nested_tree deficit_kept) }
     ensures not_asks_over_head { ¬ (IsRun held_at_close_tree asks_over_head) }
+    ensures not_visits_twice { ¬ (IsRun held_at_close_tree visits_twice) }
     ensures not_passes_above_deficit { ¬ (IsRun held_at_close_tree passes_above_deficit) }
 {}
 

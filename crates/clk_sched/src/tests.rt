@@ -38,6 +38,13 @@ fn a_path_has_64_schedulers_at_most(rt: HostRuntime) {
     assert_eq!(rt; below(rt.alloc(), 65).err(), Some(Fault::TooLarge));
 }
 
+// Its one allocation is refused by tests/refuse-memory.
+#[test]
+fn a_shaper_takes_memory_once(rt: HostRuntime) {
+    let refused = Tree::shaper(rt.alloc(), 2, 3, Tree::leaf(0)).err();
+    assert_eq!(rt; refused, None);
+}
+
 // A DRRSched over a StrideSched over the first two queues and a RoundRobinSched over the third.
 fn mixed(alloc: Global, queues: [u16; 3]) -> Result<Tree, Fault> {
     let [first, second, third] = queues;

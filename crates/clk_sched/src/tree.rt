@@ -1,7 +1,7 @@
 //! Trees of schedulers over queues.
 
 ghost use Rattle.std.specs.Prelude.{◌≡◌, ◌≤◌, length, suc};
-ghost use Rattle.clk_sched.specs.Tree.{prio, round_robin, drr, stride, shaper, queue, height, leaves, stands_in, are_distinct};
+ghost use Rattle.clk_sched.specs.Tree.{prio, round_robin, drr, stride, shaper, queue, height, leaves, stands_in, are_distinct, IsWellFormed};
 ghost use Rattle.clk_sched.specs.Built.{built, row, are_apart, leaves_of};
 
 use clk_packet::Fault;
@@ -52,12 +52,13 @@ impl Model for Tree {
 
     ghost coded = { tree_code };
 
+    ghost use Rattle.clk_sched.specs.Tree.{root, IsWellFormed};
     ghost use Rattle.clk_sched.specs.Built.{levels};
     ghost use Rattle.clk_sched.specs.Kept.{kept};
 
     ghost view = { λ a. kept a.node };
 
-    ghost invariant = { λ a. a.height ≡ levels (kept a.node) };
+    ghost invariant = { λ a. (a.height ≡ levels (kept a.node)) × IsWellFormed (root (kept a.node)) };
 
     ghost size = { levels };
 
@@ -70,7 +71,8 @@ impl Tree {
     ghost use Rattle.std.specs.Prelude.{◌≢◌, Err, [], ◌∷◌};
     ghost use Rattle.clk_packet.specs.declared.fault.Fault.TheVariants.{Memory};
     ghost use Rattle.std.specs.List.{AllByRecursion};
-    ghost use Rattle.clk_sched.specs.Tree.{leaves_distinct};
+    ghost use Rattle.clk_sched.specs.Tree.{leaves_distinct, HasArguments};
+    ghost use Rattle.clk_sched.specs.Choice.{LeavesNoChoice};
     ghost use Rattle.clk_sched.specs.Kept.{class_of};
 
     /// The queue of this number alone.
@@ -157,6 +159,14 @@ impl Tree {
         self.is_distinct()
     }
 
+    /// A law: a run of this tree leaves nothing to choose but what the queues answer and the moments of the pulls. It does
+    /// nothing.
+    pub fn leaves_no_choice(&self)
+        ensures { LeavesNoChoice self.now }
+    {
+        let _ = &self.node;
+    }
+
     #[cycle(distinct)]
     fn is_distinct(&self) -> bool
         ensures { result ≡ are_distinct (leaves_of self.now) }
@@ -188,6 +198,8 @@ impl Tree {
     }
 
     fn scheduler(class: Class, children: Vec<Tree>) -> Result<Tree, Fault>
+        requires inputs { 1 ≤ length children.items }
+        requires arguments { HasArguments (class_of class) (length children.items) }
         ensures { result ≡ built (class_of class) children.items }
     {
         if children.len() > MAX_INPUTS {
@@ -204,9 +216,10 @@ impl Tree {
     }
 }
 
-/// How many schedulers stand on the longest path of these trees.
+/// How many schedulers stand on the longest path of these trees, each of which is well formed.
 fn highest(trees: &[Tree]) -> u8
-    ensures { result ≡ height (row trees.now) }
+    ensures height { result ≡ height (row trees.now) }
+    ensures well_formed { IsWellFormed (row trees.now) }
 {
     let mut highest = 0;
     for tree in trees {

@@ -51,6 +51,12 @@ asks_over_head =
     look 0 0 1 0 true (Some (packet 0 0 1000 (lit≤ tt))) false ∷ asking 0 0 0 0 None ∷
     asking 1 1 1 0 None ∷ asking 1 1 0 0 None ∷ []
 
+-- Over held_at_close_tree: the only input is visited twice in a pull
+abbrev pub visits_twice : List Visit
+visits_twice =
+    look 0 0 1 0 true (Some (packet 0 0 1000 (lit≤ tt))) false ∷ look 0 0 1 0 false (Some (packet 0 0 1000 (lit≤ tt))) true ∷
+    asking 0 0 0 0 (Some (packet 0 0 1000 (lit≤ tt))) ∷ []
+
 -- Over held_at_close_tree: a packet longer than the deficit is passed
 abbrev pub passes_above_deficit : List Visit
 passes_above_deficit =

@@ -22,7 +22,7 @@ returns-clause-is_below_deficit c =
     record {
       shape = record { blocks = refl; one_moment = ((refl, (refl, (refl, tt))), ((refl, (refl, tt)), ((refl, (refl, (refl, tt))), tt))); moments = (lit≤ tt, (lit≤ tt, (lit≤ tt, tt))) };
       device = (record { plain = (record { fresh = refl; passed = refl }, tt); in_order = (refl, refl) }, (record { plain = (record { fresh = refl; passed = refl }, tt); in_order = (refl, tt) }, (record { plain = (record { fresh = refl; passed = refl }, tt); in_order = (refl, refl) }, tt)));
-      below = (record { visits = (record { in_turn = refl; fresh = refl; looks = tt; deficit = 500; deficit_is = refl; passes = refl }, (record { in_turn = refl; fresh = refl; looks = tt; deficit = 200; deficit_is = refl; passes = refl }, (record { in_turn = refl; fresh = refl; looks = tt; deficit = 500; deficit_is = refl; passes = refl }, tt))); pulls = (refl, ((0, refl, refl), (refl, tt))) }, ((refl, tt), ((refl, tt), ((refl, tt), tt))), ((record { plain = (record { fresh = refl; passed = refl }, tt); in_order = (refl, refl) }, (refl, (record { plain = (record { fresh = refl; passed = refl }, tt); in_order = (refl, refl) }, tt))), ((refl, tt), ((refl, tt), ((refl, tt), tt))), tt, tt), tt);
+      below = (record { visits = (record { in_turn = refl; fresh = refl; looks = tt; deficit = 500; deficit_is = refl; passes = refl }, (record { in_turn = refl; fresh = refl; looks = tt; deficit = 200; deficit_is = refl; passes = refl }, (record { in_turn = refl; fresh = refl; looks = tt; deficit = 500; deficit_is = refl; passes = refl }, tt))); pulls = (refl, (refl, (refl, tt))) }, ((refl, tt), ((refl, tt), ((refl, tt), tt))), ((record { plain = (record { fresh = refl; passed = refl }, tt); in_order = (refl, refl) }, (refl, (record { plain = (record { fresh = refl; passed = refl }, tt); in_order = (refl, refl) }, tt))), ((refl, tt), ((refl, tt), ((refl, tt), tt))), tt, tt), tt);
     }
 
 pub returns-clause-not_fills_without_cap : goal.returns-clause-not_fills_without_cap

@@ -1,6 +1,7 @@
 use Rattle.std.proofs.Common.{◌≡◌, sym, ap, ◌∙◌, refl, arith}
 use Rattle.clk_sched.specs.Tree.{leaves}
-use Rattle.clk_sched.specs.Built.{row, elements, elements_of}
+use Rattle.clk_sched.specs.Built.{row}
+use Rattle.clk_sched.proofs.Elements.{elements, elements_of}
 use Rattle.clk_sched.specs.Kept.{kept}
 use Rattle.clk_sched.proofs.TreeLemmas.{are_apart-first, elements-row}
 use Rattle.clk_sched.proofs.tree.+apart.Goals as goal

@@ -1,5 +1,6 @@
 use Rattle.std.proofs.Common.{◌≡◌, sym, ap, ◌∙◌, refl, arith}
-use Rattle.clk_sched.specs.Built.{row, elements, elements_of}
+use Rattle.clk_sched.specs.Built.{row}
+use Rattle.clk_sched.proofs.Elements.{elements, elements_of}
 use Rattle.clk_sched.specs.Kept.{kept}
 use Rattle.clk_sched.proofs.TreeLemmas.{are_distinct-first, elements-row}
 use Rattle.clk_sched.proofs.tree.+distinct.Goals as goal

@@ -1,5 +1,6 @@
 use Rattle.std.proofs.Common.{◌+◌, ◌*◌}
-use Rattle.clk_sched.specs.Built.{row, elements, elements_of}
+use Rattle.clk_sched.specs.Built.{row}
+use Rattle.clk_sched.proofs.Elements.{elements, elements_of}
 use Rattle.clk_sched.proofs.tree.+distinct.Given as goal
 
 abbrev pub decreases-Tree::is_distinct : goal.decreases-Tree::is_distinct

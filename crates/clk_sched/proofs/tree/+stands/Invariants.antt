@@ -1,5 +1,6 @@
 use Rattle.std.proofs.Common.{◌+◌, ◌*◌}
-use Rattle.clk_sched.specs.Built.{row, elements, elements_of}
+use Rattle.clk_sched.specs.Built.{row}
+use Rattle.clk_sched.proofs.Elements.{elements, elements_of}
 use Rattle.clk_sched.proofs.tree.+stands.Given as goal
 
 abbrev pub decreases-Tree::has : goal.decreases-Tree::has

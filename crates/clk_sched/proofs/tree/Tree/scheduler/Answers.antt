@@ -1,7 +1,8 @@
-use Rattle.std.proofs.Common.{◌≡◌, arith}
-use Rattle.clk_sched.specs.Tree.{height}
+use Rattle.std.proofs.Common.{◌≡◌, ◌≤◌, subst, arith}
+use Rattle.clk_sched.specs.Tree.{height, HasArguments, IsWellFormed}
 use Rattle.clk_sched.specs.Built.{row}
-use Rattle.clk_sched.proofs.TreeLemmas.{built-wide, built-high, built-fits}
+use Rattle.clk_sched.specs.Kept.{class_of}
+use Rattle.clk_sched.proofs.TreeLemmas.{built-wide, built-high, built-fits, width-row}
 use Rattle.clk_sched.proofs.tree.Tree.scheduler.Goals as goal
 
 pub returns-then-len-gt-MAX_INPUTS : goal.returns-then-len-gt-MAX_INPUTS
@@ -12,3 +13,11 @@ returns-then-below-ge-MAX_HEIGHT c = let below : c.highest-below.result ≡ heig
 
 pub returns : goal.returns
 returns c = let below : c.highest-below.result ≡ height (row c.args.children.items) = search in built-fits _ c.args.children.items (omega arith) (omega arith)
+
+pub invariant_of-result : goal.invariant_of-result
+invariant_of-result c =
+    let inputs = width-row c.args.children.items in
+    let below : c.highest-below.result ≡ height (row c.args.children.items) = search in (
+      omega (arith, below),
+      (subst (λ n. 1 ≤ n) inputs c.requires.inputs, subst (λ n. HasArguments (class_of c.args.class) n) inputs c.requires.arguments, subst (λ trees. IsWellFormed (row trees)) c.deref.ensures.value c.highest-below.ensures.well_formed, tt),
+    )

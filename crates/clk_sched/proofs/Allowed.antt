@@ -1,0 +1,115 @@
+-- Runs, pull by pull: what a tree does in one pull, after those before it.
+use Rattle.std.proofs.Common.{◌≡◌, ℕ, suc, ◌+◌, ◌<◌, ◌≤◌, Bool, true, false, List, [], ◌∷◌, ◌++◌, map, refl, mod-lt, arith}
+use Rattle.std.specs.List.{AllByRecursion, list_any}
+use Rattle.std.specs.Bool.{⊤}
+use Rattle.clk_sched.specs.declared.visit.Visit.{Visit}
+use Rattle.clk_sched.specs.Tree.{Class, prio, round_robin, drr, stride, shaper, Row, end, leaf, node, nodes, width}
+use Rattle.clk_sched.specs.Turns.{Turn, EachAfter, all_visits}
+use Rattle.clk_sched.specs.Log.{visits_of, turn, asks, pulls_below}
+use Rattle.clk_sched.specs.Laws.{Obeys}
+use Rattle.clk_sched.specs.Laws.Priority.{IsPrioTurn}
+use Rattle.clk_sched.specs.Laws.RoundRobin.{IsRoundRobinTurn}
+use Rattle.clk_sched.specs.Laws.Deficit.{IsDeficitVisit, EndAtPass, next_input}
+use Rattle.clk_sched.specs.Laws.Stride.{IsStrideTurn}
+use Rattle.clk_sched.specs.Laws.Shaper.{IsShaperTurn}
+use Rattle.clk_sched.specs.Run.{GetsResult, EachObeys}
+use Rattle.clk_sched.proofs.Members.{each-from_all, each-weaker, each-both, each-mapped, each-filtered}
+
+-- visits put before others that have the latest first
+abbrev pub onto : List Visit → List Visit → List Visit
+onto [] earlier = earlier
+onto (v ∷ visits) earlier = onto visits (v ∷ earlier)
+
+-- the visits of turns that have the latest first
+abbrev pub visits_before : List Turn → List Visit
+visits_before [] = []
+visits_before (t ∷ earlier) = onto t.visits (visits_before earlier)
+
+-- the visits of a DRRSched in one turn
+pub record IsDeficitTurn (quantum inputs : ℕ) (earlier : List Turn) (t : Turn) : Type 0 where
+  pub visits : EachAfter (IsDeficitVisit quantum inputs) (visits_before earlier) t.visits
+  pub pull : EndAtPass inputs t.visits
+  pub next : 1 ≤ inputs → next_input inputs (visits_before earlier) < inputs
+
+-- what a class allows in one turn after earlier ones, the latest first
+abbrev pub AllowsTurn : Class → ℕ → List Turn → Turn → Type 0
+AllowsTurn prio inputs earlier t = IsPrioTurn inputs t
+AllowsTurn round_robin inputs earlier t = IsRoundRobinTurn inputs earlier t
+AllowsTurn (drr quantum) inputs earlier t = IsDeficitTurn quantum inputs earlier t
+AllowsTurn (stride tickets) inputs earlier t = IsStrideTurn tickets earlier t
+AllowsTurn (shaper rate burst) inputs earlier t = IsShaperTurn rate burst earlier t
+
+each-split : (P : List Visit → Visit → Type 0) (earlier us vs : List Visit) → EachAfter P earlier (us ++ vs) → EachAfter P earlier us × EachAfter P (onto us earlier) vs
+each-split P earlier [] vs h = (tt, h)
+each-split P earlier (u ∷ us) vs h = let rest = each-split P (u ∷ earlier) us vs h.1 in ((h.0, rest.0), rest.1)
+
+pub next-within : (quantum inputs : ℕ) (earlier : List Visit) (v : Visit) → 1 ≤ inputs → next_input inputs earlier < inputs → IsDeficitVisit quantum inputs earlier v
+    → next_input inputs (v ∷ earlier) < inputs
+next-within quantum inputs earlier v some l law = by_test v.passed refl
+  where
+    by_test : (b : Bool) → v.passed ≡ b → next_input inputs (v ∷ earlier) < inputs
+    by_test true e = rw (e, law.in_turn) l
+    by_test false e = rw e (mod-lt (v.input + 1) (omega arith))
+
+turn-within : (quantum inputs : ℕ) (earlier visits : List Visit) → 1 ≤ inputs → next_input inputs earlier < inputs → EachAfter (IsDeficitVisit quantum inputs) earlier visits
+    → next_input inputs (onto visits earlier) < inputs
+turn-within quantum inputs earlier [] some l h = l
+turn-within quantum inputs earlier (v ∷ visits) some l h = turn-within quantum inputs (v ∷ earlier) visits some (next-within quantum inputs earlier v some l h.0) h.1
+
+deficit-turns : (quantum inputs : ℕ) (earlier turns : List Turn) → EachAfter (IsDeficitVisit quantum inputs) (visits_before earlier) (all_visits turns)
+    → AllByRecursion (λ (t : Turn). EndAtPass inputs t.visits) turns → (1 ≤ inputs → next_input inputs (visits_before earlier) < inputs)
+    → EachAfter (IsDeficitTurn quantum inputs) earlier turns
+deficit-turns quantum inputs earlier [] h k next = tt
+deficit-turns quantum inputs earlier (t ∷ turns) h k next =
+    let parts = each-split (IsDeficitVisit quantum inputs) (visits_before earlier) t.visits (all_visits turns) h in (
+      record { visits = parts.0; pull = k.0; next = next },
+      deficit-turns quantum inputs (t ∷ earlier) turns parts.1 k.1 (λ some. turn-within quantum inputs (visits_before earlier) t.visits some (next some) parts.0),
+    )
+
+pub turns-allowed : (class : Class) (inputs : ℕ) (turns : List Turn) → Obeys class inputs turns → EachAfter (AllowsTurn class inputs) [] turns
+turns-allowed prio inputs turns h = each-from_all (IsPrioTurn inputs) [] turns h
+turns-allowed round_robin inputs turns h = h
+turns-allowed (drr quantum) inputs turns h = deficit-turns quantum inputs [] turns h.visits h.pulls (λ some. some)
+turns-allowed (stride tickets) inputs turns h = h
+turns-allowed (shaper rate burst) inputs turns h = h
+
+-- What the schedulers of a row do in one pull: each that is pulled has a turn that its class allows, and what was got from
+-- it is its result. The row stands as for EachObeys; the pulls before have the latest first.
+abbrev pub EachAllows : ℕ → ℕ → ℕ → Row → List (List Visit) → List Visit → Type 0
+EachAllows above first next end earlier pull = ⊤
+EachAllows above first next (leaf q row) earlier pull = EachAllows above (suc first) next row earlier pull
+EachAllows above first next (node class inputs row) earlier pull =
+    (list_any (asks first) (visits_of above pull) ≡ true
+    → AllowsTurn class (width inputs) (map (turn next) (pulls_below above first earlier)) (turn next pull)
+    × EachAllows next 0 (suc next) inputs (pulls_below above first earlier) pull)
+    × GetsResult above first next pull
+    × EachAllows above (suc first) (suc (next + nodes inputs)) row earlier pull
+
+pub each-allowed : (above first next : ℕ) (row : Row) (pulled : List (List Visit)) → EachObeys above pulled first next row → EachAfter (EachAllows above first next row) [] pulled
+each-allowed above first next end pulled h = each-from_all (λ p. ⊤) [] pulled (all pulled)
+  where
+    all : (ps : List (List Visit)) → AllByRecursion (λ (p : List Visit). ⊤) ps
+    all [] = tt
+    all (p ∷ ps) = (tt, all ps)
+each-allowed above first next (leaf q row) pulled h = each-allowed above (suc first) next row pulled h
+each-allowed above first next (node class inputs row) pulled h =
+    each-weaker _ (EachAllows above first next (node class inputs row)) (λ e p both. (λ asked. (both.0.0 asked, both.0.1 asked), both.1.0, both.1.1)) [] pulled
+    (each-both _ _ [] pulled (each-both _ _ [] pulled turns (below (each-allowed next 0 (suc next) inputs (pulls_below above first pulled) h.2))) (each-both _ _ [] pulled results (each-allowed above (suc first) (suc (next + nodes inputs)) row pulled h.3)))
+  where
+    asked : List Visit → Bool
+    asked pull = list_any (asks first) (visits_of above pull)
+
+    Allowed : List (List Visit) → List Visit → Type 0
+    Allowed e p = AllowsTurn class (width inputs) (map (turn next) e) (turn next p)
+
+    turns : EachAfter (λ e p. asked p ≡ true → Allowed (pulls_below above first e) p) [] pulled
+    turns =
+        each-filtered Allowed asked [] pulled
+        (each-mapped (AllowsTurn class (width inputs)) (turn next) [] (pulls_below above first pulled) (turns-allowed class (width inputs) _ h.0))
+
+    below : EachAfter (EachAllows next 0 (suc next) inputs) [] (pulls_below above first pulled)
+        → EachAfter (λ e p. asked p ≡ true → EachAllows next 0 (suc next) inputs (pulls_below above first e) p) [] pulled
+    below k = each-filtered (EachAllows next 0 (suc next) inputs) asked [] pulled k
+
+    results : EachAfter (λ e p. GetsResult above first next p) [] pulled
+    results = each-from_all (GetsResult above first next) [] pulled h.1

@@ -1,0 +1,101 @@
+-- Members of lists, and lists that a test or a law goes over.
+use Rattle.std.proofs.Common.{◌≡◌, ◌⊎◌, Bool, true, false, cond, ◌||◌, List, [], ◌∷◌, ◌++◌, map, filter, inl, inr, refl, sym, ◌∙◌, subst}
+use Rattle.std.specs.List.{AllByRecursion, list_any, flat_map}
+use Rattle.std.proofs.lemmas.Bool.{false≢true}
+use Rattle.clk_sched.specs.Turns.{EachAfter}
+
+abbrev pub In : {X : Type 0} → X → List X → Type 0
+In x [] = ⊥
+In x (y ∷ ys) = (y ≡ x) ⊎ In x ys
+
+pub of-all : {X : Type 0} (P : X → Type 0) (x : X) (xs : List X) → AllByRecursion P xs → In x xs → P x
+of-all P x [] h m = absurd m
+of-all P x (y ∷ ys) h (inl e) = subst P e h.0
+of-all P x (y ∷ ys) h (inr m) = of-all P x ys h.1 m
+
+pub to-all : {X : Type 0} (P : X → Type 0) (xs : List X) → ((x : X) → In x xs → P x) → AllByRecursion P xs
+to-all P [] f = tt
+to-all P (x ∷ xs) f = (f x (inl refl), to-all P xs (λ y m. f y (inr m)))
+
+pub all-append : {X : Type 0} (P : X → Type 0) (xs ys : List X) → AllByRecursion P xs → AllByRecursion P ys → AllByRecursion P (xs ++ ys)
+all-append P [] ys h k = k
+all-append P (x ∷ xs) ys h k = (h.0, all-append P xs ys h.1 k)
+
+pub all-flat_map : {X Y : Type 0} (P : Y → Type 0) (f : X → List Y) (xs : List X) → ((x : X) → In x xs → AllByRecursion P (f x)) → AllByRecursion P (flat_map f xs)
+all-flat_map P f [] h = tt
+all-flat_map P f (x ∷ xs) h = all-append P (f x) (flat_map f xs) (h x (inl refl)) (all-flat_map P f xs (λ y m. h y (inr m)))
+
+-- a member that passes a test, and the members that pass it
+pub in-filter : {X : Type 0} (test : X → Bool) (x : X) (xs : List X) → In x (filter test xs) → In x xs × (test x ≡ true)
+in-filter test x [] m = absurd m
+in-filter test x (y ∷ ys) m = by_test (test y) refl (in-filter test x ys) m
+  where
+    by_test : (b : Bool) → test y ≡ b → (In x (filter test ys) → In x ys × (test x ≡ true)) → In x (filter test (y ∷ ys)) → In x (y ∷ ys) × (test x ≡ true)
+    by_test true e rest = rw e first
+      where
+        first : In x (y ∷ filter test ys) → In x (y ∷ ys) × (test x ≡ true)
+        first (inl s) = (inl s, subst (λ z. test z ≡ true) s e)
+        first (inr k) = (inr (rest k).0, (rest k).1)
+    by_test false e rest = rw e (λ k. (inr (rest k).0, (rest k).1))
+
+pub filter-in : {X : Type 0} (test : X → Bool) (x : X) (xs : List X) → test x ≡ true → In x xs → In x (filter test xs)
+filter-in test x [] t m = absurd m
+filter-in test x (y ∷ ys) t (inl s) = rw (subst (λ z. test z ≡ true) (sym s) t) (inl s)
+filter-in test x (y ∷ ys) t (inr m) = by_test (test y) refl (filter-in test x ys t m)
+  where
+    by_test : (b : Bool) → test y ≡ b → In x (filter test ys) → In x (filter test (y ∷ ys))
+    by_test true e k = rw e (inr k)
+    by_test false e k = rw e k
+
+pub any-in : {X : Type 0} (test : X → Bool) (x : X) (xs : List X) → test x ≡ true → In x xs → list_any test xs ≡ true
+any-in test x [] t m = absurd m
+any-in test x (y ∷ ys) t (inl s) = rw (subst (λ z. test z ≡ true) (sym s) t) refl
+any-in test x (y ∷ ys) t (inr m) = rw (any-in test x ys t m) (or_true (test y))
+  where
+    or_true : (b : Bool) → (b || true) ≡ true
+    or_true true = refl
+    or_true false = refl
+
+pub filter-all : {X : Type 0} (test : X → Bool) (xs : List X) → AllByRecursion (λ x. test x ≡ true) xs → filter test xs ≡ xs
+filter-all test [] h = refl
+filter-all test (x ∷ xs) h = rw (h.0, filter-all test xs h.1) refl
+
+pub filter-none : {X : Type 0} (test : X → Bool) (xs : List X) → AllByRecursion (λ x. test x ≡ false) xs → filter test xs ≡ []
+filter-none test [] h = refl
+filter-none test (x ∷ xs) h = rw (h.0, filter-none test xs h.1) refl
+
+-- what holds of each member after those before it
+pub each-from_all : {X : Type 0} (P : X → Type 0) (earlier xs : List X) → AllByRecursion P xs → EachAfter (λ e x. P x) earlier xs
+each-from_all P earlier [] h = tt
+each-from_all P earlier (x ∷ xs) h = (h.0, each-from_all P (x ∷ earlier) xs h.1)
+
+pub each-weaker : {X : Type 0} (P Q : List X → X → Type 0) → ((e : List X) (x : X) → P e x → Q e x) → (earlier xs : List X) → EachAfter P earlier xs → EachAfter Q earlier xs
+each-weaker P Q f earlier [] h = tt
+each-weaker P Q f earlier (x ∷ xs) h = (f earlier x h.0, each-weaker P Q f (x ∷ earlier) xs h.1)
+
+pub each-both : {X : Type 0} (P Q : List X → X → Type 0) (earlier xs : List X) → EachAfter P earlier xs → EachAfter Q earlier xs → EachAfter (λ e x. P e x × Q e x) earlier xs
+each-both P Q earlier [] h k = tt
+each-both P Q earlier (x ∷ xs) h k = ((h.0, k.0), each-both P Q (x ∷ earlier) xs h.1 k.1)
+
+pub each-mapped : {X Y : Type 0} (P : List Y → Y → Type 0) (f : X → Y) (earlier xs : List X) → EachAfter P (map f earlier) (map f xs)
+    → EachAfter (λ e x. P (map f e) (f x)) earlier xs
+each-mapped P f earlier [] h = tt
+each-mapped P f earlier (x ∷ xs) h = (h.0, each-mapped P f (x ∷ earlier) xs h.1)
+
+pub each-filtered : {X : Type 0} (P : List X → X → Type 0) (test : X → Bool) (earlier xs : List X) → EachAfter P (filter test earlier) (filter test xs)
+    → EachAfter (λ e x. test x ≡ true → P (filter test e) x) earlier xs
+each-filtered P test earlier [] h = tt
+each-filtered {X = X} P test earlier (x ∷ xs) h = by_test (test x) refl (each-filtered P test (x ∷ earlier) xs) h
+  where
+    After : List X → List X → Type 0
+    After e ys = EachAfter (λ e y. test y ≡ true → P (filter test e) y) e ys
+
+    by_test : (b : Bool) → test x ≡ b → (EachAfter P (filter test (x ∷ earlier)) (filter test xs) → After (x ∷ earlier) xs)
+        → EachAfter P (filter test earlier) (filter test (x ∷ xs)) → After earlier (x ∷ xs)
+    by_test true e rest k =
+        let now : EachAfter P (filter test earlier) (x ∷ filter test xs) = subst (λ b. EachAfter P (filter test earlier) (cond b (x ∷ filter test xs) (filter test xs))) e k in
+        (λ t. now.0, rest (subst (λ b. EachAfter P (cond b (x ∷ filter test earlier) (filter test earlier)) (filter test xs)) (sym e) now.1))
+    by_test false e rest k = (
+      λ t. absurd (false≢true (sym e ∙ t)),
+      rest (subst (λ b. EachAfter P (cond b (x ∷ filter test earlier) (filter test earlier)) (filter test xs)) (sym e) (subst (λ b. EachAfter P (filter test earlier) (cond b (x ∷ filter test xs) (filter test xs))) e k)),
+    )

@@ -1,0 +1,222 @@
+-- A run leaves nothing to choose: two runs with the same answers and moments are the same log.
+use Rattle.std.proofs.Common.{◌≡◌, ℕ, suc, ◌+◌, ◌<◌, ◌≤◌, ◌==◌, ◌&&◌, if◌then◌else◌, cond, Bool, true, false, List, [], ◌∷◌, ◌++◌, length, map, filter, drop, Option, None, is_some, refl, sym, ap, ap₂, ◌∙◌, subst, arith}
+use Rattle.std.specs.List.{flat_map, AllByRecursion}
+use Rattle.std.proofs.lemmas.Bool.{false≢true}
+use Rattle.std.proofs.lemmas.Bool.Decides.{nat_tests}
+use Rattle.std.proofs.lemmas.List.{append-nil}
+use Rattle.clk_packet.specs.declared.packet.Packet.{Packet}
+use Rattle.clk_sched.specs.declared.visit.Visit.{Visit}
+use Rattle.clk_sched.specs.Tree.{Class, Row, end, leaf, node, Tree, queue, scheduler, root, nodes, width, queue_at, IsWellFormed}
+use Rattle.clk_sched.specs.Turns.{EachAfter}
+use Rattle.clk_sched.specs.Laws.Device.{IsDeviceTurn}
+use Rattle.clk_sched.specs.Log.{visits_of, pulls, block_at, block, moment_of, HasOneMoment, turn, asks, pulls_below, result_of}
+use Rattle.clk_sched.specs.Run.{GetsResult, IsRun}
+use Rattle.clk_sched.specs.Choice.{is_answer, answers, LeavesNoChoice}
+use Rattle.clk_sched.proofs.Members.{In, of-all, in-filter, filter-in, any-in, each-from_all, each-weaker, each-both, each-mapped}
+use Rattle.clk_sched.proofs.Numbering.{StandsAt, stands-root, stands-after_leaf, stands-after_node, stands-inputs, at-leaf, at-node}
+use Rattle.clk_sched.proofs.Allowed.{EachAllows, each-allowed}
+use Rattle.clk_sched.proofs.PullByPull.{asked, IsNumbered, each-numbered}
+use Rattle.clk_sched.proofs.SameTurns.{Sides, Reads, reads-append, GetAlike, plain-same, turn-same}
+
+-- what a visit adds to the answers
+answers-one : (tree : Tree) (v : Visit) → is_answer tree v ≡ true → answers tree (v ∷ []) ≡ v.got ∷ []
+answers-one tree v e = ap (λ b. map (λ (u : Visit). u.got) (cond b (v ∷ []) [])) e
+
+answers-none : (tree : Tree) (v : Visit) → is_answer tree v ≡ false → answers tree (v ∷ []) ≡ []
+answers-none tree v e = ap (λ b. map (λ (u : Visit). u.got) (cond b (v ∷ []) [])) e
+
+-- two pulls with the same number and the same moment
+record ArePaired (p q : List Visit) : Type 0 where
+  number : ℕ
+  one : AllByRecursion (λ (v : Visit). v.pull ≡ number) p
+  other : AllByRecursion (λ (v : Visit). v.pull ≡ number) q
+  one_moment : HasOneMoment p
+  other_moment : HasOneMoment q
+  moment : moment_of p ≡ moment_of q
+
+node-of : (x : ℕ) (pull : List Visit) (v : Visit) → In v (visits_of x pull) → In v pull × (v.node ≡ x)
+node-of x pull v m = let both = in-filter (λ (u : Visit). u.node == x) v pull m in (both.0, let e = both.1 in grind (arith, nat_tests))
+
+same-visit : (p q : List Visit) (x : ℕ) (v u : Visit) → ArePaired p q → In v (visits_of x p) → In u (visits_of x q) → v.input ≡ u.input → v.fresh ≡ u.fresh → v.got ≡ u.got → v.passed ≡ u.passed → v ≡ u
+same-visit p q x v u pair mv mu input fresh got passed =
+    λ i. record { pull = number i; moment = moment i; got = got i; node = at_node i; input = input i; fresh = fresh i; passed = passed i }
+  where
+    number : v.pull ≡ u.pull
+    number = of-all (λ (w : Visit). w.pull ≡ pair.number) v p pair.one (node-of x p v mv).0 ∙ sym (of-all (λ (w : Visit). w.pull ≡ pair.number) u q pair.other (node-of x q u mu).0)
+
+    moment : v.moment ≡ u.moment
+    moment =
+        of-all (λ (w : Visit). w.moment ≡ moment_of p) v p pair.one_moment (node-of x p v mv).0 ∙ pair.moment
+        ∙ sym (of-all (λ (w : Visit). w.moment ≡ moment_of q) u q pair.other_moment (node-of x q u mu).0)
+
+    at_node : v.node ≡ u.node
+    at_node = (node-of x p v mv).1 ∙ sym (node-of x q u mu).1
+
+-- what was asked at an input was the same, and so is what was got, and what is left of the answers
+record IsSameAnswer (p q : List Visit) (first next : ℕ) (row : Row) (i : ℕ) (v u : Visit) (s r : List (Option Packet)) : Type 0 where
+  block : block_at p first next row i ≡ block_at q first next row i
+  got : v.got ≡ u.got
+  left : s ≡ r
+
+-- two visits of node `above` that ask at one of the inputs of a row get the same where the answers are the same
+abbrev AskAlike : Tree → (p q : List Visit) (above first next : ℕ) → Row → Type 0
+AskAlike tree p q above first next row =
+    (i : ℕ) (v u : Visit) → In v (visits_of above p) → In u (visits_of above q) → v.input ≡ i → u.input ≡ i → first ≤ i → i < first + width row → v.fresh ≡ true → u.fresh ≡ true
+    → (s r : List (Option Packet)) → Reads tree (block_at p first next row i ++ v ∷ []) (block_at q first next row i ++ u ∷ []) s r → IsSameAnswer p q first next row i v u s r
+
+abbrev sides : Tree → (p q : List Visit) → ℕ → Row → Sides
+sides tree p q next row = record { tree = tree; one = asked p next row; other = asked q next row }
+
+-- visits of a node are alike where those that ask get the same
+get-alike : (tree : Tree) (p q : List Visit) (x : ℕ) (inputs : Row) → ArePaired p q → AskAlike tree p q x 0 (suc x) inputs
+    → GetAlike (sides tree p q (suc x) inputs) (visits_of x p) (visits_of x q) (width inputs)
+get-alike tree p q x inputs pair ask v u mv mu input below fresh held passed s r e =
+    let parts = by_fresh v.fresh u.fresh refl refl e in record { visit = parts.0; part = parts.1; left = parts.2 }
+  where
+    part : List Visit → Bool → Visit → List Visit
+    part pull b w = (if b then block_at pull 0 (suc x) inputs w.input else []) ++ w ∷ []
+
+    by_fresh : (m n : Bool) → v.fresh ≡ m → u.fresh ≡ n → Reads tree (part p m v) (part q n u) s r → (v ≡ u) × (part p m v ≡ part q n u) × (s ≡ r)
+    by_fresh true false f g h = absurd (false≢true (sym g ∙ sym fresh ∙ f))
+    by_fresh false true f g h = absurd (false≢true (sym f ∙ fresh ∙ g))
+    by_fresh false false f g h =
+        let visit = same-visit p q x v u pair mv mu input fresh (held f) (passed (held f)) in (
+          visit,
+          ap (λ w. w ∷ []) visit,
+          ap (λ l. l ++ s) (sym (answers-none tree v (ap (λ b. b && is_some (queue_at tree v.node v.input)) f))) ∙ h
+              ∙ ap (λ l. l ++ r) (answers-none tree u (ap (λ b. b && is_some (queue_at tree u.node u.input)) g)),
+        )
+    by_fresh true true f g h =
+        let same = ask v.input v u mv mu refl (sym input) (omega arith) (omega arith) f g s r (subst (λ i. Reads tree (part p true v) (block_at q 0 (suc x) inputs i ++ u ∷ []) s r) (sym input) h) in
+        let visit = same-visit p q x v u pair mv mu input fresh same.got (passed same.got) in (
+          visit,
+          ap₂ (λ b w. b ++ w ∷ []) same.block visit ∙ ap (λ i. block_at q 0 (suc x) inputs i ++ u ∷ []) input,
+          same.left,
+        )
+
+abbrev first_of : List (Option Packet) → Option Packet
+first_of [] = None
+first_of (o ∷ os) = o
+
+leaf-alike : (tree : Tree) (p q : List Visit) (above first next k : ℕ) (row : Row) → StandsAt tree above first next (leaf k row) → AskAlike tree p q above (suc first) next row
+    → AskAlike tree p q above first next (leaf k row)
+leaf-alike tree p q above first next k row stands rest i v u mv mu iv iu l h fv fu s r e =
+    let parts = by_test (first == i) refl e in record { block = parts.0; got = parts.1; left = parts.2 }
+  where
+    part : List Visit → Bool → List Visit
+    part pull b = if b then [] else block_at pull (suc first) next row i
+
+    answer : (w : Visit) → w.node ≡ above → w.input ≡ first → w.fresh ≡ true → is_answer tree w ≡ true
+    answer w a f g = ap₂ (λ b o. b && is_some o) g (ap₂ (queue_at tree) a f ∙ at-leaf tree above first next k row stands)
+
+    by_test : (b : Bool) → (first == i) ≡ b → Reads tree (part p b ++ v ∷ []) (part q b ++ u ∷ []) s r → (part p b ≡ part q b) × (v.got ≡ u.got) × (s ≡ r)
+    by_test true t c =
+        let here : i ≡ first = grind (arith, nat_tests) in
+        let one = answers-one tree v (answer v (node-of above p v mv).1 (iv ∙ here) fv) in
+        let other = answers-one tree u (answer u (node-of above q u mu).1 (iu ∙ here) fu) in
+        let both : v.got ∷ s ≡ u.got ∷ r = ap (λ os. os ++ s) (sym one) ∙ c ∙ ap (λ os. os ++ r) other in
+        (refl, ap first_of both, ap (drop 1) both)
+    by_test false t c = let same = rest i v u mv mu iv iu (grind (arith, nat_tests)) (omega arith) fv fu s r c in (same.block, same.got, same.left)
+
+node-alike : (tree : Tree) (p q : List Visit) → ArePaired p q → (earlier : List (List Visit)) (above first next : ℕ) (class : Class) (inputs row : Row) → StandsAt tree above first next (node class inputs row)
+    → IsWellFormed (node class inputs row) → EachAllows above first next (node class inputs row) earlier p → EachAllows above first next (node class inputs row) earlier q
+    → (EachAllows next 0 (suc next) inputs (pulls_below above first earlier) p → EachAllows next 0 (suc next) inputs (pulls_below above first earlier) q → AskAlike tree p q next 0 (suc next) inputs)
+    → AskAlike tree p q above (suc first) (suc (next + nodes inputs)) row → AskAlike tree p q above first next (node class inputs row)
+node-alike tree p q pair earlier above first next class inputs row stands well a b below rest i v u mv mu iv iu l h fv fu s r e =
+    let parts = by_test (first == i) refl e in record { block = parts.0; got = parts.1; left = parts.2 }
+  where
+    part : List Visit → Bool → List Visit
+    part pull t = if t then flat_map (asked pull (suc next) inputs) (visits_of next pull) else block_at pull (suc first) (suc (next + nodes inputs)) row i
+
+    no_answer : (w : Visit) → w.node ≡ above → w.input ≡ first → w.fresh ≡ true → answers tree (w ∷ []) ≡ []
+    no_answer w n f g = answers-none tree w (ap₂ (λ t o. t && is_some o) g (ap₂ (queue_at tree) n f ∙ at-node tree above first next class inputs row stands))
+
+    asks_here : (w : Visit) → w.input ≡ first → w.fresh ≡ true → asks first w ≡ true
+    asks_here w f g = ap₂ (λ t m. t && (m == first)) g f ∙ self first
+      where
+        self : (m : ℕ) → (m == m) ≡ true
+        self m = grind (arith, nat_tests)
+
+    got_result : (pull : List Visit) (w : Visit) → GetsResult above first next pull → In w (visits_of above pull) → asks first w ≡ true → w.got ≡ result_of (visits_of next pull)
+    got_result pull w g m k = of-all (λ (x : Visit). x.got ≡ result_of (visits_of next pull)) w (filter (asks first) (visits_of above pull)) g (filter-in (asks first) w (visits_of above pull) k m)
+
+    by_test : (t : Bool) → (first == i) ≡ t → Reads tree (part p t ++ v ∷ []) (part q t ++ u ∷ []) s r → (part p t ≡ part q t) × (v.got ≡ u.got) × (s ≡ r)
+    by_test true t c =
+        let here : i ≡ first = grind (arith, nat_tests) in
+        let asks_v = asks_here v (iv ∙ here) fv in
+        let asks_u = asks_here u (iu ∙ here) fu in
+        let one = a.0 (any-in (asks first) v (visits_of above p) asks_v mv) in
+        let other = b.0 (any-in (asks first) u (visits_of above q) asks_u mu) in
+        let same = turn-same (sides tree p q (suc next) inputs) class (width inputs) (map (turn next) (pulls_below above first earlier)) (turn next p) (turn next q) well.0 well.1 one.0 other.0 pair.moment
+        (get-alike tree p q next inputs pair (below one.1 other.1)) _ _ (reads-append tree (part p true) (v ∷ []) (part q true) (u ∷ []) s r c)
+        in (
+          same.parts,
+          got_result p v a.1 mv asks_v ∙ ap result_of same.visits ∙ sym (got_result q u b.1 mu asks_u),
+          ap (λ os. os ++ s) (sym (no_answer v (node-of above p v mv).1 (iv ∙ here) fv)) ∙ same.left ∙ ap (λ os. os ++ r) (no_answer u (node-of above q u mu).1 (iu ∙ here) fu),
+        )
+    by_test false t c = let same = rest i v u mv mu iv iu (grind (arith, nat_tests)) (omega arith) fv fu s r c in (same.block, same.got, same.left)
+
+ask-alike : (tree : Tree) (p q : List Visit) → ArePaired p q → (row : Row) (earlier : List (List Visit)) (above first next : ℕ) → StandsAt tree above first next row → IsWellFormed row
+    → EachAllows above first next row earlier p → EachAllows above first next row earlier q → AskAlike tree p q above first next row
+ask-alike tree p q pair end earlier above first next stands well a b = λ i v u mv mu iv iu l h. absurd (omega arith)
+ask-alike tree p q pair (leaf k row) earlier above first next stands well a b =
+    leaf-alike tree p q above first next k row stands (ask-alike tree p q pair row earlier above (suc first) next (stands-after_leaf tree above first next k row stands) well a b)
+ask-alike tree p q pair (node class inputs row) earlier above first next stands well a b =
+    node-alike tree p q pair earlier above first next class inputs row stands well a b
+    (λ c d. ask-alike tree p q pair inputs (pulls_below above first earlier) next 0 (suc next) (stands-inputs tree above first next class inputs row stands) well.2 c d)
+    (ask-alike tree p q pair row earlier above (suc first) (suc (next + nodes inputs)) (stands-after_node tree above first next class inputs row stands) well.3 a.2 b.2)
+
+-- a pull of a run after those before it
+record IsPullOfRun (tree : Tree) (earlier : List (List Visit)) (pull : List Visit) : Type 0 where
+  device : IsDeviceTurn (turn 0 pull)
+  below : EachAllows 0 0 1 (root tree) earlier pull
+  numbered : IsNumbered tree earlier pull
+
+pulls-of_run : (tree : Tree) (log : List Visit) → IsRun tree log → EachAfter (IsPullOfRun tree) [] (pulls log)
+pulls-of_run tree log run =
+    each-weaker _ (IsPullOfRun tree) (λ e p h. record { device = h.0; below = h.1.0; numbered = h.1.1 }) [] (pulls log)
+    (each-both _ _ [] (pulls log) (each-mapped (λ e t. IsDeviceTurn t) (turn 0) [] (pulls log) (each-from_all IsDeviceTurn [] (map (turn 0) (pulls log)) run.device))
+    (each-both _ _ [] (pulls log) (each-allowed 0 0 1 (root tree) (pulls log) run.below) (each-numbered tree log run.shape)))
+
+root-width : (tree : Tree) → width (root tree) ≡ 1
+root-width (queue k) = refl
+root-width (scheduler class inputs) = refl
+
+pull-same : (tree : Tree) (earlier : List (List Visit)) (p q : List Visit) → IsWellFormed (root tree) → IsPullOfRun tree earlier p → IsPullOfRun tree earlier q → moment_of p ≡ moment_of q
+    → (s r : List (Option Packet)) → Reads tree (block tree p) (block tree q) s r → (p ≡ q) × (s ≡ r)
+pull-same tree earlier p q well a b moment s r e =
+    let pair : ArePaired p q =
+    record {
+      number = length earlier;
+      one = a.numbered.number;
+      other = b.numbered.number;
+      one_moment = a.numbered.one_moment;
+      other_moment = b.numbered.one_moment;
+      moment = moment;
+    }
+    in
+    let same = plain-same (sides tree p q 1 (root tree)) (visits_of 0 p) (visits_of 0 q) (width (root tree))
+    (get-alike tree p q 0 (root tree) pair (ask-alike tree p q pair (root tree) earlier 0 0 1 (stands-root tree) well a.below b.below)) (0 ∷ []) (omega (arith, root-width tree), tt) (visits_of 0 p) (visits_of 0 q)
+    (λ v m. m) (λ v m. m) a.device b.device s r e
+    in
+    (a.numbered.whole ∙ same.parts ∙ sym b.numbered.whole, same.left)
+
+abbrev moment_first : List ℕ → ℕ
+moment_first [] = 0
+moment_first (m ∷ ms) = m
+
+pulls-same : (tree : Tree) (earlier ps qs : List (List Visit)) → IsWellFormed (root tree) → EachAfter (IsPullOfRun tree) earlier ps → EachAfter (IsPullOfRun tree) earlier qs → map moment_of ps ≡ map moment_of qs
+    → Reads tree (flat_map (block tree) ps) (flat_map (block tree) qs) [] [] → ps ≡ qs
+pulls-same tree earlier [] [] well a b m e = refl
+pulls-same tree earlier [] (q ∷ qs) well a b m e = absurd (omega (arith, ap length m))
+pulls-same tree earlier (p ∷ ps) [] well a b m e = absurd (omega (arith, ap length m))
+pulls-same tree earlier (p ∷ ps) (q ∷ qs) well a b m e =
+    let same = pull-same tree earlier p q well a.0 b.0 (ap moment_first m) _ _ (reads-append tree (block tree p) (flat_map (block tree) ps) (block tree q) (flat_map (block tree) qs) [] [] e) in
+    ap₂ (λ x xs. x ∷ xs) same.0 (pulls-same tree (p ∷ earlier) ps qs well a.1 (subst (λ x. EachAfter (IsPullOfRun tree) (x ∷ earlier) qs) (sym same.0) b.1) (ap (drop 1) m) same.1)
+
+pub leaves-no_choice : (tree : Tree) → IsWellFormed (root tree) → LeavesNoChoice tree
+leaves-no_choice tree well a b one other m e =
+    one.shape.blocks
+    ∙ ap (flat_map (block tree)) (pulls-same tree [] (pulls a) (pulls b) well (pulls-of_run tree a one) (pulls-of_run tree b other) m
+    (append-nil _ ∙ ap (answers tree) (sym one.shape.blocks) ∙ e ∙ ap (answers tree) other.shape.blocks ∙ sym (append-nil _)))
+    ∙ sym other.shape.blocks

@@ -1,0 +1,16 @@
+-- What a Shaper does (this project's own choice: a token bucket without tokens).
+use Rattle.std.specs.Prelude.{◌≡◌, ℕ, ◌+◌, ◌*◌, ◌&&◌, Bool, true, nat_le, List, [], ◌∷◌, is_some, MatchBool, if◌then◌else◌}
+use Rattle.clk_sched.specs.Turns.{Turn, AsksInOrder, giver}
+
+-- A Shaper visits its input at moment t exactly where the window from each earlier pull in which it passed a packet up to
+-- now, with one packet more, keeps to the burst and the rate (this project's own choice: a token bucket without tokens).
+abbrev pub has_room : ℕ → ℕ → ℕ → ℕ → List Turn → Bool
+has_room rate burst moment since [] = true
+has_room rate burst moment since (t ∷ earlier) =
+    if is_some (giver t.visits)
+    then nat_le (since + 2 + rate * t.moment) (burst + rate * moment) && has_room rate burst moment (since + 1) earlier
+    else has_room rate burst moment since earlier
+
+abbrev pub IsShaperTurn : ℕ → ℕ → List Turn → Turn → Type 0
+IsShaperTurn rate burst earlier t =
+    MatchBool (has_room rate burst t.moment 0 earlier) (AsksInOrder (0 ∷ []) t.visits) (t.visits ≡ [])

@@ -1,0 +1,49 @@
+-- What a StrideSched does (Waldspurger 1995, with this project's rule for idle inputs).
+use Rattle.std.specs.Prelude.{ℕ, ◌+◌, ◌/◌, ◌==◌, ◌&&◌, ◌||◌, Bool, false, nat_lt, nat_le, List, [], ◌∷◌, map, Option, Some, None, unwrap_or, slice_get, if◌then◌else◌}
+use Rattle.std.specs.List.{enumerate_from}
+use Rattle.clk_sched.specs.declared.visit.Visit.{Visit}
+use Rattle.clk_sched.specs.Turns.{Turn, AsksInOrder, giver}
+
+-- what a pass grows by: 65,536 over the tickets, rounded down
+abbrev pub stride_of : ℕ → ℕ
+stride_of tickets = 65536 / tickets
+
+abbrev pub visits_input : ℕ → List Visit → Bool
+visits_input input [] = false
+visits_input input (v ∷ visits) = (v.input == input) || visits_input input visits
+
+-- The passes after a pull: the winner's grows by its stride, and each input visited before it gets the pass that the
+-- winner had. A pull without a winner changes none.
+abbrev pub passes_after : List ℕ → List ℕ → Turn → List ℕ
+passes_after tickets passes t = won (giver t.visits)
+  where
+    pass_at : ℕ → ℕ
+    pass_at input = unwrap_or (slice_get passes input) 0
+
+    stride_at : ℕ → ℕ
+    stride_at input = stride_of (unwrap_or (slice_get tickets input) 1)
+
+    won : Option ℕ → List ℕ
+    won None = passes
+    won (Some w) =
+        map (λ (i : ℕ × ℕ). if i.0 == w then i.1 + stride_at w else (if visits_input i.0 t.visits then pass_at w else i.1)) (enumerate_from 0 passes)
+
+-- the passes after these turns, all 0 at first
+abbrev pub passes_of : List ℕ → List Turn → List ℕ
+passes_of tickets [] = map (λ _. 0) tickets
+passes_of tickets (t ∷ earlier) = passes_after tickets (passes_of tickets earlier) t
+
+-- inputs with their passes in rising order of (pass, index)
+abbrev pub put_in_order : ℕ × ℕ → List (ℕ × ℕ) → List (ℕ × ℕ)
+put_in_order i [] = i ∷ []
+put_in_order i (j ∷ others) =
+    if nat_lt i.1 j.1 || ((i.1 == j.1) && nat_le i.0 j.0) then i ∷ j ∷ others else j ∷ put_in_order i others
+
+abbrev pub in_rising_order : List (ℕ × ℕ) → List (ℕ × ℕ)
+in_rising_order [] = []
+in_rising_order (i ∷ others) = put_in_order i (in_rising_order others)
+
+-- A pull asks inputs in rising order of (pass, index), by the passes at its start.
+abbrev pub IsStrideTurn : List ℕ → List Turn → Turn → Type 0
+IsStrideTurn tickets earlier t =
+    AsksInOrder (map (λ (i : ℕ × ℕ). i.0) (in_rising_order (enumerate_from 0 (passes_of tickets earlier)))) t.visits
