@@ -1,7 +1,8 @@
 -- Runs, pull by pull: what a tree does in one pull, after those before it.
-use Rattle.std.proofs.Common.{◌≡◌, ℕ, suc, ◌+◌, ◌<◌, ◌≤◌, Bool, true, false, List, [], ◌∷◌, ◌++◌, map, refl, mod-lt, arith}
+use Rattle.std.proofs.Common.{◌≡◌, ℕ, suc, ◌+◌, ◌<◌, ◌≤◌, Bool, true, false, List, [], ◌∷◌, ◌++◌, map, refl, mod-lt, arith, reverse, append_assoc, append-nil, ap, ◌∙◌, sym}
 use Rattle.std.specs.List.{AllByRecursion, list_any}
 use Rattle.std.specs.Bool.{⊤}
+use Rattle.std.proofs.lemmas.List.{reverse-append}
 use Rattle.clk_sched.specs.declared.visit.Visit.{Visit}
 use Rattle.clk_sched.specs.Tree.{Class, prio, round_robin, drr, stride, shaper, Row, end, leaf, node, nodes, width}
 use Rattle.clk_sched.specs.Turns.{Turn, EachAfter, all_visits}
@@ -15,10 +16,17 @@ use Rattle.clk_sched.specs.Laws.Shaper.{IsShaperTurn}
 use Rattle.clk_sched.specs.Run.{GetsResult, EachObeys}
 use Rattle.clk_sched.proofs.Members.{each-from_all, each-weaker, each-both, each-mapped, each-filtered}
 
--- visits put before others that have the latest first
-abbrev pub onto : List Visit → List Visit → List Visit
+-- what follows put onto what came before, which has the latest first
+abbrev pub onto : {X : Type 0} → List X → List X → List X
 onto [] earlier = earlier
-onto (v ∷ visits) earlier = onto visits (v ∷ earlier)
+onto (x ∷ xs) earlier = onto xs (x ∷ earlier)
+
+onto-append : {X : Type 0} (xs earlier : List X) → onto xs earlier ≡ reverse xs ++ earlier
+onto-append [] earlier = refl
+onto-append (x ∷ xs) earlier = onto-append xs (x ∷ earlier) ∙ sym (append_assoc (reverse xs) (x ∷ []) earlier) ∙ ap (λ l. l ++ earlier) (sym (reverse-append (x ∷ []) xs))
+
+pub onto-reverse : {X : Type 0} (xs : List X) → onto xs [] ≡ reverse xs
+onto-reverse xs = onto-append xs [] ∙ append-nil (reverse xs)
 
 -- the visits of turns that have the latest first
 abbrev pub visits_before : List Turn → List Visit
@@ -39,7 +47,7 @@ AllowsTurn (drr quantum) inputs earlier t = IsDeficitTurn quantum inputs earlier
 AllowsTurn (stride tickets) inputs earlier t = IsStrideTurn tickets earlier t
 AllowsTurn (shaper rate burst) inputs earlier t = IsShaperTurn rate burst earlier t
 
-each-split : (P : List Visit → Visit → Type 0) (earlier us vs : List Visit) → EachAfter P earlier (us ++ vs) → EachAfter P earlier us × EachAfter P (onto us earlier) vs
+pub each-split : {X : Type 0} (P : List X → X → Type 0) (earlier us vs : List X) → EachAfter P earlier (us ++ vs) → EachAfter P earlier us × EachAfter P (onto us earlier) vs
 each-split P earlier [] vs h = (tt, h)
 each-split P earlier (u ∷ us) vs h = let rest = each-split P (u ∷ earlier) us vs h.1 in ((h.0, rest.0), rest.1)
 

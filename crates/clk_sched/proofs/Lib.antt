@@ -5,4 +5,14 @@ pub mod Allowed
 pub mod PullByPull
 pub mod SameTurns
 pub mod NoChoice
+pub mod Heads
+pub mod HeadsByClass
+pub mod Blocks
+pub mod Origins
+pub mod Pulled
+pub mod Gives
+pub mod Conserved
+pub mod DeficitShares
+pub mod StrideShares
+pub mod Shares
 pub mod TreeLemmas

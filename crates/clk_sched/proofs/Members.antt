@@ -99,3 +99,13 @@ each-filtered {X = X} P test earlier (x ∷ xs) h = by_test (test x) refl (each-
       λ t. absurd (false≢true (sym e ∙ t)),
       rest (subst (λ b. EachAfter P (cond b (x ∷ filter test earlier) (filter test earlier)) (filter test xs)) (sym e) (subst (λ b. EachAfter P (filter test earlier) (cond b (x ∷ filter test xs) (filter test xs))) e k)),
     )
+
+pub all-split : {X : Type 0} (P : X → Type 0) (xs ys : List X) → AllByRecursion P (xs ++ ys) → AllByRecursion P xs × AllByRecursion P ys
+all-split P [] ys h = (tt, h)
+all-split P (x ∷ xs) ys h = let rest = all-split P xs ys h.1 in ((h.0, rest.0), rest.1)
+
+pub all-filter : {X : Type 0} (P : X → Type 0) (test : X → Bool) (xs : List X) → AllByRecursion P xs → AllByRecursion P (filter test xs)
+all-filter P test xs h = to-all P (filter test xs) (λ x m. of-all P x xs h (in-filter test x xs m).0)
+
+pub all-weaker : {X : Type 0} (P Q : X → Type 0) (xs : List X) → ((x : X) → P x → Q x) → AllByRecursion P xs → AllByRecursion Q xs
+all-weaker P Q xs f h = to-all Q xs (λ x m. f x (of-all P x xs h m))

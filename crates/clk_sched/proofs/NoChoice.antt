@@ -178,7 +178,7 @@ pulls-of_run tree log run =
     (each-both _ _ [] (pulls log) (each-mapped (λ e t. IsDeviceTurn t) (turn 0) [] (pulls log) (each-from_all IsDeviceTurn [] (map (turn 0) (pulls log)) run.device))
     (each-both _ _ [] (pulls log) (each-allowed 0 0 1 (root tree) (pulls log) run.below) (each-numbered tree log run.shape)))
 
-root-width : (tree : Tree) → width (root tree) ≡ 1
+pub root-width : (tree : Tree) → width (root tree) ≡ 1
 root-width (queue k) = refl
 root-width (scheduler class inputs) = refl
 

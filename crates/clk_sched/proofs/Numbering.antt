@@ -14,30 +14,30 @@ and_false : (b : Bool) → (b && false) ≡ false
 and_false true = refl
 and_false false = refl
 
-or_none : (o : Option ℕ) → option_or o None ≡ o
+pub or_none : (o : Option ℕ) → option_or o None ≡ o
 or_none None = refl
 or_none (Some q) = refl
 
 -- no queue of a row stands at a node numbered before those of the row
-before : (above first next : ℕ) (row : Row) (x i : ℕ) → x < next → x ≢ above → queue_in above first next row x i ≡ None
-before above first next end x i l d = refl
-before above first next (leaf q row) x i l d = rw (differs above x (λ e. d (sym e))) (before above (suc first) next row x i l d)
-before above first next (node class inputs row) x i l d =
-    rw (before next 0 (suc next) inputs x i (omega arith) (λ e. omega (arith, e)), before above (suc first) (suc (next + nodes inputs)) row x i (omega arith) d) refl
+pub queue_in-before : (above first next : ℕ) (row : Row) (x i : ℕ) → x < next → x ≢ above → queue_in above first next row x i ≡ None
+queue_in-before above first next end x i l d = refl
+queue_in-before above first next (leaf q row) x i l d = rw (differs above x (λ e. d (sym e))) (queue_in-before above (suc first) next row x i l d)
+queue_in-before above first next (node class inputs row) x i l d =
+    rw (queue_in-before next 0 (suc next) inputs x i (omega arith) (λ e. omega (arith, e)), queue_in-before above (suc first) (suc (next + nodes inputs)) row x i (omega arith) d) refl
 
 -- nor at one numbered after them
-after : (above first next : ℕ) (row : Row) (x i : ℕ) → above < next → next + nodes row ≤ x → queue_in above first next row x i ≡ None
-after above first next end x i o l = refl
-after above first next (leaf q row) x i o l = rw (differs above x (λ e. omega (arith, e))) (after above (suc first) next row x i o l)
-after above first next (node class inputs row) x i o l =
-    rw (after next 0 (suc next) inputs x i (omega arith) (omega arith), after above (suc first) (suc (next + nodes inputs)) row x i (omega arith) (omega arith)) refl
+pub queue_in-after : (above first next : ℕ) (row : Row) (x i : ℕ) → above < next → next + nodes row ≤ x → queue_in above first next row x i ≡ None
+queue_in-after above first next end x i o l = refl
+queue_in-after above first next (leaf q row) x i o l = rw (differs above x (λ e. omega (arith, e))) (queue_in-after above (suc first) next row x i o l)
+queue_in-after above first next (node class inputs row) x i o l =
+    rw (queue_in-after next 0 (suc next) inputs x i (omega arith) (omega arith), queue_in-after above (suc first) (suc (next + nodes inputs)) row x i (omega arith) (omega arith)) refl
 
 -- nor at an input before those of the row
-earlier : (above first next : ℕ) (row : Row) (i : ℕ) → above < next → i < first → queue_in above first next row above i ≡ None
-earlier above first next end i o l = refl
-earlier above first next (leaf q row) i o l = rw (differs first i (λ e. omega (arith, e)), and_false (above == above)) (earlier above (suc first) next row i o (omega arith))
-earlier above first next (node class inputs row) i o l =
-    rw (before next 0 (suc next) inputs above i (omega arith) (λ e. omega (arith, e)), earlier above (suc first) (suc (next + nodes inputs)) row i (omega arith) (omega arith)) refl
+pub queue_in-earlier : (above first next : ℕ) (row : Row) (i : ℕ) → above < next → i < first → queue_in above first next row above i ≡ None
+queue_in-earlier above first next end i o l = refl
+queue_in-earlier above first next (leaf q row) i o l = rw (differs first i (λ e. omega (arith, e)), and_false (above == above)) (queue_in-earlier above (suc first) next row i o (omega arith))
+queue_in-earlier above first next (node class inputs row) i o l =
+    rw (queue_in-before next 0 (suc next) inputs above i (omega arith) (λ e. omega (arith, e)), queue_in-earlier above (suc first) (suc (next + nodes inputs)) row i (omega arith) (omega arith)) refl
 
 -- What a tree says of the queues at the inputs of node `above` from `first` on, and at those of the nodes of a row, is what
 -- the row says.
@@ -63,8 +63,8 @@ stands-after_node tree above first next class inputs row s =
     let o = s.ordered in
     record {
       ordered = omega arith;
-      own = λ i l. s.own i (omega arith) ∙ rw (before next 0 (suc next) inputs above i (omega arith) (λ e. omega (arith, e))) refl;
-      below = λ x i l h. s.below x i (omega arith) (omega arith) ∙ rw (after next 0 (suc next) inputs x i (omega arith) (omega arith)) refl;
+      own = λ i l. s.own i (omega arith) ∙ rw (queue_in-before next 0 (suc next) inputs above i (omega arith) (λ e. omega (arith, e))) refl;
+      below = λ x i l h. s.below x i (omega arith) (omega arith) ∙ rw (queue_in-after next 0 (suc next) inputs x i (omega arith) (omega arith)) refl;
     }
 
 pub stands-inputs : (tree : Tree) (above first next : ℕ) (class : Class) (inputs row : Row) → StandsAt tree above first next (node class inputs row)
@@ -78,7 +78,7 @@ stands-inputs tree above first next class inputs row s =
     }
   where
     later : (x i : ℕ) → above < x → x < suc (next + nodes inputs) → queue_in above (suc first) (suc (next + nodes inputs)) row x i ≡ None
-    later x i a l = before above (suc first) (suc (next + nodes inputs)) row x i l (λ e. omega (arith, e))
+    later x i a l = queue_in-before above (suc first) (suc (next + nodes inputs)) row x i l (λ e. omega (arith, e))
 
 pub at-leaf : (tree : Tree) (above first next q : ℕ) (row : Row) → StandsAt tree above first next (leaf q row) → queue_at tree above first ≡ Some q
 at-leaf tree above first next q row s = s.own first (omega arith) ∙ rw (equal above above refl, equal first first refl) refl
@@ -87,4 +87,4 @@ pub at-node : (tree : Tree) (above first next : ℕ) (class : Class) (inputs row
 at-node tree above first next class inputs row s =
     let o = s.ordered in
     s.own first (omega arith)
-    ∙ rw (before next 0 (suc next) inputs above first (omega arith) (λ e. omega (arith, e)), earlier above (suc first) (suc (next + nodes inputs)) row first (omega arith) (omega arith)) refl
+    ∙ rw (queue_in-before next 0 (suc next) inputs above first (omega arith) (λ e. omega (arith, e)), queue_in-earlier above (suc first) (suc (next + nodes inputs)) row first (omega arith) (omega arith)) refl

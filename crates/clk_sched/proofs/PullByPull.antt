@@ -49,7 +49,7 @@ block-all P tree pull h = visits-asked P pull 0 1 (root tree) h (λ i. block_at-
 not_equal : (m n : ℕ) → m ≢ n → (m == n) ≡ false
 not_equal m n d = grind (arith, nat_tests)
 
-in_pull-number : (k : ℕ) (log : List Visit) → AllByRecursion (λ (v : Visit). v.pull ≡ k) (in_pull k log)
+pub in_pull-number : (k : ℕ) (log : List Visit) → AllByRecursion (λ (v : Visit). v.pull ≡ k) (in_pull k log)
 in_pull-number k log = to-all _ (in_pull k log) (λ v m. let passes = (in-filter (λ (u : Visit). u.pull == k) v log m).1 in grind (arith, nat_tests))
 
 -- the block of a pull, seen from that pull and from another
@@ -107,3 +107,10 @@ pub each-numbered : (tree : Tree) (log : List Visit) → HasLogShape tree log �
 each-numbered tree log shape =
     pulls-from tree log [] 0 (length (visits_of 0 log)) refl
     (λ k l. ap (in_pull k) shape.blocks ∙ one-of tree log k 0 (length (visits_of 0 log)) (omega arith) (omega arith)) shape.one_moment
+
+pub each-whole : (tree : Tree) (log : List Visit) → HasLogShape tree log → AllByRecursion (λ pull. pull ≡ block tree pull) (pulls log)
+each-whole tree log shape = wholes [] (pulls log) (each-numbered tree log shape)
+  where
+    wholes : (earlier ps : List (List Visit)) → EachAfter (IsNumbered tree) earlier ps → AllByRecursion (λ pull. pull ≡ block tree pull) ps
+    wholes earlier [] h = tt
+    wholes earlier (p ∷ ps) h = (h.0.whole, wholes (p ∷ earlier) ps h.1)

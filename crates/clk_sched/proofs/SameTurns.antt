@@ -169,7 +169,7 @@ numbered-below : (from total : ℕ) (passes : List ℕ) → from + length passes
 numbered-below from total [] l = tt
 numbered-below from total (x ∷ passes) l = (omega arith, numbered-below (from + 1) total passes (omega arith))
 
-passes-length : (tickets : List ℕ) (earlier : List Turn) → length (passes_of tickets earlier) ≡ length tickets
+pub passes-length : (tickets : List ℕ) (earlier : List Turn) → length (passes_of tickets earlier) ≡ length tickets
 passes-length tickets [] = length-map tickets (λ _. 0)
 passes-length tickets (t ∷ earlier) = by_giver (giver t.visits) refl ∙ passes-length tickets earlier
   where

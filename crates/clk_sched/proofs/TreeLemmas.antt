@@ -40,7 +40,7 @@ or_false : (a : Bool) → (a || false) ≡ a
 or_false true = refl
 or_false false = refl
 
-stands_in-append : (q : ℕ) (ps rs : List ℕ) → stands_in q (ps ++ rs) ≡ (stands_in q ps || stands_in q rs)
+pub stands_in-append : (q : ℕ) (ps rs : List ℕ) → stands_in q (ps ++ rs) ≡ (stands_in q ps || stands_in q rs)
 stands_in-append q [] rs = refl
 stands_in-append q (p ∷ ps) rs = rw (stands_in-append q ps rs, or_assoc (p == q) (stands_in q ps) (stands_in q rs)) refl
 
@@ -88,7 +88,7 @@ distinct_and_apart false true true d e = refl
 distinct_and_apart false true false d e = refl
 distinct_and_apart false false c d e = refl
 
-are_distinct-append : (ps rs : List ℕ) → are_distinct (ps ++ rs) ≡ (are_distinct ps && (are_apart ps rs && are_distinct rs))
+pub are_distinct-append : (ps rs : List ℕ) → are_distinct (ps ++ rs) ≡ (are_distinct ps && (are_apart ps rs && are_distinct rs))
 are_distinct-append [] rs = refl
 are_distinct-append (p ∷ ps) rs =
     rw (stands_in-append p ps rs, are_distinct-append ps rs)

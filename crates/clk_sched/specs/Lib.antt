@@ -13,3 +13,4 @@ pub mod Results
 pub mod Bound
 pub mod Service
 pub mod Choice
+pub mod Conservation

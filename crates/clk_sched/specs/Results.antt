@@ -1,5 +1,5 @@
 -- What a log says went in and came out: answers of queues, packets emitted, heads held, and where packets came from.
-use Rattle.std.specs.Prelude.{◌≡◌, ℕ, ◌+◌, ◌==◌, ◌&&◌, Bool, false, List, [], ◌∷◌, ◌++◌, map, reverse, suc, Option, Some, None, nat_lt, if◌then◌else◌}
+use Rattle.std.specs.Prelude.{ℕ, ◌+◌, ◌==◌, ◌&&◌, Bool, false, List, [], ◌∷◌, ◌++◌, map, reverse, suc, Option, Some, None, nat_lt, if◌then◌else◌}
 use Rattle.std.specs.List.{filter_map, flat_map, range_with_len}
 use Rattle.clk_packet.specs.declared.packet.Packet.{Packet}
 use Rattle.clk_sched.specs.declared.visit.Visit.{Visit}
@@ -45,49 +45,40 @@ origin_in log first next (node class inputs row) input k =
 abbrev pub Traced : Type 0
 Traced = Packet × Option ℕ
 
+abbrev pub traced : Option Packet → Option ℕ → List Traced
+traced None origin = []
+traced (Some p) origin = (p, origin) ∷ []
+
 -- the packets emitted, with their origins
 abbrev pub traced_emitted : Tree → List Visit → List Traced
 traced_emitted tree log = flat_map (λ (v : Visit). if v.passed then traced v.got (origin_in log 0 1 (root tree) 0 v.pull) else []) (visits_of 0 log)
-  where
-    traced : Option Packet → Option ℕ → List Traced
-    traced None o = []
-    traced (Some p) o = (p, o) ∷ []
 
 abbrev pub first_pull : List Visit → ℕ
 first_pull [] = 0
 first_pull (v ∷ visits) = v.pull
 
--- The heads held at the end of a log, with their origins, by node and then by input: what the last visit to an input of a
--- DRRSched got and didn't pass.
+-- the head held at an input of node x at the end of a log, if there is one: what the last visit there got and didn't pass
+abbrev pub held_at : List Visit → ℕ → Row → ℕ → List Traced
+held_at log x inputs input = held (reverse (visits_of x log))
+  where
+    held : List Visit → List Traced
+    held latest = traced (head_at input latest) (origin_in log 0 (suc x) inputs input (asked_pull input (first_pull latest) latest))
+
+-- the heads held by node x, which a DRRSched alone has, by input
+abbrev pub own_heads : List Visit → ℕ → Row → Class → List Traced
+own_heads log x inputs (drr quantum) = flat_map (held_at log x inputs) (range_with_len 0 (width inputs))
+own_heads log x inputs prio = []
+own_heads log x inputs round_robin = []
+own_heads log x inputs (stride tickets) = []
+own_heads log x inputs (shaper rate burst) = []
+
+-- the heads held in a row whose schedulers are numbered from `next` on, with their origins, by node and then by input
 abbrev pub traced_heads : List Visit → ℕ → Row → List Traced
 traced_heads log next end = []
 traced_heads log next (leaf q row) = traced_heads log next row
 traced_heads log next (node class inputs row) =
-    own class ++ (traced_heads log (suc next) inputs ++ traced_heads log (suc (next + nodes inputs)) row)
-  where
-    latest : List Visit
-    latest = reverse (visits_of next log)
-
-    held : ℕ → Option Packet → List Traced
-    held input None = []
-    held input (Some p) = (p, origin_in log 0 (suc next) inputs input (asked_pull input (first_pull latest) latest)) ∷ []
-
-    own : Class → List Traced
-    own (drr quantum) = flat_map (λ input. held input (head_at input latest)) (range_with_len 0 (width inputs))
-    own prio = []
-    own round_robin = []
-    own (stride tickets) = []
-    own (shaper rate burst) = []
+    own_heads log next inputs class ++ (traced_heads log (suc next) inputs ++ traced_heads log (suc (next + nodes inputs)) row)
 
 -- the heads held, by node and then by input
 abbrev pub heads : Tree → List Visit → List Packet
 heads tree log = map (λ (t : Traced). t.0) (traced_heads log 1 (root tree))
-
-abbrev pub from_queue : ℕ → List Traced → List Packet
-from_queue q traced = filter_map (λ (t : Traced). if is_queue q t.1 then Some t.0 else None) traced
-
--- Nothing is lost or made in the tree: what a queue gave is what was emitted of it, in order, and then what is held of it,
--- the nearest to the device first.
-abbrev pub IsConserved : Tree → List Visit → ℕ → Type 0
-IsConserved tree log q =
-    leaf_packets tree q log ≡ from_queue q (traced_emitted tree log) ++ from_queue q (traced_heads log 1 (root tree))

@@ -1,7 +1,10 @@
--- The shares that a DRRSched and a StrideSched give, as laws over whole histories of a node.
-use Rattle.std.specs.Prelude.{◌≡◌, ℕ, ◌+◌, ◌*◌, ◌<◌, ◌≤◌, ◌==◌, ◌&&◌, List, [], ◌∷◌, ◌++◌, length, reverse, max, Bool, false, Option, Some, None, IsSome, unwrap_or, slice_get, if◌then◌else◌}
+-- The shares that a DRRSched and a StrideSched give, as laws over whole histories of a node, and over runs of a tree.
+use Rattle.std.specs.Prelude.{◌≡◌, ℕ, ◌+◌, ◌*◌, ◌<◌, ◌≤◌, ◌==◌, ◌&&◌, List, [], ◌∷◌, ◌++◌, length, map, reverse, max, suc, ⊤, Bool, false, Option, Some, None, IsSome, unwrap_or, slice_get, if◌then◌else◌}
 use Rattle.std.specs.List.{AllByRecursion}
 use Rattle.clk_sched.specs.declared.visit.Visit.{Visit}
+use Rattle.clk_sched.specs.Tree.{Class, prio, round_robin, drr, stride, shaper, Row, end, leaf, node, Tree, root, width, nodes}
+use Rattle.clk_sched.specs.Log.{pulls, turn, pulls_below}
+use Rattle.clk_sched.specs.Run.{IsRun}
 use Rattle.clk_sched.specs.Turns.{Turn, EachAfter, giver, all_visits}
 use Rattle.clk_sched.specs.Laws.Deficit.{arrives, arrivals, passed_bytes, bytes_of, IsDeficitRun}
 use Rattle.clk_sched.specs.Laws.Stride.{stride_of, passes_of, IsStrideTurn}
@@ -26,17 +29,22 @@ Near bound m n = (m ≤ n + bound) × (n ≤ m + bound)
 
 -- DRRSched: in any unbroken range of a node's visits the arrivals of two inputs differ by at most 1; no deficit is above the
 -- quantum and 65,534; and an input that always had a packet was given its quantum for each arrival, within that bound.
-pub record SharesByDeficit (quantum width : ℕ) (turns : List Turn) : Type 0 where
-  pub arrivals_near : (before range after : List Visit) → all_visits turns ≡ before ++ (range ++ after) → (i j : ℕ) → i < width → j < width
+pub record SharesByDeficit (quantum inputs : ℕ) (turns : List Turn) : Type 0 where
+  pub arrivals_near : (before range after : List Visit) → all_visits turns ≡ before ++ (range ++ after) → (i j : ℕ) → i < inputs → j < inputs
       → Near 1 (arrivals_in i (reverse before) range) (arrivals_in j (reverse before) range)
   pub deficit_bound : (before after : List Visit) (v : Visit) → all_visits turns ≡ before ++ v ∷ after
       → quantum * (arrives (reverse before) + arrivals v.input (reverse before)) ≤ passed_bytes v.input (reverse before) + (quantum + 65534)
-  pub bytes_near : (before range after : List Visit) → all_visits turns ≡ before ++ (range ++ after) → (i : ℕ) → i < width → AlwaysGets i range
+  pub bytes_near : (before range after : List Visit) → all_visits turns ≡ before ++ (range ++ after) → (i : ℕ) → i < inputs → AlwaysGets i range
       → Near (quantum + 65534) (bytes_in i range) (quantum * arrivals_in i (reverse before) range)
+
+-- the packet that a visit got is no longer than a packet may be
+abbrev pub GotShort : Visit → Type 0
+GotShort v = bytes_of v.got ≤ 65535
 
 -- for every history that the deficit law allows
 abbrev pub DeficitShares : Type 0
-DeficitShares = (quantum width : ℕ) (turns : List Turn) → 0 < quantum → 0 < width → IsDeficitRun quantum width turns → SharesByDeficit quantum width turns
+DeficitShares =
+    (quantum inputs : ℕ) (turns : List Turn) → 0 < inputs → AllByRecursion GotShort (all_visits turns) → IsDeficitRun quantum inputs turns → SharesByDeficit quantum inputs turns
 
 abbrev pub largest_stride : List ℕ → ℕ
 largest_stride [] = 0
@@ -69,4 +77,25 @@ pub record SharesByStride (tickets : List ℕ) (turns : List Turn) : Type 0 wher
 
 -- for every history that the stride law allows
 abbrev pub StrideShares : Type 0
-StrideShares = (tickets : List ℕ) (turns : List Turn) → AllByRecursion (λ n. (1 ≤ n) × (n ≤ 32768)) tickets → EachAfter (IsStrideTurn tickets) [] turns → SharesByStride tickets turns
+StrideShares = (tickets : List ℕ) (turns : List Turn) → EachAfter (IsStrideTurn tickets) [] turns → SharesByStride tickets turns
+
+-- what a scheduler of this class, over so many inputs, shares out in its pulls
+abbrev pub Shares : Class → ℕ → List Turn → Type 0
+Shares prio inputs turns = ⊤
+Shares round_robin inputs turns = ⊤
+Shares (drr quantum) inputs turns = SharesByDeficit quantum inputs turns
+Shares (stride tickets) inputs turns = SharesByStride tickets turns
+Shares (shaper rate burst) inputs turns = ⊤
+
+-- each scheduler of a row, which stands as for EachObeys, shares out its pulls
+abbrev pub EachShares : ℕ → List (List Visit) → ℕ → ℕ → Row → Type 0
+EachShares above pulled first next end = ⊤
+EachShares above pulled first next (leaf q row) = EachShares above pulled (suc first) next row
+EachShares above pulled first next (node class inputs row) =
+    Shares class (width inputs) (map (turn next) (pulls_below above first pulled))
+    × EachShares next (pulls_below above first pulled) 0 (suc next) inputs
+    × EachShares above pulled (suc first) (suc (next + nodes inputs)) row
+
+-- In every run of a tree, in which packets are no longer than they may be, each DRRSched and each StrideSched gives its shares.
+abbrev pub SharesOut : Tree → Type 0
+SharesOut tree = (log : List Visit) → AllByRecursion GotShort log → IsRun tree log → EachShares 0 (pulls log) 0 1 (root tree)

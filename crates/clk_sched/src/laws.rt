@@ -2,7 +2,8 @@
 
 ghost use Rattle.std.specs.Prelude.{◌≡◌, List, [], ◌∷◌, map};
 ghost use Rattle.clk_sched.specs.Run.{IsRun};
-ghost use Rattle.clk_sched.specs.Results.{emitted, heads, leaf_packets, IsConserved};
+ghost use Rattle.clk_sched.specs.Results.{emitted, heads, leaf_packets};
+ghost use Rattle.clk_sched.specs.Conservation.{IsConserved};
 ghost use Rattle.clk_sched.specs.Bound.{closing_bound};
 ghost use Rattle.clk_sched.specs.Examples.{lengths, first_pulls};
 ghost use Rattle.clk_sched.specs.Examples.Priority.{two_queues, visit_left_out, visit_doubled, passed_turned, other_result, two_queues_tree};

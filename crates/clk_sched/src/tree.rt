@@ -68,11 +68,13 @@ impl Model for Tree {
 }
 
 impl Tree {
-    ghost use Rattle.std.specs.Prelude.{◌≢◌, Err, [], ◌∷◌};
+    ghost use Rattle.std.specs.Prelude.{◌≢◌, Err, [], ◌∷◌, true};
     ghost use Rattle.clk_packet.specs.declared.fault.Fault.TheVariants.{Memory};
     ghost use Rattle.std.specs.List.{AllByRecursion};
     ghost use Rattle.clk_sched.specs.Tree.{leaves_distinct, HasArguments};
     ghost use Rattle.clk_sched.specs.Choice.{LeavesNoChoice};
+    ghost use Rattle.clk_sched.specs.Conservation.{ConservesPackets};
+    ghost use Rattle.clk_sched.specs.Service.{SharesOut};
     ghost use Rattle.clk_sched.specs.Kept.{class_of};
 
     /// The queue of this number alone.
@@ -163,6 +165,21 @@ impl Tree {
     /// nothing.
     pub fn leaves_no_choice(&self)
         ensures { LeavesNoChoice self.now }
+    {
+        let _ = &self.node;
+    }
+
+    /// A law: each run of this tree, in which no queue stands twice, conserves the packets of each queue. What the queue gave
+    /// is what was emitted of it, in order, and then what is held of it. It does nothing.
+    pub fn conserves_packets(&self)
+        requires distinct { leaves_distinct self.now ≡ true }
+        ensures { ConservesPackets self.now }
+    {}
+
+    /// A law: in each run of this tree, each DRRSched and each StrideSched gives the shares that its quantum or its tickets
+    /// say. It does nothing.
+    pub fn shares_out(&self)
+        ensures { SharesOut self.now }
     {
         let _ = &self.node;
     }

@@ -1,0 +1,308 @@
+-- A run conserves the packets of each queue.
+use Rattle.std.proofs.Common.{◌≡◌, ◌≢◌, ℕ, zero, suc, ◌+◌, ◌<◌, ◌≤◌, ◌==◌, ◌&&◌, ◌||◌, if◌then◌else◌, ◌⊎◌, inl, inr, Bool, true, false, List, [], ◌∷◌, ◌++◌, length, map, reverse, Option, Some, None, is_some, MatchOption, refl, sym, ap, ap₂, ◌∙◌, subst, append_assoc, append-nil, eq-or-lt_of_le, arith}
+use Rattle.std.specs.List.{flat_map, filter_map, cons_option, range_with_len, AllByRecursion}
+use Rattle.std.proofs.lemmas.Bool.{false≢true}
+use Rattle.std.proofs.lemmas.Bool.Decides.{nat_tests}
+use Rattle.std.proofs.lemmas.List.Folds.{flat_map-map}
+use Rattle.clk_packet.specs.declared.packet.Packet.{Packet}
+use Rattle.clk_sched.specs.declared.visit.Visit.{Visit}
+use Rattle.clk_sched.specs.Tree.{Class, prio, round_robin, drr, stride, shaper, Row, end, leaf, node, Tree, root, nodes, width, leaves, stands_in, are_distinct, leaves_distinct}
+use Rattle.clk_sched.specs.Turns.{Turn, EachAfter, all_visits, IsPlain, UpToFirst, AsksInOrder}
+use Rattle.clk_sched.specs.Laws.{Obeys}
+use Rattle.clk_sched.specs.Laws.Device.{IsDeviceTurn}
+use Rattle.clk_sched.specs.Laws.Deficit.{head_at}
+use Rattle.clk_sched.specs.Log.{visits_of, in_pull, pulls, turn, asks, pulls_below}
+use Rattle.clk_sched.specs.Run.{EachObeys, IsRun}
+use Rattle.clk_sched.specs.Results.{Traced, traced, is_queue, leaf_packets, traced_emitted, traced_heads, own_heads, held_at, origin_in, passed_input, asked_pull, first_pull}
+use Rattle.clk_sched.specs.Conservation.{from_queue, ConservesPackets}
+use Rattle.clk_sched.proofs.Members.{of-all, all-append}
+use Rattle.clk_sched.proofs.Allowed.{onto-reverse, turns-allowed}
+use Rattle.clk_sched.proofs.Heads.{KeepsHead, IsOrdered, got_by, passed_by, got-passed_and_held}
+use Rattle.clk_sched.proofs.HeadsByClass.{IsHeadless, class-keeps, headless-holds}
+use Rattle.clk_sched.proofs.Blocks.{flat_map-same}
+use Rattle.clk_sched.proofs.TreeLemmas.{stands_in-append}
+use Rattle.clk_sched.proofs.NoChoice.{root-width}
+use Rattle.clk_sched.proofs.Origins.{origin-not, from_queue-append, traced-not, heads-not, node-not, distinct-parts, StandsOnlyIn, only-after_leaf, only-after_node, only-inputs, only-here}
+use Rattle.clk_sched.proofs.Pulled.{IsPulledIn, pulled-after_leaf, pulled-after_node, pulled-inputs, ordered-turns, turns-last, pulled-root}
+use Rattle.clk_sched.proofs.Gives.{gives, results, gives-results}
+
+from_queue-same : {X : Type 0} (q : ℕ) (f g : X → List Traced) (xs : List X) → ((x : X) → from_queue q (f x) ≡ from_queue q (g x)) → from_queue q (flat_map f xs) ≡ from_queue q (flat_map g xs)
+from_queue-same q f g [] h = refl
+from_queue-same q f g (x ∷ xs) h =
+    from_queue-append q (f x) (flat_map f xs) ∙ ap₂ (λ l m. l ++ m) (h x) (from_queue-same q f g xs h) ∙ sym (from_queue-append q (g x) (flat_map g xs))
+
+-- of several inputs, one alone gives packets of a queue
+from_queue-none : (q : ℕ) (f : ℕ → List Traced) (i a n : ℕ) → ((j : ℕ) → j ≢ i → from_queue q (f j) ≡ []) → i < a → from_queue q (flat_map f (range_with_len a n)) ≡ []
+from_queue-none q f i a zero h l = refl
+from_queue-none q f i a (suc n) h l =
+    from_queue-append q (f a) (flat_map f (range_with_len (a + 1) n)) ∙ ap₂ (λ k m. k ++ m) (h a (λ e. omega (arith, e))) (from_queue-none q f i (a + 1) n h (omega arith))
+
+from_queue-one : (q : ℕ) (f : ℕ → List Traced) (i a n : ℕ) → ((j : ℕ) → j ≢ i → from_queue q (f j) ≡ []) → a ≤ i → i < a + n → from_queue q (flat_map f (range_with_len a n)) ≡ from_queue q (f i)
+from_queue-one q f i a zero h l m = absurd (omega arith)
+from_queue-one q f i a (suc n) h l m =
+    from_queue-append q (f a) (flat_map f (range_with_len (a + 1) n)) ∙ by_order (eq-or-lt_of_le l) (λ k. from_queue-one q f i (a + 1) n h k (omega arith))
+  where
+    rest : List Packet
+    rest = from_queue q (flat_map f (range_with_len (a + 1) n))
+
+    by_order : (a ≡ i) ⊎ (a < i) → (a + 1 ≤ i → rest ≡ from_queue q (f i)) → from_queue q (f a) ++ rest ≡ from_queue q (f i)
+    by_order (inl e) again = ap₂ (λ j k. from_queue q (f j) ++ k) e (from_queue-none q f i (a + 1) n h (omega (arith, e))) ∙ append-nil (from_queue q (f i))
+    by_order (inr k) again = ap₂ (λ j k. j ++ k) (h a (λ e. omega (arith, e, k))) (again (omega arith))
+
+-- A queue stands at one input of a row, and what it gave is what the row's parent got from there and what is held below.
+record IsConservedBelow (tree : Tree) (log : List Visit) (q above first next : ℕ) (row : Row) : Type 0 where
+  input : ℕ
+  low : first ≤ input
+  high : input < first + width row
+  conserved : leaf_packets tree q log ≡ from_queue q (gives log above first next row input) ++ from_queue q (traced_heads log next row)
+  alone : (j k : ℕ) → j ≢ input → is_queue q (origin_in log first next row j k) ≡ false
+
+-- the packets that a queue gave, in the log and among the visits of the node at which it stands
+leaf-log : (q k above first : ℕ) → (k == q) ≡ true → (log : List Visit)
+    → filter_map (λ (v : Visit). if v.fresh && ((v.node == above) && (v.input == first)) then v.got else None) log
+    ≡ from_queue q (flat_map (got_by (λ _. Some k) first) (visits_of above log))
+leaf-log q k above first e [] = refl
+leaf-log q k above first e (v ∷ log) = by_node (v.node == above) (leaf-log q k above first e log)
+  where
+    more : List Packet
+    more = filter_map (λ (u : Visit). if u.fresh && ((u.node == above) && (u.input == first)) then u.got else None) log
+
+    visits : List Visit
+    visits = visits_of above log
+
+    by_got : (b : Bool) (o : Option Packet) → more ≡ from_queue q (flat_map (got_by (λ _. Some k) first) visits)
+        → cons_option (if b then o else None) more ≡ from_queue q ((if b then traced o (Some k) else []) ++ flat_map (got_by (λ _. Some k) first) visits)
+    by_got false o rest = rest
+    by_got true None rest = rest
+    by_got true (Some p) rest = rw e (ap (λ l. p ∷ l) rest)
+
+    by_fresh : (f : Bool) → more ≡ from_queue q (flat_map (got_by (λ _. Some k) first) visits) → cons_option (if f && false then v.got else None) more ≡ from_queue q (flat_map (got_by (λ _. Some k) first) visits)
+    by_fresh true rest = rest
+    by_fresh false rest = rest
+
+    by_node : (b : Bool) → more ≡ from_queue q (flat_map (got_by (λ _. Some k) first) visits)
+        → cons_option (if v.fresh && (b && (v.input == first)) then v.got else None) more ≡ from_queue q (flat_map (got_by (λ _. Some k) first) (if b then v ∷ visits else visits))
+    by_node true rest = by_got (v.fresh && (v.input == first)) v.got rest
+    by_node false rest = by_fresh v.fresh rest
+
+filter_map-same : {X Y : Type 0} (f g : X → Option Y) (xs : List X) → ((x : X) → f x ≡ g x) → filter_map f xs ≡ filter_map g xs
+filter_map-same f g [] h = refl
+filter_map-same f g (x ∷ xs) h = ap₂ cons_option (h x) (filter_map-same f g xs h)
+
+conserved-here : (tree : Tree) (log : List Visit) (q above first next k : ℕ) (row : Row) → (k == q) ≡ true → stands_in q (leaves row) ≡ false → StandsOnlyIn q tree above first next (leaf k row)
+    → IsConservedBelow tree log q above first next (leaf k row)
+conserved-here tree log q above first next k row e h only =
+    record {
+      input = first;
+      low = omega arith;
+      high = omega arith;
+      conserved =
+          filter_map-same _ _ log (λ v. ap (λ b. if v.fresh && b then v.got else None) (only-here q tree above first next k row e h only v.node v.input))
+          ∙ leaf-log q k above first e log ∙ ap (from_queue q) (flat_map-same _ _ (visits_of above log) (λ v m. ap (λ o. if asks first v then traced v.got o else []) (sym (here v.pull))))
+          ∙ sym (append-nil _) ∙ ap (λ l. from_queue q (gives log above first next (leaf k row) first) ++ l) (sym (heads-not q log next row h));
+      alone = λ j p d. by_test j p (first == j) refl d (origin-not q log (suc first) next row j p h);
+    }
+  where
+    here : (p : ℕ) → (if first == first then Some k else origin_in log (suc first) next row first p) ≡ Some k
+    here p = let same : (first == first) ≡ true = self first in rw same refl
+      where
+        self : (m : ℕ) → (m == m) ≡ true
+        self m = grind (arith, nat_tests)
+
+    by_test : (j p : ℕ) (b : Bool) → (first == j) ≡ b → j ≢ first → is_queue q (origin_in log (suc first) next row j p) ≡ false
+        → is_queue q (if b then Some k else origin_in log (suc first) next row j p) ≡ false
+    by_test j p true t d rest = absurd (d (grind (arith, nat_tests)))
+    by_test j p false t d rest = rest
+
+conserved-after_leaf : (tree : Tree) (log : List Visit) (q above first next k : ℕ) (row : Row) → (k == q) ≡ false → IsConservedBelow tree log q above (suc first) next row → IsConservedBelow tree log q above first next (leaf k row)
+conserved-after_leaf tree log q above first next k row e rest =
+    record {
+      input = rest.input;
+      low = let l = rest.low in omega arith;
+      high = let l = rest.high in omega arith;
+      conserved =
+          rest.conserved
+          ∙ ap (λ l. l ++ from_queue q (traced_heads log next row)) (ap (from_queue q) (flat_map-same _ _ (visits_of above log) (λ v m. ap (λ o. if asks rest.input v then traced v.got o else []) (sym (there v.pull)))));
+      alone = λ j p d. by_test j p (first == j) (rest.alone j p d);
+    }
+  where
+    there : (p : ℕ) → origin_in log first next (leaf k row) rest.input p ≡ origin_in log (suc first) next row rest.input p
+    there p = let differs : (first == rest.input) ≡ false = (let l = rest.low in grind (arith, nat_tests)) in rw differs refl
+
+    by_test : (j p : ℕ) (b : Bool) → is_queue q (origin_in log (suc first) next row j p) ≡ false → is_queue q (if b then Some k else origin_in log (suc first) next row j p) ≡ false
+    by_test j p true h = e
+    by_test j p false h = h
+
+conserved-after_node : (tree : Tree) (log : List Visit) (q above first next : ℕ) (class : Class) (inputs row : Row) → stands_in q (leaves inputs) ≡ false
+    → IsConservedBelow tree log q above (suc first) (suc (next + nodes inputs)) row → IsConservedBelow tree log q above first next (node class inputs row)
+conserved-after_node tree log q above first next class inputs row h rest =
+    record {
+      input = rest.input;
+      low = let l = rest.low in omega arith;
+      high = let l = rest.high in omega arith;
+      conserved =
+          rest.conserved
+          ∙ ap₂ (λ l m. l ++ m)
+          (ap (from_queue q) (flat_map-same _ _ (visits_of above log) (λ v m. ap (λ o. if asks rest.input v then traced v.got o else []) (sym (there v.pull)))))
+          (sym (node-not q log next class inputs row h));
+      alone = λ j p d. by_test j p (first == j) (origin-not q log 0 (suc next) inputs _ _ h) (rest.alone j p d);
+    }
+  where
+    there : (p : ℕ) → origin_in log first next (node class inputs row) rest.input p ≡ origin_in log (suc first) (suc (next + nodes inputs)) row rest.input p
+    there p = let differs : (first == rest.input) ≡ false = (let l = rest.low in grind (arith, nat_tests)) in rw differs refl
+
+    inside : ℕ → Option ℕ
+    inside p = origin_in log 0 (suc next) inputs (passed_input (visits_of next (in_pull p log))) (asked_pull (passed_input (visits_of next (in_pull p log))) p (reverse (visits_of next log)))
+
+    by_test : (j p : ℕ) (b : Bool) → is_queue q (inside p) ≡ false → is_queue q (origin_in log (suc first) (suc (next + nodes inputs)) row j p) ≡ false
+        → is_queue q (if b then inside p else origin_in log (suc first) (suc (next + nodes inputs)) row j p) ≡ false
+    by_test j p true g k = g
+    by_test j p false g k = k
+
+-- the heads of a node over the input from which a queue's packets come
+own-held : (log : List Visit) (q x : ℕ) (class : Class) (inputs : Row) (turns : List Turn) (i : ℕ) → Obeys class (width inputs) turns → all_visits turns ≡ visits_of x log → i < width inputs
+    → ((j k : ℕ) → j ≢ i → is_queue q (origin_in log 0 (suc x) inputs j k) ≡ false) → from_queue q (own_heads log x inputs class) ≡ from_queue q (held_at log x inputs i)
+own-held log q x class inputs turns i law all l alone = by_class class law
+  where
+    none : (c : Class) → IsHeadless c → Obeys c (width inputs) turns → [] ≡ from_queue q (held_at log x inputs i)
+    none c headless h =
+        ap (λ o. from_queue q (traced o (origin_in log 0 (suc x) inputs i (asked_pull i (first_pull (reverse (visits_of x log))) (reverse (visits_of x log))))))
+        (sym (ap (head_at i) (ap reverse (sym all) ∙ sym (onto-reverse (all_visits turns))) ∙ headless-holds c (width inputs) turns headless h i))
+
+    by_class : (c : Class) → Obeys c (width inputs) turns → from_queue q (own_heads log x inputs c) ≡ from_queue q (held_at log x inputs i)
+    by_class prio h = none prio tt h
+    by_class round_robin h = none round_robin tt h
+    by_class (drr quantum) h = from_queue-one q (held_at log x inputs) i 0 (width inputs) (λ j d. traced-not q _ _ (alone j _ d)) (omega arith) (omega arith)
+    by_class (stride tickets) h = none (stride tickets) tt h
+    by_class (shaper rate burst) h = none (shaper rate burst) tt h
+
+conserved-node : (tree : Tree) (log : List Visit) (q above first next : ℕ) (class : Class) (inputs row : Row) (pulled : List (List Visit)) → IsPulledIn tree log above first next (node class inputs row) pulled
+    → EachObeys above pulled first next (node class inputs row) → stands_in q (leaves row) ≡ false → IsConservedBelow tree log q next 0 (suc next) inputs
+    → IsConservedBelow tree log q above first next (node class inputs row)
+conserved-node tree log q above first next class inputs row pulled h obeys other below =
+    record {
+      input = first;
+      low = omega arith;
+      high = omega arith;
+      conserved =
+          below.conserved ∙ ap (λ l. from_queue q l ++ inner) kept ∙ ap (λ l. l ++ inner) (from_queue-append q passed (held_at log next inputs below.input))
+          ∙ append_assoc (from_queue q passed) (from_queue q (held_at log next inputs below.input)) inner
+          ∙ ap₂ (λ l m. l ++ m) (passed_results ∙ ap (from_queue q) (sym (gives-results tree log above first next class inputs row pulled h obeys.0 obeys.1))) (sym heads);
+      alone = λ j p d. by_test j p (first == j) refl d (origin-not q log (suc first) (suc (next + nodes inputs)) row j p other);
+    }
+  where
+    turns : List Turn
+    turns = map (turn next) (pulls_below above first pulled)
+
+    pull : IsPulledIn tree log next 0 (suc next) inputs (pulls_below above first pulled)
+    pull = pulled-inputs tree log above first next class inputs row pulled h
+
+    visits : List Visit
+    visits = visits_of next log
+
+    all : all_visits turns ≡ visits
+    all = flat_map-map (λ (t : Turn). t.visits) (turn next) (pulls_below above first pulled) ∙ sym pull.own_visits
+
+    origin : ℕ → ℕ → Option ℕ
+    origin i k = origin_in log 0 (suc next) inputs i k
+
+    passed : List Traced
+    passed = flat_map (passed_by (origin below.input) below.input (reverse visits)) visits
+
+    inner : List Packet
+    inner = from_queue q (traced_heads log (suc next) inputs)
+
+    kept : gives log next 0 (suc next) inputs below.input ≡ passed ++ held_at log next inputs below.input
+    kept =
+        got-passed_and_held (origin below.input) below.input visits (subst (EachAfter KeepsHead []) all (class-keeps class (width inputs) turns obeys.0))
+        (subst IsOrdered (sym pull.own_visits) (ordered-turns log next 0 (pulls_below above first pulled) pull.rising (turns-last class (width inputs) next [] (pulls_below above first pulled) (turns-allowed class (width inputs) turns obeys.0))).0)
+
+    one : (v : Visit) (b c : Bool) → (v.input == below.input) ≡ c
+        → from_queue q (if b && c then traced v.got (origin below.input (asked_pull below.input v.pull (reverse visits))) else [])
+        ≡ from_queue q (if b then traced v.got (origin v.input (asked_pull v.input v.pull (reverse visits))) else [])
+    one v false c e = refl
+    one v true true e = let same : below.input ≡ v.input = grind (arith, nat_tests) in ap (λ i. from_queue q (traced v.got (origin i (asked_pull i v.pull (reverse visits))))) same
+    one v true false e =
+        sym (traced-not q v.got (origin v.input (asked_pull v.input v.pull (reverse visits))) (below.alone v.input _ (λ s. let t : (v.input == below.input) ≡ true = grind (arith, nat_tests) in false≢true (sym e ∙ t))))
+
+    passed_results : from_queue q passed ≡ from_queue q (results log next inputs)
+    passed_results = from_queue-same q _ _ visits (λ v. one v v.passed (v.input == below.input) refl)
+
+    heads : from_queue q (traced_heads log next (node class inputs row)) ≡ from_queue q (held_at log next inputs below.input) ++ inner
+    heads =
+        from_queue-append q (own_heads log next inputs class) _
+        ∙ ap₂ (λ l m. l ++ m) (own-held log q next class inputs turns below.input obeys.0 all (let k = below.high in omega arith) below.alone)
+        (from_queue-append q (traced_heads log (suc next) inputs) _ ∙ ap (λ l. inner ++ l) (heads-not q log (suc (next + nodes inputs)) row other) ∙ append-nil inner)
+
+    inside : ℕ → Option ℕ
+    inside p = origin_in log 0 (suc next) inputs (passed_input (visits_of next (in_pull p log))) (asked_pull (passed_input (visits_of next (in_pull p log))) p (reverse (visits_of next log)))
+
+    by_test : (j p : ℕ) (b : Bool) → (first == j) ≡ b → j ≢ first → is_queue q (origin_in log (suc first) (suc (next + nodes inputs)) row j p) ≡ false
+        → is_queue q (if b then inside p else origin_in log (suc first) (suc (next + nodes inputs)) row j p) ≡ false
+    by_test j p true t d rest = absurd (d (grind (arith, nat_tests)))
+    by_test j p false t d rest = rest
+
+conserved-below : (tree : Tree) (log : List Visit) (q : ℕ) (row : Row) (above first next : ℕ) (pulled : List (List Visit)) → IsPulledIn tree log above first next row pulled → EachObeys above pulled first next row
+    → StandsOnlyIn q tree above first next row → stands_in q (leaves row) ≡ true → are_distinct (leaves row) ≡ true → IsConservedBelow tree log q above first next row
+conserved-below tree log q end above first next pulled h obeys only stands distinct = absurd (false≢true stands)
+conserved-below tree log q (leaf k row) above first next pulled h obeys only stands distinct =
+    let parts = distinct-parts q (k ∷ []) (leaves row) distinct in
+    by_test (k == q) refl stands parts.2
+    (λ e s. conserved-below tree log q row above (suc first) next pulled (pulled-after_leaf tree log above first next k row pulled h) obeys (only-after_leaf q tree above first next k row h.ordered e only) s parts.1)
+  where
+    by_test : (b : Bool) → (k == q) ≡ b → (b || stands_in q (leaves row)) ≡ true → ((b || false) ≡ true → stands_in q (leaves row) ≡ false)
+        → ((k == q) ≡ false → stands_in q (leaves row) ≡ true → IsConservedBelow tree log q above (suc first) next row) → IsConservedBelow tree log q above first next (leaf k row)
+    by_test true e s none rest = conserved-here tree log q above first next k row e (none refl) only
+    by_test false e s none rest = conserved-after_leaf tree log q above first next k row e (rest e s)
+conserved-below tree log q (node class inputs row) above first next pulled h obeys only stands distinct =
+    let parts = distinct-parts q (leaves inputs) (leaves row) distinct in
+    by_test (stands_in q (leaves inputs)) refl (sym (stands_in-append q (leaves inputs) (leaves row)) ∙ stands)
+    (λ s. conserved-below tree log q inputs next 0 (suc next) (pulls_below above first pulled) (pulled-inputs tree log above first next class inputs row pulled h) obeys.2
+    (only-inputs q tree above first next class inputs row (parts.2 s) only) s parts.0)
+    parts.2
+    (λ e s. conserved-below tree log q row above (suc first) (suc (next + nodes inputs)) pulled (pulled-after_node tree log above first next class inputs row pulled h) obeys.3
+    (only-after_node q tree above first next class inputs row h.ordered e only) s parts.1)
+  where
+    by_test : (b : Bool) → stands_in q (leaves inputs) ≡ b → (b || stands_in q (leaves row)) ≡ true → (stands_in q (leaves inputs) ≡ true → IsConservedBelow tree log q next 0 (suc next) inputs)
+        → (stands_in q (leaves inputs) ≡ true → stands_in q (leaves row) ≡ false)
+        → (stands_in q (leaves inputs) ≡ false → stands_in q (leaves row) ≡ true → IsConservedBelow tree log q above (suc first) (suc (next + nodes inputs)) row)
+        → IsConservedBelow tree log q above first next (node class inputs row)
+    by_test true e s below other rest = conserved-node tree log q above first next class inputs row pulled h obeys (other e) (below e)
+    by_test false e s below other rest = conserved-after_node tree log q above first next class inputs row e (rest e s)
+
+-- what the device got is what was emitted
+device-emits : (tree : Tree) (log : List Visit) (i : ℕ) → i ≡ 0 → IsRun tree log → gives log 0 0 1 (root tree) i ≡ traced_emitted tree log
+device-emits tree log i zero_is run = flat_map-same _ _ (visits_of 0 log) (λ v m. one v (of-all (λ (u : Visit). IsPlain u × (u.input ≡ 0)) v (visits_of 0 log) plain m))
+  where
+    turn-plain : (us : List Visit) → AsksInOrder (0 ∷ []) us → AllByRecursion (λ (u : Visit). IsPlain u × (u.input ≡ 0)) us
+    turn-plain [] h = tt
+    turn-plain (u ∷ []) h = ((h.plain.0, h.in_order.0), tt)
+    turn-plain (u ∷ w ∷ us) h = by_got u.got h.in_order.1
+      where
+        by_got : (o : Option Packet) → MatchOption o (UpToFirst [] (w ∷ us)) (λ _. w ∷ us ≡ []) → AllByRecursion (λ (x : Visit). IsPlain x × (x.input ≡ 0)) (u ∷ w ∷ us)
+        by_got None k = absurd k
+        by_got (Some p) k = absurd (omega (arith, ap length k))
+
+    turns-plain : (ps : List (List Visit)) → AllByRecursion IsDeviceTurn (map (turn 0) ps) → AllByRecursion (λ (u : Visit). IsPlain u × (u.input ≡ 0)) (flat_map (visits_of 0) ps)
+    turns-plain [] h = tt
+    turns-plain (p ∷ ps) h = all-append _ (visits_of 0 p) (flat_map (visits_of 0) ps) (turn-plain (visits_of 0 p) h.0) (turns-plain ps h.1)
+
+    plain : AllByRecursion (λ (u : Visit). IsPlain u × (u.input ≡ 0)) (visits_of 0 log)
+    plain = subst (AllByRecursion (λ (u : Visit). IsPlain u × (u.input ≡ 0))) (sym (pulled-root tree log run).own_visits) (turns-plain (pulls log) run.device)
+
+    by_got : (k : ℕ) (o : Option Packet) → traced o (origin_in log 0 1 (root tree) i k) ≡ (if is_some o then traced o (origin_in log 0 1 (root tree) 0 k) else [])
+    by_got k None = refl
+    by_got k (Some p) = ap (λ j. traced (Some p) (origin_in log 0 1 (root tree) j k)) zero_is
+
+    one : (v : Visit) → IsPlain v × (v.input ≡ 0) → got_by (λ k. origin_in log 0 1 (root tree) i k) i v ≡ (if v.passed then traced v.got (origin_in log 0 1 (root tree) 0 v.pull) else [])
+    one v h =
+        ap (λ b. if b then traced v.got (origin_in log 0 1 (root tree) i v.pull) else []) (ap₂ (λ f j. f && (j == i)) h.0.fresh h.1 ∙ at_zero i zero_is) ∙ by_got v.pull v.got
+        ∙ ap (λ b. if b then traced v.got (origin_in log 0 1 (root tree) 0 v.pull) else []) (sym h.0.passed)
+      where
+        at_zero : (j : ℕ) → j ≡ 0 → (0 == j) ≡ true
+        at_zero j e = grind (arith, nat_tests)
+
+pub conserves-packets : (tree : Tree) → leaves_distinct tree ≡ true → ConservesPackets tree
+conserves-packets tree distinct log run q stands =
+    let all = conserved-below tree log q (root tree) 0 0 1 (pulls log) (pulled-root tree log run) run.below (λ x i. refl) stands distinct in
+    all.conserved ∙ ap (λ l. from_queue q l ++ from_queue q (traced_heads log 1 (root tree))) (device-emits tree log all.input (let h = all.high in let w = root-width tree in omega (arith, w)) run)

@@ -1,0 +1,116 @@
+-- What a node's parent got from it is what it passed.
+use Rattle.std.proofs.Common.{◌≡◌, ℕ, suc, ◌==◌, if◌then◌else◌, Bool, true, false, List, [], ◌∷◌, ◌++◌, map, filter, reverse, Option, refl, sym, ap, ap₂, ◌∙◌, append-nil, arith}
+use Rattle.std.specs.List.{flat_map, AllByRecursion, list_any}
+use Rattle.std.proofs.lemmas.Bool.Decides.{nat_tests}
+use Rattle.clk_sched.specs.declared.visit.Visit.{Visit}
+use Rattle.clk_sched.specs.Tree.{Class, Row, node, Tree, width}
+use Rattle.clk_sched.specs.Laws.{Obeys}
+use Rattle.clk_sched.specs.Log.{visits_of, in_pull, turn, asks, pulls_below, result_of}
+use Rattle.clk_sched.specs.Run.{GetsResult}
+use Rattle.clk_sched.specs.Results.{Traced, traced, origin_in, passed_input, asked_pull}
+use Rattle.clk_sched.proofs.Members.{In, of-all, in-filter, filter-in, all-filter}
+use Rattle.clk_sched.proofs.Allowed.{turns-allowed}
+use Rattle.clk_sched.proofs.Heads.{got_by}
+use Rattle.clk_sched.proofs.HeadsByClass.{PassesLast}
+use Rattle.clk_sched.proofs.Blocks.{flat_map-same, owns-self, copies, copies-cancel}
+use Rattle.clk_sched.proofs.Pulled.{IsPullOf, rising-in, flat_map-filter, flat_map-flat_map, copies-unasked, IsPulledIn, pulled-inputs, turns-last}
+
+-- what a row's parent got from what stands at one of its inputs, with where it came from
+abbrev pub gives : List Visit → ℕ → ℕ → ℕ → Row → ℕ → List Traced
+gives log above first next row i = flat_map (got_by (λ k. origin_in log first next row i k) i) (visits_of above log)
+
+-- what a node passed, with where it came from
+abbrev pub result_by : List Visit → ℕ → Row → Visit → List Traced
+result_by log x inputs v = if v.passed then traced v.got (origin_in log 0 (suc x) inputs v.input (asked_pull v.input v.pull (reverse (visits_of x log)))) else []
+
+abbrev pub results : List Visit → ℕ → Row → List Traced
+results log x inputs = flat_map (result_by log x inputs) (visits_of x log)
+
+-- the results of one pull
+turn-result : (log : List Visit) (x : ℕ) (inputs : Row) (k : ℕ) (us : List Visit) → PassesLast us → AllByRecursion (λ (v : Visit). v.pull ≡ k) us
+    → flat_map (result_by log x inputs) us ≡ traced (result_of us) (origin_in log 0 (suc x) inputs (passed_input us) (asked_pull (passed_input us) k (reverse (visits_of x log))))
+turn-result log x inputs k [] l h = refl
+turn-result log x inputs k (v ∷ us) l h = by_passed v.passed l.0 (turn-result log x inputs k us l.1 h.1)
+  where
+    origin : ℕ → ℕ → Option ℕ
+    origin i j = origin_in log 0 (suc x) inputs i (asked_pull i j (reverse (visits_of x log)))
+
+    by_passed : (b : Bool) → (b ≡ true → us ≡ []) → flat_map (result_by log x inputs) us ≡ traced (result_of us) (origin (passed_input us) k)
+        → (if b then traced v.got (origin v.input v.pull) else []) ++ flat_map (result_by log x inputs) us ≡ traced (if b then v.got else result_of us) (origin (if b then v.input else passed_input us) k)
+    by_passed true e rest = ap (λ l. traced v.got (origin v.input v.pull) ++ flat_map (result_by log x inputs) l) (e refl) ∙ append-nil _ ∙ ap (λ j. traced v.got (origin v.input j)) h.0
+    by_passed false e rest = rest
+
+-- what a node's parent got from it is what it passed
+pub gives-results : (tree : Tree) (log : List Visit) (above first next : ℕ) (class : Class) (inputs row : Row) (pulled : List (List Visit)) → IsPulledIn tree log above first next (node class inputs row) pulled
+    → Obeys class (width inputs) (map (turn next) (pulls_below above first pulled)) → AllByRecursion (GetsResult above first next) pulled
+    → gives log above first next (node class inputs row) first ≡ results log next inputs
+gives-results tree log above first next class inputs row pulled h law gets =
+    ap (flat_map got) h.own_visits ∙ flat_map-flat_map got (visits_of above) pulled
+    ∙ flat_map-filter asked (λ p. flat_map got (visits_of above p)) pulled (λ p k e. each p k ∙ copies-unasked (asks first) (result p) (visits_of above p) e)
+    ∙ flat_map-same _ _ (pulls_below above first pulled) (λ p k. same p (in-filter asked p pulled k).0 (of-all _ p (pulls_below above first pulled) last k))
+    ∙ sym (flat_map-flat_map (result_by log next inputs) (visits_of next) (pulls_below above first pulled))
+    ∙ ap (flat_map (result_by log next inputs)) (sym below.own_visits)
+  where
+    asked : List Visit → Bool
+    asked p = list_any (asks first) (visits_of above p)
+
+    below : IsPulledIn tree log next 0 (suc next) inputs (pulls_below above first pulled)
+    below = pulled-inputs tree log above first next class inputs row pulled h
+
+    last : AllByRecursion (λ p. PassesLast (visits_of next p)) (pulls_below above first pulled)
+    last = turns-last class (width inputs) next [] (pulls_below above first pulled) (turns-allowed class (width inputs) _ law)
+
+    got : Visit → List Traced
+    got v = got_by (λ k. origin_in log first next (node class inputs row) first k) first v
+
+    origin : List Visit → ℕ → Option ℕ
+    origin us k = origin_in log 0 (suc next) inputs (passed_input us) (asked_pull (passed_input us) k (reverse (visits_of next log)))
+
+    is : (p : List Visit) → In p pulled → IsPullOf log p
+    is p k = rising-in log 0 pulled p h.rising k
+
+    number : (p : List Visit) → ℕ
+    number [] = 0
+    number (v ∷ p) = v.pull
+
+    result : List Visit → List Traced
+    result p = traced (result_of (visits_of next p)) (origin (visits_of next p) (number p))
+
+    number-is : (p : List Visit) (k : ℕ) (v : Visit) → AllByRecursion (λ (u : Visit). u.pull ≡ k) p → In v p → number p ≡ k
+    number-is [] k v a m = absurd m
+    number-is (u ∷ p) k v a m = a.0
+
+    here : (k : ℕ) → origin_in log first next (node class inputs row) first k ≡ origin (visits_of next (in_pull k log)) k
+    here k = let e : (first == first) ≡ true = self first in rw e refl
+      where
+        self : (m : ℕ) → (m == m) ≡ true
+        self m = grind (arith, nat_tests)
+
+    visit : (p : List Visit) (k : In p pulled) (v : Visit) → In v (visits_of above p) → asks first v ≡ true → traced v.got (origin_in log first next (node class inputs row) first v.pull) ≡ result p
+    visit p k v m t =
+        let pull = is p k in
+        let inside = (in-filter (λ (u : Visit). u.node == above) v p m).0 in
+        let at = of-all (λ (u : Visit). u.pull ≡ pull.number) v p pull.all inside in
+        ap₂ traced (of-all (λ (u : Visit). u.got ≡ result_of (visits_of next p)) v (filter (asks first) (visits_of above p)) (of-all (GetsResult above first next) p pulled gets k) (filter-in (asks first) v (visits_of above p) t m))
+        (ap (λ j. origin_in log first next (node class inputs row) first j) at ∙ here pull.number
+        ∙ ap₂ (λ r j. origin (visits_of next r) j) pull.whole (sym (number-is p pull.number v pull.all inside)))
+
+    each : (p : List Visit) → In p pulled → flat_map got (visits_of above p) ≡ copies (asks first) (result p) (visits_of above p)
+    each p k = flat_map-same _ _ (visits_of above p) (λ v m. by_test v (asks first v) (visit p k v m))
+      where
+        by_test : (v : Visit) (b : Bool) → (b ≡ true → traced v.got (origin_in log first next (node class inputs row) first v.pull) ≡ result p)
+            → (if b then traced v.got (origin_in log first next (node class inputs row) first v.pull) else []) ≡ (if b then result p else [])
+        by_test v true e = e refl
+        by_test v false e = refl
+
+    same : (p : List Visit) → In p pulled → PassesLast (visits_of next p) → flat_map got (visits_of above p) ≡ flat_map (result_by log next inputs) (visits_of next p)
+    same p k l =
+        each p k
+        ∙ copies-cancel (asks first) (visits_of next p) (result p) (visits_of above p) (owns-self p above first next class inputs row (h.owns next (omega arith) (omega arith) p k)) (λ e. ap (λ us. traced (result_of us) (origin us (number p))) e)
+        ∙ sym (by_visits p (is p k) l)
+      where
+        by_visits : (r : List Visit) → IsPullOf log r → PassesLast (visits_of next r) → flat_map (result_by log next inputs) (visits_of next r) ≡ result r
+        by_visits [] pull k = refl
+        by_visits (v ∷ r) pull k =
+            turn-result log next inputs pull.number (visits_of next (v ∷ r)) k (all-filter (λ (u : Visit). u.pull ≡ pull.number) (λ (u : Visit). u.node == next) (v ∷ r) pull.all)
+            ∙ ap (λ j. traced (result_of (visits_of next (v ∷ r))) (origin (visits_of next (v ∷ r)) j)) (sym pull.all.0)
