@@ -1,49 +1,53 @@
 -- One pull of the built-in tree.
-use Rattle.std.proofs.Common.{◌≡◌, ℕ, List, [], ◌∷◌, ◌++◌, refl, Option, Some, None}
+use Rattle.std.proofs.Common.{◌≡◌, ℕ, List, [], ◌∷◌, ◌++◌, length, map, refl, Option, Some, None}
 use Rattle.std.specs.Option.{option_or}
 use Rattle.clk_packet.specs.declared.packet.Packet.{Packet}
 use Rattle.clk_sched.specs.declared.visit.Visit.{Visit}
 use Rattle.clickpull.specs.QueueHistory.{answer}
-use Rattle.clk_sched.specs.Log.{asking, visits_of, result_of}
+use Rattle.clk_sched.specs.Log.{asking, visits_of, pulls, moment_of, NeverFalls, result_of}
+use Rattle.clk_sched.specs.Step.{IsNextPull}
 use Rattle.clickpull.specs.Meaning.{pulled, at_queue}
 use Rattle.clickpull.specs.Builtin.{builtin}
 use Rattle.clickpull.specs.Router.{prio_visits, second_events}
-use Rattle.clickpull.proofs.RunLemmas.{IsPull}
 
 -- the visits of a pull in which the queues have these answers
 abbrev pub router_visits : ℕ → ℕ → Option Packet → Option Packet → List Visit
 router_visits k moment first second = prio_visits k moment first second ++ asking k moment 0 0 (option_or first second) ∷ []
 
-pub IsPull-builtin : (k moment : ℕ) (first second : Option Packet) → IsPull builtin.tree k moment (router_visits k moment first second)
-IsPull-builtin k moment (Some p) second =
+pub moment-builtin : (k moment : ℕ) (first second : Option Packet) → moment_of (router_visits k moment first second) ≡ moment
+moment-builtin k moment (Some p) second = refl
+moment-builtin k moment None (Some p) = refl
+moment-builtin k moment None None = refl
+
+-- such a pull may follow a run
+pub IsNextPull-builtin : (log : List Visit) (k moment : ℕ) (first second : Option Packet) → k ≡ length (pulls log)
+    → NeverFalls 0 (map moment_of (pulls log ++ router_visits k moment first second ∷ [])) → IsNextPull builtin.tree log (router_visits k moment first second)
+IsNextPull-builtin log k moment (Some p) second e never =
     record {
-      number = (refl, (refl, tt));
-      once = refl;
+      number = (e, (e, tt));
       whole = refl;
       one_moment = (refl, (refl, tt));
-      moment_is = refl;
+      moments = never;
       device = record { plain = (record { fresh = refl; passed = refl }, tt); in_order = (refl, refl) };
-      below = ((record { plain = (record { fresh = refl; passed = refl }, tt); in_order = (refl, refl) }, tt), ((refl, tt), tt), tt, tt);
+      below = (λ asked. (record { plain = (record { fresh = refl; passed = refl }, tt); in_order = (refl, refl) }, tt), (refl, tt), tt);
     }
-IsPull-builtin k moment None (Some p) =
+IsNextPull-builtin log k moment None (Some p) e never =
     record {
-      number = (refl, (refl, (refl, tt)));
-      once = refl;
+      number = (e, (e, (e, tt)));
       whole = refl;
       one_moment = (refl, (refl, (refl, tt)));
-      moment_is = refl;
+      moments = never;
       device = record { plain = (record { fresh = refl; passed = refl }, tt); in_order = (refl, refl) };
-      below = ((record { plain = (record { fresh = refl; passed = refl }, (record { fresh = refl; passed = refl }, tt)); in_order = (refl, (refl, refl)) }, tt), ((refl, tt), tt), tt, tt);
+      below = (λ asked. (record { plain = (record { fresh = refl; passed = refl }, (record { fresh = refl; passed = refl }, tt)); in_order = (refl, (refl, refl)) }, tt), (refl, tt), tt);
     }
-IsPull-builtin k moment None None =
+IsNextPull-builtin log k moment None None e never =
     record {
-      number = (refl, (refl, (refl, tt)));
-      once = refl;
+      number = (e, (e, (e, tt)));
       whole = refl;
       one_moment = (refl, (refl, (refl, tt)));
-      moment_is = refl;
+      moments = never;
       device = record { plain = (record { fresh = refl; passed = refl }, tt); in_order = (refl, tt) };
-      below = ((record { plain = (record { fresh = refl; passed = refl }, (record { fresh = refl; passed = refl }, tt)); in_order = (refl, (refl, tt)) }, tt), ((refl, tt), tt), tt, tt);
+      below = (λ asked. (record { plain = (record { fresh = refl; passed = refl }, (record { fresh = refl; passed = refl }, tt)); in_order = (refl, (refl, tt)) }, tt), (refl, tt), tt);
     }
 
 pub result-builtin : (k moment : ℕ) (first second : Option Packet) → result_of (visits_of 0 (router_visits k moment first second)) ≡ option_or first second

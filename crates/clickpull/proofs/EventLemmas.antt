@@ -1,21 +1,21 @@
 -- How events go on by one.
-use Rattle.std.proofs.Common.{◌≡◌, ℕ, ◌+◌, ◌<◌, ◌==◌, zero, suc, Bool, true, false, List, [], ◌∷◌, ◌++◌, length, map, max, fold, MatchOption, slice_get, refl, sym, ap, ◌∙◌, arith}
+use Rattle.std.proofs.Common.{◌≡◌, ℕ, ◌+◌, ◌==◌, zero, suc, Bool, true, false, List, [], ◌∷◌, ◌++◌, length, map, max, fold, MatchOption, slice_get, refl, sym, ap, ◌∙◌, arith}
 use Rattle.std.specs.Bool.{⊤}
-use Rattle.std.specs.List.{filter_map, range_with_len, AllByRecursion}
-use Rattle.std.proofs.lemmas.List.{append-nil, map-append, length-append, length-map, map-id}
+use Rattle.std.specs.List.{filter_map, range_with_len}
+use Rattle.std.proofs.lemmas.List.{append-nil, map-append, length-append, map-id}
 use Rattle.std.proofs.lemmas.List.Concat.{flat_map-append}
 use Rattle.std.proofs.lemmas.List.Elements.{filter_map-append}
-use Rattle.std.proofs.lemmas.List.FromFn.{map-range_with_len_more, length-range_with_len}
+use Rattle.std.proofs.lemmas.List.FromFn.{map-range_with_len_more}
 use Rattle.std.proofs.lemmas.Bool.Decides.{nat_tests}
 use Rattle.clk_packet.specs.declared.packet.Packet.{Packet}
 use Rattle.clk_packet.specs.declared.packet.Offered.{Offered}
 use Rattle.clk_packet.specs.declared.packet.Kind.TheVariants.{TailDrop}
 use Rattle.clk_sched.specs.declared.visit.Visit.{Visit}
 use Rattle.clickpull.specs.QueueHistory.{IsQueueHistory}
-use Rattle.clk_sched.specs.Log.{pulls, moment_of, NeverFalls, visits_of}
-use Rattle.clickpull.specs.Meaning.{QueueSpec, Event, offered, pulled, number_from, numbers_of, visits_in, pull_in, moment_in, log_of, counted, history, CanHappen}
+use Rattle.clk_sched.specs.Log.{pulls, moment_of, NeverFalls, counted}
+use Rattle.clk_sched.specs.Step.{IsNextPull, GoesOn}
+use Rattle.clickpull.specs.Meaning.{QueueSpec, Event, offered, pulled, number_from, numbers_of, visits_in, pull_in, moment_in, log_of, history, CanHappen}
 use Rattle.clickpull.specs.Builtin.{builtin}
-use Rattle.clickpull.proofs.RunLemmas.{IsPull, IsRun-more, pulls-more}
 
 -- the numbers from 0 on, and the next
 range-more : (n : ℕ) → range_with_len 0 (n + 1) ≡ range_with_len 0 n ++ n ∷ []
@@ -74,32 +74,28 @@ NeverFalls-counted before [] = tt
 NeverFalls-counted before (m ∷ moments) = (omega arith, NeverFalls-counted (max before m) moments)
 
 -- a pull leads on
-pub CanHappen-pull : (events : List Event) (moment : ℕ) (visits : List Visit) → CanHappen builtin events
-    → AllByRecursion (λ (v : Visit). v.pull < length (filter_map pull_in events)) (log_of events)
-    → IsPull builtin.tree (length (filter_map pull_in events)) (max (fold max 0 (filter_map moment_in events)) moment) visits
+pub CanHappen-pull : GoesOn builtin.tree → (events : List Event) (moment : ℕ) (visits : List Visit) → CanHappen builtin events → moment_of visits ≡ max (fold max 0 (filter_map moment_in events)) moment
+    → (NeverFalls 0 (map moment_of (pulls (log_of events) ++ visits ∷ [])) → IsNextPull builtin.tree (log_of events) visits)
     → ((q : ℕ) → MatchOption (slice_get builtin.queues q) ⊤ (λ (spec : QueueSpec). IsQueueHistory spec.kind spec.capacity (history builtin q (events ++ pulled moment visits ∷ []))))
     → CanHappen builtin (events ++ pulled moment visits ∷ [])
-CanHappen-pull events moment visits can before is histories =
-    let count : length (filter_map pull_in events) ≡ length (visits_of 0 (log_of events)) =
-    ap length (sym can.pull_by_pull) ∙ length-map (range_with_len 0 (length (visits_of 0 (log_of events)))) _ ∙ length-range_with_len 0 (length (visits_of 0 (log_of events)))
-    in
+CanHappen-pull goes events moment visits can counted_is next histories =
     let log : log_of (events ++ pulled moment visits ∷ []) ≡ log_of events ++ visits =
     flat_map-append visits_in events (pulled moment visits ∷ []) ∙ ap (λ l. log_of events ++ l) (append-nil visits)
     in
     let turns : filter_map pull_in (events ++ pulled moment visits ∷ []) ≡ filter_map pull_in events ++ visits ∷ [] = filter_map-append pull_in events (pulled moment visits ∷ []) in
-    let later = pulls-more (log_of events) visits (length (filter_map pull_in events)) count before is.number is.once in
     let moments : map moment_of (filter_map pull_in events ++ visits ∷ []) ≡ counted 0 (filter_map moment_in (events ++ pulled moment visits ∷ [])) =
     map-append moment_of (filter_map pull_in events) (visits ∷ []) ∙ ap (λ l. l ++ moment_of visits ∷ []) can.moments
-    ∙ ap (λ m. counted 0 (filter_map moment_in events) ++ m ∷ []) is.moment_is
+    ∙ ap (λ m. counted 0 (filter_map moment_in events) ++ m ∷ []) counted_is
     ∙ sym (counted-more 0 (filter_map moment_in events) moment) ∙ ap (counted 0) (sym (filter_map-append moment_in events (pulled moment visits ∷ [])))
     in
     let never : NeverFalls 0 (map moment_of (pulls (log_of events) ++ visits ∷ [])) =
     rw can.pull_by_pull (rw moments (NeverFalls-counted 0 (filter_map moment_in (events ++ pulled moment visits ∷ []))))
     in
+    let more = goes.step (log_of events) visits can.run (next never) in
     record {
       numbered = λ s. rw (filter_map-append (number_from s) events (pulled moment visits ∷ []), append-nil) (can.numbered s);
-      run = rw log (IsRun-more builtin.tree (log_of events) visits _ _ (tt, tt) can.run is later never);
-      pull_by_pull = rw (log, turns) (later ∙ ap (λ ps. ps ++ visits ∷ []) can.pull_by_pull);
+      run = rw log more.run;
+      pull_by_pull = rw (log, turns) (more.last ∙ ap (λ ps. ps ++ visits ∷ []) can.pull_by_pull);
       moments = rw turns moments;
       histories = histories;
     }

@@ -2,7 +2,6 @@
 pub mod FieldLemmas
 pub mod LineLemmas
 pub mod QueueLemmas
-pub mod RunLemmas
 pub mod EventLemmas
 pub mod BuiltinLemmas
 pub mod RouterLemmas

@@ -1,6 +1,6 @@
 -- How the built-in router goes on by one event.
-use Rattle.std.proofs.Common.{◌≡◌, ℕ, ◌+◌, ◌<◌, ◌==◌, true, false, List, [], ◌∷◌, ◌++◌, length, max, fold, Option, refl, sym, ap, ◌∙◌, subst, arith}
-use Rattle.std.specs.List.{filter_map, AllByRecursion}
+use Rattle.std.proofs.Common.{◌≡◌, ℕ, ◌+◌, ◌==◌, true, false, List, [], ◌∷◌, ◌++◌, length, max, fold, Option, refl, sym, ap, ◌∙◌, subst}
+use Rattle.std.specs.List.{filter_map}
 use Rattle.std.proofs.lemmas.List.{append_assoc, append-nil, length-append}
 use Rattle.std.proofs.lemmas.List.Concat.{flat_map-append}
 use Rattle.std.proofs.lemmas.List.Elements.{filter_map-append}
@@ -12,12 +12,12 @@ use Rattle.clickpull.specs.declared.ring.Ring.{Ring}
 use Rattle.clickpull.specs.declared.router.Router.{Router}
 use Rattle.clickpull.specs.QueueHistory.{QueueEvent, IsQueueHistory, offer_events, answer}
 use Rattle.clk_sched.specs.Log.{asking}
+use Rattle.clk_sched.specs.Step.{GoesOn}
 use Rattle.clickpull.specs.Meaning.{Event, offered, pulled, number_from, numbers_of, pull_in, moment_in, visits_in, log_of, sends_to, at_queue, history}
 use Rattle.clickpull.specs.Builtin.{builtin}
 use Rattle.clickpull.specs.Router.{IsLeft, prio_visits, second_events, PrioPulls, IsAt, Pulls}
-use Rattle.clickpull.proofs.RunLemmas.{AllByRecursion-append, AllByRecursion-weaker}
 use Rattle.clickpull.proofs.EventLemmas.{builtin-histories, CanHappen-offer, CanHappen-pull}
-use Rattle.clickpull.proofs.BuiltinLemmas.{router_visits, IsPull-builtin, result-builtin, first-builtin, second-builtin}
+use Rattle.clickpull.proofs.BuiltinLemmas.{router_visits, moment-builtin, IsNextPull-builtin, result-builtin, first-builtin, second-builtin}
 
 -- what happened to a queue, with an offer of its sender or of another
 history-sent : (q : ℕ) (events : List Event) (p : Packet) (outcome : Offered) → sends_to builtin.senders p.sender q ≡ true
@@ -67,7 +67,6 @@ IsAt-offer events old new p outcome at same number first_sent second_sent first 
       second_capacity = second_capacity;
       log = same.log ∙ at.log ∙ sym log;
       pulls = same.pulls ∙ at.pulls ∙ ap length (sym turns);
-      pulls_before = subst (λ (n : ℕ). AllByRecursion (λ (v : Visit). v.pull < n) (log_of (events ++ offered p outcome ∷ []))) (sym same.pulls) (rw log at.pulls_before);
       now = same.now ∙ at.now ∙ ap (fold max 0) (sym moments);
     }
 
@@ -106,15 +105,14 @@ fold-more a [] m = refl
 fold-more a (n ∷ ms) m = fold-more (max a n) ms m
 
 -- A pull leads on.
-pub Pulls-builtin : (events : List Event) (old new : Router) (moment : ℕ) (mid : List Visit) (got : Option Packet) → IsAt events old
+pub Pulls-builtin : GoesOn builtin.tree → (events : List Event) (old new : Router) (moment : ℕ) (mid : List Visit) (got : Option Packet) → IsAt events old
     → PrioPulls old.scheduler new.scheduler old.log.items mid old.pulls (max old.now moment) got
     → new.log.items ≡ mid ++ asking old.pulls (max old.now moment) 0 0 got ∷ [] → new.first_sent ≡ old.first_sent → new.second_sent ≡ old.second_sent
     → new.pulls ≡ old.pulls + 1 → new.now ≡ max old.now moment → Pulls new moment got events
-Pulls-builtin events old new moment mid got at prio logged first_sent second_sent counted now =
+Pulls-builtin goes events old new moment mid got at prio logged first_sent second_sent counted now =
     let k = length (filter_map pull_in events) in
     let t = max (fold max 0 (filter_map moment_in events)) moment in
     let visits = router_visits k t prio.first prio.second in
-    let is = IsPull-builtin k t prio.first prio.second in
     let log_is : new.log.items ≡ log_of events ++ visits =
     logged ∙ ap (λ l. l ++ asking old.pulls (max old.now moment) 0 0 got ∷ []) (prio.visits ∙ ap (λ l. l ++ prio_visits old.pulls (max old.now moment) prio.first prio.second) at.log)
     ∙ append_assoc (log_of events) (prio_visits old.pulls (max old.now moment) prio.first prio.second) (asking old.pulls (max old.now moment) 0 0 got ∷ [])
@@ -145,7 +143,8 @@ Pulls-builtin events old new moment mid got at prio logged first_sent second_sen
       result = result-builtin k t prio.first prio.second ∙ sym prio.result;
       leads = record {
         can_happen =
-            CanHappen-pull events moment visits at.can_happen (subst (λ (n : ℕ). AllByRecursion (λ (v : Visit). v.pull < n) (log_of events)) at.pulls at.pulls_before) is
+            CanHappen-pull goes events moment visits at.can_happen (moment-builtin k t prio.first prio.second)
+            (IsNextPull-builtin (log_of events) k t prio.first prio.second (ap length (sym at.can_happen.pull_by_pull)))
             (builtin-histories (events ++ pulled moment visits ∷ []) (at_capacity _ new.scheduler.first first (prio.first_capacity ∙ at.first_capacity)) (at_capacity _ new.scheduler.second second (prio.second_capacity ∙ at.second_capacity)));
         first_sent = first_sent ∙ at.first_sent ∙ ap length (sym (filter_map-append (number_from 0) events (pulled moment visits ∷ []) ∙ append-nil (numbers_of 0 events)));
         second_sent = second_sent ∙ at.second_sent ∙ ap length (sym (filter_map-append (number_from 1) events (pulled moment visits ∷ []) ∙ append-nil (numbers_of 1 events)));
@@ -155,11 +154,6 @@ Pulls-builtin events old new moment mid got at prio logged first_sent second_sen
         second_capacity = prio.second_capacity ∙ at.second_capacity;
         log = log_is ∙ sym log;
         pulls = total ∙ sym (length-append (filter_map pull_in events) (visits ∷ [])) ∙ ap length (sym (filter_map-append pull_in events (pulled moment visits ∷ [])));
-        pulls_before =
-            subst (λ (n : ℕ). AllByRecursion (λ (v : Visit). v.pull < n) (log_of (events ++ pulled moment visits ∷ []))) (sym total)
-            (rw log (AllByRecursion-append (λ (v : Visit). v.pull < k + 1) (log_of events) visits
-            (AllByRecursion-weaker (λ (v : Visit). v.pull < old.pulls) (λ (v : Visit). v.pull < k + 1) (λ v l. omega (arith, at.pulls)) (log_of events) at.pulls_before)
-            (AllByRecursion-weaker (λ (v : Visit). v.pull ≡ k) (λ (v : Visit). v.pull < k + 1) (λ v e. omega arith) visits is.number)));
         now = now ∙ ap (λ n. max n moment) at.now ∙ sym (fold-more 0 (filter_map moment_in events) moment) ∙ ap (fold max 0) (sym (filter_map-append moment_in events (pulled moment visits ∷ [])));
       };
     }

@@ -1,5 +1,5 @@
 -- What the answer to a script is.
-use Rattle.std.specs.Prelude.{◌≡◌, ℕ, List, [], ◌∷◌, ◌++◌, length, map, max, ◌==◌, ◌&&◌, Bool, false, if◌then◌else◌, Option, Some, None, MatchOption, IfSome, ⊤, codes, decimal, slice_get}
+use Rattle.std.specs.Prelude.{◌≡◌, ℕ, List, [], ◌∷◌, ◌++◌, length, map, ◌==◌, ◌&&◌, Bool, if◌then◌else◌, Option, Some, None, MatchOption, IfSome, ⊤, codes, decimal, slice_get}
 use Rattle.std.specs.List.{flat_map, filter_map, range_with_len, list_any}
 use Rattle.clk_packet.specs.declared.packet.Packet.{Packet}
 use Rattle.clk_packet.specs.declared.packet.Kind.{Kind}
@@ -11,9 +11,10 @@ use Rattle.clickpull.specs.declared.script.Command.{Command}
 use Rattle.clickpull.specs.declared.script.Command.TheVariants.{Send, Pull}
 use Rattle.clk_sched.specs.declared.visit.Visit.{Visit}
 use Rattle.clickpull.specs.QueueHistory.{QueueEvent, offer_events, answer, IsQueueHistory}
-use Rattle.clk_sched.specs.Tree.{Tree, queue_at}
-use Rattle.clk_sched.specs.Log.{visits_of, pulls, moment_of, result_of}
+use Rattle.clk_sched.specs.Tree.{Tree}
+use Rattle.clk_sched.specs.Log.{visits_of, pulls, moment_of, counted, result_of}
 use Rattle.clk_sched.specs.Run.{IsRun}
+use Rattle.clk_sched.specs.Results.{asks_queue}
 use Rattle.clickpull.specs.Script.{script_fault, commands_of}
 
 pub record QueueSpec : Type 0 where
@@ -69,19 +70,6 @@ moment_in (pulled moment visits) = Some moment
 
 abbrev pub log_of : List Event → List Visit
 log_of events = flat_map visits_in events
-
--- The counted moments: each is the greater of the one before it and the moment handed in.
-abbrev pub counted : ℕ → List ℕ → List ℕ
-counted before [] = []
-counted before (moment ∷ moments) = max before moment ∷ counted (max before moment) moments
-
--- whether a visit asked this queue
-abbrev pub asks_queue : Tree → ℕ → Visit → Bool
-asks_queue tree q v = v.fresh && is_queue (queue_at tree v.node v.input)
-  where
-    is_queue : Option ℕ → Bool
-    is_queue None = false
-    is_queue (Some other) = other == q
 
 -- whether a sender sends to this queue
 abbrev pub sends_to : List SenderSpec → ℕ → ℕ → Bool

@@ -1,7 +1,7 @@
 -- What the router's parts do, in the words of the definitions.
-use Rattle.std.specs.Prelude.{◌≡◌, ℕ, ◌<◌, ◌≤◌, List, [], ◌∷◌, ◌++◌, length, fold, max, true, ◌==◌, ⊤, Option, Some, None}
+use Rattle.std.specs.Prelude.{◌≡◌, ℕ, ◌≤◌, List, [], ◌∷◌, ◌++◌, length, fold, max, true, ◌==◌, ⊤, Option, Some, None}
 use Rattle.std.specs.Option.{option_or}
-use Rattle.std.specs.List.{AllByRecursion, filter_map, list_any}
+use Rattle.std.specs.List.{filter_map, list_any}
 use Rattle.clk_packet.specs.declared.packet.Packet.{Packet}
 use Rattle.clk_packet.specs.declared.packet.Kind.TheVariants.{TailDrop}
 use Rattle.clk_sched.specs.declared.visit.Visit.{Visit}
@@ -51,7 +51,6 @@ pub record IsAt (events : List Event) (router : Router) : Type 0 where
   pub second_capacity : router.scheduler.second.capacity ≡ 2
   pub log : router.log.items ≡ log_of events
   pub pulls : router.pulls ≡ length (filter_map pull_in events)
-  pub pulls_before : AllByRecursion (λ (v : Visit). v.pull < router.pulls) (log_of events)
   pub now : router.now ≡ fold max 0 (filter_map moment_in events)
 
 -- One more pull, at a moment that was handed in, led on from these events to this result.

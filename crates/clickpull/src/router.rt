@@ -5,7 +5,7 @@ ghost use Rattle.std.specs.Prelude.{◌≡◌, ◌+◌, ◌^◌, ◌<◌, ◌≤
 use crate::prio::PrioSched;
 use crate::ring::Ring;
 use clk_packet::{Fault, Offered, Packet};
-use clk_sched::Visit;
+use clk_sched::{Visit, runs_go_on};
 use std::alloc::Global;
 
 /// The numbers of its senders.
@@ -81,6 +81,8 @@ impl Router {
         ensures leads { IfOk result (λ got. (events : _) → IsAt events self.old → Pulls self.new moment got events) }
         ensures fault { IsOkUnless result Fault.Memory }
     {
+        // The log stays a run by this law, which does nothing.
+        runs_go_on();
         let now = self.now.max(moment);
         let got = self.scheduler.pull(&mut self.log, self.pulls, now)?;
         self.log

@@ -1,5 +1,5 @@
 -- Runs, pull by pull: what a tree does in one pull, after those before it.
-use Rattle.std.proofs.Common.{◌≡◌, ℕ, suc, ◌+◌, ◌<◌, ◌≤◌, Bool, true, false, List, [], ◌∷◌, ◌++◌, map, refl, mod-lt, arith, reverse, append_assoc, append-nil, ap, ◌∙◌, sym}
+use Rattle.std.proofs.Common.{◌≡◌, ℕ, suc, ◌+◌, ◌<◌, ◌≤◌, Bool, true, false, List, [], ◌∷◌, ◌++◌, map, refl, mod-lt, arith, reverse, append_assoc, append-nil, ap, ◌∙◌, sym, subst}
 use Rattle.std.specs.List.{AllByRecursion, list_any}
 use Rattle.std.specs.Bool.{⊤}
 use Rattle.std.proofs.lemmas.List.{reverse-append}
@@ -9,11 +9,9 @@ use Rattle.clk_sched.specs.Turns.{Turn, EachAfter, all_visits}
 use Rattle.clk_sched.specs.Log.{visits_of, turn, asks, pulls_below}
 use Rattle.clk_sched.specs.Laws.{Obeys}
 use Rattle.clk_sched.specs.Laws.Priority.{IsPrioTurn}
-use Rattle.clk_sched.specs.Laws.RoundRobin.{IsRoundRobinTurn}
 use Rattle.clk_sched.specs.Laws.Deficit.{IsDeficitVisit, EndAtPass, next_input}
-use Rattle.clk_sched.specs.Laws.Stride.{IsStrideTurn}
-use Rattle.clk_sched.specs.Laws.Shaper.{IsShaperTurn}
 use Rattle.clk_sched.specs.Run.{GetsResult, EachObeys}
+use Rattle.clk_sched.specs.Step.{visits_before, AllowsTurn, EachAllows}
 use Rattle.clk_sched.proofs.Members.{each-from_all, each-weaker, each-both, each-mapped, each-filtered}
 
 -- what follows put onto what came before, which has the latest first
@@ -21,31 +19,25 @@ abbrev pub onto : {X : Type 0} → List X → List X → List X
 onto [] earlier = earlier
 onto (x ∷ xs) earlier = onto xs (x ∷ earlier)
 
-onto-append : {X : Type 0} (xs earlier : List X) → onto xs earlier ≡ reverse xs ++ earlier
+pub onto-append : {X : Type 0} (xs earlier : List X) → onto xs earlier ≡ reverse xs ++ earlier
 onto-append [] earlier = refl
 onto-append (x ∷ xs) earlier = onto-append xs (x ∷ earlier) ∙ sym (append_assoc (reverse xs) (x ∷ []) earlier) ∙ ap (λ l. l ++ earlier) (sym (reverse-append (x ∷ []) xs))
 
 pub onto-reverse : {X : Type 0} (xs : List X) → onto xs [] ≡ reverse xs
 onto-reverse xs = onto-append xs [] ∙ append-nil (reverse xs)
 
--- the visits of turns that have the latest first
-abbrev pub visits_before : List Turn → List Visit
-visits_before [] = []
-visits_before (t ∷ earlier) = onto t.visits (visits_before earlier)
+-- the next input of a DRRSched is one of its inputs
+abbrev pub IsNextWithin : Class → ℕ → List Turn → Type 0
+IsNextWithin prio inputs earlier = ⊤
+IsNextWithin round_robin inputs earlier = ⊤
+IsNextWithin (drr quantum) inputs earlier = 1 ≤ inputs → next_input inputs (visits_before earlier) < inputs
+IsNextWithin (stride tickets) inputs earlier = ⊤
+IsNextWithin (shaper rate burst) inputs earlier = ⊤
 
--- the visits of a DRRSched in one turn
-pub record IsDeficitTurn (quantum inputs : ℕ) (earlier : List Turn) (t : Turn) : Type 0 where
-  pub visits : EachAfter (IsDeficitVisit quantum inputs) (visits_before earlier) t.visits
-  pub pull : EndAtPass inputs t.visits
-  pub next : 1 ≤ inputs → next_input inputs (visits_before earlier) < inputs
-
--- what a class allows in one turn after earlier ones, the latest first
-abbrev pub AllowsTurn : Class → ℕ → List Turn → Turn → Type 0
-AllowsTurn prio inputs earlier t = IsPrioTurn inputs t
-AllowsTurn round_robin inputs earlier t = IsRoundRobinTurn inputs earlier t
-AllowsTurn (drr quantum) inputs earlier t = IsDeficitTurn quantum inputs earlier t
-AllowsTurn (stride tickets) inputs earlier t = IsStrideTurn tickets earlier t
-AllowsTurn (shaper rate burst) inputs earlier t = IsShaperTurn rate burst earlier t
+-- a turn of a run
+pub record IsTurnWithin (class : Class) (inputs : ℕ) (earlier : List Turn) (t : Turn) : Type 0 where
+  pub law : AllowsTurn class inputs earlier t
+  pub next : IsNextWithin class inputs earlier
 
 pub each-split : {X : Type 0} (P : List X → X → Type 0) (earlier us vs : List X) → EachAfter P earlier (us ++ vs) → EachAfter P earlier us × EachAfter P (onto us earlier) vs
 each-split P earlier [] vs h = (tt, h)
@@ -66,34 +58,28 @@ turn-within quantum inputs earlier (v ∷ visits) some l h = turn-within quantum
 
 deficit-turns : (quantum inputs : ℕ) (earlier turns : List Turn) → EachAfter (IsDeficitVisit quantum inputs) (visits_before earlier) (all_visits turns)
     → AllByRecursion (λ (t : Turn). EndAtPass inputs t.visits) turns → (1 ≤ inputs → next_input inputs (visits_before earlier) < inputs)
-    → EachAfter (IsDeficitTurn quantum inputs) earlier turns
+    → EachAfter (IsTurnWithin (drr quantum) inputs) earlier turns
 deficit-turns quantum inputs earlier [] h k next = tt
 deficit-turns quantum inputs earlier (t ∷ turns) h k next =
-    let parts = each-split (IsDeficitVisit quantum inputs) (visits_before earlier) t.visits (all_visits turns) h in (
-      record { visits = parts.0; pull = k.0; next = next },
-      deficit-turns quantum inputs (t ∷ earlier) turns parts.1 k.1 (λ some. turn-within quantum inputs (visits_before earlier) t.visits some (next some) parts.0),
+    let parts = each-split (IsDeficitVisit quantum inputs) (visits_before earlier) t.visits (all_visits turns) h in
+    let after = onto-append t.visits (visits_before earlier) in (
+      record { law = (parts.0, k.0); next = next },
+      deficit-turns quantum inputs (t ∷ earlier) turns (subst (λ e. EachAfter (IsDeficitVisit quantum inputs) e (all_visits turns)) after parts.1) k.1
+          (λ some. subst (λ e. next_input inputs e < inputs) after (turn-within quantum inputs (visits_before earlier) t.visits some (next some) parts.0)),
     )
 
-pub turns-allowed : (class : Class) (inputs : ℕ) (turns : List Turn) → Obeys class inputs turns → EachAfter (AllowsTurn class inputs) [] turns
-turns-allowed prio inputs turns h = each-from_all (IsPrioTurn inputs) [] turns h
-turns-allowed round_robin inputs turns h = h
+each-within : (class : Class) (inputs : ℕ) (earlier turns : List Turn) → ((e : List Turn) → IsNextWithin class inputs e) → EachAfter (AllowsTurn class inputs) earlier turns
+    → EachAfter (IsTurnWithin class inputs) earlier turns
+each-within class inputs earlier turns next h = each-weaker (AllowsTurn class inputs) (IsTurnWithin class inputs) (λ e t k. record { law = k; next = next e }) earlier turns h
+
+pub turns-allowed : (class : Class) (inputs : ℕ) (turns : List Turn) → Obeys class inputs turns → EachAfter (IsTurnWithin class inputs) [] turns
+turns-allowed prio inputs turns h = each-within prio inputs [] turns (λ e. tt) (each-from_all (IsPrioTurn inputs) [] turns h)
+turns-allowed round_robin inputs turns h = each-within round_robin inputs [] turns (λ e. tt) h
 turns-allowed (drr quantum) inputs turns h = deficit-turns quantum inputs [] turns h.visits h.pulls (λ some. some)
-turns-allowed (stride tickets) inputs turns h = h
-turns-allowed (shaper rate burst) inputs turns h = h
+turns-allowed (stride tickets) inputs turns h = each-within (stride tickets) inputs [] turns (λ e. tt) h
+turns-allowed (shaper rate burst) inputs turns h = each-within (shaper rate burst) inputs [] turns (λ e. tt) h
 
--- What the schedulers of a row do in one pull: each that is pulled has a turn that its class allows, and what was got from
--- it is its result. The row stands as for EachObeys; the pulls before have the latest first.
-abbrev pub EachAllows : ℕ → ℕ → ℕ → Row → List (List Visit) → List Visit → Type 0
-EachAllows above first next end earlier pull = ⊤
-EachAllows above first next (leaf q row) earlier pull = EachAllows above (suc first) next row earlier pull
-EachAllows above first next (node class inputs row) earlier pull =
-    (list_any (asks first) (visits_of above pull) ≡ true
-    → AllowsTurn class (width inputs) (map (turn next) (pulls_below above first earlier)) (turn next pull)
-    × EachAllows next 0 (suc next) inputs (pulls_below above first earlier) pull)
-    × GetsResult above first next pull
-    × EachAllows above (suc first) (suc (next + nodes inputs)) row earlier pull
-
-pub each-allowed : (above first next : ℕ) (row : Row) (pulled : List (List Visit)) → EachObeys above pulled first next row → EachAfter (EachAllows above first next row) [] pulled
+pub each-allowed : (above first next : ℕ) (row : Row) (pulled : List (List Visit)) → EachObeys above pulled first next row → EachAfter (EachAllows IsTurnWithin above first next row) [] pulled
 each-allowed above first next end pulled h = each-from_all (λ p. ⊤) [] pulled (all pulled)
   where
     all : (ps : List (List Visit)) → AllByRecursion (λ (p : List Visit). ⊤) ps
@@ -101,23 +87,23 @@ each-allowed above first next end pulled h = each-from_all (λ p. ⊤) [] pulled
     all (p ∷ ps) = (tt, all ps)
 each-allowed above first next (leaf q row) pulled h = each-allowed above (suc first) next row pulled h
 each-allowed above first next (node class inputs row) pulled h =
-    each-weaker _ (EachAllows above first next (node class inputs row)) (λ e p both. (λ asked. (both.0.0 asked, both.0.1 asked), both.1.0, both.1.1)) [] pulled
+    each-weaker _ (EachAllows IsTurnWithin above first next (node class inputs row)) (λ e p both. (λ asked. (both.0.0 asked, both.0.1 asked), both.1.0, both.1.1)) [] pulled
     (each-both _ _ [] pulled (each-both _ _ [] pulled turns (below (each-allowed next 0 (suc next) inputs (pulls_below above first pulled) h.2))) (each-both _ _ [] pulled results (each-allowed above (suc first) (suc (next + nodes inputs)) row pulled h.3)))
   where
     asked : List Visit → Bool
     asked pull = list_any (asks first) (visits_of above pull)
 
     Allowed : List (List Visit) → List Visit → Type 0
-    Allowed e p = AllowsTurn class (width inputs) (map (turn next) e) (turn next p)
+    Allowed e p = IsTurnWithin class (width inputs) (map (turn next) e) (turn next p)
 
     turns : EachAfter (λ e p. asked p ≡ true → Allowed (pulls_below above first e) p) [] pulled
     turns =
         each-filtered Allowed asked [] pulled
-        (each-mapped (AllowsTurn class (width inputs)) (turn next) [] (pulls_below above first pulled) (turns-allowed class (width inputs) _ h.0))
+        (each-mapped (IsTurnWithin class (width inputs)) (turn next) [] (pulls_below above first pulled) (turns-allowed class (width inputs) _ h.0))
 
-    below : EachAfter (EachAllows next 0 (suc next) inputs) [] (pulls_below above first pulled)
-        → EachAfter (λ e p. asked p ≡ true → EachAllows next 0 (suc next) inputs (pulls_below above first e) p) [] pulled
-    below k = each-filtered (EachAllows next 0 (suc next) inputs) asked [] pulled k
+    below : EachAfter (EachAllows IsTurnWithin next 0 (suc next) inputs) [] (pulls_below above first pulled)
+        → EachAfter (λ e p. asked p ≡ true → EachAllows IsTurnWithin next 0 (suc next) inputs (pulls_below above first e) p) [] pulled
+    below k = each-filtered (EachAllows IsTurnWithin next 0 (suc next) inputs) asked [] pulled k
 
     results : EachAfter (λ e p. GetsResult above first next p) [] pulled
     results = each-from_all (GetsResult above first next) [] pulled h.1

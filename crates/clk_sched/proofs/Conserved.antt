@@ -6,14 +6,14 @@ use Rattle.std.proofs.lemmas.Bool.Decides.{nat_tests}
 use Rattle.std.proofs.lemmas.List.Folds.{flat_map-map}
 use Rattle.clk_packet.specs.declared.packet.Packet.{Packet}
 use Rattle.clk_sched.specs.declared.visit.Visit.{Visit}
-use Rattle.clk_sched.specs.Tree.{Class, prio, round_robin, drr, stride, shaper, Row, end, leaf, node, Tree, root, nodes, width, leaves, stands_in, are_distinct, leaves_distinct}
+use Rattle.clk_sched.specs.Tree.{Class, prio, round_robin, drr, stride, shaper, Row, end, leaf, node, Tree, root, nodes, width, leaves, stands_in, are_distinct, leaves_distinct, is_number}
 use Rattle.clk_sched.specs.Turns.{Turn, EachAfter, all_visits, IsPlain, UpToFirst, AsksInOrder}
 use Rattle.clk_sched.specs.Laws.{Obeys}
 use Rattle.clk_sched.specs.Laws.Device.{IsDeviceTurn}
 use Rattle.clk_sched.specs.Laws.Deficit.{head_at}
 use Rattle.clk_sched.specs.Log.{visits_of, in_pull, pulls, turn, asks, pulls_below}
 use Rattle.clk_sched.specs.Run.{EachObeys, IsRun}
-use Rattle.clk_sched.specs.Results.{Traced, traced, is_queue, leaf_packets, traced_emitted, traced_heads, own_heads, held_at, origin_in, passed_input, asked_pull, first_pull}
+use Rattle.clk_sched.specs.Results.{Traced, traced, leaf_packets, traced_emitted, traced_heads, own_heads, held_at, origin_in, passed_input, asked_pull, first_pull}
 use Rattle.clk_sched.specs.Conservation.{from_queue, ConservesPackets}
 use Rattle.clk_sched.proofs.Members.{of-all, all-append}
 use Rattle.clk_sched.proofs.Allowed.{onto-reverse, turns-allowed}
@@ -55,7 +55,7 @@ record IsConservedBelow (tree : Tree) (log : List Visit) (q above first next : �
   low : first ≤ input
   high : input < first + width row
   conserved : leaf_packets tree q log ≡ from_queue q (gives log above first next row input) ++ from_queue q (traced_heads log next row)
-  alone : (j k : ℕ) → j ≢ input → is_queue q (origin_in log first next row j k) ≡ false
+  alone : (j k : ℕ) → j ≢ input → is_number q (origin_in log first next row j k) ≡ false
 
 -- the packets that a queue gave, in the log and among the visits of the node at which it stands
 leaf-log : (q k above first : ℕ) → (k == q) ≡ true → (log : List Visit)
@@ -109,8 +109,8 @@ conserved-here tree log q above first next k row e h only =
         self : (m : ℕ) → (m == m) ≡ true
         self m = grind (arith, nat_tests)
 
-    by_test : (j p : ℕ) (b : Bool) → (first == j) ≡ b → j ≢ first → is_queue q (origin_in log (suc first) next row j p) ≡ false
-        → is_queue q (if b then Some k else origin_in log (suc first) next row j p) ≡ false
+    by_test : (j p : ℕ) (b : Bool) → (first == j) ≡ b → j ≢ first → is_number q (origin_in log (suc first) next row j p) ≡ false
+        → is_number q (if b then Some k else origin_in log (suc first) next row j p) ≡ false
     by_test j p true t d rest = absurd (d (grind (arith, nat_tests)))
     by_test j p false t d rest = rest
 
@@ -129,7 +129,7 @@ conserved-after_leaf tree log q above first next k row e rest =
     there : (p : ℕ) → origin_in log first next (leaf k row) rest.input p ≡ origin_in log (suc first) next row rest.input p
     there p = let differs : (first == rest.input) ≡ false = (let l = rest.low in grind (arith, nat_tests)) in rw differs refl
 
-    by_test : (j p : ℕ) (b : Bool) → is_queue q (origin_in log (suc first) next row j p) ≡ false → is_queue q (if b then Some k else origin_in log (suc first) next row j p) ≡ false
+    by_test : (j p : ℕ) (b : Bool) → is_number q (origin_in log (suc first) next row j p) ≡ false → is_number q (if b then Some k else origin_in log (suc first) next row j p) ≡ false
     by_test j p true h = e
     by_test j p false h = h
 
@@ -154,14 +154,14 @@ conserved-after_node tree log q above first next class inputs row h rest =
     inside : ℕ → Option ℕ
     inside p = origin_in log 0 (suc next) inputs (passed_input (visits_of next (in_pull p log))) (asked_pull (passed_input (visits_of next (in_pull p log))) p (reverse (visits_of next log)))
 
-    by_test : (j p : ℕ) (b : Bool) → is_queue q (inside p) ≡ false → is_queue q (origin_in log (suc first) (suc (next + nodes inputs)) row j p) ≡ false
-        → is_queue q (if b then inside p else origin_in log (suc first) (suc (next + nodes inputs)) row j p) ≡ false
+    by_test : (j p : ℕ) (b : Bool) → is_number q (inside p) ≡ false → is_number q (origin_in log (suc first) (suc (next + nodes inputs)) row j p) ≡ false
+        → is_number q (if b then inside p else origin_in log (suc first) (suc (next + nodes inputs)) row j p) ≡ false
     by_test j p true g k = g
     by_test j p false g k = k
 
 -- the heads of a node over the input from which a queue's packets come
 own-held : (log : List Visit) (q x : ℕ) (class : Class) (inputs : Row) (turns : List Turn) (i : ℕ) → Obeys class (width inputs) turns → all_visits turns ≡ visits_of x log → i < width inputs
-    → ((j k : ℕ) → j ≢ i → is_queue q (origin_in log 0 (suc x) inputs j k) ≡ false) → from_queue q (own_heads log x inputs class) ≡ from_queue q (held_at log x inputs i)
+    → ((j k : ℕ) → j ≢ i → is_number q (origin_in log 0 (suc x) inputs j k) ≡ false) → from_queue q (own_heads log x inputs class) ≡ from_queue q (held_at log x inputs i)
 own-held log q x class inputs turns i law all l alone = by_class class law
   where
     none : (c : Class) → IsHeadless c → Obeys c (width inputs) turns → [] ≡ from_queue q (held_at log x inputs i)
@@ -237,8 +237,8 @@ conserved-node tree log q above first next class inputs row pulled h obeys other
     inside : ℕ → Option ℕ
     inside p = origin_in log 0 (suc next) inputs (passed_input (visits_of next (in_pull p log))) (asked_pull (passed_input (visits_of next (in_pull p log))) p (reverse (visits_of next log)))
 
-    by_test : (j p : ℕ) (b : Bool) → (first == j) ≡ b → j ≢ first → is_queue q (origin_in log (suc first) (suc (next + nodes inputs)) row j p) ≡ false
-        → is_queue q (if b then inside p else origin_in log (suc first) (suc (next + nodes inputs)) row j p) ≡ false
+    by_test : (j p : ℕ) (b : Bool) → (first == j) ≡ b → j ≢ first → is_number q (origin_in log (suc first) (suc (next + nodes inputs)) row j p) ≡ false
+        → is_number q (if b then inside p else origin_in log (suc first) (suc (next + nodes inputs)) row j p) ≡ false
     by_test j p true t d rest = absurd (d (grind (arith, nat_tests)))
     by_test j p false t d rest = rest
 
@@ -271,7 +271,7 @@ conserved-below tree log q (node class inputs row) above first next pulled h obe
     by_test false e s below other rest = conserved-after_node tree log q above first next class inputs row e (rest e s)
 
 -- what the device got is what was emitted
-device-emits : (tree : Tree) (log : List Visit) (i : ℕ) → i ≡ 0 → IsRun tree log → gives log 0 0 1 (root tree) i ≡ traced_emitted tree log
+pub device-emits : (tree : Tree) (log : List Visit) (i : ℕ) → i ≡ 0 → IsRun tree log → gives log 0 0 1 (root tree) i ≡ traced_emitted tree log
 device-emits tree log i zero_is run = flat_map-same _ _ (visits_of 0 log) (λ v m. one v (of-all (λ (u : Visit). IsPlain u × (u.input ≡ 0)) v (visits_of 0 log) plain m))
   where
     turn-plain : (us : List Visit) → AsksInOrder (0 ∷ []) us → AllByRecursion (λ (u : Visit). IsPlain u × (u.input ≡ 0)) us

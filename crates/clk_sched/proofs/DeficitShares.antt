@@ -6,9 +6,9 @@ use Rattle.std.proofs.lemmas.Bool.{false≢true}
 use Rattle.std.proofs.lemmas.Bool.Decides.{nat_tests}
 use Rattle.clk_packet.specs.declared.packet.Packet.{Packet}
 use Rattle.clk_sched.specs.declared.visit.Visit.{Visit}
-use Rattle.clk_sched.specs.Turns.{EachAfter, all_visits}
-use Rattle.clk_sched.specs.Laws.Deficit.{IsDeficitVisit, next_input, arrives, arrivals, passed_bytes, bytes_of, fits}
-use Rattle.clk_sched.specs.Service.{arrivals_in, bytes_in, AlwaysGets, Near, GotShort, DeficitShares}
+use Rattle.clk_sched.specs.Turns.{Turn, EachAfter, all_visits}
+use Rattle.clk_sched.specs.Laws.Deficit.{IsDeficitVisit, IsDeficitRun, next_input, arrives, arrivals, passed_bytes, bytes_of, fits}
+use Rattle.clk_sched.specs.Service.{arrivals_in, bytes_in, AlwaysGets, Near, HasLimitedLength, SharesByDeficit}
 use Rattle.clk_sched.proofs.Members.{all-split}
 use Rattle.clk_sched.proofs.Allowed.{onto, onto-reverse, each-split}
 
@@ -55,7 +55,7 @@ spare-none quantum inputs (u ∷ earlier) v i e d = by_passed u.passed (u.input 
     by_passed true false f k = refl
     by_passed true true f k = let same : (v.input == i) ≡ true = grind (arith, nat_tests) in absurd (false≢true (sym d ∙ same))
 
-covers-visit : (quantum inputs : ℕ) (earlier : List Visit) (v : Visit) → IsDeficitVisit quantum inputs earlier v → GotShort v → IsCovered quantum earlier → IsCovered quantum (v ∷ earlier)
+covers-visit : (quantum inputs : ℕ) (earlier : List Visit) (v : Visit) → IsDeficitVisit quantum inputs earlier v → HasLimitedLength v → IsCovered quantum earlier → IsCovered quantum (v ∷ earlier)
 covers-visit quantum inputs earlier v law short h i = by_cases (v.input == i) v.passed v.got refl law.passes short
   where
     p : ℕ
@@ -79,7 +79,7 @@ covers-visit quantum inputs earlier v law short h i = by_cases (v.input == i) v.
         let longer : law.deficit < x.length = grind (arith, nat_tests) in
         (omega (arith, is), omega (arith, is, longer, s))
 
-covers-all : (quantum inputs : ℕ) (earlier visits : List Visit) → EachAfter (IsDeficitVisit quantum inputs) earlier visits → AllByRecursion GotShort visits → IsCovered quantum earlier → IsCovered quantum (onto visits earlier)
+covers-all : (quantum inputs : ℕ) (earlier visits : List Visit) → EachAfter (IsDeficitVisit quantum inputs) earlier visits → AllByRecursion HasLimitedLength visits → IsCovered quantum earlier → IsCovered quantum (onto visits earlier)
 covers-all quantum inputs earlier [] law short h = h
 covers-all quantum inputs earlier (v ∷ visits) law short h = covers-all quantum inputs (v ∷ earlier) visits law.1 short.1 (covers-visit quantum inputs earlier v law.0 short.0 h)
 
@@ -263,7 +263,7 @@ arrival-within : (w : ℕ) (earlier visits : List Visit) → 0 < w → next_arri
 arrival-within w earlier [] some h = h
 arrival-within w earlier (v ∷ visits) some h = arrival-within w (v ∷ earlier) visits some (mod-lt (v.input + 1) some)
 
-pub deficit-shares : DeficitShares
+pub deficit-shares : (quantum width : ℕ) (turns : List Turn) → 0 < width → AllByRecursion HasLimitedLength (all_visits turns) → IsDeficitRun quantum width turns → SharesByDeficit quantum width turns
 deficit-shares quantum width turns some short run =
     record {
       arrivals_near = λ before range after e i j il jl. order before range after e i j il jl;
@@ -274,21 +274,23 @@ deficit-shares quantum width turns some short run =
     law : (visits : List Visit) → all_visits turns ≡ visits → EachAfter (IsDeficitVisit quantum width) [] visits
     law visits e = subst (EachAfter (IsDeficitVisit quantum width) []) e run.visits
 
-    shorts : (visits : List Visit) → all_visits turns ≡ visits → AllByRecursion GotShort visits
-    shorts visits e = subst (AllByRecursion GotShort) e short
+    shorts : (visits : List Visit) → all_visits turns ≡ visits → AllByRecursion HasLimitedLength visits
+    shorts visits e = subst (AllByRecursion HasLimitedLength) e short
 
     first-covered : IsCovered quantum []
     first-covered i = (omega arith, omega arith)
 
     covered : (before rest : List Visit) → all_visits turns ≡ before ++ rest → IsCovered quantum (onto before [])
     covered before rest e =
-        covers-all quantum width [] before (each-split (IsDeficitVisit quantum width) [] before rest (law (before ++ rest) e)).0 (all-split GotShort before rest (shorts (before ++ rest) e)).0 first-covered
+        covers-all quantum width [] before (each-split (IsDeficitVisit quantum width) [] before rest (law (before ++ rest) e)).0 (all-split HasLimitedLength before rest (shorts (before ++ rest) e)).0 first-covered
 
     bound : (before after : List Visit) (v : Visit) → all_visits turns ≡ before ++ v ∷ after
-        → quantum * (arrives (reverse before) + arrivals v.input (reverse before)) ≤ passed_bytes v.input (reverse before) + (quantum + 65534)
+        → (passed_bytes v.input (reverse before) ≤ quantum * (arrives (reverse before) + arrivals v.input (reverse before)))
+        × (quantum * (arrives (reverse before) + arrivals v.input (reverse before)) ≤ passed_bytes v.input (reverse before) + (quantum + 65534))
     bound before after v e =
-        subst (λ earlier. quantum * (arrives earlier + arrivals v.input earlier) ≤ passed_bytes v.input earlier + (quantum + 65534)) (onto-reverse before)
-        (deficit-bound quantum width (onto before []) v.input (each-split (IsDeficitVisit quantum width) [] before (v ∷ after) (law (before ++ v ∷ after) e)).1.0.in_turn (covered before (v ∷ after) e))
+        let law = (each-split (IsDeficitVisit quantum width) [] before (v ∷ after) (law (before ++ v ∷ after) e)).1.0 in
+        subst (λ earlier. (passed_bytes v.input earlier ≤ quantum * (arrives earlier + arrivals v.input earlier)) × (quantum * (arrives earlier + arrivals v.input earlier) ≤ passed_bytes v.input earlier + (quantum + 65534)))
+        (onto-reverse before) (let is = law.deficit_is in omega (arith, is), deficit-bound quantum width (onto before []) v.input law.in_turn (covered before (v ∷ after) e))
 
     order : (before range after : List Visit) → all_visits turns ≡ before ++ (range ++ after) → (i j : ℕ) → i < width → j < width
         → Near 1 (arrivals_in i (reverse before) range) (arrivals_in j (reverse before) range)
@@ -335,7 +337,7 @@ deficit-shares quantum width turns some short run =
         stop =
             covers-all quantum width earlier range
             (each-split (IsDeficitVisit quantum width) earlier range after (each-split (IsDeficitVisit quantum width) [] before (range ++ after) (law (before ++ (range ++ after)) e)).1).0
-            (all-split GotShort range after (all-split GotShort before (range ++ after) (shorts (before ++ (range ++ after)) e)).1).0 (covered before (range ++ after) e) i
+            (all-split HasLimitedLength range after (all-split HasLimitedLength before (range ++ after) (shorts (before ++ (range ++ after)) e)).1).0 (covered before (range ++ after) e) i
 
         adds : (bytes_in i range + passed_bytes i earlier ≡ passed_bytes i (onto range earlier)) × (arrivals_in i earlier range + arrivals i earlier ≡ arrivals i (onto range earlier))
         adds = range-adds i earlier range gets

@@ -11,7 +11,8 @@ use Rattle.clk_sched.specs.Laws.{Obeys}
 use Rattle.clk_sched.specs.Laws.Deficit.{IsDeficitVisit, EndAtPass, head_at}
 use Rattle.clk_sched.specs.Laws.Shaper.{has_room}
 use Rattle.clk_sched.proofs.Members.{all-append, each-weaker}
-use Rattle.clk_sched.proofs.Allowed.{onto, AllowsTurn, turns-allowed}
+use Rattle.clk_sched.specs.Step.{AllowsTurn}
+use Rattle.clk_sched.proofs.Allowed.{onto, IsTurnWithin, turns-allowed}
 use Rattle.clk_sched.proofs.Heads.{KeepsHead}
 
 -- a visit that passed is the last
@@ -40,7 +41,7 @@ deficit-last (suc left) (v ∷ visits) e = by_passed v.passed refl e (deficit-la
 pub turn-last : (class : Class) (inputs : ℕ) (earlier : List Turn) (t : Turn) → AllowsTurn class inputs earlier t → PassesLast t.visits
 turn-last prio inputs earlier t h = plain-last _ t.visits h.plain h.in_order
 turn-last round_robin inputs earlier t h = plain-last _ t.visits h.plain h.in_order
-turn-last (drr quantum) inputs earlier t h = deficit-last inputs t.visits h.pull
+turn-last (drr quantum) inputs earlier t h = deficit-last inputs t.visits h.1
 turn-last (stride tickets) inputs earlier t h = plain-last _ t.visits h.plain h.in_order
 turn-last (shaper rate burst) inputs earlier t h = by_room (has_room rate burst t.moment 0 earlier) h
   where
@@ -67,10 +68,10 @@ turn-plain (shaper rate burst) inputs earlier t none h = by_room (has_room rate 
     by_room true k = k.plain
     by_room false k = subst (AllByRecursion IsPlain) (sym k) tt
 
-turns-plain : (class : Class) (inputs : ℕ) (earlier turns : List Turn) → IsHeadless class → EachAfter (AllowsTurn class inputs) earlier turns → AllByRecursion IsPlain (all_visits turns)
+turns-plain : (class : Class) (inputs : ℕ) (earlier turns : List Turn) → IsHeadless class → EachAfter (IsTurnWithin class inputs) earlier turns → AllByRecursion IsPlain (all_visits turns)
 turns-plain class inputs earlier [] none h = tt
 turns-plain class inputs earlier (t ∷ turns) none h =
-    all-append IsPlain t.visits (all_visits turns) (turn-plain class inputs earlier t none h.0) (turns-plain class inputs (t ∷ earlier) turns none h.1)
+    all-append IsPlain t.visits (all_visits turns) (turn-plain class inputs earlier t none h.0.law) (turns-plain class inputs (t ∷ earlier) turns none h.1)
 
 -- no input holds a head after these visits
 abbrev pub HoldsNone : List Visit → Type 0

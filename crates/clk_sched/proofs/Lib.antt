@@ -12,6 +12,8 @@ pub mod Origins
 pub mod Pulled
 pub mod Gives
 pub mod Conserved
+pub mod CameFrom
+pub mod GoesOn
 pub mod DeficitShares
 pub mod StrideShares
 pub mod Shares

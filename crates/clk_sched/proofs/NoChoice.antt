@@ -14,7 +14,8 @@ use Rattle.clk_sched.specs.Run.{GetsResult, IsRun}
 use Rattle.clk_sched.specs.Choice.{is_answer, answers, LeavesNoChoice}
 use Rattle.clk_sched.proofs.Members.{In, of-all, in-filter, filter-in, any-in, each-from_all, each-weaker, each-both, each-mapped}
 use Rattle.clk_sched.proofs.Numbering.{StandsAt, stands-root, stands-after_leaf, stands-after_node, stands-inputs, at-leaf, at-node}
-use Rattle.clk_sched.proofs.Allowed.{EachAllows, each-allowed}
+use Rattle.clk_sched.specs.Step.{EachAllows}
+use Rattle.clk_sched.proofs.Allowed.{IsTurnWithin, each-allowed}
 use Rattle.clk_sched.proofs.PullByPull.{asked, IsNumbered, each-numbered}
 use Rattle.clk_sched.proofs.SameTurns.{Sides, Reads, reads-append, GetAlike, plain-same, turn-same}
 
@@ -119,8 +120,8 @@ leaf-alike tree p q above first next k row stands rest i v u mv mu iv iu l h fv 
     by_test false t c = let same = rest i v u mv mu iv iu (grind (arith, nat_tests)) (omega arith) fv fu s r c in (same.block, same.got, same.left)
 
 node-alike : (tree : Tree) (p q : List Visit) → ArePaired p q → (earlier : List (List Visit)) (above first next : ℕ) (class : Class) (inputs row : Row) → StandsAt tree above first next (node class inputs row)
-    → IsWellFormed (node class inputs row) → EachAllows above first next (node class inputs row) earlier p → EachAllows above first next (node class inputs row) earlier q
-    → (EachAllows next 0 (suc next) inputs (pulls_below above first earlier) p → EachAllows next 0 (suc next) inputs (pulls_below above first earlier) q → AskAlike tree p q next 0 (suc next) inputs)
+    → IsWellFormed (node class inputs row) → EachAllows IsTurnWithin above first next (node class inputs row) earlier p → EachAllows IsTurnWithin above first next (node class inputs row) earlier q
+    → (EachAllows IsTurnWithin next 0 (suc next) inputs (pulls_below above first earlier) p → EachAllows IsTurnWithin next 0 (suc next) inputs (pulls_below above first earlier) q → AskAlike tree p q next 0 (suc next) inputs)
     → AskAlike tree p q above (suc first) (suc (next + nodes inputs)) row → AskAlike tree p q above first next (node class inputs row)
 node-alike tree p q pair earlier above first next class inputs row stands well a b below rest i v u mv mu iv iu l h fv fu s r e =
     let parts = by_test (first == i) refl e in record { block = parts.0; got = parts.1; left = parts.2 }
@@ -157,7 +158,7 @@ node-alike tree p q pair earlier above first next class inputs row stands well a
     by_test false t c = let same = rest i v u mv mu iv iu (grind (arith, nat_tests)) (omega arith) fv fu s r c in (same.block, same.got, same.left)
 
 ask-alike : (tree : Tree) (p q : List Visit) → ArePaired p q → (row : Row) (earlier : List (List Visit)) (above first next : ℕ) → StandsAt tree above first next row → IsWellFormed row
-    → EachAllows above first next row earlier p → EachAllows above first next row earlier q → AskAlike tree p q above first next row
+    → EachAllows IsTurnWithin above first next row earlier p → EachAllows IsTurnWithin above first next row earlier q → AskAlike tree p q above first next row
 ask-alike tree p q pair end earlier above first next stands well a b = λ i v u mv mu iv iu l h. absurd (omega arith)
 ask-alike tree p q pair (leaf k row) earlier above first next stands well a b =
     leaf-alike tree p q above first next k row stands (ask-alike tree p q pair row earlier above (suc first) next (stands-after_leaf tree above first next k row stands) well a b)
@@ -169,7 +170,7 @@ ask-alike tree p q pair (node class inputs row) earlier above first next stands 
 -- a pull of a run after those before it
 record IsPullOfRun (tree : Tree) (earlier : List (List Visit)) (pull : List Visit) : Type 0 where
   device : IsDeviceTurn (turn 0 pull)
-  below : EachAllows 0 0 1 (root tree) earlier pull
+  below : EachAllows IsTurnWithin 0 0 1 (root tree) earlier pull
   numbered : IsNumbered tree earlier pull
 
 pulls-of_run : (tree : Tree) (log : List Visit) → IsRun tree log → EachAfter (IsPullOfRun tree) [] (pulls log)

@@ -7,10 +7,10 @@ use Rattle.std.proofs.lemmas.Bool.Decides.{nat_tests}
 use Rattle.std.proofs.lemmas.List.Elements.{filter_map-append}
 use Rattle.clk_packet.specs.declared.packet.Packet.{Packet}
 use Rattle.clk_sched.specs.declared.visit.Visit.{Visit}
-use Rattle.clk_sched.specs.Tree.{Class, prio, round_robin, drr, stride, shaper, Row, end, leaf, node, Tree, nodes, width, queue_in, queue_at, leaves, stands_in, are_distinct}
+use Rattle.clk_sched.specs.Tree.{Class, prio, round_robin, drr, stride, shaper, Row, end, leaf, node, Tree, nodes, width, queue_in, queue_at, leaves, stands_in, are_distinct, is_number}
 use Rattle.clk_sched.specs.Built.{are_apart}
 use Rattle.clk_sched.specs.Log.{visits_of, in_pull}
-use Rattle.clk_sched.specs.Results.{Traced, traced, is_queue, origin_in, passed_input, asked_pull, held_at, own_heads, traced_heads}
+use Rattle.clk_sched.specs.Results.{Traced, traced, origin_in, passed_input, asked_pull, held_at, own_heads, traced_heads}
 use Rattle.clk_sched.specs.Conservation.{from_queue}
 use Rattle.clk_sched.proofs.Numbering.{queue_in-before, queue_in-after, queue_in-earlier, or_none}
 use Rattle.clk_sched.proofs.TreeLemmas.{stands_in-append, are_distinct-append}
@@ -22,29 +22,29 @@ or-neither false b e = (refl, e)
 pub stands-neither : (q : ℕ) (ps rs : List ℕ) → stands_in q (ps ++ rs) ≡ false → (stands_in q ps ≡ false) × (stands_in q rs ≡ false)
 stands-neither q ps rs e = or-neither (stands_in q ps) (stands_in q rs) (sym (stands_in-append q ps rs) ∙ e)
 
-queue_in-not : (q above first next : ℕ) (row : Row) (x i : ℕ) → stands_in q (leaves row) ≡ false → is_queue q (queue_in above first next row x i) ≡ false
+queue_in-not : (q above first next : ℕ) (row : Row) (x i : ℕ) → stands_in q (leaves row) ≡ false → is_number q (queue_in above first next row x i) ≡ false
 queue_in-not q above first next end x i h = refl
 queue_in-not q above first next (leaf k row) x i h =
     let parts = or-neither (k == q) (stands_in q (leaves row)) h in by_test ((above == x) && (first == i)) parts.0 (queue_in-not q above (suc first) next row x i parts.1)
   where
-    by_test : (b : Bool) → (k == q) ≡ false → is_queue q (queue_in above (suc first) next row x i) ≡ false → is_queue q (if b then Some k else queue_in above (suc first) next row x i) ≡ false
+    by_test : (b : Bool) → (k == q) ≡ false → is_number q (queue_in above (suc first) next row x i) ≡ false → is_number q (if b then Some k else queue_in above (suc first) next row x i) ≡ false
     by_test true e rest = e
     by_test false e rest = rest
 queue_in-not q above first next (node class inputs row) x i h =
     let parts = stands-neither q (leaves inputs) (leaves row) h in
     by_queue (queue_in next 0 (suc next) inputs x i) (queue_in-not q next 0 (suc next) inputs x i parts.0) (queue_in-not q above (suc first) (suc (next + nodes inputs)) row x i parts.1)
   where
-    by_queue : (o : Option ℕ) → is_queue q o ≡ false → is_queue q (queue_in above (suc first) (suc (next + nodes inputs)) row x i) ≡ false
-        → is_queue q (option_or o (queue_in above (suc first) (suc (next + nodes inputs)) row x i)) ≡ false
+    by_queue : (o : Option ℕ) → is_number q o ≡ false → is_number q (queue_in above (suc first) (suc (next + nodes inputs)) row x i) ≡ false
+        → is_number q (option_or o (queue_in above (suc first) (suc (next + nodes inputs)) row x i)) ≡ false
     by_queue None e rest = rest
     by_queue (Some k) e rest = e
 
-pub origin-not : (q : ℕ) (log : List Visit) (first next : ℕ) (row : Row) (i k : ℕ) → stands_in q (leaves row) ≡ false → is_queue q (origin_in log first next row i k) ≡ false
+pub origin-not : (q : ℕ) (log : List Visit) (first next : ℕ) (row : Row) (i k : ℕ) → stands_in q (leaves row) ≡ false → is_number q (origin_in log first next row i k) ≡ false
 origin-not q log first next end i k h = refl
 origin-not q log first next (leaf p row) i k h =
     let parts = or-neither (p == q) (stands_in q (leaves row)) h in by_test (first == i) parts.0 (origin-not q log (suc first) next row i k parts.1)
   where
-    by_test : (b : Bool) → (p == q) ≡ false → is_queue q (origin_in log (suc first) next row i k) ≡ false → is_queue q (if b then Some p else origin_in log (suc first) next row i k) ≡ false
+    by_test : (b : Bool) → (p == q) ≡ false → is_number q (origin_in log (suc first) next row i k) ≡ false → is_number q (if b then Some p else origin_in log (suc first) next row i k) ≡ false
     by_test true e rest = e
     by_test false e rest = rest
 origin-not q log first next (node class inputs row) i k h =
@@ -54,15 +54,15 @@ origin-not q log first next (node class inputs row) i k h =
     here : Option ℕ
     here = origin_in log 0 (suc next) inputs (passed_input (visits_of next (in_pull k log))) (asked_pull (passed_input (visits_of next (in_pull k log))) k (reverse (visits_of next log)))
 
-    by_test : (b : Bool) → is_queue q here ≡ false → is_queue q (origin_in log (suc first) (suc (next + nodes inputs)) row i k) ≡ false
-        → is_queue q (if b then here else origin_in log (suc first) (suc (next + nodes inputs)) row i k) ≡ false
+    by_test : (b : Bool) → is_number q here ≡ false → is_number q (origin_in log (suc first) (suc (next + nodes inputs)) row i k) ≡ false
+        → is_number q (if b then here else origin_in log (suc first) (suc (next + nodes inputs)) row i k) ≡ false
     by_test true e rest = e
     by_test false e rest = rest
 
 pub from_queue-append : (q : ℕ) (xs ys : List Traced) → from_queue q (xs ++ ys) ≡ from_queue q xs ++ from_queue q ys
 from_queue-append q xs ys = filter_map-append _ xs ys
 
-pub traced-not : (q : ℕ) (o : Option Packet) (origin : Option ℕ) → is_queue q origin ≡ false → from_queue q (traced o origin) ≡ []
+pub traced-not : (q : ℕ) (o : Option Packet) (origin : Option ℕ) → is_number q origin ≡ false → from_queue q (traced o origin) ≡ []
 traced-not q None origin e = refl
 traced-not q (Some p) origin e = rw e refl
 
@@ -95,19 +95,19 @@ node-not q log next class inputs row h =
 
 -- a queue stands in a tree just where it stands in a row
 abbrev pub StandsOnlyIn : ℕ → Tree → ℕ → ℕ → ℕ → Row → Type 0
-StandsOnlyIn q tree above first next row = (x i : ℕ) → is_queue q (queue_at tree x i) ≡ is_queue q (queue_in above first next row x i)
+StandsOnlyIn q tree above first next row = (x i : ℕ) → is_number q (queue_at tree x i) ≡ is_number q (queue_in above first next row x i)
 
 pub only-after_leaf : (q : ℕ) (tree : Tree) (above first next k : ℕ) (row : Row) → above < next → (k == q) ≡ false → StandsOnlyIn q tree above first next (leaf k row) → StandsOnlyIn q tree above (suc first) next row
 only-after_leaf q tree above first next k row o e only x i = only x i ∙ by_test (above == x) (first == i) refl refl
   where
     by_test : (b c : Bool) → (above == x) ≡ b → (first == i) ≡ c
-        → is_queue q (if b && c then Some k else queue_in above (suc first) next row x i) ≡ is_queue q (queue_in above (suc first) next row x i)
+        → is_number q (if b && c then Some k else queue_in above (suc first) next row x i) ≡ is_number q (queue_in above (suc first) next row x i)
     by_test false c f g = refl
     by_test true false f g = refl
     by_test true true f g =
         let at : above ≡ x = grind (arith, nat_tests) in
         let input : first ≡ i = grind (arith, nat_tests) in
-        e ∙ ap (is_queue q) (sym (ap (λ y. queue_in above (suc first) next row y i) (sym at) ∙ queue_in-earlier above (suc first) next row i o (omega (arith, input))))
+        e ∙ ap (is_number q) (sym (ap (λ y. queue_in above (suc first) next row y i) (sym at) ∙ queue_in-earlier above (suc first) next row i o (omega (arith, input))))
 
 pub only-after_node : (q : ℕ) (tree : Tree) (above first next : ℕ) (class : Class) (inputs row : Row) → above < next → stands_in q (leaves inputs) ≡ false
     → StandsOnlyIn q tree above first next (node class inputs row) → StandsOnlyIn q tree above (suc first) (suc (next + nodes inputs)) row
@@ -119,13 +119,13 @@ only-after_node q tree above first next class inputs row o h only x i = only x i
     rest : Option ℕ
     rest = queue_in above (suc first) (suc (next + nodes inputs)) row x i
 
-    outside : inside ≡ None → is_queue q (option_or inside rest) ≡ is_queue q rest
-    outside e = ap (λ k. is_queue q (option_or k rest)) e
+    outside : inside ≡ None → is_number q (option_or inside rest) ≡ is_number q rest
+    outside e = ap (λ k. is_number q (option_or k rest)) e
 
-    by_test : (b c : Bool) → nat_lt x (suc (next + nodes inputs)) ≡ b → (x == above) ≡ c → is_queue q (option_or inside rest) ≡ is_queue q rest
+    by_test : (b c : Bool) → nat_lt x (suc (next + nodes inputs)) ≡ b → (x == above) ≡ c → is_number q (option_or inside rest) ≡ is_number q rest
     by_test true false f g =
         let none : rest ≡ None = queue_in-before above (suc first) (suc (next + nodes inputs)) row x i (grind (arith, nat_tests)) (λ e. let same : (x == above) ≡ true = grind (arith, nat_tests) in false≢true (sym g ∙ same)) in
-        ap (λ k. is_queue q (option_or inside k)) none ∙ ap (is_queue q) (or_none inside) ∙ queue_in-not q next 0 (suc next) inputs x i h ∙ ap (is_queue q) (sym none)
+        ap (λ k. is_number q (option_or inside k)) none ∙ ap (is_number q) (or_none inside) ∙ queue_in-not q next 0 (suc next) inputs x i h ∙ ap (is_number q) (sym none)
     by_test b true f g =
         let at : x ≡ above = grind (arith, nat_tests) in outside (queue_in-before next 0 (suc next) inputs x i (omega (arith, at)) (λ e. omega (arith, at, e)))
     by_test false false f g = outside (queue_in-after next 0 (suc next) inputs x i (omega arith) (grind (arith, nat_tests)))
@@ -135,17 +135,17 @@ pub only-inputs : (q : ℕ) (tree : Tree) (above first next : ℕ) (class : Clas
 only-inputs q tree above first next class inputs row h only x i =
     only x i ∙ by_queue (queue_in next 0 (suc next) inputs x i) (queue_in-not q above (suc first) (suc (next + nodes inputs)) row x i h)
   where
-    by_queue : (o : Option ℕ) → is_queue q (queue_in above (suc first) (suc (next + nodes inputs)) row x i) ≡ false
-        → is_queue q (option_or o (queue_in above (suc first) (suc (next + nodes inputs)) row x i)) ≡ is_queue q o
+    by_queue : (o : Option ℕ) → is_number q (queue_in above (suc first) (suc (next + nodes inputs)) row x i) ≡ false
+        → is_number q (option_or o (queue_in above (suc first) (suc (next + nodes inputs)) row x i)) ≡ is_number q o
     by_queue None e = e
     by_queue (Some k) e = refl
 
 pub only-here : (q : ℕ) (tree : Tree) (above first next k : ℕ) (row : Row) → (k == q) ≡ true → stands_in q (leaves row) ≡ false → StandsOnlyIn q tree above first next (leaf k row)
-    → (x i : ℕ) → is_queue q (queue_at tree x i) ≡ ((x == above) && (i == first))
+    → (x i : ℕ) → is_number q (queue_at tree x i) ≡ ((x == above) && (i == first))
 only-here q tree above first next k row e h only x i =
     only x i ∙ by_test ((above == x) && (first == i)) (queue_in-not q above (suc first) next row x i h) ∙ ap₂ (λ b c. b && c) (turned above x) (turned first i)
   where
-    by_test : (b : Bool) → is_queue q (queue_in above (suc first) next row x i) ≡ false → is_queue q (if b then Some k else queue_in above (suc first) next row x i) ≡ b
+    by_test : (b : Bool) → is_number q (queue_in above (suc first) next row x i) ≡ false → is_number q (if b then Some k else queue_in above (suc first) next row x i) ≡ b
     by_test true rest = e
     by_test false rest = rest
 

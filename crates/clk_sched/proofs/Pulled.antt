@@ -10,7 +10,7 @@ use Rattle.clk_sched.specs.Turns.{Turn, EachAfter}
 use Rattle.clk_sched.specs.Log.{visits_of, in_pull, pulls, block, turn, asks, pulls_below}
 use Rattle.clk_sched.specs.Run.{IsRun}
 use Rattle.clk_sched.proofs.Members.{In, of-all, in-filter, all-append, all-filter, all-weaker}
-use Rattle.clk_sched.proofs.Allowed.{AllowsTurn}
+use Rattle.clk_sched.proofs.Allowed.{IsTurnWithin}
 use Rattle.clk_sched.proofs.PullByPull.{each-whole, in_pull-number}
 use Rattle.clk_sched.proofs.Heads.{IsLater, IsOrdered}
 use Rattle.clk_sched.proofs.HeadsByClass.{PassesLast, turn-last}
@@ -151,12 +151,12 @@ pulled-inputs tree log above first next class inputs row pulled h =
     own : (y : ℕ) (p : List Visit) → suc next ≤ y → y < suc (next + nodes inputs) → In p pulled → Owns y p next 0 (suc next) inputs
     own y p l m k = owns-inputs y p above first next class inputs row l m (self p k) (h.owns y (omega arith) (omega arith) p k)
 
-pub turns-last : (class : Class) (inputs x : ℕ) (earlier : List Turn) (ps : List (List Visit)) → EachAfter (AllowsTurn class inputs) earlier (map (turn x) ps) → AllByRecursion (λ p. PassesLast (visits_of x p)) ps
+pub turns-last : (class : Class) (inputs x : ℕ) (earlier : List Turn) (ps : List (List Visit)) → EachAfter (IsTurnWithin class inputs) earlier (map (turn x) ps) → AllByRecursion (λ p. PassesLast (visits_of x p)) ps
 turns-last class inputs x earlier [] h = tt
-turns-last class inputs x earlier (p ∷ ps) h = (turn-last class inputs earlier (turn x p) h.0, turns-last class inputs x (turn x p ∷ earlier) ps h.1)
+turns-last class inputs x earlier (p ∷ ps) h = (turn-last class inputs earlier (turn x p) h.0.law, turns-last class inputs x (turn x p ∷ earlier) ps h.1)
 
 -- a log is its pulls, joined
-joined : (tree : Tree) (log : List Visit) → IsRun tree log → log ≡ flat_map (λ p. p) (pulls log)
+pub joined : (tree : Tree) (log : List Visit) → IsRun tree log → log ≡ flat_map (λ p. p) (pulls log)
 joined tree log run = run.shape.blocks ∙ flat_map-same (block tree) (λ p. p) (pulls log) (λ p m. sym (of-all (λ r. r ≡ block tree r) p (pulls log) (each-whole tree log run.shape) m))
 
 pub pulled-root : (tree : Tree) (log : List Visit) → IsRun tree log → IsPulledIn tree log 0 0 1 (root tree) (pulls log)

@@ -16,7 +16,8 @@ use Rattle.clk_sched.specs.Laws.Stride.{passes_after, passes_of, put_in_order, i
 use Rattle.clk_sched.specs.Laws.Shaper.{has_room}
 use Rattle.clk_sched.specs.Choice.{answers, is_answer}
 use Rattle.clk_sched.proofs.Members.{In}
-use Rattle.clk_sched.proofs.Allowed.{AllowsTurn, visits_before, next-within}
+use Rattle.clk_sched.specs.Step.{visits_before}
+use Rattle.clk_sched.proofs.Allowed.{IsTurnWithin, next-within}
 
 -- two pulls of a tree, each by the part of the log that ends with a visit of a node
 pub record Sides : Type 0 where
@@ -141,11 +142,11 @@ deficit-same d all others quantum inputs alike some (suc left) earlier next (v �
     by_passed false true g c f rest again = absurd (false≢true g)
     by_passed false false g c f rest again = again c f
 
-range-below : (a n total : ℕ) → a + n ≤ total → AllByRecursion (λ i. i < total) (range_with_len a n)
+pub range-below : (a n total : ℕ) → a + n ≤ total → AllByRecursion (λ i. i < total) (range_with_len a n)
 range-below a zero total l = tt
 range-below a (suc n) total l = (omega arith, range-below (a + 1) n total (omega arith))
 
-turned-below : (from inputs : ℕ) (ks : List ℕ) → 1 ≤ inputs → AllByRecursion (λ i. i < inputs) (map (λ k. (from + k) % inputs) ks)
+pub turned-below : (from inputs : ℕ) (ks : List ℕ) → 1 ≤ inputs → AllByRecursion (λ i. i < inputs) (map (λ k. (from + k) % inputs) ks)
 turned-below from inputs [] some = tt
 turned-below from inputs (k ∷ ks) some = (mod-lt (from + k) (omega arith), turned-below from inputs ks some)
 
@@ -161,11 +162,11 @@ put-below total i (j ∷ pairs) l h = by_order (nat_lt i.1 j.1 || ((i.1 == j.1) 
     by_order true rest = (l, h)
     by_order false rest = (h.0, rest)
 
-ordered-below : (total : ℕ) (pairs : List (ℕ × ℕ)) → InputsBelow total pairs → InputsBelow total (in_rising_order pairs)
+pub ordered-below : (total : ℕ) (pairs : List (ℕ × ℕ)) → InputsBelow total pairs → InputsBelow total (in_rising_order pairs)
 ordered-below total [] h = tt
 ordered-below total (i ∷ pairs) h = put-below total i (in_rising_order pairs) h.0 (ordered-below total pairs h.1)
 
-numbered-below : (from total : ℕ) (passes : List ℕ) → from + length passes ≤ total → InputsBelow total (enumerate_from from passes)
+pub numbered-below : (from total : ℕ) (passes : List ℕ) → from + length passes ≤ total → InputsBelow total (enumerate_from from passes)
 numbered-below from total [] l = tt
 numbered-below from total (x ∷ passes) l = (omega arith, numbered-below (from + 1) total passes (omega arith))
 
@@ -178,21 +179,21 @@ passes-length tickets (t ∷ earlier) = by_giver (giver t.visits) refl ∙ passe
     by_giver (Some w) e = rw e (length-map (enumerate_from 0 (passes_of tickets earlier)) _ ∙ length-enumerate_from 0 (passes_of tickets earlier))
 
 -- two turns that a class allows after the same earlier ones
-pub turn-same : (d : Sides) (class : Class) (inputs : ℕ) (earlier : List Turn) (t u : Turn) → 1 ≤ inputs → HasArguments class inputs → AllowsTurn class inputs earlier t → AllowsTurn class inputs earlier u
+pub turn-same : (d : Sides) (class : Class) (inputs : ℕ) (earlier : List Turn) (t u : Turn) → 1 ≤ inputs → HasArguments class inputs → IsTurnWithin class inputs earlier t → IsTurnWithin class inputs earlier u
     → t.moment ≡ u.moment → GetAlike d t.visits u.visits inputs → (s r : List (Option Packet)) → Reads d.tree (flat_map d.one t.visits) (flat_map d.other u.visits) s r
     → AreSameVisits d t.visits u.visits s r
 turn-same d prio inputs earlier t u some h p q now alike s r e =
-    plain-same d t.visits u.visits inputs alike (range_with_len 0 inputs) (range-below 0 inputs inputs (omega arith)) t.visits u.visits (λ v m. m) (λ v m. m) p q s r e
+    plain-same d t.visits u.visits inputs alike (range_with_len 0 inputs) (range-below 0 inputs inputs (omega arith)) t.visits u.visits (λ v m. m) (λ v m. m) p.law q.law s r e
 turn-same d round_robin inputs earlier t u some h p q now alike s r e =
-    plain-same d t.visits u.visits inputs alike _ (turned-below (beginning inputs earlier) inputs (range_with_len 0 inputs) some) t.visits u.visits (λ v m. m) (λ v m. m) p q s r e
+    plain-same d t.visits u.visits inputs alike _ (turned-below (beginning inputs earlier) inputs (range_with_len 0 inputs) some) t.visits u.visits (λ v m. m) (λ v m. m) p.law q.law s r e
 turn-same d (drr quantum) inputs earlier t u some h p q now alike s r e =
-    deficit-same d t.visits u.visits quantum inputs alike some inputs (visits_before earlier) (p.next some) t.visits u.visits (λ v m. m) (λ v m. m) p.visits q.visits p.pull q.pull s r e
+    deficit-same d t.visits u.visits quantum inputs alike some inputs (visits_before earlier) (p.next some) t.visits u.visits (λ v m. m) (λ v m. m) p.law.0 q.law.0 p.law.1 q.law.1 s r e
 turn-same d (stride tickets) inputs earlier t u some h p q now alike s r e =
     plain-same d t.visits u.visits inputs alike _
     (ordered-below inputs (enumerate_from 0 (passes_of tickets earlier)) (numbered-below 0 inputs (passes_of tickets earlier) (omega (arith, passes-length tickets earlier, h.0))))
-    t.visits u.visits (λ v m. m) (λ v m. m) p q s r e
+    t.visits u.visits (λ v m. m) (λ v m. m) p.law q.law s r e
 turn-same d (shaper rate burst) inputs earlier t u some h p q now alike s r e =
-    by_room (has_room rate burst t.moment 0 earlier) p (subst (λ m. MatchBool (has_room rate burst m 0 earlier) (AsksInOrder (0 ∷ []) u.visits) (u.visits ≡ [])) (sym now) q)
+    by_room (has_room rate burst t.moment 0 earlier) p.law (subst (λ m. MatchBool (has_room rate burst m 0 earlier) (AsksInOrder (0 ∷ []) u.visits) (u.visits ≡ [])) (sym now) q.law)
   where
     by_room : (b : Bool) → MatchBool b (AsksInOrder (0 ∷ []) t.visits) (t.visits ≡ []) → MatchBool b (AsksInOrder (0 ∷ []) u.visits) (u.visits ≡ []) → AreSameVisits d t.visits u.visits s r
     by_room true a b = plain-same d t.visits u.visits inputs alike (0 ∷ []) (omega arith, tt) t.visits u.visits (λ v m. m) (λ v m. m) a b s r e

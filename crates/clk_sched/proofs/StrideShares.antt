@@ -8,18 +8,15 @@ use Rattle.std.proofs.lemmas.List.FromFn.{get_or-enumerate_from, length-enumerat
 use Rattle.clk_packet.specs.declared.packet.Packet.{Packet}
 use Rattle.clk_sched.specs.declared.visit.Visit.{Visit}
 use Rattle.clk_sched.specs.Turns.{Turn, EachAfter, giver, all_visits, UpToFirst}
-use Rattle.clk_sched.specs.Laws.Stride.{visits_input, passes_after, passes_of, put_in_order, in_rising_order, IsStrideTurn}
-use Rattle.clk_sched.specs.Service.{AlwaysGets, Near, largest_stride, is_input, given_in, pass_at, stride_at, StrideShares}
+use Rattle.clk_sched.specs.Laws.Stride.{visits_input, passes_after, passes_of, put_in_order, in_rising_order, IsStrideTurn, pass_in, stride_at}
+use Rattle.clk_sched.specs.Service.{AlwaysGets, Near, largest_stride, given_in, pass_at, SharesByStride}
 use Rattle.clk_sched.proofs.Members.{In, of-all, all-split}
 use Rattle.clk_sched.proofs.Allowed.{onto, onto-reverse, each-split}
 use Rattle.clk_sched.proofs.SameTurns.{passes-length}
-
--- the pass at an input
-abbrev at : List ℕ → ℕ → ℕ
-at passes i = unwrap_or (slice_get passes i) 0
+use Rattle.clk_sched.specs.Tree.{is_number}
 
 -- inputs with their passes
-at-enumerated : (passes : List ℕ) (i : ℕ) → i < length passes → slice_get (enumerate_from 0 passes) i ≡ Some (i, at passes i)
+at-enumerated : (passes : List ℕ) (i : ℕ) → i < length passes → slice_get (enumerate_from 0 passes) i ≡ Some (i, pass_in passes i)
 at-enumerated passes i l =
     slice_get-get_or (enumerate_from 0 passes) i (0, 0) (subst (λ n. i < n) (sym (length-enumerate_from 0 passes)) l)
     ∙ ap Some (get_or-enumerate_from 0 passes i (0, 0) l ∙ ap₂ (λ j x. (j, x)) (zero-add i) (sym (unwrap_or-slice_get passes i 0)))
@@ -29,11 +26,11 @@ in-slice [] i x e = absurd (false≢true (ap is_some e))
 in-slice (y ∷ xs) zero x e = inl (ap (λ o. unwrap_or o y) e)
 in-slice (y ∷ xs) (suc i) x e = inr (in-slice xs i x e)
 
-in-enumerated : (passes : List ℕ) (i : ℕ) → i < length passes → In (i, at passes i) (enumerate_from 0 passes)
-in-enumerated passes i l = in-slice (enumerate_from 0 passes) i (i, at passes i) (at-enumerated passes i l)
+in-enumerated : (passes : List ℕ) (i : ℕ) → i < length passes → In (i, pass_in passes i) (enumerate_from 0 passes)
+in-enumerated passes i l = in-slice (enumerate_from 0 passes) i (i, pass_in passes i) (at-enumerated passes i l)
 
 -- a pair among the inputs from one on, with its place
-enumerated-at : (n : ℕ) (passes : List ℕ) (x : ℕ × ℕ) → In x (enumerate_from n passes) → (k : ℕ) × (n + k ≡ x.0) × (k < length passes) × (at passes k ≡ x.1)
+enumerated-at : (n : ℕ) (passes : List ℕ) (x : ℕ × ℕ) → In x (enumerate_from n passes) → (k : ℕ) × (n + k ≡ x.0) × (k < length passes) × (pass_in passes k ≡ x.1)
 enumerated-at n [] x m = absurd m
 enumerated-at n (p ∷ passes) x (inl e) = (0, ap (λ y. y.0) (let zero_is : n + 0 ≡ n = omega arith in ap (λ j. (j, p)) zero_is ∙ e), omega arith, ap (λ y. y.1) e)
 enumerated-at n (p ∷ passes) x (inr m) = let rest = enumerated-at (n + 1) passes x m in (suc rest.0, let e = rest.1 in omega (arith, e), let l = rest.2 in omega arith, rest.3)
@@ -159,30 +156,30 @@ after-none tickets passes t e = rw e refl
 
 -- the pass of an input after a pull that a winner won
 after-won : (tickets passes : List ℕ) (t : Turn) (w i : ℕ) → giver t.visits ≡ Some w → i < length passes
-    → at (passes_after tickets passes t) i ≡ (if i == w then at passes i + stride_at tickets w else (if visits_input i t.visits then at passes w else at passes i))
+    → pass_in (passes_after tickets passes t) i ≡ (if i == w then pass_in passes i + stride_at tickets w else (if visits_input i t.visits then pass_in passes w else pass_in passes i))
 after-won tickets passes t w i e l = rw e (ap (λ o. unwrap_or o 0) (slice_get-map _ (enumerate_from 0 passes) i ∙ ap (option_map _) (at-enumerated passes i l)))
 
 -- the pass that the winner had, of which every pass after the pull is at least
 record IsWinnersPass (tickets passes : List ℕ) (t : Turn) (w : ℕ) : Type 0 where
   within : w < length passes
-  least : (i : ℕ) → i < length passes → visits_input i t.visits ≡ false → at passes w ≤ at passes i
+  least : (i : ℕ) → i < length passes → visits_input i t.visits ≡ false → pass_in passes w ≤ pass_in passes i
 
 winners-pass : (tickets passes : List ℕ) (t : Turn) (w : ℕ) → UpToFirst (map (λ (i : ℕ × ℕ). i.0) (in_rising_order (enumerate_from 0 passes))) t.visits → giver t.visits ≡ Some w
     → IsWinnersPass tickets passes t w
 winners-pass tickets passes t w h e =
     record {
       within = let a = place.1 in let b = place.2 in omega (arith, a, b);
-      least = λ i l n. let k = least.least (i, at passes i) (in-ordered (i, at passes i) (enumerate_from 0 passes) (in-enumerated passes i l)) n in omega (arith, k, pass);
+      least = λ i l n. let k = least.least (i, pass_in passes i) (in-ordered (i, pass_in passes i) (enumerate_from 0 passes) (in-enumerated passes i l)) n in omega (arith, k, pass);
     }
   where
     least : IsLeast (in_rising_order (enumerate_from 0 passes)) t.visits w
     least = winner-least (in_rising_order (enumerate_from 0 passes)) t.visits w (rising (enumerate_from 0 passes)) h e
 
-    place : (k : ℕ) × (0 + k ≡ w) × (k < length passes) × (at passes k ≡ least.pass)
+    place : (k : ℕ) × (0 + k ≡ w) × (k < length passes) × (pass_in passes k ≡ least.pass)
     place = enumerated-at 0 passes (w, least.pass) (ordered-in (w, least.pass) (enumerate_from 0 passes) least.member)
 
-    pass : at passes w ≡ least.pass
-    pass = ap (at passes) (sym place.1 ∙ zero-add place.0) ∙ place.3
+    pass : pass_in passes w ≡ least.pass
+    pass = ap (pass_in passes) (sym place.1 ∙ zero-add place.0) ∙ place.3
 
 strides : (tickets : List ℕ) (i : ℕ) → i < length tickets → stride_at tickets i ≤ largest_stride tickets
 strides [] i l = absurd (omega arith)
@@ -193,7 +190,7 @@ strides (t ∷ tickets) (suc i) l = let rest = strides tickets i (omega arith) i
 abbrev AreNear : List ℕ → List Turn → Type 0
 AreNear tickets earlier = (i j : ℕ) → i < length tickets → j < length tickets → pass_at tickets earlier i ≤ pass_at tickets earlier j + largest_stride tickets
 
-zeros : (tickets : List ℕ) (i : ℕ) → at (map (λ _. 0) tickets) i ≡ 0
+zeros : (tickets : List ℕ) (i : ℕ) → pass_in (map (λ _. 0) tickets) i ≡ 0
 zeros [] i = refl
 zeros (t ∷ tickets) zero = refl
 zeros (t ∷ tickets) (suc i) = zeros tickets i
@@ -211,7 +208,7 @@ near-turn tickets earlier t law near i j l m = by_giver (giver t.visits) refl
     inside k h = subst (λ n. k < n) (sym (passes-length tickets earlier)) h
 
     by_giver : (o : Option ℕ) → giver t.visits ≡ o → pass_at tickets (t ∷ earlier) i ≤ pass_at tickets (t ∷ earlier) j + largest_stride tickets
-    by_giver None e = subst (λ p. at p i ≤ at p j + largest_stride tickets) (sym (after-none tickets passes t e)) (near i j l m)
+    by_giver None e = subst (λ p. pass_in p i ≤ pass_in p j + largest_stride tickets) (sym (after-none tickets passes t e)) (near i j l m)
     by_giver (Some w) e =
         let one = upper (i == w) (visits_input i t.visits) refl in
         let other = under (j == w) (visits_input j t.visits) refl refl in
@@ -225,13 +222,13 @@ near-turn tickets earlier t law near i j l m = by_giver (giver t.visits) refl
         in_tickets : w < length tickets
         in_tickets = subst (λ n. w < n) (passes-length tickets earlier) won.within
 
-        upper : (b c : Bool) → (i == w) ≡ b → (if b then at passes i + stride_at tickets w else (if c then at passes w else at passes i)) ≤ at passes w + largest_stride tickets
-        upper true c f = let s = strides tickets w in_tickets in let same : i ≡ w = grind (arith, nat_tests) in let p = ap (at passes) same in omega (arith, s, p)
+        upper : (b c : Bool) → (i == w) ≡ b → (if b then pass_in passes i + stride_at tickets w else (if c then pass_in passes w else pass_in passes i)) ≤ pass_in passes w + largest_stride tickets
+        upper true c f = let s = strides tickets w in_tickets in let same : i ≡ w = grind (arith, nat_tests) in let p = ap (pass_in passes) same in omega (arith, s, p)
         upper false true f = omega arith
         upper false false f = near i w l in_tickets
 
-        under : (b c : Bool) → (j == w) ≡ b → visits_input j t.visits ≡ c → at passes w ≤ (if b then at passes j + stride_at tickets w else (if c then at passes w else at passes j))
-        under true c f g = let same : j ≡ w = grind (arith, nat_tests) in let p = ap (at passes) same in omega (arith, p)
+        under : (b c : Bool) → (j == w) ≡ b → visits_input j t.visits ≡ c → pass_in passes w ≤ (if b then pass_in passes j + stride_at tickets w else (if c then pass_in passes w else pass_in passes j))
+        under true c f g = let same : j ≡ w = grind (arith, nat_tests) in let p = ap (pass_in passes) same in omega (arith, p)
         under false true f g = omega arith
         under false false f g = won.least j (inside j m) g
 
@@ -254,19 +251,19 @@ visited-wins (k ∷ order) (v ∷ visits) i h gets e = by_got v.got (v.input == 
 
 -- the pass of such an input grows by its stride for each packet
 pass-grows : (tickets : List ℕ) (earlier : List Turn) (t : Turn) (i : ℕ) → IsStrideTurn tickets earlier t → i < length tickets → AlwaysGets i t.visits
-    → pass_at tickets (t ∷ earlier) i ≡ (if is_input i (giver t.visits) then 1 else 0) * stride_at tickets i + pass_at tickets earlier i
+    → pass_at tickets (t ∷ earlier) i ≡ (if is_number i (giver t.visits) then 1 else 0) * stride_at tickets i + pass_at tickets earlier i
 pass-grows tickets earlier t i law l gets = by_giver (giver t.visits) refl
   where
     passes : List ℕ
     passes = passes_of tickets earlier
 
-    by_giver : (o : Option ℕ) → giver t.visits ≡ o → pass_at tickets (t ∷ earlier) i ≡ (if is_input i o then 1 else 0) * stride_at tickets i + pass_at tickets earlier i
-    by_giver None e = ap (λ p. at p i) (after-none tickets passes t e) ∙ omega arith
+    by_giver : (o : Option ℕ) → giver t.visits ≡ o → pass_at tickets (t ∷ earlier) i ≡ (if is_number i o then 1 else 0) * stride_at tickets i + pass_at tickets earlier i
+    by_giver None e = ap (λ p. pass_in p i) (after-none tickets passes t e) ∙ omega arith
     by_giver (Some w) e =
         after-won tickets passes t w i e (subst (λ n. i < n) (sym (passes-length tickets earlier)) l) ∙ by_input (i == w) (w == i) (visits_input i t.visits) refl refl refl
       where
         by_input : (b c d : Bool) → (i == w) ≡ b → (w == i) ≡ c → visits_input i t.visits ≡ d
-            → (if b then at passes i + stride_at tickets w else (if d then at passes w else at passes i)) ≡ (if c then 1 else 0) * stride_at tickets i + at passes i
+            → (if b then pass_in passes i + stride_at tickets w else (if d then pass_in passes w else pass_in passes i)) ≡ (if c then 1 else 0) * stride_at tickets i + pass_in passes i
         by_input true true d f g h = let same : w ≡ i = grind (arith, nat_tests) in let s = ap (stride_at tickets) same in omega (arith, s)
         by_input false false false f g h = omega arith
         by_input false false true f g h =
@@ -283,10 +280,10 @@ range-grows tickets earlier (t ∷ range) i law l gets =
     let parts = all-split _ t.visits (all_visits range) gets in
     let now = pass-grows tickets earlier t i law.0 l parts.0 in
     let rest = range-grows tickets (t ∷ earlier) range i law.1 l parts.1 in
-    let both = add-mul (if is_input i (giver t.visits) then 1 else 0) (given_in i range) (stride_at tickets i) in
+    let both = add-mul (if is_number i (giver t.visits) then 1 else 0) (given_in i range) (stride_at tickets i) in
     omega (arith, now, rest, both)
 
-pub stride-shares : StrideShares
+pub stride-shares : (tickets : List ℕ) (turns : List Turn) → EachAfter (IsStrideTurn tickets) [] turns → SharesByStride tickets turns
 stride-shares tickets turns law =
     record {
       passes_near =

@@ -1,15 +1,15 @@
--- That a tree loses and makes nothing.
-use Rattle.std.specs.Prelude.{◌≡◌, ℕ, true, List, ◌++◌, Some, None, if◌then◌else◌}
-use Rattle.std.specs.List.{filter_map}
+-- That a tree loses nothing, and makes nothing.
+use Rattle.std.specs.Prelude.{◌≡◌, ℕ, true, List, ◌++◌, Some, None, MatchOption, if◌then◌else◌}
+use Rattle.std.specs.List.{filter_map, AllByRecursion}
 use Rattle.clk_packet.specs.declared.packet.Packet.{Packet}
 use Rattle.clk_sched.specs.declared.visit.Visit.{Visit}
-use Rattle.clk_sched.specs.Tree.{Tree, root, leaves, stands_in}
+use Rattle.clk_sched.specs.Tree.{Row, Tree, root, leaves, stands_in, is_number}
 use Rattle.clk_sched.specs.Run.{IsRun}
-use Rattle.clk_sched.specs.Results.{Traced, is_queue, leaf_packets, traced_emitted, traced_heads}
+use Rattle.clk_sched.specs.Results.{Traced, leaf_packets, traced_emitted, traced_heads}
 
 -- the packets that came from a queue
 abbrev pub from_queue : ℕ → List Traced → List Packet
-from_queue q traced = filter_map (λ (t : Traced). if is_queue q t.1 then Some t.0 else None) traced
+from_queue q traced = filter_map (λ (t : Traced). if is_number q t.1 then Some t.0 else None) traced
 
 -- What a queue gave is what was emitted of it, in order, and then what is held of it, the nearest to the device first.
 abbrev pub IsConserved : Tree → List Visit → ℕ → Type 0
@@ -19,3 +19,12 @@ IsConserved tree log q =
 -- Every run of a tree conserves the packets of each of its queues.
 abbrev pub ConservesPackets : Tree → Type 0
 ConservesPackets tree = (log : List Visit) → IsRun tree log → (q : ℕ) → stands_in q (leaves (root tree)) ≡ true → IsConserved tree log q
+
+-- a packet came from a queue of a row
+abbrev pub CameFrom : Row → Traced → Type 0
+CameFrom row t = MatchOption t.1 ⊥ (λ q. stands_in q (leaves row) ≡ true)
+
+-- In every run of a tree, each packet that is emitted or held came from one of its queues.
+abbrev pub MakesNothing : Tree → Type 0
+MakesNothing tree =
+    (log : List Visit) → IsRun tree log → AllByRecursion (CameFrom (root tree)) (traced_emitted tree log) × AllByRecursion (CameFrom (root tree)) (traced_heads log 1 (root tree))

@@ -2,6 +2,7 @@
 use Rattle.std.specs.Prelude.{ℕ, ◌≤◌, Bool, Option, List, map, filter, nat_lt}
 use Rattle.clk_packet.specs.declared.packet.Packet.{Packet}
 use Rattle.clk_sched.specs.declared.visit.Visit.{Visit}
+pub mod Device
 pub mod Priority
 pub mod RoundRobin
 pub mod Deficit
@@ -16,8 +17,9 @@ packet s n l h = record { number = n; sender = s; length = l; has_length = h }
 abbrev pub look : (k t x i : ℕ) → Bool → Option Packet → Bool → Visit
 look k t x i asked o result = record { pull = k; moment = t; got = o; node = x; input = i; fresh = asked; passed = result }
 
-abbrev pub lengths : List Packet → List ℕ
-lengths packets = map (λ (p : Packet). p.length) packets
+-- packets by their senders and numbers
+abbrev pub names : List Packet → List (ℕ × ℕ)
+names packets = map (λ (p : Packet). (p.sender, p.number)) packets
 
 -- the log of the first n pulls
 abbrev pub first_pulls : ℕ → List Visit → List Visit

@@ -8,6 +8,7 @@ pub mod Turns
 pub mod Log
 pub mod Laws
 pub mod Run
+pub mod Step
 pub mod Examples
 pub mod Results
 pub mod Bound

@@ -1,5 +1,5 @@
 -- The shape of a log of visits (this project's own choice).
-use Rattle.std.specs.Prelude.{◌≡◌, ℕ, ◌+◌, ◌≤◌, Bool, ◌==◌, ◌&&◌, List, [], ◌∷◌, ◌++◌, length, map, filter, suc, ⊤, true, is_some, Option, None, if◌then◌else◌}
+use Rattle.std.specs.Prelude.{◌≡◌, ℕ, ◌+◌, ◌≤◌, Bool, ◌==◌, ◌&&◌, List, [], ◌∷◌, ◌++◌, length, map, filter, suc, ⊤, true, is_some, Option, None, if◌then◌else◌, max}
 use Rattle.std.specs.List.{flat_map, range_with_len, AllByRecursion, list_any}
 use Rattle.clk_packet.specs.declared.packet.Packet.{Packet}
 use Rattle.clk_sched.specs.declared.visit.Visit.{Visit}
@@ -46,6 +46,11 @@ HasOneMoment pull = AllByRecursion (λ (v : Visit). v.moment ≡ moment_of pull)
 abbrev pub NeverFalls : ℕ → List ℕ → Type 0
 NeverFalls least [] = ⊤
 NeverFalls least (n ∷ ns) = (least ≤ n) × NeverFalls n ns
+
+-- The counted moments of pulls, by the moments that were handed in: each is the greater of the one before it and its own.
+abbrev pub counted : ℕ → List ℕ → List ℕ
+counted before [] = []
+counted before (moment ∷ moments) = max before moment ∷ counted (max before moment) moments
 
 -- The log is the blocks of its pulls, joined. Each pull has one moment, and moments never fall.
 pub record HasLogShape (tree : Tree) (log : List Visit) : Type 0 where

@@ -1,9 +1,9 @@
 -- What a log says went in and came out: answers of queues, packets emitted, heads held, and where packets came from.
-use Rattle.std.specs.Prelude.{ℕ, ◌+◌, ◌==◌, ◌&&◌, Bool, false, List, [], ◌∷◌, ◌++◌, map, reverse, suc, Option, Some, None, nat_lt, if◌then◌else◌}
+use Rattle.std.specs.Prelude.{Bool, ℕ, ◌+◌, ◌==◌, ◌&&◌, List, [], ◌∷◌, ◌++◌, map, reverse, suc, Option, Some, None, nat_lt, if◌then◌else◌}
 use Rattle.std.specs.List.{filter_map, flat_map, range_with_len}
 use Rattle.clk_packet.specs.declared.packet.Packet.{Packet}
 use Rattle.clk_sched.specs.declared.visit.Visit.{Visit}
-use Rattle.clk_sched.specs.Tree.{Row, end, leaf, node, Tree, root, width, nodes, queue_at, Class, prio, round_robin, drr, stride, shaper}
+use Rattle.clk_sched.specs.Tree.{Row, end, leaf, node, Tree, root, width, nodes, queue_at, Class, prio, round_robin, drr, stride, shaper, is_number}
 use Rattle.clk_sched.specs.Log.{visits_of, in_pull, asks}
 use Rattle.clk_sched.specs.Laws.Deficit.{head_at}
 
@@ -11,20 +11,21 @@ use Rattle.clk_sched.specs.Laws.Deficit.{head_at}
 abbrev pub emitted : List Visit → List Packet
 emitted log = filter_map (λ (v : Visit). if v.passed then v.got else None) (visits_of 0 log)
 
-abbrev pub is_queue : ℕ → Option ℕ → Bool
-is_queue q None = false
-is_queue q (Some other) = other == q
+-- whether a visit asked this queue
+abbrev pub asks_queue : Tree → ℕ → Visit → Bool
+asks_queue tree q v = v.fresh && is_number q (queue_at tree v.node v.input)
 
--- the packets that the queue at this leaf gave, in order
+-- the packets that a queue gave, in order
 abbrev pub leaf_packets : Tree → ℕ → List Visit → List Packet
-leaf_packets tree q log = filter_map (λ (v : Visit). if v.fresh && is_queue q (queue_at tree v.node v.input) then v.got else None) log
+leaf_packets tree q log = filter_map (λ (v : Visit). if asks_queue tree q v then v.got else None) log
 
--- The packet that a node passed came in at this input, and was asked for in this pull: in the pull itself, or where it was
--- a held head in the latest pull before it in which the input was asked.
+-- the input at which came in what a node passed in a pull
 abbrev pub passed_input : List Visit → ℕ
 passed_input [] = 0
 passed_input (v ∷ visits) = if v.passed then v.input else passed_input visits
 
+-- the pull in which an input was asked last, up to pull k, of visits with the latest first: in it was got what is passed in
+-- pull k, as a held head or at once
 abbrev pub asked_pull : ℕ → ℕ → List Visit → ℕ
 asked_pull input k [] = 0
 asked_pull input k (v ∷ latest_first) =

@@ -1,13 +1,13 @@
 -- The shares that a DRRSched and a StrideSched give, as laws over whole histories of a node, and over runs of a tree.
-use Rattle.std.specs.Prelude.{◌≡◌, ℕ, ◌+◌, ◌*◌, ◌<◌, ◌≤◌, ◌==◌, ◌&&◌, List, [], ◌∷◌, ◌++◌, length, map, reverse, max, suc, ⊤, Bool, false, Option, Some, None, IsSome, unwrap_or, slice_get, if◌then◌else◌}
+use Rattle.std.specs.Prelude.{◌≡◌, ℕ, ◌+◌, ◌*◌, ◌<◌, ◌≤◌, ◌==◌, ◌&&◌, List, [], ◌∷◌, ◌++◌, length, map, reverse, max, suc, ⊤, IsSome, if◌then◌else◌}
 use Rattle.std.specs.List.{AllByRecursion}
 use Rattle.clk_sched.specs.declared.visit.Visit.{Visit}
-use Rattle.clk_sched.specs.Tree.{Class, prio, round_robin, drr, stride, shaper, Row, end, leaf, node, Tree, root, width, nodes}
+use Rattle.clk_sched.specs.Tree.{Class, prio, round_robin, drr, stride, shaper, Row, end, leaf, node, Tree, root, width, nodes, is_number}
 use Rattle.clk_sched.specs.Log.{pulls, turn, pulls_below}
 use Rattle.clk_sched.specs.Run.{IsRun}
-use Rattle.clk_sched.specs.Turns.{Turn, EachAfter, giver, all_visits}
-use Rattle.clk_sched.specs.Laws.Deficit.{arrives, arrivals, passed_bytes, bytes_of, IsDeficitRun}
-use Rattle.clk_sched.specs.Laws.Stride.{stride_of, passes_of, IsStrideTurn}
+use Rattle.clk_sched.specs.Turns.{Turn, giver, all_visits}
+use Rattle.clk_sched.specs.Laws.Deficit.{arrives, arrivals, passed_bytes, bytes_of}
+use Rattle.clk_sched.specs.Laws.Stride.{stride_of, stride_at, pass_in, passes_of}
 
 -- the arrivals at an input in a range of visits, and the bytes passed from it there; the visits before are given with the
 -- latest first
@@ -27,44 +27,29 @@ AlwaysGets input range = AllByRecursion (λ (v : Visit). v.input ≡ input → I
 abbrev pub Near : ℕ → ℕ → ℕ → Type 0
 Near bound m n = (m ≤ n + bound) × (n ≤ m + bound)
 
--- DRRSched: in any unbroken range of a node's visits the arrivals of two inputs differ by at most 1; no deficit is above the
--- quantum and 65,534; and an input that always had a packet was given its quantum for each arrival, within that bound.
+-- DRRSched: in any unbroken range of a node's visits the arrivals of two inputs differ by at most 1; no deficit is below 0, or
+-- above the quantum plus 65,534; and an input that always had a packet was given its quantum for each arrival, within that bound.
 pub record SharesByDeficit (quantum inputs : ℕ) (turns : List Turn) : Type 0 where
   pub arrivals_near : (before range after : List Visit) → all_visits turns ≡ before ++ (range ++ after) → (i j : ℕ) → i < inputs → j < inputs
       → Near 1 (arrivals_in i (reverse before) range) (arrivals_in j (reverse before) range)
   pub deficit_bound : (before after : List Visit) (v : Visit) → all_visits turns ≡ before ++ v ∷ after
-      → quantum * (arrives (reverse before) + arrivals v.input (reverse before)) ≤ passed_bytes v.input (reverse before) + (quantum + 65534)
+      → (passed_bytes v.input (reverse before) ≤ quantum * (arrives (reverse before) + arrivals v.input (reverse before)))
+      × (quantum * (arrives (reverse before) + arrivals v.input (reverse before)) ≤ passed_bytes v.input (reverse before) + (quantum + 65534))
   pub bytes_near : (before range after : List Visit) → all_visits turns ≡ before ++ (range ++ after) → (i : ℕ) → i < inputs → AlwaysGets i range
       → Near (quantum + 65534) (bytes_in i range) (quantum * arrivals_in i (reverse before) range)
-
--- the packet that a visit got is no longer than a packet may be
-abbrev pub GotShort : Visit → Type 0
-GotShort v = bytes_of v.got ≤ 65535
-
--- for every history that the deficit law allows
-abbrev pub DeficitShares : Type 0
-DeficitShares =
-    (quantum inputs : ℕ) (turns : List Turn) → 0 < inputs → AllByRecursion GotShort (all_visits turns) → IsDeficitRun quantum inputs turns → SharesByDeficit quantum inputs turns
 
 abbrev pub largest_stride : List ℕ → ℕ
 largest_stride [] = 0
 largest_stride (t ∷ tickets) = max (stride_of t) (largest_stride tickets)
 
-abbrev pub is_input : ℕ → Option ℕ → Bool
-is_input input None = false
-is_input input (Some other) = other == input
-
 -- how many packets an input gave in a range of pulls
 abbrev pub given_in : ℕ → List Turn → ℕ
 given_in input [] = 0
-given_in input (t ∷ range) = (if is_input input (giver t.visits) then 1 else 0) + given_in input range
+given_in input (t ∷ range) = (if is_number input (giver t.visits) then 1 else 0) + given_in input range
 
--- the pass of an input after these turns, the latest first, and its stride
+-- the pass of an input after these turns, the latest first
 abbrev pub pass_at : List ℕ → List Turn → ℕ → ℕ
-pass_at tickets earlier input = unwrap_or (slice_get (passes_of tickets earlier) input) 0
-
-abbrev pub stride_at : List ℕ → ℕ → ℕ
-stride_at tickets input = stride_of (unwrap_or (slice_get tickets input) 1)
+pass_at tickets earlier input = pass_in (passes_of tickets earlier) input
 
 -- StrideSched: two passes never differ by more than the largest stride; and in any unbroken range of pulls two inputs that
 -- always had a packet were served in inverse proportion to their strides, within twice the largest.
@@ -74,10 +59,6 @@ pub record SharesByStride (tickets : List ℕ) (turns : List Turn) : Type 0 wher
   pub served_near : (before range after : List Turn) → turns ≡ before ++ (range ++ after) → (i j : ℕ) → i < length tickets → j < length tickets
       → AlwaysGets i (all_visits range) → AlwaysGets j (all_visits range)
       → Near (2 * largest_stride tickets) (given_in i range * stride_at tickets i) (given_in j range * stride_at tickets j)
-
--- for every history that the stride law allows
-abbrev pub StrideShares : Type 0
-StrideShares = (tickets : List ℕ) (turns : List Turn) → EachAfter (IsStrideTurn tickets) [] turns → SharesByStride tickets turns
 
 -- what a scheduler of this class, over so many inputs, shares out in its pulls
 abbrev pub Shares : Class → ℕ → List Turn → Type 0
@@ -96,6 +77,10 @@ EachShares above pulled first next (node class inputs row) =
     × EachShares next (pulls_below above first pulled) 0 (suc next) inputs
     × EachShares above pulled (suc first) (suc (next + nodes inputs)) row
 
+-- a visit got no packet longer than a packet's length can say
+abbrev pub HasLimitedLength : Visit → Type 0
+HasLimitedLength v = bytes_of v.got ≤ 65535
+
 -- In every run of a tree, in which packets are no longer than they may be, each DRRSched and each StrideSched gives its shares.
 abbrev pub SharesOut : Tree → Type 0
-SharesOut tree = (log : List Visit) → AllByRecursion GotShort log → IsRun tree log → EachShares 0 (pulls log) 0 1 (root tree)
+SharesOut tree = (log : List Visit) → AllByRecursion HasLimitedLength log → IsRun tree log → EachShares 0 (pulls log) 0 1 (root tree)

@@ -60,6 +60,11 @@ leaves end = []
 leaves (leaf q row) = q ∷ leaves row
 leaves (node class inputs row) = leaves inputs ++ leaves row
 
+-- whether there is a number, and it is this one
+abbrev pub is_number : ℕ → Option ℕ → Bool
+is_number n None = false
+is_number n (Some other) = other == n
+
 abbrev pub stands_in : ℕ → List ℕ → Bool
 stands_in q [] = false
 stands_in q (p ∷ ps) = (p == q) || stands_in q ps

@@ -73,7 +73,7 @@ impl Tree {
     ghost use Rattle.std.specs.List.{AllByRecursion};
     ghost use Rattle.clk_sched.specs.Tree.{leaves_distinct, HasArguments};
     ghost use Rattle.clk_sched.specs.Choice.{LeavesNoChoice};
-    ghost use Rattle.clk_sched.specs.Conservation.{ConservesPackets};
+    ghost use Rattle.clk_sched.specs.Conservation.{ConservesPackets, MakesNothing};
     ghost use Rattle.clk_sched.specs.Service.{SharesOut};
     ghost use Rattle.clk_sched.specs.Kept.{class_of};
 
@@ -138,8 +138,8 @@ impl Tree {
         Tree::scheduler(Class::Stride(tickets), children)
     }
 
-    /// A Shaper over a tree, which passes so many packets a tick, and so many at once. Each number is from 1 to
-    /// 1,000,000.
+    /// A Shaper over a tree: a token bucket that fills by `rate` packets a tick, and holds `burst` packets at most. Each is
+    /// from 1 to 1,000,000.
     ///
     /// # Errors
     ///
@@ -166,21 +166,28 @@ impl Tree {
     pub fn leaves_no_choice(&self)
         ensures { LeavesNoChoice self.now }
     {
+        // The field opens the tree, which is well formed.
         let _ = &self.node;
     }
 
-    /// A law: each run of this tree, in which no queue stands twice, conserves the packets of each queue. What the queue gave
-    /// is what was emitted of it, in order, and then what is held of it. It does nothing.
+    /// A law: each run of this tree conserves the packets of each queue, where no queue stands twice in the tree. What the
+    /// queue gave is what was emitted of it, in order, and then what is held of it, and nothing else is emitted or held. It
+    /// does nothing.
     pub fn conserves_packets(&self)
         requires distinct { leaves_distinct self.now ≡ true }
-        ensures { ConservesPackets self.now }
-    {}
+        ensures loses_nothing { ConservesPackets self.now }
+        ensures makes_nothing { MakesNothing self.now }
+    {
+        // The field opens the tree, which is well formed.
+        let _ = &self.node;
+    }
 
-    /// A law: in each run of this tree, each DRRSched and each StrideSched gives the shares that its quantum or its tickets
-    /// say. It does nothing.
+    /// A law: in each run of this tree over packets of at most 65,535 bytes, each DRRSched and each StrideSched gives the shares
+    /// that its quantum or its tickets say, within bounds. It does nothing.
     pub fn shares_out(&self)
         ensures { SharesOut self.now }
     {
+        // The field opens the tree, which is well formed.
         let _ = &self.node;
     }
 

@@ -1,7 +1,7 @@
 use clk_packet::Packet;
 
 /// One look of a node at one of its inputs, as the log records it once its answer is known. The visits of a node's
-/// child stand before its own.
+/// child stand before the visit that asked it.
 // The fields stand by size, so that a visit takes no more bytes than they need.
 #[derive(Clone, Copy, Debug, PartialEq, Eq)]
 pub struct Visit {

@@ -2,7 +2,7 @@
 use Rattle.std.specs.Prelude.{List, [], ◌∷◌, Some, None, true, false}
 use Rattle.std.proofs.Common.{lit≤}
 use Rattle.clk_sched.specs.declared.visit.Visit.{Visit}
-use Rattle.clk_sched.specs.Tree.{Tree, end, leaf, node, scheduler, drr}
+use Rattle.clk_sched.specs.Tree.{Tree, end, leaf, node, scheduler, prio, drr}
 use Rattle.clk_sched.specs.Log.{asking}
 use Rattle.clk_sched.specs.Examples.{packet, look}
 
@@ -37,6 +37,14 @@ nested =
 
 abbrev pub nested_tree : Tree
 nested_tree = scheduler (drr 500) (node (drr 300) (leaf 0 end) end)
+
+-- A DRRSched of quantum 5 over a PrioSched over two queues, each with a packet of 10: one pull leaves the first's as a head.
+abbrev pub head_below : List Visit
+head_below =
+    asking 0 0 2 0 (Some (packet 0 0 10 (lit≤ tt))) ∷ look 0 0 1 0 true (Some (packet 0 0 10 (lit≤ tt))) false ∷ asking 0 0 0 0 None ∷ []
+
+abbrev pub head_below_tree : Tree
+head_below_tree = scheduler (drr 5) (node prio (leaf 0 (leaf 1 end)) end)
 
 -- Over nested_tree: the outer scheduler keeps the deficit of an input found empty, and passes the packet a pull early
 abbrev pub deficit_kept : List Visit

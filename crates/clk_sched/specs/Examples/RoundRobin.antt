@@ -18,6 +18,16 @@ three_in_turn =
 abbrev pub three_in_turn_tree : Tree
 three_in_turn_tree = scheduler round_robin (leaf 0 (leaf 1 (leaf 2 end)))
 
+-- A RoundRobinSched over two queues, which finds nothing in the second pull and begins there again.
+abbrev pub none_keeps_beginning : List Visit
+none_keeps_beginning =
+    asking 0 0 1 0 (Some (packet 0 0 1 (lit≤ tt))) ∷ asking 0 0 0 0 (Some (packet 0 0 1 (lit≤ tt))) ∷
+    asking 1 0 1 1 None ∷ asking 1 0 1 0 None ∷ asking 1 0 0 0 None ∷
+    asking 2 0 1 1 (Some (packet 1 0 1 (lit≤ tt))) ∷ asking 2 0 0 0 (Some (packet 1 0 1 (lit≤ tt))) ∷ []
+
+abbrev pub none_keeps_beginning_tree : Tree
+none_keeps_beginning_tree = scheduler round_robin (leaf 0 (leaf 1 end))
+
 -- Over three_in_turn_tree: a beginning that moves by one in each pull
 abbrev pub moves_every_pull : List Visit
 moves_every_pull =

@@ -39,6 +39,54 @@ below_deficit =
 abbrev pub below_deficit_tree : Tree
 below_deficit_tree = scheduler (drr 500) (node (shaper 1 1) (leaf 0 end) end)
 
+-- A Shaper of rate 1 and burst 1, pulled at moment 0 before its queue has a packet and after.
+abbrev pub none_costs_nothing : List Visit
+none_costs_nothing =
+    asking 0 0 1 0 None ∷ asking 0 0 0 0 None ∷
+    asking 1 0 1 0 (Some (packet 0 0 1 (lit≤ tt))) ∷ asking 1 0 0 0 (Some (packet 0 0 1 (lit≤ tt))) ∷ []
+
+abbrev pub none_costs_nothing_tree : Tree
+none_costs_nothing_tree = scheduler (shaper 1 1) (leaf 0 end)
+
+-- A Shaper of rate 2 and burst 2, pulled three times at moments 0 and 1.
+abbrev pub two_a_tick : List Visit
+two_a_tick =
+    asking 0 0 1 0 (Some (packet 0 0 1 (lit≤ tt))) ∷ asking 0 0 0 0 (Some (packet 0 0 1 (lit≤ tt))) ∷
+    asking 1 0 1 0 (Some (packet 0 1 1 (lit≤ tt))) ∷ asking 1 0 0 0 (Some (packet 0 1 1 (lit≤ tt))) ∷
+    asking 2 0 0 0 None ∷
+    asking 3 1 1 0 (Some (packet 0 2 1 (lit≤ tt))) ∷ asking 3 1 0 0 (Some (packet 0 2 1 (lit≤ tt))) ∷
+    asking 4 1 1 0 (Some (packet 0 3 1 (lit≤ tt))) ∷ asking 4 1 0 0 (Some (packet 0 3 1 (lit≤ tt))) ∷
+    asking 5 1 0 0 None ∷ []
+
+abbrev pub two_a_tick_tree : Tree
+two_a_tick_tree = scheduler (shaper 2 2) (leaf 0 end)
+
+-- A Shaper of rate 1 and burst 3, pulled three times at moments 0 and 2.
+abbrev pub two_ticks_at_once : List Visit
+two_ticks_at_once =
+    asking 0 0 1 0 (Some (packet 0 0 1 (lit≤ tt))) ∷ asking 0 0 0 0 (Some (packet 0 0 1 (lit≤ tt))) ∷
+    asking 1 0 1 0 (Some (packet 0 1 1 (lit≤ tt))) ∷ asking 1 0 0 0 (Some (packet 0 1 1 (lit≤ tt))) ∷
+    asking 2 0 1 0 (Some (packet 0 2 1 (lit≤ tt))) ∷ asking 2 0 0 0 (Some (packet 0 2 1 (lit≤ tt))) ∷
+    asking 3 2 1 0 (Some (packet 0 3 1 (lit≤ tt))) ∷ asking 3 2 0 0 (Some (packet 0 3 1 (lit≤ tt))) ∷
+    asking 4 2 1 0 (Some (packet 0 4 1 (lit≤ tt))) ∷ asking 4 2 0 0 (Some (packet 0 4 1 (lit≤ tt))) ∷
+    asking 5 2 0 0 None ∷ []
+
+abbrev pub two_ticks_at_once_tree : Tree
+two_ticks_at_once_tree = scheduler (shaper 1 3) (leaf 0 end)
+
+-- A Shaper of rate 5 and burst 2, pulled three times at moments 0 and 9.
+abbrev pub burst_below_rate : List Visit
+burst_below_rate =
+    asking 0 0 1 0 (Some (packet 0 0 1 (lit≤ tt))) ∷ asking 0 0 0 0 (Some (packet 0 0 1 (lit≤ tt))) ∷
+    asking 1 0 1 0 (Some (packet 0 1 1 (lit≤ tt))) ∷ asking 1 0 0 0 (Some (packet 0 1 1 (lit≤ tt))) ∷
+    asking 2 0 0 0 None ∷
+    asking 3 9 1 0 (Some (packet 0 2 1 (lit≤ tt))) ∷ asking 3 9 0 0 (Some (packet 0 2 1 (lit≤ tt))) ∷
+    asking 4 9 1 0 (Some (packet 0 3 1 (lit≤ tt))) ∷ asking 4 9 0 0 (Some (packet 0 3 1 (lit≤ tt))) ∷
+    asking 5 9 0 0 None ∷ []
+
+abbrev pub burst_below_rate_tree : Tree
+burst_below_rate_tree = scheduler (shaper 5 2) (leaf 0 end)
+
 -- Over late_burst_tree: three packets at once after idling, with a burst of two
 abbrev pub fills_without_cap : List Visit
 fills_without_cap =

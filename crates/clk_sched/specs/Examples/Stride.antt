@@ -1,10 +1,10 @@
 -- Logs of worked examples of a StrideSched, and some that are no runs.
-use Rattle.std.specs.Prelude.{List, [], ◌∷◌, Some, None}
+use Rattle.std.specs.Prelude.{List, [], ◌∷◌, Some, None, true, false}
 use Rattle.std.proofs.Common.{lit≤}
 use Rattle.clk_sched.specs.declared.visit.Visit.{Visit}
-use Rattle.clk_sched.specs.Tree.{Tree, end, leaf, scheduler, stride}
+use Rattle.clk_sched.specs.Tree.{Tree, end, leaf, node, scheduler, drr, stride}
 use Rattle.clk_sched.specs.Log.{asking}
-use Rattle.clk_sched.specs.Examples.{packet}
+use Rattle.clk_sched.specs.Examples.{packet, look}
 
 -- A StrideSched of 2 tickets and 1 over two queues that stay full.
 abbrev pub two_to_one : List Visit
@@ -41,6 +41,40 @@ idle_pass =
 
 abbrev pub idle_pass_tree : Tree
 idle_pass_tree = scheduler (stride (1 ∷ 1 ∷ [])) (leaf 0 (leaf 1 end))
+
+-- A StrideSched of 1 ticket and 1 that finds nothing in the first pull.
+abbrev pub none_changes_no_pass : List Visit
+none_changes_no_pass =
+    asking 0 0 1 0 None ∷ asking 0 0 1 1 None ∷ asking 0 0 0 0 None ∷
+    asking 1 0 1 0 (Some (packet 0 0 1 (lit≤ tt))) ∷ asking 1 0 0 0 (Some (packet 0 0 1 (lit≤ tt))) ∷ []
+
+abbrev pub none_changes_no_pass_tree : Tree
+none_changes_no_pass_tree = scheduler (stride (1 ∷ 1 ∷ [])) (leaf 0 (leaf 1 end))
+
+-- A StrideSched of 3 tickets and 1, whose strides are 21,845 and 65,536: three of the first stay just below one of the second.
+abbrev pub rounds_down : List Visit
+rounds_down =
+    asking 0 0 1 0 (Some (packet 0 0 1 (lit≤ tt))) ∷ asking 0 0 0 0 (Some (packet 0 0 1 (lit≤ tt))) ∷
+    asking 1 0 1 1 (Some (packet 1 0 1 (lit≤ tt))) ∷ asking 1 0 0 0 (Some (packet 1 0 1 (lit≤ tt))) ∷
+    asking 2 0 1 0 (Some (packet 0 1 1 (lit≤ tt))) ∷ asking 2 0 0 0 (Some (packet 0 1 1 (lit≤ tt))) ∷
+    asking 3 0 1 0 (Some (packet 0 2 1 (lit≤ tt))) ∷ asking 3 0 0 0 (Some (packet 0 2 1 (lit≤ tt))) ∷
+    asking 4 0 1 0 (Some (packet 0 3 1 (lit≤ tt))) ∷ asking 4 0 0 0 (Some (packet 0 3 1 (lit≤ tt))) ∷
+    asking 5 0 1 1 (Some (packet 1 1 1 (lit≤ tt))) ∷ asking 5 0 0 0 (Some (packet 1 1 1 (lit≤ tt))) ∷
+    asking 6 0 1 0 (Some (packet 0 4 1 (lit≤ tt))) ∷ asking 6 0 0 0 (Some (packet 0 4 1 (lit≤ tt))) ∷ []
+
+abbrev pub rounds_down_tree : Tree
+rounds_down_tree = scheduler (stride (3 ∷ 1 ∷ [])) (leaf 0 (leaf 1 end))
+
+-- A StrideSched of 1 ticket and 1 over a queue and a DRRSched of quantum 10 that holds a packet of 25 (the first four pulls).
+abbrev pub over_held_head : List Visit
+over_held_head =
+    asking 0 0 1 0 (Some (packet 1 0 5 (lit≤ tt))) ∷ asking 0 0 0 0 (Some (packet 1 0 5 (lit≤ tt))) ∷
+    look 1 0 2 0 true (Some (packet 0 0 25 (lit≤ tt))) false ∷ asking 1 0 1 1 None ∷ asking 1 0 1 0 (Some (packet 1 1 5 (lit≤ tt))) ∷ asking 1 0 0 0 (Some (packet 1 1 5 (lit≤ tt))) ∷
+    look 2 0 2 0 false (Some (packet 0 0 25 (lit≤ tt))) false ∷ asking 2 0 1 1 None ∷ asking 2 0 1 0 (Some (packet 1 2 5 (lit≤ tt))) ∷ asking 2 0 0 0 (Some (packet 1 2 5 (lit≤ tt))) ∷
+    look 3 0 2 0 false (Some (packet 0 0 25 (lit≤ tt))) true ∷ asking 3 0 1 1 (Some (packet 0 0 25 (lit≤ tt))) ∷ asking 3 0 0 0 (Some (packet 0 0 25 (lit≤ tt))) ∷ []
+
+abbrev pub over_held_head_tree : Tree
+over_held_head_tree = scheduler (stride (1 ∷ 1 ∷ [])) (leaf 0 (node (drr 10) (leaf 1 end) end))
 
 -- Over idle_pass_tree: an idle input's pass is left behind, so that it is served twice in a row when it is back
 abbrev pub pass_left_behind : List Visit

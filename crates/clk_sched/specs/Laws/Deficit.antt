@@ -36,6 +36,7 @@ abbrev pub head_at : ℕ → List Visit → Option Packet
 head_at input [] = None
 head_at input (v ∷ earlier) = if v.input == input then (if v.passed then None else v.got) else head_at input earlier
 
+-- whether a deficit covers the packet, if there is one
 abbrev pub fits : ℕ → Option Packet → Bool
 fits deficit None = false
 fits deficit (Some p) = nat_le p.length deficit

@@ -2,8 +2,8 @@
 use Rattle.std.specs.Prelude.{◌≡◌, ℕ, ◌+◌, ◌*◌, ◌&&◌, Bool, true, nat_le, List, [], ◌∷◌, is_some, MatchBool, if◌then◌else◌}
 use Rattle.clk_sched.specs.Turns.{Turn, AsksInOrder, giver}
 
--- A Shaper visits its input at moment t exactly where the window from each earlier pull in which it passed a packet up to
--- now, with one packet more, keeps to the burst and the rate (this project's own choice: a token bucket without tokens).
+-- Whether one packet more has room in the window from each earlier pull that passed one, the latest first, up to this moment:
+-- the packets passed from that pull on, and the new one, keep to the burst and the rate. `since` are those passed after it.
 abbrev pub has_room : ℕ → ℕ → ℕ → ℕ → List Turn → Bool
 has_room rate burst moment since [] = true
 has_room rate burst moment since (t ∷ earlier) =
@@ -11,6 +11,7 @@ has_room rate burst moment since (t ∷ earlier) =
     then nat_le (since + 2 + rate * t.moment) (burst + rate * moment) && has_room rate burst moment (since + 1) earlier
     else has_room rate burst moment since earlier
 
+-- A Shaper visits its input exactly where there is room at the counted moment.
 abbrev pub IsShaperTurn : ℕ → ℕ → List Turn → Turn → Type 0
 IsShaperTurn rate burst earlier t =
     MatchBool (has_room rate burst t.moment 0 earlier) (AsksInOrder (0 ∷ []) t.visits) (t.visits ≡ [])

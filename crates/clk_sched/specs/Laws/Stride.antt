@@ -1,6 +1,6 @@
 -- What a StrideSched does (Waldspurger 1995, with this project's rule for idle inputs).
-use Rattle.std.specs.Prelude.{ℕ, ◌+◌, ◌/◌, ◌==◌, ◌&&◌, ◌||◌, Bool, false, nat_lt, nat_le, List, [], ◌∷◌, map, Option, Some, None, unwrap_or, slice_get, if◌then◌else◌}
-use Rattle.std.specs.List.{enumerate_from}
+use Rattle.std.specs.Prelude.{ℕ, ◌+◌, ◌/◌, ◌==◌, ◌&&◌, ◌||◌, Bool, nat_lt, nat_le, List, [], ◌∷◌, map, Option, Some, None, unwrap_or, slice_get, if◌then◌else◌}
+use Rattle.std.specs.List.{enumerate_from, list_any}
 use Rattle.clk_sched.specs.declared.visit.Visit.{Visit}
 use Rattle.clk_sched.specs.Turns.{Turn, AsksInOrder, giver}
 
@@ -8,25 +8,26 @@ use Rattle.clk_sched.specs.Turns.{Turn, AsksInOrder, giver}
 abbrev pub stride_of : ℕ → ℕ
 stride_of tickets = 65536 / tickets
 
+-- the stride of an input, by the tickets of each
+abbrev pub stride_at : List ℕ → ℕ → ℕ
+stride_at tickets input = stride_of (unwrap_or (slice_get tickets input) 1)
+
+-- the pass of an input, of the passes of all
+abbrev pub pass_in : List ℕ → ℕ → ℕ
+pass_in passes input = unwrap_or (slice_get passes input) 0
+
 abbrev pub visits_input : ℕ → List Visit → Bool
-visits_input input [] = false
-visits_input input (v ∷ visits) = (v.input == input) || visits_input input visits
+visits_input input visits = list_any (λ (v : Visit). v.input == input) visits
 
 -- The passes after a pull: the winner's grows by its stride, and each input visited before it gets the pass that the
 -- winner had. A pull without a winner changes none.
 abbrev pub passes_after : List ℕ → List ℕ → Turn → List ℕ
 passes_after tickets passes t = won (giver t.visits)
   where
-    pass_at : ℕ → ℕ
-    pass_at input = unwrap_or (slice_get passes input) 0
-
-    stride_at : ℕ → ℕ
-    stride_at input = stride_of (unwrap_or (slice_get tickets input) 1)
-
     won : Option ℕ → List ℕ
     won None = passes
     won (Some w) =
-        map (λ (i : ℕ × ℕ). if i.0 == w then i.1 + stride_at w else (if visits_input i.0 t.visits then pass_at w else i.1)) (enumerate_from 0 passes)
+        map (λ (i : ℕ × ℕ). if i.0 == w then i.1 + stride_at tickets w else (if visits_input i.0 t.visits then pass_in passes w else i.1)) (enumerate_from 0 passes)
 
 -- the passes after these turns, all 0 at first
 abbrev pub passes_of : List ℕ → List Turn → List ℕ

@@ -26,6 +26,14 @@ returns-clause-is_nested c =
       below = (record { visits = (record { in_turn = refl; fresh = refl; looks = tt; deficit = 500; deficit_is = refl; passes = refl }, (record { in_turn = refl; fresh = refl; looks = tt; deficit = 500; deficit_is = refl; passes = refl }, (record { in_turn = refl; fresh = refl; looks = tt; deficit = 500; deficit_is = refl; passes = refl }, (record { in_turn = refl; fresh = refl; looks = refl; deficit = 1000; deficit_is = refl; passes = refl }, tt)))); pulls = (refl, (refl, (refl, (refl, tt)))) }, ((refl, tt), ((refl, tt), ((refl, tt), ((refl, tt), tt)))), (record { visits = (record { in_turn = refl; fresh = refl; looks = tt; deficit = 300; deficit_is = refl; passes = refl }, (record { in_turn = refl; fresh = refl; looks = refl; deficit = 600; deficit_is = refl; passes = refl }, (record { in_turn = refl; fresh = refl; looks = refl; deficit = 900; deficit_is = refl; passes = refl }, tt))); pulls = (refl, (refl, (refl, tt))) }, ((refl, tt), ((refl, tt), ((refl, tt), (tt, tt)))), tt, tt), tt);
     }
 
+pub returns-clause-is_head_below : goal.returns-clause-is_head_below
+returns-clause-is_head_below c =
+    record {
+      shape = record { blocks = refl; one_moment = ((refl, (refl, (refl, tt))), tt); moments = (lit≤ tt, tt) };
+      device = (record { plain = (record { fresh = refl; passed = refl }, tt); in_order = (refl, tt) }, tt);
+      below = (record { visits = (record { in_turn = refl; fresh = refl; looks = tt; deficit = 5; deficit_is = refl; passes = refl }, tt); pulls = (refl, tt) }, ((refl, tt), tt), ((record { plain = (record { fresh = refl; passed = refl }, tt); in_order = (refl, refl) }, tt), ((refl, tt), tt), tt, tt), tt);
+    }
+
 pub returns-clause-not_deficit_kept : goal.returns-clause-not_deficit_kept
 returns-clause-not_deficit_kept c = λ run. let visit = run.below.0.visits.1.1.0 in absurd (grind (arith, nat_tests))
 

@@ -9,6 +9,14 @@ returns-clause-is_three_in_turn c =
       below = ((record { plain = (record { fresh = refl; passed = refl }, tt); in_order = (refl, refl) }, (record { plain = (record { fresh = refl; passed = refl }, (record { fresh = refl; passed = refl }, tt)); in_order = (refl, (refl, refl)) }, (record { plain = (record { fresh = refl; passed = refl }, tt); in_order = (refl, refl) }, (record { plain = (record { fresh = refl; passed = refl }, (record { fresh = refl; passed = refl }, tt)); in_order = (refl, (refl, refl)) }, (record { plain = (record { fresh = refl; passed = refl }, (record { fresh = refl; passed = refl }, (record { fresh = refl; passed = refl }, tt))); in_order = (refl, (refl, (refl, tt))) }, tt))))), ((refl, tt), ((refl, tt), ((refl, tt), ((refl, tt), ((refl, tt), tt))))), tt, tt);
     }
 
+pub returns-clause-is_none_keeps_beginning : goal.returns-clause-is_none_keeps_beginning
+returns-clause-is_none_keeps_beginning c =
+    record {
+      shape = record { blocks = refl; one_moment = ((refl, (refl, tt)), ((refl, (refl, (refl, tt))), ((refl, (refl, tt)), tt))); moments = (lit≤ tt, (lit≤ tt, (lit≤ tt, tt))) };
+      device = (record { plain = (record { fresh = refl; passed = refl }, tt); in_order = (refl, refl) }, (record { plain = (record { fresh = refl; passed = refl }, tt); in_order = (refl, tt) }, (record { plain = (record { fresh = refl; passed = refl }, tt); in_order = (refl, refl) }, tt)));
+      below = ((record { plain = (record { fresh = refl; passed = refl }, tt); in_order = (refl, refl) }, (record { plain = (record { fresh = refl; passed = refl }, (record { fresh = refl; passed = refl }, tt)); in_order = (refl, (refl, tt)) }, (record { plain = (record { fresh = refl; passed = refl }, tt); in_order = (refl, refl) }, tt))), ((refl, tt), ((refl, tt), ((refl, tt), tt))), tt, tt);
+    }
+
 pub returns-clause-not_moves_every_pull : goal.returns-clause-not_moves_every_pull
 returns-clause-not_moves_every_pull c = λ run. absurd (omega (arith, run.below.0.1.1.0.in_order.0))
 

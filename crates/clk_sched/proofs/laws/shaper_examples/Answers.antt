@@ -25,6 +25,38 @@ returns-clause-is_below_deficit c =
       below = (record { visits = (record { in_turn = refl; fresh = refl; looks = tt; deficit = 500; deficit_is = refl; passes = refl }, (record { in_turn = refl; fresh = refl; looks = tt; deficit = 200; deficit_is = refl; passes = refl }, (record { in_turn = refl; fresh = refl; looks = tt; deficit = 500; deficit_is = refl; passes = refl }, tt))); pulls = (refl, (refl, (refl, tt))) }, ((refl, tt), ((refl, tt), ((refl, tt), tt))), ((record { plain = (record { fresh = refl; passed = refl }, tt); in_order = (refl, refl) }, (refl, (record { plain = (record { fresh = refl; passed = refl }, tt); in_order = (refl, refl) }, tt))), ((refl, tt), ((refl, tt), ((refl, tt), tt))), tt, tt), tt);
     }
 
+pub returns-clause-is_none_costs_nothing : goal.returns-clause-is_none_costs_nothing
+returns-clause-is_none_costs_nothing c =
+    record {
+      shape = record { blocks = refl; one_moment = ((refl, (refl, tt)), ((refl, (refl, tt)), tt)); moments = (lit≤ tt, (lit≤ tt, tt)) };
+      device = (record { plain = (record { fresh = refl; passed = refl }, tt); in_order = (refl, tt) }, (record { plain = (record { fresh = refl; passed = refl }, tt); in_order = (refl, refl) }, tt));
+      below = ((record { plain = (record { fresh = refl; passed = refl }, tt); in_order = (refl, tt) }, (record { plain = (record { fresh = refl; passed = refl }, tt); in_order = (refl, refl) }, tt)), ((refl, tt), ((refl, tt), tt)), tt, tt);
+    }
+
+pub returns-clause-is_two_a_tick : goal.returns-clause-is_two_a_tick
+returns-clause-is_two_a_tick c =
+    record {
+      shape = record { blocks = refl; one_moment = ((refl, (refl, tt)), ((refl, (refl, tt)), ((refl, tt), ((refl, (refl, tt)), ((refl, (refl, tt)), ((refl, tt), tt)))))); moments = (lit≤ tt, (lit≤ tt, (lit≤ tt, (lit≤ tt, (lit≤ tt, (lit≤ tt, tt)))))) };
+      device = (record { plain = (record { fresh = refl; passed = refl }, tt); in_order = (refl, refl) }, (record { plain = (record { fresh = refl; passed = refl }, tt); in_order = (refl, refl) }, (record { plain = (record { fresh = refl; passed = refl }, tt); in_order = (refl, tt) }, (record { plain = (record { fresh = refl; passed = refl }, tt); in_order = (refl, refl) }, (record { plain = (record { fresh = refl; passed = refl }, tt); in_order = (refl, refl) }, (record { plain = (record { fresh = refl; passed = refl }, tt); in_order = (refl, tt) }, tt))))));
+      below = ((record { plain = (record { fresh = refl; passed = refl }, tt); in_order = (refl, refl) }, (record { plain = (record { fresh = refl; passed = refl }, tt); in_order = (refl, refl) }, (refl, (record { plain = (record { fresh = refl; passed = refl }, tt); in_order = (refl, refl) }, (record { plain = (record { fresh = refl; passed = refl }, tt); in_order = (refl, refl) }, (refl, tt)))))), ((refl, tt), ((refl, tt), ((refl, tt), ((refl, tt), ((refl, tt), ((refl, tt), tt)))))), tt, tt);
+    }
+
+pub returns-clause-is_two_ticks_at_once : goal.returns-clause-is_two_ticks_at_once
+returns-clause-is_two_ticks_at_once c =
+    record {
+      shape = record { blocks = refl; one_moment = ((refl, (refl, tt)), ((refl, (refl, tt)), ((refl, (refl, tt)), ((refl, (refl, tt)), ((refl, (refl, tt)), ((refl, tt), tt)))))); moments = (lit≤ tt, (lit≤ tt, (lit≤ tt, (lit≤ tt, (lit≤ tt, (lit≤ tt, tt)))))) };
+      device = (record { plain = (record { fresh = refl; passed = refl }, tt); in_order = (refl, refl) }, (record { plain = (record { fresh = refl; passed = refl }, tt); in_order = (refl, refl) }, (record { plain = (record { fresh = refl; passed = refl }, tt); in_order = (refl, refl) }, (record { plain = (record { fresh = refl; passed = refl }, tt); in_order = (refl, refl) }, (record { plain = (record { fresh = refl; passed = refl }, tt); in_order = (refl, refl) }, (record { plain = (record { fresh = refl; passed = refl }, tt); in_order = (refl, tt) }, tt))))));
+      below = ((record { plain = (record { fresh = refl; passed = refl }, tt); in_order = (refl, refl) }, (record { plain = (record { fresh = refl; passed = refl }, tt); in_order = (refl, refl) }, (record { plain = (record { fresh = refl; passed = refl }, tt); in_order = (refl, refl) }, (record { plain = (record { fresh = refl; passed = refl }, tt); in_order = (refl, refl) }, (record { plain = (record { fresh = refl; passed = refl }, tt); in_order = (refl, refl) }, (refl, tt)))))), ((refl, tt), ((refl, tt), ((refl, tt), ((refl, tt), ((refl, tt), ((refl, tt), tt)))))), tt, tt);
+    }
+
+pub returns-clause-is_burst_below_rate : goal.returns-clause-is_burst_below_rate
+returns-clause-is_burst_below_rate c =
+    record {
+      shape = record { blocks = refl; one_moment = ((refl, (refl, tt)), ((refl, (refl, tt)), ((refl, tt), ((refl, (refl, tt)), ((refl, (refl, tt)), ((refl, tt), tt)))))); moments = (lit≤ tt, (lit≤ tt, (lit≤ tt, (lit≤ tt, (lit≤ tt, (lit≤ tt, tt)))))) };
+      device = (record { plain = (record { fresh = refl; passed = refl }, tt); in_order = (refl, refl) }, (record { plain = (record { fresh = refl; passed = refl }, tt); in_order = (refl, refl) }, (record { plain = (record { fresh = refl; passed = refl }, tt); in_order = (refl, tt) }, (record { plain = (record { fresh = refl; passed = refl }, tt); in_order = (refl, refl) }, (record { plain = (record { fresh = refl; passed = refl }, tt); in_order = (refl, refl) }, (record { plain = (record { fresh = refl; passed = refl }, tt); in_order = (refl, tt) }, tt))))));
+      below = ((record { plain = (record { fresh = refl; passed = refl }, tt); in_order = (refl, refl) }, (record { plain = (record { fresh = refl; passed = refl }, tt); in_order = (refl, refl) }, (refl, (record { plain = (record { fresh = refl; passed = refl }, tt); in_order = (refl, refl) }, (record { plain = (record { fresh = refl; passed = refl }, tt); in_order = (refl, refl) }, (refl, tt)))))), ((refl, tt), ((refl, tt), ((refl, tt), ((refl, tt), ((refl, tt), ((refl, tt), tt)))))), tt, tt);
+    }
+
 pub returns-clause-not_fills_without_cap : goal.returns-clause-not_fills_without_cap
 returns-clause-not_fills_without_cap c = λ run. let none = run.below.0.1.1.0 in absurd (cc)
 

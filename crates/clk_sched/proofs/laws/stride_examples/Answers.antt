@@ -25,6 +25,30 @@ returns-clause-is_idle_pass c =
       below = ((record { plain = (record { fresh = refl; passed = refl }, tt); in_order = (refl, refl) }, (record { plain = (record { fresh = refl; passed = refl }, (record { fresh = refl; passed = refl }, tt)); in_order = (refl, (refl, refl)) }, (record { plain = (record { fresh = refl; passed = refl }, (record { fresh = refl; passed = refl }, tt)); in_order = (refl, (refl, refl)) }, (record { plain = (record { fresh = refl; passed = refl }, tt); in_order = (refl, refl) }, (record { plain = (record { fresh = refl; passed = refl }, tt); in_order = (refl, refl) }, tt))))), ((refl, tt), ((refl, tt), ((refl, tt), ((refl, tt), ((refl, tt), tt))))), tt, tt);
     }
 
+pub returns-clause-is_none_changes_no_pass : goal.returns-clause-is_none_changes_no_pass
+returns-clause-is_none_changes_no_pass c =
+    record {
+      shape = record { blocks = refl; one_moment = ((refl, (refl, (refl, tt))), ((refl, (refl, tt)), tt)); moments = (lit≤ tt, (lit≤ tt, tt)) };
+      device = (record { plain = (record { fresh = refl; passed = refl }, tt); in_order = (refl, tt) }, (record { plain = (record { fresh = refl; passed = refl }, tt); in_order = (refl, refl) }, tt));
+      below = ((record { plain = (record { fresh = refl; passed = refl }, (record { fresh = refl; passed = refl }, tt)); in_order = (refl, (refl, tt)) }, (record { plain = (record { fresh = refl; passed = refl }, tt); in_order = (refl, refl) }, tt)), ((refl, tt), ((refl, tt), tt)), tt, tt);
+    }
+
+pub returns-clause-is_rounds_down : goal.returns-clause-is_rounds_down
+returns-clause-is_rounds_down c =
+    record {
+      shape = record { blocks = refl; one_moment = ((refl, (refl, tt)), ((refl, (refl, tt)), ((refl, (refl, tt)), ((refl, (refl, tt)), ((refl, (refl, tt)), ((refl, (refl, tt)), ((refl, (refl, tt)), tt))))))); moments = (lit≤ tt, (lit≤ tt, (lit≤ tt, (lit≤ tt, (lit≤ tt, (lit≤ tt, (lit≤ tt, tt))))))) };
+      device = (record { plain = (record { fresh = refl; passed = refl }, tt); in_order = (refl, refl) }, (record { plain = (record { fresh = refl; passed = refl }, tt); in_order = (refl, refl) }, (record { plain = (record { fresh = refl; passed = refl }, tt); in_order = (refl, refl) }, (record { plain = (record { fresh = refl; passed = refl }, tt); in_order = (refl, refl) }, (record { plain = (record { fresh = refl; passed = refl }, tt); in_order = (refl, refl) }, (record { plain = (record { fresh = refl; passed = refl }, tt); in_order = (refl, refl) }, (record { plain = (record { fresh = refl; passed = refl }, tt); in_order = (refl, refl) }, tt)))))));
+      below = ((record { plain = (record { fresh = refl; passed = refl }, tt); in_order = (refl, refl) }, (record { plain = (record { fresh = refl; passed = refl }, tt); in_order = (refl, refl) }, (record { plain = (record { fresh = refl; passed = refl }, tt); in_order = (refl, refl) }, (record { plain = (record { fresh = refl; passed = refl }, tt); in_order = (refl, refl) }, (record { plain = (record { fresh = refl; passed = refl }, tt); in_order = (refl, refl) }, (record { plain = (record { fresh = refl; passed = refl }, tt); in_order = (refl, refl) }, (record { plain = (record { fresh = refl; passed = refl }, tt); in_order = (refl, refl) }, tt))))))), ((refl, tt), ((refl, tt), ((refl, tt), ((refl, tt), ((refl, tt), ((refl, tt), ((refl, tt), tt))))))), tt, tt);
+    }
+
+pub returns-clause-is_over_held_head : goal.returns-clause-is_over_held_head
+returns-clause-is_over_held_head c =
+    record {
+      shape = record { blocks = refl; one_moment = ((refl, (refl, tt)), ((refl, (refl, (refl, (refl, tt)))), ((refl, (refl, (refl, (refl, tt)))), ((refl, (refl, (refl, tt))), tt)))); moments = (lit≤ tt, (lit≤ tt, (lit≤ tt, (lit≤ tt, tt)))) };
+      device = (record { plain = (record { fresh = refl; passed = refl }, tt); in_order = (refl, refl) }, (record { plain = (record { fresh = refl; passed = refl }, tt); in_order = (refl, refl) }, (record { plain = (record { fresh = refl; passed = refl }, tt); in_order = (refl, refl) }, (record { plain = (record { fresh = refl; passed = refl }, tt); in_order = (refl, refl) }, tt))));
+      below = ((record { plain = (record { fresh = refl; passed = refl }, tt); in_order = (refl, refl) }, (record { plain = (record { fresh = refl; passed = refl }, (record { fresh = refl; passed = refl }, tt)); in_order = (refl, (refl, refl)) }, (record { plain = (record { fresh = refl; passed = refl }, (record { fresh = refl; passed = refl }, tt)); in_order = (refl, (refl, refl)) }, (record { plain = (record { fresh = refl; passed = refl }, tt); in_order = (refl, refl) }, tt)))), ((refl, tt), ((refl, tt), ((refl, tt), ((refl, tt), tt)))), (record { visits = (record { in_turn = refl; fresh = refl; looks = tt; deficit = 10; deficit_is = refl; passes = refl }, (record { in_turn = refl; fresh = refl; looks = refl; deficit = 20; deficit_is = refl; passes = refl }, (record { in_turn = refl; fresh = refl; looks = refl; deficit = 30; deficit_is = refl; passes = refl }, tt))); pulls = (refl, (refl, (refl, tt))) }, (tt, ((refl, tt), ((refl, tt), ((refl, tt), tt)))), tt, tt), tt);
+    }
+
 pub returns-clause-not_pass_left_behind : goal.returns-clause-not_pass_left_behind
 returns-clause-not_pass_left_behind c = λ run. absurd (omega (arith, run.below.0.1.1.1.1.0.in_order.0))
 

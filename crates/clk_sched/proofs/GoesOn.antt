@@ -1,0 +1,301 @@
+-- A run goes on by one pull.
+use Rattle.std.proofs.Common.{◌≡◌, ◌≢◌, ℕ, zero, suc, ◌+◌, ◌<◌, ◌≤◌, ◌==◌, Bool, true, false, if◌then◌else◌, List, [], ◌∷◌, ◌++◌, length, map, filter, reverse, refl, sym, ap, ap₂, ◌∙◌, subst, append-nil, length-append, Option, Some, None, MatchOption, arith}
+use Rattle.std.specs.List.{flat_map, range_with_len, AllByRecursion, list_any}
+use Rattle.std.proofs.lemmas.Bool.Decides.{nat_tests}
+use Rattle.std.proofs.lemmas.List.{map-append, reverse-append, length-reverse, append_cancel_right}
+use Rattle.std.proofs.lemmas.List.Concat.{flat_map-append}
+use Rattle.std.proofs.lemmas.List.Elements.{filter-append}
+use Rattle.std.proofs.lemmas.List.FromFn.{map-range_with_len_more, length-map-range_with_len}
+use Rattle.clk_packet.specs.declared.packet.Packet.{Packet}
+use Rattle.clk_sched.specs.declared.visit.Visit.{Visit}
+use Rattle.clk_sched.specs.Tree.{Class, prio, round_robin, drr, stride, shaper, Row, end, leaf, node, Tree, root, nodes, width}
+use Rattle.clk_sched.specs.Turns.{Turn, EachAfter, all_visits, AsksInOrder, UpToFirst}
+use Rattle.clk_sched.specs.Log.{visits_of, in_pull, pulls, block, moment_of, HasOneMoment, NeverFalls, turn, asks, pulls_below}
+use Rattle.clk_sched.specs.Laws.{Obeys}
+use Rattle.clk_sched.specs.Laws.Device.{IsDeviceTurn}
+use Rattle.clk_sched.specs.Laws.Priority.{IsPrioTurn}
+use Rattle.clk_sched.specs.Laws.RoundRobin.{IsRoundRobinTurn}
+use Rattle.clk_sched.specs.Laws.Deficit.{IsDeficitVisit, EndAtPass}
+use Rattle.clk_sched.specs.Laws.Stride.{IsStrideTurn}
+use Rattle.clk_sched.specs.Laws.Shaper.{IsShaperTurn}
+use Rattle.clk_sched.specs.Run.{GetsResult, EachObeys, IsRun}
+use Rattle.clk_sched.specs.Step.{visits_before, AllowsTurn, EachAllows, IsNextPull, IsOnePullMore, GoesOn, IsOnePullLess}
+use Rattle.clk_sched.proofs.Members.{all-append, all-weaker, filter-all, filter-none, all-split, of-all}
+use Rattle.clk_sched.proofs.Allowed.{onto, onto-append, onto-reverse, each-split, IsTurnWithin, each-allowed}
+use Rattle.clk_sched.proofs.PullByPull.{in_pull-number, IsNumbered, each-numbered, each-whole}
+use Rattle.clk_sched.proofs.Blocks.{flat_map-same}
+use Rattle.clk_sched.proofs.Pulled.{joined}
+
+each-join : {X : Type 0} (P : List X → X → Type 0) (earlier xs ys : List X) → EachAfter P earlier xs → EachAfter P (onto xs earlier) ys → EachAfter P earlier (xs ++ ys)
+each-join P earlier [] ys h k = k
+each-join P earlier (x ∷ xs) ys h k = (h.0, each-join P (x ∷ earlier) xs ys h.1 k)
+
+each-more : {X : Type 0} (P : List X → X → Type 0) (xs : List X) (x : X) → EachAfter P [] xs → P (reverse xs) x → EachAfter P [] (xs ++ x ∷ [])
+each-more P xs x h k = each-join P [] xs (x ∷ []) h (subst (λ e. P e x) (sym (onto-reverse xs)) k, tt)
+
+onto-both : {X : Type 0} (xs ys earlier : List X) → onto (xs ++ ys) earlier ≡ onto ys (onto xs earlier)
+onto-both [] ys earlier = refl
+onto-both (x ∷ xs) ys earlier = onto-both xs ys (x ∷ earlier)
+
+visits-onto : (turns earlier : List Turn) → visits_before (onto turns earlier) ≡ onto (all_visits turns) (visits_before earlier)
+visits-onto [] earlier = refl
+visits-onto (t ∷ turns) earlier =
+    visits-onto turns (t ∷ earlier) ∙ ap (onto (all_visits turns)) (sym (onto-append t.visits (visits_before earlier))) ∙ sym (onto-both t.visits (all_visits turns) (visits_before earlier))
+
+obeys-more : (class : Class) (inputs : ℕ) (turns : List Turn) (t : Turn) → Obeys class inputs turns → AllowsTurn class inputs (reverse turns) t → Obeys class inputs (turns ++ t ∷ [])
+obeys-more prio inputs turns t h k = all-append (IsPrioTurn inputs) turns (t ∷ []) h (k, tt)
+obeys-more round_robin inputs turns t h k = each-more (IsRoundRobinTurn inputs) turns t h k
+obeys-more (drr quantum) inputs turns t h k =
+    record {
+      visits =
+          subst (EachAfter (IsDeficitVisit quantum inputs) []) (sym (flat_map-append (λ (u : Turn). u.visits) turns (t ∷ []) ∙ ap (λ l. all_visits turns ++ l) (append-nil t.visits)))
+          (each-join (IsDeficitVisit quantum inputs) [] (all_visits turns) t.visits h.visits
+          (subst (λ e. EachAfter (IsDeficitVisit quantum inputs) e t.visits) (ap visits_before (sym (onto-reverse turns)) ∙ visits-onto turns []) k.0));
+      pulls = all-append (λ (u : Turn). EndAtPass inputs u.visits) turns (t ∷ []) h.pulls (k.1, tt);
+    }
+obeys-more (stride tickets) inputs turns t h k = each-more (IsStrideTurn tickets) turns t h k
+obeys-more (shaper rate burst) inputs turns t h k = each-more (IsShaperTurn rate burst) turns t h k
+
+reverse-more : {X : Type 0} (x : X) (xs : List X) → reverse (x ∷ xs) ≡ reverse xs ++ x ∷ []
+reverse-more x xs = reverse-append (x ∷ []) xs
+
+filter-reverse : {X : Type 0} (test : X → Bool) (xs : List X) → filter test (reverse xs) ≡ reverse (filter test xs)
+filter-reverse test [] = refl
+filter-reverse test (x ∷ xs) = ap (filter test) (reverse-more x xs) ∙ filter-append test (reverse xs) (x ∷ []) ∙ ap (λ l. l ++ filter test (x ∷ [])) (filter-reverse test xs) ∙ by_test (test x)
+  where
+    by_test : (b : Bool) → reverse (filter test xs) ++ (if b then x ∷ [] else []) ≡ reverse (if b then x ∷ filter test xs else filter test xs)
+    by_test true = sym (reverse-more x (filter test xs))
+    by_test false = append-nil (reverse (filter test xs))
+
+map-reverse : {X Y : Type 0} (f : X → Y) (xs : List X) → map f (reverse xs) ≡ reverse (map f xs)
+map-reverse f [] = refl
+map-reverse f (x ∷ xs) = ap (map f) (reverse-more x xs) ∙ map-append f (reverse xs) (x ∷ []) ∙ ap (λ l. l ++ f x ∷ []) (map-reverse f xs) ∙ sym (reverse-more (f x) (map f xs))
+
+each-obeys : (row : Row) (above first next : ℕ) (pulled : List (List Visit)) (pull : List Visit) → EachObeys above pulled first next row → EachAllows AllowsTurn above first next row (reverse pulled) pull
+    → EachObeys above (pulled ++ pull ∷ []) first next row
+each-obeys end above first next pulled pull h k = tt
+each-obeys (leaf q row) above first next pulled pull h k = each-obeys row above (suc first) next pulled pull h k
+each-obeys (node class inputs row) above first next pulled pull h k =
+    let here = by_asked (asked pull) k.0 (λ m. each-obeys inputs next 0 (suc next) (pulls_below above first pulled) pull h.2 m) in (
+      subst (λ ps. Obeys class (width inputs) (map (turn next) ps)) (sym more) here.0,
+      all-append (GetsResult above first next) pulled (pull ∷ []) h.1 (k.1, tt),
+      subst (λ ps. EachObeys next ps 0 (suc next) inputs) (sym more) here.1,
+      each-obeys row above (suc first) (suc (next + nodes inputs)) pulled pull h.3 k.2,
+    )
+  where
+    asked : List Visit → Bool
+    asked p = list_any (asks first) (visits_of above p)
+
+    before : List (List Visit)
+    before = pulls_below above first pulled
+
+    more : pulls_below above first (pulled ++ pull ∷ []) ≡ before ++ (if asked pull then pull ∷ [] else [])
+    more = filter-append asked pulled (pull ∷ [])
+
+    turned : pulls_below above first (reverse pulled) ≡ reverse before
+    turned = filter-reverse asked pulled
+
+    After : List (List Visit) → Type 0
+    After ps = Obeys class (width inputs) (map (turn next) ps) × EachObeys next ps 0 (suc next) inputs
+
+    by_asked : (b : Bool)
+        → (b ≡ true → AllowsTurn class (width inputs) (map (turn next) (pulls_below above first (reverse pulled))) (turn next pull) × EachAllows AllowsTurn next 0 (suc next) inputs (pulls_below above first (reverse pulled)) pull)
+        → (EachAllows AllowsTurn next 0 (suc next) inputs (reverse before) pull → EachObeys next (before ++ pull ∷ []) 0 (suc next) inputs) → After (before ++ (if b then pull ∷ [] else []))
+    by_asked false a rest = subst After (sym (append-nil before)) (h.0, h.2)
+    by_asked true a rest = (
+      subst (Obeys class (width inputs)) (sym (map-append (turn next) before (pull ∷ [])))
+          (obeys-more class (width inputs) (map (turn next) before) (turn next pull) h.0
+          (subst (λ ts. AllowsTurn class (width inputs) ts (turn next pull)) (ap (map (turn next)) turned ∙ map-reverse (turn next) before) (a refl).0)),
+      rest (subst (λ ps. EachAllows AllowsTurn next 0 (suc next) inputs ps pull) turned (a refl).1),
+    )
+
+-- the visits of the pulls before one are of pulls numbered below it
+numbers-below : (log : List Visit) (a n total : ℕ) → a + n ≤ total → AllByRecursion (λ (v : Visit). v.pull < total) (flat_map (λ p. p) (map (λ k. in_pull k log) (range_with_len a n)))
+numbers-below log a zero total l = tt
+numbers-below log a (suc n) total l =
+    all-append (λ (v : Visit). v.pull < total) (in_pull a log) _ (all-weaker (λ (v : Visit). v.pull ≡ a) (λ (v : Visit). v.pull < total) (in_pull a log) (λ v e. omega (arith, e)) (in_pull-number a log))
+    (numbers-below log (a + 1) n total (omega arith))
+
+in-one : (k : ℕ) (visits : List Visit) → AllByRecursion (λ (v : Visit). v.pull ≡ k) visits → in_pull k visits ≡ visits
+in-one k visits h = filter-all (λ (v : Visit). v.pull == k) visits (all-weaker (λ (v : Visit). v.pull ≡ k) (λ (v : Visit). (v.pull == k) ≡ true) visits (λ v e. same v.pull e) h)
+  where
+    same : (m : ℕ) → m ≡ k → (m == k) ≡ true
+    same m e = grind (arith, nat_tests)
+
+in-other : (k : ℕ) (visits : List Visit) → AllByRecursion (λ (v : Visit). v.pull ≢ k) visits → in_pull k visits ≡ []
+in-other k visits h = filter-none (λ (v : Visit). v.pull == k) visits (all-weaker (λ (v : Visit). v.pull ≢ k) (λ (v : Visit). (v.pull == k) ≡ false) visits (λ v d. differs v.pull d) h)
+  where
+    differs : (m : ℕ) → m ≢ k → (m == k) ≡ false
+    differs m d = grind (arith, nat_tests)
+
+map-range : {X : Type 0} (f g : ℕ → X) (a n : ℕ) → ((k : ℕ) → k < a + n → f k ≡ g k) → map f (range_with_len a n) ≡ map g (range_with_len a n)
+map-range f g a zero h = refl
+map-range f g a (suc n) h = λ i. h a (omega arith) i ∷ map-range f g (a + 1) n (λ k l. h k (omega arith)) i
+
+-- the pulls of a log to which the visits of the next pull are added
+pulls-more : (log next : List Visit) (n : ℕ) → n ≡ length (visits_of 0 log) → AllByRecursion (λ (v : Visit). v.pull < n) log
+    → AllByRecursion (λ (v : Visit). v.pull ≡ n) next → length (visits_of 0 next) ≡ 1 → pulls (log ++ next) ≡ pulls log ++ next ∷ []
+pulls-more log next n count before now one =
+    let total : length (visits_of 0 (log ++ next)) ≡ n + 1 =
+    omega (arith, ap length (filter-append (λ (v : Visit). v.node == 0) log next), length-append (visits_of 0 log) (visits_of 0 next))
+    in
+    ap (λ m. map (λ k. in_pull k (log ++ next)) (range_with_len 0 m)) total
+    ∙ map-range_with_len_more (λ k. in_pull k (log ++ next)) 0 n n (omega arith)
+    ∙ ap₂ (λ ps p. ps ++ p ∷ []) (map-range (λ k. in_pull k (log ++ next)) (λ k. in_pull k log) 0 n earlier ∙ ap (λ m. map (λ k. in_pull k log) (range_with_len 0 m)) count) latest
+  where
+    earlier : (k : ℕ) → k < 0 + n → in_pull k (log ++ next) ≡ in_pull k log
+    earlier k l =
+        filter-append (λ (v : Visit). v.pull == k) log next
+        ∙ ap (λ vs. in_pull k log ++ vs) (in-other k next (all-weaker (λ (v : Visit). v.pull ≡ n) (λ (v : Visit). v.pull ≢ k) next (λ v e d. absurd (omega arith)) now))
+        ∙ append-nil (in_pull k log)
+
+    latest : in_pull n (log ++ next) ≡ next
+    latest =
+        filter-append (λ (v : Visit). v.pull == n) log next
+        ∙ ap (λ vs. vs ++ in_pull n next) (in-other n log (all-weaker (λ (v : Visit). v.pull < n) (λ (v : Visit). v.pull ≢ n) log (λ v l d. absurd (omega arith)) before))
+        ∙ in-one n next now
+
+-- the device has one visit in a pull
+device-once : (visits : List Visit) → AsksInOrder (0 ∷ []) visits → length visits ≡ 1
+device-once [] h = absurd h.in_order
+device-once (v ∷ visits) h = by_got v.got visits h.in_order.1
+  where
+    by_got : (o : Option Packet) (us : List Visit) → MatchOption o (UpToFirst [] us) (λ _. us ≡ []) → length (v ∷ us) ≡ 1
+    by_got o [] k = refl
+    by_got None (u ∷ us) k = absurd k
+    by_got (Some p) (u ∷ us) k = absurd (omega (arith, ap length k))
+
+one-more : (tree : Tree) (log pull : List Visit) → IsRun tree log → IsNextPull tree log pull → IsOnePullMore tree log pull
+one-more tree log pull run is =
+    record {
+      run = record {
+        shape = record {
+          blocks =
+              ap₂ (λ l p. l ++ p) run.shape.blocks (is.whole ∙ sym (append-nil (block tree pull))) ∙ sym (flat_map-append (block tree) (pulls log) (pull ∷ [])) ∙ ap (flat_map (block tree)) (sym last);
+          one_moment = subst (AllByRecursion HasOneMoment) (sym last) (all-append HasOneMoment (pulls log) (pull ∷ []) run.shape.one_moment (is.one_moment, tt));
+          moments = subst (λ ps. NeverFalls 0 (map moment_of ps)) (sym last) is.moments;
+        };
+        device =
+            subst (AllByRecursion IsDeviceTurn) (sym (ap (map (turn 0)) last ∙ map-append (turn 0) (pulls log) (pull ∷ [])))
+            (all-append IsDeviceTurn (map (turn 0) (pulls log)) (turn 0 pull ∷ []) run.device (is.device, tt));
+        below = subst (λ ps. EachObeys 0 ps 0 1 (root tree)) (sym last) (each-obeys (root tree) 0 0 1 (pulls log) pull run.below is.below);
+      };
+      last = last;
+    }
+  where
+    count : ℕ
+    count = length (visits_of 0 log)
+
+    counted : length (pulls log) ≡ count
+    counted = length-map-range_with_len (λ k. in_pull k log) 0 count
+
+    before : AllByRecursion (λ (v : Visit). v.pull < count) log
+    before = subst (AllByRecursion (λ (v : Visit). v.pull < count)) (sym (joined tree log run)) (numbers-below log 0 count count (omega arith))
+
+    last : pulls (log ++ pull) ≡ pulls log ++ pull ∷ []
+    last = pulls-more log pull count refl before (subst (λ n. AllByRecursion (λ (v : Visit). v.pull ≡ n) pull) counted is.number) (device-once (visits_of 0 pull) is.device)
+
+-- nothing has happened yet
+obeys-none : (class : Class) (inputs : ℕ) → Obeys class inputs []
+obeys-none prio inputs = tt
+obeys-none round_robin inputs = tt
+obeys-none (drr quantum) inputs = record { visits = tt; pulls = tt }
+obeys-none (stride tickets) inputs = tt
+obeys-none (shaper rate burst) inputs = tt
+
+each-none : (row : Row) (above first next : ℕ) → EachObeys above [] first next row
+each-none end above first next = tt
+each-none (leaf q row) above first next = each-none row above (suc first) next
+each-none (node class inputs row) above first next = (obeys-none class (width inputs), tt, each-none inputs next 0 (suc next), each-none row above (suc first) (suc (next + nodes inputs)))
+
+-- and back: what holds of the pulls up to one holds of those before it
+obeys-less : (class : Class) (inputs : ℕ) (turns later : List Turn) → Obeys class inputs (turns ++ later) → Obeys class inputs turns
+obeys-less prio inputs turns later h = (all-split (IsPrioTurn inputs) turns later h).0
+obeys-less round_robin inputs turns later h = (each-split (IsRoundRobinTurn inputs) [] turns later h).0
+obeys-less (drr quantum) inputs turns later h =
+    record {
+      visits =
+          (each-split (IsDeficitVisit quantum inputs) [] (all_visits turns) (all_visits later)
+          (subst (EachAfter (IsDeficitVisit quantum inputs) []) (flat_map-append (λ (u : Turn). u.visits) turns later) h.visits)).0;
+      pulls = (all-split (λ (u : Turn). EndAtPass inputs u.visits) turns later h.pulls).0;
+    }
+obeys-less (stride tickets) inputs turns later h = (each-split (IsStrideTurn tickets) [] turns later h).0
+obeys-less (shaper rate burst) inputs turns later h = (each-split (IsShaperTurn rate burst) [] turns later h).0
+
+each-less : (row : Row) (above first next : ℕ) (pulled later : List (List Visit)) → EachObeys above (pulled ++ later) first next row → EachObeys above pulled first next row
+each-less end above first next pulled later h = tt
+each-less (leaf q row) above first next pulled later h = each-less row above (suc first) next pulled later h
+each-less (node class inputs row) above first next pulled later h =
+    let split = filter-append (λ p. list_any (asks first) (visits_of above p)) pulled later in (
+      obeys-less class (width inputs) (map (turn next) (pulls_below above first pulled)) (map (turn next) (pulls_below above first later))
+          (subst (Obeys class (width inputs)) (ap (map (turn next)) split ∙ map-append (turn next) (pulls_below above first pulled) (pulls_below above first later)) h.0),
+      (all-split (GetsResult above first next) pulled later h.1).0,
+      each-less inputs next 0 (suc next) (pulls_below above first pulled) (pulls_below above first later) (subst (λ ps. EachObeys next ps 0 (suc next) inputs) split h.2),
+      each-less row above (suc first) (suc (next + nodes inputs)) pulled later h.3,
+    )
+
+each-laws : (row : Row) (above first next : ℕ) (earlier : List (List Visit)) (pull : List Visit) → EachAllows IsTurnWithin above first next row earlier pull → EachAllows AllowsTurn above first next row earlier pull
+each-laws end above first next earlier pull h = tt
+each-laws (leaf q row) above first next earlier pull h = each-laws row above (suc first) next earlier pull h
+each-laws (node class inputs row) above first next earlier pull h = (
+  λ asked. ((h.0 asked).0.law, each-laws inputs next 0 (suc next) (pulls_below above first earlier) pull (h.0 asked).1),
+  h.1,
+  each-laws row above (suc first) (suc (next + nodes inputs)) earlier pull h.2,
+)
+
+never-less : (least : ℕ) (ms later : List ℕ) → NeverFalls least (ms ++ later) → NeverFalls least ms
+never-less least [] later h = tt
+never-less least (m ∷ ms) later h = (h.0, never-less m ms later h.1)
+
+one-less : (tree : Tree) (log pull : List Visit) → IsOnePullMore tree log pull → IsOnePullLess tree log pull
+one-less tree log pull more =
+    record {
+      run = record {
+        shape = record {
+          blocks = log_is ∙ flat_map-same (λ p. p) (block tree) (pulls log) (λ p m. of-all (λ r. r ≡ block tree r) p (pulls log) wholes.0 m);
+          one_moment = (all-split HasOneMoment (pulls log) (pull ∷ []) (subst (AllByRecursion HasOneMoment) more.last more.run.shape.one_moment)).0;
+          moments = never-less 0 (map moment_of (pulls log)) (moment_of pull ∷ []) (subst (NeverFalls 0) (map-append moment_of (pulls log) (pull ∷ [])) moments);
+        };
+        device = devices.0;
+        below = each-less (root tree) 0 0 1 (pulls log) (pull ∷ []) (subst (λ ps. EachObeys 0 ps 0 1 (root tree)) more.last more.run.below);
+      };
+      next = record {
+        number = subst (λ n. AllByRecursion (λ (v : Visit). v.pull ≡ n) pull) (ap length (onto-reverse (pulls log)) ∙ length-reverse (pulls log)) numbered.number;
+        whole = numbered.whole;
+        one_moment = numbered.one_moment;
+        moments = moments;
+        device = devices.1.0;
+        below =
+            subst (λ e. EachAllows AllowsTurn 0 0 1 (root tree) e pull) (onto-reverse (pulls log))
+            (each-laws (root tree) 0 0 1 (onto (pulls log) []) pull
+            (each-split (EachAllows IsTurnWithin 0 0 1 (root tree)) [] (pulls log) (pull ∷ [])
+            (subst (EachAfter (EachAllows IsTurnWithin 0 0 1 (root tree)) []) more.last (each-allowed 0 0 1 (root tree) (pulls (log ++ pull)) more.run.below))).1.0);
+      };
+    }
+  where
+    wholes : AllByRecursion (λ p. p ≡ block tree p) (pulls log) × AllByRecursion (λ p. p ≡ block tree p) (pull ∷ [])
+    wholes = all-split (λ p. p ≡ block tree p) (pulls log) (pull ∷ []) (subst (AllByRecursion (λ p. p ≡ block tree p)) more.last (each-whole tree (log ++ pull) more.run.shape))
+
+    log_is : log ≡ flat_map (λ p. p) (pulls log)
+    log_is =
+        append_cancel_right log (flat_map (λ p. p) (pulls log)) pull
+        (joined tree (log ++ pull) more.run ∙ ap (flat_map (λ p. p)) more.last ∙ flat_map-append (λ p. p) (pulls log) (pull ∷ []) ∙ ap (λ l. flat_map (λ p. p) (pulls log) ++ l) (append-nil pull))
+
+    moments : NeverFalls 0 (map moment_of (pulls log ++ pull ∷ []))
+    moments = subst (λ ps. NeverFalls 0 (map moment_of ps)) more.last more.run.shape.moments
+
+    devices : AllByRecursion IsDeviceTurn (map (turn 0) (pulls log)) × AllByRecursion IsDeviceTurn (turn 0 pull ∷ [])
+    devices =
+        all-split IsDeviceTurn (map (turn 0) (pulls log)) (turn 0 pull ∷ [])
+        (subst (AllByRecursion IsDeviceTurn) (ap (map (turn 0)) more.last ∙ map-append (turn 0) (pulls log) (pull ∷ [])) more.run.device)
+
+    numbered : IsNumbered tree (onto (pulls log) []) pull
+    numbered = (each-split (IsNumbered tree) [] (pulls log) (pull ∷ []) (subst (EachAfter (IsNumbered tree) []) more.last (each-numbered tree (log ++ pull) more.run.shape))).1.0
+
+pub goes-on : (tree : Tree) → GoesOn tree
+goes-on tree =
+    record {
+      start = record { shape = record { blocks = refl; one_moment = tt; moments = tt }; device = tt; below = each-none (root tree) 0 0 1 };
+      step = one-more tree;
+      back = one-less tree;
+    }

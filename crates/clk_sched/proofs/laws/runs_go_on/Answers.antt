@@ -1,0 +1,5 @@
+use Rattle.clk_sched.proofs.GoesOn.{goes-on}
+use Rattle.clk_sched.proofs.laws.runs_go_on.Goals as goal
+
+pub returns : goal.returns
+returns c = goes-on
