@@ -2,8 +2,6 @@
 use Rattle.std.proofs.Common.{◌≡◌, ℕ, suc, ◌+◌, ◌<◌, ◌≤◌, ◌==◌, ◌&&◌, ◌||◌, ◌⊎◌, inl, inr, if◌then◌else◌, Bool, true, false, List, [], ◌∷◌, map, reverse, Option, Some, None, MatchOption, MatchBool, eq-or-lt_of_le, refl, sym, ◌∙◌, subst, arith}
 use Rattle.std.specs.List.{flat_map, range_with_len, enumerate_from, AllByRecursion}
 use Rattle.std.proofs.lemmas.Bool.{false≢true}
-use Rattle.std.proofs.lemmas.Bool.Decides.{nat_tests}
-use Rattle.std.proofs.lemmas.List.Folds.{flat_map-map}
 use Rattle.clk_packet.specs.declared.packet.Packet.{Packet}
 use Rattle.clk_sched.specs.declared.visit.Visit.{Visit}
 use Rattle.clk_sched.specs.Tree.{Class, prio, round_robin, drr, stride, shaper, Row, end, leaf, node, Tree, root, nodes, width, leaves, stands_in, HasArguments, IsWellFormed}
@@ -20,13 +18,15 @@ use Rattle.clk_sched.specs.Conservation.{CameFrom, MakesNothing}
 use Rattle.clk_sched.proofs.Members.{In, of-all, all-append, all-flat_map, all-split, all-weaker}
 use Rattle.clk_sched.proofs.Allowed.{IsTurnWithin, turns-allowed, next-within}
 use Rattle.clk_sched.proofs.SameTurns.{range-below, turned-below, ordered-below, numbered-below, passes-length}
-use Rattle.clk_sched.proofs.Heads.{KeepsHead, IsOrdered, got_by, passed_by, held_in, got-passed_and_held}
-use Rattle.clk_sched.proofs.HeadsByClass.{class-keeps}
+use Rattle.clk_sched.proofs.Heads.{got_by, passed_by, held_in}
 use Rattle.clk_sched.proofs.TreeLemmas.{stands_in-append}
 use Rattle.clk_sched.proofs.NoChoice.{root-width}
-use Rattle.clk_sched.proofs.Pulled.{IsPulledIn, pulled-after_leaf, pulled-after_node, pulled-inputs, ordered-turns, turns-last, pulled-root}
+use Rattle.clk_sched.proofs.Pulled.{IsPulledIn, pulled-after_leaf, pulled-after_node, pulled-inputs, pulled-root}
 use Rattle.clk_sched.proofs.Gives.{gives, result_by, results, gives-results}
 use Rattle.clk_sched.proofs.Conserved.{device-emits}
+use Rattle.clk_sched.proofs.Gives.{gives-queue, gives-after_leaf, gives-after_node, gives-passed_and_held}
+use Rattle.clk_sched.proofs.Pulled.{turns-visits}
+use Rattle.clk_sched.proofs.Numbers.{same}
 
 -- the visits of a turn go to the inputs that there are
 abbrev VisitsWithin : ℕ → List Visit → Type 0
@@ -101,24 +101,15 @@ record AllCame (log : List Visit) (above first next : ℕ) (row : Row) : Type 0 
   got : (i : ℕ) → first ≤ i → i < first + width row → AllByRecursion (CameFrom row) (gives log above first next row i)
   held : AllByRecursion (CameFrom row) (traced_heads log next row)
 
--- by the origin of what a visit got
-got-same : (row : Row) (f g : ℕ → Option ℕ) (i : ℕ) (visits : List Visit) → ((k : ℕ) → f k ≡ g k) → AllByRecursion (CameFrom row) (flat_map (got_by g i) visits) → AllByRecursion (CameFrom row) (flat_map (got_by f i) visits)
-got-same row f g i visits e h = subst (λ (o : ℕ → Option ℕ). AllByRecursion (CameFrom row) (flat_map (got_by o i) visits)) (λ j k. sym (e k) j) h
-
 came-here : (log : List Visit) (above first next k : ℕ) (row : Row) → AllByRecursion (CameFrom (leaf k row)) (gives log above first next (leaf k row) first)
 came-here log above first next k row =
-    got-same (leaf k row) _ (λ _. Some k) first (visits_of above log) here (all-flat_map (CameFrom (leaf k row)) (got_by (λ _. Some k) first) (visits_of above log) (λ v m. by_ask (asks first v) v.got))
+    subst (AllByRecursion (CameFrom (leaf k row))) (sym (gives-queue log above first next k row))
+    (all-flat_map (CameFrom (leaf k row)) (got_by (λ _. Some k) first) (visits_of above log) (λ v m. by_ask (asks first v) v.got))
   where
-    self : (m : ℕ) → (m == m) ≡ true
-    self m = grind (arith, nat_tests)
-
-    here : (p : ℕ) → (if first == first then Some k else origin_in log (suc first) next row first p) ≡ Some k
-    here p = let same : (first == first) ≡ true = self first in rw same refl
-
     by_ask : (b : Bool) (o : Option Packet) → AllByRecursion (CameFrom (leaf k row)) (if b then traced o (Some k) else [])
     by_ask false o = tt
     by_ask true None = tt
-    by_ask true (Some p) = (or-left (k == k) (stands_in k (leaves row)) (self k), tt)
+    by_ask true (Some p) = (or-left (k == k) (stands_in k (leaves row)) (same k), tt)
 
 came-after_leaf : (log : List Visit) (above first next k : ℕ) (row : Row) → AllCame log above (suc first) next row → AllCame log above first next (leaf k row)
 came-after_leaf log above first next k row rest =
@@ -127,17 +118,14 @@ came-after_leaf log above first next k row rest =
     by_input : (i : ℕ) → (first ≡ i) ⊎ (first < i) → i < first + suc (width row) → AllByRecursion (CameFrom (leaf k row)) (gives log above first next (leaf k row) i)
     by_input i (inl e) m = subst (λ j. AllByRecursion (CameFrom (leaf k row)) (gives log above first next (leaf k row) j)) e (came-here log above first next k row)
     by_input i (inr l) m =
-        got-same (leaf k row) _ (λ p. origin_in log (suc first) next row i p) i (visits_of above log) there
+        subst (AllByRecursion (CameFrom (leaf k row))) (sym (gives-after_leaf log above first next k row i l))
         (came-wider row (leaf k row) (in-after_leaf k row) (gives log above (suc first) next row i) (rest.got i (omega arith) (omega arith)))
-      where
-        there : (p : ℕ) → origin_in log first next (leaf k row) i p ≡ origin_in log (suc first) next row i p
-        there p = let differs : (first == i) ≡ false = grind (arith, nat_tests) in rw differs refl
 
 -- what a node passed, and what it holds
-came-own : (tree : Tree) (log : List Visit) (above first next : ℕ) (class : Class) (inputs row : Row) (pulled : List (List Visit)) → IsPulledIn tree log above first next (node class inputs row) pulled
+came-own : (log : List Visit) (above first next : ℕ) (class : Class) (inputs row : Row) (pulled : List (List Visit)) → IsPulledIn log above first next (node class inputs row) pulled
     → 1 ≤ width inputs → HasArguments class (width inputs) → EachObeys above pulled first next (node class inputs row) → AllCame log next 0 (suc next) inputs
     → AllByRecursion (CameFrom inputs) (results log next inputs) × AllByRecursion (CameFrom inputs) (own_heads log next inputs class)
-came-own tree log above first next class inputs row pulled h some fit obeys below = (
+came-own log above first next class inputs row pulled h some fit obeys below = (
   all-flat_map (CameFrom inputs) (result_by log next inputs) visits (λ v m. passed v m),
   by_class class,
 )
@@ -145,20 +133,14 @@ came-own tree log above first next class inputs row pulled h some fit obeys belo
     turns : List Turn
     turns = map (turn next) (pulls_below above first pulled)
 
-    pull : IsPulledIn tree log next 0 (suc next) inputs (pulls_below above first pulled)
-    pull = pulled-inputs tree log above first next class inputs row pulled h
-
     visits : List Visit
     visits = visits_of next log
-
-    all : all_visits turns ≡ visits
-    all = flat_map-map (λ (t : Turn). t.visits) (turn next) (pulls_below above first pulled) ∙ sym pull.own_visits
 
     allowed : EachAfter (IsTurnWithin class (width inputs)) [] turns
     allowed = turns-allowed class (width inputs) turns obeys.0
 
     within : VisitsWithin (width inputs) visits
-    within = subst (VisitsWithin (width inputs)) all (turns-within class (width inputs) [] turns some fit allowed)
+    within = subst (VisitsWithin (width inputs)) (turns-visits log above first next class inputs row pulled h) (turns-within class (width inputs) [] turns some fit allowed)
 
     origin : ℕ → ℕ → Option ℕ
     origin i k = origin_in log 0 (suc next) inputs i k
@@ -167,17 +149,11 @@ came-own tree log above first next class inputs row pulled h some fit obeys belo
         → AllByRecursion (CameFrom inputs) (flat_map (passed_by (origin i) i (reverse visits)) visits) × AllByRecursion (CameFrom inputs) (held_in (origin i) i (reverse visits))
     both i l =
         all-split (CameFrom inputs) (flat_map (passed_by (origin i) i (reverse visits)) visits) (held_in (origin i) i (reverse visits))
-        (subst (AllByRecursion (CameFrom inputs))
-        (got-passed_and_held (origin i) i visits (subst (EachAfter KeepsHead []) all (class-keeps class (width inputs) turns obeys.0))
-        (subst IsOrdered (sym pull.own_visits) (ordered-turns log next 0 (pulls_below above first pulled) pull.rising (turns-last class (width inputs) next [] (pulls_below above first pulled) allowed)).0))
-        (below.got i (omega arith) (omega arith)))
+        (subst (AllByRecursion (CameFrom inputs)) (gives-passed_and_held log above first next class inputs row pulled h obeys.0 i) (below.got i (omega arith) (omega arith)))
 
     passed : (v : Visit) → In v visits → AllByRecursion (CameFrom inputs) (result_by log next inputs v)
-    passed v m = by_test v.passed (v.input == v.input) (self v.input) (all-flat_map-in (CameFrom inputs) (passed_by (origin v.input) v.input (reverse visits)) v visits (both v.input (of-all _ v visits within m)).0 m)
+    passed v m = by_test v.passed (v.input == v.input) (same v.input) (all-flat_map-in (CameFrom inputs) (passed_by (origin v.input) v.input (reverse visits)) v visits (both v.input (of-all _ v visits within m)).0 m)
       where
-        self : (n : ℕ) → (n == n) ≡ true
-        self n = grind (arith, nat_tests)
-
         by_test : (b c : Bool) → c ≡ true → AllByRecursion (CameFrom inputs) (if b && c then traced v.got (origin v.input (asked_pull v.input v.pull (reverse visits))) else [])
             → AllByRecursion (CameFrom inputs) (if b then traced v.got (origin v.input (asked_pull v.input v.pull (reverse visits))) else [])
         by_test false c e k = tt
@@ -194,10 +170,10 @@ came-own tree log above first next class inputs row pulled h some fit obeys belo
     by_class (stride tickets) = tt
     by_class (shaper rate burst) = tt
 
-came-node : (tree : Tree) (log : List Visit) (above first next : ℕ) (class : Class) (inputs row : Row) (pulled : List (List Visit)) → IsPulledIn tree log above first next (node class inputs row) pulled
+came-node : (log : List Visit) (above first next : ℕ) (class : Class) (inputs row : Row) (pulled : List (List Visit)) → IsPulledIn log above first next (node class inputs row) pulled
     → IsWellFormed (node class inputs row) → EachObeys above pulled first next (node class inputs row) → AllCame log next 0 (suc next) inputs → AllCame log above (suc first) (suc (next + nodes inputs)) row
     → AllCame log above first next (node class inputs row)
-came-node tree log above first next class inputs row pulled h well obeys below rest =
+came-node log above first next class inputs row pulled h well obeys below rest =
     record {
       got = λ i l m. by_input i (eq-or-lt_of_le l) m;
       held =
@@ -207,31 +183,28 @@ came-node tree log above first next class inputs row pulled h well obeys below r
     }
   where
     own : AllByRecursion (CameFrom inputs) (results log next inputs) × AllByRecursion (CameFrom inputs) (own_heads log next inputs class)
-    own = came-own tree log above first next class inputs row pulled h well.0 well.1 obeys below
+    own = came-own log above first next class inputs row pulled h well.0 well.1 obeys below
 
     by_input : (i : ℕ) → (first ≡ i) ⊎ (first < i) → i < first + suc (width row) → AllByRecursion (CameFrom (node class inputs row)) (gives log above first next (node class inputs row) i)
     by_input i (inl e) m =
         subst (λ j. AllByRecursion (CameFrom (node class inputs row)) (gives log above first next (node class inputs row) j)) e
-        (subst (AllByRecursion (CameFrom (node class inputs row))) (sym (gives-results tree log above first next class inputs row pulled h obeys.0 obeys.1))
+        (subst (AllByRecursion (CameFrom (node class inputs row))) (sym (gives-results log above first next class inputs row pulled h obeys.0 obeys.1))
         (came-wider inputs (node class inputs row) (in-inputs class inputs row) _ own.0))
     by_input i (inr l) m =
-        got-same (node class inputs row) _ (λ p. origin_in log (suc first) (suc (next + nodes inputs)) row i p) i (visits_of above log) there
+        subst (AllByRecursion (CameFrom (node class inputs row))) (sym (gives-after_node log above first next class inputs row i l))
         (came-wider row (node class inputs row) (in-after_node class inputs row) (gives log above (suc first) (suc (next + nodes inputs)) row i) (rest.got i (omega arith) (omega arith)))
-      where
-        there : (p : ℕ) → origin_in log first next (node class inputs row) i p ≡ origin_in log (suc first) (suc (next + nodes inputs)) row i p
-        there p = let differs : (first == i) ≡ false = grind (arith, nat_tests) in rw differs refl
 
-all-came : (tree : Tree) (log : List Visit) (row : Row) (above first next : ℕ) (pulled : List (List Visit)) → IsPulledIn tree log above first next row pulled → IsWellFormed row
+all-came : (log : List Visit) (row : Row) (above first next : ℕ) (pulled : List (List Visit)) → IsPulledIn log above first next row pulled → IsWellFormed row
     → EachObeys above pulled first next row → AllCame log above first next row
-all-came tree log end above first next pulled h well obeys = record { got = λ i l m. absurd (omega arith); held = tt }
-all-came tree log (leaf k row) above first next pulled h well obeys =
-    came-after_leaf log above first next k row (all-came tree log row above (suc first) next pulled (pulled-after_leaf tree log above first next k row pulled h) well obeys)
-all-came tree log (node class inputs row) above first next pulled h well obeys =
-    came-node tree log above first next class inputs row pulled h well obeys
-    (all-came tree log inputs next 0 (suc next) (pulls_below above first pulled) (pulled-inputs tree log above first next class inputs row pulled h) well.2 obeys.2)
-    (all-came tree log row above (suc first) (suc (next + nodes inputs)) pulled (pulled-after_node tree log above first next class inputs row pulled h) well.3 obeys.3)
+all-came log end above first next pulled h well obeys = record { got = λ i l m. absurd (omega arith); held = tt }
+all-came log (leaf k row) above first next pulled h well obeys =
+    came-after_leaf log above first next k row (all-came log row above (suc first) next pulled (pulled-after_leaf log above first next k row pulled h) well obeys)
+all-came log (node class inputs row) above first next pulled h well obeys =
+    came-node log above first next class inputs row pulled h well obeys
+    (all-came log inputs next 0 (suc next) (pulls_below above first pulled) (pulled-inputs log above first next class inputs row pulled h) well.2 obeys.2)
+    (all-came log row above (suc first) (suc (next + nodes inputs)) pulled (pulled-after_node log above first next class inputs row pulled h) well.3 obeys.3)
 
 pub makes-nothing : (tree : Tree) → IsWellFormed (root tree) → MakesNothing tree
 makes-nothing tree well log run =
-    let all = all-came tree log (root tree) 0 0 1 (pulls log) (pulled-root tree log run) well run.below in
+    let all = all-came log (root tree) 0 0 1 (pulls log) (pulled-root tree log run) well run.below in
     (subst (AllByRecursion (CameFrom (root tree))) (device-emits tree log 0 refl run) (all.got 0 (omega arith) (omega (arith, root-width tree))), all.held)

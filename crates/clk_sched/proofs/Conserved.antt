@@ -3,28 +3,29 @@ use Rattle.std.proofs.Common.{◌≡◌, ◌≢◌, ℕ, zero, suc, ◌+◌, ◌
 use Rattle.std.specs.List.{flat_map, filter_map, cons_option, range_with_len, AllByRecursion}
 use Rattle.std.proofs.lemmas.Bool.{false≢true}
 use Rattle.std.proofs.lemmas.Bool.Decides.{nat_tests}
-use Rattle.std.proofs.lemmas.List.Folds.{flat_map-map}
 use Rattle.clk_packet.specs.declared.packet.Packet.{Packet}
 use Rattle.clk_sched.specs.declared.visit.Visit.{Visit}
 use Rattle.clk_sched.specs.Tree.{Class, prio, round_robin, drr, stride, shaper, Row, end, leaf, node, Tree, root, nodes, width, leaves, stands_in, are_distinct, leaves_distinct, is_number}
-use Rattle.clk_sched.specs.Turns.{Turn, EachAfter, all_visits, IsPlain, UpToFirst, AsksInOrder}
+use Rattle.clk_sched.specs.Turns.{Turn, all_visits, IsPlain, UpToFirst, AsksInOrder}
 use Rattle.clk_sched.specs.Laws.{Obeys}
 use Rattle.clk_sched.specs.Laws.Device.{IsDeviceTurn}
 use Rattle.clk_sched.specs.Laws.Deficit.{head_at}
-use Rattle.clk_sched.specs.Log.{visits_of, in_pull, pulls, turn, asks, pulls_below}
+use Rattle.clk_sched.specs.Log.{visits_of, in_pull, pulls, turn, pulls_below}
 use Rattle.clk_sched.specs.Run.{EachObeys, IsRun}
 use Rattle.clk_sched.specs.Results.{Traced, traced, leaf_packets, traced_emitted, traced_heads, own_heads, held_at, origin_in, passed_input, asked_pull, first_pull}
 use Rattle.clk_sched.specs.Conservation.{from_queue, ConservesPackets}
 use Rattle.clk_sched.proofs.Members.{of-all, all-append}
-use Rattle.clk_sched.proofs.Allowed.{onto-reverse, turns-allowed}
-use Rattle.clk_sched.proofs.Heads.{KeepsHead, IsOrdered, got_by, passed_by, got-passed_and_held}
-use Rattle.clk_sched.proofs.HeadsByClass.{IsHeadless, class-keeps, headless-holds}
+use Rattle.clk_sched.proofs.Allowed.{onto-reverse}
+use Rattle.clk_sched.proofs.Heads.{got_by, passed_by}
+use Rattle.clk_sched.proofs.HeadsByClass.{IsHeadless, headless-holds}
 use Rattle.clk_sched.proofs.Blocks.{flat_map-same}
 use Rattle.clk_sched.proofs.TreeLemmas.{stands_in-append}
 use Rattle.clk_sched.proofs.NoChoice.{root-width}
 use Rattle.clk_sched.proofs.Origins.{origin-not, from_queue-append, traced-not, heads-not, node-not, distinct-parts, StandsOnlyIn, only-after_leaf, only-after_node, only-inputs, only-here}
-use Rattle.clk_sched.proofs.Pulled.{IsPulledIn, pulled-after_leaf, pulled-after_node, pulled-inputs, ordered-turns, turns-last, pulled-root}
+use Rattle.clk_sched.proofs.Pulled.{IsPulledIn, pulled-after_leaf, pulled-after_node, pulled-inputs, pulled-root}
 use Rattle.clk_sched.proofs.Gives.{gives, results, gives-results}
+use Rattle.clk_sched.proofs.Gives.{gives-queue, gives-after_leaf, gives-after_node, gives-passed_and_held}
+use Rattle.clk_sched.proofs.Pulled.{turns-visits}
 
 from_queue-same : {X : Type 0} (q : ℕ) (f g : X → List Traced) (xs : List X) → ((x : X) → from_queue q (f x) ≡ from_queue q (g x)) → from_queue q (flat_map f xs) ≡ from_queue q (flat_map g xs)
 from_queue-same q f g [] h = refl
@@ -98,17 +99,11 @@ conserved-here tree log q above first next k row e h only =
       high = omega arith;
       conserved =
           filter_map-same _ _ log (λ v. ap (λ b. if v.fresh && b then v.got else None) (only-here q tree above first next k row e h only v.node v.input))
-          ∙ leaf-log q k above first e log ∙ ap (from_queue q) (flat_map-same _ _ (visits_of above log) (λ v m. ap (λ o. if asks first v then traced v.got o else []) (sym (here v.pull))))
+          ∙ leaf-log q k above first e log ∙ ap (from_queue q) (sym (gives-queue log above first next k row))
           ∙ sym (append-nil _) ∙ ap (λ l. from_queue q (gives log above first next (leaf k row) first) ++ l) (sym (heads-not q log next row h));
       alone = λ j p d. by_test j p (first == j) refl d (origin-not q log (suc first) next row j p h);
     }
   where
-    here : (p : ℕ) → (if first == first then Some k else origin_in log (suc first) next row first p) ≡ Some k
-    here p = let same : (first == first) ≡ true = self first in rw same refl
-      where
-        self : (m : ℕ) → (m == m) ≡ true
-        self m = grind (arith, nat_tests)
-
     by_test : (j p : ℕ) (b : Bool) → (first == j) ≡ b → j ≢ first → is_number q (origin_in log (suc first) next row j p) ≡ false
         → is_number q (if b then Some k else origin_in log (suc first) next row j p) ≡ false
     by_test j p true t d rest = absurd (d (grind (arith, nat_tests)))
@@ -122,13 +117,10 @@ conserved-after_leaf tree log q above first next k row e rest =
       high = let l = rest.high in omega arith;
       conserved =
           rest.conserved
-          ∙ ap (λ l. l ++ from_queue q (traced_heads log next row)) (ap (from_queue q) (flat_map-same _ _ (visits_of above log) (λ v m. ap (λ o. if asks rest.input v then traced v.got o else []) (sym (there v.pull)))));
+          ∙ ap (λ l. from_queue q l ++ from_queue q (traced_heads log next row)) (sym (gives-after_leaf log above first next k row rest.input (let l = rest.low in omega arith)));
       alone = λ j p d. by_test j p (first == j) (rest.alone j p d);
     }
   where
-    there : (p : ℕ) → origin_in log first next (leaf k row) rest.input p ≡ origin_in log (suc first) next row rest.input p
-    there p = let differs : (first == rest.input) ≡ false = (let l = rest.low in grind (arith, nat_tests)) in rw differs refl
-
     by_test : (j p : ℕ) (b : Bool) → is_number q (origin_in log (suc first) next row j p) ≡ false → is_number q (if b then Some k else origin_in log (suc first) next row j p) ≡ false
     by_test j p true h = e
     by_test j p false h = h
@@ -143,14 +135,11 @@ conserved-after_node tree log q above first next class inputs row h rest =
       conserved =
           rest.conserved
           ∙ ap₂ (λ l m. l ++ m)
-          (ap (from_queue q) (flat_map-same _ _ (visits_of above log) (λ v m. ap (λ o. if asks rest.input v then traced v.got o else []) (sym (there v.pull)))))
+          (ap (from_queue q) (sym (gives-after_node log above first next class inputs row rest.input (let l = rest.low in omega arith))))
           (sym (node-not q log next class inputs row h));
       alone = λ j p d. by_test j p (first == j) (origin-not q log 0 (suc next) inputs _ _ h) (rest.alone j p d);
     }
   where
-    there : (p : ℕ) → origin_in log first next (node class inputs row) rest.input p ≡ origin_in log (suc first) (suc (next + nodes inputs)) row rest.input p
-    there p = let differs : (first == rest.input) ≡ false = (let l = rest.low in grind (arith, nat_tests)) in rw differs refl
-
     inside : ℕ → Option ℕ
     inside p = origin_in log 0 (suc next) inputs (passed_input (visits_of next (in_pull p log))) (asked_pull (passed_input (visits_of next (in_pull p log))) p (reverse (visits_of next log)))
 
@@ -176,7 +165,7 @@ own-held log q x class inputs turns i law all l alone = by_class class law
     by_class (stride tickets) h = none (stride tickets) tt h
     by_class (shaper rate burst) h = none (shaper rate burst) tt h
 
-conserved-node : (tree : Tree) (log : List Visit) (q above first next : ℕ) (class : Class) (inputs row : Row) (pulled : List (List Visit)) → IsPulledIn tree log above first next (node class inputs row) pulled
+conserved-node : (tree : Tree) (log : List Visit) (q above first next : ℕ) (class : Class) (inputs row : Row) (pulled : List (List Visit)) → IsPulledIn log above first next (node class inputs row) pulled
     → EachObeys above pulled first next (node class inputs row) → stands_in q (leaves row) ≡ false → IsConservedBelow tree log q next 0 (suc next) inputs
     → IsConservedBelow tree log q above first next (node class inputs row)
 conserved-node tree log q above first next class inputs row pulled h obeys other below =
@@ -187,21 +176,18 @@ conserved-node tree log q above first next class inputs row pulled h obeys other
       conserved =
           below.conserved ∙ ap (λ l. from_queue q l ++ inner) kept ∙ ap (λ l. l ++ inner) (from_queue-append q passed (held_at log next inputs below.input))
           ∙ append_assoc (from_queue q passed) (from_queue q (held_at log next inputs below.input)) inner
-          ∙ ap₂ (λ l m. l ++ m) (passed_results ∙ ap (from_queue q) (sym (gives-results tree log above first next class inputs row pulled h obeys.0 obeys.1))) (sym heads);
+          ∙ ap₂ (λ l m. l ++ m) (passed_results ∙ ap (from_queue q) (sym (gives-results log above first next class inputs row pulled h obeys.0 obeys.1))) (sym heads);
       alone = λ j p d. by_test j p (first == j) refl d (origin-not q log (suc first) (suc (next + nodes inputs)) row j p other);
     }
   where
     turns : List Turn
     turns = map (turn next) (pulls_below above first pulled)
 
-    pull : IsPulledIn tree log next 0 (suc next) inputs (pulls_below above first pulled)
-    pull = pulled-inputs tree log above first next class inputs row pulled h
-
     visits : List Visit
     visits = visits_of next log
 
     all : all_visits turns ≡ visits
-    all = flat_map-map (λ (t : Turn). t.visits) (turn next) (pulls_below above first pulled) ∙ sym pull.own_visits
+    all = turns-visits log above first next class inputs row pulled h
 
     origin : ℕ → ℕ → Option ℕ
     origin i k = origin_in log 0 (suc next) inputs i k
@@ -213,9 +199,7 @@ conserved-node tree log q above first next class inputs row pulled h obeys other
     inner = from_queue q (traced_heads log (suc next) inputs)
 
     kept : gives log next 0 (suc next) inputs below.input ≡ passed ++ held_at log next inputs below.input
-    kept =
-        got-passed_and_held (origin below.input) below.input visits (subst (EachAfter KeepsHead []) all (class-keeps class (width inputs) turns obeys.0))
-        (subst IsOrdered (sym pull.own_visits) (ordered-turns log next 0 (pulls_below above first pulled) pull.rising (turns-last class (width inputs) next [] (pulls_below above first pulled) (turns-allowed class (width inputs) turns obeys.0))).0)
+    kept = gives-passed_and_held log above first next class inputs row pulled h obeys.0 below.input
 
     one : (v : Visit) (b c : Bool) → (v.input == below.input) ≡ c
         → from_queue q (if b && c then traced v.got (origin below.input (asked_pull below.input v.pull (reverse visits))) else [])
@@ -242,13 +226,13 @@ conserved-node tree log q above first next class inputs row pulled h obeys other
     by_test j p true t d rest = absurd (d (grind (arith, nat_tests)))
     by_test j p false t d rest = rest
 
-conserved-below : (tree : Tree) (log : List Visit) (q : ℕ) (row : Row) (above first next : ℕ) (pulled : List (List Visit)) → IsPulledIn tree log above first next row pulled → EachObeys above pulled first next row
+conserved-below : (tree : Tree) (log : List Visit) (q : ℕ) (row : Row) (above first next : ℕ) (pulled : List (List Visit)) → IsPulledIn log above first next row pulled → EachObeys above pulled first next row
     → StandsOnlyIn q tree above first next row → stands_in q (leaves row) ≡ true → are_distinct (leaves row) ≡ true → IsConservedBelow tree log q above first next row
 conserved-below tree log q end above first next pulled h obeys only stands distinct = absurd (false≢true stands)
 conserved-below tree log q (leaf k row) above first next pulled h obeys only stands distinct =
     let parts = distinct-parts q (k ∷ []) (leaves row) distinct in
     by_test (k == q) refl stands parts.2
-    (λ e s. conserved-below tree log q row above (suc first) next pulled (pulled-after_leaf tree log above first next k row pulled h) obeys (only-after_leaf q tree above first next k row h.ordered e only) s parts.1)
+    (λ e s. conserved-below tree log q row above (suc first) next pulled (pulled-after_leaf log above first next k row pulled h) obeys (only-after_leaf q tree above first next k row h.ordered e only) s parts.1)
   where
     by_test : (b : Bool) → (k == q) ≡ b → (b || stands_in q (leaves row)) ≡ true → ((b || false) ≡ true → stands_in q (leaves row) ≡ false)
         → ((k == q) ≡ false → stands_in q (leaves row) ≡ true → IsConservedBelow tree log q above (suc first) next row) → IsConservedBelow tree log q above first next (leaf k row)
@@ -257,10 +241,10 @@ conserved-below tree log q (leaf k row) above first next pulled h obeys only sta
 conserved-below tree log q (node class inputs row) above first next pulled h obeys only stands distinct =
     let parts = distinct-parts q (leaves inputs) (leaves row) distinct in
     by_test (stands_in q (leaves inputs)) refl (sym (stands_in-append q (leaves inputs) (leaves row)) ∙ stands)
-    (λ s. conserved-below tree log q inputs next 0 (suc next) (pulls_below above first pulled) (pulled-inputs tree log above first next class inputs row pulled h) obeys.2
+    (λ s. conserved-below tree log q inputs next 0 (suc next) (pulls_below above first pulled) (pulled-inputs log above first next class inputs row pulled h) obeys.2
     (only-inputs q tree above first next class inputs row (parts.2 s) only) s parts.0)
     parts.2
-    (λ e s. conserved-below tree log q row above (suc first) (suc (next + nodes inputs)) pulled (pulled-after_node tree log above first next class inputs row pulled h) obeys.3
+    (λ e s. conserved-below tree log q row above (suc first) (suc (next + nodes inputs)) pulled (pulled-after_node log above first next class inputs row pulled h) obeys.3
     (only-after_node q tree above first next class inputs row h.ordered e only) s parts.1)
   where
     by_test : (b : Bool) → stands_in q (leaves inputs) ≡ b → (b || stands_in q (leaves row)) ≡ true → (stands_in q (leaves inputs) ≡ true → IsConservedBelow tree log q next 0 (suc next) inputs)

@@ -1,9 +1,8 @@
 -- What a node's parent got from it is what it passed.
 use Rattle.std.proofs.Common.{◌≡◌, ℕ, suc, ◌==◌, if◌then◌else◌, Bool, true, false, List, [], ◌∷◌, ◌++◌, map, filter, reverse, Option, refl, sym, ap, ap₂, ◌∙◌, append-nil, arith}
 use Rattle.std.specs.List.{flat_map, AllByRecursion, list_any}
-use Rattle.std.proofs.lemmas.Bool.Decides.{nat_tests}
 use Rattle.clk_sched.specs.declared.visit.Visit.{Visit}
-use Rattle.clk_sched.specs.Tree.{Class, Row, node, Tree, width}
+use Rattle.clk_sched.specs.Tree.{Class, Row, node, width}
 use Rattle.clk_sched.specs.Laws.{Obeys}
 use Rattle.clk_sched.specs.Log.{visits_of, in_pull, turn, asks, pulls_below, result_of}
 use Rattle.clk_sched.specs.Run.{GetsResult}
@@ -14,6 +13,14 @@ use Rattle.clk_sched.proofs.Heads.{got_by}
 use Rattle.clk_sched.proofs.HeadsByClass.{PassesLast}
 use Rattle.clk_sched.proofs.Blocks.{flat_map-same, owns-self, copies, copies-cancel}
 use Rattle.clk_sched.proofs.Pulled.{IsPullOf, rising-in, flat_map-filter, flat_map-flat_map, copies-unasked, IsPulledIn, pulled-inputs, turns-last}
+use Rattle.clk_sched.proofs.Numbers.{equal, differs}
+use Rattle.std.proofs.Common.{◌+◌, ◌<◌, Some, subst}
+use Rattle.clk_sched.specs.Tree.{leaf, nodes}
+use Rattle.clk_sched.specs.Turns.{Turn, EachAfter}
+use Rattle.clk_sched.specs.Results.{held_at}
+use Rattle.clk_sched.proofs.Heads.{KeepsHead, IsOrdered, passed_by, got-passed_and_held}
+use Rattle.clk_sched.proofs.HeadsByClass.{class-keeps}
+use Rattle.clk_sched.proofs.Pulled.{ordered-turns, turns-visits}
 
 -- what a row's parent got from what stands at one of its inputs, with where it came from
 abbrev pub gives : List Visit → ℕ → ℕ → ℕ → Row → ℕ → List Traced
@@ -41,10 +48,10 @@ turn-result log x inputs k (v ∷ us) l h = by_passed v.passed l.0 (turn-result 
     by_passed false e rest = rest
 
 -- what a node's parent got from it is what it passed
-pub gives-results : (tree : Tree) (log : List Visit) (above first next : ℕ) (class : Class) (inputs row : Row) (pulled : List (List Visit)) → IsPulledIn tree log above first next (node class inputs row) pulled
+pub gives-results : (log : List Visit) (above first next : ℕ) (class : Class) (inputs row : Row) (pulled : List (List Visit)) → IsPulledIn log above first next (node class inputs row) pulled
     → Obeys class (width inputs) (map (turn next) (pulls_below above first pulled)) → AllByRecursion (GetsResult above first next) pulled
     → gives log above first next (node class inputs row) first ≡ results log next inputs
-gives-results tree log above first next class inputs row pulled h law gets =
+gives-results log above first next class inputs row pulled h law gets =
     ap (flat_map got) h.own_visits ∙ flat_map-flat_map got (visits_of above) pulled
     ∙ flat_map-filter asked (λ p. flat_map got (visits_of above p)) pulled (λ p k e. each p k ∙ copies-unasked (asks first) (result p) (visits_of above p) e)
     ∙ flat_map-same _ _ (pulls_below above first pulled) (λ p k. same p (in-filter asked p pulled k).0 (of-all _ p (pulls_below above first pulled) last k))
@@ -54,8 +61,8 @@ gives-results tree log above first next class inputs row pulled h law gets =
     asked : List Visit → Bool
     asked p = list_any (asks first) (visits_of above p)
 
-    below : IsPulledIn tree log next 0 (suc next) inputs (pulls_below above first pulled)
-    below = pulled-inputs tree log above first next class inputs row pulled h
+    below : IsPulledIn log next 0 (suc next) inputs (pulls_below above first pulled)
+    below = pulled-inputs log above first next class inputs row pulled h
 
     last : AllByRecursion (λ p. PassesLast (visits_of next p)) (pulls_below above first pulled)
     last = turns-last class (width inputs) next [] (pulls_below above first pulled) (turns-allowed class (width inputs) _ law)
@@ -81,10 +88,7 @@ gives-results tree log above first next class inputs row pulled h law gets =
     number-is (u ∷ p) k v a m = a.0
 
     here : (k : ℕ) → origin_in log first next (node class inputs row) first k ≡ origin (visits_of next (in_pull k log)) k
-    here k = let e : (first == first) ≡ true = self first in rw e refl
-      where
-        self : (m : ℕ) → (m == m) ≡ true
-        self m = grind (arith, nat_tests)
+    here k = let e = equal first first refl in rw e refl
 
     visit : (p : List Visit) (k : In p pulled) (v : Visit) → In v (visits_of above p) → asks first v ≡ true → traced v.got (origin_in log first next (node class inputs row) first v.pull) ≡ result p
     visit p k v m t =
@@ -114,3 +118,42 @@ gives-results tree log above first next class inputs row pulled h law gets =
         by_visits (v ∷ r) pull k =
             turn-result log next inputs pull.number (visits_of next (v ∷ r)) k (all-filter (λ (u : Visit). u.pull ≡ pull.number) (λ (u : Visit). u.node == next) (v ∷ r) pull.all)
             ∙ ap (λ j. traced (result_of (visits_of next (v ∷ r))) (origin (visits_of next (v ∷ r)) j)) (sym pull.all.0)
+
+-- by the origin of what a visit got
+got-same : (f g : ℕ → Option ℕ) (i : ℕ) (visits : List Visit) → ((k : ℕ) → f k ≡ g k) → flat_map (got_by f i) visits ≡ flat_map (got_by g i) visits
+got-same f g i visits e = ap (λ (o : ℕ → Option ℕ). flat_map (got_by o i) visits) (λ j k. e k j)
+
+-- what the parent got at the first input of a row from a queue, and at later inputs
+pub gives-queue : (log : List Visit) (above first next q : ℕ) (row : Row) → gives log above first next (leaf q row) first ≡ flat_map (got_by (λ _. Some q) first) (visits_of above log)
+gives-queue log above first next q row = got-same _ (λ _. Some q) first (visits_of above log) here
+  where
+    here : (k : ℕ) → origin_in log first next (leaf q row) first k ≡ Some q
+    here k = let e = equal first first refl in rw e refl
+
+pub gives-after_leaf : (log : List Visit) (above first next q : ℕ) (row : Row) (i : ℕ) → first < i → gives log above first next (leaf q row) i ≡ gives log above (suc first) next row i
+gives-after_leaf log above first next q row i l = got-same _ (λ k. origin_in log (suc first) next row i k) i (visits_of above log) there
+  where
+    there : (k : ℕ) → origin_in log first next (leaf q row) i k ≡ origin_in log (suc first) next row i k
+    there k = let e = differs first i (λ same. omega (arith, same, l)) in rw e refl
+
+pub gives-after_node : (log : List Visit) (above first next : ℕ) (class : Class) (inputs row : Row) (i : ℕ) → first < i
+    → gives log above first next (node class inputs row) i ≡ gives log above (suc first) (suc (next + nodes inputs)) row i
+gives-after_node log above first next class inputs row i l = got-same _ (λ k. origin_in log (suc first) (suc (next + nodes inputs)) row i k) i (visits_of above log) there
+  where
+    there : (k : ℕ) → origin_in log first next (node class inputs row) i k ≡ origin_in log (suc first) (suc (next + nodes inputs)) row i k
+    there k = let e = differs first i (λ same. omega (arith, same, l)) in rw e refl
+
+-- what a node got at an input is what it passed from there, and then what it holds there
+pub gives-passed_and_held : (log : List Visit) (above first next : ℕ) (class : Class) (inputs row : Row) (pulled : List (List Visit)) → IsPulledIn log above first next (node class inputs row) pulled
+    → Obeys class (width inputs) (map (turn next) (pulls_below above first pulled)) → (i : ℕ)
+    → gives log next 0 (suc next) inputs i ≡ flat_map (passed_by (λ k. origin_in log 0 (suc next) inputs i k) i (reverse (visits_of next log))) (visits_of next log) ++ held_at log next inputs i
+gives-passed_and_held log above first next class inputs row pulled h law i =
+    got-passed_and_held (λ k. origin_in log 0 (suc next) inputs i k) i (visits_of next log)
+    (subst (EachAfter KeepsHead []) (turns-visits log above first next class inputs row pulled h) (class-keeps class (width inputs) turns law))
+    (subst IsOrdered (sym below.own_visits) (ordered-turns log next 0 (pulls_below above first pulled) below.rising (turns-last class (width inputs) next [] (pulls_below above first pulled) (turns-allowed class (width inputs) turns law))).0)
+  where
+    turns : List Turn
+    turns = map (turn next) (pulls_below above first pulled)
+
+    below : IsPulledIn log next 0 (suc next) inputs (pulls_below above first pulled)
+    below = pulled-inputs log above first next class inputs row pulled h

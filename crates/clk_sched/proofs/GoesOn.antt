@@ -1,7 +1,6 @@
 -- A run goes on by one pull.
 use Rattle.std.proofs.Common.{◌≡◌, ◌≢◌, ℕ, zero, suc, ◌+◌, ◌<◌, ◌≤◌, ◌==◌, Bool, true, false, if◌then◌else◌, List, [], ◌∷◌, ◌++◌, length, map, filter, reverse, refl, sym, ap, ap₂, ◌∙◌, subst, append-nil, length-append, Option, Some, None, MatchOption, arith}
 use Rattle.std.specs.List.{flat_map, range_with_len, AllByRecursion, list_any}
-use Rattle.std.proofs.lemmas.Bool.Decides.{nat_tests}
 use Rattle.std.proofs.lemmas.List.{map-append, reverse-append, length-reverse, append_cancel_right}
 use Rattle.std.proofs.lemmas.List.Concat.{flat_map-append}
 use Rattle.std.proofs.lemmas.List.Elements.{filter-append}
@@ -25,6 +24,7 @@ use Rattle.clk_sched.proofs.Allowed.{onto, onto-append, onto-reverse, each-split
 use Rattle.clk_sched.proofs.PullByPull.{in_pull-number, IsNumbered, each-numbered, each-whole}
 use Rattle.clk_sched.proofs.Blocks.{flat_map-same}
 use Rattle.clk_sched.proofs.Pulled.{joined}
+use Rattle.clk_sched.proofs.Numbers.{equal, differs}
 
 each-join : {X : Type 0} (P : List X → X → Type 0) (earlier xs ys : List X) → EachAfter P earlier xs → EachAfter P (onto xs earlier) ys → EachAfter P earlier (xs ++ ys)
 each-join P earlier [] ys h k = k
@@ -117,16 +117,10 @@ numbers-below log a (suc n) total l =
     (numbers-below log (a + 1) n total (omega arith))
 
 in-one : (k : ℕ) (visits : List Visit) → AllByRecursion (λ (v : Visit). v.pull ≡ k) visits → in_pull k visits ≡ visits
-in-one k visits h = filter-all (λ (v : Visit). v.pull == k) visits (all-weaker (λ (v : Visit). v.pull ≡ k) (λ (v : Visit). (v.pull == k) ≡ true) visits (λ v e. same v.pull e) h)
-  where
-    same : (m : ℕ) → m ≡ k → (m == k) ≡ true
-    same m e = grind (arith, nat_tests)
+in-one k visits h = filter-all (λ (v : Visit). v.pull == k) visits (all-weaker (λ (v : Visit). v.pull ≡ k) (λ (v : Visit). (v.pull == k) ≡ true) visits (λ v e. equal v.pull k e) h)
 
 in-other : (k : ℕ) (visits : List Visit) → AllByRecursion (λ (v : Visit). v.pull ≢ k) visits → in_pull k visits ≡ []
-in-other k visits h = filter-none (λ (v : Visit). v.pull == k) visits (all-weaker (λ (v : Visit). v.pull ≢ k) (λ (v : Visit). (v.pull == k) ≡ false) visits (λ v d. differs v.pull d) h)
-  where
-    differs : (m : ℕ) → m ≢ k → (m == k) ≡ false
-    differs m d = grind (arith, nat_tests)
+in-other k visits h = filter-none (λ (v : Visit). v.pull == k) visits (all-weaker (λ (v : Visit). v.pull ≢ k) (λ (v : Visit). (v.pull == k) ≡ false) visits (λ v d. differs v.pull k d) h)
 
 map-range : {X : Type 0} (f g : ℕ → X) (a n : ℕ) → ((k : ℕ) → k < a + n → f k ≡ g k) → map f (range_with_len a n) ≡ map g (range_with_len a n)
 map-range f g a zero h = refl

@@ -1,4 +1,5 @@
 pub mod Elements
+pub mod Numbers
 pub mod Members
 pub mod Numbering
 pub mod Allowed

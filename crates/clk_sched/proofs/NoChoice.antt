@@ -18,6 +18,7 @@ use Rattle.clk_sched.specs.Step.{EachAllows}
 use Rattle.clk_sched.proofs.Allowed.{IsTurnWithin, each-allowed}
 use Rattle.clk_sched.proofs.PullByPull.{asked, IsNumbered, each-numbered}
 use Rattle.clk_sched.proofs.SameTurns.{Sides, Reads, reads-append, GetAlike, plain-same, turn-same}
+use Rattle.clk_sched.proofs.Numbers.{equal}
 
 -- what a visit adds to the answers
 answers-one : (tree : Tree) (v : Visit) → is_answer tree v ≡ true → answers tree (v ∷ []) ≡ v.got ∷ []
@@ -133,10 +134,7 @@ node-alike tree p q pair earlier above first next class inputs row stands well a
     no_answer w n f g = answers-none tree w (ap₂ (λ t o. t && is_some o) g (ap₂ (queue_at tree) n f ∙ at-node tree above first next class inputs row stands))
 
     asks_here : (w : Visit) → w.input ≡ first → w.fresh ≡ true → asks first w ≡ true
-    asks_here w f g = ap₂ (λ t m. t && (m == first)) g f ∙ self first
-      where
-        self : (m : ℕ) → (m == m) ≡ true
-        self m = grind (arith, nat_tests)
+    asks_here w f g = ap₂ (λ t m. t && (m == first)) g f ∙ equal first first refl
 
     got_result : (pull : List Visit) (w : Visit) → GetsResult above first next pull → In w (visits_of above pull) → asks first w ≡ true → w.got ≡ result_of (visits_of next pull)
     got_result pull w g m k = of-all (λ (x : Visit). x.got ≡ result_of (visits_of next pull)) w (filter (asks first) (visits_of above pull)) g (filter-in (asks first) w (visits_of above pull) k m)

@@ -1,14 +1,8 @@
 -- Which queue stands at which input of which node.
 use Rattle.std.proofs.Common.{◌≡◌, ◌≢◌, ℕ, ◌+◌, ◌<◌, ◌≤◌, ◌==◌, ◌&&◌, suc, Bool, true, false, Option, Some, None, refl, sym, ◌∙◌, arith}
 use Rattle.std.specs.Option.{option_or}
-use Rattle.std.proofs.lemmas.Bool.Decides.{nat_tests}
 use Rattle.clk_sched.specs.Tree.{Class, Row, end, leaf, node, Tree, root, nodes, queue_in, queue_at}
-
-equal : (m n : ℕ) → m ≡ n → (m == n) ≡ true
-equal m n e = grind (arith, nat_tests)
-
-differs : (m n : ℕ) → m ≢ n → (m == n) ≡ false
-differs m n e = grind (arith, nat_tests)
+use Rattle.clk_sched.proofs.Numbers.{equal, differs}
 
 and_false : (b : Bool) → (b && false) ≡ false
 and_false true = refl

@@ -9,6 +9,7 @@ use Rattle.clk_sched.specs.Tree.{Row, end, leaf, node, Tree, root, nodes}
 use Rattle.clk_sched.specs.Turns.{EachAfter}
 use Rattle.clk_sched.specs.Log.{visits_of, in_pull, pulls, block_at, block, HasOneMoment, HasLogShape}
 use Rattle.clk_sched.proofs.Members.{of-all, to-all, in-filter, all-append, all-flat_map, filter-all, filter-none}
+use Rattle.clk_sched.proofs.Numbers.{differs}
 
 -- what a visit asked, in a row that stands at the inputs of its node, and then the visit
 abbrev pub asked : List Visit → ℕ → Row → Visit → List Visit
@@ -46,9 +47,6 @@ block_at-all P pull first next (node class inputs row) input h =
 block-all : (P : Visit → Type 0) (tree : Tree) (pull : List Visit) → AllByRecursion P pull → AllByRecursion P (block tree pull)
 block-all P tree pull h = visits-asked P pull 0 1 (root tree) h (λ i. block_at-all P pull 0 1 (root tree) i h)
 
-not_equal : (m n : ℕ) → m ≢ n → (m == n) ≡ false
-not_equal m n d = grind (arith, nat_tests)
-
 pub in_pull-number : (k : ℕ) (log : List Visit) → AllByRecursion (λ (v : Visit). v.pull ≡ k) (in_pull k log)
 in_pull-number k log = to-all _ (in_pull k log) (λ v m. let passes = (in-filter (λ (u : Visit). u.pull == k) v log m).1 in grind (arith, nat_tests))
 
@@ -61,10 +59,10 @@ same-pull tree log k =
 other-pull : (tree : Tree) (log : List Visit) (k j : ℕ) → j ≢ k → in_pull k (block tree (in_pull j log)) ≡ []
 other-pull tree log k j d =
     filter-none (λ (v : Visit). v.pull == k) (block tree (in_pull j log))
-    (block-all _ tree (in_pull j log) (to-all _ (in_pull j log) (λ v m. let e = of-all (λ (u : Visit). u.pull ≡ j) v (in_pull j log) (in_pull-number j log) m in differs v e)))
+    (block-all _ tree (in_pull j log) (to-all _ (in_pull j log) (λ v m. let e = of-all (λ (u : Visit). u.pull ≡ j) v (in_pull j log) (in_pull-number j log) m in other v e)))
   where
-    differs : (v : Visit) → v.pull ≡ j → (v.pull == k) ≡ false
-    differs v e = rw e (not_equal j k d)
+    other : (v : Visit) → v.pull ≡ j → (v.pull == k) ≡ false
+    other v e = rw e (differs j k d)
 
 -- the blocks of pulls from one on
 abbrev blocks_from : Tree → List Visit → ℕ → ℕ → List Visit

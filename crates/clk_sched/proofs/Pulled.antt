@@ -6,7 +6,7 @@ use Rattle.std.proofs.lemmas.Bool.{false≢true}
 use Rattle.std.proofs.lemmas.List.Concat.{flat_map-append}
 use Rattle.clk_sched.specs.declared.visit.Visit.{Visit}
 use Rattle.clk_sched.specs.Tree.{Class, Row, leaf, node, Tree, root, nodes}
-use Rattle.clk_sched.specs.Turns.{Turn, EachAfter}
+use Rattle.clk_sched.specs.Turns.{Turn, EachAfter, all_visits}
 use Rattle.clk_sched.specs.Log.{visits_of, in_pull, pulls, block, turn, asks, pulls_below}
 use Rattle.clk_sched.specs.Run.{IsRun}
 use Rattle.clk_sched.proofs.Members.{In, of-all, in-filter, all-append, all-filter, all-weaker}
@@ -15,6 +15,7 @@ use Rattle.clk_sched.proofs.PullByPull.{each-whole, in_pull-number}
 use Rattle.clk_sched.proofs.Heads.{IsLater, IsOrdered}
 use Rattle.clk_sched.proofs.HeadsByClass.{PassesLast, turn-last}
 use Rattle.clk_sched.proofs.Blocks.{flat_map-same, filter-flat_map, Owns, owns-root, owns-after_leaf, owns-after_node, owns-self, owns-inputs, copies}
+use Rattle.std.proofs.lemmas.List.Folds.{flat_map-map}
 
 -- pulls of a log, in rising order
 abbrev pub Rising : List Visit → ℕ → List (List Visit) → Type 0
@@ -97,16 +98,16 @@ copies-unasked test ys (x ∷ xs) e = by_test (test x) e (copies-unasked test ys
     by_test false k rest = rest k
 
 -- a row that stands at the inputs of a node, and the pulls in which the node is pulled
-pub record IsPulledIn (tree : Tree) (log : List Visit) (above first next : ℕ) (row : Row) (pulled : List (List Visit)) : Type 0 where
+pub record IsPulledIn (log : List Visit) (above first next : ℕ) (row : Row) (pulled : List (List Visit)) : Type 0 where
   pub ordered : above < next
   pub owns : (y : ℕ) → next ≤ y → y < next + nodes row → (p : List Visit) → In p pulled → Owns y p above first next row
   pub own_visits : visits_of above log ≡ flat_map (visits_of above) pulled
   pub below_visits : (y : ℕ) → next ≤ y → y < next + nodes row → visits_of y log ≡ flat_map (visits_of y) pulled
   pub rising : Rising log 0 pulled
 
-pub pulled-after_leaf : (tree : Tree) (log : List Visit) (above first next q : ℕ) (row : Row) (pulled : List (List Visit)) → IsPulledIn tree log above first next (leaf q row) pulled
-    → IsPulledIn tree log above (suc first) next row pulled
-pulled-after_leaf tree log above first next q row pulled h =
+pub pulled-after_leaf : (log : List Visit) (above first next q : ℕ) (row : Row) (pulled : List (List Visit)) → IsPulledIn log above first next (leaf q row) pulled
+    → IsPulledIn log above (suc first) next row pulled
+pulled-after_leaf log above first next q row pulled h =
     record {
       ordered = h.ordered;
       owns = λ y l m p k. owns-after_leaf y p above first next q row (h.owns y l m p k);
@@ -115,9 +116,9 @@ pulled-after_leaf tree log above first next q row pulled h =
       rising = h.rising;
     }
 
-pub pulled-after_node : (tree : Tree) (log : List Visit) (above first next : ℕ) (class : Class) (inputs row : Row) (pulled : List (List Visit))
-    → IsPulledIn tree log above first next (node class inputs row) pulled → IsPulledIn tree log above (suc first) (suc (next + nodes inputs)) row pulled
-pulled-after_node tree log above first next class inputs row pulled h =
+pub pulled-after_node : (log : List Visit) (above first next : ℕ) (class : Class) (inputs row : Row) (pulled : List (List Visit))
+    → IsPulledIn log above first next (node class inputs row) pulled → IsPulledIn log above (suc first) (suc (next + nodes inputs)) row pulled
+pulled-after_node log above first next class inputs row pulled h =
     record {
       ordered = let o = h.ordered in omega arith;
       owns = λ y l m p k. owns-after_node y p above first next class inputs row l (h.owns y (omega arith) (omega arith) p k);
@@ -126,9 +127,9 @@ pulled-after_node tree log above first next class inputs row pulled h =
       rising = h.rising;
     }
 
-pub pulled-inputs : (tree : Tree) (log : List Visit) (above first next : ℕ) (class : Class) (inputs row : Row) (pulled : List (List Visit))
-    → IsPulledIn tree log above first next (node class inputs row) pulled → IsPulledIn tree log next 0 (suc next) inputs (pulls_below above first pulled)
-pulled-inputs tree log above first next class inputs row pulled h =
+pub pulled-inputs : (log : List Visit) (above first next : ℕ) (class : Class) (inputs row : Row) (pulled : List (List Visit))
+    → IsPulledIn log above first next (node class inputs row) pulled → IsPulledIn log next 0 (suc next) inputs (pulls_below above first pulled)
+pulled-inputs log above first next class inputs row pulled h =
     record {
       ordered = omega arith;
       owns = λ y l m p k. let inside = (in-filter asked p pulled k).0 in own y p l (omega arith) inside;
@@ -151,6 +152,12 @@ pulled-inputs tree log above first next class inputs row pulled h =
     own : (y : ℕ) (p : List Visit) → suc next ≤ y → y < suc (next + nodes inputs) → In p pulled → Owns y p next 0 (suc next) inputs
     own y p l m k = owns-inputs y p above first next class inputs row l m (self p k) (h.owns y (omega arith) (omega arith) p k)
 
+-- a node's turns have all its visits
+pub turns-visits : (log : List Visit) (above first next : ℕ) (class : Class) (inputs row : Row) (pulled : List (List Visit)) → IsPulledIn log above first next (node class inputs row) pulled
+    → all_visits (map (turn next) (pulls_below above first pulled)) ≡ visits_of next log
+turns-visits log above first next class inputs row pulled h =
+    flat_map-map (λ (t : Turn). t.visits) (turn next) (pulls_below above first pulled) ∙ sym (pulled-inputs log above first next class inputs row pulled h).own_visits
+
 pub turns-last : (class : Class) (inputs x : ℕ) (earlier : List Turn) (ps : List (List Visit)) → EachAfter (IsTurnWithin class inputs) earlier (map (turn x) ps) → AllByRecursion (λ p. PassesLast (visits_of x p)) ps
 turns-last class inputs x earlier [] h = tt
 turns-last class inputs x earlier (p ∷ ps) h = (turn-last class inputs earlier (turn x p) h.0.law, turns-last class inputs x (turn x p ∷ earlier) ps h.1)
@@ -159,7 +166,7 @@ turns-last class inputs x earlier (p ∷ ps) h = (turn-last class inputs earlier
 pub joined : (tree : Tree) (log : List Visit) → IsRun tree log → log ≡ flat_map (λ p. p) (pulls log)
 joined tree log run = run.shape.blocks ∙ flat_map-same (block tree) (λ p. p) (pulls log) (λ p m. sym (of-all (λ r. r ≡ block tree r) p (pulls log) (each-whole tree log run.shape) m))
 
-pub pulled-root : (tree : Tree) (log : List Visit) → IsRun tree log → IsPulledIn tree log 0 0 1 (root tree) (pulls log)
+pub pulled-root : (tree : Tree) (log : List Visit) → IsRun tree log → IsPulledIn log 0 0 1 (root tree) (pulls log)
 pulled-root tree log run =
     record {
       ordered = omega arith;

@@ -150,23 +150,27 @@ pub turned-below : (from inputs : ℕ) (ks : List ℕ) → 1 ≤ inputs → AllB
 turned-below from inputs [] some = tt
 turned-below from inputs (k ∷ ks) some = (mod-lt (from + k) (omega arith), turned-below from inputs ks some)
 
--- pairs of an input and a pass keep their inputs when they are put in order
-abbrev InputsBelow : ℕ → List (ℕ × ℕ) → Type 0
-InputsBelow total pairs = AllByRecursion (λ i. i < total) (map (λ (i : ℕ × ℕ). i.0) pairs)
-
-put-below : (total : ℕ) (i : ℕ × ℕ) (pairs : List (ℕ × ℕ)) → i.0 < total → InputsBelow total pairs → InputsBelow total (put_in_order i pairs)
-put-below total i [] l h = (l, tt)
-put-below total i (j ∷ pairs) l h = by_order (nat_lt i.1 j.1 || ((i.1 == j.1) && nat_le i.0 j.0)) (put-below total i pairs l h.1)
+pub put-all : (P : ℕ × ℕ → Type 0) (i : ℕ × ℕ) (pairs : List (ℕ × ℕ)) → P i → AllByRecursion P pairs → AllByRecursion P (put_in_order i pairs)
+put-all P i [] l h = (l, tt)
+put-all P i (j ∷ pairs) l h = by_order (nat_lt i.1 j.1 || ((i.1 == j.1) && nat_le i.0 j.0)) (put-all P i pairs l h.1)
   where
-    by_order : (b : Bool) → InputsBelow total (put_in_order i pairs) → InputsBelow total (if b then i ∷ j ∷ pairs else j ∷ put_in_order i pairs)
+    by_order : (b : Bool) → AllByRecursion P (put_in_order i pairs) → AllByRecursion P (if b then i ∷ j ∷ pairs else j ∷ put_in_order i pairs)
     by_order true rest = (l, h)
     by_order false rest = (h.0, rest)
 
-pub ordered-below : (total : ℕ) (pairs : List (ℕ × ℕ)) → InputsBelow total pairs → InputsBelow total (in_rising_order pairs)
-ordered-below total [] h = tt
-ordered-below total (i ∷ pairs) h = put-below total i (in_rising_order pairs) h.0 (ordered-below total pairs h.1)
+inputs-of : (total : ℕ) (pairs : List (ℕ × ℕ)) → AllByRecursion (λ (i : ℕ × ℕ). i.0 < total) pairs → AllByRecursion (λ i. i < total) (map (λ (i : ℕ × ℕ). i.0) pairs)
+inputs-of total [] h = tt
+inputs-of total (i ∷ pairs) h = (h.0, inputs-of total pairs h.1)
 
-pub numbered-below : (from total : ℕ) (passes : List ℕ) → from + length passes ≤ total → InputsBelow total (enumerate_from from passes)
+ordered-all : (P : ℕ × ℕ → Type 0) (pairs : List (ℕ × ℕ)) → AllByRecursion P pairs → AllByRecursion P (in_rising_order pairs)
+ordered-all P [] h = tt
+ordered-all P (i ∷ pairs) h = put-all P i (in_rising_order pairs) h.0 (ordered-all P pairs h.1)
+
+-- the inputs of a StrideSched in the order in which it asks them
+pub ordered-below : (total : ℕ) (pairs : List (ℕ × ℕ)) → AllByRecursion (λ (i : ℕ × ℕ). i.0 < total) pairs → AllByRecursion (λ i. i < total) (map (λ (i : ℕ × ℕ). i.0) (in_rising_order pairs))
+ordered-below total pairs h = inputs-of total (in_rising_order pairs) (ordered-all (λ (i : ℕ × ℕ). i.0 < total) pairs h)
+
+pub numbered-below : (from total : ℕ) (passes : List ℕ) → from + length passes ≤ total → AllByRecursion (λ (i : ℕ × ℕ). i.0 < total) (enumerate_from from passes)
 numbered-below from total [] l = tt
 numbered-below from total (x ∷ passes) l = (omega arith, numbered-below (from + 1) total passes (omega arith))
 

@@ -12,7 +12,7 @@ use Rattle.clk_sched.specs.Laws.Stride.{visits_input, passes_after, passes_of, p
 use Rattle.clk_sched.specs.Service.{AlwaysGets, Near, largest_stride, given_in, pass_at, SharesByStride}
 use Rattle.clk_sched.proofs.Members.{In, of-all, all-split}
 use Rattle.clk_sched.proofs.Allowed.{onto, onto-reverse, each-split}
-use Rattle.clk_sched.proofs.SameTurns.{passes-length}
+use Rattle.clk_sched.proofs.SameTurns.{passes-length, put-all}
 use Rattle.clk_sched.specs.Tree.{is_number}
 
 -- inputs with their passes
@@ -84,14 +84,6 @@ lower : (m n : ℕ) (pairs : List (ℕ × ℕ)) → m ≤ n → AtLeast n pairs 
 lower m n [] l h = tt
 lower m n (y ∷ pairs) l h = (let k = h.0 in omega arith, lower m n pairs l h.1)
 
-put-least : (least : ℕ) (i : ℕ × ℕ) (pairs : List (ℕ × ℕ)) → least ≤ i.1 → AtLeast least pairs → AtLeast least (put_in_order i pairs)
-put-least least i [] l h = (l, tt)
-put-least least i (j ∷ pairs) l h = by_order (nat_lt i.1 j.1 || ((i.1 == j.1) && nat_le i.0 j.0)) (put-least least i pairs l h.1)
-  where
-    by_order : (b : Bool) → AtLeast least (put_in_order i pairs) → AtLeast least (if b then i ∷ j ∷ pairs else j ∷ put_in_order i pairs)
-    by_order true rest = (l, h)
-    by_order false rest = (h.0, rest)
-
 put-rising : (i : ℕ × ℕ) (pairs : List (ℕ × ℕ)) → IsRising pairs → IsRising (put_in_order i pairs)
 put-rising i [] h = (tt, tt)
 put-rising i (j ∷ pairs) h = by_order (nat_lt i.1 j.1) (i.1 == j.1) (nat_le i.0 j.0) refl refl (put-rising i pairs h.1)
@@ -102,8 +94,8 @@ put-rising i (j ∷ pairs) h = by_order (nat_lt i.1 j.1) (i.1 == j.1) (nat_le i.
     by_order : (a b c : Bool) → nat_lt i.1 j.1 ≡ a → (i.1 == j.1) ≡ b → IsRising (put_in_order i pairs) → IsRising (if a || (b && c) then i ∷ j ∷ pairs else j ∷ put_in_order i pairs)
     by_order true b c e f rest = first (grind (arith, nat_tests))
     by_order false true true e f rest = first (grind (arith, nat_tests))
-    by_order false true false e f rest = (put-least j.1 i pairs (grind (arith, nat_tests)) h.0, rest)
-    by_order false false c e f rest = (put-least j.1 i pairs (grind (arith, nat_tests)) h.0, rest)
+    by_order false true false e f rest = (put-all (λ (y : ℕ × ℕ). j.1 ≤ y.1) i pairs (grind (arith, nat_tests)) h.0, rest)
+    by_order false false c e f rest = (put-all (λ (y : ℕ × ℕ). j.1 ≤ y.1) i pairs (grind (arith, nat_tests)) h.0, rest)
 
 rising : (pairs : List (ℕ × ℕ)) → IsRising (in_rising_order pairs)
 rising [] = tt

@@ -170,12 +170,11 @@ impl Tree {
         let _ = &self.node;
     }
 
-    /// A law: each run of this tree conserves the packets of each queue, where no queue stands twice in the tree. What the
-    /// queue gave is what was emitted of it, in order, and then what is held of it, and nothing else is emitted or held. It
-    /// does nothing.
+    /// A law: each run of this tree conserves the packets of each queue, where no queue stands twice in the tree: what the
+    /// queue gave is what was emitted of it, in order, and then what is held of it. In any tree, each packet that is emitted
+    /// or held came from one of its queues. It does nothing.
     pub fn conserves_packets(&self)
-        requires distinct { leaves_distinct self.now ≡ true }
-        ensures loses_nothing { ConservesPackets self.now }
+        ensures loses_nothing { leaves_distinct self.now ≡ true → ConservesPackets self.now }
         ensures makes_nothing { MakesNothing self.now }
     {
         // The field opens the tree, which is well formed.

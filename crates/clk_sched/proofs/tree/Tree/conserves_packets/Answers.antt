@@ -5,7 +5,7 @@ use Rattle.clk_sched.proofs.CameFrom.{makes-nothing}
 use Rattle.clk_sched.proofs.tree.Tree.conserves_packets.Goals as goal
 
 pub returns-clause-loses_nothing : goal.returns-clause-loses_nothing
-returns-clause-loses_nothing c = conserves-packets c.args.self.now c.requires.distinct
+returns-clause-loses_nothing c = conserves-packets c.args.self.now
 
 pub returns-clause-makes_nothing : goal.returns-clause-makes_nothing
 returns-clause-makes_nothing c = makes-nothing c.args.self.now (subst (λ t. IsWellFormed (root t)) c.self.view_is c.self.invariant.1)
