@@ -1,17 +1,15 @@
 -- Histories of worked examples, and some that are none.
-use Rattle.std.specs.Prelude.{ℕ, ◌≤◌, List, [], ◌∷◌}
+use Rattle.std.specs.Prelude.{List, [], ◌∷◌}
 use Rattle.std.proofs.Common.{lit≤}
 use Rattle.clk_packet.specs.declared.packet.Packet.{Packet}
+use Rattle.clk_packet.specs.Packets.{packet}
 use Rattle.clickpull.specs.QueueHistory.{QueueEvent, accept, refuse, evict, give, empty}
 
-abbrev packet : (s n l : ℕ) → 1 ≤ l → Packet
-packet s n l h = record { number = n; sender = s; length = l; has_length = h }
-
 abbrev first : Packet
-first = packet 0 0 100 (lit≤ tt)
+first = packet 0 0 100 (lit≤ tt) (lit≤ tt)
 
 abbrev second : Packet
-second = packet 1 0 50 (lit≤ tt)
+second = packet 1 0 50 (lit≤ tt) (lit≤ tt)
 
 -- A Queue of one packet: the second offer is refused.
 abbrev pub tail_dropped : List QueueEvent

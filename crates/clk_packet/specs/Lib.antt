@@ -2,3 +2,4 @@
 pub mod Failing
 pub mod Fault
 pub mod Io
+pub mod Packets

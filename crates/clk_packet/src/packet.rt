@@ -8,9 +8,11 @@ pub struct Packet {
     pub number: u32,
     /// Its sender's number.
     pub sender: u16,
-    /// Its length in bytes, at least 1.
+    /// Its length in bytes, from 1 to 65,535.
     pub length: u16,
     ghost has_length: { 1 ≤ length },
+    // The type says so of any `u16`; here it is said where laws of lengths can cite it.
+    ghost is_within: { length ≤ 65535 },
 }
 
 /// What a queue does with a packet that arrives when it is full.

@@ -1,5 +1,5 @@
 -- Packets and visits of worked examples, and the examples by class.
-use Rattle.std.specs.Prelude.{ℕ, ◌≤◌, Bool, Option, List, map, filter, nat_lt}
+use Rattle.std.specs.Prelude.{ℕ, Bool, Option, List, map, filter, nat_lt}
 use Rattle.clk_packet.specs.declared.packet.Packet.{Packet}
 use Rattle.clk_sched.specs.declared.visit.Visit.{Visit}
 pub mod Device
@@ -8,10 +8,6 @@ pub mod RoundRobin
 pub mod Deficit
 pub mod Stride
 pub mod Shaper
-
--- the n-th packet of sender s, of length l
-abbrev pub packet : (s n l : ℕ) → 1 ≤ l → Packet
-packet s n l h = record { number = n; sender = s; length = l; has_length = h }
 
 -- a visit of pull k at moment t, by node x to input i
 abbrev pub look : (k t x i : ℕ) → Bool → Option Packet → Bool → Visit

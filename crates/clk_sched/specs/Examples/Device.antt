@@ -4,23 +4,29 @@ use Rattle.std.proofs.Common.{lit≤}
 use Rattle.clk_sched.specs.declared.visit.Visit.{Visit}
 use Rattle.clk_sched.specs.Tree.{Tree, queue}
 use Rattle.clk_sched.specs.Log.{asking}
-use Rattle.clk_sched.specs.Examples.{packet, look}
+use Rattle.clk_packet.specs.Packets.{packet}
+use Rattle.clk_sched.specs.Examples.{look}
+use Rattle.clk_packet.specs.declared.packet.Packet.{Packet}
+
+-- the packets of these examples, each named by its sender, its number and, where others share them, its length
+abbrev pub p0_0 : Packet
+p0_0 = packet 0 0 10 (lit≤ tt) (lit≤ tt)
 
 -- A queue gives a packet, and then none.
 abbrev pub one_queue : List Visit
-one_queue = asking 0 0 0 0 (Some (packet 0 0 10 (lit≤ tt))) ∷ asking 1 5 0 0 None ∷ []
+one_queue = asking 0 0 0 0 (Some p0_0) ∷ asking 1 5 0 0 None ∷ []
 
 abbrev pub one_queue_tree : Tree
 one_queue_tree = queue 0
 
 -- the device keeps the packet back
 abbrev pub device_keeps : List Visit
-device_keeps = look 0 0 0 0 true (Some (packet 0 0 10 (lit≤ tt))) false ∷ asking 1 5 0 0 None ∷ []
+device_keeps = look 0 0 0 0 true (Some p0_0) false ∷ asking 1 5 0 0 None ∷ []
 
 -- the device asks an input that it doesn't have
 abbrev pub device_asks_beside : List Visit
-device_asks_beside = asking 0 0 0 0 (Some (packet 0 0 10 (lit≤ tt))) ∷ asking 1 5 0 1 None ∷ []
+device_asks_beside = asking 0 0 0 0 (Some p0_0) ∷ asking 1 5 0 1 None ∷ []
 
 -- the moment falls from the first pull to the second
 abbrev pub moment_falls : List Visit
-moment_falls = asking 0 5 0 0 (Some (packet 0 0 10 (lit≤ tt))) ∷ asking 1 0 0 0 None ∷ []
+moment_falls = asking 0 5 0 0 (Some p0_0) ∷ asking 1 0 0 0 None ∷ []

@@ -4,15 +4,35 @@ use Rattle.std.proofs.Common.{lit≤}
 use Rattle.clk_sched.specs.declared.visit.Visit.{Visit}
 use Rattle.clk_sched.specs.Tree.{Tree, end, leaf, scheduler, round_robin}
 use Rattle.clk_sched.specs.Log.{asking}
-use Rattle.clk_sched.specs.Examples.{packet}
+use Rattle.clk_packet.specs.Packets.{packet}
+use Rattle.clk_packet.specs.declared.packet.Packet.{Packet}
+
+-- the packets of these examples, each named by its sender, its number and, where others share them, its length
+abbrev pub p0_0_1 : Packet
+p0_0_1 = packet 0 0 1 (lit≤ tt) (lit≤ tt)
+
+abbrev pub p0_0_10 : Packet
+p0_0_10 = packet 0 0 10 (lit≤ tt) (lit≤ tt)
+
+abbrev pub p0_1 : Packet
+p0_1 = packet 0 1 11 (lit≤ tt) (lit≤ tt)
+
+abbrev pub p1_0 : Packet
+p1_0 = packet 1 0 1 (lit≤ tt) (lit≤ tt)
+
+abbrev pub p2_0 : Packet
+p2_0 = packet 2 0 12 (lit≤ tt) (lit≤ tt)
+
+abbrev pub p2_1 : Packet
+p2_1 = packet 2 1 13 (lit≤ tt) (lit≤ tt)
 
 -- Queue 0 has two packets and queue 2 has two, below a RoundRobinSched over three: they take turns.
 abbrev pub three_in_turn : List Visit
 three_in_turn =
-    asking 0 0 1 0 (Some (packet 0 0 10 (lit≤ tt))) ∷ asking 0 0 0 0 (Some (packet 0 0 10 (lit≤ tt))) ∷
-    asking 1 0 1 1 None ∷ asking 1 0 1 2 (Some (packet 2 0 12 (lit≤ tt))) ∷ asking 1 0 0 0 (Some (packet 2 0 12 (lit≤ tt))) ∷
-    asking 2 0 1 0 (Some (packet 0 1 11 (lit≤ tt))) ∷ asking 2 0 0 0 (Some (packet 0 1 11 (lit≤ tt))) ∷
-    asking 3 0 1 1 None ∷ asking 3 0 1 2 (Some (packet 2 1 13 (lit≤ tt))) ∷ asking 3 0 0 0 (Some (packet 2 1 13 (lit≤ tt))) ∷
+    asking 0 0 1 0 (Some p0_0_10) ∷ asking 0 0 0 0 (Some p0_0_10) ∷
+    asking 1 0 1 1 None ∷ asking 1 0 1 2 (Some p2_0) ∷ asking 1 0 0 0 (Some p2_0) ∷
+    asking 2 0 1 0 (Some p0_1) ∷ asking 2 0 0 0 (Some p0_1) ∷
+    asking 3 0 1 1 None ∷ asking 3 0 1 2 (Some p2_1) ∷ asking 3 0 0 0 (Some p2_1) ∷
     asking 4 0 1 0 None ∷ asking 4 0 1 1 None ∷ asking 4 0 1 2 None ∷ asking 4 0 0 0 None ∷ []
 
 abbrev pub three_in_turn_tree : Tree
@@ -21,9 +41,9 @@ three_in_turn_tree = scheduler round_robin (leaf 0 (leaf 1 (leaf 2 end)))
 -- A RoundRobinSched over two queues, which finds nothing in the second pull and begins there again.
 abbrev pub none_keeps_beginning : List Visit
 none_keeps_beginning =
-    asking 0 0 1 0 (Some (packet 0 0 1 (lit≤ tt))) ∷ asking 0 0 0 0 (Some (packet 0 0 1 (lit≤ tt))) ∷
+    asking 0 0 1 0 (Some p0_0_1) ∷ asking 0 0 0 0 (Some p0_0_1) ∷
     asking 1 0 1 1 None ∷ asking 1 0 1 0 None ∷ asking 1 0 0 0 None ∷
-    asking 2 0 1 1 (Some (packet 1 0 1 (lit≤ tt))) ∷ asking 2 0 0 0 (Some (packet 1 0 1 (lit≤ tt))) ∷ []
+    asking 2 0 1 1 (Some p1_0) ∷ asking 2 0 0 0 (Some p1_0) ∷ []
 
 abbrev pub none_keeps_beginning_tree : Tree
 none_keeps_beginning_tree = scheduler round_robin (leaf 0 (leaf 1 end))
@@ -31,12 +51,12 @@ none_keeps_beginning_tree = scheduler round_robin (leaf 0 (leaf 1 end))
 -- Over three_in_turn_tree: a beginning that moves by one in each pull
 abbrev pub moves_every_pull : List Visit
 moves_every_pull =
-    asking 0 0 1 0 (Some (packet 0 0 10 (lit≤ tt))) ∷ asking 0 0 0 0 (Some (packet 0 0 10 (lit≤ tt))) ∷
-    asking 1 0 1 1 None ∷ asking 1 0 1 2 (Some (packet 2 0 12 (lit≤ tt))) ∷ asking 1 0 0 0 (Some (packet 2 0 12 (lit≤ tt))) ∷
-    asking 2 0 1 2 (Some (packet 2 1 13 (lit≤ tt))) ∷ asking 2 0 0 0 (Some (packet 2 1 13 (lit≤ tt))) ∷ []
+    asking 0 0 1 0 (Some p0_0_10) ∷ asking 0 0 0 0 (Some p0_0_10) ∷
+    asking 1 0 1 1 None ∷ asking 1 0 1 2 (Some p2_0) ∷ asking 1 0 0 0 (Some p2_0) ∷
+    asking 2 0 1 2 (Some p2_1) ∷ asking 2 0 0 0 (Some p2_1) ∷ []
 
 -- Over three_in_turn_tree: a beginning at the input that gave
 abbrev pub begins_where_it_gave : List Visit
 begins_where_it_gave =
-    asking 0 0 1 0 (Some (packet 0 0 10 (lit≤ tt))) ∷ asking 0 0 0 0 (Some (packet 0 0 10 (lit≤ tt))) ∷
-    asking 1 0 1 0 (Some (packet 0 1 11 (lit≤ tt))) ∷ asking 1 0 0 0 (Some (packet 0 1 11 (lit≤ tt))) ∷ []
+    asking 0 0 1 0 (Some p0_0_10) ∷ asking 0 0 0 0 (Some p0_0_10) ∷
+    asking 1 0 1 0 (Some p0_1) ∷ asking 1 0 0 0 (Some p0_1) ∷ []
