@@ -3,7 +3,7 @@ use Rattle.std.proofs.Common.{◌≡◌, ℕ, List, [], ◌∷◌, ◌++◌, len
 use Rattle.std.specs.Option.{option_or}
 use Rattle.clk_packet.specs.declared.packet.Packet.{Packet}
 use Rattle.clk_sched.specs.declared.visit.Visit.{Visit}
-use Rattle.clickpull.specs.QueueHistory.{answer}
+use Rattle.clk_ring.specs.QueueHistory.{pull_event}
 use Rattle.clk_sched.specs.Log.{asking, visits_of, pulls, moment_of, NeverFalls, result_of}
 use Rattle.clk_sched.specs.Step.{IsNextPull}
 use Rattle.clickpull.specs.Meaning.{pulled, at_queue}
@@ -55,7 +55,7 @@ result-builtin k moment (Some p) second = refl
 result-builtin k moment None (Some p) = refl
 result-builtin k moment None None = refl
 
-pub first-builtin : (handed k moment : ℕ) (first second : Option Packet) → at_queue builtin 0 (pulled handed (router_visits k moment first second)) ≡ answer first ∷ []
+pub first-builtin : (handed k moment : ℕ) (first second : Option Packet) → at_queue builtin 0 (pulled handed (router_visits k moment first second)) ≡ pull_event first ∷ []
 first-builtin handed k moment (Some p) second = refl
 first-builtin handed k moment None (Some p) = refl
 first-builtin handed k moment None None = refl

@@ -1,7 +1,7 @@
 -- How events go on by one.
 use Rattle.std.proofs.Common.{◌≡◌, ℕ, ◌+◌, ◌==◌, zero, suc, Bool, true, false, List, [], ◌∷◌, ◌++◌, length, map, max, fold, MatchOption, slice_get, refl, sym, ap, ◌∙◌, arith}
 use Rattle.std.specs.Bool.{⊤}
-use Rattle.std.specs.List.{filter_map, range_with_len}
+use Rattle.std.specs.List.{filter_map, range_with_len, AllByRecursion}
 use Rattle.std.proofs.lemmas.List.{append-nil, map-append, length-append, map-id}
 use Rattle.std.proofs.lemmas.List.Concat.{flat_map-append}
 use Rattle.std.proofs.lemmas.List.Elements.{filter_map-append}
@@ -11,10 +11,10 @@ use Rattle.clk_packet.specs.declared.packet.Packet.{Packet}
 use Rattle.clk_packet.specs.declared.packet.Offered.{Offered}
 use Rattle.clk_packet.specs.declared.packet.Kind.TheVariants.{TailDrop}
 use Rattle.clk_sched.specs.declared.visit.Visit.{Visit}
-use Rattle.clickpull.specs.QueueHistory.{IsQueueHistory}
+use Rattle.clk_ring.specs.QueueHistory.{NamesOffer, IsQueueHistory}
 use Rattle.clk_sched.specs.Log.{pulls, moment_of, NeverFalls, counted}
 use Rattle.clk_sched.specs.Step.{IsNextPull, GoesOn}
-use Rattle.clickpull.specs.Meaning.{QueueSpec, Event, offered, pulled, number_from, numbers_of, visits_in, pull_in, moment_in, log_of, history, CanHappen}
+use Rattle.clickpull.specs.Meaning.{QueueSpec, Event, offered, pulled, number_from, numbers_of, visits_in, pull_in, moment_in, log_of, history, NamesItsOffer, CanHappen}
 use Rattle.clickpull.specs.Builtin.{builtin}
 
 -- the numbers from 0 on, and the next
@@ -47,11 +47,16 @@ numbers-more s events p outcome number h = by_test (p.sender == s) refl
         rw (filter_map-append (number_from s) events (offered p outcome ∷ []), e, n) (one_more (numbers_of s events) h)
     by_test false e = rw (filter_map-append (number_from s) events (offered p outcome ∷ []), e, append-nil) h
 
+-- what holds of the members of two lists holds of those of both
+all-join : {X : Type 0} (P : X → Type 0) (xs ys : List X) → AllByRecursion P xs → AllByRecursion P ys → AllByRecursion P (xs ++ ys)
+all-join P [] ys h k = k
+all-join P (x ∷ xs) ys h k = (h.0, all-join P xs ys h.1 k)
+
 -- an offer leads on
-pub CanHappen-offer : (events : List Event) (p : Packet) (outcome : Offered) → CanHappen builtin events → p.number ≡ length (numbers_of p.sender events)
+pub CanHappen-offer : (events : List Event) (p : Packet) (outcome : Offered) → CanHappen builtin events → p.number ≡ length (numbers_of p.sender events) → NamesOffer p outcome
     → ((q : ℕ) → MatchOption (slice_get builtin.queues q) ⊤ (λ (spec : QueueSpec). IsQueueHistory spec.kind spec.capacity (history builtin q (events ++ offered p outcome ∷ []))))
     → CanHappen builtin (events ++ offered p outcome ∷ [])
-CanHappen-offer events p outcome can number histories =
+CanHappen-offer events p outcome can number names histories =
     let log = flat_map-append visits_in events (offered p outcome ∷ []) ∙ append-nil (log_of events) in
     let turns = filter_map-append pull_in events (offered p outcome ∷ []) ∙ append-nil (filter_map pull_in events) in
     let moments = filter_map-append moment_in events (offered p outcome ∷ []) ∙ append-nil (filter_map moment_in events) in
@@ -60,6 +65,7 @@ CanHappen-offer events p outcome can number histories =
       run = rw log can.run;
       pull_by_pull = rw (log, turns) can.pull_by_pull;
       moments = rw (turns, moments) can.moments;
+      refusals = all-join NamesItsOffer events (offered p outcome ∷ []) can.refusals (names, tt);
       histories = histories;
     }
 
@@ -97,5 +103,6 @@ CanHappen-pull goes events moment visits can counted_is next histories =
       run = rw log more.run;
       pull_by_pull = rw (log, turns) (more.last ∙ ap (λ ps. ps ++ visits ∷ []) can.pull_by_pull);
       moments = rw turns moments;
+      refusals = all-join NamesItsOffer events (pulled moment visits ∷ []) can.refusals (tt, tt);
       histories = histories;
     }

@@ -1,7 +1,6 @@
 -- Lemmas that answers cite.
 pub mod FieldLemmas
 pub mod LineLemmas
-pub mod QueueLemmas
 pub mod EventLemmas
 pub mod BuiltinLemmas
 pub mod RouterLemmas

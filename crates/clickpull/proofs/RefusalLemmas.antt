@@ -1,5 +1,5 @@
 -- How a script's meaning and its faults follow from those of its first bytes.
-use Rattle.std.proofs.Common.{◌≡◌, ◌≢◌, ℕ, ◌==◌, Bool, true, false, nat_lt, List, [], ◌∷◌, length, take, slice_get, Option, Some, None, Err, refl, sym, ap, subst, ◌∙◌, ◌⊎◌, inl, inr, IfSome, arith}
+use Rattle.std.proofs.Common.{◌+◌, ◌≡◌, ◌≢◌, ℕ, ◌==◌, Bool, true, false, nat_lt, List, [], ◌∷◌, length, take, slice_get, Option, Some, None, Err, refl, sym, ap, subst, ◌∙◌, ◌⊎◌, inl, inr, IfSome, arith}
 use Rattle.std.specs.Bool.{⊤}
 use Rattle.std.specs.List.{filter_map, enumerate_from, list_any}
 use Rattle.std.specs.Str.Lines.{lines}
@@ -11,26 +11,26 @@ use Rattle.clickpull.specs.declared.script.Command.{Command}
 use Rattle.clickpull.specs.declared.script.Command.TheVariants.{Send, Pull}
 use Rattle.clickpull.specs.declared.script.Line.{Line}
 use Rattle.clickpull.specs.declared.script.Line.TheVariants as line
-use Rattle.clickpull.specs.Script.{most_lines, line_of, command_fault, line_fault, fault_at, script_fault, commands_of}
+use Rattle.clickpull.specs.Script.{most_lines, line_of, command_fault, line_fault, fault_at, script_fault, commands_of, most_bytes}
 use Rattle.clickpull.specs.Bytes.{read_failures, write_failures}
 use Rattle.clickpull.specs.Meaning.{Writes, IsMeaning, Explains, sender_numbers}
 use Rattle.clickpull.specs.Builtin.{builtin}
 
 -- one byte past the limit is enough to tell what is wrong
-fault-cut : (senders all : List ℕ) → script_fault senders (take 33554433 all) ≡ script_fault senders all
-fault-cut senders all = by_test (nat_lt 33554432 (length all)) refl
+fault-cut : (senders all : List ℕ) → script_fault senders (take (most_bytes + 1) all) ≡ script_fault senders all
+fault-cut senders all = by_test (nat_lt most_bytes (length all)) refl
   where
-    by_test : (b : Bool) → nat_lt 33554432 (length all) ≡ b → script_fault senders (take 33554433 all) ≡ script_fault senders all
+    by_test : (b : Bool) → nat_lt most_bytes (length all) ≡ b → script_fault senders (take (most_bytes + 1) all) ≡ script_fault senders all
     by_test true e =
-        let cut : nat_lt 33554432 (length (take 33554433 all)) ≡ true = rw length-take (grind (arith, nat_tests)) in
+        let cut : nat_lt most_bytes (length (take (most_bytes + 1) all)) ≡ true = rw length-take (grind (arith, nat_tests)) in
         rw (cut, e) refl
     by_test false e = ap (script_fault senders) (take_all 33554433 all (grind (arith, nat_tests)))
 
 -- a script that isn't too long is read whole
-whole : (senders all : List ℕ) → script_fault senders (take 33554433 all) ≡ None → take 33554433 all ≡ all
-whole senders all e = by_test (nat_lt 33554432 (length all)) refl
+whole : (senders all : List ℕ) → script_fault senders (take (most_bytes + 1) all) ≡ None → take (most_bytes + 1) all ≡ all
+whole senders all e = by_test (nat_lt most_bytes (length all)) refl
   where
-    by_test : (b : Bool) → nat_lt 33554432 (length all) ≡ b → take 33554433 all ≡ all
+    by_test : (b : Bool) → nat_lt most_bytes (length all) ≡ b → take (most_bytes + 1) all ≡ all
     by_test true f =
         let too_large : script_fault senders all ≡ Some TooLarge = rw f refl in
         let none = sym (fault-cut senders all) ∙ e in
@@ -38,7 +38,7 @@ whole senders all e = by_test (nat_lt 33554432 (length all)) refl
     by_test false f = take_all 33554433 all (grind (arith, nat_tests))
 
 -- the meaning of a script whose first bytes were read
-pub meaning-known : (known : Option (List ℕ)) (bytes : List ℕ) (commands : List Command) (text : List ℕ) (P : List ℕ → Type 0) → IfSome known (λ all. bytes ≡ take 33554433 all)
+pub meaning-known : (known : Option (List ℕ)) (bytes : List ℕ) (commands : List Command) (text : List ℕ) (P : List ℕ → Type 0) → IfSome known (λ all. bytes ≡ take (most_bytes + 1) all)
     → script_fault (sender_numbers builtin) bytes ≡ None → commands ≡ commands_of bytes → Writes builtin commands text → P text
     → IfSome known (λ script. (t : List ℕ) × IsMeaning builtin script t × P t)
 meaning-known None bytes commands text P is e c w p = tt
@@ -84,9 +84,9 @@ of_first senders (text ∷ texts) = by_fault (fault_at senders text) refl (of_te
     by_fault (Some fault) e here rest = rw e (rw e at here)
 
 of_script : (senders script : List ℕ) → IfSome (script_fault senders script) IsOfScript
-of_script senders script = by_test (nat_lt 33554432 (length script)) refl
+of_script senders script = by_test (nat_lt most_bytes (length script)) refl
   where
-    by_test : (b : Bool) → nat_lt 33554432 (length script) ≡ b → IfSome (script_fault senders script) IsOfScript
+    by_test : (b : Bool) → nat_lt most_bytes (length script) ≡ b → IfSome (script_fault senders script) IsOfScript
     by_test true e = rw e tt
     by_test false e = rw e (of_first senders (enumerate_from 1 (lines script)))
 
@@ -97,7 +97,7 @@ pub record IsRefusal (senders : List ℕ) (known : Option (List ℕ)) (fault : F
   pub writes : (n : ℕ) → write_failures (Err fault) n ≡ n
   pub not_write : fault ≢ Write
 
-named : (senders : List ℕ) (known : Option (List ℕ)) (bytes : List ℕ) (fault : Fault) → IfSome known (λ all. bytes ≡ take 33554433 all) → script_fault senders bytes ≡ Some fault
+named : (senders : List ℕ) (known : Option (List ℕ)) (bytes : List ℕ) (fault : Fault) → IfSome known (λ all. bytes ≡ take (most_bytes + 1) all) → script_fault senders bytes ≡ Some fault
     → IfSome known (λ all. script_fault senders all ≡ Some fault)
 named senders None bytes fault is e = tt
 named senders (Some all) bytes fault is e = sym (fault-cut senders all) ∙ ap (script_fault senders) (sym is) ∙ e
@@ -108,7 +108,7 @@ by_kind senders known (BadScript number) kind h = record { explains = h; reads =
 by_kind senders known (UnknownSender sender) kind h = record { explains = h; reads = λ n. refl; writes = λ n. refl; not_write = λ e. cc }
 by_kind senders known fault kind h = absurd kind
 
-pub IsRefusal-script : (senders : List ℕ) (known : Option (List ℕ)) (bytes : List ℕ) (fault : Fault) → IfSome known (λ all. bytes ≡ take 33554433 all)
+pub IsRefusal-script : (senders : List ℕ) (known : Option (List ℕ)) (bytes : List ℕ) (fault : Fault) → IfSome known (λ all. bytes ≡ take (most_bytes + 1) all)
     → (fault ≡ Memory) ⊎ (script_fault senders bytes ≡ Some fault) → IsRefusal senders known fault
 IsRefusal-script senders known bytes fault is (inl e) =
     subst (λ (f : Fault). IsRefusal senders known f) (sym e) (record { explains = tt; reads = λ n. refl; writes = λ n. refl; not_write = λ d. cc })

@@ -1,5 +1,5 @@
 -- What a script with no fault is, and what faults a script may have.
-use Rattle.std.proofs.Common.{◌≡◌, ℕ, ◌+◌, ◌≤◌, ◌^◌, ◌-◌, ◌&&◌, ◌==◌, Bool, true, false, cond, nat_lt, nat_le, List, [], ◌∷◌, length, codes, slice_get, Option, Some, None, refl, IfSome, arith}
+use Rattle.std.proofs.Common.{◌≡◌, ℕ, ◌+◌, ◌≤◌, ◌&&◌, ◌==◌, Bool, true, false, cond, nat_lt, nat_le, List, [], ◌∷◌, length, codes, slice_get, Option, Some, None, refl, IfSome, arith}
 use Rattle.std.specs.Bool.{⊤}
 use Rattle.std.specs.List.{filter_map, enumerate_from, AllByRecursion, All, list_any}
 use Rattle.std.specs.Str.{all_ascii_digits, bytes_eq}
@@ -8,11 +8,12 @@ use Rattle.std.specs.Str.Lines.{lines}
 use Rattle.std.proofs.lemmas.Bool.Decides.{nat_tests}
 use Rattle.std.proofs.lemmas.List.Elements.{All-from_recursion}
 use Rattle.clk_packet.specs.declared.fault.Fault.{Fault}
+use Rattle.clk_packet.specs.Limits.{most_sender, most_length}
 use Rattle.clickpull.specs.declared.script.Command.{Command}
 use Rattle.clickpull.specs.declared.script.Command.TheVariants.{Send, Pull}
 use Rattle.clickpull.specs.declared.script.Line.{Line}
 use Rattle.clickpull.specs.declared.script.Line.TheVariants as line
-use Rattle.clickpull.specs.Script.{most_bytes, has_bytes, number_in, send_of, pull_line, send_line, line_of_fields, line_of, fields, line_fault, fault_at, script_fault, command_in, commands_of}
+use Rattle.clickpull.specs.Script.{most_bytes, has_bytes, number_in, send_of, pull_line, send_line, line_of_fields, line_of, fields, line_fault, fault_at, script_fault, command_in, commands_of, most_lines, most_moment}
 use Rattle.clickpull.specs.Router.{IsSound}
 
 -- a line sends no packet without length
@@ -29,9 +30,9 @@ tested v n true false e = grind (arith, nat_tests)
 tested v n false true e = absurd (cc e)
 tested v n false false e = absurd (cc e)
 
-number_in-least : (digits : List ℕ) (o : Option ℕ) → number_in 1 65535 digits ≡ o → IfSome o (λ n. 1 ≤ n)
+number_in-least : (digits : List ℕ) (o : Option ℕ) → number_in 1 most_length digits ≡ o → IfSome o (λ n. 1 ≤ n)
 number_in-least digits None e = tt
-number_in-least digits (Some n) e = tested (digits_value 10 digits) n (all_ascii_digits digits && has_bytes digits) (nat_le (digits_value 10 digits) 65535) e
+number_in-least digits (Some n) e = tested (digits_value 10 digits) n (all_ascii_digits digits && has_bytes digits) (nat_le (digits_value 10 digits) most_length) e
 
 sends_of : (sender length : Option ℕ) → IfSome length (λ n. 1 ≤ n) → SendsSome (send_of sender length)
 sends_of None length h = tt
@@ -42,13 +43,13 @@ sends_line : (word sender length : List ℕ) → SendsSome (send_line word sende
 sends_line word sender length = by_test (bytes_eq word (codes "send")) refl
   where
     by_test : (b : Bool) → bytes_eq word (codes "send") ≡ b → SendsSome (send_line word sender length)
-    by_test true e = rw e (sends_of (number_in 0 65535 sender) (number_in 1 65535 length) (number_in-least length (number_in 1 65535 length) refl))
+    by_test true e = rw e (sends_of (number_in 0 most_sender sender) (number_in 1 most_length length) (number_in-least length (number_in 1 most_length length) refl))
     by_test false e = rw e tt
 
 pulls_line : (word moment : List ℕ) → SendsSome (pull_line word moment)
-pulls_line word moment = by_test (bytes_eq word (codes "pull")) refl (number_in 0 (2 ^ 40 - 1) moment) refl
+pulls_line word moment = by_test (bytes_eq word (codes "pull")) refl (number_in 0 most_moment moment) refl
   where
-    by_test : (b : Bool) → bytes_eq word (codes "pull") ≡ b → (o : Option ℕ) → number_in 0 (2 ^ 40 - 1) moment ≡ o → SendsSome (pull_line word moment)
+    by_test : (b : Bool) → bytes_eq word (codes "pull") ≡ b → (o : Option ℕ) → number_in 0 most_moment moment ≡ o → SendsSome (pull_line word moment)
     by_test true e None f = rw (e, f) tt
     by_test true e (Some m) f = rw (e, f) tt
     by_test false e o f = rw e tt
@@ -80,17 +81,17 @@ no_fault : (senders : List ℕ) (n : ℕ) (texts : List (List ℕ)) → n ≤ 10
 no_fault senders n [] h e = record { sound = tt; few = omega arith }
 no_fault senders n (text ∷ texts) h e = by_fault (fault_at senders (n, text)) refl (no_fault senders (n + 1) texts)
   where
-    by_command : (o : Option Command) → command_in (line_of text) ≡ o → IfSome o (IsSound senders) → n ≤ 1000000 → HasNoFault senders (n + 1) texts → HasNoFault senders n (text ∷ texts)
+    by_command : (o : Option Command) → command_in (line_of text) ≡ o → IfSome o (IsSound senders) → n ≤ most_lines → HasNoFault senders (n + 1) texts → HasNoFault senders n (text ∷ texts)
     by_command None f sound l rest = record { sound = rw f rest.sound; few = rw f (let few = rest.few in omega arith) }
     by_command (Some command) f sound l rest = record { sound = rw f (sound, rest.sound); few = rw f (let few = rest.few in omega arith) }
 
-    by_test : (b : Bool) → nat_lt 1000000 n ≡ b → fault_at senders (n, text) ≡ None → (n ≤ 1000000) × (line_fault senders n (line_of text) ≡ None)
+    by_test : (b : Bool) → nat_lt most_lines n ≡ b → fault_at senders (n, text) ≡ None → (n ≤ most_lines) × (line_fault senders n (line_of text) ≡ None)
     by_test true f g = let no = rw f at g in absurd (cc)
     by_test false f g = (grind (arith, nat_tests), rw f at g)
 
     by_fault : (o : Option Fault) → fault_at senders (n, text) ≡ o → (n + 1 ≤ 1000001 → slice_get (filter_map (fault_at senders) (enumerate_from (n + 1) texts)) 0 ≡ None → HasNoFault senders (n + 1) texts) → HasNoFault senders n (text ∷ texts)
     by_fault None f rest =
-        let t = by_test (nat_lt 1000000 n) refl f in
+        let t = by_test (nat_lt most_lines n) refl f in
         by_command (command_in (line_of text)) refl (line_sound senders n (line_of text) (sends_some (fields text)) t.1) t.0 (rest (omega (arith, t.0)) (rw f at e))
     by_fault (Some fault) f rest = let no = rw f at e in absurd (cc)
 
@@ -105,5 +106,5 @@ script_lines senders script e = by_test (nat_lt most_bytes (length script)) refl
 pub commands-sound : (senders script : List ℕ) → script_fault senders script ≡ None → All (IsSound senders) (commands_of script)
 commands-sound senders script e = All-from_recursion (IsSound senders) (commands_of script) (no_fault senders 1 (lines script) (omega arith) (script_lines senders script e)).sound
 
-pub commands-few : (senders script : List ℕ) → script_fault senders script ≡ None → length (commands_of script) ≤ 1000000
+pub commands-few : (senders script : List ℕ) → script_fault senders script ≡ None → length (commands_of script) ≤ most_lines
 commands-few senders script e = let few = (no_fault senders 1 (lines script) (omega arith) (script_lines senders script e)).few in omega arith

@@ -1,9 +1,7 @@
--- What a queue, a log of pulls and a script's answer are.
-pub mod QueueHistory
+-- What a script and its answer are.
 pub mod Script
 pub mod Meaning
 pub mod Builtin
 pub mod Fields
 pub mod Router
 pub mod Bytes
-pub mod Examples

@@ -1,6 +1,6 @@
 -- What the answer to a script is.
 use Rattle.std.specs.Prelude.{◌≡◌, ℕ, List, [], ◌∷◌, ◌++◌, length, map, ◌==◌, ◌&&◌, Bool, if◌then◌else◌, Option, Some, None, MatchOption, IfSome, ⊤, codes, decimal, slice_get}
-use Rattle.std.specs.List.{flat_map, filter_map, range_with_len, list_any}
+use Rattle.std.specs.List.{flat_map, filter_map, range_with_len, list_any, AllByRecursion}
 use Rattle.clk_packet.specs.declared.packet.Packet.{Packet}
 use Rattle.clk_packet.specs.declared.packet.Kind.{Kind}
 use Rattle.clk_packet.specs.declared.packet.Offered.{Offered}
@@ -10,7 +10,7 @@ use Rattle.clk_packet.specs.declared.fault.Fault.TheVariants.{Memory, UnknownSen
 use Rattle.clickpull.specs.declared.script.Command.{Command}
 use Rattle.clickpull.specs.declared.script.Command.TheVariants.{Send, Pull}
 use Rattle.clk_sched.specs.declared.visit.Visit.{Visit}
-use Rattle.clickpull.specs.QueueHistory.{QueueEvent, offer_events, answer, IsQueueHistory}
+use Rattle.clk_ring.specs.QueueHistory.{QueueEvent, offer_events, pull_event, NamesOffer, IsQueueHistory}
 use Rattle.clk_sched.specs.Tree.{Tree}
 use Rattle.clk_sched.specs.Log.{visits_of, pulls, moment_of, counted, result_of}
 use Rattle.clk_sched.specs.Run.{IsRun}
@@ -78,11 +78,16 @@ sends_to senders sender q = list_any (λ (s : SenderSpec). (s.number == sender) 
 -- what an event is to this queue
 abbrev pub at_queue : Setup → ℕ → Event → List QueueEvent
 at_queue setup q (offered p outcome) = if sends_to setup.senders p.sender q then offer_events p outcome else []
-at_queue setup q (pulled moment visits) = flat_map (λ (v : Visit). if asks_queue setup.tree q v then answer v.got ∷ [] else []) visits
+at_queue setup q (pulled moment visits) = flat_map (λ (v : Visit). if asks_queue setup.tree q v then pull_event v.got ∷ [] else []) visits
 
 -- what happened to this queue
 abbrev pub history : Setup → ℕ → List Event → List QueueEvent
 history setup q events = flat_map (at_queue setup q) events
+
+-- a refusal names the packet that was offered
+abbrev pub NamesItsOffer : Event → Type 0
+NamesItsOffer (offered p outcome) = NamesOffer p outcome
+NamesItsOffer (pulled moment visits) = ⊤
 
 -- `S#n`
 abbrev pub name_text : Packet → List ℕ
@@ -108,12 +113,13 @@ event_text (pulled moment visits) =
     codes "pull " ++ (decimal moment ++ (codes ": " ++ (result_text (result_of (visits_of 0 visits)) ++ codes "\n")))
 
 -- These events can happen one after another: each sender numbers its packets from 0 on, the pulls are a run of the tree at
--- the counted moments, and what happened to each queue is a history of it.
+-- the counted moments, refusals name the packets that were offered, and what happened to each queue is a history of it.
 pub record CanHappen (setup : Setup) (events : List Event) : Type 0 where
   pub numbered : (s : ℕ) → numbers_of s events ≡ range_with_len 0 (length (numbers_of s events))
   pub run : IsRun setup.tree (log_of events)
   pub pull_by_pull : pulls (log_of events) ≡ filter_map pull_in events
   pub moments : map moment_of (filter_map pull_in events) ≡ counted 0 (filter_map moment_in events)
+  pub refusals : AllByRecursion NamesItsOffer events
   pub histories : (q : ℕ) → MatchOption (slice_get setup.queues q) ⊤ (λ spec. IsQueueHistory spec.kind spec.capacity (history setup q events))
 
 -- The commands write the text: it is the lines of some events that are theirs and can happen.

@@ -4,6 +4,7 @@ use Rattle.std.specs.List.{slice_split, filter_map, enumerate_from, list_any}
 use Rattle.std.specs.Str.{all_ascii_digits, bytes_eq}
 use Rattle.std.specs.Str.Parse.{digits_value}
 use Rattle.std.specs.Str.Lines.{lines}
+use Rattle.clk_packet.specs.Limits.{most_sender, most_length}
 use Rattle.clk_packet.specs.declared.fault.Fault.{Fault}
 use Rattle.clk_packet.specs.declared.fault.Fault.TheVariants.{TooLarge, BadScript, UnknownSender}
 use Rattle.clickpull.specs.declared.script.Command.{Command}
@@ -11,12 +12,15 @@ use Rattle.clickpull.specs.declared.script.Command.TheVariants.{Send, Pull}
 use Rattle.clickpull.specs.declared.script.Line.{Line}
 use Rattle.clickpull.specs.declared.script.Line.TheVariants as line
 
--- how many bytes and lines a script may have
+-- how many bytes and lines a script may have, and the greatest moment that it may name, in ticks
 abbrev pub most_bytes : ℕ
 most_bytes = 33554432
 
 abbrev pub most_lines : ℕ
 most_lines = 1000000
+
+abbrev pub most_moment : ℕ
+most_moment = 2 ^ 40 - 1
 
 -- a space or a tab
 abbrev pub is_blank : ℕ → Bool
@@ -48,12 +52,12 @@ send_of (Some sender) (Some length) = line.Command (Send sender length)
 
 -- `pull M`
 abbrev pub pull_line : List ℕ → List ℕ → Line
-pull_line word moment = if bytes_eq word (codes "pull") then pull_of (number_in 0 (2 ^ 40 - 1) moment) else line.Malformed
+pull_line word moment = if bytes_eq word (codes "pull") then pull_of (number_in 0 most_moment moment) else line.Malformed
 
 -- `send S L`
 abbrev pub send_line : List ℕ → List ℕ → List ℕ → Line
 send_line word sender length =
-    if bytes_eq word (codes "send") then send_of (number_in 0 65535 sender) (number_in 1 65535 length) else line.Malformed
+    if bytes_eq word (codes "send") then send_of (number_in 0 most_sender sender) (number_in 1 most_length length) else line.Malformed
 
 -- what the fields of a line say
 abbrev pub line_of_fields : List (List ℕ) → Line

@@ -3,6 +3,7 @@
 ghost use Rattle.std.specs.Prelude.{◌≡◌, ◌+◌, ◌^◌, ◌<◌, ◌≤◌, length, map, IfOk, OnOk, IsOkUnless};
 ghost use Rattle.std.specs.List.{All};
 ghost use Rattle.clk_packet.specs.declared.fault.Fault.TheVariants.{Memory};
+ghost use Rattle.clickpull.specs.Script.{most_lines};
 ghost use Rattle.clickpull.specs.Meaning.{Event, Writes, sender_numbers};
 ghost use Rattle.clickpull.specs.Builtin.{builtin};
 ghost use Rattle.clickpull.specs.Router.{IsAt, IsSound, CarriesOut};
@@ -15,7 +16,7 @@ use std::alloc::Global;
 
 /// What the commands write over the built-in router.
 pub fn answer(alloc: Global, commands: &[Command]) -> Result<Vec<u8>, Fault>
-    requires few { length commands.now ≤ 1000000 }
+    requires few { length commands.now ≤ most_lines }
     requires sound { All (IsSound (sender_numbers builtin)) commands.now }
     ensures written { IfOk result (λ text. Writes builtin commands.now text.items) }
     ensures fault { IsOkUnless result Fault.Memory }

@@ -5,9 +5,7 @@ mod answer;
 mod bytes;
 mod faults;
 mod fields;
-mod laws;
 mod prio;
-mod ring;
 mod router;
 mod run;
 mod script;
@@ -15,7 +13,6 @@ mod text;
 
 use clk_packet::{FromRead, ToWrite};
 pub use faults::fault_line;
-pub use laws::one_packet_histories;
 pub use run::run_builtin;
 use std::io;
 use std::process::ExitCode;

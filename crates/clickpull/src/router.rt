@@ -2,9 +2,9 @@
 
 ghost use Rattle.std.specs.Prelude.{◌≡◌, ◌+◌, ◌^◌, ◌<◌, ◌≤◌};
 
-use crate::prio::PrioSched;
-use crate::ring::Ring;
-use clk_packet::{Fault, Offered, Packet};
+use crate::prio::pull_by_priority;
+use clk_packet::{Fault, Kind, Offered, Packet};
+use clk_ring::{Ring, calls_are_history};
 use clk_sched::{Visit, runs_go_on};
 use std::alloc::Global;
 
@@ -23,7 +23,9 @@ pub struct Router {
     /// How many packets each sender has offered.
     first_sent: u32,
     second_sent: u32,
-    scheduler: PrioSched,
+    /// The queue of each sender.
+    first_queue: Ring,
+    second_queue: Ring,
     /// Every visit so far, in order.
     log: Vec<Visit>,
     /// How many pulls there were.
@@ -37,20 +39,20 @@ impl Router {
     ghost use Rattle.std.specs.List.{list_any};
     ghost use Rattle.clk_packet.specs.declared.fault.Fault.TheVariants.{Memory};
     ghost use Rattle.clickpull.specs.Meaning.{Event, offered};
-    ghost use Rattle.clickpull.specs.Router.{IsAt, Pulls};
+    ghost use Rattle.clickpull.specs.Router.{IsAt, LeadsOnByPull};
 
     /// The router before anything has happened.
     pub fn new(alloc: Global) -> Result<Router, Fault>
         ensures at_start { IfOk result (λ router. IsAt [] router) }
         ensures fault { IsOkUnless result Fault.Memory }
     {
+        // The queues lead on from here by this law, which does nothing.
+        calls_are_history();
         Ok(Router {
             first_sent: 0,
             second_sent: 0,
-            scheduler: PrioSched {
-                first: Ring::new(alloc, CAPACITY)?,
-                second: Ring::new(alloc, CAPACITY)?,
-            },
+            first_queue: Ring::new(alloc, Kind::TailDrop, CAPACITY)?,
+            second_queue: Ring::new(alloc, Kind::TailDrop, CAPACITY)?,
             log: Vec::new(alloc),
             pulls: 0,
             now: 0,
@@ -66,25 +68,34 @@ impl Router {
         ensures packet { (result.0.sender ≡ sender) × (result.0.length ≡ length) }
         ensures leads { (events : _) → IsAt events self.old → IsAt (events ++ offered result.0 result.1 ∷ []) self.new }
     {
+        // What happened to the queue stays a history of it by this law, which does nothing.
+        calls_are_history();
         if sender == SENDERS[0] {
             let packet = next_packet(&mut self.first_sent, sender, length);
-            (packet, self.scheduler.first.offer(packet))
+            (packet, self.first_queue.offer(packet))
         } else {
             let packet = next_packet(&mut self.second_sent, sender, length);
-            (packet, self.scheduler.second.offer(packet))
+            (packet, self.second_queue.offer(packet))
         }
     }
 
     /// Pulls the device once, at this moment or, where that is later, at the greatest so far.
     pub fn pull(&mut self, moment: u64) -> Result<Option<Packet>, Fault>
         requires { self.old.pulls + 1 < 2 ^ 64 }
-        ensures leads { IfOk result (λ got. (events : _) → IsAt events self.old → Pulls self.new moment got events) }
+        ensures leads { IfOk result (λ got. (events : _) → IsAt events self.old → LeadsOnByPull self.new moment got events) }
         ensures fault { IsOkUnless result Fault.Memory }
     {
-        // The log stays a run by this law, which does nothing.
+        // The log stays a run, and what happened to the queues a history of them, by these laws, which do nothing.
         runs_go_on();
+        calls_are_history();
         let now = self.now.max(moment);
-        let got = self.scheduler.pull(&mut self.log, self.pulls, now)?;
+        let got = pull_by_priority(
+            &mut self.first_queue,
+            &mut self.second_queue,
+            &mut self.log,
+            self.pulls,
+            now,
+        )?;
         self.log
             .push(Visit::asking(self.pulls, now, DEVICE, 0, got))?;
         self.pulls += 1;

@@ -4,6 +4,7 @@ ghost use Rattle.std.specs.Prelude.{◌≡◌, ◌≢◌, ◌+◌, IfSome, IfErr
 ghost use Rattle.std.specs.Io.KnownBytes.{Appends, Keeps};
 ghost use Rattle.clk_packet.specs.declared.fault.Fault.TheVariants.{Write};
 ghost use Rattle.clickpull.specs.Bytes.{Takes, AppendsFront, read_failures, write_failures};
+ghost use Rattle.clickpull.specs.Script.{most_bytes};
 ghost use Rattle.clickpull.specs.Meaning.{IsMeaning, Explains, sender_numbers};
 ghost use Rattle.clickpull.specs.Builtin.{builtin};
 
@@ -39,7 +40,7 @@ pub fn run_builtin<R: Source, W: Sink>(
     ensures write_failures { W.Sink.failures writer.new ≡ write_failures result (W.Sink.failures writer.old) }
 
     // The reader is read to one byte past the limit at most.
-    ensures limit { Takes 33554433 (R.Source.remaining reader.old) (R.Source.remaining reader.new) }
+    ensures limit { Takes (most_bytes + 1) (R.Source.remaining reader.old) (R.Source.remaining reader.new) }
 {
     let script = read_up_to(alloc, reader, MAX_BYTES + 1)?;
     let commands = read_commands(alloc, &SENDERS, &script)?;

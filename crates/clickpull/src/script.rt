@@ -3,7 +3,7 @@
 ghost use Rattle.std.specs.Prelude.{◌≡◌, ◌≤◌, ◌⊎◌, None, Some, MatchResult, OnOk};
 ghost use Rattle.std.specs.Option.{option_map};
 ghost use Rattle.clk_packet.specs.declared.fault.Fault.TheVariants.{Memory, UnknownSender};
-ghost use Rattle.clickpull.specs.Script.{line_of, command_in, command_fault, fault_at, script_fault, commands_of};
+ghost use Rattle.clickpull.specs.Script.{line_of, command_in, command_fault, fault_at, script_fault, commands_of, most_lines};
 
 use crate::fields::{first_field, first_line, number_in};
 use clk_packet::Fault;
@@ -120,7 +120,7 @@ fn command_at(senders: &[u16], number: u32, text: &[u8]) -> Result<Option<Comman
     ensures exact { MatchResult result
         (λ command. (fault_at senders.now (number, text.now) ≡ None) × (command ≡ command_in (line_of text.now)))
         (λ fault. fault_at senders.now (number, text.now) ≡ Some fault) }
-    ensures within { OnOk result (number ≤ 1000000) }
+    ensures within { OnOk result (number ≤ most_lines) }
 {
     if number > MAX_LINES {
         return Err(Fault::TooLarge);

@@ -2,4 +2,5 @@
 pub mod Failing
 pub mod Fault
 pub mod Io
+pub mod Limits
 pub mod Packets

@@ -1,4 +1,5 @@
 ghost use Rattle.std.specs.Prelude.{◌≤◌};
+ghost use Rattle.clk_packet.specs.Limits.{most_length};
 
 /// A packet: its sender, its place among that sender's packets, and its length. Contents aren't kept.
 // The number stands first so that a packet takes eight bytes.
@@ -12,7 +13,7 @@ pub struct Packet {
     pub length: u16,
     ghost has_length: { 1 ≤ length },
     // The type says so of any `u16`; here it is said where laws of lengths can cite it.
-    ghost is_within: { length ≤ 65535 },
+    ghost is_within: { length ≤ most_length },
 }
 
 /// What a queue does with a packet that arrives when it is full.

@@ -1,5 +1,5 @@
 use crate::{Failed, FailingSink, FailingSource, FromRead, Sink, Source, ToWrite};
-use std::io::{self, ErrorKind, Read};
+use std::io::{self, ErrorKind, Read, Write};
 use std::test::Fail;
 
 // Each function below goes through the bound alone.
@@ -35,6 +35,62 @@ fn a_reader_gives_its_bytes(rt: HostRuntime) {
 fn an_interrupted_read_fails(rt: HostRuntime) {
     let mut source = FromRead::new(Interrupted);
     assert_eq!(rt; first_two(&mut source), ([0; 2], Err(Failed)));
+}
+
+// A reader and a writer that are interrupted once, and then give and take a byte at a time.
+#[derive(Drop)]
+struct InterruptedOnce {
+    interrupted: bool,
+}
+
+impl InterruptedOnce {
+    fn new() -> InterruptedOnce {
+        InterruptedOnce { interrupted: false }
+    }
+
+    // Whether this call is the first, which is interrupted.
+    fn interrupts(&mut self) -> bool {
+        let first = !self.interrupted;
+        self.interrupted = true;
+        first
+    }
+}
+
+impl Read for InterruptedOnce {
+    fn read(&mut self, buf: &mut [u8]) -> io::Result<usize> {
+        if self.interrupts() {
+            return Err(io::Error::from(ErrorKind::Interrupted));
+        }
+        let Some(first) = buf.first_mut() else {
+            return Ok(0);
+        };
+        *first = b'a';
+        Ok(1)
+    }
+}
+
+impl Write for InterruptedOnce {
+    fn write(&mut self, bytes: &[u8]) -> io::Result<usize> {
+        if self.interrupts() {
+            return Err(io::Error::from(ErrorKind::Interrupted));
+        }
+        Ok(bytes.len().min(1))
+    }
+
+    fn flush(&mut self) -> io::Result<()> {
+        Ok(())
+    }
+}
+
+// The call that is interrupted fails, and isn't made again.
+#[test]
+fn a_call_is_interrupted_once(rt: HostRuntime) {
+    let mut source = FromRead::new(InterruptedOnce::new());
+    assert_eq!(rt; first_two(&mut source), ([0; 2], Err(Failed)));
+    assert_eq!(rt; first_two(&mut source), (*b"a\0", Ok(1)));
+    let mut sink = ToWrite::new(InterruptedOnce::new());
+    assert_eq!(rt; put(&mut sink, b"ab"), Err(Failed));
+    assert_eq!(rt; put(&mut sink, b"ab"), Ok(1));
 }
 
 #[test]

@@ -1,7 +1,8 @@
 //! A reader or a writer that fails in mid-stream.
 
-use super::answer_within;
-use clk_packet::Fault;
+use super::{AMPLE, answer_within};
+use crate::run_builtin;
+use clk_packet::{Failed, FailingSink, FailingSource, Failures, Fault, Sink, Source};
 use std::test::Fail;
 
 const SCRIPT: &[u8] = b"send 0 100\nsend 1 50\npull 0\npull 0\npull 0\n";
@@ -18,6 +19,96 @@ fn a_failing_reader_is_told(rt: HostRuntime) -> Result<(), Fail> {
         assert_eq!(rt; outcome, Err(Fault::Read), "after {limit} bytes");
         assert!(rt; written.is_empty(), "after {limit} bytes");
     }
+    Ok(())
+}
+
+// A source that fails at its first read, and would give the script after that.
+#[derive(Drop)]
+struct FailsOnce {
+    script: FailingSource,
+    failed: bool,
+    failures: Failures,
+}
+
+impl Source for FailsOnce {
+    ghost use Rattle.std.specs.Prelude.{None};
+
+    ghost remaining = { λ s. None };
+
+    ghost failures = { λ s. s.failures.count };
+
+    fn read(&mut self, buf: &mut [u8]) -> Result<usize, Failed> {
+        if !self.failed {
+            self.failed = true;
+            self.failures.add_one();
+            return Err(Failed);
+        }
+        let read = self.script.read(buf);
+        if read.is_err() {
+            self.failures.add_one();
+        }
+        read
+    }
+}
+
+#[test]
+fn a_read_that_failed_is_not_made_again(rt: HostRuntime) -> Result<(), Fail> {
+    let mut reader = FailsOnce {
+        script: FailingSource::new(SCRIPT.to_vec(rt.alloc())?, usize::MAX),
+        failed: false,
+        failures: Failures::none(),
+    };
+    let mut writer = FailingSink::new(vec![in rt.alloc(); 0; AMPLE]?);
+    assert_eq!(rt;
+        run_builtin(rt.alloc(), &mut reader, &mut writer),
+        Err(Fault::Read)
+    );
+    assert!(rt; writer.taken().is_empty());
+    Ok(())
+}
+
+// A sink that fails at its first write, and would take bytes after that.
+#[derive(Drop)]
+struct RefusesOnce {
+    text: FailingSink,
+    failed: bool,
+    failures: Failures,
+}
+
+impl Sink for RefusesOnce {
+    ghost use Rattle.std.specs.Prelude.{None};
+
+    ghost taken = { λ s. None };
+
+    ghost failures = { λ s. s.failures.count };
+
+    fn write(&mut self, bytes: &[u8]) -> Result<usize, Failed> {
+        if !self.failed {
+            self.failed = true;
+            self.failures.add_one();
+            return Err(Failed);
+        }
+        let written = self.text.write(bytes);
+        if written.is_err() {
+            self.failures.add_one();
+        }
+        written
+    }
+}
+
+#[test]
+fn a_write_that_failed_is_not_made_again(rt: HostRuntime) -> Result<(), Fail> {
+    let mut reader = FailingSource::new(SCRIPT.to_vec(rt.alloc())?, usize::MAX);
+    let mut writer = RefusesOnce {
+        text: FailingSink::new(vec![in rt.alloc(); 0; AMPLE]?),
+        failed: false,
+        failures: Failures::none(),
+    };
+    assert_eq!(rt;
+        run_builtin(rt.alloc(), &mut reader, &mut writer),
+        Err(Fault::Write)
+    );
+    assert!(rt; writer.text.taken().is_empty());
     Ok(())
 }
 

@@ -1,4 +1,4 @@
--- One queue on one thread, as the list of what happened to it (Click: Queue, FrontDropQueue).
+-- What happens to one queue on one thread, as a list of events (Click: Queue, FrontDropQueue).
 use Rattle.std.specs.Prelude.{◌≡◌, ℕ, ◌≤◌, List, [], ◌∷◌, ◌++◌, length, drop, ⊤, Option, Some, None}
 use Rattle.clk_packet.specs.declared.packet.Packet.{Packet}
 use Rattle.clk_packet.specs.declared.packet.Kind.{Kind}
@@ -65,19 +65,14 @@ IsFollowedUp (give p) after = ⊤
 IsFollowedUp empty after = ⊤
 
 -- each event after `before` stands where it may
-abbrev pub GoesOn : Kind → ℕ → List QueueEvent → List QueueEvent → Type 0
-GoesOn kind capacity before [] = IsInOrder capacity before
-GoesOn kind capacity before (event ∷ after) =
-    IsInOrder capacity before × MayStand kind capacity (held before) event × IsFollowedUp event after × GoesOn kind capacity (before ++ event ∷ []) after
+abbrev pub EachStands : Kind → ℕ → List QueueEvent → List QueueEvent → Type 0
+EachStands kind capacity before [] = IsInOrder capacity before
+EachStands kind capacity before (event ∷ after) =
+    IsInOrder capacity before × MayStand kind capacity (held before) event × IsFollowedUp event after × EachStands kind capacity (before ++ event ∷ []) after
 
 -- What happened to a queue of this kind and capacity, from the time it was made.
 abbrev pub IsQueueHistory : Kind → ℕ → List QueueEvent → Type 0
-IsQueueHistory kind capacity events = GoesOn kind capacity [] events
-
--- After this history the queue holds these packets.
-pub record Leaves (kind : Kind) (capacity : ℕ) (history : List QueueEvent) (holding : List Packet) : Type 0 where
-  pub whole : IsQueueHistory kind capacity history
-  pub holds : held history ≡ holding
+IsQueueHistory kind capacity events = EachStands kind capacity [] events
 
 -- what an offer with this outcome is to a queue
 abbrev pub offer_events : Packet → Offered → List QueueEvent
@@ -85,7 +80,13 @@ offer_events p Accepted = accept p ∷ []
 offer_events p (Refused q) = refuse p ∷ []
 offer_events p (Evicted front) = evict front ∷ accept p ∷ []
 
+-- a refusal names the packet that was offered
+abbrev pub NamesOffer : Packet → Offered → Type 0
+NamesOffer p Accepted = ⊤
+NamesOffer p (Refused q) = q ≡ p
+NamesOffer p (Evicted front) = ⊤
+
 -- what an answer to a pull is to a queue
-abbrev pub answer : Option Packet → QueueEvent
-answer None = empty
-answer (Some p) = give p
+abbrev pub pull_event : Option Packet → QueueEvent
+pull_event None = empty
+pull_event (Some p) = give p

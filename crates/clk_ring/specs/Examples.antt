@@ -1,0 +1,57 @@
+-- Histories of worked examples, and some that are none.
+use Rattle.std.specs.Prelude.{List, [], ◌∷◌}
+use Rattle.std.proofs.Common.{lit≤}
+use Rattle.clk_packet.specs.declared.packet.Packet.{Packet}
+use Rattle.clk_packet.specs.Packets.{packet}
+use Rattle.clk_ring.specs.QueueHistory.{QueueEvent, accept, refuse, evict, give, empty}
+
+abbrev first : Packet
+first = packet 0 0 100 (lit≤ tt) (lit≤ tt)
+
+abbrev second : Packet
+second = packet 1 0 50 (lit≤ tt) (lit≤ tt)
+
+-- A Queue of one packet: the second offer is refused.
+abbrev pub tail_dropped : List QueueEvent
+tail_dropped = accept first ∷ refuse second ∷ give first ∷ empty ∷ []
+
+-- A FrontDropQueue of one packet: the second offer puts the first packet out.
+abbrev pub front_dropped : List QueueEvent
+front_dropped = accept first ∷ evict first ∷ accept second ∷ give second ∷ empty ∷ []
+
+-- two packets are held at once
+abbrev pub two_held : List QueueEvent
+two_held = accept first ∷ accept second ∷ give first ∷ give second ∷ []
+
+-- the newer packet comes out first
+abbrev pub order_turned : List QueueEvent
+order_turned = accept first ∷ accept second ∷ give second ∷ give first ∷ []
+
+-- a packet that was never accepted comes out
+abbrev pub other_given : List QueueEvent
+other_given = accept first ∷ give second ∷ []
+
+-- nothing is given though a packet is held
+abbrev pub nothing_given : List QueueEvent
+nothing_given = accept first ∷ empty ∷ []
+
+-- a packet is put out, and no packet comes in for it: at the end, or before another event
+abbrev pub put_out_at_end : List QueueEvent
+put_out_at_end = accept first ∷ evict first ∷ []
+
+abbrev pub put_out_before : QueueEvent → List QueueEvent
+put_out_before event = accept first ∷ evict first ∷ event ∷ accept second ∷ []
+
+-- the newest packet is put out where the front should be
+abbrev pub newest_put_out : List QueueEvent
+newest_put_out = accept first ∷ accept second ∷ evict second ∷ accept second ∷ []
+
+-- the events that may not stand there
+abbrev pub gives_first : QueueEvent
+gives_first = give first
+
+abbrev pub refuses_second : QueueEvent
+refuses_second = refuse second
+
+abbrev pub puts_out_second : QueueEvent
+puts_out_second = evict second
