@@ -7,7 +7,7 @@ pub mod PullByPull
 pub mod SameTurns
 pub mod NoChoice
 pub mod Heads
-pub mod HeadsByClass
+pub mod HeadsByManner
 pub mod Blocks
 pub mod Origins
 pub mod Pulled

@@ -5,6 +5,7 @@ pub mod Built
 pub mod Falls
 pub mod Kept
 pub mod Turns
+pub mod Heads
 pub mod Log
 pub mod Laws
 pub mod Run

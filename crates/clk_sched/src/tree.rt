@@ -35,8 +35,8 @@ enum Node {
 enum Class {
     Prio,
     RoundRobin,
-    /// The quantum in bytes.
-    Drr(u32),
+    /// The quantum of each input, in bytes.
+    Drr(Vec<u32>),
     /// The tickets of each input.
     Stride(Vec<u32>),
     /// The rate in packets a tick, and the burst in packets.
@@ -111,17 +111,18 @@ impl Tree {
         Tree::scheduler(Class::RoundRobin, children)
     }
 
-    /// A DRRSched over these trees, of which there is at least one, with a quantum in bytes, from 1 to 1,000,000.
+    /// A DRRSched over these trees, of which there is at least one, with the quantum of each in bytes, from 1 to 1,000,000.
     ///
     /// # Errors
     ///
     /// As `prio`.
-    pub fn drr(quantum: u32, children: Vec<Tree>) -> Result<Tree, Fault>
+    pub fn drr(quanta: Vec<u32>, children: Vec<Tree>) -> Result<Tree, Fault>
         requires inputs { 1 ≤ length children.items }
-        requires quantum { (1 ≤ quantum) × (quantum ≤ 1000000) }
-        ensures { result ≡ built (drr quantum) children.items }
+        requires one_each { length quanta.items ≡ length children.items }
+        requires quanta { AllByRecursion (λ n. (1 ≤ n) × (n ≤ 1000000)) quanta.items }
+        ensures { result ≡ built (drr quanta.items) children.items }
     {
-        Tree::scheduler(Class::Drr(quantum), children)
+        Tree::scheduler(Class::Drr(quanta), children)
     }
 
     /// A StrideSched over these trees, of which there is at least one, with the tickets of each, from 1 to 32,768.
@@ -181,8 +182,8 @@ impl Tree {
         let _ = &self.node;
     }
 
-    /// A law: in each run of this tree over packets of at most 65,535 bytes, each DRRSched and each StrideSched gives the shares
-    /// that its quantum or its tickets say, within bounds. It does nothing.
+    /// A law: in each run of this tree each DRRSched and each StrideSched gives the shares that its quanta or its tickets say, within
+    /// bounds. It does nothing.
     pub fn shares_out(&self)
         ensures { SharesOut self.now }
     {
