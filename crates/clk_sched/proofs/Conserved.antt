@@ -20,8 +20,9 @@ use Rattle.clk_sched.proofs.Heads.{got_by, passed_by}
 use Rattle.clk_sched.proofs.HeadsByManner.{in_order-holds}
 use Rattle.clk_sched.proofs.Blocks.{flat_map-same}
 use Rattle.clk_sched.proofs.TreeLemmas.{stands_in-append}
+use Rattle.clk_sched.proofs.Distinct.{distinct-parts}
 use Rattle.clk_sched.proofs.NoChoice.{root-width}
-use Rattle.clk_sched.proofs.Origins.{origin-not, from_queue-append, traced-not, heads-not, node-not, distinct-parts, StandsOnlyIn, only-after_leaf, only-after_node, only-inputs, only-here}
+use Rattle.clk_sched.proofs.Origins.{origin-not, from_queue-append, traced-not, heads-not, node-not, StandsOnlyIn, only-after_leaf, only-after_node, only-inputs, only-here}
 use Rattle.clk_sched.proofs.Pulled.{IsPulledIn, pulled-after_leaf, pulled-after_node, pulled-inputs, pulled-root, turns-visits}
 use Rattle.clk_sched.proofs.Gives.{gives, results, gives-results, gives-queue, gives-after_leaf, gives-after_node, gives-passed_and_held}
 

@@ -1,6 +1,8 @@
 pub mod Elements
 pub mod Numbers
 pub mod Members
+pub mod TreeLemmas
+pub mod Distinct
 pub mod Numbering
 pub mod Allowed
 pub mod PullByPull
@@ -18,4 +20,3 @@ pub mod GoesOn
 pub mod DeficitShares
 pub mod StrideShares
 pub mod Shares
-pub mod TreeLemmas

@@ -1,5 +1,5 @@
 -- Where a queue doesn't stand, no packet comes from it; and where it stands once.
-use Rattle.std.proofs.Common.{◌≡◌, ℕ, suc, ◌+◌, ◌<◌, ◌==◌, ◌&&◌, ◌||◌, nat_lt, if◌then◌else◌, Bool, true, false, not, List, [], ◌∷◌, ◌++◌, Option, Some, None, refl, sym, ap, ap₂, ◌∙◌, arith}
+use Rattle.std.proofs.Common.{◌≡◌, ℕ, suc, ◌+◌, ◌<◌, ◌==◌, ◌&&◌, nat_lt, if◌then◌else◌, Bool, true, false, List, [], ◌∷◌, ◌++◌, Option, Some, None, refl, sym, ap, ap₂, ◌∙◌, arith}
 use Rattle.std.specs.List.{flat_map, range_with_len}
 use Rattle.std.specs.Option.{option_or}
 use Rattle.std.proofs.lemmas.Bool.{false≢true}
@@ -7,20 +7,12 @@ use Rattle.std.proofs.lemmas.Bool.Decides.{nat_tests}
 use Rattle.std.proofs.lemmas.List.Elements.{filter_map-append}
 use Rattle.clk_packet.specs.declared.packet.Packet.{Packet}
 use Rattle.clk_sched.specs.declared.visit.Visit.{Visit}
-use Rattle.clk_sched.specs.Tree.{Class, Row, end, leaf, node, Tree, nodes, width, queue_in, queue_at, leaves, stands_in, are_distinct, is_number}
-use Rattle.clk_sched.specs.Built.{are_apart}
+use Rattle.clk_sched.specs.Tree.{Class, Row, end, leaf, node, Tree, nodes, width, queue_in, queue_at, leaves, stands_in, is_number}
 use Rattle.clk_sched.specs.Laws.{Manner, in_order, with_heads, manner}
 use Rattle.clk_sched.specs.Results.{Traced, traced, origin_in, passed_origin, held_at, own_heads, traced_heads}
 use Rattle.clk_sched.specs.Conservation.{from_queue}
 use Rattle.clk_sched.proofs.Numbering.{queue_in-before, queue_in-after, queue_in-earlier, or_none}
-use Rattle.clk_sched.proofs.TreeLemmas.{stands_in-append, are_distinct-append}
-
-or-neither : (a b : Bool) → (a || b) ≡ false → (a ≡ false) × (b ≡ false)
-or-neither true b e = absurd (false≢true (sym e))
-or-neither false b e = (refl, e)
-
-pub stands-neither : (q : ℕ) (ps rs : List ℕ) → stands_in q (ps ++ rs) ≡ false → (stands_in q ps ≡ false) × (stands_in q rs ≡ false)
-stands-neither q ps rs e = or-neither (stands_in q ps) (stands_in q rs) (sym (stands_in-append q ps rs) ∙ e)
+use Rattle.clk_sched.proofs.Distinct.{or-neither, stands-neither}
 
 queue_in-not : (q above first next : ℕ) (row : Row) (x i : ℕ) → stands_in q (leaves row) ≡ false → is_number q (queue_in above first next row x i) ≡ false
 queue_in-not q above first next end x i h = refl
@@ -154,23 +146,3 @@ only-here q tree above first next k row e h only x i =
         by_eq false false f g = refl
         by_eq true false f g = absurd (grind (arith, nat_tests))
         by_eq false true f g = absurd (grind (arith, nat_tests))
-
-apart-not : (q : ℕ) (ps rs : List ℕ) → are_apart ps rs ≡ true → stands_in q ps ≡ true → stands_in q rs ≡ false
-apart-not q [] rs e h = absurd (false≢true h)
-apart-not q (p ∷ ps) rs e h = by_test (p == q) refl h (stands_in p rs) refl e (apart-not q ps rs)
-  where
-    by_test : (b : Bool) → (p == q) ≡ b → (b || stands_in q ps) ≡ true → (c : Bool) → stands_in p rs ≡ c → ((not c) && are_apart ps rs) ≡ true → (are_apart ps rs ≡ true → stands_in q ps ≡ true → stands_in q rs ≡ false) → stands_in q rs ≡ false
-    by_test b f g true k m rest = absurd (false≢true m)
-    by_test true f g false k m rest = let same : p ≡ q = grind (arith, nat_tests) in ap (λ j. stands_in j rs) (sym same) ∙ k
-    by_test false f g false k m rest = rest m g
-
--- of distinct queues, one that stands in the first part stands in no other
-pub distinct-parts : (q : ℕ) (ps rs : List ℕ) → are_distinct (ps ++ rs) ≡ true → (are_distinct ps ≡ true) × (are_distinct rs ≡ true) × (stands_in q ps ≡ true → stands_in q rs ≡ false)
-distinct-parts q ps rs e = by_parts (are_distinct ps) (are_apart ps rs) (are_distinct rs) refl refl refl (sym (are_distinct-append ps rs) ∙ e)
-  where
-    by_parts : (a b c : Bool) → are_distinct ps ≡ a → are_apart ps rs ≡ b → are_distinct rs ≡ c → (a && (b && c)) ≡ true
-        → (are_distinct ps ≡ true) × (are_distinct rs ≡ true) × (stands_in q ps ≡ true → stands_in q rs ≡ false)
-    by_parts true true true f g h k = (f, h, λ s. apart-not q ps rs g s)
-    by_parts false b c f g h k = absurd (false≢true k)
-    by_parts true false c f g h k = absurd (false≢true k)
-    by_parts true true false f g h k = absurd (false≢true k)

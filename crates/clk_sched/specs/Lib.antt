@@ -2,6 +2,7 @@
 pub mod Tree
 pub mod Stored
 pub mod Built
+pub mod Marks
 pub mod Falls
 pub mod Kept
 pub mod Turns
