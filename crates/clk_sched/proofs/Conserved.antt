@@ -1,31 +1,30 @@
 -- A run conserves the packets of each queue.
-use Rattle.std.proofs.Common.{◌≡◌, ◌≢◌, ℕ, zero, suc, ◌+◌, ◌<◌, ◌≤◌, ◌==◌, ◌&&◌, ◌||◌, if◌then◌else◌, ◌⊎◌, inl, inr, Bool, true, false, List, [], ◌∷◌, ◌++◌, length, map, reverse, Option, Some, None, is_some, MatchOption, refl, sym, ap, ap₂, ◌∙◌, subst, append_assoc, append-nil, eq-or-lt_of_le, arith}
+use Rattle.std.proofs.Common.{◌≡◌, ◌≢◌, ℕ, zero, suc, ◌+◌, ◌<◌, ◌≤◌, ◌==◌, ◌&&◌, ◌||◌, if◌then◌else◌, ◌⊎◌, inl, inr, Bool, true, false, List, [], ◌∷◌, ◌++◌, map, reverse, Option, Some, None, is_some, refl, sym, ap, ap₂, ◌∙◌, subst, append_assoc, append-nil, eq-or-lt_of_le, arith}
 use Rattle.std.specs.List.{flat_map, filter_map, cons_option, range_with_len, AllByRecursion}
 use Rattle.std.proofs.lemmas.Bool.{false≢true}
 use Rattle.std.proofs.lemmas.Bool.Decides.{nat_tests}
 use Rattle.clk_packet.specs.declared.packet.Packet.{Packet}
 use Rattle.clk_sched.specs.declared.visit.Visit.{Visit}
-use Rattle.clk_sched.specs.Tree.{Class, prio, round_robin, drr, stride, shaper, Row, end, leaf, node, Tree, root, nodes, width, leaves, stands_in, are_distinct, leaves_distinct, is_number}
-use Rattle.clk_sched.specs.Turns.{Turn, all_visits, IsPlain, UpToFirst, AsksInOrder}
-use Rattle.clk_sched.specs.Laws.{Obeys}
+use Rattle.clk_sched.specs.Tree.{Class, Row, end, leaf, node, Tree, root, nodes, width, leaves, stands_in, are_distinct, leaves_distinct, is_number}
+use Rattle.clk_sched.specs.Turns.{Turn, EachAfter, all_visits, IsPlain}
+use Rattle.clk_sched.specs.Laws.{Manner, in_order, with_heads, manner, Follows}
 use Rattle.clk_sched.specs.Laws.Device.{IsDeviceTurn}
-use Rattle.clk_sched.specs.Laws.Deficit.{head_at}
-use Rattle.clk_sched.specs.Log.{visits_of, in_pull, pulls, turn, pulls_below}
+use Rattle.clk_sched.specs.Heads.{head_at}
+use Rattle.clk_sched.specs.Log.{visits_of, pulls, turn, pulls_below}
 use Rattle.clk_sched.specs.Run.{EachObeys, IsRun}
-use Rattle.clk_sched.specs.Results.{Traced, traced, leaf_packets, traced_emitted, traced_heads, own_heads, held_at, origin_in, passed_input, asked_pull, first_pull}
+use Rattle.clk_sched.specs.Results.{Traced, traced, leaf_packets, traced_emitted, traced_heads, own_heads, held_at, origin_in, passed_origin, asked_pull, first_pull}
 use Rattle.clk_sched.specs.Conservation.{from_queue, ConservesPackets}
-use Rattle.clk_sched.proofs.Members.{of-all, all-append}
-use Rattle.clk_sched.proofs.Allowed.{onto-reverse}
+use Rattle.clk_sched.proofs.Members.{of-all}
+use Rattle.clk_sched.proofs.Allowed.{onto-reverse, each-follows, device-visit}
 use Rattle.clk_sched.proofs.Heads.{got_by, passed_by}
-use Rattle.clk_sched.proofs.HeadsByClass.{IsHeadless, headless-holds}
+use Rattle.clk_sched.proofs.HeadsByManner.{in_order-holds}
 use Rattle.clk_sched.proofs.Blocks.{flat_map-same}
 use Rattle.clk_sched.proofs.TreeLemmas.{stands_in-append}
+use Rattle.clk_sched.proofs.Distinct.{distinct-parts}
 use Rattle.clk_sched.proofs.NoChoice.{root-width}
-use Rattle.clk_sched.proofs.Origins.{origin-not, from_queue-append, traced-not, heads-not, node-not, distinct-parts, StandsOnlyIn, only-after_leaf, only-after_node, only-inputs, only-here}
-use Rattle.clk_sched.proofs.Pulled.{IsPulledIn, pulled-after_leaf, pulled-after_node, pulled-inputs, pulled-root}
-use Rattle.clk_sched.proofs.Gives.{gives, results, gives-results}
-use Rattle.clk_sched.proofs.Gives.{gives-queue, gives-after_leaf, gives-after_node, gives-passed_and_held}
-use Rattle.clk_sched.proofs.Pulled.{turns-visits}
+use Rattle.clk_sched.proofs.Origins.{origin-not, from_queue-append, traced-not, heads-not, node-not, StandsOnlyIn, only-after_leaf, only-after_node, only-inputs, only-here}
+use Rattle.clk_sched.proofs.Pulled.{IsPulledIn, pulled-after_leaf, pulled-after_node, pulled-inputs, pulled-root, turns-visits}
+use Rattle.clk_sched.proofs.Gives.{gives, results, gives-results, gives-queue, gives-after_leaf, gives-after_node, gives-passed_and_held}
 
 from_queue-same : {X : Type 0} (q : ℕ) (f g : X → List Traced) (xs : List X) → ((x : X) → from_queue q (f x) ≡ from_queue q (g x)) → from_queue q (flat_map f xs) ≡ from_queue q (flat_map g xs)
 from_queue-same q f g [] h = refl
@@ -141,7 +140,7 @@ conserved-after_node tree log q above first next class inputs row h rest =
     }
   where
     inside : ℕ → Option ℕ
-    inside p = origin_in log 0 (suc next) inputs (passed_input (visits_of next (in_pull p log))) (asked_pull (passed_input (visits_of next (in_pull p log))) p (reverse (visits_of next log)))
+    inside p = passed_origin (λ i k. origin_in log 0 (suc next) inputs i k) log next p
 
     by_test : (j p : ℕ) (b : Bool) → is_number q (inside p) ≡ false → is_number q (origin_in log (suc first) (suc (next + nodes inputs)) row j p) ≡ false
         → is_number q (if b then inside p else origin_in log (suc first) (suc (next + nodes inputs)) row j p) ≡ false
@@ -149,21 +148,13 @@ conserved-after_node tree log q above first next class inputs row h rest =
     by_test j p false g k = k
 
 -- the heads of a node over the input from which a queue's packets come
-own-held : (log : List Visit) (q x : ℕ) (class : Class) (inputs : Row) (turns : List Turn) (i : ℕ) → Obeys class (width inputs) turns → all_visits turns ≡ visits_of x log → i < width inputs
-    → ((j k : ℕ) → j ≢ i → is_number q (origin_in log 0 (suc x) inputs j k) ≡ false) → from_queue q (own_heads log x inputs class) ≡ from_queue q (held_at log x inputs i)
-own-held log q x class inputs turns i law all l alone = by_class class law
-  where
-    none : (c : Class) → IsHeadless c → Obeys c (width inputs) turns → [] ≡ from_queue q (held_at log x inputs i)
-    none c headless h =
-        ap (λ o. from_queue q (traced o (origin_in log 0 (suc x) inputs i (asked_pull i (first_pull (reverse (visits_of x log))) (reverse (visits_of x log))))))
-        (sym (ap (head_at i) (ap reverse (sym all) ∙ sym (onto-reverse (all_visits turns))) ∙ headless-holds c (width inputs) turns headless h i))
-
-    by_class : (c : Class) → Obeys c (width inputs) turns → from_queue q (own_heads log x inputs c) ≡ from_queue q (held_at log x inputs i)
-    by_class prio h = none prio tt h
-    by_class round_robin h = none round_robin tt h
-    by_class (drr quantum) h = from_queue-one q (held_at log x inputs) i 0 (width inputs) (λ j d. traced-not q _ _ (alone j _ d)) (omega arith) (omega arith)
-    by_class (stride tickets) h = none (stride tickets) tt h
-    by_class (shaper rate burst) h = none (shaper rate burst) tt h
+own-held : (log : List Visit) (q x : ℕ) (m : Manner) (inputs : Row) (turns : List Turn) (i : ℕ) → EachAfter (Follows m (width inputs)) [] turns → all_visits turns ≡ visits_of x log → i < width inputs
+    → ((j k : ℕ) → j ≢ i → is_number q (origin_in log 0 (suc x) inputs j k) ≡ false) → from_queue q (own_heads log x inputs m) ≡ from_queue q (held_at log x inputs i)
+own-held log q x (in_order order) inputs turns i law all l alone =
+    ap (λ o. from_queue q (traced o (origin_in log 0 (suc x) inputs i (asked_pull i (first_pull (reverse (visits_of x log))) (reverse (visits_of x log))))))
+    (sym (ap (head_at i) (ap reverse (sym all) ∙ sym (onto-reverse (all_visits turns))) ∙ in_order-holds order (width inputs) turns law i))
+own-held log q x (with_heads turn_of covers) inputs turns i law all l alone =
+    from_queue-one q (held_at log x inputs) i 0 (width inputs) (λ j d. traced-not q _ _ (alone j _ d)) (omega arith) (omega arith)
 
 conserved-node : (tree : Tree) (log : List Visit) (q above first next : ℕ) (class : Class) (inputs row : Row) (pulled : List (List Visit)) → IsPulledIn log above first next (node class inputs row) pulled
     → EachObeys above pulled first next (node class inputs row) → stands_in q (leaves row) ≡ false → IsConservedBelow tree log q next 0 (suc next) inputs
@@ -214,12 +205,12 @@ conserved-node tree log q above first next class inputs row pulled h obeys other
 
     heads : from_queue q (traced_heads log next (node class inputs row)) ≡ from_queue q (held_at log next inputs below.input) ++ inner
     heads =
-        from_queue-append q (own_heads log next inputs class) _
-        ∙ ap₂ (λ l m. l ++ m) (own-held log q next class inputs turns below.input obeys.0 all (let k = below.high in omega arith) below.alone)
+        from_queue-append q (own_heads log next inputs (manner class (width inputs))) _
+        ∙ ap₂ (λ l m. l ++ m) (own-held log q next (manner class (width inputs)) inputs turns below.input (each-follows class (width inputs) turns obeys.0) all (let k = below.high in omega arith) below.alone)
         (from_queue-append q (traced_heads log (suc next) inputs) _ ∙ ap (λ l. inner ++ l) (heads-not q log (suc (next + nodes inputs)) row other) ∙ append-nil inner)
 
     inside : ℕ → Option ℕ
-    inside p = origin_in log 0 (suc next) inputs (passed_input (visits_of next (in_pull p log))) (asked_pull (passed_input (visits_of next (in_pull p log))) p (reverse (visits_of next log)))
+    inside p = passed_origin (λ i k. origin_in log 0 (suc next) inputs i k) log next p
 
     by_test : (j p : ℕ) (b : Bool) → (first == j) ≡ b → j ≢ first → is_number q (origin_in log (suc first) (suc (next + nodes inputs)) row j p) ≡ false
         → is_number q (if b then inside p else origin_in log (suc first) (suc (next + nodes inputs)) row j p) ≡ false
@@ -258,18 +249,11 @@ conserved-below tree log q (node class inputs row) above first next pulled h obe
 pub device-emits : (tree : Tree) (log : List Visit) (i : ℕ) → i ≡ 0 → IsRun tree log → gives log 0 0 1 (root tree) i ≡ traced_emitted tree log
 device-emits tree log i zero_is run = flat_map-same _ _ (visits_of 0 log) (λ v m. one v (of-all (λ (u : Visit). IsPlain u × (u.input ≡ 0)) v (visits_of 0 log) plain m))
   where
-    turn-plain : (us : List Visit) → AsksInOrder (0 ∷ []) us → AllByRecursion (λ (u : Visit). IsPlain u × (u.input ≡ 0)) us
-    turn-plain [] h = tt
-    turn-plain (u ∷ []) h = ((h.plain.0, h.in_order.0), tt)
-    turn-plain (u ∷ w ∷ us) h = by_got u.got h.in_order.1
-      where
-        by_got : (o : Option Packet) → MatchOption o (UpToFirst [] (w ∷ us)) (λ _. w ∷ us ≡ []) → AllByRecursion (λ (x : Visit). IsPlain x × (x.input ≡ 0)) (u ∷ w ∷ us)
-        by_got None k = absurd k
-        by_got (Some p) k = absurd (omega (arith, ap length k))
-
     turns-plain : (ps : List (List Visit)) → AllByRecursion IsDeviceTurn (map (turn 0) ps) → AllByRecursion (λ (u : Visit). IsPlain u × (u.input ≡ 0)) (flat_map (visits_of 0) ps)
     turns-plain [] h = tt
-    turns-plain (p ∷ ps) h = all-append _ (visits_of 0 p) (flat_map (visits_of 0) ps) (turn-plain (visits_of 0 p) h.0) (turns-plain ps h.1)
+    turns-plain (p ∷ ps) h =
+        let one = device-visit (visits_of 0 p) h.0 in
+        subst (λ us. AllByRecursion (λ (u : Visit). IsPlain u × (u.input ≡ 0)) (us ++ flat_map (visits_of 0) ps)) (sym one.only) ((one.plain, one.input), turns-plain ps h.1)
 
     plain : AllByRecursion (λ (u : Visit). IsPlain u × (u.input ≡ 0)) (visits_of 0 log)
     plain = subst (AllByRecursion (λ (u : Visit). IsPlain u × (u.input ≡ 0))) (sym (pulled-root tree log run).own_visits) (turns-plain (pulls log) run.device)

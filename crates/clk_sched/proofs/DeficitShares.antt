@@ -1,16 +1,19 @@
 -- The shares of a DRRSched.
 use Rattle.std.proofs.Common.{◌≡◌, ◌≢◌, ℕ, zero, suc, ◌+◌, ◌-◌, ◌*◌, ◌<◌, ◌≤◌, ◌==◌, ◌&&◌, ◌%◌, ◌⊎◌, inl, inr, if◌then◌else◌, nat_le, Bool, true, false, List, [], ◌∷◌, ◌++◌, reverse, Option, Some, None, IsSome, is_some, refl, sym, ap, ◌∙◌, subst, mul-add, zero-add, eq-or-lt_of_le, mod-eq_of_lt, mod-lt, arith}
 use Rattle.std.proofs.Math.Nat.{mod_self}
-use Rattle.std.specs.List.{AllByRecursion}
 use Rattle.std.proofs.lemmas.Bool.{false≢true}
 use Rattle.std.proofs.lemmas.Bool.Decides.{nat_tests}
 use Rattle.clk_packet.specs.declared.packet.Packet.{Packet}
 use Rattle.clk_sched.specs.declared.visit.Visit.{Visit}
 use Rattle.clk_sched.specs.Turns.{Turn, EachAfter, all_visits}
-use Rattle.clk_sched.specs.Laws.Deficit.{IsDeficitVisit, IsDeficitRun, next_input, arrives, arrivals, passed_bytes, bytes_of, fits}
-use Rattle.clk_sched.specs.Service.{arrivals_in, bytes_in, AlwaysGets, Near, HasLimitedLength, SharesByDeficit}
-use Rattle.clk_sched.proofs.Members.{all-split}
+use Rattle.clk_sched.specs.Heads.{is_covered, LooksAtHeads}
+use Rattle.clk_sched.specs.Laws.Deficit.{next_input, arrives, arrivals, bytes_of, passed_bytes, quantum_at, deficit_covers}
+use Rattle.clk_sched.specs.Service.{arrivals_in, bytes_in, AlwaysGets, Near, SharesByDeficit}
 use Rattle.clk_sched.proofs.Allowed.{onto, onto-reverse, each-split}
+
+-- a visit as a DRRSched has it
+abbrev IsDeficitVisit : List ℕ → ℕ → List Visit → Visit → Type 0
+IsDeficitVisit quanta inputs earlier v = LooksAtHeads (next_input inputs) (deficit_covers quanta) earlier v
 
 -- what was passed is covered by the quanta, and no more than this is left over
 abbrev Covers : (quantum bytes arrived spare : ℕ) → Type 0
@@ -21,14 +24,14 @@ abbrev spare : ℕ → ℕ → List Visit → ℕ
 spare quantum i [] = 0
 spare quantum i (v ∷ earlier) = if v.passed && (v.input == i) then quantum else 0
 
-abbrev IsCovered : ℕ → List Visit → Type 0
-IsCovered quantum earlier = (i : ℕ) → Covers quantum (passed_bytes i earlier) (arrivals i earlier) (spare quantum i earlier)
+abbrev IsCovered : List ℕ → List Visit → Type 0
+IsCovered quanta earlier = (i : ℕ) → Covers (quantum_at quanta i) (passed_bytes i earlier) (arrivals i earlier) (spare (quantum_at quanta i) i earlier)
 
 -- at a visit to the input whose turn it is
-deficit-bound : (quantum inputs : ℕ) (earlier : List Visit) (i : ℕ) → i ≡ next_input inputs earlier → IsCovered quantum earlier
-    → quantum * (arrives earlier + arrivals i earlier) ≤ passed_bytes i earlier + (quantum + 65534)
-deficit-bound quantum inputs [] i e h = omega arith
-deficit-bound quantum inputs (u ∷ earlier) i e h = by_passed u.passed e (h i).1
+deficit-bound : (quantum inputs : ℕ) (earlier : List Visit) (i : ℕ) → i ≡ next_input inputs earlier → Covers quantum (passed_bytes i earlier) (arrivals i earlier) (spare quantum i earlier)
+    → (passed_bytes i earlier ≤ quantum * (arrives earlier + arrivals i earlier)) × (quantum * (arrives earlier + arrivals i earlier) ≤ passed_bytes i earlier + (quantum + 65534))
+deficit-bound quantum inputs [] i e h = (omega arith, omega arith)
+deficit-bound quantum inputs (u ∷ earlier) i e h = by_passed u.passed e h.0 h.1
   where
     a : ℕ
     a = arrivals i (u ∷ earlier)
@@ -36,14 +39,14 @@ deficit-bound quantum inputs (u ∷ earlier) i e h = by_passed u.passed e (h i).
     p : ℕ
     p = passed_bytes i (u ∷ earlier)
 
-    by_passed : (b : Bool) → i ≡ (if b then u.input else (u.input + 1) % inputs) → quantum * a ≤ p + (65534 + (if b && (u.input == i) then quantum else 0))
-        → quantum * ((if b then 0 else 1) + a) ≤ p + (quantum + 65534)
-    by_passed true f k = by_input (u.input == i) k
+    by_passed : (b : Bool) → i ≡ (if b then u.input else (u.input + 1) % inputs) → p ≤ quantum * a → quantum * a ≤ p + (65534 + (if b && (u.input == i) then quantum else 0))
+        → (p ≤ quantum * ((if b then 0 else 1) + a)) × (quantum * ((if b then 0 else 1) + a) ≤ p + (quantum + 65534))
+    by_passed true f l k = by_input (u.input == i) k
       where
-        by_input : (c : Bool) → quantum * a ≤ p + (65534 + (if true && c then quantum else 0)) → quantum * (0 + a) ≤ p + (quantum + 65534)
-        by_input true m = let none = ap (λ n. quantum * n) (zero-add a) in omega (arith, none, m)
-        by_input false m = let none = ap (λ n. quantum * n) (zero-add a) in omega (arith, none, m)
-    by_passed false f k = let one = mul-add quantum 1 a in omega (arith, one, k)
+        by_input : (c : Bool) → quantum * a ≤ p + (65534 + (if true && c then quantum else 0)) → (p ≤ quantum * (0 + a)) × (quantum * (0 + a) ≤ p + (quantum + 65534))
+        by_input true m = let none = ap (λ n. quantum * n) (zero-add a) in (omega (arith, none, l), omega (arith, none, m))
+        by_input false m = let none = ap (λ n. quantum * n) (zero-add a) in (omega (arith, none, l), omega (arith, none, m))
+    by_passed false f l k = let one = mul-add quantum 1 a in (omega (arith, one, l), omega (arith, one, k))
 
 -- the input at which a quantum may be left over is the next
 spare-none : (quantum inputs : ℕ) (earlier : List Visit) (v : Visit) (i : ℕ) → v.input ≡ next_input inputs earlier → (v.input == i) ≡ false → spare quantum i earlier ≡ 0
@@ -55,33 +58,38 @@ spare-none quantum inputs (u ∷ earlier) v i e d = by_passed u.passed (u.input 
     by_passed true false f k = refl
     by_passed true true f k = let same : (v.input == i) ≡ true = grind (arith, nat_tests) in absurd (false≢true (sym d ∙ same))
 
-covers-visit : (quantum inputs : ℕ) (earlier : List Visit) (v : Visit) → IsDeficitVisit quantum inputs earlier v → HasLimitedLength v → IsCovered quantum earlier → IsCovered quantum (v ∷ earlier)
-covers-visit quantum inputs earlier v law short h i = by_cases (v.input == i) v.passed v.got refl law.passes short
+covers-visit : (quanta : List ℕ) (inputs : ℕ) (earlier : List Visit) (v : Visit) → IsDeficitVisit quanta inputs earlier v → IsCovered quanta earlier → IsCovered quanta (v ∷ earlier)
+covers-visit quanta inputs earlier v law h i = by_cases (v.input == i) v.passed v.got refl law.passes
   where
     p : ℕ
     p = passed_bytes i earlier
 
-    by_cases : (b c : Bool) (o : Option Packet) → (v.input == i) ≡ b → c ≡ fits law.deficit o → bytes_of o ≤ 65535
-        → Covers quantum (if b then (if is_some o then (if c then bytes_of o else 0) + p else 0) else p) (if b then (if is_some o then arrives earlier + arrivals i earlier else 0) else arrivals i earlier)
-        (if c && b then quantum else 0)
-    by_cases false true o e f s = let none = spare-none quantum inputs earlier v i law.in_turn e in subst (Covers quantum p (arrivals i earlier)) none (h i)
-    by_cases false false o e f s = let none = spare-none quantum inputs earlier v i law.in_turn e in subst (Covers quantum p (arrivals i earlier)) none (h i)
-    by_cases true c None e f s = (omega arith, omega arith)
-    by_cases true true (Some x) e f s =
-        let at : v.input ≡ i = grind (arith, nat_tests) in
-        let is : law.deficit + p ≡ quantum * (arrives earlier + arrivals i earlier) = subst (λ j. law.deficit + passed_bytes j earlier ≡ quantum * (arrives earlier + arrivals j earlier)) at law.deficit_is in
-        let covered : x.length ≤ law.deficit = grind (arith, nat_tests) in
-        let bound = deficit-bound quantum inputs earlier i (sym at ∙ law.in_turn) h in
-        (omega (arith, is, covered), omega (arith, is, covered, bound))
-    by_cases true false (Some x) e f s =
-        let at : v.input ≡ i = grind (arith, nat_tests) in
-        let is : law.deficit + p ≡ quantum * (arrives earlier + arrivals i earlier) = subst (λ j. law.deficit + passed_bytes j earlier ≡ quantum * (arrives earlier + arrivals j earlier)) at law.deficit_is in
-        let longer : law.deficit < x.length = grind (arith, nat_tests) in
-        (omega (arith, is), omega (arith, is, longer, s))
+    q : ℕ
+    q = quantum_at quanta i
 
-covers-all : (quantum inputs : ℕ) (earlier visits : List Visit) → EachAfter (IsDeficitVisit quantum inputs) earlier visits → AllByRecursion HasLimitedLength visits → IsCovered quantum earlier → IsCovered quantum (onto visits earlier)
-covers-all quantum inputs earlier [] law short h = h
-covers-all quantum inputs earlier (v ∷ visits) law short h = covers-all quantum inputs (v ∷ earlier) visits law.1 short.1 (covers-visit quantum inputs earlier v law.0 short.0 h)
+    by_cases : (b c : Bool) (o : Option Packet) → (v.input == i) ≡ b → c ≡ is_covered (deficit_covers quanta earlier v.input) o
+        → Covers q (if b then (if is_some o then (if c then bytes_of o else 0) + p else 0) else p) (if b then (if is_some o then arrives earlier + arrivals i earlier else 0) else arrivals i earlier)
+        (if c && b then q else 0)
+    by_cases false true o e f = let none = spare-none q inputs earlier v i law.in_turn e in subst (Covers q p (arrivals i earlier)) none (h i)
+    by_cases false false o e f = let none = spare-none q inputs earlier v i law.in_turn e in subst (Covers q p (arrivals i earlier)) none (h i)
+    by_cases true c None e f = (omega arith, omega arith)
+    by_cases true true (Some x) e f =
+        let at : v.input ≡ i = grind (arith, nat_tests) in
+        let test : true ≡ nat_le (x.length + p) (q * (arrives earlier + arrivals i earlier)) = subst (λ j. true ≡ deficit_covers quanta earlier j x) at f in
+        let covered : x.length + p ≤ q * (arrives earlier + arrivals i earlier) = grind (arith, nat_tests) in
+        let bound = (deficit-bound q inputs earlier i (sym at ∙ law.in_turn) (h i)).1 in
+        (covered, omega (arith, bound))
+    by_cases true false (Some x) e f =
+        let at : v.input ≡ i = grind (arith, nat_tests) in
+        let test : false ≡ nat_le (x.length + p) (q * (arrives earlier + arrivals i earlier)) = subst (λ j. false ≡ deficit_covers quanta earlier j x) at f in
+        let longer : q * (arrives earlier + arrivals i earlier) < x.length + p = grind (arith, nat_tests) in
+        let bound = (deficit-bound q inputs earlier i (sym at ∙ law.in_turn) (h i)).0 in
+        let short = x.is_within in
+        (omega (arith, bound), omega (arith, longer, short))
+
+covers-all : (quanta : List ℕ) (inputs : ℕ) (earlier visits : List Visit) → EachAfter (IsDeficitVisit quanta inputs) earlier visits → IsCovered quanta earlier → IsCovered quanta (onto visits earlier)
+covers-all quanta inputs earlier [] law h = h
+covers-all quanta inputs earlier (v ∷ visits) law h = covers-all quanta inputs (v ∷ earlier) visits law.1 (covers-visit quanta inputs earlier v law.0 h)
 
 -- over a range in which an input always had a packet, its arrivals and its bytes add up
 range-adds : (i : ℕ) (earlier range : List Visit) → AlwaysGets i range
@@ -169,12 +177,12 @@ arrives-in_turn w (u ∷ earlier) v e = by_passed u.passed e
     by_passed false f = inl (refl, f)
 
 -- of two inputs, the one that comes first has as many arrivals as the other, or one more
-arrivals-order : (quantum w i j : ℕ) (earlier range : List Visit) (a b : ℕ) → EachAfter (IsDeficitVisit quantum w) earlier range → i < w → j < w → next_arrival w earlier < w
+arrivals-order : (quanta : List ℕ) (w i j : ℕ) (earlier range : List Visit) (a b : ℕ) → EachAfter (IsDeficitVisit quanta w) earlier range → i < w → j < w → next_arrival w earlier < w
     → IsAhead w (next_arrival w earlier) i a → IsAhead w (next_arrival w earlier) j b → a ≤ b
     → (arrivals_in j earlier range ≤ arrivals_in i earlier range) × (arrivals_in i earlier range ≤ arrivals_in j earlier range + 1)
-arrivals-order quantum w i j earlier [] a b law il jl nl ah bh l = (omega arith, omega arith)
-arrivals-order quantum w i j earlier (v ∷ range) a b law il jl nl ah bh l =
-    by_turn (arrives-in_turn w earlier v law.0.in_turn) (λ i j a b. arrivals-order quantum w i j (v ∷ earlier) range a b law.1)
+arrivals-order quanta w i j earlier [] a b law il jl nl ah bh l = (omega arith, omega arith)
+arrivals-order quanta w i j earlier (v ∷ range) a b law il jl nl ah bh l =
+    by_turn (arrives-in_turn w earlier v law.0.in_turn) (λ i j a b. arrivals-order quanta w i j (v ∷ earlier) range a b law.1)
   where
     n : ℕ
     n = next_arrival w earlier
@@ -263,93 +271,83 @@ arrival-within : (w : ℕ) (earlier visits : List Visit) → 0 < w → next_arri
 arrival-within w earlier [] some h = h
 arrival-within w earlier (v ∷ visits) some h = arrival-within w (v ∷ earlier) visits some (mod-lt (v.input + 1) some)
 
-pub deficit-shares : (quantum width : ℕ) (turns : List Turn) → 0 < width → AllByRecursion HasLimitedLength (all_visits turns) → IsDeficitRun quantum width turns → SharesByDeficit quantum width turns
-deficit-shares quantum width turns some short run =
+pub deficit-shares : (quanta : List ℕ) (inputs : ℕ) (turns : List Turn) → EachAfter (IsDeficitVisit quanta inputs) [] (all_visits turns) → SharesByDeficit quanta inputs turns
+deficit-shares quanta inputs turns run =
     record {
       arrivals_near = λ before range after e i j il jl. order before range after e i j il jl;
       deficit_bound = λ before after v e. bound before after v e;
       bytes_near = λ before range after e i il gets. bytes before range after e i gets;
     }
   where
-    law : (visits : List Visit) → all_visits turns ≡ visits → EachAfter (IsDeficitVisit quantum width) [] visits
-    law visits e = subst (EachAfter (IsDeficitVisit quantum width) []) e run.visits
+    split : (before rest : List Visit) → all_visits turns ≡ before ++ rest → EachAfter (IsDeficitVisit quanta inputs) [] before × EachAfter (IsDeficitVisit quanta inputs) (onto before []) rest
+    split before rest e = each-split (IsDeficitVisit quanta inputs) [] before rest (subst (EachAfter (IsDeficitVisit quanta inputs) []) e run)
 
-    shorts : (visits : List Visit) → all_visits turns ≡ visits → AllByRecursion HasLimitedLength visits
-    shorts visits e = subst (AllByRecursion HasLimitedLength) e short
+    part : (before range after : List Visit) → all_visits turns ≡ before ++ (range ++ after) → EachAfter (IsDeficitVisit quanta inputs) (onto before []) range
+    part before range after e = (each-split (IsDeficitVisit quanta inputs) (onto before []) range after (split before (range ++ after) e).1).0
 
-    first-covered : IsCovered quantum []
-    first-covered i = (omega arith, omega arith)
-
-    covered : (before rest : List Visit) → all_visits turns ≡ before ++ rest → IsCovered quantum (onto before [])
-    covered before rest e =
-        covers-all quantum width [] before (each-split (IsDeficitVisit quantum width) [] before rest (law (before ++ rest) e)).0 (all-split HasLimitedLength before rest (shorts (before ++ rest) e)).0 first-covered
+    covered : (before rest : List Visit) → all_visits turns ≡ before ++ rest → IsCovered quanta (onto before [])
+    covered before rest e = covers-all quanta inputs [] before (split before rest e).0 (λ i. (omega arith, omega arith))
 
     bound : (before after : List Visit) (v : Visit) → all_visits turns ≡ before ++ v ∷ after
-        → (passed_bytes v.input (reverse before) ≤ quantum * (arrives (reverse before) + arrivals v.input (reverse before)))
-        × (quantum * (arrives (reverse before) + arrivals v.input (reverse before)) ≤ passed_bytes v.input (reverse before) + (quantum + 65534))
+        → (passed_bytes v.input (reverse before) ≤ quantum_at quanta v.input * (arrives (reverse before) + arrivals v.input (reverse before)))
+        × (quantum_at quanta v.input * (arrives (reverse before) + arrivals v.input (reverse before)) ≤ passed_bytes v.input (reverse before) + (quantum_at quanta v.input + 65534))
     bound before after v e =
-        let law = (each-split (IsDeficitVisit quantum width) [] before (v ∷ after) (law (before ++ v ∷ after) e)).1.0 in
-        subst (λ earlier. (passed_bytes v.input earlier ≤ quantum * (arrives earlier + arrivals v.input earlier)) × (quantum * (arrives earlier + arrivals v.input earlier) ≤ passed_bytes v.input earlier + (quantum + 65534)))
-        (onto-reverse before) (let is = law.deficit_is in omega (arith, is), deficit-bound quantum width (onto before []) v.input law.in_turn (covered before (v ∷ after) e))
+        subst (λ earlier. (passed_bytes v.input earlier ≤ quantum_at quanta v.input * (arrives earlier + arrivals v.input earlier)) × (quantum_at quanta v.input * (arrives earlier + arrivals v.input earlier) ≤ passed_bytes v.input earlier + (quantum_at quanta v.input + 65534)))
+        (onto-reverse before) (deficit-bound (quantum_at quanta v.input) inputs (onto before []) v.input (split before (v ∷ after) e).1.0.in_turn (covered before (v ∷ after) e v.input))
 
-    order : (before range after : List Visit) → all_visits turns ≡ before ++ (range ++ after) → (i j : ℕ) → i < width → j < width
+    order : (before range after : List Visit) → all_visits turns ≡ before ++ (range ++ after) → (i j : ℕ) → i < inputs → j < inputs
         → Near 1 (arrivals_in i (reverse before) range) (arrivals_in j (reverse before) range)
     order before range after e i j il jl =
         subst (λ earlier. Near 1 (arrivals_in i earlier range) (arrivals_in j earlier range)) (onto-reverse before)
-        (by_order (nat_le (some-ahead width n i nl il).0 (some-ahead width n j nl jl).0) refl)
+        (by_order (nat_le (some-ahead inputs n i nl il).0 (some-ahead inputs n j nl jl).0) refl)
       where
         n : ℕ
-        n = next_arrival width (onto before [])
+        n = next_arrival inputs (onto before [])
 
-        nl : n < width
-        nl = arrival-within width [] before some some
+        nl : n < inputs
+        nl = arrival-within inputs [] before (omega arith) (omega arith)
 
-        part : EachAfter (IsDeficitVisit quantum width) (onto before []) range
-        part = (each-split (IsDeficitVisit quantum width) (onto before []) range after (each-split (IsDeficitVisit quantum width) [] before (range ++ after) (law (before ++ (range ++ after)) e)).1).0
-
-        by_order : (b : Bool) → nat_le (some-ahead width n i nl il).0 (some-ahead width n j nl jl).0 ≡ b → Near 1 (arrivals_in i (onto before []) range) (arrivals_in j (onto before []) range)
+        by_order : (b : Bool) → nat_le (some-ahead inputs n i nl il).0 (some-ahead inputs n j nl jl).0 ≡ b → Near 1 (arrivals_in i (onto before []) range) (arrivals_in j (onto before []) range)
         by_order true f =
-            let k = arrivals-order quantum width i j (onto before []) range (some-ahead width n i nl il).0 (some-ahead width n j nl jl).0 part il jl nl (some-ahead width n i nl il).1 (some-ahead width n j nl jl).1 (grind (arith, nat_tests)) in
+            let k = arrivals-order quanta inputs i j (onto before []) range (some-ahead inputs n i nl il).0 (some-ahead inputs n j nl jl).0 (part before range after e) il jl nl (some-ahead inputs n i nl il).1 (some-ahead inputs n j nl jl).1 (grind (arith, nat_tests)) in
             (k.1, let x = k.0 in omega arith)
         by_order false f =
-            let k = arrivals-order quantum width j i (onto before []) range (some-ahead width n j nl jl).0 (some-ahead width n i nl il).0 part jl il nl (some-ahead width n j nl jl).1 (some-ahead width n i nl il).1 (grind (arith, nat_tests)) in
+            let k = arrivals-order quanta inputs j i (onto before []) range (some-ahead inputs n j nl jl).0 (some-ahead inputs n i nl il).0 (part before range after e) jl il nl (some-ahead inputs n j nl jl).1 (some-ahead inputs n i nl il).1 (grind (arith, nat_tests)) in
             (let x = k.0 in omega arith, k.1)
 
-    left-over : (earlier : List Visit) (i : ℕ) → spare quantum i earlier ≤ quantum
-    left-over [] i = omega arith
-    left-over (v ∷ earlier) i = by_test (v.passed && (v.input == i))
+    left-over : (quantum : ℕ) (earlier : List Visit) (i : ℕ) → spare quantum i earlier ≤ quantum
+    left-over quantum [] i = omega arith
+    left-over quantum (v ∷ earlier) i = by_test (v.passed && (v.input == i))
       where
         by_test : (b : Bool) → (if b then quantum else 0) ≤ quantum
         by_test true = omega arith
         by_test false = omega arith
 
-    bytes : (before range after : List Visit) → all_visits turns ≡ before ++ (range ++ after) → (i : ℕ) → AlwaysGets i range → Near (quantum + 65534) (bytes_in i range) (quantum * arrivals_in i (reverse before) range)
+    bytes : (before range after : List Visit) → all_visits turns ≡ before ++ (range ++ after) → (i : ℕ) → AlwaysGets i range
+        → Near (quantum_at quanta i + 65534) (bytes_in i range) (quantum_at quanta i * arrivals_in i (reverse before) range)
     bytes before range after e i gets =
-        subst (λ earlier. Near (quantum + 65534) (bytes_in i range) (quantum * arrivals_in i earlier range)) (onto-reverse before) near
+        subst (λ earlier. Near (q + 65534) (bytes_in i range) (q * arrivals_in i earlier range)) (onto-reverse before)
+        (let total = sym (mul-add q (arrivals_in i earlier range) (arrivals i earlier)) ∙ ap (λ n. q * n) adds.1 in
+        let sent = adds.0 in
+        let one = left-over q earlier i in
+        let other = left-over q (onto range earlier) i in
+        let a = start.0 in
+        let b = start.1 in
+        let c = stop.0 in
+        let d = stop.1 in
+        (omega (arith, total, sent, one, other, a, b, c, d), omega (arith, total, sent, one, other, a, b, c, d)))
       where
+        q : ℕ
+        q = quantum_at quanta i
+
         earlier : List Visit
         earlier = onto before []
 
-        start : Covers quantum (passed_bytes i earlier) (arrivals i earlier) (spare quantum i earlier)
+        start : Covers q (passed_bytes i earlier) (arrivals i earlier) (spare q i earlier)
         start = covered before (range ++ after) e i
 
-        stop : Covers quantum (passed_bytes i (onto range earlier)) (arrivals i (onto range earlier)) (spare quantum i (onto range earlier))
-        stop =
-            covers-all quantum width earlier range
-            (each-split (IsDeficitVisit quantum width) earlier range after (each-split (IsDeficitVisit quantum width) [] before (range ++ after) (law (before ++ (range ++ after)) e)).1).0
-            (all-split HasLimitedLength range after (all-split HasLimitedLength before (range ++ after) (shorts (before ++ (range ++ after)) e)).1).0 (covered before (range ++ after) e) i
+        stop : Covers q (passed_bytes i (onto range earlier)) (arrivals i (onto range earlier)) (spare q i (onto range earlier))
+        stop = covers-all quanta inputs earlier range (part before range after e) (covered before (range ++ after) e) i
 
         adds : (bytes_in i range + passed_bytes i earlier ≡ passed_bytes i (onto range earlier)) × (arrivals_in i earlier range + arrivals i earlier ≡ arrivals i (onto range earlier))
         adds = range-adds i earlier range gets
-
-        near : Near (quantum + 65534) (bytes_in i range) (quantum * arrivals_in i earlier range)
-        near =
-            let total = sym (mul-add quantum (arrivals_in i earlier range) (arrivals i earlier)) ∙ ap (λ n. quantum * n) adds.1 in
-            let sent = adds.0 in
-            let one = left-over earlier i in
-            let other = left-over (onto range earlier) i in
-            let a = start.0 in
-            let b = start.1 in
-            let c = stop.0 in
-            let d = stop.1 in
-            (omega (arith, total, sent, one, other, a, b, c, d), omega (arith, total, sent, one, other, a, b, c, d))

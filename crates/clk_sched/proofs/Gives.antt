@@ -1,26 +1,21 @@
 -- What a node's parent got from it is what it passed.
-use Rattle.std.proofs.Common.{◌≡◌, ℕ, suc, ◌==◌, if◌then◌else◌, Bool, true, false, List, [], ◌∷◌, ◌++◌, map, filter, reverse, Option, refl, sym, ap, ap₂, ◌∙◌, append-nil, arith}
+use Rattle.std.proofs.Common.{◌≡◌, ℕ, suc, ◌+◌, ◌<◌, ◌==◌, if◌then◌else◌, Bool, true, false, List, [], ◌∷◌, ◌++◌, map, filter, reverse, Option, Some, refl, sym, ap, ap₂, ◌∙◌, subst, append-nil, arith}
 use Rattle.std.specs.List.{flat_map, AllByRecursion, list_any}
 use Rattle.clk_sched.specs.declared.visit.Visit.{Visit}
-use Rattle.clk_sched.specs.Tree.{Class, Row, node, width}
-use Rattle.clk_sched.specs.Laws.{Obeys}
+use Rattle.clk_sched.specs.Tree.{Class, Row, leaf, node, nodes, width}
+use Rattle.clk_sched.specs.Turns.{Turn, EachAfter}
+use Rattle.clk_sched.specs.Laws.{manner, Follows, Obeys}
 use Rattle.clk_sched.specs.Log.{visits_of, in_pull, turn, asks, pulls_below, result_of}
 use Rattle.clk_sched.specs.Run.{GetsResult}
-use Rattle.clk_sched.specs.Results.{Traced, traced, origin_in, passed_input, asked_pull}
+use Rattle.clk_sched.specs.Results.{Traced, traced, origin_in, passed_input, asked_pull, passed_origin, held_at}
 use Rattle.clk_sched.proofs.Members.{In, of-all, in-filter, filter-in, all-filter}
-use Rattle.clk_sched.proofs.Allowed.{turns-allowed}
-use Rattle.clk_sched.proofs.Heads.{got_by}
-use Rattle.clk_sched.proofs.HeadsByClass.{PassesLast}
-use Rattle.clk_sched.proofs.Blocks.{flat_map-same, owns-self, copies, copies-cancel}
-use Rattle.clk_sched.proofs.Pulled.{IsPullOf, rising-in, flat_map-filter, flat_map-flat_map, copies-unasked, IsPulledIn, pulled-inputs, turns-last}
 use Rattle.clk_sched.proofs.Numbers.{equal, differs}
-use Rattle.std.proofs.Common.{◌+◌, ◌<◌, Some, subst}
-use Rattle.clk_sched.specs.Tree.{leaf, nodes}
-use Rattle.clk_sched.specs.Turns.{Turn, EachAfter}
-use Rattle.clk_sched.specs.Results.{held_at}
-use Rattle.clk_sched.proofs.Heads.{KeepsHead, IsOrdered, passed_by, got-passed_and_held}
-use Rattle.clk_sched.proofs.HeadsByClass.{class-keeps}
-use Rattle.clk_sched.proofs.Pulled.{ordered-turns, turns-visits}
+use Rattle.clk_sched.proofs.PullByPull.{in_pull-number}
+use Rattle.clk_sched.proofs.Allowed.{each-follows}
+use Rattle.clk_sched.proofs.Heads.{got_by, KeepsHead, IsOrdered, passed_by, got-passed_and_held}
+use Rattle.clk_sched.proofs.HeadsByManner.{PassesLast, turns-keep}
+use Rattle.clk_sched.proofs.Blocks.{flat_map-same, owns-self, copies, copies-cancel}
+use Rattle.clk_sched.proofs.Pulled.{IsPullOf, rising-in, flat_map-filter, flat_map-flat_map, copies-unasked, IsPulledIn, pulled-inputs, turns-last, ordered-turns, turns-visits}
 
 -- what a row's parent got from what stands at one of its inputs, with where it came from
 abbrev pub gives : List Visit → ℕ → ℕ → ℕ → Row → ℕ → List Traced
@@ -53,7 +48,7 @@ pub gives-results : (log : List Visit) (above first next : ℕ) (class : Class) 
     → gives log above first next (node class inputs row) first ≡ results log next inputs
 gives-results log above first next class inputs row pulled h law gets =
     ap (flat_map got) h.own_visits ∙ flat_map-flat_map got (visits_of above) pulled
-    ∙ flat_map-filter asked (λ p. flat_map got (visits_of above p)) pulled (λ p k e. each p k ∙ copies-unasked (asks first) (result p) (visits_of above p) e)
+    ∙ flat_map-filter asked (λ p. flat_map got (visits_of above p)) pulled (λ p k e. each p k ∙ copies-unasked (asks first) (result p k) (visits_of above p) e)
     ∙ flat_map-same _ _ (pulls_below above first pulled) (λ p k. same p (in-filter asked p pulled k).0 (of-all _ p (pulls_below above first pulled) last k))
     ∙ sym (flat_map-flat_map (result_by log next inputs) (visits_of next) (pulls_below above first pulled))
     ∙ ap (flat_map (result_by log next inputs)) (sym below.own_visits)
@@ -65,59 +60,49 @@ gives-results log above first next class inputs row pulled h law gets =
     below = pulled-inputs log above first next class inputs row pulled h
 
     last : AllByRecursion (λ p. PassesLast (visits_of next p)) (pulls_below above first pulled)
-    last = turns-last class (width inputs) next [] (pulls_below above first pulled) (turns-allowed class (width inputs) _ law)
+    last = turns-last (manner class (width inputs)) (width inputs) next [] (pulls_below above first pulled) (each-follows class (width inputs) _ law)
 
     got : Visit → List Traced
     got v = got_by (λ k. origin_in log first next (node class inputs row) first k) first v
 
-    origin : List Visit → ℕ → Option ℕ
-    origin us k = origin_in log 0 (suc next) inputs (passed_input us) (asked_pull (passed_input us) k (reverse (visits_of next log)))
+    origin : ℕ → Option ℕ
+    origin k = passed_origin (λ i n. origin_in log 0 (suc next) inputs i n) log next k
 
     is : (p : List Visit) → In p pulled → IsPullOf log p
     is p k = rising-in log 0 pulled p h.rising k
 
-    number : (p : List Visit) → ℕ
-    number [] = 0
-    number (v ∷ p) = v.pull
+    result : (p : List Visit) → In p pulled → List Traced
+    result p k = traced (result_of (visits_of next p)) (origin (is p k).number)
 
-    result : List Visit → List Traced
-    result p = traced (result_of (visits_of next p)) (origin (visits_of next p) (number p))
-
-    number-is : (p : List Visit) (k : ℕ) (v : Visit) → AllByRecursion (λ (u : Visit). u.pull ≡ k) p → In v p → number p ≡ k
-    number-is [] k v a m = absurd m
-    number-is (u ∷ p) k v a m = a.0
-
-    here : (k : ℕ) → origin_in log first next (node class inputs row) first k ≡ origin (visits_of next (in_pull k log)) k
+    here : (k : ℕ) → origin_in log first next (node class inputs row) first k ≡ origin k
     here k = let e = equal first first refl in rw e refl
 
-    visit : (p : List Visit) (k : In p pulled) (v : Visit) → In v (visits_of above p) → asks first v ≡ true → traced v.got (origin_in log first next (node class inputs row) first v.pull) ≡ result p
+    visit : (p : List Visit) (k : In p pulled) (v : Visit) → In v (visits_of above p) → asks first v ≡ true → traced v.got (origin_in log first next (node class inputs row) first v.pull) ≡ result p k
     visit p k v m t =
-        let pull = is p k in
-        let inside = (in-filter (λ (u : Visit). u.node == above) v p m).0 in
-        let at = of-all (λ (u : Visit). u.pull ≡ pull.number) v p pull.all inside in
         ap₂ traced (of-all (λ (u : Visit). u.got ≡ result_of (visits_of next p)) v (filter (asks first) (visits_of above p)) (of-all (GetsResult above first next) p pulled gets k) (filter-in (asks first) v (visits_of above p) t m))
-        (ap (λ j. origin_in log first next (node class inputs row) first j) at ∙ here pull.number
-        ∙ ap₂ (λ r j. origin (visits_of next r) j) pull.whole (sym (number-is p pull.number v pull.all inside)))
+        (here v.pull ∙ ap origin (of-all (λ (u : Visit). u.pull ≡ (is p k).number) v p (is p k).all (in-filter (λ (u : Visit). u.node == above) v p m).0))
 
-    each : (p : List Visit) → In p pulled → flat_map got (visits_of above p) ≡ copies (asks first) (result p) (visits_of above p)
+    each : (p : List Visit) (k : In p pulled) → flat_map got (visits_of above p) ≡ copies (asks first) (result p k) (visits_of above p)
     each p k = flat_map-same _ _ (visits_of above p) (λ v m. by_test v (asks first v) (visit p k v m))
       where
-        by_test : (v : Visit) (b : Bool) → (b ≡ true → traced v.got (origin_in log first next (node class inputs row) first v.pull) ≡ result p)
-            → (if b then traced v.got (origin_in log first next (node class inputs row) first v.pull) else []) ≡ (if b then result p else [])
+        by_test : (v : Visit) (b : Bool) → (b ≡ true → traced v.got (origin_in log first next (node class inputs row) first v.pull) ≡ result p k)
+            → (if b then traced v.got (origin_in log first next (node class inputs row) first v.pull) else []) ≡ (if b then result p k else [])
         by_test v true e = e refl
         by_test v false e = refl
 
     same : (p : List Visit) → In p pulled → PassesLast (visits_of next p) → flat_map got (visits_of above p) ≡ flat_map (result_by log next inputs) (visits_of next p)
     same p k l =
         each p k
-        ∙ copies-cancel (asks first) (visits_of next p) (result p) (visits_of above p) (owns-self p above first next class inputs row (h.owns next (omega arith) (omega arith) p k)) (λ e. ap (λ us. traced (result_of us) (origin us (number p))) e)
-        ∙ sym (by_visits p (is p k) l)
+        ∙ copies-cancel (asks first) (visits_of next p) (result p k) (visits_of above p) (owns-self p above first next class inputs row (h.owns next (omega arith) (omega arith) p k))
+        (λ e. ap (λ us. traced (result_of us) (origin (is p k).number)) e)
+        ∙ sym passed
       where
-        by_visits : (r : List Visit) → IsPullOf log r → PassesLast (visits_of next r) → flat_map (result_by log next inputs) (visits_of next r) ≡ result r
-        by_visits [] pull k = refl
-        by_visits (v ∷ r) pull k =
-            turn-result log next inputs pull.number (visits_of next (v ∷ r)) k (all-filter (λ (u : Visit). u.pull ≡ pull.number) (λ (u : Visit). u.node == next) (v ∷ r) pull.all)
-            ∙ ap (λ j. traced (result_of (visits_of next (v ∷ r))) (origin (visits_of next (v ∷ r)) j)) (sym pull.all.0)
+        passed : flat_map (result_by log next inputs) (visits_of next p) ≡ result p k
+        passed =
+            let whole = (is p k).whole in
+            subst (λ r. flat_map (result_by log next inputs) (visits_of next r) ≡ traced (result_of (visits_of next r)) (origin (is p k).number)) whole
+            (turn-result log next inputs (is p k).number (visits_of next (in_pull (is p k).number log)) (subst (λ r. PassesLast (visits_of next r)) (sym whole) l)
+            (all-filter (λ (u : Visit). u.pull ≡ (is p k).number) (λ (u : Visit). u.node == next) (in_pull (is p k).number log) (in_pull-number (is p k).number log)))
 
 -- by the origin of what a visit got
 got-same : (f g : ℕ → Option ℕ) (i : ℕ) (visits : List Visit) → ((k : ℕ) → f k ≡ g k) → flat_map (got_by f i) visits ≡ flat_map (got_by g i) visits
@@ -149,11 +134,14 @@ pub gives-passed_and_held : (log : List Visit) (above first next : ℕ) (class :
     → gives log next 0 (suc next) inputs i ≡ flat_map (passed_by (λ k. origin_in log 0 (suc next) inputs i k) i (reverse (visits_of next log))) (visits_of next log) ++ held_at log next inputs i
 gives-passed_and_held log above first next class inputs row pulled h law i =
     got-passed_and_held (λ k. origin_in log 0 (suc next) inputs i k) i (visits_of next log)
-    (subst (EachAfter KeepsHead []) (turns-visits log above first next class inputs row pulled h) (class-keeps class (width inputs) turns law))
-    (subst IsOrdered (sym below.own_visits) (ordered-turns log next 0 (pulls_below above first pulled) below.rising (turns-last class (width inputs) next [] (pulls_below above first pulled) (turns-allowed class (width inputs) turns law))).0)
+    (subst (EachAfter KeepsHead []) (turns-visits log above first next class inputs row pulled h) (turns-keep (manner class (width inputs)) (width inputs) turns follows))
+    (subst IsOrdered (sym below.own_visits) (ordered-turns log next 0 (pulls_below above first pulled) below.rising (turns-last (manner class (width inputs)) (width inputs) next [] (pulls_below above first pulled) follows)).0)
   where
     turns : List Turn
     turns = map (turn next) (pulls_below above first pulled)
 
     below : IsPulledIn log next 0 (suc next) inputs (pulls_below above first pulled)
     below = pulled-inputs log above first next class inputs row pulled h
+
+    follows : EachAfter (Follows (manner class (width inputs)) (width inputs)) [] turns
+    follows = each-follows class (width inputs) turns law

@@ -1,60 +1,27 @@
 -- A run goes on by one pull.
-use Rattle.std.proofs.Common.{◌≡◌, ◌≢◌, ℕ, zero, suc, ◌+◌, ◌<◌, ◌≤◌, ◌==◌, Bool, true, false, if◌then◌else◌, List, [], ◌∷◌, ◌++◌, length, map, filter, reverse, refl, sym, ap, ap₂, ◌∙◌, subst, append-nil, length-append, Option, Some, None, MatchOption, arith}
+use Rattle.std.proofs.Common.{◌≡◌, ◌≢◌, ℕ, zero, suc, ◌+◌, ◌<◌, ◌≤◌, ◌==◌, Bool, true, false, if◌then◌else◌, List, [], ◌∷◌, ◌++◌, length, map, filter, reverse, refl, sym, ap, ap₂, ◌∙◌, subst, append-nil, length-append, arith}
 use Rattle.std.specs.List.{flat_map, range_with_len, AllByRecursion, list_any}
 use Rattle.std.proofs.lemmas.List.{map-append, reverse-append, length-reverse, append_cancel_right}
 use Rattle.std.proofs.lemmas.List.Concat.{flat_map-append}
 use Rattle.std.proofs.lemmas.List.Elements.{filter-append}
 use Rattle.std.proofs.lemmas.List.FromFn.{map-range_with_len_more, length-map-range_with_len}
-use Rattle.clk_packet.specs.declared.packet.Packet.{Packet}
 use Rattle.clk_sched.specs.declared.visit.Visit.{Visit}
-use Rattle.clk_sched.specs.Tree.{Class, prio, round_robin, drr, stride, shaper, Row, end, leaf, node, Tree, root, nodes, width}
-use Rattle.clk_sched.specs.Turns.{Turn, EachAfter, all_visits, AsksInOrder, UpToFirst}
+use Rattle.clk_sched.specs.Tree.{Row, end, leaf, node, Tree, root, nodes, width}
+use Rattle.clk_sched.specs.Turns.{EachAfter}
 use Rattle.clk_sched.specs.Log.{visits_of, in_pull, pulls, block, moment_of, HasOneMoment, NeverFalls, turn, asks, pulls_below}
-use Rattle.clk_sched.specs.Laws.{Obeys}
+use Rattle.clk_sched.specs.Laws.{AllowsTurn, Obeys}
 use Rattle.clk_sched.specs.Laws.Device.{IsDeviceTurn}
-use Rattle.clk_sched.specs.Laws.Priority.{IsPrioTurn}
-use Rattle.clk_sched.specs.Laws.RoundRobin.{IsRoundRobinTurn}
-use Rattle.clk_sched.specs.Laws.Deficit.{IsDeficitVisit, EndAtPass}
-use Rattle.clk_sched.specs.Laws.Stride.{IsStrideTurn}
-use Rattle.clk_sched.specs.Laws.Shaper.{IsShaperTurn}
 use Rattle.clk_sched.specs.Run.{GetsResult, EachObeys, IsRun}
-use Rattle.clk_sched.specs.Step.{visits_before, AllowsTurn, EachAllows, IsNextPull, IsOnePullMore, GoesOn, IsOnePullLess}
+use Rattle.clk_sched.specs.Step.{EachAllows, IsNextPull, IsOnePullMore, GoesOn, IsOnePullLess}
 use Rattle.clk_sched.proofs.Members.{all-append, all-weaker, filter-all, filter-none, all-split, of-all}
-use Rattle.clk_sched.proofs.Allowed.{onto, onto-append, onto-reverse, each-split, IsTurnWithin, each-allowed}
+use Rattle.clk_sched.proofs.Allowed.{onto, onto-reverse, each-split, each-join, each-allowed, device-visit}
 use Rattle.clk_sched.proofs.PullByPull.{in_pull-number, IsNumbered, each-numbered, each-whole}
 use Rattle.clk_sched.proofs.Blocks.{flat_map-same}
 use Rattle.clk_sched.proofs.Pulled.{joined}
 use Rattle.clk_sched.proofs.Numbers.{equal, differs}
 
-each-join : {X : Type 0} (P : List X → X → Type 0) (earlier xs ys : List X) → EachAfter P earlier xs → EachAfter P (onto xs earlier) ys → EachAfter P earlier (xs ++ ys)
-each-join P earlier [] ys h k = k
-each-join P earlier (x ∷ xs) ys h k = (h.0, each-join P (x ∷ earlier) xs ys h.1 k)
-
 each-more : {X : Type 0} (P : List X → X → Type 0) (xs : List X) (x : X) → EachAfter P [] xs → P (reverse xs) x → EachAfter P [] (xs ++ x ∷ [])
 each-more P xs x h k = each-join P [] xs (x ∷ []) h (subst (λ e. P e x) (sym (onto-reverse xs)) k, tt)
-
-onto-both : {X : Type 0} (xs ys earlier : List X) → onto (xs ++ ys) earlier ≡ onto ys (onto xs earlier)
-onto-both [] ys earlier = refl
-onto-both (x ∷ xs) ys earlier = onto-both xs ys (x ∷ earlier)
-
-visits-onto : (turns earlier : List Turn) → visits_before (onto turns earlier) ≡ onto (all_visits turns) (visits_before earlier)
-visits-onto [] earlier = refl
-visits-onto (t ∷ turns) earlier =
-    visits-onto turns (t ∷ earlier) ∙ ap (onto (all_visits turns)) (sym (onto-append t.visits (visits_before earlier))) ∙ sym (onto-both t.visits (all_visits turns) (visits_before earlier))
-
-obeys-more : (class : Class) (inputs : ℕ) (turns : List Turn) (t : Turn) → Obeys class inputs turns → AllowsTurn class inputs (reverse turns) t → Obeys class inputs (turns ++ t ∷ [])
-obeys-more prio inputs turns t h k = all-append (IsPrioTurn inputs) turns (t ∷ []) h (k, tt)
-obeys-more round_robin inputs turns t h k = each-more (IsRoundRobinTurn inputs) turns t h k
-obeys-more (drr quantum) inputs turns t h k =
-    record {
-      visits =
-          subst (EachAfter (IsDeficitVisit quantum inputs) []) (sym (flat_map-append (λ (u : Turn). u.visits) turns (t ∷ []) ∙ ap (λ l. all_visits turns ++ l) (append-nil t.visits)))
-          (each-join (IsDeficitVisit quantum inputs) [] (all_visits turns) t.visits h.visits
-          (subst (λ e. EachAfter (IsDeficitVisit quantum inputs) e t.visits) (ap visits_before (sym (onto-reverse turns)) ∙ visits-onto turns []) k.0));
-      pulls = all-append (λ (u : Turn). EndAtPass inputs u.visits) turns (t ∷ []) h.pulls (k.1, tt);
-    }
-obeys-more (stride tickets) inputs turns t h k = each-more (IsStrideTurn tickets) turns t h k
-obeys-more (shaper rate burst) inputs turns t h k = each-more (IsShaperTurn rate burst) turns t h k
 
 reverse-more : {X : Type 0} (x : X) (xs : List X) → reverse (x ∷ xs) ≡ reverse xs ++ x ∷ []
 reverse-more x xs = reverse-append (x ∷ []) xs
@@ -71,7 +38,7 @@ map-reverse : {X Y : Type 0} (f : X → Y) (xs : List X) → map f (reverse xs) 
 map-reverse f [] = refl
 map-reverse f (x ∷ xs) = ap (map f) (reverse-more x xs) ∙ map-append f (reverse xs) (x ∷ []) ∙ ap (λ l. l ++ f x ∷ []) (map-reverse f xs) ∙ sym (reverse-more (f x) (map f xs))
 
-each-obeys : (row : Row) (above first next : ℕ) (pulled : List (List Visit)) (pull : List Visit) → EachObeys above pulled first next row → EachAllows AllowsTurn above first next row (reverse pulled) pull
+each-obeys : (row : Row) (above first next : ℕ) (pulled : List (List Visit)) (pull : List Visit) → EachObeys above pulled first next row → EachAllows above first next row (reverse pulled) pull
     → EachObeys above (pulled ++ pull ∷ []) first next row
 each-obeys end above first next pulled pull h k = tt
 each-obeys (leaf q row) above first next pulled pull h k = each-obeys row above (suc first) next pulled pull h k
@@ -99,14 +66,14 @@ each-obeys (node class inputs row) above first next pulled pull h k =
     After ps = Obeys class (width inputs) (map (turn next) ps) × EachObeys next ps 0 (suc next) inputs
 
     by_asked : (b : Bool)
-        → (b ≡ true → AllowsTurn class (width inputs) (map (turn next) (pulls_below above first (reverse pulled))) (turn next pull) × EachAllows AllowsTurn next 0 (suc next) inputs (pulls_below above first (reverse pulled)) pull)
-        → (EachAllows AllowsTurn next 0 (suc next) inputs (reverse before) pull → EachObeys next (before ++ pull ∷ []) 0 (suc next) inputs) → After (before ++ (if b then pull ∷ [] else []))
+        → (b ≡ true → AllowsTurn class (width inputs) (map (turn next) (pulls_below above first (reverse pulled))) (turn next pull) × EachAllows next 0 (suc next) inputs (pulls_below above first (reverse pulled)) pull)
+        → (EachAllows next 0 (suc next) inputs (reverse before) pull → EachObeys next (before ++ pull ∷ []) 0 (suc next) inputs) → After (before ++ (if b then pull ∷ [] else []))
     by_asked false a rest = subst After (sym (append-nil before)) (h.0, h.2)
     by_asked true a rest = (
       subst (Obeys class (width inputs)) (sym (map-append (turn next) before (pull ∷ [])))
-          (obeys-more class (width inputs) (map (turn next) before) (turn next pull) h.0
+          (each-more (AllowsTurn class (width inputs)) (map (turn next) before) (turn next pull) h.0
           (subst (λ ts. AllowsTurn class (width inputs) ts (turn next pull)) (ap (map (turn next)) turned ∙ map-reverse (turn next) before) (a refl).0)),
-      rest (subst (λ ps. EachAllows AllowsTurn next 0 (suc next) inputs ps pull) turned (a refl).1),
+      rest (subst (λ ps. EachAllows next 0 (suc next) inputs ps pull) turned (a refl).1),
     )
 
 -- the visits of the pulls before one are of pulls numbered below it
@@ -149,16 +116,6 @@ pulls-more log next n count before now one =
         ∙ ap (λ vs. vs ++ in_pull n next) (in-other n log (all-weaker (λ (v : Visit). v.pull < n) (λ (v : Visit). v.pull ≢ n) log (λ v l d. absurd (omega arith)) before))
         ∙ in-one n next now
 
--- the device has one visit in a pull
-device-once : (visits : List Visit) → AsksInOrder (0 ∷ []) visits → length visits ≡ 1
-device-once [] h = absurd h.in_order
-device-once (v ∷ visits) h = by_got v.got visits h.in_order.1
-  where
-    by_got : (o : Option Packet) (us : List Visit) → MatchOption o (UpToFirst [] us) (λ _. us ≡ []) → length (v ∷ us) ≡ 1
-    by_got o [] k = refl
-    by_got None (u ∷ us) k = absurd k
-    by_got (Some p) (u ∷ us) k = absurd (omega (arith, ap length k))
-
 one-more : (tree : Tree) (log pull : List Visit) → IsRun tree log → IsNextPull tree log pull → IsOnePullMore tree log pull
 one-more tree log pull run is =
     record {
@@ -187,55 +144,26 @@ one-more tree log pull run is =
     before = subst (AllByRecursion (λ (v : Visit). v.pull < count)) (sym (joined tree log run)) (numbers-below log 0 count count (omega arith))
 
     last : pulls (log ++ pull) ≡ pulls log ++ pull ∷ []
-    last = pulls-more log pull count refl before (subst (λ n. AllByRecursion (λ (v : Visit). v.pull ≡ n) pull) counted is.number) (device-once (visits_of 0 pull) is.device)
+    last = pulls-more log pull count refl before (subst (λ n. AllByRecursion (λ (v : Visit). v.pull ≡ n) pull) counted is.number) (ap length (device-visit (visits_of 0 pull) is.device).only)
 
 -- nothing has happened yet
-obeys-none : (class : Class) (inputs : ℕ) → Obeys class inputs []
-obeys-none prio inputs = tt
-obeys-none round_robin inputs = tt
-obeys-none (drr quantum) inputs = record { visits = tt; pulls = tt }
-obeys-none (stride tickets) inputs = tt
-obeys-none (shaper rate burst) inputs = tt
-
 each-none : (row : Row) (above first next : ℕ) → EachObeys above [] first next row
 each-none end above first next = tt
 each-none (leaf q row) above first next = each-none row above (suc first) next
-each-none (node class inputs row) above first next = (obeys-none class (width inputs), tt, each-none inputs next 0 (suc next), each-none row above (suc first) (suc (next + nodes inputs)))
+each-none (node class inputs row) above first next = (tt, tt, each-none inputs next 0 (suc next), each-none row above (suc first) (suc (next + nodes inputs)))
 
 -- and back: what holds of the pulls up to one holds of those before it
-obeys-less : (class : Class) (inputs : ℕ) (turns later : List Turn) → Obeys class inputs (turns ++ later) → Obeys class inputs turns
-obeys-less prio inputs turns later h = (all-split (IsPrioTurn inputs) turns later h).0
-obeys-less round_robin inputs turns later h = (each-split (IsRoundRobinTurn inputs) [] turns later h).0
-obeys-less (drr quantum) inputs turns later h =
-    record {
-      visits =
-          (each-split (IsDeficitVisit quantum inputs) [] (all_visits turns) (all_visits later)
-          (subst (EachAfter (IsDeficitVisit quantum inputs) []) (flat_map-append (λ (u : Turn). u.visits) turns later) h.visits)).0;
-      pulls = (all-split (λ (u : Turn). EndAtPass inputs u.visits) turns later h.pulls).0;
-    }
-obeys-less (stride tickets) inputs turns later h = (each-split (IsStrideTurn tickets) [] turns later h).0
-obeys-less (shaper rate burst) inputs turns later h = (each-split (IsShaperTurn rate burst) [] turns later h).0
-
 each-less : (row : Row) (above first next : ℕ) (pulled later : List (List Visit)) → EachObeys above (pulled ++ later) first next row → EachObeys above pulled first next row
 each-less end above first next pulled later h = tt
 each-less (leaf q row) above first next pulled later h = each-less row above (suc first) next pulled later h
 each-less (node class inputs row) above first next pulled later h =
     let split = filter-append (λ p. list_any (asks first) (visits_of above p)) pulled later in (
-      obeys-less class (width inputs) (map (turn next) (pulls_below above first pulled)) (map (turn next) (pulls_below above first later))
-          (subst (Obeys class (width inputs)) (ap (map (turn next)) split ∙ map-append (turn next) (pulls_below above first pulled) (pulls_below above first later)) h.0),
+      (each-split (AllowsTurn class (width inputs)) [] (map (turn next) (pulls_below above first pulled)) (map (turn next) (pulls_below above first later))
+          (subst (Obeys class (width inputs)) (ap (map (turn next)) split ∙ map-append (turn next) (pulls_below above first pulled) (pulls_below above first later)) h.0)).0,
       (all-split (GetsResult above first next) pulled later h.1).0,
       each-less inputs next 0 (suc next) (pulls_below above first pulled) (pulls_below above first later) (subst (λ ps. EachObeys next ps 0 (suc next) inputs) split h.2),
       each-less row above (suc first) (suc (next + nodes inputs)) pulled later h.3,
     )
-
-each-laws : (row : Row) (above first next : ℕ) (earlier : List (List Visit)) (pull : List Visit) → EachAllows IsTurnWithin above first next row earlier pull → EachAllows AllowsTurn above first next row earlier pull
-each-laws end above first next earlier pull h = tt
-each-laws (leaf q row) above first next earlier pull h = each-laws row above (suc first) next earlier pull h
-each-laws (node class inputs row) above first next earlier pull h = (
-  λ asked. ((h.0 asked).0.law, each-laws inputs next 0 (suc next) (pulls_below above first earlier) pull (h.0 asked).1),
-  h.1,
-  each-laws row above (suc first) (suc (next + nodes inputs)) earlier pull h.2,
-)
 
 never-less : (least : ℕ) (ms later : List ℕ) → NeverFalls least (ms ++ later) → NeverFalls least ms
 never-less least [] later h = tt
@@ -260,10 +188,9 @@ one-less tree log pull more =
         moments = moments;
         device = devices.1.0;
         below =
-            subst (λ e. EachAllows AllowsTurn 0 0 1 (root tree) e pull) (onto-reverse (pulls log))
-            (each-laws (root tree) 0 0 1 (onto (pulls log) []) pull
-            (each-split (EachAllows IsTurnWithin 0 0 1 (root tree)) [] (pulls log) (pull ∷ [])
-            (subst (EachAfter (EachAllows IsTurnWithin 0 0 1 (root tree)) []) more.last (each-allowed 0 0 1 (root tree) (pulls (log ++ pull)) more.run.below))).1.0);
+            subst (λ e. EachAllows 0 0 1 (root tree) e pull) (onto-reverse (pulls log))
+            (each-split (EachAllows 0 0 1 (root tree)) [] (pulls log) (pull ∷ [])
+            (subst (EachAfter (EachAllows 0 0 1 (root tree)) []) more.last (each-allowed 0 0 1 (root tree) (pulls (log ++ pull)) more.run.below))).1.0;
       };
     }
   where

@@ -7,7 +7,7 @@ use Rattle.std.proofs.lemmas.Bool.Decides.{nat_tests}
 use Rattle.clk_packet.specs.declared.packet.Packet.{Packet}
 use Rattle.clk_sched.specs.declared.visit.Visit.{Visit}
 use Rattle.clk_sched.specs.Turns.{EachAfter}
-use Rattle.clk_sched.specs.Laws.Deficit.{head_at}
+use Rattle.clk_sched.specs.Heads.{head_at}
 use Rattle.clk_sched.specs.Log.{asks}
 use Rattle.clk_sched.specs.Results.{Traced, traced, asked_pull, first_pull}
 use Rattle.clk_sched.proofs.Allowed.{onto, onto-reverse}
@@ -82,10 +82,6 @@ IsOrdered (v ∷ visits) = AllByRecursion (IsLater v) visits × IsOrdered visits
 -- visits of pulls up to one
 abbrev UpTo : ℕ → List Visit → Type 0
 UpTo k visits = AllByRecursion (λ (v : Visit). v.pull ≤ k) visits
-
-up-to-more : (k m : ℕ) (visits : List Visit) → k ≤ m → UpTo k visits → UpTo m visits
-up-to-more k m [] l h = tt
-up-to-more k m (v ∷ visits) l h = (omega (arith, h.0), up-to-more k m visits l h.1)
 
 asked-up_to : (i k : ℕ) (earlier : List Visit) → UpTo k earlier → asked_pull i k earlier ≡ latest_asked i earlier
 asked-up_to i k [] h = refl

@@ -1,13 +1,15 @@
 pub mod Elements
 pub mod Numbers
 pub mod Members
+pub mod TreeLemmas
+pub mod Distinct
 pub mod Numbering
 pub mod Allowed
 pub mod PullByPull
 pub mod SameTurns
 pub mod NoChoice
 pub mod Heads
-pub mod HeadsByClass
+pub mod HeadsByManner
 pub mod Blocks
 pub mod Origins
 pub mod Pulled
@@ -18,4 +20,3 @@ pub mod GoesOn
 pub mod DeficitShares
 pub mod StrideShares
 pub mod Shares
-pub mod TreeLemmas

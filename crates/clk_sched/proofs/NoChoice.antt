@@ -6,8 +6,9 @@ use Rattle.std.proofs.lemmas.Bool.Decides.{nat_tests}
 use Rattle.std.proofs.lemmas.List.{append-nil}
 use Rattle.clk_packet.specs.declared.packet.Packet.{Packet}
 use Rattle.clk_sched.specs.declared.visit.Visit.{Visit}
-use Rattle.clk_sched.specs.Tree.{Class, Row, end, leaf, node, Tree, queue, scheduler, root, nodes, width, queue_at, IsWellFormed}
+use Rattle.clk_sched.specs.Tree.{Class, Row, end, leaf, node, Tree, queue, scheduler, root, nodes, width, queue_at}
 use Rattle.clk_sched.specs.Turns.{EachAfter}
+use Rattle.clk_sched.specs.Laws.{manner}
 use Rattle.clk_sched.specs.Laws.Device.{IsDeviceTurn}
 use Rattle.clk_sched.specs.Log.{visits_of, pulls, block_at, block, moment_of, HasOneMoment, turn, asks, pulls_below, result_of}
 use Rattle.clk_sched.specs.Run.{GetsResult, IsRun}
@@ -15,7 +16,7 @@ use Rattle.clk_sched.specs.Choice.{is_answer, answers, LeavesNoChoice}
 use Rattle.clk_sched.proofs.Members.{In, of-all, in-filter, filter-in, any-in, each-from_all, each-weaker, each-both, each-mapped}
 use Rattle.clk_sched.proofs.Numbering.{StandsAt, stands-root, stands-after_leaf, stands-after_node, stands-inputs, at-leaf, at-node}
 use Rattle.clk_sched.specs.Step.{EachAllows}
-use Rattle.clk_sched.proofs.Allowed.{IsTurnWithin, each-allowed}
+use Rattle.clk_sched.proofs.Allowed.{AreWithin, each-allowed, device-visit}
 use Rattle.clk_sched.proofs.PullByPull.{asked, IsNumbered, each-numbered}
 use Rattle.clk_sched.proofs.SameTurns.{Sides, Reads, reads-append, GetAlike, plain-same, turn-same}
 use Rattle.clk_sched.proofs.Numbers.{equal}
@@ -121,10 +122,10 @@ leaf-alike tree p q above first next k row stands rest i v u mv mu iv iu l h fv 
     by_test false t c = let same = rest i v u mv mu iv iu (grind (arith, nat_tests)) (omega arith) fv fu s r c in (same.block, same.got, same.left)
 
 node-alike : (tree : Tree) (p q : List Visit) → ArePaired p q → (earlier : List (List Visit)) (above first next : ℕ) (class : Class) (inputs row : Row) → StandsAt tree above first next (node class inputs row)
-    → IsWellFormed (node class inputs row) → EachAllows IsTurnWithin above first next (node class inputs row) earlier p → EachAllows IsTurnWithin above first next (node class inputs row) earlier q
-    → (EachAllows IsTurnWithin next 0 (suc next) inputs (pulls_below above first earlier) p → EachAllows IsTurnWithin next 0 (suc next) inputs (pulls_below above first earlier) q → AskAlike tree p q next 0 (suc next) inputs)
+    → EachAllows above first next (node class inputs row) earlier p → EachAllows above first next (node class inputs row) earlier q
+    → (EachAllows next 0 (suc next) inputs (pulls_below above first earlier) p → EachAllows next 0 (suc next) inputs (pulls_below above first earlier) q → AskAlike tree p q next 0 (suc next) inputs)
     → AskAlike tree p q above (suc first) (suc (next + nodes inputs)) row → AskAlike tree p q above first next (node class inputs row)
-node-alike tree p q pair earlier above first next class inputs row stands well a b below rest i v u mv mu iv iu l h fv fu s r e =
+node-alike tree p q pair earlier above first next class inputs row stands a b below rest i v u mv mu iv iu l h fv fu s r e =
     let parts = by_test (first == i) refl e in record { block = parts.0; got = parts.1; left = parts.2 }
   where
     part : List Visit → Bool → List Visit
@@ -146,7 +147,7 @@ node-alike tree p q pair earlier above first next class inputs row stands well a
         let asks_u = asks_here u (iu ∙ here) fu in
         let one = a.0 (any-in (asks first) v (visits_of above p) asks_v mv) in
         let other = b.0 (any-in (asks first) u (visits_of above q) asks_u mu) in
-        let same = turn-same (sides tree p q (suc next) inputs) class (width inputs) (map (turn next) (pulls_below above first earlier)) (turn next p) (turn next q) well.0 well.1 one.0 other.0 pair.moment
+        let same = turn-same (sides tree p q (suc next) inputs) (manner class (width inputs)) (width inputs) (map (turn next) (pulls_below above first earlier)) (turn next p) (turn next q) one.0.within one.0.follows other.0.follows pair.moment
         (get-alike tree p q next inputs pair (below one.1 other.1)) _ _ (reads-append tree (part p true) (v ∷ []) (part q true) (u ∷ []) s r c)
         in (
           same.parts,
@@ -155,20 +156,20 @@ node-alike tree p q pair earlier above first next class inputs row stands well a
         )
     by_test false t c = let same = rest i v u mv mu iv iu (grind (arith, nat_tests)) (omega arith) fv fu s r c in (same.block, same.got, same.left)
 
-ask-alike : (tree : Tree) (p q : List Visit) → ArePaired p q → (row : Row) (earlier : List (List Visit)) (above first next : ℕ) → StandsAt tree above first next row → IsWellFormed row
-    → EachAllows IsTurnWithin above first next row earlier p → EachAllows IsTurnWithin above first next row earlier q → AskAlike tree p q above first next row
-ask-alike tree p q pair end earlier above first next stands well a b = λ i v u mv mu iv iu l h. absurd (omega arith)
-ask-alike tree p q pair (leaf k row) earlier above first next stands well a b =
-    leaf-alike tree p q above first next k row stands (ask-alike tree p q pair row earlier above (suc first) next (stands-after_leaf tree above first next k row stands) well a b)
-ask-alike tree p q pair (node class inputs row) earlier above first next stands well a b =
-    node-alike tree p q pair earlier above first next class inputs row stands well a b
-    (λ c d. ask-alike tree p q pair inputs (pulls_below above first earlier) next 0 (suc next) (stands-inputs tree above first next class inputs row stands) well.2 c d)
-    (ask-alike tree p q pair row earlier above (suc first) (suc (next + nodes inputs)) (stands-after_node tree above first next class inputs row stands) well.3 a.2 b.2)
+ask-alike : (tree : Tree) (p q : List Visit) → ArePaired p q → (row : Row) (earlier : List (List Visit)) (above first next : ℕ) → StandsAt tree above first next row
+    → EachAllows above first next row earlier p → EachAllows above first next row earlier q → AskAlike tree p q above first next row
+ask-alike tree p q pair end earlier above first next stands a b = λ i v u mv mu iv iu l h. absurd (omega arith)
+ask-alike tree p q pair (leaf k row) earlier above first next stands a b =
+    leaf-alike tree p q above first next k row stands (ask-alike tree p q pair row earlier above (suc first) next (stands-after_leaf tree above first next k row stands) a b)
+ask-alike tree p q pair (node class inputs row) earlier above first next stands a b =
+    node-alike tree p q pair earlier above first next class inputs row stands a b
+    (λ c d. ask-alike tree p q pair inputs (pulls_below above first earlier) next 0 (suc next) (stands-inputs tree above first next class inputs row stands) c d)
+    (ask-alike tree p q pair row earlier above (suc first) (suc (next + nodes inputs)) (stands-after_node tree above first next class inputs row stands) a.2 b.2)
 
 -- a pull of a run after those before it
 record IsPullOfRun (tree : Tree) (earlier : List (List Visit)) (pull : List Visit) : Type 0 where
   device : IsDeviceTurn (turn 0 pull)
-  below : EachAllows IsTurnWithin 0 0 1 (root tree) earlier pull
+  below : EachAllows 0 0 1 (root tree) earlier pull
   numbered : IsNumbered tree earlier pull
 
 pulls-of_run : (tree : Tree) (log : List Visit) → IsRun tree log → EachAfter (IsPullOfRun tree) [] (pulls log)
@@ -181,9 +182,9 @@ pub root-width : (tree : Tree) → width (root tree) ≡ 1
 root-width (queue k) = refl
 root-width (scheduler class inputs) = refl
 
-pull-same : (tree : Tree) (earlier : List (List Visit)) (p q : List Visit) → IsWellFormed (root tree) → IsPullOfRun tree earlier p → IsPullOfRun tree earlier q → moment_of p ≡ moment_of q
+pull-same : (tree : Tree) (earlier : List (List Visit)) (p q : List Visit) → IsPullOfRun tree earlier p → IsPullOfRun tree earlier q → moment_of p ≡ moment_of q
     → (s r : List (Option Packet)) → Reads tree (block tree p) (block tree q) s r → (p ≡ q) × (s ≡ r)
-pull-same tree earlier p q well a b moment s r e =
+pull-same tree earlier p q a b moment s r e =
     let pair : ArePaired p q =
     record {
       number = length earlier;
@@ -195,27 +196,30 @@ pull-same tree earlier p q well a b moment s r e =
     }
     in
     let same = plain-same (sides tree p q 1 (root tree)) (visits_of 0 p) (visits_of 0 q) (width (root tree))
-    (get-alike tree p q 0 (root tree) pair (ask-alike tree p q pair (root tree) earlier 0 0 1 (stands-root tree) well a.below b.below)) (0 ∷ []) (omega (arith, root-width tree), tt) (visits_of 0 p) (visits_of 0 q)
-    (λ v m. m) (λ v m. m) a.device b.device s r e
+    (get-alike tree p q 0 (root tree) pair (ask-alike tree p q pair (root tree) earlier 0 0 1 (stands-root tree) a.below b.below)) (0 ∷ []) (visits_of 0 p) (visits_of 0 q)
+    within (λ v m. m) (λ v m. m) a.device b.device s r e
     in
     (a.numbered.whole ∙ same.parts ∙ sym b.numbered.whole, same.left)
+  where
+    within : AreWithin (width (root tree)) (visits_of 0 p)
+    within = let one = device-visit (visits_of 0 p) a.device in subst (AreWithin (width (root tree))) (sym one.only) (omega (arith, root-width tree, one.input), tt)
 
 abbrev moment_first : List ℕ → ℕ
 moment_first [] = 0
 moment_first (m ∷ ms) = m
 
-pulls-same : (tree : Tree) (earlier ps qs : List (List Visit)) → IsWellFormed (root tree) → EachAfter (IsPullOfRun tree) earlier ps → EachAfter (IsPullOfRun tree) earlier qs → map moment_of ps ≡ map moment_of qs
+pulls-same : (tree : Tree) (earlier ps qs : List (List Visit)) → EachAfter (IsPullOfRun tree) earlier ps → EachAfter (IsPullOfRun tree) earlier qs → map moment_of ps ≡ map moment_of qs
     → Reads tree (flat_map (block tree) ps) (flat_map (block tree) qs) [] [] → ps ≡ qs
-pulls-same tree earlier [] [] well a b m e = refl
-pulls-same tree earlier [] (q ∷ qs) well a b m e = absurd (omega (arith, ap length m))
-pulls-same tree earlier (p ∷ ps) [] well a b m e = absurd (omega (arith, ap length m))
-pulls-same tree earlier (p ∷ ps) (q ∷ qs) well a b m e =
-    let same = pull-same tree earlier p q well a.0 b.0 (ap moment_first m) _ _ (reads-append tree (block tree p) (flat_map (block tree) ps) (block tree q) (flat_map (block tree) qs) [] [] e) in
-    ap₂ (λ x xs. x ∷ xs) same.0 (pulls-same tree (p ∷ earlier) ps qs well a.1 (subst (λ x. EachAfter (IsPullOfRun tree) (x ∷ earlier) qs) (sym same.0) b.1) (ap (drop 1) m) same.1)
+pulls-same tree earlier [] [] a b m e = refl
+pulls-same tree earlier [] (q ∷ qs) a b m e = absurd (omega (arith, ap length m))
+pulls-same tree earlier (p ∷ ps) [] a b m e = absurd (omega (arith, ap length m))
+pulls-same tree earlier (p ∷ ps) (q ∷ qs) a b m e =
+    let same = pull-same tree earlier p q a.0 b.0 (ap moment_first m) _ _ (reads-append tree (block tree p) (flat_map (block tree) ps) (block tree q) (flat_map (block tree) qs) [] [] e) in
+    ap₂ (λ x xs. x ∷ xs) same.0 (pulls-same tree (p ∷ earlier) ps qs a.1 (subst (λ x. EachAfter (IsPullOfRun tree) (x ∷ earlier) qs) (sym same.0) b.1) (ap (drop 1) m) same.1)
 
-pub leaves-no_choice : (tree : Tree) → IsWellFormed (root tree) → LeavesNoChoice tree
-leaves-no_choice tree well a b one other m e =
+pub leaves-no_choice : (tree : Tree) → LeavesNoChoice tree
+leaves-no_choice tree a b one other m e =
     one.shape.blocks
-    ∙ ap (flat_map (block tree)) (pulls-same tree [] (pulls a) (pulls b) well (pulls-of_run tree a one) (pulls-of_run tree b other) m
+    ∙ ap (flat_map (block tree)) (pulls-same tree [] (pulls a) (pulls b) (pulls-of_run tree a one) (pulls-of_run tree b other) m
     (append-nil _ ∙ ap (answers tree) (sym one.shape.blocks) ∙ e ∙ ap (answers tree) other.shape.blocks ∙ sym (append-nil _)))
     ∙ sym other.shape.blocks

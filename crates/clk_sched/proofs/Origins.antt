@@ -1,5 +1,5 @@
 -- Where a queue doesn't stand, no packet comes from it; and where it stands once.
-use Rattle.std.proofs.Common.{◌≡◌, ℕ, suc, ◌+◌, ◌<◌, ◌==◌, ◌&&◌, ◌||◌, nat_lt, if◌then◌else◌, Bool, true, false, not, List, [], ◌∷◌, ◌++◌, reverse, Option, Some, None, refl, sym, ap, ap₂, ◌∙◌, arith}
+use Rattle.std.proofs.Common.{◌≡◌, ℕ, suc, ◌+◌, ◌<◌, ◌==◌, ◌&&◌, nat_lt, if◌then◌else◌, Bool, true, false, List, [], ◌∷◌, ◌++◌, Option, Some, None, refl, sym, ap, ap₂, ◌∙◌, arith}
 use Rattle.std.specs.List.{flat_map, range_with_len}
 use Rattle.std.specs.Option.{option_or}
 use Rattle.std.proofs.lemmas.Bool.{false≢true}
@@ -7,20 +7,12 @@ use Rattle.std.proofs.lemmas.Bool.Decides.{nat_tests}
 use Rattle.std.proofs.lemmas.List.Elements.{filter_map-append}
 use Rattle.clk_packet.specs.declared.packet.Packet.{Packet}
 use Rattle.clk_sched.specs.declared.visit.Visit.{Visit}
-use Rattle.clk_sched.specs.Tree.{Class, prio, round_robin, drr, stride, shaper, Row, end, leaf, node, Tree, nodes, width, queue_in, queue_at, leaves, stands_in, are_distinct, is_number}
-use Rattle.clk_sched.specs.Built.{are_apart}
-use Rattle.clk_sched.specs.Log.{visits_of, in_pull}
-use Rattle.clk_sched.specs.Results.{Traced, traced, origin_in, passed_input, asked_pull, held_at, own_heads, traced_heads}
+use Rattle.clk_sched.specs.Tree.{Class, Row, end, leaf, node, Tree, nodes, width, queue_in, queue_at, leaves, stands_in, is_number}
+use Rattle.clk_sched.specs.Laws.{Manner, in_order, with_heads, manner}
+use Rattle.clk_sched.specs.Results.{Traced, traced, origin_in, passed_origin, held_at, own_heads, traced_heads}
 use Rattle.clk_sched.specs.Conservation.{from_queue}
 use Rattle.clk_sched.proofs.Numbering.{queue_in-before, queue_in-after, queue_in-earlier, or_none}
-use Rattle.clk_sched.proofs.TreeLemmas.{stands_in-append, are_distinct-append}
-
-or-neither : (a b : Bool) → (a || b) ≡ false → (a ≡ false) × (b ≡ false)
-or-neither true b e = absurd (false≢true (sym e))
-or-neither false b e = (refl, e)
-
-pub stands-neither : (q : ℕ) (ps rs : List ℕ) → stands_in q (ps ++ rs) ≡ false → (stands_in q ps ≡ false) × (stands_in q rs ≡ false)
-stands-neither q ps rs e = or-neither (stands_in q ps) (stands_in q rs) (sym (stands_in-append q ps rs) ∙ e)
+use Rattle.clk_sched.proofs.Distinct.{or-neither, stands-neither}
 
 queue_in-not : (q above first next : ℕ) (row : Row) (x i : ℕ) → stands_in q (leaves row) ≡ false → is_number q (queue_in above first next row x i) ≡ false
 queue_in-not q above first next end x i h = refl
@@ -52,7 +44,7 @@ origin-not q log first next (node class inputs row) i k h =
     by_test (first == i) (origin-not q log 0 (suc next) inputs _ _ parts.0) (origin-not q log (suc first) (suc (next + nodes inputs)) row i k parts.1)
   where
     here : Option ℕ
-    here = origin_in log 0 (suc next) inputs (passed_input (visits_of next (in_pull k log))) (asked_pull (passed_input (visits_of next (in_pull k log))) k (reverse (visits_of next log)))
+    here = passed_origin (λ j n. origin_in log 0 (suc next) inputs j n) log next k
 
     by_test : (b : Bool) → is_number q here ≡ false → is_number q (origin_in log (suc first) (suc (next + nodes inputs)) row i k) ≡ false
         → is_number q (if b then here else origin_in log (suc first) (suc (next + nodes inputs)) row i k) ≡ false
@@ -70,28 +62,25 @@ flat_map-not : {X : Type 0} (q : ℕ) (f : X → List Traced) (xs : List X) → 
 flat_map-not q f [] h = refl
 flat_map-not q f (x ∷ xs) h = from_queue-append q (f x) (flat_map f xs) ∙ ap₂ (λ l m. l ++ m) (h x) (flat_map-not q f xs h)
 
-own-not : (q : ℕ) (log : List Visit) (x : ℕ) (inputs : Row) (class : Class) → stands_in q (leaves inputs) ≡ false → from_queue q (own_heads log x inputs class) ≡ []
-own-not q log x inputs prio h = refl
-own-not q log x inputs round_robin h = refl
-own-not q log x inputs (drr quantum) h = flat_map-not q (held_at log x inputs) (range_with_len 0 (width inputs)) (λ i. traced-not q _ _ (origin-not q log 0 (suc x) inputs i _ h))
-own-not q log x inputs (stride tickets) h = refl
-own-not q log x inputs (shaper rate burst) h = refl
+own-not : (q : ℕ) (log : List Visit) (x : ℕ) (inputs : Row) (m : Manner) → stands_in q (leaves inputs) ≡ false → from_queue q (own_heads log x inputs m) ≡ []
+own-not q log x inputs (in_order order) h = refl
+own-not q log x inputs (with_heads turn_of covers) h = flat_map-not q (held_at log x inputs) (range_with_len 0 (width inputs)) (λ i. traced-not q _ _ (origin-not q log 0 (suc x) inputs i _ h))
 
 pub heads-not : (q : ℕ) (log : List Visit) (next : ℕ) (row : Row) → stands_in q (leaves row) ≡ false → from_queue q (traced_heads log next row) ≡ []
 heads-not q log next end h = refl
 heads-not q log next (leaf k row) h = heads-not q log next row (or-neither (k == q) (stands_in q (leaves row)) h).1
 heads-not q log next (node class inputs row) h =
     let parts = stands-neither q (leaves inputs) (leaves row) h in
-    from_queue-append q (own_heads log next inputs class) _
-    ∙ ap₂ (λ l m. l ++ m) (own-not q log next inputs class parts.0)
+    from_queue-append q (own_heads log next inputs (manner class (width inputs))) _
+    ∙ ap₂ (λ l m. l ++ m) (own-not q log next inputs (manner class (width inputs)) parts.0)
     (from_queue-append q (traced_heads log (suc next) inputs) _ ∙ ap₂ (λ l m. l ++ m) (heads-not q log (suc next) inputs parts.0) (heads-not q log (suc (next + nodes inputs)) row parts.1))
 
 -- the heads of a scheduler over inputs from which the queue doesn't come are none of its
 pub node-not : (q : ℕ) (log : List Visit) (next : ℕ) (class : Class) (inputs row : Row) → stands_in q (leaves inputs) ≡ false
     → from_queue q (traced_heads log next (node class inputs row)) ≡ from_queue q (traced_heads log (suc (next + nodes inputs)) row)
 node-not q log next class inputs row h =
-    from_queue-append q (own_heads log next inputs class) _
-    ∙ ap₂ (λ l m. l ++ m) (own-not q log next inputs class h) (from_queue-append q (traced_heads log (suc next) inputs) _ ∙ ap (λ l. l ++ from_queue q (traced_heads log (suc (next + nodes inputs)) row)) (heads-not q log (suc next) inputs h))
+    from_queue-append q (own_heads log next inputs (manner class (width inputs))) _
+    ∙ ap₂ (λ l m. l ++ m) (own-not q log next inputs (manner class (width inputs)) h) (from_queue-append q (traced_heads log (suc next) inputs) _ ∙ ap (λ l. l ++ from_queue q (traced_heads log (suc (next + nodes inputs)) row)) (heads-not q log (suc next) inputs h))
 
 -- a queue stands in a tree just where it stands in a row
 abbrev pub StandsOnlyIn : ℕ → Tree → ℕ → ℕ → ℕ → Row → Type 0
@@ -157,23 +146,3 @@ only-here q tree above first next k row e h only x i =
         by_eq false false f g = refl
         by_eq true false f g = absurd (grind (arith, nat_tests))
         by_eq false true f g = absurd (grind (arith, nat_tests))
-
-apart-not : (q : ℕ) (ps rs : List ℕ) → are_apart ps rs ≡ true → stands_in q ps ≡ true → stands_in q rs ≡ false
-apart-not q [] rs e h = absurd (false≢true h)
-apart-not q (p ∷ ps) rs e h = by_test (p == q) refl h (stands_in p rs) refl e (apart-not q ps rs)
-  where
-    by_test : (b : Bool) → (p == q) ≡ b → (b || stands_in q ps) ≡ true → (c : Bool) → stands_in p rs ≡ c → ((not c) && are_apart ps rs) ≡ true → (are_apart ps rs ≡ true → stands_in q ps ≡ true → stands_in q rs ≡ false) → stands_in q rs ≡ false
-    by_test b f g true k m rest = absurd (false≢true m)
-    by_test true f g false k m rest = let same : p ≡ q = grind (arith, nat_tests) in ap (λ j. stands_in j rs) (sym same) ∙ k
-    by_test false f g false k m rest = rest m g
-
--- of distinct queues, one that stands in the first part stands in no other
-pub distinct-parts : (q : ℕ) (ps rs : List ℕ) → are_distinct (ps ++ rs) ≡ true → (are_distinct ps ≡ true) × (are_distinct rs ≡ true) × (stands_in q ps ≡ true → stands_in q rs ≡ false)
-distinct-parts q ps rs e = by_parts (are_distinct ps) (are_apart ps rs) (are_distinct rs) refl refl refl (sym (are_distinct-append ps rs) ∙ e)
-  where
-    by_parts : (a b c : Bool) → are_distinct ps ≡ a → are_apart ps rs ≡ b → are_distinct rs ≡ c → (a && (b && c)) ≡ true
-        → (are_distinct ps ≡ true) × (are_distinct rs ≡ true) × (stands_in q ps ≡ true → stands_in q rs ≡ false)
-    by_parts true true true f g h k = (f, h, λ s. apart-not q ps rs g s)
-    by_parts false b c f g h k = absurd (false≢true k)
-    by_parts true false c f g h k = absurd (false≢true k)
-    by_parts true true false f g h k = absurd (false≢true k)

@@ -8,12 +8,12 @@ use Rattle.clk_sched.specs.declared.visit.Visit.{Visit}
 use Rattle.clk_sched.specs.Tree.{Class, Row, leaf, node, Tree, root, nodes}
 use Rattle.clk_sched.specs.Turns.{Turn, EachAfter, all_visits}
 use Rattle.clk_sched.specs.Log.{visits_of, in_pull, pulls, block, turn, asks, pulls_below}
+use Rattle.clk_sched.specs.Laws.{Manner, Follows}
 use Rattle.clk_sched.specs.Run.{IsRun}
 use Rattle.clk_sched.proofs.Members.{In, of-all, in-filter, all-append, all-filter, all-weaker}
-use Rattle.clk_sched.proofs.Allowed.{IsTurnWithin}
 use Rattle.clk_sched.proofs.PullByPull.{each-whole, in_pull-number}
 use Rattle.clk_sched.proofs.Heads.{IsLater, IsOrdered}
-use Rattle.clk_sched.proofs.HeadsByClass.{PassesLast, turn-last}
+use Rattle.clk_sched.proofs.HeadsByManner.{PassesLast, turn-last}
 use Rattle.clk_sched.proofs.Blocks.{flat_map-same, filter-flat_map, Owns, owns-root, owns-after_leaf, owns-after_node, owns-self, owns-inputs, copies}
 use Rattle.std.proofs.lemmas.List.Folds.{flat_map-map}
 
@@ -158,9 +158,9 @@ pub turns-visits : (log : List Visit) (above first next : ℕ) (class : Class) (
 turns-visits log above first next class inputs row pulled h =
     flat_map-map (λ (t : Turn). t.visits) (turn next) (pulls_below above first pulled) ∙ sym (pulled-inputs log above first next class inputs row pulled h).own_visits
 
-pub turns-last : (class : Class) (inputs x : ℕ) (earlier : List Turn) (ps : List (List Visit)) → EachAfter (IsTurnWithin class inputs) earlier (map (turn x) ps) → AllByRecursion (λ p. PassesLast (visits_of x p)) ps
-turns-last class inputs x earlier [] h = tt
-turns-last class inputs x earlier (p ∷ ps) h = (turn-last class inputs earlier (turn x p) h.0.law, turns-last class inputs x (turn x p ∷ earlier) ps h.1)
+pub turns-last : (m : Manner) (inputs x : ℕ) (earlier : List Turn) (ps : List (List Visit)) → EachAfter (Follows m inputs) earlier (map (turn x) ps) → AllByRecursion (λ p. PassesLast (visits_of x p)) ps
+turns-last m inputs x earlier [] h = tt
+turns-last m inputs x earlier (p ∷ ps) h = (turn-last m inputs earlier (turn x p) h.0, turns-last m inputs x (turn x p ∷ earlier) ps h.1)
 
 -- a log is its pulls, joined
 pub joined : (tree : Tree) (log : List Visit) → IsRun tree log → log ≡ flat_map (λ p. p) (pulls log)

@@ -1,6 +1,27 @@
 -- How many pulls the closing of a tree is given (this project's own bound).
-use Rattle.std.specs.Prelude.{ℕ, ◌+◌, ◌*◌, ◌-◌, ◌/◌, Option, Some, None}
-use Rattle.clk_sched.specs.Tree.{Tree, root, height, least_quantum}
+use Rattle.std.specs.Prelude.{ℕ, ◌+◌, ◌*◌, ◌-◌, ◌/◌, List, [], ◌∷◌, min, Option, Some, None}
+use Rattle.clk_sched.specs.Tree.{Class, drr, Row, end, leaf, node, Tree, root, height}
+
+-- the lesser of two numbers, of those that are there
+abbrev pub lesser : Option ℕ → Option ℕ → Option ℕ
+lesser None o = o
+lesser (Some m) None = Some m
+lesser (Some m) (Some n) = Some (min m n)
+
+abbrev pub least : List ℕ → Option ℕ
+least [] = None
+least (n ∷ ns) = lesser (Some n) (least ns)
+
+-- the quanta of a scheduler, which a DRRSched alone has
+abbrev pub quanta_of : Class → List ℕ
+quanta_of (drr quanta) = quanta
+quanta_of class = []
+
+-- the least quantum of any input of a DRRSched in a row, if there is one
+abbrev pub least_quantum : Row → Option ℕ
+least_quantum end = None
+least_quantum (leaf q row) = least_quantum row
+least_quantum (node class inputs row) = lesser (least (quanta_of class)) (lesser (least_quantum inputs) (least_quantum row))
 
 -- how often the least quantum goes into the greatest length, rounded up, and one more; 1 without a DRRSched
 abbrev pub rounds : Option ℕ → ℕ

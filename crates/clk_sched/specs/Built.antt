@@ -1,8 +1,8 @@
 -- Trees as their constructors build them.
-use Rattle.std.specs.Prelude.{ℕ, ◌&&◌, Bool, true, not, List, [], ◌∷◌, length, nat_lt, Result, Ok, Err, suc, if◌then◌else◌}
+use Rattle.std.specs.Prelude.{ℕ, List, [], ◌∷◌, length, nat_lt, Result, Ok, Err, suc, if◌then◌else◌}
 use Rattle.clk_packet.specs.declared.fault.Fault.{Fault}
 use Rattle.clk_packet.specs.declared.fault.Fault.TheVariants.{TooLarge}
-use Rattle.clk_sched.specs.Tree.{Class, Row, end, leaf, node, Tree, queue, scheduler, height, leaves, stands_in}
+use Rattle.clk_sched.specs.Tree.{Class, Row, end, leaf, node, Tree, queue, scheduler, height, leaves}
 
 -- trees at inputs that follow one another
 abbrev pub row : List Tree → Row
@@ -24,8 +24,3 @@ leaves_of (scheduler class inputs) = leaves inputs
 unfoldable pub built : Class → List Tree → Result Tree Fault
 built class children =
     if nat_lt 64 (length children) then Err TooLarge else (if nat_lt 64 (suc (height (row children))) then Err TooLarge else Ok (scheduler class (row children)))
-
--- no number of the first list stands in the second
-abbrev pub are_apart : List ℕ → List ℕ → Bool
-are_apart [] ps = true
-are_apart (q ∷ qs) ps = not (stands_in q ps) && are_apart qs ps

@@ -9,7 +9,7 @@ use Rattle.clk_sched.specs.declared.tree.Node.TheVariants.{Leaf, Scheduler}
 abbrev pub class_of : Class → tree.Class
 class_of Prio = tree.prio
 class_of RoundRobin = tree.round_robin
-class_of (Drr quantum) = tree.drr quantum
+class_of (Drr quanta) = tree.drr quanta.items
 class_of (Stride tickets) = tree.stride tickets.items
 class_of (Shaper rate burst) = tree.shaper rate burst
 

@@ -1,13 +1,16 @@
 -- What each class of scheduler does, in the words of its own turns.
-use Rattle.std.specs.Prelude.{ℕ, List, []}
+use Rattle.std.specs.Prelude.{ℕ, ◌<◌, Bool, List, []}
 use Rattle.std.specs.List.{AllByRecursion}
+use Rattle.clk_packet.specs.declared.packet.Packet.{Packet}
+use Rattle.clk_sched.specs.declared.visit.Visit.{Visit}
 use Rattle.clk_sched.specs.Tree.{Class, prio, round_robin, drr, stride, shaper}
-use Rattle.clk_sched.specs.Turns.{Turn, EachAfter}
-use Rattle.clk_sched.specs.Laws.Priority.{IsPrioTurn}
-use Rattle.clk_sched.specs.Laws.RoundRobin.{IsRoundRobinTurn}
-use Rattle.clk_sched.specs.Laws.Deficit.{IsDeficitRun}
-use Rattle.clk_sched.specs.Laws.Stride.{IsStrideTurn}
-use Rattle.clk_sched.specs.Laws.Shaper.{IsShaperTurn}
+use Rattle.clk_sched.specs.Turns.{Turn, EachAfter, AsksInOrder, visits_before}
+use Rattle.clk_sched.specs.Heads.{LooksAtHeads, EndAtPass}
+use Rattle.clk_sched.specs.Laws.Priority.{priority_order}
+use Rattle.clk_sched.specs.Laws.RoundRobin.{round_robin_order}
+use Rattle.clk_sched.specs.Laws.Deficit.{next_input, deficit_covers}
+use Rattle.clk_sched.specs.Laws.Stride.{stride_order}
+use Rattle.clk_sched.specs.Laws.Shaper.{shaper_order}
 pub mod Device
 pub mod Priority
 pub mod RoundRobin
@@ -15,10 +18,31 @@ pub mod Deficit
 pub mod Stride
 pub mod Shaper
 
+-- The two ways in which a scheduler may treat its inputs. It asks them in an order that follows from its earlier turns, the
+-- latest first, and from the moment, until one gives a packet; or it holds heads, by whose turn it is and what is covered.
+pub data Manner : Type 0 where
+  in_order : (List Turn → ℕ → List ℕ) → Manner
+  with_heads : (List Visit → ℕ) → (List Visit → ℕ → Packet → Bool) → Manner
+
+-- what a scheduler of this class does with so many inputs
+abbrev pub manner : Class → ℕ → Manner
+manner prio inputs = in_order (λ earlier moment. priority_order inputs)
+manner round_robin inputs = in_order (λ earlier moment. round_robin_order inputs earlier)
+manner (drr quanta) inputs = with_heads (next_input inputs) (deficit_covers quanta)
+manner (stride tickets) inputs = in_order (λ earlier moment. stride_order tickets earlier)
+manner (shaper rate burst) inputs = in_order (shaper_order rate burst)
+
+-- a turn is as this manner has it, after earlier turns, the latest first
+abbrev pub Follows : Manner → ℕ → List Turn → Turn → Type 0
+Follows (in_order order) inputs earlier t = AsksInOrder (order earlier t.moment) t.visits
+Follows (with_heads turn_of covers) inputs earlier t = EachAfter (LooksAtHeads turn_of covers) (visits_before earlier) t.visits × EndAtPass inputs t.visits
+
+-- What a scheduler of this class, over so many inputs, may do in one pull after its earlier turns, the latest first: it visits
+-- inputs that it has, in its manner.
+pub record AllowsTurn (class : Class) (inputs : ℕ) (earlier : List Turn) (t : Turn) : Type 0 where
+  pub within : AllByRecursion (λ (v : Visit). v.input < inputs) t.visits
+  pub follows : Follows (manner class inputs) inputs earlier t
+
 -- What a scheduler of this class, over so many inputs, may have done in its pulls, one after another.
 abbrev pub Obeys : Class → ℕ → List Turn → Type 0
-Obeys prio width turns = AllByRecursion (IsPrioTurn width) turns
-Obeys round_robin width turns = EachAfter (IsRoundRobinTurn width) [] turns
-Obeys (drr quantum) width turns = IsDeficitRun quantum width turns
-Obeys (stride tickets) width turns = EachAfter (IsStrideTurn tickets) [] turns
-Obeys (shaper rate burst) width turns = EachAfter (IsShaperTurn rate burst) [] turns
+Obeys class inputs turns = EachAfter (AllowsTurn class inputs) [] turns

@@ -2,9 +2,11 @@
 pub mod Tree
 pub mod Stored
 pub mod Built
+pub mod Marks
 pub mod Falls
 pub mod Kept
 pub mod Turns
+pub mod Heads
 pub mod Log
 pub mod Laws
 pub mod Run

@@ -3,9 +3,10 @@ use Rattle.std.specs.Prelude.{Bool, ℕ, ◌+◌, ◌==◌, ◌&&◌, List, [], 
 use Rattle.std.specs.List.{filter_map, flat_map, range_with_len}
 use Rattle.clk_packet.specs.declared.packet.Packet.{Packet}
 use Rattle.clk_sched.specs.declared.visit.Visit.{Visit}
-use Rattle.clk_sched.specs.Tree.{Row, end, leaf, node, Tree, root, width, nodes, queue_at, Class, prio, round_robin, drr, stride, shaper, is_number}
+use Rattle.clk_sched.specs.Tree.{Row, end, leaf, node, Tree, root, width, nodes, queue_at, is_number}
 use Rattle.clk_sched.specs.Log.{visits_of, in_pull, asks}
-use Rattle.clk_sched.specs.Laws.Deficit.{head_at}
+use Rattle.clk_sched.specs.Heads.{head_at}
+use Rattle.clk_sched.specs.Laws.{Manner, in_order, with_heads, manner}
 
 -- the packets that came out at the device, in order
 abbrev pub emitted : List Visit → List Packet
@@ -31,15 +32,18 @@ asked_pull input k [] = 0
 asked_pull input k (v ∷ latest_first) =
     if (asks input v) && nat_lt v.pull (suc k) then v.pull else asked_pull input k latest_first
 
+-- The queue from which came what node x passed in pull k, by where came what was got at an input of it in a pull.
+abbrev pub passed_origin : (ℕ → ℕ → Option ℕ) → List Visit → ℕ → ℕ → Option ℕ
+passed_origin origin log x k =
+    origin (passed_input (visits_of x (in_pull k log))) (asked_pull (passed_input (visits_of x (in_pull k log))) k (reverse (visits_of x log)))
+
 -- The queue from which came what was got in pull k at an input, in a row that stands at the inputs from `first` on and
 -- whose schedulers are numbered from `next` on: the queue there, or that of what the scheduler there passed.
 abbrev pub origin_in : List Visit → ℕ → ℕ → Row → ℕ → ℕ → Option ℕ
 origin_in log first next end input k = None
 origin_in log first next (leaf q row) input k = if first == input then Some q else origin_in log (suc first) next row input k
 origin_in log first next (node class inputs row) input k =
-    if first == input
-    then origin_in log 0 (suc next) inputs (passed_input (visits_of next (in_pull k log)))
-    (asked_pull (passed_input (visits_of next (in_pull k log))) k (reverse (visits_of next log)))
+    if first == input then passed_origin (λ i n. origin_in log 0 (suc next) inputs i n) log next k
     else origin_in log (suc first) (suc (next + nodes inputs)) row input k
 
 -- a packet with the queue that it came from
@@ -65,20 +69,17 @@ held_at log x inputs input = held (reverse (visits_of x log))
     held : List Visit → List Traced
     held latest = traced (head_at input latest) (origin_in log 0 (suc x) inputs input (asked_pull input (first_pull latest) latest))
 
--- the heads held by node x, which a DRRSched alone has, by input
-abbrev pub own_heads : List Visit → ℕ → Row → Class → List Traced
-own_heads log x inputs (drr quantum) = flat_map (held_at log x inputs) (range_with_len 0 (width inputs))
-own_heads log x inputs prio = []
-own_heads log x inputs round_robin = []
-own_heads log x inputs (stride tickets) = []
-own_heads log x inputs (shaper rate burst) = []
+-- the heads held by node x, by input: one in this manner has them, and one that asks in order has none
+abbrev pub own_heads : List Visit → ℕ → Row → Manner → List Traced
+own_heads log x inputs (in_order order) = []
+own_heads log x inputs (with_heads turn_of covers) = flat_map (held_at log x inputs) (range_with_len 0 (width inputs))
 
 -- the heads held in a row whose schedulers are numbered from `next` on, with their origins, by node and then by input
 abbrev pub traced_heads : List Visit → ℕ → Row → List Traced
 traced_heads log next end = []
 traced_heads log next (leaf q row) = traced_heads log next row
 traced_heads log next (node class inputs row) =
-    own_heads log next inputs class ++ (traced_heads log (suc next) inputs ++ traced_heads log (suc (next + nodes inputs)) row)
+    own_heads log next inputs (manner class (width inputs)) ++ (traced_heads log (suc next) inputs ++ traced_heads log (suc (next + nodes inputs)) row)
 
 -- the heads held, by node and then by input
 abbrev pub heads : Tree → List Visit → List Packet

@@ -2,11 +2,11 @@
 use Rattle.std.specs.Prelude.{◌≡◌, ℕ, ◌+◌, ◌*◌, ◌<◌, ◌≤◌, ◌==◌, ◌&&◌, List, [], ◌∷◌, ◌++◌, length, map, reverse, max, suc, ⊤, IsSome, if◌then◌else◌}
 use Rattle.std.specs.List.{AllByRecursion}
 use Rattle.clk_sched.specs.declared.visit.Visit.{Visit}
-use Rattle.clk_sched.specs.Tree.{Class, prio, round_robin, drr, stride, shaper, Row, end, leaf, node, Tree, root, width, nodes, is_number}
+use Rattle.clk_sched.specs.Tree.{Class, drr, stride, Row, end, leaf, node, Tree, root, width, nodes, is_number}
 use Rattle.clk_sched.specs.Log.{pulls, turn, pulls_below}
 use Rattle.clk_sched.specs.Run.{IsRun}
 use Rattle.clk_sched.specs.Turns.{Turn, giver, all_visits}
-use Rattle.clk_sched.specs.Laws.Deficit.{arrives, arrivals, passed_bytes, bytes_of}
+use Rattle.clk_sched.specs.Laws.Deficit.{arrives, arrivals, passed_bytes, bytes_of, quantum_at}
 use Rattle.clk_sched.specs.Laws.Stride.{stride_of, stride_at, pass_in, passes_of}
 
 -- the arrivals at an input in a range of visits, and the bytes passed from it there; the visits before are given with the
@@ -28,15 +28,16 @@ abbrev pub Near : ℕ → ℕ → ℕ → Type 0
 Near bound m n = (m ≤ n + bound) × (n ≤ m + bound)
 
 -- DRRSched: in any unbroken range of a node's visits the arrivals of two inputs differ by at most 1; no deficit is below 0, or
--- above the quantum plus 65,534; and an input that always had a packet was given its quantum for each arrival, within that bound.
-pub record SharesByDeficit (quantum inputs : ℕ) (turns : List Turn) : Type 0 where
+-- above the input's quantum plus 65,534; and an input each of whose visits got a packet was given its quantum in bytes for each
+-- arrival, within that bound.
+pub record SharesByDeficit (quanta : List ℕ) (inputs : ℕ) (turns : List Turn) : Type 0 where
   pub arrivals_near : (before range after : List Visit) → all_visits turns ≡ before ++ (range ++ after) → (i j : ℕ) → i < inputs → j < inputs
       → Near 1 (arrivals_in i (reverse before) range) (arrivals_in j (reverse before) range)
   pub deficit_bound : (before after : List Visit) (v : Visit) → all_visits turns ≡ before ++ v ∷ after
-      → (passed_bytes v.input (reverse before) ≤ quantum * (arrives (reverse before) + arrivals v.input (reverse before)))
-      × (quantum * (arrives (reverse before) + arrivals v.input (reverse before)) ≤ passed_bytes v.input (reverse before) + (quantum + 65534))
+      → (passed_bytes v.input (reverse before) ≤ quantum_at quanta v.input * (arrives (reverse before) + arrivals v.input (reverse before)))
+      × (quantum_at quanta v.input * (arrives (reverse before) + arrivals v.input (reverse before)) ≤ passed_bytes v.input (reverse before) + (quantum_at quanta v.input + 65534))
   pub bytes_near : (before range after : List Visit) → all_visits turns ≡ before ++ (range ++ after) → (i : ℕ) → i < inputs → AlwaysGets i range
-      → Near (quantum + 65534) (bytes_in i range) (quantum * arrivals_in i (reverse before) range)
+      → Near (quantum_at quanta i + 65534) (bytes_in i range) (quantum_at quanta i * arrivals_in i (reverse before) range)
 
 abbrev pub largest_stride : List ℕ → ℕ
 largest_stride [] = 0
@@ -52,7 +53,7 @@ abbrev pub pass_at : List ℕ → List Turn → ℕ → ℕ
 pass_at tickets earlier input = pass_in (passes_of tickets earlier) input
 
 -- StrideSched: two passes never differ by more than the largest stride; and in any unbroken range of pulls two inputs that
--- always had a packet were served in inverse proportion to their strides, within twice the largest.
+-- each of whose visits got a packet were served in inverse proportion to their strides, within twice the largest.
 pub record SharesByStride (tickets : List ℕ) (turns : List Turn) : Type 0 where
   pub passes_near : (before after : List Turn) → turns ≡ before ++ after → (i j : ℕ) → i < length tickets → j < length tickets
       → Near (largest_stride tickets) (pass_at tickets (reverse before) i) (pass_at tickets (reverse before) j)
@@ -62,11 +63,9 @@ pub record SharesByStride (tickets : List ℕ) (turns : List Turn) : Type 0 wher
 
 -- what a scheduler of this class, over so many inputs, shares out in its pulls
 abbrev pub Shares : Class → ℕ → List Turn → Type 0
-Shares prio inputs turns = ⊤
-Shares round_robin inputs turns = ⊤
-Shares (drr quantum) inputs turns = SharesByDeficit quantum inputs turns
+Shares (drr quanta) inputs turns = SharesByDeficit quanta inputs turns
 Shares (stride tickets) inputs turns = SharesByStride tickets turns
-Shares (shaper rate burst) inputs turns = ⊤
+Shares class inputs turns = ⊤
 
 -- each scheduler of a row, which stands as for EachObeys, shares out its pulls
 abbrev pub EachShares : ℕ → List (List Visit) → ℕ → ℕ → Row → Type 0
@@ -77,10 +76,6 @@ EachShares above pulled first next (node class inputs row) =
     × EachShares next (pulls_below above first pulled) 0 (suc next) inputs
     × EachShares above pulled (suc first) (suc (next + nodes inputs)) row
 
--- a visit got no packet longer than a packet's length can say
-abbrev pub HasLimitedLength : Visit → Type 0
-HasLimitedLength v = bytes_of v.got ≤ 65535
-
--- In every run of a tree, in which packets are no longer than they may be, each DRRSched and each StrideSched gives its shares.
+-- In every run of a tree each DRRSched and each StrideSched gives its shares.
 abbrev pub SharesOut : Tree → Type 0
-SharesOut tree = (log : List Visit) → AllByRecursion HasLimitedLength log → IsRun tree log → EachShares 0 (pulls log) 0 1 (root tree)
+SharesOut tree = (log : List Visit) → IsRun tree log → EachShares 0 (pulls log) 0 1 (root tree)

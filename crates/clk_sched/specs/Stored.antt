@@ -11,7 +11,7 @@ Token = ℕ × List ℕ
 abbrev class_token : Class → Token
 class_token prio = (2, [])
 class_token round_robin = (3, [])
-class_token (drr quantum) = (4, quantum ∷ [])
+class_token (drr quanta) = (4, quanta)
 class_token (stride tickets) = (5, tickets)
 class_token (shaper rate burst) = (6, rate ∷ burst ∷ [])
 
@@ -20,7 +20,7 @@ argument place arguments = unwrap_or (slice_get arguments place) 0
 
 abbrev token_class : Token → Class
 token_class t =
-    cond (t.0 == 2) prio (cond (t.0 == 3) round_robin (cond (t.0 == 4) (drr (argument 0 t.1)) (cond (t.0 == 5) (stride t.1) (shaper (argument 0 t.1) (argument 1 t.1)))))
+    cond (t.0 == 2) prio (cond (t.0 == 3) round_robin (cond (t.0 == 4) (drr t.1) (cond (t.0 == 5) (stride t.1) (shaper (argument 0 t.1) (argument 1 t.1)))))
 
 -- the tokens of a row, before those of what follows
 abbrev tokens : Row → List Token → List Token
@@ -53,7 +53,7 @@ tree_of (node class inputs row ∷ rows) = scheduler class inputs
 put-class_token : (c : Class) (inputs row : Row) (rows : List Row) → put (class_token c) (inputs ∷ row ∷ rows) ≡ node c inputs row ∷ rows
 put-class_token prio inputs row rows = refl
 put-class_token round_robin inputs row rows = refl
-put-class_token (drr quantum) inputs row rows = refl
+put-class_token (drr quanta) inputs row rows = refl
 put-class_token (stride tickets) inputs row rows = refl
 put-class_token (shaper rate burst) inputs row rows = refl
 

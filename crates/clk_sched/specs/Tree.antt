@@ -1,14 +1,14 @@
 -- Trees of schedulers over queues, below a device that has one input.
-use Rattle.std.specs.Prelude.{◌≡◌, ℕ, ◌+◌, ◌≤◌, ◌==◌, ◌&&◌, ◌||◌, ◌++◌, Bool, true, false, not, List, [], ◌∷◌, length, ⊤, Option, Some, None, suc, max, min, if◌then◌else◌}
+use Rattle.std.specs.Prelude.{◌≡◌, ℕ, ◌+◌, ◌≤◌, ◌==◌, ◌&&◌, ◌||◌, ◌++◌, Bool, true, false, not, List, [], ◌∷◌, length, ⊤, Option, Some, None, suc, max, if◌then◌else◌}
 use Rattle.std.specs.Option.{option_or}
 use Rattle.std.specs.List.{AllByRecursion}
 
--- What a scheduler does with its inputs, and its arguments: a quantum in bytes, the tickets of each input, and the rate in
--- packets a tick with the burst in packets.
+-- What a scheduler does with its inputs, and its arguments: the quantum of each input in bytes, the tickets of each input, and
+-- the rate in packets a tick with the burst in packets.
 pub data Class : Type 0 where
   prio : Class
   round_robin : Class
-  drr : ℕ → Class
+  drr : List ℕ → Class
   stride : List ℕ → Class
   shaper : ℕ → ℕ → Class
 
@@ -80,14 +80,13 @@ leaves_distinct tree = are_distinct (leaves (root tree))
 
 -- the arguments of a scheduler over so many inputs are within their limits
 abbrev pub HasArguments : Class → ℕ → Type 0
-HasArguments prio inputs = ⊤
-HasArguments round_robin inputs = ⊤
-HasArguments (drr quantum) inputs = (1 ≤ quantum) × (quantum ≤ 1000000)
+HasArguments (drr quanta) inputs = (length quanta ≡ inputs) × AllByRecursion (λ n. (1 ≤ n) × (n ≤ 1000000)) quanta
 HasArguments (stride tickets) inputs = (length tickets ≡ inputs) × AllByRecursion (λ n. (1 ≤ n) × (n ≤ 32768)) tickets
 HasArguments (shaper rate burst) inputs = (inputs ≡ 1) × ((1 ≤ rate) × (rate ≤ 1000000)) × ((1 ≤ burst) × (burst ≤ 1000000))
+HasArguments class inputs = ⊤
 
--- Each scheduler of a row has an input at least, and arguments within their limits: a StrideSched has tickets for each input,
--- and a Shaper has one input.
+-- Each scheduler of a row has an input at least, and arguments within their limits: a DRRSched has a quantum for each input, a
+-- StrideSched has tickets for each, and a Shaper has one input.
 abbrev pub IsWellFormed : Row → Type 0
 IsWellFormed end = ⊤
 IsWellFormed (leaf q row) = IsWellFormed row
@@ -98,18 +97,3 @@ abbrev pub height : Row → ℕ
 height end = 0
 height (leaf q row) = height row
 height (node class inputs row) = max (suc (height inputs)) (height row)
-
--- the least quantum of a DRRSched in a row, if there is one
-abbrev pub least_quantum : Row → Option ℕ
-least_quantum end = None
-least_quantum (leaf q row) = least_quantum row
-least_quantum (node (drr quantum) inputs row) = lesser (Some quantum) (lesser (least_quantum inputs) (least_quantum row))
-  where
-    lesser : Option ℕ → Option ℕ → Option ℕ
-    lesser None o = o
-    lesser (Some m) None = Some m
-    lesser (Some m) (Some n) = Some (min m n)
-least_quantum (node prio inputs row) = option_or (least_quantum inputs) (least_quantum row)
-least_quantum (node round_robin inputs row) = option_or (least_quantum inputs) (least_quantum row)
-least_quantum (node (stride tickets) inputs row) = option_or (least_quantum inputs) (least_quantum row)
-least_quantum (node (shaper rate burst) inputs row) = option_or (least_quantum inputs) (least_quantum row)

@@ -1,5 +1,5 @@
 -- The turns of a scheduler, of which each law speaks: what it did in each pull in which it was pulled.
-use Rattle.std.specs.Prelude.{◌≡◌, ℕ, true, List, [], ◌∷◌, is_some, Option, Some, None, MatchOption, ⊤, if◌then◌else◌}
+use Rattle.std.specs.Prelude.{◌≡◌, ℕ, true, List, [], ◌∷◌, ◌++◌, reverse, is_some, Option, Some, None, MatchOption, ⊤, if◌then◌else◌}
 use Rattle.std.specs.List.{flat_map, AllByRecursion}
 use Rattle.clk_sched.specs.declared.visit.Visit.{Visit}
 
@@ -11,6 +11,11 @@ pub record Turn : Type 0 where
 -- the visits of a node across its turns
 abbrev pub all_visits : List Turn → List Visit
 all_visits turns = flat_map (λ (t : Turn). t.visits) turns
+
+-- the same of earlier turns; of both the latest is first
+abbrev pub visits_before : List Turn → List Visit
+visits_before [] = []
+visits_before (t ∷ earlier) = reverse t.visits ++ visits_before earlier
 
 -- the visits go to these inputs in this order, up to the first that got a packet, or to all of them
 abbrev pub UpToFirst : List ℕ → List Visit → Type 0

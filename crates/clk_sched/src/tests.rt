@@ -59,7 +59,10 @@ fn mixed(alloc: Global, queues: [u16; 3]) -> Result<Tree, Fault> {
     let mut children = Vec::new(alloc);
     children.push(Tree::stride(tickets, shared)?)?;
     children.push(Tree::round_robin(alone)?)?;
-    Tree::drr(500, children)
+    let mut quanta = Vec::new(alloc);
+    quanta.push(500)?;
+    quanta.push(1000)?;
+    Tree::drr(quanta, children)
 }
 
 #[test]

@@ -1,8 +1,11 @@
 //! Trees of schedulers over queues.
 
-ghost use Rattle.std.specs.Prelude.{◌≡◌, ◌≤◌, length, suc};
-ghost use Rattle.clk_sched.specs.Tree.{prio, round_robin, drr, stride, shaper, queue, height, leaves, stands_in, are_distinct, IsWellFormed};
-ghost use Rattle.clk_sched.specs.Built.{built, row, are_apart, leaves_of};
+mod distinct;
+mod laws;
+
+ghost use Rattle.std.specs.Prelude.{◌≡◌, ◌≤◌, length};
+ghost use Rattle.clk_sched.specs.Tree.{prio, round_robin, drr, stride, shaper, queue, height, IsWellFormed};
+ghost use Rattle.clk_sched.specs.Built.{built, row};
 
 use clk_packet::Fault;
 use std::alloc::Global;
@@ -35,8 +38,8 @@ enum Node {
 enum Class {
     Prio,
     RoundRobin,
-    /// The quantum in bytes.
-    Drr(u32),
+    /// The quantum of each input, in bytes.
+    Drr(Vec<u32>),
     /// The tickets of each input.
     Stride(Vec<u32>),
     /// The rate in packets a tick, and the burst in packets.
@@ -68,13 +71,10 @@ impl Model for Tree {
 }
 
 impl Tree {
-    ghost use Rattle.std.specs.Prelude.{◌≢◌, Err, [], ◌∷◌, true};
+    ghost use Rattle.std.specs.Prelude.{◌≢◌, Err, [], ◌∷◌};
     ghost use Rattle.clk_packet.specs.declared.fault.Fault.TheVariants.{Memory};
     ghost use Rattle.std.specs.List.{AllByRecursion};
-    ghost use Rattle.clk_sched.specs.Tree.{leaves_distinct, HasArguments};
-    ghost use Rattle.clk_sched.specs.Choice.{LeavesNoChoice};
-    ghost use Rattle.clk_sched.specs.Conservation.{ConservesPackets, MakesNothing};
-    ghost use Rattle.clk_sched.specs.Service.{SharesOut};
+    ghost use Rattle.clk_sched.specs.Tree.{HasArguments};
     ghost use Rattle.clk_sched.specs.Kept.{class_of};
 
     /// The queue of this number alone.
@@ -111,17 +111,18 @@ impl Tree {
         Tree::scheduler(Class::RoundRobin, children)
     }
 
-    /// A DRRSched over these trees, of which there is at least one, with a quantum in bytes, from 1 to 1,000,000.
+    /// A DRRSched over these trees, of which there is at least one, with the quantum of each in bytes, from 1 to 1,000,000.
     ///
     /// # Errors
     ///
     /// As `prio`.
-    pub fn drr(quantum: u32, children: Vec<Tree>) -> Result<Tree, Fault>
+    pub fn drr(quanta: Vec<u32>, children: Vec<Tree>) -> Result<Tree, Fault>
         requires inputs { 1 ≤ length children.items }
-        requires quantum { (1 ≤ quantum) × (quantum ≤ 1000000) }
-        ensures { result ≡ built (drr quantum) children.items }
+        requires one_each { length quanta.items ≡ length children.items }
+        requires quanta { AllByRecursion (λ n. (1 ≤ n) × (n ≤ 1000000)) quanta.items }
+        ensures { result ≡ built (drr quanta.items) children.items }
     {
-        Tree::scheduler(Class::Drr(quantum), children)
+        Tree::scheduler(Class::Drr(quanta), children)
     }
 
     /// A StrideSched over these trees, of which there is at least one, with the tickets of each, from 1 to 32,768.
@@ -154,72 +155,6 @@ impl Tree {
         Tree::scheduler(Class::Shaper(rate, burst), children)
     }
 
-    /// Whether no queue stands twice in this tree. Its time grows with the square of their number.
-    pub fn leaves_distinct(&self) -> bool
-        ensures { result ≡ leaves_distinct self.now }
-    {
-        self.is_distinct()
-    }
-
-    /// A law: a run of this tree leaves nothing to choose but what the queues answer and the moments of the pulls. It does
-    /// nothing.
-    pub fn leaves_no_choice(&self)
-        ensures { LeavesNoChoice self.now }
-    {
-        // The field opens the tree, which is well formed.
-        let _ = &self.node;
-    }
-
-    /// A law: each run of this tree conserves the packets of each queue, where no queue stands twice in the tree: what the
-    /// queue gave is what was emitted of it, in order, and then what is held of it. In any tree, each packet that is emitted
-    /// or held came from one of its queues. It does nothing.
-    pub fn conserves_packets(&self)
-        ensures loses_nothing { leaves_distinct self.now ≡ true → ConservesPackets self.now }
-        ensures makes_nothing { MakesNothing self.now }
-    {
-        // The field opens the tree, which is well formed.
-        let _ = &self.node;
-    }
-
-    /// A law: in each run of this tree over packets of at most 65,535 bytes, each DRRSched and each StrideSched gives the shares
-    /// that its quantum or its tickets say, within bounds. It does nothing.
-    pub fn shares_out(&self)
-        ensures { SharesOut self.now }
-    {
-        // The field opens the tree, which is well formed.
-        let _ = &self.node;
-    }
-
-    #[cycle(distinct)]
-    fn is_distinct(&self) -> bool
-        ensures { result ≡ are_distinct (leaves_of self.now) }
-    {
-        match &self.node {
-            Node::Leaf(_) => true,
-            Node::Scheduler(_, inputs) => are_distinct(inputs),
-        }
-    }
-
-    #[cycle(apart)]
-    fn is_apart(&self, others: &[Tree]) -> bool
-        ensures { result ≡ are_apart (leaves_of self.now) (leaves (row others.now)) }
-    {
-        match &self.node {
-            Node::Leaf(q) => !stands_in(*q, others),
-            Node::Scheduler(_, inputs) => are_apart(inputs, others),
-        }
-    }
-
-    #[cycle(stands)]
-    fn has(&self, q: u16) -> bool
-        ensures { result ≡ stands_in q (leaves_of self.now) }
-    {
-        match &self.node {
-            Node::Leaf(p) => *p == q,
-            Node::Scheduler(_, inputs) => stands_in(q, inputs),
-        }
-    }
-
     fn scheduler(class: Class, children: Vec<Tree>) -> Result<Tree, Fault>
         requires inputs { 1 ≤ length children.items }
         requires arguments { HasArguments (class_of class) (length children.items) }
@@ -249,40 +184,4 @@ fn highest(trees: &[Tree]) -> u8
         highest = tree.height.max(highest);
     }
     highest
-}
-
-/// Whether no queue stands twice in these trees.
-#[cycle(distinct)]
-fn are_distinct(trees: &[Tree]) -> bool
-    ensures { result ≡ are_distinct (leaves (row trees.now)) }
-{
-    let [first, rest @ ..] = trees else {
-        return true;
-    };
-    if !first.is_distinct() {
-        return false;
-    }
-    first.is_apart(rest) && are_distinct(rest)
-}
-
-/// Whether no queue of these trees stands in the others.
-#[cycle(apart)]
-fn are_apart(trees: &[Tree], others: &[Tree]) -> bool
-    ensures { result ≡ are_apart (leaves (row trees.now)) (leaves (row others.now)) }
-{
-    let [first, rest @ ..] = trees else {
-        return true;
-    };
-    first.is_apart(others) && are_apart(rest, others)
-}
-
-/// Whether a queue stands in these trees.
-#[cycle(stands)]
-fn stands_in(q: u16, trees: &[Tree]) -> bool
-    ensures { result ≡ stands_in q (leaves (row trees.now)) }
-{
-    let [first, rest @ ..] = trees else {
-        return false;
-    };
-    first.has(q) || stands_in(q, rest)
 }

@@ -40,7 +40,7 @@ two_deficits =
     look 4 0 1 0 false (Some p0_1) true ∷ asking 4 0 0 0 (Some p0_1) ∷ []
 
 abbrev pub two_deficits_tree : Tree
-two_deficits_tree = scheduler (drr 500) (leaf 0 (leaf 1 end))
+two_deficits_tree = scheduler (drr (500 ∷ 500 ∷ [])) (leaf 0 (leaf 1 end))
 
 -- A packet of 1000 below a DRRSched of quantum 500: held in the first pull, and passed in the second.
 abbrev pub held_at_close : List Visit
@@ -49,7 +49,7 @@ held_at_close =
     look 1 1 1 0 false (Some p0_0_1000) true ∷ asking 1 1 0 0 (Some p0_0_1000) ∷ []
 
 abbrev pub held_at_close_tree : Tree
-held_at_close_tree = scheduler (drr 500) (leaf 0 end)
+held_at_close_tree = scheduler (drr (500 ∷ [])) (leaf 0 end)
 
 -- A packet of 700 below a DRRSched of quantum 300 below one of quantum 500.
 abbrev pub nested : List Visit
@@ -60,7 +60,7 @@ nested =
     look 3 0 1 0 false (Some p0_0_700) true ∷ asking 3 0 0 0 (Some p0_0_700) ∷ []
 
 abbrev pub nested_tree : Tree
-nested_tree = scheduler (drr 500) (node (drr 300) (leaf 0 end) end)
+nested_tree = scheduler (drr (500 ∷ [])) (node (drr (300 ∷ [])) (leaf 0 end) end)
 
 -- A DRRSched of quantum 5 over a PrioSched over two queues, each with a packet of 10: one pull leaves the first's as a head.
 abbrev pub head_below : List Visit
@@ -68,7 +68,7 @@ head_below =
     asking 0 0 2 0 (Some p0_0_10) ∷ look 0 0 1 0 true (Some p0_0_10) false ∷ asking 0 0 0 0 None ∷ []
 
 abbrev pub head_below_tree : Tree
-head_below_tree = scheduler (drr 5) (node prio (leaf 0 (leaf 1 end)) end)
+head_below_tree = scheduler (drr (5 ∷ [])) (node prio (leaf 0 (leaf 1 end)) end)
 
 -- Over nested_tree: the outer scheduler keeps the deficit of an input found empty, and passes the packet a pull early
 abbrev pub deficit_kept : List Visit

@@ -72,7 +72,7 @@ below_deficit =
     asking 2 1 2 0 (Some p0_1_300) ∷ asking 2 1 1 0 (Some p0_1_300) ∷ asking 2 1 0 0 (Some p0_1_300) ∷ []
 
 abbrev pub below_deficit_tree : Tree
-below_deficit_tree = scheduler (drr 500) (node (shaper 1 1) (leaf 0 end) end)
+below_deficit_tree = scheduler (drr (500 ∷ [])) (node (shaper 1 1) (leaf 0 end) end)
 
 -- A Shaper of rate 1 and burst 1, pulled at moment 0 before its queue has a packet and after.
 abbrev pub none_costs_nothing : List Visit

@@ -128,7 +128,7 @@ over_held_head =
     look 3 0 2 0 false (Some p0_0_25) true ∷ asking 3 0 1 1 (Some p0_0_25) ∷ asking 3 0 0 0 (Some p0_0_25) ∷ []
 
 abbrev pub over_held_head_tree : Tree
-over_held_head_tree = scheduler (stride (1 ∷ 1 ∷ [])) (leaf 0 (node (drr 10) (leaf 1 end) end))
+over_held_head_tree = scheduler (stride (1 ∷ 1 ∷ [])) (leaf 0 (node (drr (10 ∷ [])) (leaf 1 end) end))
 
 -- Over idle_pass_tree: an idle input's pass is left behind, so that it is served twice in a row when it is back
 abbrev pub pass_left_behind : List Visit

@@ -1,15 +1,13 @@
--- What a DRRSched does (Shreedhar and Varghese 1995, pull by pull). All is over the visits of the node across its pulls, the
--- earlier ones with the latest first.
-use Rattle.std.specs.Prelude.{◌≡◌, ℕ, zero, suc, ◌+◌, ◌*◌, ◌%◌, ◌==◌, Bool, false, not, nat_le, List, [], ◌∷◌, is_some, Option, Some, None, MatchOption, MatchBool, ⊤, if◌then◌else◌}
-use Rattle.std.specs.List.{AllByRecursion}
+-- What a DRRSched does (Shreedhar and Varghese 1995, pull by pull): whose turn it is, and what is covered. All is over the visits
+-- of the node across its pulls, the earlier ones with the latest first.
+use Rattle.std.specs.Prelude.{ℕ, ◌+◌, ◌*◌, ◌%◌, ◌==◌, Bool, nat_le, List, [], ◌∷◌, is_some, Option, Some, None, unwrap_or, slice_get, if◌then◌else◌}
 use Rattle.clk_packet.specs.declared.packet.Packet.{Packet}
 use Rattle.clk_sched.specs.declared.visit.Visit.{Visit}
-use Rattle.clk_sched.specs.Turns.{Turn, EachAfter, all_visits}
 
 -- After a visit that passed, the next is to the same input; after any other, to the next input, wrapping round.
 abbrev pub next_input : ℕ → List Visit → ℕ
-next_input width [] = 0
-next_input width (v ∷ earlier) = if v.passed then v.input else (v.input + 1) % width
+next_input inputs [] = 0
+next_input inputs (v ∷ earlier) = if v.passed then v.input else (v.input + 1) % inputs
 
 -- a visit after these is an arrival at its input: it is the first of all, or the one before it didn't pass
 abbrev pub arrives : List Visit → ℕ
@@ -31,32 +29,10 @@ passed_bytes input [] = 0
 passed_bytes input (v ∷ earlier) =
     if v.input == input then (if is_some v.got then (if v.passed then bytes_of v.got else 0) + passed_bytes input earlier else 0) else passed_bytes input earlier
 
--- the packet held at an input: what the latest visit to it got, if that is a packet that didn't pass
-abbrev pub head_at : ℕ → List Visit → Option Packet
-head_at input [] = None
-head_at input (v ∷ earlier) = if v.input == input then (if v.passed then None else v.got) else head_at input earlier
+-- the quantum of an input, by the quanta of each
+abbrev pub quantum_at : List ℕ → ℕ → ℕ
+quantum_at quanta input = unwrap_or (slice_get quanta input) 0
 
--- whether a deficit covers the packet, if there is one
-abbrev pub fits : ℕ → Option Packet → Bool
-fits deficit None = false
-fits deficit (Some p) = nat_le p.length deficit
-
--- A visit goes to the input whose turn it is, looks at the head where one is held and asks where none is, and passes just
--- what the input's deficit covers: a quantum for each arrival, less the bytes passed.
-pub record IsDeficitVisit (quantum width : ℕ) (earlier : List Visit) (v : Visit) : Type 0 where
-  pub in_turn : v.input ≡ next_input width earlier
-  pub fresh : v.fresh ≡ not (is_some (head_at v.input earlier))
-  pub looks : MatchOption (head_at v.input earlier) ⊤ (λ p. v.got ≡ Some p)
-  pub deficit : ℕ
-  pub deficit_is : deficit + passed_bytes v.input earlier ≡ quantum * (arrives earlier + arrivals v.input earlier)
-  pub passes : v.passed ≡ fits deficit v.got
-
--- the visits of a pull end with the first that passed, or else are so many
-abbrev pub EndAtPass : ℕ → List Visit → Type 0
-EndAtPass zero visits = visits ≡ []
-EndAtPass (suc n) [] = ⊥
-EndAtPass (suc n) (v ∷ visits) = MatchBool v.passed (visits ≡ []) (EndAtPass n visits)
-
-pub record IsDeficitRun (quantum width : ℕ) (turns : List Turn) : Type 0 where
-  pub visits : EachAfter (IsDeficitVisit quantum width) [] (all_visits turns)
-  pub pulls : AllByRecursion (λ (t : Turn). EndAtPass width t.visits) turns
+-- A packet is covered where its length and the bytes passed are within a quantum for each arrival, that of the visit too.
+abbrev pub deficit_covers : List ℕ → List Visit → ℕ → Packet → Bool
+deficit_covers quanta earlier input p = nat_le (p.length + passed_bytes input earlier) (quantum_at quanta input * (arrives earlier + arrivals input earlier))

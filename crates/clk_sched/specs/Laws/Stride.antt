@@ -2,7 +2,7 @@
 use Rattle.std.specs.Prelude.{ℕ, ◌+◌, ◌/◌, ◌==◌, ◌&&◌, ◌||◌, Bool, nat_lt, nat_le, List, [], ◌∷◌, map, Option, Some, None, unwrap_or, slice_get, if◌then◌else◌}
 use Rattle.std.specs.List.{enumerate_from, list_any}
 use Rattle.clk_sched.specs.declared.visit.Visit.{Visit}
-use Rattle.clk_sched.specs.Turns.{Turn, AsksInOrder, giver}
+use Rattle.clk_sched.specs.Turns.{Turn, giver}
 
 -- what a pass grows by: 65,536 over the tickets, rounded down
 abbrev pub stride_of : ℕ → ℕ
@@ -44,7 +44,6 @@ abbrev pub in_rising_order : List (ℕ × ℕ) → List (ℕ × ℕ)
 in_rising_order [] = []
 in_rising_order (i ∷ others) = put_in_order i (in_rising_order others)
 
--- A pull asks inputs in rising order of (pass, index), by the passes at its start.
-abbrev pub IsStrideTurn : List ℕ → List Turn → Turn → Type 0
-IsStrideTurn tickets earlier t =
-    AsksInOrder (map (λ (i : ℕ × ℕ). i.0) (in_rising_order (enumerate_from 0 (passes_of tickets earlier)))) t.visits
+-- A StrideSched asks inputs in rising order of (pass, index), by the passes at the start of the pull.
+abbrev pub stride_order : List ℕ → List Turn → List ℕ
+stride_order tickets earlier = map (λ (i : ℕ × ℕ). i.0) (in_rising_order (enumerate_from 0 (passes_of tickets earlier)))

@@ -9,17 +9,17 @@ returns-clause-is_two_queues c =
     record {
       shape = record { blocks = refl; one_moment = ((refl, (refl, tt)), ((refl, (refl, (refl, tt))), ((refl, (refl, (refl, tt))), tt))); moments = (lit≤ tt, (lit≤ tt, (lit≤ tt, tt))) };
       device = (record { plain = (record { fresh = refl; passed = refl }, tt); in_order = (refl, refl) }, (record { plain = (record { fresh = refl; passed = refl }, tt); in_order = (refl, refl) }, (record { plain = (record { fresh = refl; passed = refl }, tt); in_order = (refl, tt) }, tt)));
-      below = ((record { plain = (record { fresh = refl; passed = refl }, tt); in_order = (refl, refl) }, (record { plain = (record { fresh = refl; passed = refl }, (record { fresh = refl; passed = refl }, tt)); in_order = (refl, (refl, refl)) }, (record { plain = (record { fresh = refl; passed = refl }, (record { fresh = refl; passed = refl }, tt)); in_order = (refl, (refl, tt)) }, tt))), ((refl, tt), ((refl, tt), ((refl, tt), tt))), tt, tt);
+      below = ((record { within = (lit≤ tt, tt); follows = record { plain = (record { fresh = refl; passed = refl }, tt); in_order = (refl, refl) } }, (record { within = (lit≤ tt, (lit≤ tt, tt)); follows = record { plain = (record { fresh = refl; passed = refl }, (record { fresh = refl; passed = refl }, tt)); in_order = (refl, (refl, refl)) } }, (record { within = (lit≤ tt, (lit≤ tt, tt)); follows = record { plain = (record { fresh = refl; passed = refl }, (record { fresh = refl; passed = refl }, tt)); in_order = (refl, (refl, tt)) } }, tt))), ((refl, tt), ((refl, tt), ((refl, tt), tt))), tt, tt);
     }
 
 pub returns-clause-not_visit_left_out : goal.returns-clause-not_visit_left_out
-returns-clause-not_visit_left_out c = λ run. absurd (omega (arith, run.below.0.1.0.in_order.0))
+returns-clause-not_visit_left_out c = λ run. absurd (omega (arith, run.below.0.1.0.follows.in_order.0))
 
 pub returns-clause-not_visit_doubled : goal.returns-clause-not_visit_doubled
-returns-clause-not_visit_doubled c = λ run. absurd (omega (arith, run.below.0.1.0.in_order.1.0))
+returns-clause-not_visit_doubled c = λ run. absurd (omega (arith, run.below.0.1.0.follows.in_order.1.0))
 
 pub returns-clause-not_passed_turned : goal.returns-clause-not_passed_turned
-returns-clause-not_passed_turned c = λ run. absurd (false≢true run.below.0.1.0.plain.1.0.passed)
+returns-clause-not_passed_turned c = λ run. absurd (false≢true run.below.0.1.0.follows.plain.1.0.passed)
 
 pub returns-clause-not_other_result : goal.returns-clause-not_other_result
 returns-clause-not_other_result c = λ run. let senders = ap (option_map (λ (p : Packet). p.sender)) run.below.1.0.0 in absurd (cc)

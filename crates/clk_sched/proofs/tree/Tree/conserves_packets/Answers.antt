@@ -1,5 +1,3 @@
-use Rattle.std.proofs.Common.{subst}
-use Rattle.clk_sched.specs.Tree.{root, IsWellFormed}
 use Rattle.clk_sched.proofs.Conserved.{conserves-packets}
 use Rattle.clk_sched.proofs.CameFrom.{makes-nothing}
 use Rattle.clk_sched.proofs.tree.Tree.conserves_packets.Goals as goal
@@ -8,4 +6,4 @@ pub returns-clause-loses_nothing : goal.returns-clause-loses_nothing
 returns-clause-loses_nothing c = conserves-packets c.args.self.now
 
 pub returns-clause-makes_nothing : goal.returns-clause-makes_nothing
-returns-clause-makes_nothing c = makes-nothing c.args.self.now (subst (λ t. IsWellFormed (root t)) c.self.view_is c.self.invariant.1)
+returns-clause-makes_nothing c = makes-nothing c.args.self.now

@@ -1,7 +1,5 @@
-use Rattle.std.proofs.Common.{subst}
-use Rattle.clk_sched.specs.Tree.{root, IsWellFormed}
 use Rattle.clk_sched.proofs.NoChoice.{leaves-no_choice}
 use Rattle.clk_sched.proofs.tree.Tree.leaves_no_choice.Goals as goal
 
 pub returns : goal.returns
-returns c = leaves-no_choice c.args.self.now (subst (λ t. IsWellFormed (root t)) c.self.view_is c.self.invariant.1)
+returns c = leaves-no_choice c.args.self.now

@@ -1,0 +1,50 @@
+//! Whether no queue stands twice in a tree.
+
+ghost use Rattle.std.specs.Prelude.{◌≡◌, ◌++◌, ℕ, List, true};
+ghost use Rattle.clk_sched.specs.Tree.{leaves, are_distinct};
+ghost use Rattle.clk_sched.specs.Built.{row, leaves_of};
+ghost use Rattle.clk_sched.specs.Marks.{Marks, AreMarked};
+
+use super::{Node, Tree};
+
+/// How many numbers a queue may have.
+const NUMBERS: usize = 65_536;
+
+impl Tree {
+    ghost use Rattle.clk_sched.specs.Tree.{leaves_distinct};
+
+    /// Whether no queue stands twice in this tree. It goes over the tree once.
+    pub fn leaves_distinct(&self) -> bool
+        ensures { result ≡ leaves_distinct self.now }
+    {
+        let mut marks = [false; NUMBERS];
+        self.mark(&mut marks)
+    }
+
+    // Marks the queues of this tree, up to one that is marked already, and tells whether there is none.
+    #[cycle(mark)]
+    fn mark(&self, marks: &mut [bool; NUMBERS]) -> bool
+        ensures { (before : List ℕ) → are_distinct before ≡ true → Marks marks.old before → AreMarked result marks.new (before ++ leaves_of self.now) }
+    {
+        match &self.node {
+            Node::Leaf(q) => {
+                let place = usize::from(*q);
+                let is_new = !marks[place];
+                marks[place] = true;
+                is_new
+            }
+            Node::Scheduler(_, inputs) => mark(inputs, marks),
+        }
+    }
+}
+
+/// The same of the queues of these trees.
+#[cycle(mark)]
+fn mark(trees: &[Tree], marks: &mut [bool; NUMBERS]) -> bool
+    ensures { (before : List ℕ) → are_distinct before ≡ true → Marks marks.old before → AreMarked result marks.new (before ++ leaves (row trees.now)) }
+{
+    let [first, rest @ ..] = trees else {
+        return true;
+    };
+    first.mark(marks) && mark(rest, marks)
+}
