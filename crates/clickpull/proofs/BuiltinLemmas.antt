@@ -1,5 +1,5 @@
 -- One pull of the built-in tree.
-use Rattle.std.proofs.Common.{◌≡◌, ℕ, List, [], ◌∷◌, ◌++◌, length, map, refl, Option, Some, None}
+use Rattle.std.proofs.Common.{◌≡◌, ℕ, List, [], ◌∷◌, ◌++◌, length, map, refl, Option, Some, None, arith}
 use Rattle.std.specs.Option.{option_or}
 use Rattle.clk_packet.specs.declared.packet.Packet.{Packet}
 use Rattle.clk_sched.specs.declared.visit.Visit.{Visit}
@@ -29,7 +29,7 @@ IsNextPull-builtin log k moment (Some p) second e never =
       one_moment = (refl, (refl, tt));
       moments = never;
       device = record { plain = (record { fresh = refl; passed = refl }, tt); in_order = (refl, refl) };
-      below = (λ asked. (record { plain = (record { fresh = refl; passed = refl }, tt); in_order = (refl, refl) }, tt), (refl, tt), tt);
+      below = (λ asked. (record { within = (omega arith, tt); follows = record { plain = (record { fresh = refl; passed = refl }, tt); in_order = (refl, refl) } }, tt), (refl, tt), tt);
     }
 IsNextPull-builtin log k moment None (Some p) e never =
     record {
@@ -38,7 +38,7 @@ IsNextPull-builtin log k moment None (Some p) e never =
       one_moment = (refl, (refl, (refl, tt)));
       moments = never;
       device = record { plain = (record { fresh = refl; passed = refl }, tt); in_order = (refl, refl) };
-      below = (λ asked. (record { plain = (record { fresh = refl; passed = refl }, (record { fresh = refl; passed = refl }, tt)); in_order = (refl, (refl, refl)) }, tt), (refl, tt), tt);
+      below = (λ asked. (record { within = (omega arith, (omega arith, tt)); follows = record { plain = (record { fresh = refl; passed = refl }, (record { fresh = refl; passed = refl }, tt)); in_order = (refl, (refl, refl)) } }, tt), (refl, tt), tt);
     }
 IsNextPull-builtin log k moment None None e never =
     record {
@@ -47,7 +47,7 @@ IsNextPull-builtin log k moment None None e never =
       one_moment = (refl, (refl, (refl, tt)));
       moments = never;
       device = record { plain = (record { fresh = refl; passed = refl }, tt); in_order = (refl, tt) };
-      below = (λ asked. (record { plain = (record { fresh = refl; passed = refl }, (record { fresh = refl; passed = refl }, tt)); in_order = (refl, (refl, tt)) }, tt), (refl, tt), tt);
+      below = (λ asked. (record { within = (omega arith, (omega arith, tt)); follows = record { plain = (record { fresh = refl; passed = refl }, (record { fresh = refl; passed = refl }, tt)); in_order = (refl, (refl, tt)) } }, tt), (refl, tt), tt);
     }
 
 pub result-builtin : (k moment : ℕ) (first second : Option Packet) → result_of (visits_of 0 (router_visits k moment first second)) ≡ option_or first second
