@@ -7,7 +7,7 @@ ghost use Rattle.clk_sched.specs.Marks.{Marks, AreMarked};
 
 use super::{Node, Tree};
 
-/// How many numbers a queue may have.
+/// How many queue numbers there are.
 const NUMBERS: usize = 65_536;
 
 impl Tree {
