@@ -5,6 +5,8 @@ pub mod EventLemmas
 pub mod BuiltinLemmas
 pub mod RouterLemmas
 pub mod AnswerLemmas
+pub mod Alike
+pub mod OneMeaning
 pub mod BytesLemmas
 pub mod ScriptLemmas
 pub mod RefusalLemmas

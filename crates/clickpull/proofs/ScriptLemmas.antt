@@ -75,9 +75,9 @@ line_sound senders number (line.Command (Send sender size)) s e = by_test (list_
 -- the lines from the n-th on have no fault
 pub record HasNoFault (senders : List ℕ) (n : ℕ) (texts : List (List ℕ)) : Type 0 where
   pub sound : AllByRecursion (IsSound senders) (filter_map (λ text. command_in (line_of text)) texts)
-  pub few : n + length (filter_map (λ text. command_in (line_of text)) texts) ≤ 1000001
+  pub few : n + length (filter_map (λ text. command_in (line_of text)) texts) ≤ (most_lines + 1)
 
-no_fault : (senders : List ℕ) (n : ℕ) (texts : List (List ℕ)) → n ≤ 1000001 → slice_get (filter_map (fault_at senders) (enumerate_from n texts)) 0 ≡ None → HasNoFault senders n texts
+no_fault : (senders : List ℕ) (n : ℕ) (texts : List (List ℕ)) → n ≤ (most_lines + 1) → slice_get (filter_map (fault_at senders) (enumerate_from n texts)) 0 ≡ None → HasNoFault senders n texts
 no_fault senders n [] h e = record { sound = tt; few = omega arith }
 no_fault senders n (text ∷ texts) h e = by_fault (fault_at senders (n, text)) refl (no_fault senders (n + 1) texts)
   where
@@ -89,7 +89,7 @@ no_fault senders n (text ∷ texts) h e = by_fault (fault_at senders (n, text)) 
     by_test true f g = let no = rw f at g in absurd (cc)
     by_test false f g = (grind (arith, nat_tests), rw f at g)
 
-    by_fault : (o : Option Fault) → fault_at senders (n, text) ≡ o → (n + 1 ≤ 1000001 → slice_get (filter_map (fault_at senders) (enumerate_from (n + 1) texts)) 0 ≡ None → HasNoFault senders (n + 1) texts) → HasNoFault senders n (text ∷ texts)
+    by_fault : (o : Option Fault) → fault_at senders (n, text) ≡ o → (n + 1 ≤ (most_lines + 1) → slice_get (filter_map (fault_at senders) (enumerate_from (n + 1) texts)) 0 ≡ None → HasNoFault senders (n + 1) texts) → HasNoFault senders n (text ∷ texts)
     by_fault None f rest =
         let t = by_test (nat_lt most_lines n) refl f in
         by_command (command_in (line_of text)) refl (line_sound senders n (line_of text) (sends_some (fields text)) t.1) t.0 (rest (omega (arith, t.0)) (rw f at e))
@@ -103,8 +103,11 @@ script_lines senders script e = by_test (nat_lt most_bytes (length script)) refl
     by_test true f = let no = rw f at e in absurd (cc)
     by_test false f = rw f at e
 
+pub each-command-sound : (senders script : List ℕ) → script_fault senders script ≡ None → AllByRecursion (IsSound senders) (commands_of script)
+each-command-sound senders script e = (no_fault senders 1 (lines script) (omega arith) (script_lines senders script e)).sound
+
 pub commands-sound : (senders script : List ℕ) → script_fault senders script ≡ None → All (IsSound senders) (commands_of script)
-commands-sound senders script e = All-from_recursion (IsSound senders) (commands_of script) (no_fault senders 1 (lines script) (omega arith) (script_lines senders script e)).sound
+commands-sound senders script e = All-from_recursion (IsSound senders) (commands_of script) (each-command-sound senders script e)
 
 pub commands-few : (senders script : List ℕ) → script_fault senders script ≡ None → length (commands_of script) ≤ most_lines
 commands-few senders script e = let few = (no_fault senders 1 (lines script) (omega arith) (script_lines senders script e)).few in omega arith

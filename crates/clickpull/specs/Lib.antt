@@ -5,3 +5,4 @@ pub mod Builtin
 pub mod Fields
 pub mod Router
 pub mod Bytes
+pub mod OneMeaning

@@ -9,7 +9,7 @@ use Rattle.clk_packet.specs.declared.packet.Offered.TheVariants.{Accepted, Refus
 use Rattle.clk_ring.specs.Queue.{Queue, holding, IsOffered, IsPulled}
 use Rattle.clk_ring.specs.QueueHistory.{QueueEvent, accept, refuse, evict, give, empty, accepted, gone, held, offer_events, pull_event, NamesOffer, IsInOrder, MayStand, IsFollowedUp, EachStands}
 use Rattle.clk_ring.specs.Laws.{LeadsTo, CallsAreHistory, LeavesNoChoice}
-use Rattle.clk_ring.proofs.Histories.{Holds, accepted-append, gone-append, holds-more, held-is, in-order, stands-join, stands-after, in-order-end}
+use Rattle.clk_ring.proofs.Histories.{Holds, accepted-append, gone-append, holds-more, held-is, in-order, stands-join, stands-after, in-order-begin, in-order-end}
 
 -- what the queue at the end of a history holds, and that this fits
 holds-now : (events : List QueueEvent) (q : Queue) → LeadsTo events q → Holds events q.packets × (length q.packets ≤ q.capacity)
@@ -106,14 +106,14 @@ TellsOffer kind capacity holding p Accepted = length holding < capacity
 TellsOffer kind capacity holding p (Refused q) = (kind ≡ TailDrop) × (length holding ≡ capacity) × (q ≡ p)
 TellsOffer kind capacity holding p (Evicted front) = (kind ≡ FrontDrop) × (length holding ≡ capacity) × (slice_get holding 0 ≡ Some front)
 
-tells-offer : (kind : Kind) (capacity : ℕ) (events : List QueueEvent) (p : Packet) (outcome : Offered) → NamesOffer p outcome → EachStands kind capacity events (offer_events p outcome)
-    → TellsOffer kind capacity (held events) p outcome
-tells-offer kind capacity events p Accepted names h =
+tells-offer : (kind : Kind) (capacity : ℕ) (events : List QueueEvent) (p : Packet) (outcome : Offered) (more : List QueueEvent) → NamesOffer p outcome
+    → EachStands kind capacity events (offer_events p outcome ++ more) → TellsOffer kind capacity (held events) p outcome
+tells-offer kind capacity events p Accepted after names h =
     let more = held-is (events ++ accept p ∷ []) (held events ++ p ∷ []) (holds-more events (accept p ∷ []) (held events) (held events ++ p ∷ []) h.0.order refl) in
-    let fits = h.3.fits in
+    let fits = (in-order-begin kind capacity (events ++ accept p ∷ []) after h.3).fits in
     omega (arith, ap length more, fits, length-append (held events) (p ∷ []))
-tells-offer kind capacity events p (Refused q) names h = (h.1.0, h.1.1, names)
-tells-offer kind capacity events p (Evicted front) names h = (h.1.0, h.1.1, front-was capacity events (evict front) front refl refl h.0 h.3.0)
+tells-offer kind capacity events p (Refused q) after names h = (h.1.0, h.1.1, names)
+tells-offer kind capacity events p (Evicted front) after names h = (h.1.0, h.1.1, front-was capacity events (evict front) front refl refl h.0 h.3.0)
 
 same-outcome : (kind : Kind) (capacity : ℕ) (holding : List Packet) (p : Packet) (one other : Offered) → TellsOffer kind capacity holding p one → TellsOffer kind capacity holding p other → one ≡ other
 same-outcome kind capacity holding p Accepted Accepted a b = refl
@@ -127,16 +127,18 @@ same-outcome kind capacity holding p (Evicted f) (Refused r) a b = let kinds : T
 same-outcome kind capacity holding p (Evicted f) (Evicted g) a b = let fronts : Some f ≡ Some g = sym a.2 ∙ b.2 in cc
 
 -- what an answer to a pull says of the queue
-tells-pull : (kind : Kind) (capacity : ℕ) (events : List QueueEvent) (got : Option Packet) → EachStands kind capacity events (pull_event got ∷ []) → slice_get (held events) 0 ≡ got
-tells-pull kind capacity events None h = ap (λ l. slice_get l 0) h.1
-tells-pull kind capacity events (Some p) h = front-was capacity events (give p) p refl refl h.0 h.3
+tells-pull : (kind : Kind) (capacity : ℕ) (events : List QueueEvent) (got : Option Packet) (more : List QueueEvent) → EachStands kind capacity events (pull_event got ∷ more)
+    → slice_get (held events) 0 ≡ got
+tells-pull kind capacity events None more h = ap (λ l. slice_get l 0) h.1
+tells-pull kind capacity events (Some p) more h = front-was capacity events (give p) p refl refl h.0 (in-order-begin kind capacity (events ++ give p ∷ []) more h.3)
 
 pub leaves-no_choice : LeavesNoChoice
 leaves-no_choice =
     record {
-      outcomes = λ kind capacity events p one other names named a b.
-          same-outcome kind capacity (held events) p one other (tells-offer kind capacity events p one names (stands-after kind capacity [] events (offer_events p one) a))
-          (tells-offer kind capacity events p other named (stands-after kind capacity [] events (offer_events p other) b));
-      answers = λ kind capacity events one other a b.
-          sym (tells-pull kind capacity events one (stands-after kind capacity [] events (pull_event one ∷ []) a)) ∙ tells-pull kind capacity events other (stands-after kind capacity [] events (pull_event other ∷ []) b);
+      outcomes = λ kind capacity events p one other more rest names named a b.
+          same-outcome kind capacity (held events) p one other (tells-offer kind capacity events p one more names (stands-after kind capacity [] events (offer_events p one ++ more) a))
+          (tells-offer kind capacity events p other rest named (stands-after kind capacity [] events (offer_events p other ++ rest) b));
+      answers = λ kind capacity events one other more rest a b.
+          sym (tells-pull kind capacity events one more (stands-after kind capacity [] events (pull_event one ∷ more) a))
+          ∙ tells-pull kind capacity events other rest (stands-after kind capacity [] events (pull_event other ∷ rest) b);
     }

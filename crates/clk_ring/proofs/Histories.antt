@@ -65,7 +65,11 @@ pub stands-after : (kind : Kind) (capacity : ℕ) (before after more : List Queu
 stands-after kind capacity before [] more h = rw append-nil h
 stands-after kind capacity before (event ∷ after) more h = rw append_assoc at (stands-after kind capacity (before ++ event ∷ []) after more h.3)
 
--- things are in order at the end of a history too
+-- things are in order at the beginning of a part of a history, and at its end
+pub in-order-begin : (kind : Kind) (capacity : ℕ) (before after : List QueueEvent) → EachStands kind capacity before after → IsInOrder capacity before
+in-order-begin kind capacity before [] h = h
+in-order-begin kind capacity before (event ∷ after) h = h.0
+
 pub in-order-end : (kind : Kind) (capacity : ℕ) (before after : List QueueEvent) → EachStands kind capacity before after → IsInOrder capacity (before ++ after)
 in-order-end kind capacity before [] h = rw append-nil h
 in-order-end kind capacity before (event ∷ after) h = rw append_assoc at (in-order-end kind capacity (before ++ event ∷ []) after h.3)

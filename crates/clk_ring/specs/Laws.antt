@@ -17,9 +17,10 @@ pub record CallsAreHistory : Type 0 where
   pub offered : (events : List QueueEvent) (old new : Queue) (p : Packet) (outcome : Offered) → LeadsTo events old → IsOffered old p outcome new → LeadsTo (events ++ offer_events p outcome) new
   pub pulled : (events : List QueueEvent) (old new : Queue) (got : Option Packet) → LeadsTo events old → IsPulled old got new → LeadsTo (events ++ pull_event got ∷ []) new
 
--- A history leaves nothing to choose: how an offer ends, and what a pull gives, follow from what happened before.
+-- A history leaves nothing to choose: how an offer ends, and what a pull gives, follow from what happened before, whatever
+-- happens after.
 pub record LeavesNoChoice : Type 0 where
-  pub outcomes : (kind : Kind) (capacity : ℕ) (events : List QueueEvent) (p : Packet) (one other : Offered) → NamesOffer p one → NamesOffer p other
-      → IsQueueHistory kind capacity (events ++ offer_events p one) → IsQueueHistory kind capacity (events ++ offer_events p other) → one ≡ other
-  pub answers : (kind : Kind) (capacity : ℕ) (events : List QueueEvent) (one other : Option Packet)
-      → IsQueueHistory kind capacity (events ++ pull_event one ∷ []) → IsQueueHistory kind capacity (events ++ pull_event other ∷ []) → one ≡ other
+  pub outcomes : (kind : Kind) (capacity : ℕ) (events : List QueueEvent) (p : Packet) (one other : Offered) (more rest : List QueueEvent) → NamesOffer p one → NamesOffer p other
+      → IsQueueHistory kind capacity (events ++ (offer_events p one ++ more)) → IsQueueHistory kind capacity (events ++ (offer_events p other ++ rest)) → one ≡ other
+  pub answers : (kind : Kind) (capacity : ℕ) (events : List QueueEvent) (one other : Option Packet) (more rest : List QueueEvent)
+      → IsQueueHistory kind capacity (events ++ pull_event one ∷ more) → IsQueueHistory kind capacity (events ++ pull_event other ∷ rest) → one ≡ other

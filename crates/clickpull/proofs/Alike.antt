@@ -1,0 +1,80 @@
+-- What two histories, or two lists of events, have in common after the same events.
+use Rattle.std.proofs.Common.{◌≡◌, ℕ, ◌+◌, ◌==◌, ◌≤◌, zero, suc, Bool, true, false, List, [], ◌∷◌, ◌++◌, length, drop, map, max, fold, filter, if◌then◌else◌, Option, Some, None, refl, sym, ap, ap₂, ◌∙◌, subst, arith}
+use Rattle.std.specs.List.{flat_map, filter_map, range_with_len}
+use Rattle.std.proofs.lemmas.List.{append_assoc, append-nil}
+use Rattle.std.proofs.Math.Bridge.{le_prop}
+use mathlib.Core.HLevel.{is_prop→PathP}
+use Rattle.clk_packet.specs.declared.packet.Packet.{Packet}
+use Rattle.clk_packet.specs.declared.packet.Kind.{Kind}
+use Rattle.clk_packet.specs.Limits.{most_length}
+use Rattle.clk_ring.specs.QueueHistory.{QueueEvent, IsQueueHistory, pull_event}
+use Rattle.clk_ring.specs.Laws.{LeavesNoChoice}
+use Rattle.clk_sched.specs.declared.visit.Visit.{Visit}
+use Rattle.clk_sched.specs.Log.{pulls, moment_of, counted}
+use Rattle.clk_sched.specs.Run.{IsRun}
+use Rattle.clk_sched.specs.Results.{asks_queue}
+use Rattle.clk_sched.specs.Tree.{Tree}
+
+-- two packets with the same number, sender and length
+pub packet-same : (p q : Packet) → p.number ≡ q.number → p.sender ≡ q.sender → p.length ≡ q.length → p ≡ q
+packet-same p q number sender size = λ i. record {
+  number = number i;
+  sender = sender i;
+  length = size i;
+  has_length = is_prop→PathP (λ j. 1 ≤ size j) (λ j. le_prop) p.has_length q.has_length i;
+  is_within = is_prop→PathP (λ j. size j ≤ most_length) (λ j. le_prop) p.is_within q.is_within i;
+}
+
+-- what a queue answered, one after another
+abbrev pub answers_of : Tree → ℕ → List Visit → List (Option Packet)
+answers_of tree q log = map (λ (v : Visit). v.got) (filter (asks_queue tree q) log)
+
+pub record GoAlike {X : Type 0} (xs ys : List X) : Type 0 where
+  pub left : List X
+  pub right : List X
+  pub same : xs ++ left ≡ ys ++ right
+
+-- After the same pulls, two pulls of runs at the same counted moment, in which each queue gave the same answers as far as it
+-- was asked in both, are the same.
+abbrev pub PullsLeaveNoChoice : Tree → Type 0
+PullsLeaveNoChoice tree =
+    (a b : List Visit) (earlier : List (List Visit)) (p q : List Visit) (more rest : List (List Visit)) → IsRun tree a → IsRun tree b → pulls a ≡ earlier ++ p ∷ more → pulls b ≡ earlier ++ q ∷ rest
+    → moment_of p ≡ moment_of q → ((n : ℕ) → GoAlike (answers_of tree n p) (answers_of tree n q)) → p ≡ q
+
+-- the same member before lists that go alike
+alike-more : {X : Type 0} (x y : X) (xs ys : List X) → x ≡ y → GoAlike xs ys → GoAlike (x ∷ xs) (y ∷ ys)
+alike-more x y xs ys e h = record { left = h.left; right = h.right; same = ap₂ (λ z zs. z ∷ zs) e h.same }
+
+-- after the same history, pulls of a queue are answered alike
+pub pulls-alike : LeavesNoChoice → (kind : Kind) (capacity : ℕ) (events : List QueueEvent) (xs ys : List (Option Packet)) (more rest : List QueueEvent)
+    → IsQueueHistory kind capacity (events ++ (map pull_event xs ++ more)) → IsQueueHistory kind capacity (events ++ (map pull_event ys ++ rest)) → GoAlike xs ys
+pulls-alike law kind capacity events [] ys more rest a b = record { left = ys; right = []; same = sym (append-nil ys) }
+pulls-alike law kind capacity events (x ∷ xs) [] more rest a b = record { left = []; right = x ∷ xs; same = append-nil (x ∷ xs) }
+pulls-alike law kind capacity events (x ∷ xs) (y ∷ ys) more rest a b =
+    let first : x ≡ y = law.answers kind capacity events x y (map pull_event xs ++ more) (map pull_event ys ++ rest) a b in
+    alike-more x y xs ys first
+    (pulls-alike law kind capacity (events ++ pull_event x ∷ []) xs ys more rest (rw append_assoc a)
+    (rw append_assoc (subst (λ z. IsQueueHistory kind capacity (events ++ pull_event z ∷ (map pull_event ys ++ rest))) (sym first) b)))
+
+-- the counted moment after so many pulls follows from the moments handed in
+pub moment-counted : (before : ℕ) (xs : List ℕ) (x : ℕ) (more ms : List ℕ) (m : ℕ) (rest : List ℕ) → length xs ≡ length ms → xs ++ x ∷ more ≡ counted before (ms ++ m ∷ rest)
+    → x ≡ max (fold max before ms) m
+moment-counted before [] x more [] m rest l e = ap (first 0) e
+  where
+    first : ℕ → List ℕ → ℕ
+    first d [] = d
+    first d (y ∷ ys) = y
+moment-counted before [] x more (n ∷ ms) m rest l e = absurd (omega arith)
+moment-counted before (y ∷ xs) x more [] m rest l e = absurd (omega arith)
+moment-counted before (y ∷ xs) x more (n ∷ ms) m rest l e = moment-counted (max before n) xs x more ms m rest (omega arith) (ap (drop 1) e)
+
+-- the number at a place of a range from 0
+pub number-at : (xs : List ℕ) (x : ℕ) (more : List ℕ) (from n : ℕ) → xs ++ x ∷ more ≡ range_with_len from n → x ≡ from + length xs
+number-at [] x more from zero e = absurd (omega (arith, ap length e))
+number-at [] x more from (suc n) e = ap (first 0) e ∙ omega arith
+  where
+    first : ℕ → List ℕ → ℕ
+    first d [] = d
+    first d (y ∷ ys) = y
+number-at (y ∷ xs) x more from zero e = absurd (omega (arith, ap length e))
+number-at (y ∷ xs) x more from (suc n) e = number-at xs x more (from + 1) n (ap (drop 1) e) ∙ omega arith
