@@ -6,3 +6,4 @@ pub mod Fields
 pub mod Router
 pub mod Bytes
 pub mod OneMeaning
+pub mod Examples

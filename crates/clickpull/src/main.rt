@@ -5,6 +5,7 @@ mod answer;
 mod bytes;
 mod faults;
 mod fields;
+mod laws;
 mod prio;
 mod router;
 mod run;
@@ -13,6 +14,7 @@ mod text;
 
 use clk_packet::{FromRead, ToWrite};
 pub use faults::fault_line;
+pub use laws::{script_examples, word_examples};
 pub use run::run_builtin;
 use std::io;
 use std::process::ExitCode;

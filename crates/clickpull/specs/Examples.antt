@@ -1,0 +1,56 @@
+-- Events that cannot happen, each but for one thing.
+use Rattle.std.specs.Prelude.{List, [], ◌∷◌, Some, None}
+use Rattle.std.proofs.Common.{lit≤}
+use Rattle.clk_packet.specs.declared.packet.Packet.{Packet}
+use Rattle.clk_packet.specs.declared.packet.Kind.TheVariants.{TailDrop}
+use Rattle.clk_packet.specs.declared.packet.Offered.TheVariants.{Accepted, Refused}
+use Rattle.clk_packet.specs.Packets.{packet}
+use Rattle.clk_sched.specs.Tree.{scheduler, shaper, leaf, end}
+use Rattle.clk_sched.specs.Log.{asking}
+use Rattle.clickpull.specs.Meaning.{Setup, Event, offered, pulled}
+
+abbrev p0_0 : Packet
+p0_0 = packet 0 0 100 (lit≤ tt) (lit≤ tt)
+
+abbrev p0_1 : Packet
+p0_1 = packet 0 1 100 (lit≤ tt) (lit≤ tt)
+
+abbrev p1_0 : Packet
+p1_0 = packet 1 0 50 (lit≤ tt) (lit≤ tt)
+
+-- a Queue of one packet below a Shaper of rate 1 and burst 1
+abbrev pub shaped : Setup
+shaped = record {
+  tree = scheduler (shaper 1 1) (leaf 0 end);
+  queues = record { kind = TailDrop; capacity = 1 } ∷ [];
+  senders = record { number = 0; queue = 0 } ∷ [];
+}
+
+-- Over `shaped`: a pull at moment 3 after one at moment 5 is counted at 3, and not at 5.
+abbrev pub moment_not_counted : List Event
+moment_not_counted =
+    pulled 5 (asking 0 5 1 0 None ∷ asking 0 5 0 0 None ∷ []) ∷ pulled 3 (asking 1 3 1 0 None ∷ asking 1 3 0 0 None ∷ []) ∷ []
+
+-- Over `shaped`: a pull at moment 3 is counted at 4.
+abbrev pub moment_ahead : List Event
+moment_ahead = pulled 3 (asking 0 4 1 0 None ∷ asking 0 4 0 0 None ∷ []) ∷ []
+
+-- Over the built-in router: the second queue is asked first.
+abbrev pub second_first : List Event
+second_first = offered p1_0 Accepted ∷ pulled 0 (asking 0 0 1 1 (Some p1_0) ∷ asking 0 0 0 0 (Some p1_0) ∷ []) ∷ []
+
+-- a sender's first packet has number 1
+abbrev pub number_left_out : List Event
+number_left_out = offered p0_1 Accepted ∷ []
+
+-- a sender's first packet is refused, though its queue is empty
+abbrev pub refused_early : List Event
+refused_early = offered p1_0 (Refused p1_0) ∷ []
+
+-- the second queue gives a packet that it never got
+abbrev pub never_sent : List Event
+never_sent = pulled 0 (asking 0 0 1 0 None ∷ asking 0 0 1 1 (Some p1_0) ∷ asking 0 0 0 0 (Some p1_0) ∷ []) ∷ []
+
+-- the third packet at a queue of two is refused, by the name of another
+abbrev pub other_refused : List Event
+other_refused = offered p0_0 Accepted ∷ offered p0_1 Accepted ∷ offered (packet 0 2 100 (lit≤ tt) (lit≤ tt)) (Refused p0_1) ∷ []

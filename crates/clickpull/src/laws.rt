@@ -1,0 +1,29 @@
+//! What the definitions of scripts say: each law is a function that does nothing and whose contract is the law.
+
+ghost use Rattle.std.specs.Prelude.{◌≡◌, [], ◌∷◌, Some, codes};
+ghost use Rattle.clk_packet.specs.declared.fault.Fault.TheVariants.{TooLarge};
+ghost use Rattle.clickpull.specs.Builtin.{builtin};
+ghost use Rattle.clickpull.specs.Bytes.{Takes, AppendsFront};
+ghost use Rattle.clickpull.specs.Meaning.{CanHappen, IsMeaning, Explains, sender_numbers};
+ghost use Rattle.clickpull.specs.Examples.{shaped, moment_not_counted, moment_ahead, second_first, number_left_out, refused_early, never_sent, other_refused};
+
+/// Which events cannot happen over the built-in router, or over a queue below a Shaper, and that a script with a fault has no
+/// meaning.
+pub fn script_examples()
+    ensures not_moment_not_counted { ¬ (CanHappen shaped moment_not_counted) }
+    ensures not_moment_ahead { ¬ (CanHappen shaped moment_ahead) }
+    ensures not_second_first { ¬ (CanHappen builtin second_first) }
+    ensures not_number_left_out { ¬ (CanHappen builtin number_left_out) }
+    ensures not_refused_early { ¬ (CanHappen builtin refused_early) }
+    ensures not_never_sent { ¬ (CanHappen builtin never_sent) }
+    ensures not_other_refused { ¬ (CanHappen builtin other_refused) }
+    ensures not_faulty { (text : _) → ¬ (IsMeaning builtin (codes "pull\n") text) }
+{}
+
+/// What the words of `run_builtin`'s contract don't let through: more bytes read than the limit, bytes written that are no
+/// front of the text, and a fault of another script.
+pub fn word_examples()
+    ensures not_taken { ¬ (Takes 1 (Some (65 ∷ 66 ∷ [])) (Some [])) }
+    ensures not_front { ¬ (AppendsFront (Some []) (Some (66 ∷ [])) (65 ∷ 66 ∷ [])) }
+    ensures not_too_large { ¬ (Explains (sender_numbers builtin) (Some (codes "pull 0\n")) TooLarge) }
+{}
