@@ -1,32 +1,22 @@
--- A run leaves nothing to choose: two runs with the same answers and moments are the same log.
-use Rattle.std.proofs.Common.{◌≡◌, ℕ, suc, ◌+◌, ◌<◌, ◌≤◌, ◌==◌, ◌&&◌, if◌then◌else◌, cond, Bool, true, false, List, [], ◌∷◌, ◌++◌, length, map, filter, drop, Option, None, is_some, refl, sym, ap, ap₂, ◌∙◌, subst, arith}
+-- A run leaves nothing to choose: two runs at the same moments, in which each queue answers alike, are the same log.
+use Rattle.std.proofs.Common.{◌≡◌, ℕ, suc, ◌+◌, ◌<◌, ◌≤◌, ◌==◌, ◌&&◌, if◌then◌else◌, cond, Bool, true, false, List, [], ◌∷◌, ◌++◌, length, map, filter, drop, refl, sym, ap, ap₂, ◌∙◌, subst, arith}
 use Rattle.std.specs.List.{flat_map, AllByRecursion}
-use Rattle.std.proofs.lemmas.Bool.{false≢true}
 use Rattle.std.proofs.lemmas.Bool.Decides.{nat_tests}
-use Rattle.std.proofs.lemmas.List.{append-nil}
-use Rattle.clk_packet.specs.declared.packet.Packet.{Packet}
 use Rattle.clk_sched.specs.declared.visit.Visit.{Visit}
-use Rattle.clk_sched.specs.Tree.{Class, Row, end, leaf, node, Tree, queue, scheduler, root, nodes, width, queue_at}
+use Rattle.clk_sched.specs.Tree.{Class, Row, end, leaf, node, Tree, queue, scheduler, root, nodes, width, queue_at, is_number}
 use Rattle.clk_sched.specs.Turns.{EachAfter}
 use Rattle.clk_sched.specs.Laws.{manner}
 use Rattle.clk_sched.specs.Laws.Device.{IsDeviceTurn}
 use Rattle.clk_sched.specs.Log.{visits_of, pulls, block_at, block, moment_of, HasOneMoment, turn, asks, pulls_below, result_of}
 use Rattle.clk_sched.specs.Run.{GetsResult, IsRun}
-use Rattle.clk_sched.specs.Choice.{is_answer, answers, LeavesNoChoice}
+use Rattle.clk_sched.specs.Choice.{answers_of, LeavesNoChoice}
 use Rattle.clk_sched.proofs.Members.{In, of-all, in-filter, filter-in, any-in, each-from_all, each-weaker, each-both, each-mapped}
-use Rattle.clk_sched.proofs.Numbering.{StandsAt, stands-root, stands-after_leaf, stands-after_node, stands-inputs, at-leaf, at-node}
+use Rattle.clk_sched.proofs.Numbering.{StandsAt, stands-root, stands-after_leaf, stands-after_node, stands-inputs, at-leaf}
 use Rattle.clk_sched.specs.Step.{EachAllows}
 use Rattle.clk_sched.proofs.Allowed.{AreWithin, each-allowed, device-visit}
 use Rattle.clk_sched.proofs.PullByPull.{asked, IsNumbered, each-numbered}
-use Rattle.clk_sched.proofs.SameTurns.{Sides, Reads, reads-append, GetAlike, plain-same, turn-same}
+use Rattle.clk_sched.proofs.SameTurns.{AnswerAlike, begin-alike, go_on-alike, Sides, AreLike, GetAlike, plain-same, turn-same}
 use Rattle.clk_sched.proofs.Numbers.{equal}
-
--- what a visit adds to the answers
-answers-one : (tree : Tree) (v : Visit) → is_answer tree v ≡ true → answers tree (v ∷ []) ≡ v.got ∷ []
-answers-one tree v e = ap (λ b. map (λ (u : Visit). u.got) (cond b (v ∷ []) [])) e
-
-answers-none : (tree : Tree) (v : Visit) → is_answer tree v ≡ false → answers tree (v ∷ []) ≡ []
-answers-none tree v e = ap (λ b. map (λ (u : Visit). u.got) (cond b (v ∷ []) [])) e
 
 -- two pulls with the same number and the same moment
 record ArePaired (p q : List Visit) : Type 0 where
@@ -40,9 +30,9 @@ record ArePaired (p q : List Visit) : Type 0 where
 node-of : (x : ℕ) (pull : List Visit) (v : Visit) → In v (visits_of x pull) → In v pull × (v.node ≡ x)
 node-of x pull v m = let both = in-filter (λ (u : Visit). u.node == x) v pull m in (both.0, let e = both.1 in grind (arith, nat_tests))
 
-same-visit : (p q : List Visit) (x : ℕ) (v u : Visit) → ArePaired p q → In v (visits_of x p) → In u (visits_of x q) → v.input ≡ u.input → v.fresh ≡ u.fresh → v.got ≡ u.got → v.passed ≡ u.passed → v ≡ u
-same-visit p q x v u pair mv mu input fresh got passed =
-    λ i. record { pull = number i; moment = moment i; got = got i; node = at_node i; input = input i; fresh = fresh i; passed = passed i }
+same-visit : (p q : List Visit) (x : ℕ) (v u : Visit) → ArePaired p q → In v (visits_of x p) → In u (visits_of x q) → AreLike v u → v.got ≡ u.got → v ≡ u
+same-visit p q x v u pair mv mu like got =
+    λ i. record { pull = number i; moment = moment i; got = got i; node = at_node i; input = like.input i; fresh = like.fresh i; passed = like.passed got i }
   where
     number : v.pull ≡ u.pull
     number = of-all (λ (w : Visit). w.pull ≡ pair.number) v p pair.one (node-of x p v mv).0 ∙ sym (of-all (λ (w : Visit). w.pull ≡ pair.number) u q pair.other (node-of x q u mu).0)
@@ -55,84 +45,61 @@ same-visit p q x v u pair mv mu input fresh got passed =
     at_node : v.node ≡ u.node
     at_node = (node-of x p v mv).1 ∙ sym (node-of x q u mu).1
 
--- what was asked at an input was the same, and so is what was got, and what is left of the answers
-record IsSameAnswer (p q : List Visit) (first next : ℕ) (row : Row) (i : ℕ) (v u : Visit) (s r : List (Option Packet)) : Type 0 where
-  block : block_at p first next row i ≡ block_at q first next row i
-  got : v.got ≡ u.got
-  left : s ≡ r
-
--- two visits of node `above` that ask at one of the inputs of a row get the same where the answers are the same
+-- two visits of node `above` that ask at one of the inputs of a row get the same where the answers are alike, and what they asked
+-- did the same
 abbrev AskAlike : Tree → (p q : List Visit) (above first next : ℕ) → Row → Type 0
 AskAlike tree p q above first next row =
     (i : ℕ) (v u : Visit) → In v (visits_of above p) → In u (visits_of above q) → v.input ≡ i → u.input ≡ i → first ≤ i → i < first + width row → v.fresh ≡ true → u.fresh ≡ true
-    → (s r : List (Option Packet)) → Reads tree (block_at p first next row i ++ v ∷ []) (block_at q first next row i ++ u ∷ []) s r → IsSameAnswer p q first next row i v u s r
+    → AnswerAlike tree (block_at p first next row i ++ v ∷ []) (block_at q first next row i ++ u ∷ []) → (block_at p first next row i ≡ block_at q first next row i) × (v.got ≡ u.got)
 
 abbrev sides : Tree → (p q : List Visit) → ℕ → Row → Sides
 sides tree p q next row = record { tree = tree; one = asked p next row; other = asked q next row }
 
--- visits of a node are alike where those that ask get the same
-get-alike : (tree : Tree) (p q : List Visit) (x : ℕ) (inputs : Row) → ArePaired p q → AskAlike tree p q x 0 (suc x) inputs
-    → GetAlike (sides tree p q (suc x) inputs) (visits_of x p) (visits_of x q) (width inputs)
-get-alike tree p q x inputs pair ask v u mv mu input below fresh held passed s r e =
-    let parts = by_fresh v.fresh u.fresh refl refl e in record { visit = parts.0; part = parts.1; left = parts.2 }
+-- visits of a node get alike where those that ask do
+get-alike : (tree : Tree) (p q : List Visit) (x : ℕ) (inputs : Row) → ArePaired p q → AreWithin (width inputs) (visits_of x p) → AskAlike tree p q x 0 (suc x) inputs
+    → GetAlike (sides tree p q (suc x) inputs) (visits_of x p) (visits_of x q)
+get-alike tree p q x inputs pair within ask v u mv mu like e =
+    subst (λ m. AnswerAlike tree (part p v.fresh v) (part q m u) → (v ≡ u) × (part p v.fresh v ≡ part q m u)) like.fresh (by_fresh v.fresh refl) e
   where
     part : List Visit → Bool → Visit → List Visit
     part pull b w = (if b then block_at pull 0 (suc x) inputs w.input else []) ++ w ∷ []
 
-    by_fresh : (m n : Bool) → v.fresh ≡ m → u.fresh ≡ n → Reads tree (part p m v) (part q n u) s r → (v ≡ u) × (part p m v ≡ part q n u) × (s ≡ r)
-    by_fresh true false f g h = absurd (false≢true (sym g ∙ sym fresh ∙ f))
-    by_fresh false true f g h = absurd (false≢true (sym f ∙ fresh ∙ g))
-    by_fresh false false f g h =
-        let visit = same-visit p q x v u pair mv mu input fresh (held f) (passed (held f)) in (
-          visit,
-          ap (λ w. w ∷ []) visit,
-          ap (λ l. l ++ s) (sym (answers-none tree v (ap (λ b. b && is_some (queue_at tree v.node v.input)) f))) ∙ h
-              ∙ ap (λ l. l ++ r) (answers-none tree u (ap (λ b. b && is_some (queue_at tree u.node u.input)) g)),
-        )
-    by_fresh true true f g h =
-        let same = ask v.input v u mv mu refl (sym input) (omega arith) (omega arith) f g s r (subst (λ i. Reads tree (part p true v) (block_at q 0 (suc x) inputs i ++ u ∷ []) s r) (sym input) h) in
-        let visit = same-visit p q x v u pair mv mu input fresh same.got (passed same.got) in (
-          visit,
-          ap₂ (λ b w. b ++ w ∷ []) same.block visit ∙ ap (λ i. block_at q 0 (suc x) inputs i ++ u ∷ []) input,
-          same.left,
-        )
-
-abbrev first_of : List (Option Packet) → Option Packet
-first_of [] = None
-first_of (o ∷ os) = o
+    by_fresh : (m : Bool) → v.fresh ≡ m → AnswerAlike tree (part p m v) (part q m u) → (v ≡ u) × (part p m v ≡ part q m u)
+    by_fresh false f h = let visit = same-visit p q x v u pair mv mu like (like.held f) in (visit, ap (λ w. w ∷ []) visit)
+    by_fresh true f h =
+        let below = of-all (λ (w : Visit). w.input < width inputs) v (visits_of x p) within mv in
+        let same = ask v.input v u mv mu refl (sym like.input) (omega arith) (omega arith) f (sym like.fresh ∙ f) (subst (λ i. AnswerAlike tree (part p true v) (block_at q 0 (suc x) inputs i ++ u ∷ [])) (sym like.input) h) in
+        let visit = same-visit p q x v u pair mv mu like same.1 in (visit, ap₂ (λ b w. b ++ w ∷ []) same.0 visit ∙ ap (λ i. block_at q 0 (suc x) inputs i ++ u ∷ []) like.input)
 
 leaf-alike : (tree : Tree) (p q : List Visit) (above first next k : ℕ) (row : Row) → StandsAt tree above first next (leaf k row) → AskAlike tree p q above (suc first) next row
     → AskAlike tree p q above first next (leaf k row)
-leaf-alike tree p q above first next k row stands rest i v u mv mu iv iu l h fv fu s r e =
-    let parts = by_test (first == i) refl e in record { block = parts.0; got = parts.1; left = parts.2 }
+leaf-alike tree p q above first next k row stands rest i v u mv mu iv iu l h fv fu e = by_test (first == i) refl e
   where
     part : List Visit → Bool → List Visit
     part pull b = if b then [] else block_at pull (suc first) next row i
 
-    answer : (w : Visit) → w.node ≡ above → w.input ≡ first → w.fresh ≡ true → is_answer tree w ≡ true
-    answer w a f g = ap₂ (λ b o. b && is_some o) g (ap₂ (queue_at tree) a f ∙ at-leaf tree above first next k row stands)
+    -- what a visit adds to the answers of the queue
+    answer : (w : Visit) → w.node ≡ above → w.input ≡ first → w.fresh ≡ true → answers_of tree k (w ∷ []) ≡ w.got ∷ []
+    answer w n j f =
+        ap (λ b. map (λ (z : Visit). z.got) (cond b (w ∷ []) []))
+        (ap₂ (λ b o. b && is_number k o) f (ap₂ (queue_at tree) n j ∙ at-leaf tree above first next k row stands) ∙ equal k k refl)
 
-    by_test : (b : Bool) → (first == i) ≡ b → Reads tree (part p b ++ v ∷ []) (part q b ++ u ∷ []) s r → (part p b ≡ part q b) × (v.got ≡ u.got) × (s ≡ r)
+    by_test : (b : Bool) → (first == i) ≡ b → AnswerAlike tree (part p b ++ v ∷ []) (part q b ++ u ∷ []) → (part p b ≡ part q b) × (v.got ≡ u.got)
     by_test true t c =
         let here : i ≡ first = grind (arith, nat_tests) in
-        let one = answers-one tree v (answer v (node-of above p v mv).1 (iv ∙ here) fv) in
-        let other = answers-one tree u (answer u (node-of above q u mu).1 (iu ∙ here) fu) in
-        let both : v.got ∷ s ≡ u.got ∷ r = ap (λ os. os ++ s) (sym one) ∙ c ∙ ap (λ os. os ++ r) other in
-        (refl, ap first_of both, ap (drop 1) both)
-    by_test false t c = let same = rest i v u mv mu iv iu (grind (arith, nat_tests)) (omega arith) fv fu s r c in (same.block, same.got, same.left)
+        let both : v.got ∷ (c k).left ≡ u.got ∷ (c k).right =
+        ap (λ os. os ++ (c k).left) (sym (answer v (node-of above p v mv).1 (iv ∙ here) fv)) ∙ (c k).same ∙ ap (λ os. os ++ (c k).right) (answer u (node-of above q u mu).1 (iu ∙ here) fu) in
+        (refl, cc)
+    by_test false t c = rest i v u mv mu iv iu (grind (arith, nat_tests)) (omega arith) fv fu c
 
-node-alike : (tree : Tree) (p q : List Visit) → ArePaired p q → (earlier : List (List Visit)) (above first next : ℕ) (class : Class) (inputs row : Row) → StandsAt tree above first next (node class inputs row)
+node-alike : (tree : Tree) (p q : List Visit) → ArePaired p q → (earlier : List (List Visit)) (above first next : ℕ) (class : Class) (inputs row : Row)
     → EachAllows above first next (node class inputs row) earlier p → EachAllows above first next (node class inputs row) earlier q
     → (EachAllows next 0 (suc next) inputs (pulls_below above first earlier) p → EachAllows next 0 (suc next) inputs (pulls_below above first earlier) q → AskAlike tree p q next 0 (suc next) inputs)
     → AskAlike tree p q above (suc first) (suc (next + nodes inputs)) row → AskAlike tree p q above first next (node class inputs row)
-node-alike tree p q pair earlier above first next class inputs row stands a b below rest i v u mv mu iv iu l h fv fu s r e =
-    let parts = by_test (first == i) refl e in record { block = parts.0; got = parts.1; left = parts.2 }
+node-alike tree p q pair earlier above first next class inputs row a b below rest i v u mv mu iv iu l h fv fu e = by_test (first == i) refl e
   where
     part : List Visit → Bool → List Visit
     part pull t = if t then flat_map (asked pull (suc next) inputs) (visits_of next pull) else block_at pull (suc first) (suc (next + nodes inputs)) row i
-
-    no_answer : (w : Visit) → w.node ≡ above → w.input ≡ first → w.fresh ≡ true → answers tree (w ∷ []) ≡ []
-    no_answer w n f g = answers-none tree w (ap₂ (λ t o. t && is_some o) g (ap₂ (queue_at tree) n f ∙ at-node tree above first next class inputs row stands))
 
     asks_here : (w : Visit) → w.input ≡ first → w.fresh ≡ true → asks first w ≡ true
     asks_here w f g = ap₂ (λ t m. t && (m == first)) g f ∙ equal first first refl
@@ -140,21 +107,17 @@ node-alike tree p q pair earlier above first next class inputs row stands a b be
     got_result : (pull : List Visit) (w : Visit) → GetsResult above first next pull → In w (visits_of above pull) → asks first w ≡ true → w.got ≡ result_of (visits_of next pull)
     got_result pull w g m k = of-all (λ (x : Visit). x.got ≡ result_of (visits_of next pull)) w (filter (asks first) (visits_of above pull)) g (filter-in (asks first) w (visits_of above pull) k m)
 
-    by_test : (t : Bool) → (first == i) ≡ t → Reads tree (part p t ++ v ∷ []) (part q t ++ u ∷ []) s r → (part p t ≡ part q t) × (v.got ≡ u.got) × (s ≡ r)
+    by_test : (t : Bool) → (first == i) ≡ t → AnswerAlike tree (part p t ++ v ∷ []) (part q t ++ u ∷ []) → (part p t ≡ part q t) × (v.got ≡ u.got)
     by_test true t c =
         let here : i ≡ first = grind (arith, nat_tests) in
         let asks_v = asks_here v (iv ∙ here) fv in
         let asks_u = asks_here u (iu ∙ here) fu in
         let one = a.0 (any-in (asks first) v (visits_of above p) asks_v mv) in
         let other = b.0 (any-in (asks first) u (visits_of above q) asks_u mu) in
-        let same = turn-same (sides tree p q (suc next) inputs) (manner class (width inputs)) (width inputs) (map (turn next) (pulls_below above first earlier)) (turn next p) (turn next q) one.0.within one.0.follows other.0.follows pair.moment
-        (get-alike tree p q next inputs pair (below one.1 other.1)) _ _ (reads-append tree (part p true) (v ∷ []) (part q true) (u ∷ []) s r c)
-        in (
-          same.parts,
-          got_result p v a.1 mv asks_v ∙ ap result_of same.visits ∙ sym (got_result q u b.1 mu asks_u),
-          ap (λ os. os ++ s) (sym (no_answer v (node-of above p v mv).1 (iv ∙ here) fv)) ∙ same.left ∙ ap (λ os. os ++ r) (no_answer u (node-of above q u mu).1 (iu ∙ here) fu),
-        )
-    by_test false t c = let same = rest i v u mv mu iv iu (grind (arith, nat_tests)) (omega arith) fv fu s r c in (same.block, same.got, same.left)
+        let same = turn-same (sides tree p q (suc next) inputs) (manner class (width inputs)) (width inputs) (map (turn next) (pulls_below above first earlier)) (turn next p) (turn next q)
+        (get-alike tree p q next inputs pair one.0.within (below one.1 other.1)) one.0.follows other.0.follows pair.moment (begin-alike tree (part p true) (v ∷ []) (part q true) (u ∷ []) c)
+        in (same.parts, got_result p v a.1 mv asks_v ∙ ap result_of same.visits ∙ sym (got_result q u b.1 mu asks_u))
+    by_test false t c = rest i v u mv mu iv iu (grind (arith, nat_tests)) (omega arith) fv fu c
 
 ask-alike : (tree : Tree) (p q : List Visit) → ArePaired p q → (row : Row) (earlier : List (List Visit)) (above first next : ℕ) → StandsAt tree above first next row
     → EachAllows above first next row earlier p → EachAllows above first next row earlier q → AskAlike tree p q above first next row
@@ -162,7 +125,7 @@ ask-alike tree p q pair end earlier above first next stands a b = λ i v u mv mu
 ask-alike tree p q pair (leaf k row) earlier above first next stands a b =
     leaf-alike tree p q above first next k row stands (ask-alike tree p q pair row earlier above (suc first) next (stands-after_leaf tree above first next k row stands) a b)
 ask-alike tree p q pair (node class inputs row) earlier above first next stands a b =
-    node-alike tree p q pair earlier above first next class inputs row stands a b
+    node-alike tree p q pair earlier above first next class inputs row a b
     (λ c d. ask-alike tree p q pair inputs (pulls_below above first earlier) next 0 (suc next) (stands-inputs tree above first next class inputs row stands) c d)
     (ask-alike tree p q pair row earlier above (suc first) (suc (next + nodes inputs)) (stands-after_node tree above first next class inputs row stands) a.2 b.2)
 
@@ -183,8 +146,8 @@ root-width (queue k) = refl
 root-width (scheduler class inputs) = refl
 
 pull-same : (tree : Tree) (earlier : List (List Visit)) (p q : List Visit) → IsPullOfRun tree earlier p → IsPullOfRun tree earlier q → moment_of p ≡ moment_of q
-    → (s r : List (Option Packet)) → Reads tree (block tree p) (block tree q) s r → (p ≡ q) × (s ≡ r)
-pull-same tree earlier p q a b moment s r e =
+    → AnswerAlike tree (block tree p) (block tree q) → p ≡ q
+pull-same tree earlier p q a b moment e =
     let pair : ArePaired p q =
     record {
       number = length earlier;
@@ -195,31 +158,27 @@ pull-same tree earlier p q a b moment s r e =
       moment = moment;
     }
     in
-    let same = plain-same (sides tree p q 1 (root tree)) (visits_of 0 p) (visits_of 0 q) (width (root tree))
-    (get-alike tree p q 0 (root tree) pair (ask-alike tree p q pair (root tree) earlier 0 0 1 (stands-root tree) a.below b.below)) (0 ∷ []) (visits_of 0 p) (visits_of 0 q)
-    within (λ v m. m) (λ v m. m) a.device b.device s r e
-    in
-    (a.numbered.whole ∙ same.parts ∙ sym b.numbered.whole, same.left)
+    let alike = get-alike tree p q 0 (root tree) pair within (ask-alike tree p q pair (root tree) earlier 0 0 1 (stands-root tree) a.below b.below) in
+    let same = plain-same (sides tree p q 1 (root tree)) (0 ∷ []) (visits_of 0 p) (visits_of 0 q) alike a.device b.device e in
+    a.numbered.whole ∙ same.parts ∙ sym b.numbered.whole
   where
     within : AreWithin (width (root tree)) (visits_of 0 p)
     within = let one = device-visit (visits_of 0 p) a.device in subst (AreWithin (width (root tree))) (sym one.only) (omega (arith, root-width tree, one.input), tt)
 
-abbrev moment_first : List ℕ → ℕ
-moment_first [] = 0
-moment_first (m ∷ ms) = m
-
 pulls-same : (tree : Tree) (earlier ps qs : List (List Visit)) → EachAfter (IsPullOfRun tree) earlier ps → EachAfter (IsPullOfRun tree) earlier qs → map moment_of ps ≡ map moment_of qs
-    → Reads tree (flat_map (block tree) ps) (flat_map (block tree) qs) [] [] → ps ≡ qs
+    → AnswerAlike tree (flat_map (block tree) ps) (flat_map (block tree) qs) → ps ≡ qs
 pulls-same tree earlier [] [] a b m e = refl
 pulls-same tree earlier [] (q ∷ qs) a b m e = absurd (omega (arith, ap length m))
 pulls-same tree earlier (p ∷ ps) [] a b m e = absurd (omega (arith, ap length m))
 pulls-same tree earlier (p ∷ ps) (q ∷ qs) a b m e =
-    let same = pull-same tree earlier p q a.0 b.0 (ap moment_first m) _ _ (reads-append tree (block tree p) (flat_map (block tree) ps) (block tree q) (flat_map (block tree) qs) [] [] e) in
-    ap₂ (λ x xs. x ∷ xs) same.0 (pulls-same tree (p ∷ earlier) ps qs a.1 (subst (λ x. EachAfter (IsPullOfRun tree) (x ∷ earlier) qs) (sym same.0) b.1) (ap (drop 1) m) same.1)
+    let same = pull-same tree earlier p q a.0 b.0 (cc) (begin-alike tree (block tree p) (flat_map (block tree) ps) (block tree q) (flat_map (block tree) qs) e) in
+    ap₂ (λ x xs. x ∷ xs) same
+    (pulls-same tree (p ∷ earlier) ps qs a.1 (subst (λ x. EachAfter (IsPullOfRun tree) (x ∷ earlier) qs) (sym same) b.1) (ap (drop 1) m)
+    (go_on-alike tree (block tree p) (flat_map (block tree) ps) (block tree q) (flat_map (block tree) qs) (ap (block tree) same) e))
 
 pub leaves-no_choice : (tree : Tree) → LeavesNoChoice tree
 leaves-no_choice tree a b one other m e =
     one.shape.blocks
     ∙ ap (flat_map (block tree)) (pulls-same tree [] (pulls a) (pulls b) (pulls-of_run tree a one) (pulls-of_run tree b other) m
-    (append-nil _ ∙ ap (answers tree) (sym one.shape.blocks) ∙ e ∙ ap (answers tree) other.shape.blocks ∙ sym (append-nil _)))
+    (subst (λ log. AnswerAlike tree log (flat_map (block tree) (pulls b))) one.shape.blocks (subst (AnswerAlike tree a) other.shape.blocks e)))
     ∙ sym other.shape.blocks

@@ -1,20 +1,25 @@
--- What a run leaves to choose: nothing but what the queues answer, and the moments.
-use Rattle.std.specs.Prelude.{◌≡◌, ◌&&◌, Bool, List, map, filter, Option, is_some}
+-- What a run leaves to choose: nothing but what each queue answers, and the moments.
+use Rattle.std.specs.Prelude.{◌≡◌, ℕ, List, ◌++◌, map, filter, Option}
 use Rattle.clk_packet.specs.declared.packet.Packet.{Packet}
 use Rattle.clk_sched.specs.declared.visit.Visit.{Visit}
-use Rattle.clk_sched.specs.Tree.{Tree, queue_at}
+use Rattle.clk_sched.specs.Tree.{Tree}
 use Rattle.clk_sched.specs.Log.{pulls, moment_of}
 use Rattle.clk_sched.specs.Run.{IsRun}
+use Rattle.clk_sched.specs.Results.{asks_queue}
 
--- whether what a visit got is a queue's answer: it asked, and a queue stands at its input
-abbrev pub is_answer : Tree → Visit → Bool
-is_answer tree v = v.fresh && is_some (queue_at tree v.node v.input)
+-- what a queue answered, one after another
+abbrev pub answers_of : Tree → ℕ → List Visit → List (Option Packet)
+answers_of tree q log = map (λ (v : Visit). v.got) (filter (asks_queue tree q) log)
 
--- what the queues answered, one after another
-abbrev pub answers : Tree → List Visit → List (Option Packet)
-answers tree log = map (λ (v : Visit). v.got) (filter (is_answer tree) log)
+-- Two lists are the same as far as the shorter one goes: with some list put after each, they are the same.
+pub record GoAlike {X : Type 0} (xs ys : List X) : Type 0 where
+  pub left : List X
+  pub right : List X
+  pub same : xs ++ left ≡ ys ++ right
 
--- Two runs of a tree with pulls at the same counted moments, in which the queues gave the same answers, are the same log.
+-- Two runs of a tree with pulls at the same counted moments, in which each queue gave the same answers as far as it was asked in
+-- both, are the same log.
 abbrev pub LeavesNoChoice : Tree → Type 0
 LeavesNoChoice tree =
-    (a b : List Visit) → IsRun tree a → IsRun tree b → map moment_of (pulls a) ≡ map moment_of (pulls b) → answers tree a ≡ answers tree b → a ≡ b
+    (a b : List Visit) → IsRun tree a → IsRun tree b → map moment_of (pulls a) ≡ map moment_of (pulls b)
+    → ((q : ℕ) → GoAlike (answers_of tree q a) (answers_of tree q b)) → a ≡ b

@@ -1,11 +1,13 @@
 //! What the definitions say: each law is a function that does nothing and whose contract is the law.
 
-ghost use Rattle.std.specs.Prelude.{◌≡◌, List, [], ◌∷◌, map, Some};
-ghost use Rattle.clk_sched.specs.Tree.{root};
+ghost use Rattle.std.specs.Prelude.{◌≡◌, true, List, [], ◌∷◌, map, Some};
+ghost use Rattle.clk_sched.specs.Tree.{root, leaves_distinct};
 ghost use Rattle.clk_sched.specs.Run.{IsRun};
 ghost use Rattle.clk_sched.specs.Step.{GoesOn};
 ghost use Rattle.clk_sched.specs.Results.{Traced, emitted, heads, leaf_packets, traced_heads};
-ghost use Rattle.clk_sched.specs.Conservation.{IsConserved};
+ghost use Rattle.clk_sched.specs.Choice.{LeavesNoChoice};
+ghost use Rattle.clk_sched.specs.Conservation.{IsConserved, ConservesPackets, MakesNothing};
+ghost use Rattle.clk_sched.specs.Service.{SharesOut};
 ghost use Rattle.clk_sched.specs.Bound.{closing_bound};
 ghost use Rattle.clk_sched.specs.Examples.{names, first_pulls};
 ghost use Rattle.clk_sched.specs.Examples.Device.{one_queue, one_queue_tree, device_keeps, device_asks_beside, moment_falls};
@@ -18,6 +20,24 @@ ghost use Rattle.clk_sched.specs.Examples.Shaper.{burst_of_two, late_burst, belo
 /// How a run of a tree begins, and goes on by one pull.
 pub fn runs_go_on()
     ensures { (tree : _) → GoesOn tree }
+{}
+
+/// A run of a tree leaves nothing to choose but what each queue answers and the moments of the pulls.
+pub fn runs_leave_no_choice()
+    ensures { (tree : _) → LeavesNoChoice tree }
+{}
+
+/// Each run of a tree conserves the packets of each queue, where no queue stands twice in the tree: what the queue gave is what
+/// was emitted of it, in order, and then what is held of it. In any tree, each packet that is emitted or held is among those
+/// that one of its queues gave.
+pub fn runs_conserve_packets()
+    ensures loses_nothing { (tree : _) → leaves_distinct tree ≡ true → ConservesPackets tree }
+    ensures makes_nothing { (tree : _) → MakesNothing tree }
+{}
+
+/// In each run of a tree each DRRSched and each StrideSched gives the shares that its quanta or its tickets say, within bounds.
+pub fn runs_share_out()
+    ensures { (tree : _) → SharesOut tree }
 {}
 
 /// Which logs of a worked example of the device are runs.

@@ -1,9 +1,9 @@
 use Rattle.clk_sched.proofs.Conserved.{conserves-packets}
 use Rattle.clk_sched.proofs.CameFrom.{makes-nothing}
-use Rattle.clk_sched.proofs.tree.Tree.conserves_packets.Goals as goal
+use Rattle.clk_sched.proofs.laws.runs_conserve_packets.Goals as goal
 
 pub returns-clause-loses_nothing : goal.returns-clause-loses_nothing
-returns-clause-loses_nothing c = conserves-packets c.args.self.now
+returns-clause-loses_nothing c = conserves-packets
 
 pub returns-clause-makes_nothing : goal.returns-clause-makes_nothing
-returns-clause-makes_nothing c = makes-nothing c.args.self.now
+returns-clause-makes_nothing c = makes-nothing

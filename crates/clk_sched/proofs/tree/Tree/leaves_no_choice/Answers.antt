@@ -1,5 +1,0 @@
-use Rattle.clk_sched.proofs.NoChoice.{leaves-no_choice}
-use Rattle.clk_sched.proofs.tree.Tree.leaves_no_choice.Goals as goal
-
-pub returns : goal.returns
-returns c = leaves-no_choice c.args.self.now
