@@ -9,11 +9,8 @@ use Rattle.clk_packet.specs.declared.packet.Kind.{Kind}
 use Rattle.clk_packet.specs.Limits.{most_length}
 use Rattle.clk_ring.specs.QueueHistory.{QueueEvent, IsQueueHistory, pull_event}
 use Rattle.clk_ring.specs.Laws.{LeavesNoChoice}
-use Rattle.clk_sched.specs.declared.visit.Visit.{Visit}
-use Rattle.clk_sched.specs.Log.{pulls, moment_of, counted}
-use Rattle.clk_sched.specs.Run.{IsRun}
-use Rattle.clk_sched.specs.Results.{asks_queue}
-use Rattle.clk_sched.specs.Tree.{Tree}
+use Rattle.clk_sched.specs.Log.{counted}
+use Rattle.clk_sched.specs.Choice.{GoAlike}
 
 -- two packets with the same number, sender and length
 pub packet-same : (p q : Packet) → p.number ≡ q.number → p.sender ≡ q.sender → p.length ≡ q.length → p ≡ q
@@ -24,22 +21,6 @@ packet-same p q number sender size = λ i. record {
   has_length = is_prop→PathP (λ j. 1 ≤ size j) (λ j. le_prop) p.has_length q.has_length i;
   is_within = is_prop→PathP (λ j. size j ≤ most_length) (λ j. le_prop) p.is_within q.is_within i;
 }
-
--- what a queue answered, one after another
-abbrev pub answers_of : Tree → ℕ → List Visit → List (Option Packet)
-answers_of tree q log = map (λ (v : Visit). v.got) (filter (asks_queue tree q) log)
-
-pub record GoAlike {X : Type 0} (xs ys : List X) : Type 0 where
-  pub left : List X
-  pub right : List X
-  pub same : xs ++ left ≡ ys ++ right
-
--- After the same pulls, two pulls of runs at the same counted moment, in which each queue gave the same answers as far as it
--- was asked in both, are the same.
-abbrev pub PullsLeaveNoChoice : Tree → Type 0
-PullsLeaveNoChoice tree =
-    (a b : List Visit) (earlier : List (List Visit)) (p q : List Visit) (more rest : List (List Visit)) → IsRun tree a → IsRun tree b → pulls a ≡ earlier ++ p ∷ more → pulls b ≡ earlier ++ q ∷ rest
-    → moment_of p ≡ moment_of q → ((n : ℕ) → GoAlike (answers_of tree n p) (answers_of tree n q)) → p ≡ q
 
 -- the same member before lists that go alike
 alike-more : {X : Type 0} (x y : X) (xs ys : List X) → x ≡ y → GoAlike xs ys → GoAlike (x ∷ xs) (y ∷ ys)

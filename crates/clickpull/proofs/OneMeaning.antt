@@ -1,6 +1,7 @@
 -- A script has one meaning: what its commands make happen follows, one after another.
 use Rattle.std.proofs.Common.{◌≡◌, ℕ, ◌+◌, ◌==◌, ◌&&◌, ◌||◌, zero, suc, Bool, true, false, List, [], ◌∷◌, ◌++◌, length, map, max, fold, if◌then◌else◌, Option, Some, None, IsSome, IfSome, MatchOption, slice_get, refl, sym, ap, ap₂, ◌∙◌, subst, zero-add, arith}
 use Rattle.std.specs.Bool.{⊤}
+use Rattle.std.specs.Option.{option_or}
 use Rattle.std.specs.List.{flat_map, filter_map, range_with_len, AllByRecursion, list_any}
 use Rattle.std.proofs.lemmas.Bool.{false≢true}
 use Rattle.std.proofs.lemmas.Bool.Decides.{nat_tests}
@@ -15,13 +16,15 @@ use Rattle.clk_sched.specs.declared.visit.Visit.{Visit}
 use Rattle.clk_sched.specs.Tree.{Tree, queue_at, is_number}
 use Rattle.clk_sched.specs.Log.{moment_of, pulls, counted}
 use Rattle.clk_sched.specs.Results.{asks_queue}
+use Rattle.clk_sched.specs.Choice.{answers_of, GoAlike, PullsLeaveNoChoice}
 use Rattle.clickpull.specs.declared.script.Command.{Command}
 use Rattle.clickpull.specs.declared.script.Command.TheVariants.{Send, Pull}
 use Rattle.clickpull.specs.Script.{commands_of}
 use Rattle.clickpull.specs.Meaning.{QueueSpec, SenderSpec, Setup, sender_numbers, Event, offered, pulled, command_of, number_from, numbers_of, visits_in, pull_in, moment_in, log_of, sends_to, at_queue, history, NamesItsOffer, event_text, CanHappen, Writes, IsMeaning}
+use Rattle.clickpull.specs.Builtin.{builtin}
 use Rattle.clickpull.specs.Router.{IsSound}
 use Rattle.clickpull.specs.OneMeaning.{IsWired, HasOneMeaning}
-use Rattle.clickpull.proofs.Alike.{packet-same, answers_of, GoAlike, pulls-alike, moment-counted, number-at, PullsLeaveNoChoice}
+use Rattle.clickpull.proofs.Alike.{packet-same, pulls-alike, moment-counted, number-at}
 use Rattle.clickpull.proofs.ScriptLemmas.{each-command-sound}
 
 -- what holds of each member of two lists joined holds of a member between them
@@ -199,3 +202,12 @@ has-one_meaning setup wired law runs script one other a b =
     (same-events setup wired law runs [] a.written.events b.written.events a.written.can_happen b.written.can_happen (a.written.theirs ∙ sym b.written.theirs)
     (subst (AllByRecursion (IsSound (sender_numbers setup))) (sym a.written.theirs) (each-command-sound (sender_numbers setup) script a.sound)))
     ∙ sym b.written.lines
+
+-- the queues of the built-in router are there
+pub builtin-wired : IsWired builtin
+builtin-wired = record { senders = (refl, (refl, tt)); leaves = λ x input. is_there ((1 == x) && (0 == input)) ((1 == x) && (1 == input)) }
+  where
+    is_there : (b c : Bool) → IfSome (option_or (if b then Some 0 else (if c then Some 1 else None)) None) (λ q. IsSome (slice_get builtin.queues q))
+    is_there true c = refl
+    is_there false true = refl
+    is_there false false = tt

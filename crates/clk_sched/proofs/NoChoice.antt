@@ -9,11 +9,11 @@ use Rattle.clk_sched.specs.Laws.{manner}
 use Rattle.clk_sched.specs.Laws.Device.{IsDeviceTurn}
 use Rattle.clk_sched.specs.Log.{visits_of, pulls, block_at, block, moment_of, HasOneMoment, turn, asks, pulls_below, result_of}
 use Rattle.clk_sched.specs.Run.{GetsResult, IsRun}
-use Rattle.clk_sched.specs.Choice.{answers_of, LeavesNoChoice}
+use Rattle.clk_sched.specs.Choice.{answers_of, LeavesNoChoice, PullsLeaveNoChoice}
 use Rattle.clk_sched.proofs.Members.{In, of-all, in-filter, filter-in, any-in, each-from_all, each-weaker, each-both, each-mapped}
 use Rattle.clk_sched.proofs.Numbering.{StandsAt, stands-root, stands-after_leaf, stands-after_node, stands-inputs, at-leaf}
 use Rattle.clk_sched.specs.Step.{EachAllows}
-use Rattle.clk_sched.proofs.Allowed.{AreWithin, each-allowed, device-visit}
+use Rattle.clk_sched.proofs.Allowed.{AreWithin, each-allowed, device-visit, onto, each-split}
 use Rattle.clk_sched.proofs.PullByPull.{asked, IsNumbered, each-numbered}
 use Rattle.clk_sched.proofs.SameTurns.{AnswerAlike, begin-alike, go_on-alike, Sides, AreLike, GetAlike, plain-same, turn-same}
 use Rattle.clk_sched.proofs.Numbers.{equal}
@@ -182,3 +182,12 @@ leaves-no_choice tree a b one other m e =
     ∙ ap (flat_map (block tree)) (pulls-same tree [] (pulls a) (pulls b) (pulls-of_run tree a one) (pulls-of_run tree b other) m
     (subst (λ log. AnswerAlike tree log (flat_map (block tree) (pulls b))) one.shape.blocks (subst (AnswerAlike tree a) other.shape.blocks e)))
     ∙ sym other.shape.blocks
+
+pub pulls-leave_no_choice : (tree : Tree) → PullsLeaveNoChoice tree
+pulls-leave_no_choice tree a b earlier p q more rest one other ea eb m e =
+    let first = pull-after a p more one ea in
+    let second = pull-after b q rest other eb in
+    pull-same tree (onto earlier []) p q first second m (subst (λ l. AnswerAlike tree l (block tree q)) first.numbered.whole (subst (AnswerAlike tree p) second.numbered.whole e))
+  where
+    pull-after : (log : List Visit) (r : List Visit) (later : List (List Visit)) → IsRun tree log → pulls log ≡ earlier ++ r ∷ later → IsPullOfRun tree (onto earlier []) r
+    pull-after log r later run is = (each-split (IsPullOfRun tree) [] earlier (r ∷ later) (subst (EachAfter (IsPullOfRun tree) []) is (pulls-of_run tree log run))).1.0

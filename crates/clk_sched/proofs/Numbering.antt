@@ -76,9 +76,3 @@ stands-inputs tree above first next class inputs row s =
 
 pub at-leaf : (tree : Tree) (above first next q : ℕ) (row : Row) → StandsAt tree above first next (leaf q row) → queue_at tree above first ≡ Some q
 at-leaf tree above first next q row s = s.own first (omega arith) ∙ rw (equal above above refl, equal first first refl) refl
-
-pub at-node : (tree : Tree) (above first next : ℕ) (class : Class) (inputs row : Row) → StandsAt tree above first next (node class inputs row) → queue_at tree above first ≡ None
-at-node tree above first next class inputs row s =
-    let o = s.ordered in
-    s.own first (omega arith)
-    ∙ rw (queue_in-before next 0 (suc next) inputs above first (omega arith) (λ e. omega (arith, e)), queue_in-earlier above (suc first) (suc (next + nodes inputs)) row first (omega arith) (omega arith)) refl

@@ -1,5 +1,5 @@
 -- What a run leaves to choose: nothing but what each queue answers, and the moments.
-use Rattle.std.specs.Prelude.{◌≡◌, ℕ, List, ◌++◌, map, filter, Option}
+use Rattle.std.specs.Prelude.{◌≡◌, ℕ, List, ◌∷◌, ◌++◌, map, filter, Option}
 use Rattle.clk_packet.specs.declared.packet.Packet.{Packet}
 use Rattle.clk_sched.specs.declared.visit.Visit.{Visit}
 use Rattle.clk_sched.specs.Tree.{Tree}
@@ -23,3 +23,10 @@ abbrev pub LeavesNoChoice : Tree → Type 0
 LeavesNoChoice tree =
     (a b : List Visit) → IsRun tree a → IsRun tree b → map moment_of (pulls a) ≡ map moment_of (pulls b)
     → ((q : ℕ) → GoAlike (answers_of tree q a) (answers_of tree q b)) → a ≡ b
+
+-- After the same pulls, two pulls of runs at the same counted moment, in which each queue gave the same answers as far as it was
+-- asked in both, are the same.
+abbrev pub PullsLeaveNoChoice : Tree → Type 0
+PullsLeaveNoChoice tree =
+    (a b : List Visit) (earlier : List (List Visit)) (p q : List Visit) (more rest : List (List Visit)) → IsRun tree a → IsRun tree b → pulls a ≡ earlier ++ p ∷ more → pulls b ≡ earlier ++ q ∷ rest
+    → moment_of p ≡ moment_of q → ((n : ℕ) → GoAlike (answers_of tree n p) (answers_of tree n q)) → p ≡ q

@@ -5,7 +5,7 @@ ghost use Rattle.clk_sched.specs.Tree.{root, leaves_distinct};
 ghost use Rattle.clk_sched.specs.Run.{IsRun};
 ghost use Rattle.clk_sched.specs.Step.{GoesOn};
 ghost use Rattle.clk_sched.specs.Results.{Traced, emitted, heads, leaf_packets, traced_heads};
-ghost use Rattle.clk_sched.specs.Choice.{LeavesNoChoice};
+ghost use Rattle.clk_sched.specs.Choice.{LeavesNoChoice, PullsLeaveNoChoice};
 ghost use Rattle.clk_sched.specs.Conservation.{IsConserved, ConservesPackets, MakesNothing};
 ghost use Rattle.clk_sched.specs.Service.{SharesOut};
 ghost use Rattle.clk_sched.specs.Bound.{closing_bound};
@@ -24,7 +24,8 @@ pub fn runs_go_on()
 
 /// A run of a tree leaves nothing to choose but what each queue answers and the moments of the pulls.
 pub fn runs_leave_no_choice()
-    ensures { (tree : _) → LeavesNoChoice tree }
+    ensures runs { (tree : _) → LeavesNoChoice tree }
+    ensures pulls { (tree : _) → PullsLeaveNoChoice tree }
 {}
 
 /// Each run of a tree conserves the packets of each queue, where no queue stands twice in the tree: what the queue gave is what

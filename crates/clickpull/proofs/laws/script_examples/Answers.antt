@@ -12,4 +12,4 @@ pub returns-clause-not_never_sent : goal.returns-clause-not_never_sent
 returns-clause-not_never_sent c = λ can. let history = can.histories 1 in absurd (omega (arith, ap length history.3.order))
 
 pub returns-clause-not_other_refused : goal.returns-clause-not_other_refused
-returns-clause-not_other_refused c = λ can. let named = ap (λ (p : Packet). p.number) can.refusals.2.0 in absurd (omega (arith, named))
+returns-clause-not_other_refused c = λ can. let named = ap (λ (p : Packet). p.number) can.refusals.1.1.0 in absurd (omega (arith, named))
