@@ -3,28 +3,29 @@ use Rattle.std.proofs.Common.{◌≡◌, ℕ, ◌+◌, ◌-◌, ◌<◌, ◌≤�
 use Rattle.std.proofs.lemmas.Bool.Decides.{nat_tests}
 use Rattle.std.proofs.lemmas.List.{take_all}
 use Rattle.clk_packet.specs.declared.fault.Fault.TheVariants.{TooLarge}
+use Rattle.clk_sched.specs.Limits.{most_inputs, most_levels}
 use Rattle.clk_sched.specs.Tree.{Class, Tree, queue, scheduler, root, height, width, leaves, stands_in}
 use Rattle.clk_sched.specs.Built.{built, row, leaves_of}
 use Rattle.clk_sched.proofs.Elements.{elements, elements_of}
 
-pub built-wide : (class : Class) (children : List Tree) → 64 < length children → Err TooLarge ≡ built class children
+pub built-wide : (class : Class) (children : List Tree) → most_inputs < length children → Err TooLarge ≡ built class children
 unfolding built
 built-wide class children wide =
-    let e : nat_lt 64 (length children) ≡ true = grind (arith, nat_tests) in
+    let e : nat_lt most_inputs (length children) ≡ true = grind (arith, nat_tests) in
     rw e refl
 
-pub built-high : (class : Class) (children : List Tree) → length children ≤ 64 → 64 ≤ height (row children) → Err TooLarge ≡ built class children
+pub built-high : (class : Class) (children : List Tree) → length children ≤ most_inputs → most_levels ≤ height (row children) → Err TooLarge ≡ built class children
 unfolding built
 built-high class children narrow high =
-    let e : nat_lt 64 (length children) ≡ false = grind (arith, nat_tests) in
-    let f : nat_lt 64 (suc (height (row children))) ≡ true = grind (arith, nat_tests) in
+    let e : nat_lt most_inputs (length children) ≡ false = grind (arith, nat_tests) in
+    let f : nat_lt most_levels (suc (height (row children))) ≡ true = grind (arith, nat_tests) in
     rw (e, f) refl
 
-pub built-fits : (class : Class) (children : List Tree) → length children ≤ 64 → height (row children) < 64 → Ok (scheduler class (row children)) ≡ built class children
+pub built-fits : (class : Class) (children : List Tree) → length children ≤ most_inputs → height (row children) < most_levels → Ok (scheduler class (row children)) ≡ built class children
 unfolding built
 built-fits class children narrow low =
-    let e : nat_lt 64 (length children) ≡ false = grind (arith, nat_tests) in
-    let f : nat_lt 64 (suc (height (row children))) ≡ false = grind (arith, nat_tests) in
+    let e : nat_lt most_inputs (length children) ≡ false = grind (arith, nat_tests) in
+    let f : nat_lt most_levels (suc (height (row children))) ≡ false = grind (arith, nat_tests) in
     rw (e, f) refl
 
 pub width-row : (trees : List Tree) → length trees ≡ width (row trees)

@@ -1,5 +1,6 @@
 -- How many pulls the closing of a tree is given (this project's own bound).
 use Rattle.std.specs.Prelude.{ℕ, ◌+◌, ◌*◌, ◌-◌, ◌/◌, List, [], ◌∷◌, min, Option, Some, None}
+use Rattle.clk_packet.specs.Limits.{most_length}
 use Rattle.clk_sched.specs.Tree.{Class, drr, Row, end, leaf, node, Tree, root, height}
 
 -- the lesser of two numbers, of those that are there
@@ -26,7 +27,7 @@ least_quantum (node class inputs row) = lesser (least (quanta_of class)) (lesser
 -- how often the least quantum goes into the greatest length, rounded up, and one more; 1 without a DRRSched
 abbrev pub rounds : Option ℕ → ℕ
 rounds None = 1
-rounds (Some quantum) = 1 + (65535 + (quantum - 1)) / quantum
+rounds (Some quantum) = 1 + (most_length + (quantum - 1)) / quantum
 
 -- the pulls that are given to emptying queues and heads that hold this many packets
 abbrev pub closing_bound : Tree → ℕ → ℕ

@@ -2,6 +2,7 @@
 use Rattle.std.specs.Prelude.{ℕ, List, [], ◌∷◌, length, nat_lt, Result, Ok, Err, suc, if◌then◌else◌}
 use Rattle.clk_packet.specs.declared.fault.Fault.{Fault}
 use Rattle.clk_packet.specs.declared.fault.Fault.TheVariants.{TooLarge}
+use Rattle.clk_sched.specs.Limits.{most_inputs, most_levels}
 use Rattle.clk_sched.specs.Tree.{Class, Row, end, leaf, node, Tree, queue, scheduler, height, leaves}
 
 -- trees at inputs that follow one another
@@ -20,7 +21,7 @@ abbrev pub leaves_of : Tree → List ℕ
 leaves_of (queue q) = q ∷ []
 leaves_of (scheduler class inputs) = leaves inputs
 
--- A scheduler over some trees, unless they are more than 64 or more than 64 schedulers would stand on a path.
+-- A scheduler over some trees, unless they are too many, or too many schedulers would stand on a path.
 unfoldable pub built : Class → List Tree → Result Tree Fault
 built class children =
-    if nat_lt 64 (length children) then Err TooLarge else (if nat_lt 64 (suc (height (row children))) then Err TooLarge else Ok (scheduler class (row children)))
+    if nat_lt most_inputs (length children) then Err TooLarge else (if nat_lt most_levels (suc (height (row children))) then Err TooLarge else Ok (scheduler class (row children)))

@@ -1,4 +1,5 @@
 -- What a tree of schedulers is, and what its runs are.
+pub mod Limits
 pub mod Tree
 pub mod Stored
 pub mod Built

@@ -1,6 +1,7 @@
 -- The shares that a DRRSched and a StrideSched give, as laws over whole histories of a node, and over runs of a tree.
-use Rattle.std.specs.Prelude.{◌≡◌, ℕ, ◌+◌, ◌*◌, ◌<◌, ◌≤◌, ◌==◌, ◌&&◌, List, [], ◌∷◌, ◌++◌, length, map, reverse, max, suc, ⊤, IsSome, if◌then◌else◌}
+use Rattle.std.specs.Prelude.{◌≡◌, ℕ, ◌+◌, ◌-◌, ◌*◌, ◌<◌, ◌≤◌, ◌==◌, ◌&&◌, List, [], ◌∷◌, ◌++◌, length, map, reverse, max, suc, ⊤, IsSome, if◌then◌else◌}
 use Rattle.std.specs.List.{AllByRecursion}
+use Rattle.clk_packet.specs.Limits.{most_length}
 use Rattle.clk_sched.specs.declared.visit.Visit.{Visit}
 use Rattle.clk_sched.specs.Tree.{Class, drr, stride, Row, end, leaf, node, Tree, root, width, nodes, is_number}
 use Rattle.clk_sched.specs.Log.{pulls, turn, pulls_below}
@@ -28,16 +29,16 @@ abbrev pub Near : ℕ → ℕ → ℕ → Type 0
 Near bound m n = (m ≤ n + bound) × (n ≤ m + bound)
 
 -- DRRSched: in any unbroken range of a node's visits the arrivals of two inputs differ by at most 1; no deficit is below 0, or
--- above the input's quantum plus 65,534; and an input each of whose visits got a packet was given its quantum in bytes for each
+-- above the input's quantum plus a byte less than the greatest length; and an input each of whose visits got a packet was given its quantum in bytes for each
 -- arrival, within that bound.
 pub record SharesByDeficit (quanta : List ℕ) (inputs : ℕ) (turns : List Turn) : Type 0 where
   pub arrivals_near : (before range after : List Visit) → all_visits turns ≡ before ++ (range ++ after) → (i j : ℕ) → i < inputs → j < inputs
       → Near 1 (arrivals_in i (reverse before) range) (arrivals_in j (reverse before) range)
   pub deficit_bound : (before after : List Visit) (v : Visit) → all_visits turns ≡ before ++ v ∷ after
       → (passed_bytes v.input (reverse before) ≤ quantum_at quanta v.input * (arrives (reverse before) + arrivals v.input (reverse before)))
-      × (quantum_at quanta v.input * (arrives (reverse before) + arrivals v.input (reverse before)) ≤ passed_bytes v.input (reverse before) + (quantum_at quanta v.input + 65534))
+      × (quantum_at quanta v.input * (arrives (reverse before) + arrivals v.input (reverse before)) ≤ passed_bytes v.input (reverse before) + (quantum_at quanta v.input + (most_length - 1)))
   pub bytes_near : (before range after : List Visit) → all_visits turns ≡ before ++ (range ++ after) → (i : ℕ) → i < inputs → AlwaysGets i range
-      → Near (quantum_at quanta i + 65534) (bytes_in i range) (quantum_at quanta i * arrivals_in i (reverse before) range)
+      → Near (quantum_at quanta i + (most_length - 1)) (bytes_in i range) (quantum_at quanta i * arrivals_in i (reverse before) range)
 
 abbrev pub largest_stride : List ℕ → ℕ
 largest_stride [] = 0

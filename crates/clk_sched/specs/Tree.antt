@@ -2,6 +2,7 @@
 use Rattle.std.specs.Prelude.{◌≡◌, ℕ, ◌+◌, ◌≤◌, ◌==◌, ◌&&◌, ◌||◌, ◌++◌, Bool, true, false, not, List, [], ◌∷◌, length, ⊤, Option, Some, None, suc, max, if◌then◌else◌}
 use Rattle.std.specs.Option.{option_or}
 use Rattle.std.specs.List.{AllByRecursion}
+use Rattle.clk_sched.specs.Limits.{most_quantum, most_tickets, most_rate, most_burst}
 
 -- What a scheduler does with its inputs, and its arguments: the quantum of each input in bytes, the tickets of each input, and
 -- the rate in packets a tick with the burst in packets.
@@ -80,9 +81,9 @@ leaves_distinct tree = are_distinct (leaves (root tree))
 
 -- the arguments of a scheduler over so many inputs are within their limits
 abbrev pub HasArguments : Class → ℕ → Type 0
-HasArguments (drr quanta) inputs = (length quanta ≡ inputs) × AllByRecursion (λ n. (1 ≤ n) × (n ≤ 1000000)) quanta
-HasArguments (stride tickets) inputs = (length tickets ≡ inputs) × AllByRecursion (λ n. (1 ≤ n) × (n ≤ 32768)) tickets
-HasArguments (shaper rate burst) inputs = (inputs ≡ 1) × ((1 ≤ rate) × (rate ≤ 1000000)) × ((1 ≤ burst) × (burst ≤ 1000000))
+HasArguments (drr quanta) inputs = (length quanta ≡ inputs) × AllByRecursion (λ n. (1 ≤ n) × (n ≤ most_quantum)) quanta
+HasArguments (stride tickets) inputs = (length tickets ≡ inputs) × AllByRecursion (λ n. (1 ≤ n) × (n ≤ most_tickets)) tickets
+HasArguments (shaper rate burst) inputs = (inputs ≡ 1) × ((1 ≤ rate) × (rate ≤ most_rate)) × ((1 ≤ burst) × (burst ≤ most_burst))
 HasArguments class inputs = ⊤
 
 -- Each scheduler of a row has an input at least, and arguments within their limits: a DRRSched has a quantum for each input, a

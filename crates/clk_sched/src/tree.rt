@@ -4,6 +4,7 @@ mod distinct;
 
 ghost use Rattle.std.specs.Prelude.{◌≡◌, ◌≤◌, length};
 ghost use Rattle.clk_sched.specs.Tree.{prio, round_robin, drr, stride, shaper, queue, height, IsWellFormed};
+ghost use Rattle.clk_sched.specs.Limits.{most_quantum, most_tickets, most_rate, most_burst};
 ghost use Rattle.clk_sched.specs.Built.{built, row};
 
 use clk_packet::Fault;
@@ -118,7 +119,7 @@ impl Tree {
     pub fn drr(quanta: Vec<u32>, children: Vec<Tree>) -> Result<Tree, Fault>
         requires inputs { 1 ≤ length children.items }
         requires one_each { length quanta.items ≡ length children.items }
-        requires quanta { AllByRecursion (λ n. (1 ≤ n) × (n ≤ 1000000)) quanta.items }
+        requires quanta { AllByRecursion (λ n. (1 ≤ n) × (n ≤ most_quantum)) quanta.items }
         ensures { result ≡ built (drr quanta.items) children.items }
     {
         Tree::scheduler(Class::Drr(quanta), children)
@@ -132,7 +133,7 @@ impl Tree {
     pub fn stride(tickets: Vec<u32>, children: Vec<Tree>) -> Result<Tree, Fault>
         requires inputs { 1 ≤ length children.items }
         requires one_each { length tickets.items ≡ length children.items }
-        requires tickets { AllByRecursion (λ n. (1 ≤ n) × (n ≤ 32768)) tickets.items }
+        requires tickets { AllByRecursion (λ n. (1 ≤ n) × (n ≤ most_tickets)) tickets.items }
         ensures { result ≡ built (stride tickets.items) children.items }
     {
         Tree::scheduler(Class::Stride(tickets), children)
@@ -145,8 +146,8 @@ impl Tree {
     ///
     /// As `prio`, and fault 1.
     pub fn shaper(alloc: Global, rate: u32, burst: u32, child: Tree) -> Result<Tree, Fault>
-        requires rate { (1 ≤ rate) × (rate ≤ 1000000) }
-        requires burst { (1 ≤ burst) × (burst ≤ 1000000) }
+        requires rate { (1 ≤ rate) × (rate ≤ most_rate) }
+        requires burst { (1 ≤ burst) × (burst ≤ most_burst) }
         ensures { result ≢ Err Memory → result ≡ built (shaper rate burst) (child ∷ []) }
     {
         let mut children = Vec::new(alloc);
