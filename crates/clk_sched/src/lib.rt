@@ -8,8 +8,8 @@ mod visit;
 
 pub use ask::Ask;
 pub use laws::{
-    deficit_examples, device_examples, priority_examples, result_examples, round_robin_examples,
-    runs_go_on, shaper_examples, stride_examples,
+    deficit_examples, device_examples, nested_examples, priority_examples, result_examples,
+    round_robin_examples, runs_go_on, shaper_examples, stride_examples,
 };
 pub use tree::Tree;
 pub use visit::Visit;
