@@ -8,6 +8,7 @@ pub mod RoundRobin
 pub mod Deficit
 pub mod Stride
 pub mod Shaper
+pub mod Nested
 
 -- a visit of pull k at moment t, by node x to input i
 abbrev pub look : (k t x i : ℕ) → Bool → Option Packet → Bool → Visit

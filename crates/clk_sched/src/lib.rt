@@ -2,16 +2,17 @@
 #![tactic(auto)]
 
 mod ask;
+mod examples;
 mod laws;
 mod tree;
 mod visit;
 
 pub use ask::Ask;
-pub use laws::{
-    deficit_examples, device_examples, priority_examples, result_examples, round_robin_examples,
-    runs_conserve_packets, runs_go_on, runs_leave_no_choice, runs_share_out, shaper_examples,
-    stride_examples,
+pub use examples::{
+    deficit_examples, device_examples, nested_examples, priority_examples, result_examples,
+    round_robin_examples, shaper_examples, stride_examples,
 };
+pub use laws::{runs_conserve_packets, runs_go_on, runs_leave_no_choice, runs_share_out};
 pub use tree::Tree;
 pub use visit::Visit;
 

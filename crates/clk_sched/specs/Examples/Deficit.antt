@@ -12,6 +12,9 @@ use Rattle.clk_packet.specs.declared.packet.Packet.{Packet}
 abbrev pub p0_0_10 : Packet
 p0_0_10 = packet 0 0 10 (lit≤ tt) (lit≤ tt)
 
+abbrev pub p0_0_500 : Packet
+p0_0_500 = packet 0 0 500 (lit≤ tt) (lit≤ tt)
+
 abbrev pub p0_0_600 : Packet
 p0_0_600 = packet 0 0 600 (lit≤ tt) (lit≤ tt)
 
@@ -21,23 +24,38 @@ p0_0_700 = packet 0 0 700 (lit≤ tt) (lit≤ tt)
 abbrev pub p0_0_1000 : Packet
 p0_0_1000 = packet 0 0 1000 (lit≤ tt) (lit≤ tt)
 
-abbrev pub p0_1 : Packet
-p0_1 = packet 0 1 401 (lit≤ tt) (lit≤ tt)
+abbrev pub p0_1_401 : Packet
+p0_1_401 = packet 0 1 401 (lit≤ tt) (lit≤ tt)
 
-abbrev pub p1_0 : Packet
-p1_0 = packet 1 0 200 (lit≤ tt) (lit≤ tt)
+abbrev pub p0_1_500 : Packet
+p0_1_500 = packet 0 1 500 (lit≤ tt) (lit≤ tt)
 
-abbrev pub p1_1 : Packet
-p1_1 = packet 1 1 200 (lit≤ tt) (lit≤ tt)
+abbrev pub p1_0_200 : Packet
+p1_0_200 = packet 1 0 200 (lit≤ tt) (lit≤ tt)
+
+abbrev pub p1_0_500 : Packet
+p1_0_500 = packet 1 0 500 (lit≤ tt) (lit≤ tt)
+
+abbrev pub p1_1_200 : Packet
+p1_1_200 = packet 1 1 200 (lit≤ tt) (lit≤ tt)
+
+abbrev pub p1_1_500 : Packet
+p1_1_500 = packet 1 1 500 (lit≤ tt) (lit≤ tt)
+
+abbrev pub p1_2 : Packet
+p1_2 = packet 1 2 500 (lit≤ tt) (lit≤ tt)
+
+abbrev pub p1_3 : Packet
+p1_3 = packet 1 3 500 (lit≤ tt) (lit≤ tt)
 
 -- A DRRSched of quantum 500 over a packet of 600 and two of 200, and then one of 401 that waits for its deficit.
 abbrev pub two_deficits : List Visit
 two_deficits =
-    look 0 0 1 0 true (Some p0_0_600) false ∷ asking 0 0 1 1 (Some p1_0) ∷ asking 0 0 0 0 (Some p1_0) ∷
-    asking 1 0 1 1 (Some p1_1) ∷ asking 1 0 0 0 (Some p1_1) ∷
+    look 0 0 1 0 true (Some p0_0_600) false ∷ asking 0 0 1 1 (Some p1_0_200) ∷ asking 0 0 0 0 (Some p1_0_200) ∷
+    asking 1 0 1 1 (Some p1_1_200) ∷ asking 1 0 0 0 (Some p1_1_200) ∷
     asking 2 0 1 1 None ∷ look 2 0 1 0 false (Some p0_0_600) true ∷ asking 2 0 0 0 (Some p0_0_600) ∷
-    look 3 0 1 0 true (Some p0_1) false ∷ asking 3 0 1 1 None ∷ asking 3 0 0 0 None ∷
-    look 4 0 1 0 false (Some p0_1) true ∷ asking 4 0 0 0 (Some p0_1) ∷ []
+    look 3 0 1 0 true (Some p0_1_401) false ∷ asking 3 0 1 1 None ∷ asking 3 0 0 0 None ∷
+    look 4 0 1 0 false (Some p0_1_401) true ∷ asking 4 0 0 0 (Some p0_1_401) ∷ []
 
 abbrev pub two_deficits_tree : Tree
 two_deficits_tree = scheduler (drr (500 ∷ 500 ∷ [])) (leaf 0 (leaf 1 end))
@@ -93,3 +111,81 @@ visits_twice =
 abbrev pub passes_above_deficit : List Visit
 passes_above_deficit =
     asking 0 0 1 0 (Some p0_0_1000) ∷ asking 0 0 0 0 (Some p0_0_1000) ∷ []
+
+-- Over held_at_close_tree: what a packet left of the deficit is still there after the queue was found empty
+abbrev pub deficit_outlives_none : List Visit
+deficit_outlives_none =
+    asking 0 0 1 0 (Some p1_0_200) ∷ asking 0 0 0 0 (Some p1_0_200) ∷
+    asking 1 0 1 0 None ∷ asking 1 0 0 0 None ∷
+    asking 2 0 1 0 (Some p0_0_700) ∷ asking 2 0 0 0 (Some p0_0_700) ∷ []
+
+-- Over held_at_close_tree: the head is said to be asked for once more
+abbrev pub head_asked_anew : List Visit
+head_asked_anew =
+    look 0 0 1 0 true (Some p0_0_1000) false ∷ asking 0 0 0 0 None ∷
+    asking 1 1 1 0 (Some p0_0_1000) ∷ asking 1 1 0 0 (Some p0_0_1000) ∷ []
+
+-- Over held_at_close_tree: a head is looked at where none is held
+abbrev pub looks_at_none : List Visit
+looks_at_none = look 0 0 1 0 false (Some p0_0_500) true ∷ asking 0 0 0 0 (Some p0_0_500) ∷ []
+
+-- Over held_at_close_tree: in the place of the head another packet is passed, which the deficit covers
+abbrev pub passes_other_head : List Visit
+passes_other_head =
+    look 0 0 1 0 true (Some p0_0_1000) false ∷ asking 0 0 0 0 None ∷
+    look 1 1 1 0 false (Some p1_0_200) true ∷ asking 1 1 0 0 (Some p1_0_200) ∷ []
+
+-- Over two_deficits_tree: the first queue is empty, and the second isn't asked
+abbrev pub drr_stops_early : List Visit
+drr_stops_early = asking 0 0 1 0 None ∷ asking 0 0 0 0 None ∷ []
+
+-- Over two_deficits_tree: the first queue is asked again though it gave a packet within its deficit
+abbrev pub drr_goes_on : List Visit
+drr_goes_on = asking 0 0 1 0 (Some p0_0_500) ∷ asking 0 0 1 0 None ∷ asking 0 0 0 0 (Some p0_0_500) ∷ []
+
+-- Over head_below_tree: while a head is held above it, the PrioSched has a visit though it isn't asked
+abbrev pub inner_unasked : List Visit
+inner_unasked =
+    asking 0 0 2 0 (Some p0_0_10) ∷ look 0 0 1 0 true (Some p0_0_10) false ∷ asking 0 0 0 0 None ∷
+    asking 1 0 2 0 None ∷ look 1 0 1 0 false (Some p0_0_10) true ∷ asking 1 0 0 0 (Some p0_0_10) ∷ []
+
+-- A DRRSched of quanta 500 and 1000 over packets of 500: the second queue gives two for each of the first.
+abbrev pub own_quanta : List Visit
+own_quanta =
+    asking 0 0 1 0 (Some p0_0_500) ∷ asking 0 0 0 0 (Some p0_0_500) ∷
+    look 1 0 1 0 true (Some p0_1_500) false ∷ asking 1 0 1 1 (Some p1_0_500) ∷ asking 1 0 0 0 (Some p1_0_500) ∷
+    asking 2 0 1 1 (Some p1_1_500) ∷ asking 2 0 0 0 (Some p1_1_500) ∷
+    look 3 0 1 1 true (Some p1_2) false ∷ look 3 0 1 0 false (Some p0_1_500) true ∷ asking 3 0 0 0 (Some p0_1_500) ∷
+    asking 4 0 1 0 None ∷ look 4 0 1 1 false (Some p1_2) true ∷ asking 4 0 0 0 (Some p1_2) ∷
+    asking 5 0 1 1 (Some p1_3) ∷ asking 5 0 0 0 (Some p1_3) ∷
+    asking 6 0 1 1 None ∷ asking 6 0 1 0 None ∷ asking 6 0 0 0 None ∷ []
+
+abbrev pub own_quanta_tree : Tree
+own_quanta_tree = scheduler (drr (500 ∷ 1000 ∷ [])) (leaf 0 (leaf 1 end))
+
+-- the first pulls as they were if the first quantum held for both inputs
+abbrev pub first_quantum_for_all : List Visit
+first_quantum_for_all =
+    asking 0 0 1 0 (Some p0_0_500) ∷ asking 0 0 0 0 (Some p0_0_500) ∷
+    look 1 0 1 0 true (Some p0_1_500) false ∷ asking 1 0 1 1 (Some p1_0_500) ∷ asking 1 0 0 0 (Some p1_0_500) ∷
+    look 2 0 1 1 true (Some p1_1_500) false ∷ look 2 0 1 0 false (Some p0_1_500) true ∷ asking 2 0 0 0 (Some p0_1_500) ∷ []
+
+-- the first pulls as they were if the quanta were exchanged
+abbrev pub quanta_exchanged : List Visit
+quanta_exchanged =
+    asking 0 0 1 0 (Some p0_0_500) ∷ asking 0 0 0 0 (Some p0_0_500) ∷
+    asking 1 0 1 0 (Some p0_1_500) ∷ asking 1 0 0 0 (Some p0_1_500) ∷ []
+
+-- the first pulls, of which the third begins at the first input and not where the second passed
+abbrev pub begins_at_first : List Visit
+begins_at_first =
+    asking 0 0 1 0 (Some p0_0_500) ∷ asking 0 0 0 0 (Some p0_0_500) ∷
+    look 1 0 1 0 true (Some p0_1_500) false ∷ asking 1 0 1 1 (Some p1_0_500) ∷ asking 1 0 0 0 (Some p1_0_500) ∷
+    look 2 0 1 0 false (Some p0_1_500) false ∷ asking 2 0 1 1 (Some p1_1_500) ∷ asking 2 0 0 0 (Some p1_1_500) ∷ []
+
+-- DRRScheds whose least quantum is one byte, at the second input and at the first
+abbrev pub least_last_tree : Tree
+least_last_tree = scheduler (drr (500 ∷ 1 ∷ [])) (leaf 0 (leaf 1 end))
+
+abbrev pub least_first_tree : Tree
+least_first_tree = scheduler (drr (1 ∷ 500 ∷ [])) (leaf 0 (leaf 1 end))

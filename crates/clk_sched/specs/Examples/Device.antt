@@ -30,3 +30,19 @@ device_asks_beside = asking 0 0 0 0 (Some p0_0) ∷ asking 1 5 0 1 None ∷ []
 -- the moment falls from the first pull to the second
 abbrev pub moment_falls : List Visit
 moment_falls = asking 0 5 0 0 (Some p0_0) ∷ asking 1 0 0 0 None ∷ []
+
+-- the moment falls from the second pull to the third, though not below the first's
+abbrev pub moment_falls_later : List Visit
+moment_falls_later = asking 0 0 0 0 (Some p0_0) ∷ asking 1 5 0 0 None ∷ asking 2 3 0 0 None ∷ []
+
+-- the second pull has the third's number, so that no visit is left for the second
+abbrev pub pull_left_out : List Visit
+pull_left_out = asking 0 0 0 0 (Some p0_0) ∷ asking 2 5 0 0 None ∷ []
+
+-- the device asks twice in the first pull, and not in the second
+abbrev pub device_asks_twice : List Visit
+device_asks_twice = asking 0 0 0 0 None ∷ asking 0 0 0 0 (Some p0_0) ∷ []
+
+-- a visit by a scheduler that isn't there
+abbrev pub unknown_node : List Visit
+unknown_node = asking 0 0 0 0 (Some p0_0) ∷ asking 0 0 7 0 None ∷ []

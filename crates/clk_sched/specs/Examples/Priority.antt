@@ -15,6 +15,9 @@ p0_0 = packet 0 0 100 (lit≤ tt) (lit≤ tt)
 abbrev pub p1_0 : Packet
 p1_0 = packet 1 0 50 (lit≤ tt) (lit≤ tt)
 
+abbrev pub p2_0 : Packet
+p2_0 = packet 2 0 70 (lit≤ tt) (lit≤ tt)
+
 -- Two queues below a PrioSched give a packet each, and then none does.
 abbrev pub two_queues : List Visit
 two_queues =
@@ -52,3 +55,44 @@ other_result =
     asking 0 0 1 0 (Some p0_0) ∷ asking 0 0 0 0 (Some p1_0) ∷
     asking 1 0 1 0 None ∷ asking 1 0 1 1 (Some p1_0) ∷ asking 1 0 0 0 (Some p1_0) ∷
     asking 2 0 1 0 None ∷ asking 2 0 1 1 None ∷ asking 2 0 0 0 None ∷ []
+
+-- Over two_queues_tree: a visit has another moment than the rest of its pull
+abbrev pub other_moment : List Visit
+other_moment =
+    asking 0 3 1 0 (Some p0_0) ∷ asking 0 5 0 0 (Some p0_0) ∷
+    asking 1 6 1 0 None ∷ asking 1 6 1 1 None ∷ asking 1 6 0 0 None ∷ []
+
+-- Over two_queues_tree: the second queue is asked though the first gave a packet
+abbrev pub prio_goes_on : List Visit
+prio_goes_on = asking 0 0 1 0 (Some p0_0) ∷ asking 0 0 1 1 None ∷ asking 0 0 0 0 (Some p0_0) ∷ []
+
+-- Over two_queues_tree: the first queue is empty, and the second isn't asked
+abbrev pub prio_stops_early : List Visit
+prio_stops_early = asking 0 0 1 0 None ∷ asking 0 0 0 0 None ∷ []
+
+-- Over two_queues_tree: a third input is asked, which isn't there
+abbrev pub prio_asks_beside : List Visit
+prio_asks_beside =
+    asking 0 0 1 0 None ∷ asking 0 0 1 1 None ∷ asking 0 0 1 2 None ∷ asking 0 0 0 0 None ∷ []
+
+-- Over two_queues_tree: a packet is taken from the first queue, which isn't asked
+abbrev pub prio_unasked : List Visit
+prio_unasked = look 0 0 1 0 false (Some p0_0) true ∷ asking 0 0 0 0 (Some p0_0) ∷ []
+
+-- Over two_queues_tree: in the second pull the device got no packet though the scheduler's result is one
+abbrev pub result_lost : List Visit
+result_lost =
+    asking 0 0 1 0 (Some p0_0) ∷ asking 0 0 0 0 (Some p0_0) ∷
+    asking 1 0 1 0 None ∷ asking 1 0 1 1 (Some p1_0) ∷ asking 1 0 0 0 None ∷ []
+
+-- The third of three queues below a PrioSched gives a packet, after the others had none.
+abbrev pub third_gives : List Visit
+third_gives =
+    asking 0 0 1 0 None ∷ asking 0 0 1 1 None ∷ asking 0 0 1 2 (Some p2_0) ∷ asking 0 0 0 0 (Some p2_0) ∷ []
+
+abbrev pub third_gives_tree : Tree
+third_gives_tree = scheduler prio (leaf 0 (leaf 1 (leaf 2 end)))
+
+-- the same where the third queue isn't asked
+abbrev pub third_left_out : List Visit
+third_left_out = asking 0 0 1 0 None ∷ asking 0 0 1 1 None ∷ asking 0 0 0 0 None ∷ []

@@ -60,3 +60,15 @@ abbrev pub begins_where_it_gave : List Visit
 begins_where_it_gave =
     asking 0 0 1 0 (Some p0_0_10) ∷ asking 0 0 0 0 (Some p0_0_10) ∷
     asking 1 0 1 0 (Some p0_1) ∷ asking 1 0 0 0 (Some p0_1) ∷ []
+
+-- Over none_keeps_beginning_tree: after the last input the first isn't asked
+abbrev pub order_unwrapped : List Visit
+order_unwrapped =
+    asking 0 0 1 0 (Some p0_0_1) ∷ asking 0 0 0 0 (Some p0_0_1) ∷
+    asking 1 0 1 1 None ∷ asking 1 0 0 0 None ∷ []
+
+-- Over none_keeps_beginning_tree: a third input is asked, which isn't there
+abbrev pub round_robin_asks_beside : List Visit
+round_robin_asks_beside =
+    asking 0 0 1 0 (Some p0_0_1) ∷ asking 0 0 0 0 (Some p0_0_1) ∷
+    asking 1 0 1 1 None ∷ asking 1 0 1 2 None ∷ asking 1 0 0 0 None ∷ []

@@ -135,3 +135,11 @@ asks_without_room =
     asking 0 10 1 0 (Some p0_0_10) ∷ asking 0 10 0 0 (Some p0_0_10) ∷
     asking 1 10 1 0 (Some p0_1_10) ∷ asking 1 10 0 0 (Some p0_1_10) ∷
     asking 2 10 1 0 None ∷ asking 2 10 0 0 None ∷ []
+
+-- Over burst_of_two_tree: two packets in a tick, with a rate of one
+abbrev pub rate_above : List Visit
+rate_above =
+    asking 0 0 1 0 (Some p0_0_10) ∷ asking 0 0 0 0 (Some p0_0_10) ∷
+    asking 1 0 1 0 (Some p0_1_10) ∷ asking 1 0 0 0 (Some p0_1_10) ∷
+    asking 2 1 1 0 (Some p0_2_10) ∷ asking 2 1 0 0 (Some p0_2_10) ∷
+    asking 3 1 1 0 (Some p0_3_10) ∷ asking 3 1 0 0 (Some p0_3_10) ∷ []

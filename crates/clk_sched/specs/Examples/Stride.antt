@@ -60,6 +60,12 @@ p1_1_20 = packet 1 1 20 (lit≤ tt) (lit≤ tt)
 abbrev pub p1_2 : Packet
 p1_2 = packet 1 2 5 (lit≤ tt) (lit≤ tt)
 
+abbrev pub p2_0 : Packet
+p2_0 = packet 2 0 1 (lit≤ tt) (lit≤ tt)
+
+abbrev pub p2_1 : Packet
+p2_1 = packet 2 1 1 (lit≤ tt) (lit≤ tt)
+
 -- A StrideSched of 2 tickets and 1 over two queues that stay full.
 abbrev pub two_to_one : List Visit
 two_to_one =
@@ -144,3 +150,40 @@ abbrev pub lowest_index_first : List Visit
 lowest_index_first =
     asking 0 0 1 0 (Some p0_0_10) ∷ asking 0 0 0 0 (Some p0_0_10) ∷
     asking 1 0 1 0 (Some p0_1_10) ∷ asking 1 0 0 0 (Some p0_1_10) ∷ []
+
+-- Over rounds_down_tree: strides rounded up, so that three of the first are just above one of the second
+abbrev pub rounds_up : List Visit
+rounds_up =
+    asking 0 0 1 0 (Some p0_0_1) ∷ asking 0 0 0 0 (Some p0_0_1) ∷
+    asking 1 0 1 1 (Some p1_0_1) ∷ asking 1 0 0 0 (Some p1_0_1) ∷
+    asking 2 0 1 0 (Some p0_1_1) ∷ asking 2 0 0 0 (Some p0_1_1) ∷
+    asking 3 0 1 0 (Some p0_2_1) ∷ asking 3 0 0 0 (Some p0_2_1) ∷
+    asking 4 0 1 1 (Some p1_1_1) ∷ asking 4 0 0 0 (Some p1_1_1) ∷ []
+
+-- A StrideSched of 1 ticket, 2 and 4, whose first queue is empty at first. In the fourth pull the others are, and both get
+-- the pass that the first had.
+abbrev pub three_strides : List Visit
+three_strides =
+    asking 0 0 1 0 None ∷ asking 0 0 1 1 (Some p1_0_1) ∷ asking 0 0 0 0 (Some p1_0_1) ∷
+    asking 1 0 1 0 (Some p0_0_1) ∷ asking 1 0 0 0 (Some p0_0_1) ∷
+    asking 2 0 1 2 (Some p2_0) ∷ asking 2 0 0 0 (Some p2_0) ∷
+    asking 3 0 1 2 None ∷ asking 3 0 1 1 None ∷ asking 3 0 1 0 (Some p0_1_1) ∷ asking 3 0 0 0 (Some p0_1_1) ∷
+    asking 4 0 1 1 None ∷ asking 4 0 1 2 (Some p2_1) ∷ asking 4 0 0 0 (Some p2_1) ∷ []
+
+abbrev pub three_strides_tree : Tree
+three_strides_tree = scheduler (stride (1 ∷ 2 ∷ 4 ∷ [])) (leaf 0 (leaf 1 (leaf 2 end)))
+
+-- the same where the input of the least pass is asked first, and then the others by index
+abbrev pub least_alone_first : List Visit
+least_alone_first =
+    asking 0 0 1 0 None ∷ asking 0 0 1 1 (Some p1_0_1) ∷ asking 0 0 0 0 (Some p1_0_1) ∷
+    asking 1 0 1 0 (Some p0_0_1) ∷ asking 1 0 0 0 (Some p0_0_1) ∷
+    asking 2 0 1 2 (Some p2_0) ∷ asking 2 0 0 0 (Some p2_0) ∷
+    asking 3 0 1 2 None ∷ asking 3 0 1 0 (Some p0_1_1) ∷ asking 3 0 0 0 (Some p0_1_1) ∷ []
+
+-- A StrideSched with tickets for two inputs over one queue, which can't be built: the second input is asked, which isn't there
+abbrev pub stride_asks_beside : List Visit
+stride_asks_beside = asking 0 0 1 0 None ∷ asking 0 0 1 1 None ∷ asking 0 0 0 0 None ∷ []
+
+abbrev pub stride_asks_beside_tree : Tree
+stride_asks_beside_tree = scheduler (stride (1 ∷ 1 ∷ [])) (leaf 0 end)

@@ -1,5 +1,5 @@
 use Rattle.std.proofs.Common.{refl, lit≤}
-use Rattle.clk_sched.proofs.laws.shaper_examples.Goals as goal
+use Rattle.clk_sched.proofs.examples.shaper_examples.Goals as goal
 
 pub returns-clause-is_burst_of_two : goal.returns-clause-is_burst_of_two
 returns-clause-is_burst_of_two c =
@@ -62,3 +62,6 @@ returns-clause-not_fills_without_cap c = λ run. absurd run.below.0.1.1.0.follow
 
 pub returns-clause-not_asks_without_room : goal.returns-clause-not_asks_without_room
 returns-clause-not_asks_without_room c = λ run. absurd run.below.0.1.1.0.follows.in_order
+
+pub returns-clause-not_rate_above : goal.returns-clause-not_rate_above
+returns-clause-not_rate_above c = λ run. absurd run.below.0.1.1.1.0.follows.in_order

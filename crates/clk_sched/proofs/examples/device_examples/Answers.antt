@@ -1,6 +1,8 @@
-use Rattle.std.proofs.Common.{refl, lit≤, arith}
+use Rattle.std.proofs.Common.{refl, lit≤, arith, ap}
+use Rattle.std.specs.Prelude.{map}
+use Rattle.clk_sched.specs.declared.visit.Visit.{Visit}
 use Rattle.std.proofs.lemmas.Bool.{false≢true}
-use Rattle.clk_sched.proofs.laws.device_examples.Goals as goal
+use Rattle.clk_sched.proofs.examples.device_examples.Goals as goal
 
 pub returns-clause-is_one_queue : goal.returns-clause-is_one_queue
 returns-clause-is_one_queue c =
@@ -18,3 +20,15 @@ returns-clause-not_device_asks_beside c = λ run. absurd (omega (arith, run.devi
 
 pub returns-clause-not_moment_falls : goal.returns-clause-not_moment_falls
 returns-clause-not_moment_falls c = λ run. absurd (omega (arith, run.shape.moments.1.0))
+
+pub returns-clause-not_pull_left_out : goal.returns-clause-not_pull_left_out
+returns-clause-not_pull_left_out c = λ run. absurd run.device.1.0.in_order
+
+pub returns-clause-not_device_asks_twice : goal.returns-clause-not_device_asks_twice
+returns-clause-not_device_asks_twice c = λ run. absurd run.device.0.in_order.1
+
+pub returns-clause-not_unknown_node : goal.returns-clause-not_unknown_node
+returns-clause-not_unknown_node c = λ run. let nodes = ap (map (λ (v : Visit). v.node)) run.shape.blocks in absurd (cc)
+
+pub returns-clause-not_moment_falls_later : goal.returns-clause-not_moment_falls_later
+returns-clause-not_moment_falls_later c = λ run. absurd (omega (arith, run.shape.moments.1.1.0))

@@ -1,5 +1,5 @@
 use Rattle.std.proofs.Common.{refl, lit≤, arith}
-use Rattle.clk_sched.proofs.laws.round_robin_examples.Goals as goal
+use Rattle.clk_sched.proofs.examples.round_robin_examples.Goals as goal
 
 pub returns-clause-is_three_in_turn : goal.returns-clause-is_three_in_turn
 returns-clause-is_three_in_turn c =
@@ -22,3 +22,9 @@ returns-clause-not_moves_every_pull c = λ run. absurd (omega (arith, run.below.
 
 pub returns-clause-not_begins_where_it_gave : goal.returns-clause-not_begins_where_it_gave
 returns-clause-not_begins_where_it_gave c = λ run. absurd (omega (arith, run.below.0.1.0.follows.in_order.0))
+
+pub returns-clause-not_order_unwrapped : goal.returns-clause-not_order_unwrapped
+returns-clause-not_order_unwrapped c = λ run. absurd run.below.0.1.0.follows.in_order.1
+
+pub returns-clause-not_round_robin_asks_beside : goal.returns-clause-not_round_robin_asks_beside
+returns-clause-not_round_robin_asks_beside c = λ run. absurd (omega (arith, run.below.0.1.0.within.1.0))
