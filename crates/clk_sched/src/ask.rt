@@ -1,4 +1,4 @@
-ghost use Rattle.std.specs.Prelude.{ℕ};
+ghost use Rattle.std.specs.Prelude.{◌≡◌, ℕ, Bool, false, None};
 ghost use Rattle.std.specs.declared.option.Option.{Option};
 ghost use Rattle.clk_packet.specs.declared.packet.Packet.{Packet};
 
@@ -6,10 +6,14 @@ use clk_packet::Packet;
 
 /// What a tree pulls packets from.
 pub trait Ask {
+    // Which leaves there are.
+    ghost has: { Self → ℕ → Bool };
+
     // Which answers a call may give for a leaf from a state, and what stands afterwards.
     ghost gives: { Self → ℕ → Option Packet → Self → Type 0 };
 
     /// Takes the next packet of the queue at a leaf, if it has one. A leaf that isn't there has none.
     fn ask(&mut self, leaf: u16) -> Option<Packet>
-        ensures { gives self.old leaf result self.new };
+        ensures answer { gives self.old leaf result self.new }
+        ensures missing { has self.old leaf ≡ false → result ≡ None };
 }

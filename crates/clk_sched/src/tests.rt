@@ -1,7 +1,7 @@
-//! The limits of trees, and each constructor.
+//! The limits of trees, each constructor, and what a tree pulls from.
 
-use crate::Tree;
-use clk_packet::Fault;
+use crate::{Ask, Tree};
+use clk_packet::{Fault, Packet};
 use std::alloc::Global;
 use std::test::Fail;
 
@@ -81,4 +81,37 @@ fn queues_that_stand_twice_are_told(rt: HostRuntime) {
         );
     }
     assert!(rt; Tree::leaf(5).leaves_distinct());
+}
+
+// A queue of one packet at leaf 0, and no other leaf.
+#[derive(Drop)]
+struct OnePacket(Option<Packet>);
+
+impl Ask for OnePacket {
+    ghost use Rattle.std.specs.Prelude.{◌≡◌, ◌==◌, None, if◌then◌else◌};
+
+    ghost has = { λ s leaf. leaf == 0 };
+
+    ghost gives = { λ s leaf got t. got ≡ (if leaf == 0 then s.0 else None) };
+
+    fn ask(&mut self, leaf: u16) -> Option<Packet> {
+        if leaf == 0 { self.0.take() } else { None }
+    }
+}
+
+// Through the bound alone.
+fn ask_twice<Q: Ask>(queues: &mut Q, leaf: u16) -> [Option<Packet>; 2] {
+    [queues.ask(leaf), queues.ask(leaf)]
+}
+
+#[test]
+fn a_leaf_that_is_not_there_has_none(rt: HostRuntime) {
+    let packet = Packet {
+        number: 0,
+        sender: 3,
+        length: 64,
+    };
+    let mut queues = OnePacket(Some(packet));
+    assert_eq!(rt; ask_twice(&mut queues, 1), [None, None]);
+    assert_eq!(rt; ask_twice(&mut queues, 0), [Some(packet), None]);
 }
