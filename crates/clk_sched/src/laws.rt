@@ -3,7 +3,7 @@
 ghost use Rattle.std.specs.Prelude.{◌≡◌, true, List, [], ◌∷◌, map, Some};
 ghost use Rattle.clk_sched.specs.Tree.{root, leaves_distinct};
 ghost use Rattle.clk_sched.specs.Run.{IsRun};
-ghost use Rattle.clk_sched.specs.Step.{GoesOn};
+ghost use Rattle.clk_sched.specs.Step.{GoesOn, CanGoOn};
 ghost use Rattle.clk_sched.specs.Results.{Traced, emitted, heads, leaf_packets, traced_heads};
 ghost use Rattle.clk_sched.specs.Choice.{LeavesNoChoice, PullsLeaveNoChoice};
 ghost use Rattle.clk_sched.specs.Conservation.{IsConserved, ConservesPackets, MakesNothing};
@@ -124,4 +124,9 @@ pub fn result_examples()
     ensures bound_deficit { closing_bound held_at_close_tree 1 ≡ 266 }
     ensures bound_nested { closing_bound nested_tree 1 ≡ 660 }
     ensures bound_prio { closing_bound two_queues_tree 5 ≡ 10 }
+{}
+
+/// A run of a well-formed tree can go on by one pull at each moment that is no earlier than its last, whatever the queues answer.
+pub fn runs_can_go_on()
+    ensures { (tree : _) → CanGoOn tree }
 {}
