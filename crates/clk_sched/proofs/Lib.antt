@@ -17,6 +17,12 @@ pub mod Gives
 pub mod Conserved
 pub mod CameFrom
 pub mod GoesOn
+pub mod Apart
+pub mod Orders
+pub mod Chosen
+pub mod WithAsked
+pub mod Made
+pub mod CanGoOn
 pub mod DeficitShares
 pub mod StrideShares
 pub mod Shares

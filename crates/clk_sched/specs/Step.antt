@@ -1,8 +1,9 @@
 -- What one more pull of a tree may be, after those of a run.
-use Rattle.std.specs.Prelude.{◌≡◌, ℕ, ◌+◌, true, List, [], ◌∷◌, ◌++◌, length, map, reverse, suc, ⊤}
+use Rattle.std.specs.Prelude.{◌≡◌, ℕ, ◌+◌, true, List, [], ◌∷◌, ◌++◌, length, map, reverse, suc, Option, IfSome, ⊤}
 use Rattle.std.specs.List.{AllByRecursion, list_any}
+use Rattle.clk_packet.specs.declared.packet.Packet.{Packet}
 use Rattle.clk_sched.specs.declared.visit.Visit.{Visit}
-use Rattle.clk_sched.specs.Tree.{Row, end, leaf, node, Tree, root, width, nodes}
+use Rattle.clk_sched.specs.Tree.{Row, end, leaf, node, Tree, root, width, nodes, queue_at, IsWellFormed}
 use Rattle.clk_sched.specs.Laws.{AllowsTurn}
 use Rattle.clk_sched.specs.Log.{pulls, visits_of, block, moment_of, HasOneMoment, NeverFalls, turn, asks, pulls_below}
 use Rattle.clk_sched.specs.Laws.Device.{IsDeviceTurn}
@@ -45,3 +46,17 @@ pub record GoesOn (tree : Tree) : Type 0 where
   pub start : IsRun tree []
   pub step : (log pull : List Visit) → IsRun tree log → IsNextPull tree log pull → IsOnePullMore tree log pull
   pub back : (log pull : List Visit) → IsOnePullMore tree log pull → IsOnePullLess tree log pull
+
+-- A pull that may follow a run, at this counted moment, in which each visit that asks a queue gets what is answered at that input
+-- of that node.
+pub record IsPullWith (tree : Tree) (log : List Visit) (moment : ℕ) (answer : ℕ → ℕ → Option Packet) : Type 0 where
+  pub pull : List Visit
+  pub next : IsNextPull tree log pull
+  pub at_moment : moment_of pull ≡ moment
+  pub answered : AllByRecursion (λ (v : Visit). v.fresh ≡ true → IfSome (queue_at tree v.node v.input) (λ q. v.got ≡ answer v.node v.input)) pull
+
+-- A run of a well-formed tree can go on at each moment that is no earlier than its last, whatever the queues answer.
+abbrev pub CanGoOn : Tree → Type 0
+CanGoOn tree =
+    IsWellFormed (root tree) → (log : List Visit) (moment : ℕ) (answer : ℕ → ℕ → Option Packet) → IsRun tree log → NeverFalls 0 (map moment_of (pulls log) ++ moment ∷ [])
+    → IsPullWith tree log moment answer

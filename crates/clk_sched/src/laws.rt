@@ -2,7 +2,7 @@
 
 ghost use Rattle.std.specs.Prelude.{◌≡◌, true};
 ghost use Rattle.clk_sched.specs.Tree.{leaves_distinct};
-ghost use Rattle.clk_sched.specs.Step.{GoesOn};
+ghost use Rattle.clk_sched.specs.Step.{GoesOn, CanGoOn};
 ghost use Rattle.clk_sched.specs.Choice.{LeavesNoChoice, PullsLeaveNoChoice};
 ghost use Rattle.clk_sched.specs.Conservation.{ConservesPackets, MakesNothing};
 ghost use Rattle.clk_sched.specs.Service.{SharesOut};
@@ -10,6 +10,11 @@ ghost use Rattle.clk_sched.specs.Service.{SharesOut};
 /// How a run of a tree begins, and goes on by one pull.
 pub fn runs_go_on()
     ensures { (tree : _) → GoesOn tree }
+{}
+
+/// A run of a well-formed tree can go on by one pull at each moment that is no earlier than its last, whatever the queues answer.
+pub fn runs_can_go_on()
+    ensures { (tree : _) → CanGoOn tree }
 {}
 
 /// A run of a tree leaves nothing to choose but what each queue answers and the moments of the pulls.

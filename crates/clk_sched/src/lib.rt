@@ -12,7 +12,9 @@ pub use examples::{
     deficit_examples, device_examples, nested_examples, priority_examples, result_examples,
     round_robin_examples, shaper_examples, stride_examples,
 };
-pub use laws::{runs_conserve_packets, runs_go_on, runs_leave_no_choice, runs_share_out};
+pub use laws::{
+    runs_can_go_on, runs_conserve_packets, runs_go_on, runs_leave_no_choice, runs_share_out,
+};
 pub use tree::Tree;
 pub use visit::Visit;
 
