@@ -1,13 +1,12 @@
 //! The script: its lines, and what may be wrong with them.
 
-ghost use Rattle.std.specs.Prelude.{◌≡◌, ◌≤◌, ◌⊎◌, None, Some, MatchResult, OnOk};
+ghost use Rattle.std.specs.Prelude.{◌≡◌, ◌≤◌, None, Some, MatchResult, OnOk};
 ghost use Rattle.std.specs.Option.{option_map};
-ghost use Rattle.clk_packet.specs.declared.fault.Fault.TheVariants.{Memory, UnknownSender};
-ghost use Rattle.clickpull.specs.Script.{line_of, command_in, command_fault, fault_at, script_fault, commands_of, most_lines};
+ghost use Rattle.clk_packet.specs.declared.fault.Fault.TheVariants.{UnknownSender};
+ghost use Rattle.clickpull.specs.Script.{line_of, command_in, command_fault, fault_at, most_lines};
 
-use crate::fields::{first_field, first_line, number_in};
+use crate::fields::{first_field, number_in};
 use clk_packet::Fault;
-use std::alloc::Global;
 
 /// How many bytes a script may have.
 pub const MAX_BYTES: usize = 33_554_432;
@@ -91,32 +90,9 @@ impl Line {
     }
 }
 
-/// The commands of a script for these senders, in order. The script is checked line by line: it has at most
-/// 33,554,432 bytes and 1,000,000 lines (fault 18), each a command or blank (16), and names these senders alone (15).
-pub fn read_commands(alloc: Global, senders: &[u16], script: &[u8]) -> Result<Vec<Command>, Fault>
-    ensures { MatchResult result
-        (λ commands. (script_fault senders.now script.now ≡ None) × (commands.items ≡ commands_of script.now))
-        (λ fault. (fault ≡ Memory) ⊎ (script_fault senders.now script.now ≡ Some fault)) }
-{
-    if script.len() > MAX_BYTES {
-        return Err(Fault::TooLarge);
-    }
-    let mut commands = Vec::new(alloc);
-    let mut number = 0;
-    let mut rest = script;
-    while !rest.is_empty() {
-        let (text, after) = first_line(rest);
-        number += 1;
-        if let Some(command) = command_at(senders, number, text)? {
-            commands.push(command)?;
-        }
-        rest = after;
-    }
-    Ok(commands)
-}
-
-/// The command of the line of this number, counted from 1, unless it is blank.
-fn command_at(senders: &[u16], number: u32, text: &[u8]) -> Result<Option<Command>, Fault>
+/// The command of the line of this number, counted from 1, unless it is blank. The line is one of the first 1,000,000
+/// (fault 18), a command or blank (16), and names one of these senders alone (15).
+pub fn command_at(senders: &[u16], number: u32, text: &[u8]) -> Result<Option<Command>, Fault>
     ensures exact { MatchResult result
         (λ command. (fault_at senders.now (number, text.now) ≡ None) × (command ≡ command_in (line_of text.now)))
         (λ fault. fault_at senders.now (number, text.now) ≡ Some fault) }
