@@ -1,10 +1,11 @@
 -- The fields and lines of a text, one after another.
-use Rattle.std.proofs.Common.{◌≡◌, ℕ, ◌<◌, ◌==◌, Bool, true, false, List, [], ◌∷◌, length, take, drop, refl, sym, ap, ◌∙◌, add_comm, add-one, arith}
+use Rattle.std.proofs.Common.{◌≡◌, ℕ, ◌<◌, ◌==◌, Bool, true, false, List, [], ◌∷◌, length, take, drop, get_or, Option, Some, None, unwrap_or, refl, sym, ap, ◌∙◌, add_comm, add-one, arith}
 use Rattle.std.specs.List.{position_or_len, prefix_len, slice_split, filter, before_first, after_first}
 use Rattle.std.proofs.lemmas.List.Splits.{slice_split_first, slice_split_none, length-slice_split}
-use Rattle.std.proofs.lemmas.List.Sums.{fails_before_first}
+use Rattle.std.proofs.lemmas.List.Sums.{fails_before_first, position_or_len_is}
 use Rattle.std.specs.Str.Lines.{lines, lines_of_parts, strip_carriage_return}
 use Rattle.std.proofs.lemmas.Bool.Decides.{nat_tests}
+use Rattle.memchr.specs.Find.{IsFirstByte, is_byte}
 use Rattle.clickpull.specs.Script.{is_blank, has_bytes, fields}
 use Rattle.clickpull.specs.Fields.{field_at}
 
@@ -57,6 +58,20 @@ skipped (byte ∷ text) = by_test (is_blank byte) refl (skipped text)
     by_test : (b : Bool) → is_blank byte ≡ b → prefix_len is_blank (drop (prefix_len is_blank text) text) ≡ 0 → prefix_len is_blank (drop (prefix_len is_blank (byte ∷ text)) (byte ∷ text)) ≡ 0
     by_test true e h = rw (e, add_comm 1 (prefix_len is_blank text), add-one) h
     by_test false e h = rw (e, e) refl
+
+-- where a search finds the first line feed, or the end
+pub first-feed : (text : List ℕ) (found : Option ℕ) → IsFirstByte (is_byte 10) text found → unwrap_or found (length text) ≡ position_or_len (λ byte. byte == 10) text
+first-feed text found h = by_case found h
+  where
+    fails : (b : Bool) → ¬ (b ≡ true) → b ≡ false
+    fails true fail = absurd (fail refl)
+    fails false fail = refl
+
+    by_case : (found : Option ℕ) → IsFirstByte (is_byte 10) text found → unwrap_or found (length text) ≡ position_or_len (λ byte. byte == 10) text
+    by_case None h = sym (position_or_len_is (λ byte. byte == 10) text (length text) 0 (omega arith) (λ k lt. fails (get_or text k 0 == 10) (h k (omega arith) lt)) (λ lt. absurd (omega arith)))
+    by_case (Some k) h =
+        let inside = h.0.high in
+        sym (position_or_len_is (λ byte. byte == 10) text k 0 (omega arith) (λ j lt. fails (get_or text j 0 == 10) (h.0.before j (omega arith) lt)) (λ lt. h.1))
 
 -- the first line of a text that goes on after it
 pub lines-first : (text : List ℕ) → position_or_len (λ byte. byte == 10) text < length text → lines text ≡ strip_carriage_return (before_first (λ byte. byte == 10) text) ∷ lines (after_first (λ byte. byte == 10) text)

@@ -6,6 +6,8 @@ ghost use Rattle.std.specs.Str.Lines.{lines, strip_carriage_return};
 ghost use Rattle.clickpull.specs.Script.{is_blank, fields, number_in};
 ghost use Rattle.clickpull.specs.Fields.{field_at};
 
+use memchr::memchr;
+
 /// Whether a byte parts fields.
 fn is_blank(byte: u8) -> bool
     ensures { result ≡ is_blank byte }
@@ -43,7 +45,10 @@ fn line_len(text: &[u8]) -> usize
     ensures place { result ≡ position_or_len (λ byte. byte == 10) text.now }
     ensures within { result ≤ length text.now }
 {
-    text.iter().take_while(|byte| **byte != b'\n').count()
+    match memchr(b'\n', text) {
+        Some(place) => place,
+        None => text.len(),
+    }
 }
 
 /// A line without the carriage return at its end, if it has one.
