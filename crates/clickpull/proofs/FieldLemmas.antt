@@ -1,19 +1,11 @@
 -- The fields and lines of a text, one after another.
-use Rattle.std.proofs.Common.{◌≡◌, ℕ, Result, Ok, Err, IsTrue, ◌&&◌, ◌^◌, nat_lt, ◌<◌, ◌==◌, Bool, true, false, List, [], ◌∷◌, length, take, drop, refl, sym, ap, ◌∙◌, add_comm, add-one, arith}
+use Rattle.std.proofs.Common.{◌≡◌, ℕ, ◌<◌, ◌==◌, Bool, true, false, List, [], ◌∷◌, length, take, drop, get_or, Option, Some, None, unwrap_or, refl, sym, ap, ◌∙◌, add_comm, add-one, arith}
 use Rattle.std.specs.List.{position_or_len, prefix_len, slice_split, filter, before_first, after_first}
 use Rattle.std.proofs.lemmas.List.Splits.{slice_split_first, slice_split_none, length-slice_split}
-use Rattle.std.proofs.lemmas.List.Sums.{fails_before_first}
+use Rattle.std.proofs.lemmas.List.Sums.{fails_before_first, position_or_len_is}
 use Rattle.std.specs.Str.Lines.{lines, lines_of_parts, strip_carriage_return}
 use Rattle.std.proofs.lemmas.Bool.Decides.{nat_tests}
-use Rattle.std.specs.List.{list_all}
-use Rattle.std.specs.Option.{SomeIff}
-use Rattle.std.specs.Result.{OkIff, result_ok}
-use Rattle.std.specs.Char.{is_ascii_digit}
-use Rattle.std.specs.Str.{all_ascii_digits, IsUtf8}
-use Rattle.std.specs.Str.Parse.{digits_value, ParsesUnsigned}
-use Rattle.std.proofs.lemmas.Str.{IsUtf8-from_ascii}
-use Rattle.std.proofs.lemmas.Fmt.{IsAscii-from_digits}
-use Rattle.std.proofs.lemmas.Str.Parse.{IsNumeralModel, numerals_by_value, tells_all_ascii_digits, parse_digits}
+use Rattle.memchr.specs.Find.{IsFirstByte, is_byte}
 use Rattle.clickpull.specs.Script.{is_blank, has_bytes, fields}
 use Rattle.clickpull.specs.Fields.{field_at}
 
@@ -67,6 +59,20 @@ skipped (byte ∷ text) = by_test (is_blank byte) refl (skipped text)
     by_test true e h = rw (e, add_comm 1 (prefix_len is_blank text), add-one) h
     by_test false e h = rw (e, e) refl
 
+-- where a search finds the first line feed, or the end
+pub first-feed : (text : List ℕ) (found : Option ℕ) → IsFirstByte (is_byte 10) text found → unwrap_or found (length text) ≡ position_or_len (λ byte. byte == 10) text
+first-feed text found h = by_case found h
+  where
+    fails : (b : Bool) → ¬ (b ≡ true) → b ≡ false
+    fails true fail = absurd (fail refl)
+    fails false fail = refl
+
+    by_case : (found : Option ℕ) → IsFirstByte (is_byte 10) text found → unwrap_or found (length text) ≡ position_or_len (λ byte. byte == 10) text
+    by_case None h = sym (position_or_len_is (λ byte. byte == 10) text (length text) 0 (omega arith) (λ k lt. fails (get_or text k 0 == 10) (h k (omega arith) lt)) (λ lt. absurd (omega arith)))
+    by_case (Some k) h =
+        let inside = h.0.high in
+        sym (position_or_len_is (λ byte. byte == 10) text k 0 (omega arith) (λ j lt. fails (get_or text j 0 == 10) (h.0.before j (omega arith) lt)) (λ lt. h.1))
+
 -- the first line of a text that goes on after it
 pub lines-first : (text : List ℕ) → position_or_len (λ byte. byte == 10) text < length text → lines text ≡ strip_carriage_return (before_first (λ byte. byte == 10) text) ∷ lines (after_first (λ byte. byte == 10) text)
 lines-first text h =
@@ -85,26 +91,3 @@ lines-last (byte ∷ text) h e =
   where
     kept : lines_of_parts ((byte ∷ text) ∷ []) ≡ (byte ∷ text) ∷ lines []
     kept = grind (arith, nat_tests)
-
-digits-all : (ds : List ℕ) → list_all is_ascii_digit ds ≡ all_ascii_digits ds
-digits-all [] = refl
-digits-all (d ∷ ds) = ap (λ b. is_ascii_digit d && b) (digits-all ds)
-
--- digits are a number's digits
-numerals : IsNumeralModel (λ ds. all_ascii_digits ds ≡ true) (digits_value 10)
-numerals = numerals_by_value _ tells_all_ascii_digits
-
-pub IsUtf8-digits : (ds : List ℕ) → list_all is_ascii_digit ds ≡ true → IsUtf8 ds
-IsUtf8-digits ds e = IsUtf8-from_ascii ds (IsAscii-from_digits ds (numerals.to ds (sym (digits-all ds) ∙ e)))
-
--- what reading digits as a number of 64 bits gives
-pub number-parsed : {E : Type 0} (ds : List ℕ) (r : Result ℕ E) → list_all is_ascii_digit ds ≡ true → ParsesUnsigned 64 10 ds r
-    → SomeIff (result_ok r) (IsTrue (all_ascii_digits ds && has_bytes ds && nat_lt (digits_value 10 ds) (2 ^ 64))) (digits_value 10 ds)
-number-parsed ds r e h = by_cases ds r (sym (digits-all ds) ∙ e) (parse_digits numerals 64 ds r h (sym (digits-all ds) ∙ e))
-  where
-    by_cases : {E : Type 0} (ds : List ℕ) (r : Result ℕ E) → all_ascii_digits ds ≡ true → OkIff r ((0 < length ds) × (digits_value 10 ds < 2 ^ 64)) (digits_value 10 ds)
-        → SomeIff (result_ok r) (IsTrue (all_ascii_digits ds && has_bytes ds && nat_lt (digits_value 10 ds) (2 ^ 64))) (digits_value 10 ds)
-    by_cases [] (Ok x) e h = absurd (omega (arith, h.0.0))
-    by_cases (d ∷ ds) (Ok x) e h = let small = h.0.1 in (grind (arith, nat_tests), h.1)
-    by_cases [] (Err x) e h = λ t. absurd (grind (arith, nat_tests))
-    by_cases (d ∷ ds) (Err x) e h = λ t. h (omega arith, grind (arith, nat_tests))

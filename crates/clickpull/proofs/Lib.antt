@@ -1,5 +1,6 @@
 -- Lemmas that answers cite.
 pub mod FieldLemmas
+pub mod NumberLemmas
 pub mod LineLemmas
 pub mod EventLemmas
 pub mod BuiltinLemmas

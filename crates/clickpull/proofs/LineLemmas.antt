@@ -1,10 +1,11 @@
 -- What the fields of a line say, by their places.
-use Rattle.std.proofs.Common.{◌≡◌, ℕ, ◌<◌, Bool, true, false, suc, List, [], ◌∷◌, length, drop, codes, refl, arith}
+use Rattle.std.proofs.Common.{◌≡◌, ℕ, ◌<◌, true, suc, List, [], ◌∷◌, length, drop, codes, Some, refl, ap, ◌∙◌, arith}
 use Rattle.std.specs.List.{AllByRecursion, filter, slice_split}
-use Rattle.std.specs.Str.{bytes_eq}
 use Rattle.std.proofs.lemmas.Bool.{false≢true}
 use Rattle.clickpull.specs.declared.script.Line.TheVariants as line
-use Rattle.clickpull.specs.Script.{is_blank, has_bytes, fields, line_of_fields, pull_line, send_line}
+use Rattle.clk_packet.specs.Limits.{most_sender, most_length}
+use Rattle.clickpull.specs.declared.script.Command.TheVariants.{Send, Pull}
+use Rattle.clickpull.specs.Script.{is_blank, has_bytes, fields, number_in, line_of_fields, most_moment}
 use Rattle.clickpull.specs.Fields.{field_at}
 
 pub record HaveBytes (all : List (List ℕ)) : Type 0 where
@@ -32,31 +33,24 @@ line-none [] h e = refl
 line-none ([] ∷ more) h e = absurd (false≢true h.each.0)
 line-none ((byte ∷ bytes) ∷ more) h e = absurd (omega arith)
 
--- one field or two
-pub line-two : (all : List (List ℕ)) → HaveBytes all → 0 < length (field_at all 0) → length (field_at all 2) ≡ 0 → line_of_fields all ≡ pull_line (field_at all 0) (field_at all 1)
-line-two [] h some e = absurd (omega arith)
-line-two (word ∷ []) h some e = by_test (bytes_eq word (codes "pull")) refl
-  where
-    by_test : (b : Bool) → bytes_eq word (codes "pull") ≡ b → line.Malformed ≡ pull_line word []
-    by_test true e = rw e refl
-    by_test false e = rw e refl
-line-two (word ∷ moment ∷ []) h some e = refl
-line-two (word ∷ moment ∷ [] ∷ more) h some e = absurd (false≢true h.each.1.1.0)
-line-two (word ∷ moment ∷ (byte ∷ bytes) ∷ more) h some e = absurd (omega arith)
+-- fields by their first and the others
+pub line-word : (all rest : List (List ℕ)) (word : List ℕ) → 0 < length word → word ≡ field_at all 0 → rest ≡ drop 1 all → line_of_fields (word ∷ rest) ≡ line_of_fields all
+line-word [] rest word some e f = absurd (let none = ap length e in omega arith)
+line-word (first ∷ more) rest word some e f = ap line_of_fields (ap (λ w. w ∷ rest) e ∙ ap (λ r. first ∷ r) f)
 
--- three fields
-pub line-three : (all : List (List ℕ)) → HaveBytes all → 0 < length (field_at all 2) → length (field_at all 3) ≡ 0 → line_of_fields all ≡ send_line (field_at all 0) (field_at all 1) (field_at all 2)
-line-three [] h some e = absurd (omega arith)
-line-three (word ∷ []) h some e = absurd (omega arith)
-line-three (word ∷ sender ∷ []) h some e = absurd (omega arith)
-line-three (word ∷ sender ∷ size ∷ []) h some e = refl
-line-three (word ∷ sender ∷ size ∷ [] ∷ more) h some e = absurd (false≢true h.each.1.1.1.0)
-line-three (word ∷ sender ∷ size ∷ (byte ∷ bytes) ∷ more) h some e = absurd (omega arith)
+-- `pull` and one number
+pub line-pull : (all : List (List ℕ)) (moment : ℕ) → HaveBytes all → number_in 0 most_moment (field_at all 0) ≡ Some moment → length (field_at all 1) ≡ 0
+    → line_of_fields (codes "pull" ∷ all) ≡ line.Command (Pull moment)
+line-pull [] m h e none = absurd (cc e)
+line-pull (moment ∷ []) m h e none = rw e refl
+line-pull (moment ∷ [] ∷ more) m h e none = absurd (false≢true h.each.1.0)
+line-pull (moment ∷ (byte ∷ bytes) ∷ more) m h e none = absurd (omega arith)
 
--- more fields
-pub line-more : (all : List (List ℕ)) → 0 < length (field_at all 3) → line_of_fields all ≡ line.Malformed
-line-more [] some = absurd (omega arith)
-line-more (word ∷ []) some = absurd (omega arith)
-line-more (word ∷ first ∷ []) some = absurd (omega arith)
-line-more (word ∷ first ∷ second ∷ []) some = absurd (omega arith)
-line-more (word ∷ first ∷ second ∷ third ∷ more) some = refl
+-- `send` and two numbers
+pub line-send : (all : List (List ℕ)) (sender size : ℕ) → HaveBytes all → number_in 0 most_sender (field_at all 0) ≡ Some sender → number_in 1 most_length (field_at all 1) ≡ Some size
+    → length (field_at all 2) ≡ 0 → line_of_fields (codes "send" ∷ all) ≡ line.Command (Send sender size)
+line-send [] s l h e f none = absurd (cc e)
+line-send (sender ∷ []) s l h e f none = absurd (cc f)
+line-send (sender ∷ size ∷ []) s l h e f none = rw (e, f) refl
+line-send (sender ∷ size ∷ [] ∷ more) s l h e f none = absurd (false≢true h.each.1.1.0)
+line-send (sender ∷ size ∷ (byte ∷ bytes) ∷ more) s l h e f none = absurd (omega arith)

@@ -38,14 +38,13 @@ whole senders all e = by_test (nat_lt most_bytes (length all)) refl
     by_test false f = take_all 33554433 all (grind (arith, nat_tests))
 
 -- the meaning of a script whose first bytes were read
-pub meaning-known : (known : Option (List ℕ)) (bytes : List ℕ) (commands : List Command) (text : List ℕ) (P : List ℕ → Type 0) → IfSome known (λ all. bytes ≡ take (most_bytes + 1) all)
-    → script_fault (sender_numbers builtin) bytes ≡ None → commands ≡ commands_of bytes → Writes builtin commands text → P text
-    → IfSome known (λ script. (t : List ℕ) × IsMeaning builtin script t × P t)
-meaning-known None bytes commands text P is e c w p = tt
-meaning-known (Some all) bytes commands text P is e c w p =
+pub meaning-known : (known : Option (List ℕ)) (bytes text : List ℕ) (P : List ℕ → Type 0) → IfSome known (λ all. bytes ≡ take (most_bytes + 1) all)
+    → script_fault (sender_numbers builtin) bytes ≡ None → Writes builtin (commands_of bytes) text → P text → IfSome known (λ script. (t : List ℕ) × IsMeaning builtin script t × P t)
+meaning-known None bytes text P is e w p = tt
+meaning-known (Some all) bytes text P is e w p =
     let sound = rw is at e in
     let all_of_it : bytes ≡ all = is ∙ whole (sender_numbers builtin) all sound in
-    (text, record { sound = sym (fault-cut (sender_numbers builtin) all) ∙ sound; written = subst (λ (cs : List Command). Writes builtin cs text) (c ∙ ap commands_of all_of_it) w }, p)
+    (text, record { sound = sym (fault-cut (sender_numbers builtin) all) ∙ sound; written = subst (λ (script : List ℕ). Writes builtin (commands_of script) text) all_of_it w }, p)
 
 -- the faults that a script may have
 abbrev IsOfScript : Fault → Type 0

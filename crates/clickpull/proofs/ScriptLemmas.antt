@@ -1,12 +1,11 @@
 -- What a script with no fault is, and what faults a script may have.
-use Rattle.std.proofs.Common.{◌≡◌, ℕ, ◌+◌, ◌≤◌, ◌&&◌, ◌==◌, Bool, true, false, cond, nat_lt, nat_le, List, [], ◌∷◌, length, codes, slice_get, Option, Some, None, refl, IfSome, arith}
+use Rattle.std.proofs.Common.{◌≡◌, ℕ, ◌+◌, ◌≤◌, ◌&&◌, ◌==◌, Bool, true, false, cond, nat_lt, nat_le, List, [], ◌∷◌, length, codes, slice_get, Option, Some, None, refl, sym, subst, IfSome, arith}
 use Rattle.std.specs.Bool.{⊤}
-use Rattle.std.specs.List.{filter_map, enumerate_from, AllByRecursion, All, list_any}
+use Rattle.std.specs.List.{filter_map, enumerate_from, AllByRecursion, list_any}
 use Rattle.std.specs.Str.{all_ascii_digits, bytes_eq}
 use Rattle.std.specs.Str.Parse.{digits_value}
 use Rattle.std.specs.Str.Lines.{lines}
 use Rattle.std.proofs.lemmas.Bool.Decides.{nat_tests}
-use Rattle.std.proofs.lemmas.List.Elements.{All-from_recursion}
 use Rattle.clk_packet.specs.declared.fault.Fault.{Fault}
 use Rattle.clk_packet.specs.Limits.{most_sender, most_length}
 use Rattle.clickpull.specs.declared.script.Command.{Command}
@@ -72,42 +71,36 @@ line_sound senders number (line.Command (Send sender size)) s e = by_test (list_
     by_test true f = (f, s)
     by_test false f = let no = rw f at e in absurd (cc)
 
--- the lines from the n-th on have no fault
-pub record HasNoFault (senders : List ℕ) (n : ℕ) (texts : List (List ℕ)) : Type 0 where
-  pub sound : AllByRecursion (IsSound senders) (filter_map (λ text. command_in (line_of text)) texts)
-  pub few : n + length (filter_map (λ text. command_in (line_of text)) texts) ≤ (most_lines + 1)
-
-no_fault : (senders : List ℕ) (n : ℕ) (texts : List (List ℕ)) → n ≤ (most_lines + 1) → slice_get (filter_map (fault_at senders) (enumerate_from n texts)) 0 ≡ None → HasNoFault senders n texts
-no_fault senders n [] h e = record { sound = tt; few = omega arith }
-no_fault senders n (text ∷ texts) h e = by_fault (fault_at senders (n, text)) refl (no_fault senders (n + 1) texts)
+-- a line of a script with no fault can be carried out
+text_sound : (senders : List ℕ) (n : ℕ) (text : List ℕ) → fault_at senders (n, text) ≡ None → IfSome (command_in (line_of text)) (IsSound senders)
+text_sound senders n text e = by_test (nat_lt most_lines n) refl
   where
-    by_command : (o : Option Command) → command_in (line_of text) ≡ o → IfSome o (IsSound senders) → n ≤ most_lines → HasNoFault senders (n + 1) texts → HasNoFault senders n (text ∷ texts)
-    by_command None f sound l rest = record { sound = rw f rest.sound; few = rw f (let few = rest.few in omega arith) }
-    by_command (Some command) f sound l rest = record { sound = rw f (sound, rest.sound); few = rw f (let few = rest.few in omega arith) }
+    by_test : (b : Bool) → nat_lt most_lines n ≡ b → IfSome (command_in (line_of text)) (IsSound senders)
+    by_test true f = let no = rw f at e in absurd (cc)
+    by_test false f = line_sound senders n (line_of text) (sends_some (fields text)) (rw f at e)
 
-    by_test : (b : Bool) → nat_lt most_lines n ≡ b → fault_at senders (n, text) ≡ None → (n ≤ most_lines) × (line_fault senders n (line_of text) ≡ None)
-    by_test true f g = let no = rw f at g in absurd (cc)
-    by_test false f g = (grind (arith, nat_tests), rw f at g)
+pub command-sound : (senders : List ℕ) (n : ℕ) (text : List ℕ) (command : Command) → fault_at senders (n, text) ≡ None → Some command ≡ command_in (line_of text) → IsSound senders command
+command-sound senders n text command e is = subst (λ (o : Option Command). IfSome o (IsSound senders)) (sym is) (text_sound senders n text e)
 
-    by_fault : (o : Option Fault) → fault_at senders (n, text) ≡ o → (n + 1 ≤ (most_lines + 1) → slice_get (filter_map (fault_at senders) (enumerate_from (n + 1) texts)) 0 ≡ None → HasNoFault senders (n + 1) texts) → HasNoFault senders n (text ∷ texts)
-    by_fault None f rest =
-        let t = by_test (nat_lt most_lines n) refl f in
-        by_command (command_in (line_of text)) refl (line_sound senders n (line_of text) (sends_some (fields text)) t.1) t.0 (rest (omega (arith, t.0)) (rw f at e))
+texts_sound : (senders : List ℕ) (n : ℕ) (texts : List (List ℕ)) → slice_get (filter_map (fault_at senders) (enumerate_from n texts)) 0 ≡ None → AllByRecursion (IsSound senders) (filter_map (λ text. command_in (line_of text)) texts)
+texts_sound senders n [] e = tt
+texts_sound senders n (text ∷ texts) e = by_fault (fault_at senders (n, text)) refl (texts_sound senders (n + 1) texts)
+  where
+    by_command : (o : Option Command) → command_in (line_of text) ≡ o → IfSome o (IsSound senders) → AllByRecursion (IsSound senders) (filter_map (λ text. command_in (line_of text)) texts)
+        → AllByRecursion (IsSound senders) (filter_map (λ text. command_in (line_of text)) (text ∷ texts))
+    by_command None f sound rest = rw f rest
+    by_command (Some command) f sound rest = rw f (sound, rest)
+
+    by_fault : (o : Option Fault) → fault_at senders (n, text) ≡ o
+        → (slice_get (filter_map (fault_at senders) (enumerate_from (n + 1) texts)) 0 ≡ None → AllByRecursion (IsSound senders) (filter_map (λ text. command_in (line_of text)) texts))
+        → AllByRecursion (IsSound senders) (filter_map (λ text. command_in (line_of text)) (text ∷ texts))
+    by_fault None f rest = by_command (command_in (line_of text)) refl (text_sound senders n text f) (rest (rw f at e))
     by_fault (Some fault) f rest = let no = rw f at e in absurd (cc)
 
--- a script with no fault can be carried out
-script_lines : (senders script : List ℕ) → script_fault senders script ≡ None → slice_get (filter_map (fault_at senders) (enumerate_from 1 (lines script))) 0 ≡ None
-script_lines senders script e = by_test (nat_lt most_bytes (length script)) refl
-  where
-    by_test : (b : Bool) → nat_lt most_bytes (length script) ≡ b → slice_get (filter_map (fault_at senders) (enumerate_from 1 (lines script))) 0 ≡ None
-    by_test true f = let no = rw f at e in absurd (cc)
-    by_test false f = rw f at e
-
+-- so can a script
 pub each-command-sound : (senders script : List ℕ) → script_fault senders script ≡ None → AllByRecursion (IsSound senders) (commands_of script)
-each-command-sound senders script e = (no_fault senders 1 (lines script) (omega arith) (script_lines senders script e)).sound
-
-pub commands-sound : (senders script : List ℕ) → script_fault senders script ≡ None → All (IsSound senders) (commands_of script)
-commands-sound senders script e = All-from_recursion (IsSound senders) (commands_of script) (each-command-sound senders script e)
-
-pub commands-few : (senders script : List ℕ) → script_fault senders script ≡ None → length (commands_of script) ≤ most_lines
-commands-few senders script e = let few = (no_fault senders 1 (lines script) (omega arith) (script_lines senders script e)).few in omega arith
+each-command-sound senders script e = by_test (nat_lt most_bytes (length script)) refl
+  where
+    by_test : (b : Bool) → nat_lt most_bytes (length script) ≡ b → AllByRecursion (IsSound senders) (commands_of script)
+    by_test true f = let no = rw f at e in absurd (cc)
+    by_test false f = texts_sound senders 1 (lines script) (rw f at e)

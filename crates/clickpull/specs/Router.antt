@@ -73,3 +73,8 @@ pub record CarriesOut (new : Router) (command : Command) (before after : List �
 abbrev pub IsSound : List ℕ → Command → Type 0
 IsSound senders (Send sender length) = (list_any (λ s. s == sender) senders ≡ true) × (1 ≤ length)
 IsSound senders (Pull moment) = ⊤
+
+-- A line of this command, or of none, was answered: nothing changed, or the command is carried out wherever the router was.
+abbrev pub AnswersLine : Router → Router → List ℕ → List ℕ → Option Command → Type 0
+AnswersLine old new before after None = (new ≡ old) × (after ≡ before)
+AnswersLine old new before after (Some command) = (events : List Event) → IsAt events old → CarriesOut new command before after events

@@ -1,14 +1,12 @@
 //! Lines, fields and numbers in the bytes of a script.
 
-ghost use Rattle.std.specs.Prelude.{◌≡◌, ℕ, ◌<◌, ◌≤◌, ◌==◌, ◌^◌, ◌∷◌, ◌&&◌, length, drop, not, nat_lt, IsTrue};
-ghost use Rattle.std.specs.Char.{is_ascii_digit};
-ghost use Rattle.std.specs.List.{position_or_len, prefix_len, list_all};
-ghost use Rattle.std.specs.Option.{SomeIff};
-ghost use Rattle.std.specs.Str.{all_ascii_digits};
-ghost use Rattle.std.specs.Str.Parse.{digits_value};
+ghost use Rattle.std.specs.Prelude.{◌≡◌, ℕ, ◌<◌, ◌≤◌, ◌==◌, ◌^◌, ◌∷◌, length, drop, not, None, Some, MatchOption};
+ghost use Rattle.std.specs.List.{position_or_len, prefix_len};
 ghost use Rattle.std.specs.Str.Lines.{lines, strip_carriage_return};
-ghost use Rattle.clickpull.specs.Script.{is_blank, has_bytes, fields, number_in};
+ghost use Rattle.clickpull.specs.Script.{is_blank, fields, number_in};
 ghost use Rattle.clickpull.specs.Fields.{field_at};
+
+use memchr::memchr;
 
 /// Whether a byte parts fields.
 fn is_blank(byte: u8) -> bool
@@ -47,7 +45,10 @@ fn line_len(text: &[u8]) -> usize
     ensures place { result ≡ position_or_len (λ byte. byte == 10) text.now }
     ensures within { result ≤ length text.now }
 {
-    text.iter().take_while(|byte| **byte != b'\n').count()
+    match memchr(b'\n', text) {
+        Some(place) => place,
+        None => text.len(),
+    }
 }
 
 /// A line without the carriage return at its end, if it has one.
@@ -73,29 +74,36 @@ pub fn first_line(text: &[u8]) -> (&[u8], &[u8])
     }
 }
 
-/// The number that digits stand for, where it is in this range.
-pub fn number_in(digits: &[u8], least: u64, most: u64) -> Option<u64>
-    ensures { result ≡ number_in least most digits.now }
+/// The number in the first field of a text, where it is one in this range, and what follows the field.
+pub fn first_number(text: &[u8], least: u64, most: u64) -> Option<(u64, &[u8])>
+    requires { most < 2 ^ 60 }
+    ensures { MatchOption result (number_in least most (field_at (fields text.now) 0) ≡ None)
+        (λ r. (number_in least most (field_at (fields text.now) 0) ≡ Some r.0) × (fields r.1.now ≡ drop 1 (fields text.now))) }
 {
-    let number = number_of(digits)?;
-    (least <= number && number <= most).then_some(number)
-}
-
-/// The number that digits stand for, where there are some and it is below 2^64.
-fn number_of(digits: &[u8]) -> Option<u64>
-    ensures { SomeIff result (IsTrue (all_ascii_digits digits.now && has_bytes digits.now && nat_lt (digits_value 10 digits.now) (2 ^ 64))) (digits_value 10 digits.now) }
-{
-    if !are_digits(digits) {
+    let (_, field) = text.split_at(blanks_len(text));
+    if field.is_empty() {
         return None;
     }
-    match str::from_utf8(digits) {
-        Ok(text) => text.parse().ok(),
-        Err(_) => None,
+    let mut number = 0;
+    let mut rest = field;
+    while let [byte, after @ ..] = rest {
+        if !byte.is_ascii_digit() {
+            if !is_blank(*byte) {
+                return None;
+            }
+            if number < least {
+                return None;
+            }
+            return Some((number, rest));
+        }
+        number = number * 10 + u64::from(*byte - b'0');
+        if number > most {
+            return None;
+        }
+        rest = after;
     }
-}
-
-fn are_digits(text: &[u8]) -> bool
-    ensures { result ≡ list_all is_ascii_digit text.now }
-{
-    text.iter().all(|byte| byte.is_ascii_digit())
+    if number < least {
+        return None;
+    }
+    Some((number, rest))
 }

@@ -10,8 +10,7 @@ ghost use Rattle.clickpull.specs.Builtin.{builtin};
 
 use crate::answer::answer;
 use crate::bytes::{read_up_to, write_all};
-use crate::router::SENDERS;
-use crate::script::{MAX_BYTES, read_commands};
+use crate::script::MAX_BYTES;
 use clk_packet::{Fault, Sink, Source};
 use std::alloc::Global;
 
@@ -43,7 +42,6 @@ pub fn run_builtin<R: Source, W: Sink>(
     ensures limit { Takes (most_bytes + 1) (R.Source.remaining reader.old) (R.Source.remaining reader.new) }
 {
     let script = read_up_to(alloc, reader, MAX_BYTES + 1)?;
-    let commands = read_commands(alloc, &SENDERS, &script)?;
-    let text = answer(alloc, &commands)?;
+    let text = answer(alloc, &script)?;
     write_all(writer, &text)
 }

@@ -1,13 +1,12 @@
 //! The script: its lines, and what may be wrong with them.
 
-ghost use Rattle.std.specs.Prelude.{◌≡◌, ◌≤◌, ◌⊎◌, None, Some, MatchResult, OnOk};
+ghost use Rattle.std.specs.Prelude.{◌≡◌, ◌≤◌, None, Some, MatchResult, OnOk};
 ghost use Rattle.std.specs.Option.{option_map};
-ghost use Rattle.clk_packet.specs.declared.fault.Fault.TheVariants.{Memory, UnknownSender};
-ghost use Rattle.clickpull.specs.Script.{line_of, command_in, command_fault, fault_at, script_fault, commands_of, most_lines};
+ghost use Rattle.clk_packet.specs.declared.fault.Fault.TheVariants.{UnknownSender};
+ghost use Rattle.clickpull.specs.Script.{line_of, command_in, command_fault, fault_at, most_lines};
 
-use crate::fields::{first_field, first_line, number_in};
+use crate::fields::{first_field, first_number};
 use clk_packet::Fault;
-use std::alloc::Global;
 
 /// How many bytes a script may have.
 pub const MAX_BYTES: usize = 33_554_432;
@@ -38,85 +37,75 @@ pub enum Line {
 }
 
 impl Line {
-    ghost use Rattle.std.specs.Prelude.{◌≡◌};
-    ghost use Rattle.clickpull.specs.Script.{line_of, pull_line, send_line};
+    ghost use Rattle.std.specs.Prelude.{◌≡◌, ◌∷◌, codes};
+    ghost use Rattle.clickpull.specs.Script.{fields, line_of, line_of_fields};
 
     /// Reads a line, which is given without its end.
     pub fn read(text: &[u8]) -> Line
         ensures { result ≡ line_of text.now }
     {
+        match text {
+            [b'p', b'u', b'l', b'l', b' ', rest @ ..] => Line::pull(rest),
+            [b's', b'e', b'n', b'd', b' ', rest @ ..] => Line::send(rest),
+            _ => Line::read_any(text),
+        }
+    }
+
+    /// Reads any line.
+    fn read_any(text: &[u8]) -> Line
+        ensures { result ≡ line_of text.now }
+    {
         let (word, rest) = first_field(text);
-        let (first, rest) = first_field(rest);
-        let (second, rest) = first_field(rest);
-        let (third, _) = first_field(rest);
         if word.is_empty() {
             return Line::Blank;
         }
-        if second.is_empty() {
-            return Line::pull(word, first);
+        if word == b"pull".as_slice() {
+            return Line::pull(rest);
         }
-        if third.is_empty() {
-            return Line::send(word, first, second);
+        if word == b"send".as_slice() {
+            return Line::send(rest);
         }
         Line::Malformed
     }
 
-    /// The line `pull M`, of its word and its number.
-    fn pull(word: &[u8], moment: &[u8]) -> Line
-        ensures { result ≡ pull_line word.now moment.now }
+    /// The line `pull M`, of what follows its word.
+    fn pull(text: &[u8]) -> Line
+        ensures { result ≡ line_of_fields (codes "pull" ∷ fields text.now) }
     {
-        if word != b"pull".as_slice() {
+        let Some((moment, rest)) = first_number(text, 0, MAX_MOMENT) else {
+            return Line::Malformed;
+        };
+        let (more, _) = first_field(rest);
+        if !more.is_empty() {
             return Line::Malformed;
         }
-        match number_in(moment, 0, MAX_MOMENT) {
-            Some(moment) => Line::Command(Command::Pull { moment }),
-            None => Line::Malformed,
-        }
+        Line::Command(Command::Pull { moment })
     }
 
-    /// The line `send S L`, of its word and its numbers.
-    fn send(word: &[u8], sender: &[u8], length: &[u8]) -> Line
-        ensures { result ≡ send_line word.now sender.now length.now }
+    /// The line `send S L`, of what follows its word.
+    fn send(text: &[u8]) -> Line
+        ensures { result ≡ line_of_fields (codes "send" ∷ fields text.now) }
     {
-        if word != b"send".as_slice() {
+        let Some((sender, rest)) = first_number(text, 0, 65_535) else {
+            return Line::Malformed;
+        };
+        let Some((length, rest)) = first_number(rest, 1, 65_535) else {
+            return Line::Malformed;
+        };
+        let (more, _) = first_field(rest);
+        if !more.is_empty() {
             return Line::Malformed;
         }
-        match (number_in(sender, 0, 65_535), number_in(length, 1, 65_535)) {
-            (Some(sender), Some(length)) => Line::Command(Command::Send {
-                sender: sender as u16,
-                length: length as u16,
-            }),
-            _ => Line::Malformed,
-        }
+        Line::Command(Command::Send {
+            sender: sender as u16,
+            length: length as u16,
+        })
     }
 }
 
-/// The commands of a script for these senders, in order. The script is checked line by line: it has at most
-/// 33,554,432 bytes and 1,000,000 lines (fault 18), each a command or blank (16), and names these senders alone (15).
-pub fn read_commands(alloc: Global, senders: &[u16], script: &[u8]) -> Result<Vec<Command>, Fault>
-    ensures { MatchResult result
-        (λ commands. (script_fault senders.now script.now ≡ None) × (commands.items ≡ commands_of script.now))
-        (λ fault. (fault ≡ Memory) ⊎ (script_fault senders.now script.now ≡ Some fault)) }
-{
-    if script.len() > MAX_BYTES {
-        return Err(Fault::TooLarge);
-    }
-    let mut commands = Vec::new(alloc);
-    let mut number = 0;
-    let mut rest = script;
-    while !rest.is_empty() {
-        let (text, after) = first_line(rest);
-        number += 1;
-        if let Some(command) = command_at(senders, number, text)? {
-            commands.push(command)?;
-        }
-        rest = after;
-    }
-    Ok(commands)
-}
-
-/// The command of the line of this number, counted from 1, unless it is blank.
-fn command_at(senders: &[u16], number: u32, text: &[u8]) -> Result<Option<Command>, Fault>
+/// The command of the line of this number, counted from 1, unless it is blank. The line is one of the first 1,000,000
+/// (fault 18), a command or blank (16), and names one of these senders alone (15).
+pub fn command_at(senders: &[u16], number: u32, text: &[u8]) -> Result<Option<Command>, Fault>
     ensures exact { MatchResult result
         (λ command. (fault_at senders.now (number, text.now) ≡ None) × (command ≡ command_in (line_of text.now)))
         (λ fault. fault_at senders.now (number, text.now) ≡ Some fault) }

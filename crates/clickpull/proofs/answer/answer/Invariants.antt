@@ -1,7 +1,17 @@
-use Rattle.std.proofs.Common.{take}
+use Rattle.std.proofs.Common.{◌≡◌, ◌+◌, ◌≤◌, length}
+use Rattle.clickpull.specs.Script.{most_lines}
+use Rattle.clickpull.specs.Meaning.{sender_numbers}
+use Rattle.clickpull.specs.Builtin.{builtin}
+use Rattle.clickpull.proofs.AnswerLemmas.{HasAnswered, fault_from}
 use Rattle.clickpull.proofs.answer.answer.Given as goal
-use Rattle.clickpull.proofs.AnswerLemmas.{HasAnswered}
 
--- some events are those of the commands so far
-abbrev pub invariant-loop-command : goal.invariant-loop-command
-invariant-loop-command l = HasAnswered l.router (take l.command-index l.commands) l.text.items
+-- the lines so far are answered, and the first fault is in what is left
+abbrev pub invariant-loop-rest : goal.invariant-loop-rest
+invariant-loop-rest l = record {
+  fault : fault_from (sender_numbers builtin) (l.number + 1) l.rest ≡ fault_from (sender_numbers builtin) 1 l.script;
+  answered : HasAnswered l.router l.script l.rest l.number l.text.items;
+  bound : l.number ≤ most_lines;
+}
+
+abbrev pub decreases-loop-rest : goal.decreases-loop-rest
+decreases-loop-rest l = length l.rest
