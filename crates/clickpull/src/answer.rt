@@ -38,13 +38,18 @@ pub fn answer(alloc: Global, script: &[u8]) -> Result<Vec<u8>, Fault>
 }
 
 /// Carries out the line of this number, counted from 1.
-fn answer_line(router: &mut Router, number: u32, line: &[u8], text: &mut Vec<u8>) -> Result<(), Fault>
+fn answer_line(
+    router: &mut Router,
+    number: u32,
+    line: &[u8],
+    text: &mut Vec<u8>,
+) -> Result<(), Fault>
     requires first { router.old.first_sent + 1 < 2 ^ 32 }
     requires second { router.old.second_sent + 1 < 2 ^ 32 }
     requires pulls { router.old.pulls + 1 < 2 ^ 64 }
     ensures exact { MatchResult result
         (λ done. (fault_at (sender_numbers builtin) (number, line.now) ≡ None)
-            × AnswersLine router.old router.new text.old.items text.new.items (command_in (line_of line.now)))
+        × AnswersLine router.old router.new text.old.items text.new.items (command_in (line_of line.now)))
         (λ fault. (fault ≡ Memory) ⊎ (fault_at (sender_numbers builtin) (number, line.now) ≡ Some fault)) }
     ensures within { OnOk result (number ≤ most_lines) }
 {
