@@ -1,5 +1,5 @@
 -- A number that is read digit by digit.
-use Rattle.std.proofs.Common.{◌≡◌, ℕ, ◌+◌, ◌*◌, ◌-◌, ◌<◌, ◌≤◌, ◌&&◌, Bool, true, false, cond, nat_le, List, [], ◌∷◌, length, take, drop, slice_index_or, Option, Some, None, refl, sym, ap, ◌∙◌, add_comm, add-one, arith}
+use Rattle.std.proofs.Common.{◌≡◌, ℕ, ◌+◌, ◌*◌, ◌-◌, ◌<◌, ◌≤◌, ◌&&◌, Bool, true, false, cond, nat_le, List, [], ◌∷◌, length, take, drop, slice_index_or, Some, None, refl, sym, ap, ◌∙◌, add_comm, add-one, arith}
 use Rattle.std.specs.List.{position_or_len, prefix_len}
 use Rattle.std.specs.Char.{is_ascii_digit, digit_value}
 use Rattle.std.specs.Str.{all_ascii_digits}
