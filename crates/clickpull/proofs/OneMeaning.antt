@@ -1,5 +1,5 @@
 -- A script has one meaning: what its commands make happen follows, one after another.
-use Rattle.std.proofs.Common.{◌≡◌, ℕ, ◌+◌, ◌==◌, ◌&&◌, ◌||◌, zero, suc, Bool, true, false, List, [], ◌∷◌, ◌++◌, length, map, max, fold, if◌then◌else◌, Option, Some, None, IsSome, IfSome, MatchOption, slice_get, refl, sym, ap, ap₂, ◌∙◌, subst, zero-add, arith}
+use Rattle.std.proofs.Common.{◌≡◌, ℕ, ◌==◌, ◌&&◌, ◌||◌, suc, Bool, true, false, List, [], ◌∷◌, ◌++◌, length, map, max, fold, if◌then◌else◌, Option, Some, None, IsSome, IfSome, MatchOption, slice_get, refl, sym, ap, ap₂, ◌∙◌, subst, zero-add, arith}
 use Rattle.std.specs.Bool.{⊤}
 use Rattle.std.specs.Option.{option_or}
 use Rattle.std.specs.List.{flat_map, filter_map, range_with_len, AllByRecursion, list_any}
@@ -10,17 +10,14 @@ use Rattle.std.proofs.lemmas.List.Concat.{flat_map-append}
 use Rattle.std.proofs.lemmas.List.Elements.{filter_map-append}
 use Rattle.clk_packet.specs.declared.packet.Packet.{Packet}
 use Rattle.clk_packet.specs.declared.packet.Offered.{Offered}
-use Rattle.clk_ring.specs.QueueHistory.{QueueEvent, IsQueueHistory, NamesOffer, offer_events, pull_event}
+use Rattle.clk_ring.specs.QueueHistory.{IsQueueHistory, offer_events, pull_event}
 use Rattle.clk_ring.specs.Laws.{LeavesNoChoice}
 use Rattle.clk_sched.specs.declared.visit.Visit.{Visit}
-use Rattle.clk_sched.specs.Tree.{Tree, queue_at, is_number}
-use Rattle.clk_sched.specs.Log.{moment_of, pulls, counted}
+use Rattle.clk_sched.specs.Tree.{queue_at, is_number}
+use Rattle.clk_sched.specs.Log.{moment_of, counted}
 use Rattle.clk_sched.specs.Results.{asks_queue}
 use Rattle.clk_sched.specs.Choice.{answers_of, GoAlike, PullsLeaveNoChoice}
-use Rattle.clickpull.specs.declared.script.Command.{Command}
-use Rattle.clickpull.specs.declared.script.Command.TheVariants.{Send, Pull}
-use Rattle.clickpull.specs.Script.{commands_of}
-use Rattle.clickpull.specs.Meaning.{QueueSpec, SenderSpec, Setup, sender_numbers, Event, offered, pulled, command_of, number_from, numbers_of, visits_in, pull_in, moment_in, log_of, sends_to, at_queue, history, NamesItsOffer, event_text, CanHappen, Writes, IsMeaning}
+use Rattle.clickpull.specs.Meaning.{QueueSpec, SenderSpec, Setup, sender_numbers, Event, offered, pulled, command_of, number_from, numbers_of, pull_in, moment_in, log_of, sends_to, at_queue, history, NamesItsOffer, event_text, CanHappen}
 use Rattle.clickpull.specs.Builtin.{builtin}
 use Rattle.clickpull.specs.Router.{IsSound}
 use Rattle.clickpull.specs.OneMeaning.{IsWired, HasOneMeaning}

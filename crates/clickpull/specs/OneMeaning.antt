@@ -1,5 +1,5 @@
 -- That a script has one meaning.
-use Rattle.std.specs.Prelude.{◌≡◌, ℕ, List, map, filter, Option, IsSome, IfSome, slice_get}
+use Rattle.std.specs.Prelude.{◌≡◌, ℕ, List, IsSome, IfSome, slice_get}
 use Rattle.std.specs.List.{AllByRecursion}
 use Rattle.clk_sched.specs.Tree.{queue_at}
 use Rattle.clickpull.specs.Meaning.{SenderSpec, Setup, IsMeaning}
