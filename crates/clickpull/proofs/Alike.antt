@@ -8,7 +8,7 @@ use Rattle.clk_packet.specs.declared.packet.Packet.{Packet}
 use Rattle.clk_packet.specs.declared.packet.Kind.{Kind}
 use Rattle.clk_packet.specs.Limits.{most_length}
 use Rattle.clk_ring.specs.QueueHistory.{QueueEvent, IsQueueHistory, pull_event}
-use Rattle.clk_ring.specs.Laws.{LeavesNoChoice}
+use Rattle.clk_ring.specs.Laws.{HistoriesLeaveNoChoice}
 use Rattle.clk_sched.specs.Log.{counted}
 use Rattle.clk_sched.specs.Choice.{GoAlike}
 
@@ -27,7 +27,7 @@ alike-more : {X : Type 0} (x y : X) (xs ys : List X) → x ≡ y → GoAlike xs 
 alike-more x y xs ys e h = record { left = h.left; right = h.right; same = ap₂ (λ z zs. z ∷ zs) e h.same }
 
 -- after the same history, pulls of a queue are answered alike
-pub pulls-alike : LeavesNoChoice → (kind : Kind) (capacity : ℕ) (events : List QueueEvent) (xs ys : List (Option Packet)) (more rest : List QueueEvent)
+pub pulls-alike : HistoriesLeaveNoChoice → (kind : Kind) (capacity : ℕ) (events : List QueueEvent) (xs ys : List (Option Packet)) (more rest : List QueueEvent)
     → IsQueueHistory kind capacity (events ++ (map pull_event xs ++ more)) → IsQueueHistory kind capacity (events ++ (map pull_event ys ++ rest)) → GoAlike xs ys
 pulls-alike law kind capacity events [] ys more rest a b = record { left = ys; right = []; same = sym (append-nil ys) }
 pulls-alike law kind capacity events (x ∷ xs) [] more rest a b = record { left = []; right = x ∷ xs; same = append-nil (x ∷ xs) }

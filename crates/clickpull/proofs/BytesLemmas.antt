@@ -1,9 +1,9 @@
--- Known bytes that are read or written piece by piece.
+-- Known bytes that are written piece by piece.
 use Rattle.std.proofs.Common.{◌≡◌, ℕ, ◌+◌, ◌<◌, List, [], ◌∷◌, ◌++◌, length, get_or, take, drop, Option, Some, None, Result, Ok, Err, refl, sym, ap, subst, ◌∙◌}
 use Rattle.std.proofs.lemmas.List.{append_assoc, append-nil, take-append-drop, drop_more, take_more}
 use Rattle.std.proofs.lemmas.List.Concat.{flat_map-append}
 use Rattle.std.specs.List.{flat_map}
-use Rattle.std.specs.Io.KnownBytes.{Consumes, Appends}
+use Rattle.std.specs.Io.KnownBytes.{Appends}
 use Rattle.clk_packet.specs.declared.fault.Fault.{Fault}
 use Rattle.clickpull.specs.Bytes.{Wrote}
 
@@ -19,12 +19,6 @@ Appends-append (Some old) None c xs ys h k = absurd h
 Appends-append (Some old) (Some bs) None xs ys h k = absurd k
 Appends-append (Some old) (Some bs) (Some cs) xs ys h k = k ∙ ap (λ l. l ++ ys) h ∙ append_assoc old xs ys
 
-pub Consumes-append : (a b c : Option (List ℕ)) (xs ys : List ℕ) → Consumes a b xs → Consumes b c ys → Consumes a c (xs ++ ys)
-Consumes-append None b c xs ys h k = tt
-Consumes-append (Some old) None c xs ys h k = absurd h
-Consumes-append (Some old) (Some bs) None xs ys h k = absurd k
-Consumes-append (Some old) (Some bs) (Some cs) xs ys h k = h ∙ ap (λ l. xs ++ l) k ∙ sym (append_assoc xs ys cs)
-
 pub HasWritten-more : (old mid new : Option (List ℕ)) (text rest : List ℕ) (n : ℕ) → HasWritten old mid text rest → Appends mid new (take n rest) → HasWritten old new text (drop n rest)
 HasWritten-more old mid new text rest n h more =
     record {
@@ -39,10 +33,6 @@ Appends-none (Some bytes) = sym (append-nil bytes)
 
 pub HasWritten-none : (old : Option (List ℕ)) (text : List ℕ) → HasWritten old old text text
 HasWritten-none old text = record { front = []; split = refl; appends = Appends-none old }
-
--- all of a text that is written
-pub Appends-whole : (old new : Option (List ℕ)) (text rest : List ℕ) → HasWritten old new text rest → rest ≡ [] → Appends old new text
-Appends-whole old new text rest h none = subst (λ (t : List ℕ). Appends old new t) (sym (h.split ∙ ap (λ l. h.front ++ l) none ∙ append-nil h.front)) h.appends
 
 -- a text after another that was written
 pub Wrote-then : (a b c : Option (List ℕ)) (f g h : ℕ) (x : Unit {0}) (r : Result (Unit {0}) Fault) (xs ys : List ℕ) → Wrote a b f g (Ok x) xs → Wrote b c g h r ys → Wrote a c f h r (xs ++ ys)

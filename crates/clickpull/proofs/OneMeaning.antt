@@ -1,4 +1,4 @@
--- A script has one meaning: what its commands make happen follows, one after another.
+-- A script has at most one meaning: what its commands make happen follows, one after another.
 use Rattle.std.proofs.Common.{◌≡◌, ℕ, ◌==◌, ◌&&◌, ◌||◌, suc, Bool, true, false, List, [], ◌∷◌, ◌++◌, length, map, max, fold, if◌then◌else◌, Option, Some, None, IsSome, IfSome, MatchOption, slice_get, refl, sym, ap, ap₂, ◌∙◌, subst, zero-add, arith}
 use Rattle.std.specs.Bool.{⊤}
 use Rattle.std.specs.Option.{option_or}
@@ -11,7 +11,7 @@ use Rattle.std.proofs.lemmas.List.Elements.{filter_map-append}
 use Rattle.clk_packet.specs.declared.packet.Packet.{Packet}
 use Rattle.clk_packet.specs.declared.packet.Offered.{Offered}
 use Rattle.clk_ring.specs.QueueHistory.{IsQueueHistory, offer_events, pull_event}
-use Rattle.clk_ring.specs.Laws.{LeavesNoChoice}
+use Rattle.clk_ring.specs.Laws.{HistoriesLeaveNoChoice}
 use Rattle.clk_sched.specs.declared.visit.Visit.{Visit}
 use Rattle.clk_sched.specs.Tree.{queue_at, is_number}
 use Rattle.clk_sched.specs.Log.{moment_of, counted}
@@ -20,7 +20,7 @@ use Rattle.clk_sched.specs.Choice.{answers_of, GoAlike, PullsLeaveNoChoice}
 use Rattle.clickpull.specs.Meaning.{QueueSpec, SenderSpec, Setup, sender_numbers, Event, offered, pulled, command_of, number_from, numbers_of, pull_in, moment_in, log_of, sends_to, at_queue, history, NamesItsOffer, event_text, CanHappen}
 use Rattle.clickpull.specs.Builtin.{builtin}
 use Rattle.clickpull.specs.Router.{IsSound}
-use Rattle.clickpull.specs.OneMeaning.{IsWired, HasOneMeaning}
+use Rattle.clickpull.specs.OneMeaning.{IsWired, HasAtMostOneMeaning}
 use Rattle.clickpull.proofs.Alike.{packet-same, pulls-alike, moment-counted, number-at}
 use Rattle.clickpull.proofs.ScriptLemmas.{each-command-sound}
 
@@ -90,7 +90,7 @@ its-history setup q spec done e more is can =
     (subst (λ o. MatchOption o ⊤ (λ (x : QueueSpec). IsQueueHistory x.kind x.capacity (history setup q (done ++ e ∷ more)))) is (can.histories q))
 
 -- an offer of the same packet ends the same way
-same-outcome : (setup : Setup) → IsWired setup → LeavesNoChoice → (done : List Event) (p : Packet) (one other : Offered) (more rest : List Event)
+same-outcome : (setup : Setup) → IsWired setup → HistoriesLeaveNoChoice → (done : List Event) (p : Packet) (one other : Offered) (more rest : List Event)
     → list_any (λ n. n == p.sender) (sender_numbers setup) ≡ true → CanHappen setup (done ++ offered p one ∷ more) → CanHappen setup (done ++ offered p other ∷ rest) → one ≡ other
 same-outcome setup wired law done p one other more rest known a b =
     let to = sent-to setup p.sender wired known in
@@ -131,7 +131,7 @@ never-asked setup q wired is (v ∷ visits) = rw (asks v.fresh (queue_at setup.t
             absurd (false≢true (subst IsSome is (subst (λ n. IsSome (slice_get setup.queues n)) same h)))
 
 -- a queue answers alike in two pulls after the same events
-queue-alike : (setup : Setup) → IsWired setup → LeavesNoChoice → (done : List Event) (m k : ℕ) (v u : List Visit) (more rest : List Event) → CanHappen setup (done ++ pulled m v ∷ more)
+queue-alike : (setup : Setup) → IsWired setup → HistoriesLeaveNoChoice → (done : List Event) (m k : ℕ) (v u : List Visit) (more rest : List Event) → CanHappen setup (done ++ pulled m v ∷ more)
     → CanHappen setup (done ++ pulled k u ∷ rest) → (q : ℕ) → GoAlike (answers_of setup.tree q v) (answers_of setup.tree q u)
 queue-alike setup wired law done m k v u more rest a b q = by_spec (slice_get setup.queues q) refl
   where
@@ -156,7 +156,7 @@ its-moment setup done m v more can =
     (sym (ap (map moment_of) (filter_map-append pull_in done (pulled m v ∷ more)) ∙ map-append moment_of (filter_map pull_in done) (v ∷ filter_map pull_in more)) ∙ can.moments
     ∙ ap (counted 0) (filter_map-append moment_in done (pulled m v ∷ more)))
 
-same-visits : (setup : Setup) → IsWired setup → LeavesNoChoice → PullsLeaveNoChoice setup.tree → (done : List Event) (m k : ℕ) (v u : List Visit) (more rest : List Event) → m ≡ k
+same-visits : (setup : Setup) → IsWired setup → HistoriesLeaveNoChoice → PullsLeaveNoChoice setup.tree → (done : List Event) (m k : ℕ) (v u : List Visit) (more rest : List Event) → m ≡ k
     → CanHappen setup (done ++ pulled m v ∷ more) → CanHappen setup (done ++ pulled k u ∷ rest) → v ≡ u
 same-visits setup wired law runs done m k v u more rest same a b =
     runs (log_of (done ++ pulled m v ∷ more)) (log_of (done ++ pulled k u ∷ rest)) (filter_map pull_in done) v u (filter_map pull_in more) (filter_map pull_in rest) a.run b.run
@@ -164,7 +164,7 @@ same-visits setup wired law runs done m k v u more rest same a b =
     (its-moment setup done m v more a ∙ ap (max (fold max 0 (filter_map moment_in done))) same ∙ sym (its-moment setup done k u rest b)) (queue-alike setup wired law done m k v u more rest a b)
 
 -- after the same events, the same command makes the same happen
-same-event : (setup : Setup) → IsWired setup → LeavesNoChoice → PullsLeaveNoChoice setup.tree → (done : List Event) (e f : Event) (more rest : List Event)
+same-event : (setup : Setup) → IsWired setup → HistoriesLeaveNoChoice → PullsLeaveNoChoice setup.tree → (done : List Event) (e f : Event) (more rest : List Event)
     → CanHappen setup (done ++ e ∷ more) → CanHappen setup (done ++ f ∷ rest) → command_of e ≡ command_of f → IsSound (sender_numbers setup) (command_of e) → e ≡ f
 same-event setup wired law runs done (offered p one) (offered q other) more rest a b same sound =
     let sender : p.sender ≡ q.sender = cc in
@@ -180,7 +180,7 @@ same-event setup wired law runs done (pulled m v) (pulled k u) more rest a b sam
     let moment : m ≡ k = cc in
     ap₂ pulled moment (same-visits setup wired law runs done m k v u more rest moment a b)
 
-same-events : (setup : Setup) → IsWired setup → LeavesNoChoice → PullsLeaveNoChoice setup.tree → (done es fs : List Event) → CanHappen setup (done ++ es) → CanHappen setup (done ++ fs)
+same-events : (setup : Setup) → IsWired setup → HistoriesLeaveNoChoice → PullsLeaveNoChoice setup.tree → (done es fs : List Event) → CanHappen setup (done ++ es) → CanHappen setup (done ++ fs)
     → map command_of es ≡ map command_of fs → AllByRecursion (IsSound (sender_numbers setup)) (map command_of es) → es ≡ fs
 same-events setup wired law runs done [] [] a b same sound = refl
 same-events setup wired law runs done [] (f ∷ fs) a b same sound = absurd (omega (arith, ap length same))
@@ -192,7 +192,7 @@ same-events setup wired law runs done (e ∷ es) (f ∷ fs) a b same sound =
     ap₂ (λ x xs. x ∷ xs) first
     (same-events setup wired law runs (done ++ e ∷ []) es fs (rw append_assoc a) (rw append_assoc (subst (λ x. CanHappen setup (done ++ x ∷ fs)) (sym first) b)) tails sound.1)
 
-pub has-one_meaning : (setup : Setup) → IsWired setup → LeavesNoChoice → PullsLeaveNoChoice setup.tree → HasOneMeaning setup
+pub has-one_meaning : (setup : Setup) → IsWired setup → HistoriesLeaveNoChoice → PullsLeaveNoChoice setup.tree → HasAtMostOneMeaning setup
 has-one_meaning setup wired law runs script one other a b =
     a.written.lines
     ∙ ap (flat_map event_text)

@@ -17,6 +17,7 @@ use Rattle.clk_sched.specs.Run.{IsRun}
 use Rattle.clk_sched.specs.Results.{asks_queue}
 use Rattle.clickpull.specs.Script.{script_fault, commands_of}
 
+-- a queue's kind, and how many packets it holds at most
 pub record QueueSpec : Type 0 where
   pub kind : Kind
   pub capacity : ℕ

@@ -1,4 +1,4 @@
--- That a script has one meaning.
+-- That a script has at most one meaning.
 use Rattle.std.specs.Prelude.{◌≡◌, ℕ, List, IsSome, IfSome, slice_get}
 use Rattle.std.specs.List.{AllByRecursion}
 use Rattle.clk_sched.specs.Tree.{queue_at}
@@ -10,5 +10,5 @@ pub record IsWired (setup : Setup) : Type 0 where
   pub leaves : (x input : ℕ) → IfSome (queue_at setup.tree x input) (λ q. IsSome (slice_get setup.queues q))
 
 -- Two texts that are meanings of the same script over a setup are the same text.
-abbrev pub HasOneMeaning : Setup → Type 0
-HasOneMeaning setup = (script one other : List ℕ) → IsMeaning setup script one → IsMeaning setup script other → one ≡ other
+abbrev pub HasAtMostOneMeaning : Setup → Type 0
+HasAtMostOneMeaning setup = (script one other : List ℕ) → IsMeaning setup script one → IsMeaning setup script other → one ≡ other

@@ -25,7 +25,7 @@ abbrev pub IsSecondPulled : Option Packet → Queue → Option Packet → Queue 
 IsSecondPulled (Some p) old second new = new ≡ old
 IsSecondPulled None old second new = IsPulled old second new
 
--- what the second queue is asked where the first has this answer
+-- what happens to the second queue in a pull in which the queues have these answers
 abbrev pub second_events : Option Packet → Option Packet → List QueueEvent
 second_events (Some p) second = []
 second_events None second = pull_event second ∷ []
@@ -39,7 +39,7 @@ pub record HasPulled (first_old first_new second_old second_new : Queue) (before
   pub first_queue : IsPulled first_old first first_new
   pub second_queue : IsSecondPulled first second_old second second_new
 
--- After these events a queue of the built-in router is so.
+-- These events lead to this queue, which is a Queue of two packets.
 pub record IsBuiltinQueue (events : List QueueEvent) (q : Queue) : Type 0 where
   pub leads : LeadsTo events q
   pub kind : q.kind ≡ TailDrop
@@ -74,7 +74,7 @@ abbrev pub IsSound : List ℕ → Command → Type 0
 IsSound senders (Send sender length) = (list_any (λ s. s == sender) senders ≡ true) × (1 ≤ length)
 IsSound senders (Pull moment) = ⊤
 
--- A line of this command, or of none, was answered: nothing changed, or the command is carried out wherever the router was.
+-- A line of this command, or of none, was answered: nothing changed, or the command is carried out, whatever events led to the router.
 abbrev pub AnswersLine : Router → Router → List ℕ → List ℕ → Option Command → Type 0
 AnswersLine old new before after None = (new ≡ old) × (after ≡ before)
 AnswersLine old new before after (Some command) = (events : List Event) → IsAt events old → CarriesOut new command before after events

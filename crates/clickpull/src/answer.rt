@@ -14,8 +14,11 @@ use crate::text::{push_offer, push_pull};
 use clk_packet::Fault;
 use std::alloc::Global;
 
-/// What a script writes over the built-in router. Each line is carried out as it is read; the script has at most
-/// 33,554,432 bytes (fault 18), and its lines have faults of their own.
+/// What a script writes over the built-in router. Each line is carried out as it is read.
+///
+/// # Errors
+///
+/// Fault 1 where memory is refused; 18 for more than 33,554,432 bytes; then the fault of the first line that has one.
 pub fn answer(alloc: Global, script: &[u8]) -> Result<Vec<u8>, Fault>
     ensures { MatchResult result
         (λ text. (script_fault (sender_numbers builtin) script.now ≡ None) × Writes builtin (commands_of script.now) text.items)
@@ -37,7 +40,7 @@ pub fn answer(alloc: Global, script: &[u8]) -> Result<Vec<u8>, Fault>
     Ok(text)
 }
 
-/// Carries out the line of this number, counted from 1.
+/// Carries out the line of this number, counted from 1, unless it has a fault or memory is refused.
 fn answer_line(
     router: &mut Router,
     number: u32,
@@ -60,7 +63,7 @@ fn answer_line(
     }
 }
 
-/// Carries out one command, and adds the line that it writes.
+/// Carries out one command, and adds the line that it writes. Fault 1 where memory is refused.
 fn carry_out(router: &mut Router, command: Command, text: &mut Vec<u8>) -> Result<(), Fault>
     requires sound { IsSound (sender_numbers builtin) command }
     requires first { router.old.first_sent + 1 < 2 ^ 32 }

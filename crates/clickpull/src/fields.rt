@@ -74,7 +74,7 @@ pub fn first_line(text: &[u8]) -> (&[u8], &[u8])
     }
 }
 
-/// The number in the first field of a text, where it is one in this range, and what follows the field.
+/// The number in the first field of a text, where it is one in this range, and what follows the field; None where it is none.
 pub fn first_number(text: &[u8], least: u64, most: u64) -> Option<(u64, &[u8])>
     requires { most < 2 ^ 60 }
     ensures { MatchOption result (number_in least most (field_at (fields text.now) 0) ≡ None)

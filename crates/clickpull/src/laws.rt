@@ -5,17 +5,17 @@ ghost use Rattle.clk_packet.specs.declared.fault.Fault.TheVariants.{TooLarge};
 ghost use Rattle.clickpull.specs.Builtin.{builtin};
 ghost use Rattle.clickpull.specs.Bytes.{Takes, AppendsFront};
 ghost use Rattle.clickpull.specs.Meaning.{CanHappen, IsMeaning, Explains, sender_numbers};
-ghost use Rattle.clickpull.specs.OneMeaning.{IsWired, HasOneMeaning};
+ghost use Rattle.clickpull.specs.OneMeaning.{IsWired, HasAtMostOneMeaning};
 ghost use Rattle.clickpull.specs.Examples.{shaped, moment_not_counted, moment_ahead, second_first, number_left_out, refused_early, never_sent, other_refused};
 
 use clk_ring::histories_leave_no_choice;
 use clk_sched::runs_leave_no_choice;
 
-/// A script has one meaning over a setup whose senders send to queues that are there, and whose tree stands over such: what its
-/// commands make happen follows, one after another, and so does the text. The built-in router is such a setup.
-pub fn scripts_have_one_meaning()
-    ensures wired { (setup : _) → IsWired setup → HasOneMeaning setup }
-    ensures builtin { HasOneMeaning builtin }
+/// A script has at most one meaning over a setup whose senders send to queues that are there, and whose tree stands over such:
+/// what its commands make happen follows, one after another, and so does the text. The built-in router is such a setup.
+pub fn scripts_have_at_most_one_meaning()
+    ensures wired { (setup : _) → IsWired setup → HasAtMostOneMeaning setup }
+    ensures builtin { HasAtMostOneMeaning builtin }
 {
     // By the laws of what the meaning is made of, which do nothing.
     histories_leave_no_choice();

@@ -14,7 +14,7 @@ mod text;
 
 use clk_packet::{FromRead, ToWrite};
 pub use faults::fault_line;
-pub use laws::{script_examples, scripts_have_one_meaning, word_examples};
+pub use laws::{script_examples, scripts_have_at_most_one_meaning, word_examples};
 pub use run::run_builtin;
 use std::io;
 use std::process::ExitCode;

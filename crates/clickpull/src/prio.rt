@@ -12,7 +12,7 @@ use clk_sched::Visit;
 const NODE: u16 = 1;
 
 /// Pulls two queues by a PrioSched, which takes the packet of the first that has one, and records a visit for each that it
-/// asked.
+/// asked, with the number of the pull, from 0, and its moment in ticks. Fault 1 where memory is refused.
 pub fn pull_by_priority(
     first_queue: &mut Ring,
     second_queue: &mut Ring,

@@ -20,10 +20,10 @@ const DEVICE: u16 = 0;
 /// The router, and all that it has done.
 #[derive(Drop)]
 pub struct Router {
-    /// How many packets each sender has offered.
+    /// How many packets the first and the second sender have offered.
     first_sent: u32,
     second_sent: u32,
-    /// The queue of each sender.
+    /// The queues of the first and of the second sender.
     first_queue: Ring,
     second_queue: Ring,
     /// Every visit so far, in order.
@@ -41,7 +41,7 @@ impl Router {
     ghost use Rattle.clickpull.specs.Meaning.{Event, offered};
     ghost use Rattle.clickpull.specs.Router.{IsAt, LeadsOnByPull};
 
-    /// The router before anything has happened.
+    /// The router before anything has happened. Fault 1 where memory is refused.
     pub fn new(alloc: Global) -> Result<Router, Fault>
         ensures at_start { IfOk result (λ router. IsAt [] router) }
         ensures fault { IsOkUnless result Fault.Memory }
@@ -59,7 +59,7 @@ impl Router {
         })
     }
 
-    /// The sender offers its next packet, of this length, to its queue.
+    /// The sender offers its next packet, of this length in bytes, to its queue.
     pub fn send(&mut self, sender: u16, length: u16) -> (Packet, Offered)
         requires known { list_any (λ s. s == sender) (0 ∷ 1 ∷ []) ≡ true }
         requires has_length { 1 ≤ length }
@@ -79,7 +79,8 @@ impl Router {
         }
     }
 
-    /// Pulls the device once, at this moment or, where that is later, at the greatest so far.
+    /// Pulls the device once, at this moment in ticks or, where that is later, at the greatest so far. Fault 1 where memory is
+    /// refused.
     pub fn pull(&mut self, moment: u64) -> Result<Option<Packet>, Fault>
         requires { self.old.pulls + 1 < 2 ^ 64 }
         ensures leads { IfOk result (λ got. (events : _) → IsAt events self.old → LeadsOnByPull self.new moment got events) }

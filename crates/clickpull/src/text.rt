@@ -6,7 +6,7 @@ ghost use Rattle.clickpull.specs.Meaning.{name_text, packet_text, outcome_text, 
 
 use clk_packet::{Fault, Offered, Packet};
 
-/// Adds the line of an offer.
+/// Adds the line of an offer. Fault 1 where memory is refused.
 pub fn push_offer(text: &mut Vec<u8>, packet: Packet, outcome: Offered) -> Result<(), Fault>
     ensures line { OnOk result (text.new.items ≡ text.old.items ++ event_text (offered packet outcome)) }
     ensures fault { IsOkUnless result Fault.Memory }
@@ -19,7 +19,7 @@ pub fn push_offer(text: &mut Vec<u8>, packet: Packet, outcome: Offered) -> Resul
     Ok(())
 }
 
-/// Adds the line of a pull at the moment that was handed in.
+/// Adds the line of a pull at the moment that was handed in, in ticks. Fault 1 where memory is refused.
 pub fn push_pull(text: &mut Vec<u8>, moment: u64, got: Option<Packet>) -> Result<(), Fault>
     ensures line { OnOk result (text.new.items ≡ text.old.items
         ++ (codes "pull " ++ (decimal moment ++ (codes ": " ++ (result_text got ++ codes "\n"))))) }

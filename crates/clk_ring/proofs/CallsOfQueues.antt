@@ -8,7 +8,7 @@ use Rattle.clk_packet.specs.declared.packet.Offered.{Offered}
 use Rattle.clk_packet.specs.declared.packet.Offered.TheVariants.{Accepted, Refused, Evicted}
 use Rattle.clk_ring.specs.Queue.{Queue, holding, IsOffered, IsPulled}
 use Rattle.clk_ring.specs.QueueHistory.{QueueEvent, accept, refuse, evict, give, empty, accepted, gone, held, offer_events, pull_event, NamesOffer, IsInOrder, MayStand, IsFollowedUp, EachStands}
-use Rattle.clk_ring.specs.Laws.{LeadsTo, CallsAreHistory, LeavesNoChoice}
+use Rattle.clk_ring.specs.Laws.{LeadsTo, CallsAreHistory, HistoriesLeaveNoChoice}
 use Rattle.clk_ring.proofs.Histories.{Holds, accepted-append, gone-append, holds-more, held-is, in-order, stands-join, stands-after, in-order-begin, in-order-end}
 
 -- what the queue at the end of a history holds, and that this fits
@@ -132,7 +132,7 @@ tells-pull : (kind : Kind) (capacity : ℕ) (events : List QueueEvent) (got : Op
 tells-pull kind capacity events None more h = ap (λ l. slice_get l 0) h.1
 tells-pull kind capacity events (Some p) more h = front-was capacity events (give p) p refl refl h.0 (in-order-begin kind capacity (events ++ give p ∷ []) more h.3)
 
-pub leaves-no_choice : LeavesNoChoice
+pub leaves-no_choice : HistoriesLeaveNoChoice
 leaves-no_choice =
     record {
       outcomes = λ kind capacity events p one other more rest names named a b.

@@ -11,6 +11,9 @@ first = packet 0 0 100 (lit≤ tt) (lit≤ tt)
 abbrev second : Packet
 second = packet 1 0 50 (lit≤ tt) (lit≤ tt)
 
+abbrev third : Packet
+third = packet 0 1 60 (lit≤ tt) (lit≤ tt)
+
 -- A Queue of one packet: the second offer is refused.
 abbrev pub tail_dropped : List QueueEvent
 tail_dropped = accept first ∷ refuse second ∷ give first ∷ empty ∷ []
@@ -39,17 +42,17 @@ nothing_given = accept first ∷ empty ∷ []
 abbrev pub put_out_at_end : List QueueEvent
 put_out_at_end = accept first ∷ evict first ∷ []
 
+abbrev pub given_in_between : List QueueEvent
+given_in_between = accept first ∷ accept second ∷ evict first ∷ give second ∷ accept third ∷ []
+
 abbrev pub put_out_before : QueueEvent → List QueueEvent
 put_out_before event = accept first ∷ evict first ∷ event ∷ accept second ∷ []
 
 -- the newest packet is put out where the front should be
 abbrev pub newest_put_out : List QueueEvent
-newest_put_out = accept first ∷ accept second ∷ evict second ∷ accept second ∷ []
+newest_put_out = accept first ∷ accept second ∷ evict second ∷ accept third ∷ []
 
 -- the events that may not stand there
-abbrev pub gives_first : QueueEvent
-gives_first = give first
-
 abbrev pub refuses_second : QueueEvent
 refuses_second = refuse second
 

@@ -19,7 +19,7 @@ pub record CallsAreHistory : Type 0 where
 
 -- A history leaves nothing to choose: how an offer ends, and what a pull gives, follow from what happened before, whatever
 -- happens after.
-pub record LeavesNoChoice : Type 0 where
+pub record HistoriesLeaveNoChoice : Type 0 where
   pub outcomes : (kind : Kind) (capacity : ℕ) (events : List QueueEvent) (p : Packet) (one other : Offered) (more rest : List QueueEvent) → NamesOffer p one → NamesOffer p other
       → IsQueueHistory kind capacity (events ++ (offer_events p one ++ more)) → IsQueueHistory kind capacity (events ++ (offer_events p other ++ rest)) → one ≡ other
   pub answers : (kind : Kind) (capacity : ℕ) (events : List QueueEvent) (one other : Option Packet) (more rest : List QueueEvent)

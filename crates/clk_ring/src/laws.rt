@@ -2,8 +2,8 @@
 
 ghost use Rattle.clk_packet.specs.declared.packet.Kind.TheVariants.{TailDrop, FrontDrop};
 ghost use Rattle.clk_ring.specs.QueueHistory.{IsQueueHistory, empty};
-ghost use Rattle.clk_ring.specs.Laws.{CallsAreHistory, LeavesNoChoice};
-ghost use Rattle.clk_ring.specs.Examples.{tail_dropped, front_dropped, two_held, order_turned, other_given, nothing_given, put_out_at_end, put_out_before, newest_put_out, gives_first, refuses_second, puts_out_second};
+ghost use Rattle.clk_ring.specs.Laws.{CallsAreHistory, HistoriesLeaveNoChoice};
+ghost use Rattle.clk_ring.specs.Examples.{tail_dropped, front_dropped, two_held, order_turned, other_given, nothing_given, put_out_at_end, put_out_before, newest_put_out, given_in_between, refuses_second, puts_out_second};
 
 /// Calls on a ring, one after another from when it is made, are a history of it.
 pub fn calls_are_history()
@@ -12,12 +12,13 @@ pub fn calls_are_history()
 
 /// How an offer ends, and what a pull gives, follow from what happened to the queue before.
 pub fn histories_leave_no_choice()
-    ensures { LeavesNoChoice }
+    ensures { HistoriesLeaveNoChoice }
 {}
 
 /// Which worked examples are histories: a full Queue refuses what arrives, and a full FrontDropQueue puts its front out.
-/// Neither does what the other does, or does it with room left; none holds more than fits, gives a newer packet first or
-/// nothing while it holds one, or puts a packet out without the one that forces it.
+/// Neither does what the other does, or does it with room left; none holds more than fits, gives a newer packet first, one that
+/// it never took, or nothing while it holds one, puts out another than its front, or puts one out without the packet that
+/// forces it.
 pub fn history_examples()
     ensures tail_drop { IsQueueHistory TailDrop 1 tail_dropped }
     ensures front_drop { IsQueueHistory FrontDrop 1 front_dropped }
@@ -31,7 +32,7 @@ pub fn history_examples()
     ensures not_other_given { ¬ (IsQueueHistory TailDrop 1 other_given) }
     ensures not_nothing_given { ¬ (IsQueueHistory TailDrop 1 nothing_given) }
     ensures not_put_out_at_end { ¬ (IsQueueHistory FrontDrop 1 put_out_at_end) }
-    ensures not_put_out_before_give { ¬ (IsQueueHistory FrontDrop 1 (put_out_before gives_first)) }
+    ensures not_given_in_between { ¬ (IsQueueHistory FrontDrop 2 given_in_between) }
     ensures not_put_out_before_empty { ¬ (IsQueueHistory FrontDrop 1 (put_out_before empty)) }
     ensures not_put_out_before_evict { ¬ (IsQueueHistory FrontDrop 1 (put_out_before puts_out_second)) }
     ensures not_put_out_before_refuse { ¬ (IsQueueHistory FrontDrop 1 (put_out_before refuses_second)) }

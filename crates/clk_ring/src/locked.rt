@@ -10,8 +10,8 @@ use clk_packet::{Fault, Kind, Offered, Packet};
 use std::alloc::Global;
 use std::sync::{Mutex, Wait};
 
-/// A ring under a lock, for any number of threads. Each call does what the ring's does, while it has the lock; what the ring
-/// held before is known to no caller.
+/// A ring under a lock, for any number of threads. Each call does what the ring's does, while it has the lock. What the ring
+/// held before is known to no caller, so a contract says only that a refusal names the packet offered.
 #[derive(Drop)]
 pub struct Locked {
     ring: Mutex<Ring>,
@@ -22,7 +22,7 @@ impl Locked {
     ///
     /// # Errors
     ///
-    /// Fault 1.
+    /// Fault 1 where memory is refused.
     pub fn new(alloc: Global, kind: Kind, capacity: usize) -> Result<Locked, Fault>
         requires capacity { (1 ≤ capacity) × (capacity ≤ most_capacity) }
         ensures { IsOkUnless result Fault.Memory }

@@ -39,7 +39,7 @@ impl Ring {
     ///
     /// # Errors
     ///
-    /// Fault 1.
+    /// Fault 1 where memory is refused.
     pub fn new(alloc: Global, kind: Kind, capacity: usize) -> Result<Ring, Fault>
         requires capacity { (1 ≤ capacity) × (capacity ≤ most_capacity) }
         ensures empty { IfOk result (λ ring. ring ≡ empty_queue kind capacity) }

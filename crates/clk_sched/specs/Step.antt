@@ -41,7 +41,7 @@ pub record IsOnePullLess (tree : Tree) (log pull : List Visit) : Type 0 where
   pub run : IsRun tree log
   pub next : IsNextPull tree log pull
 
--- The empty log is a run, a run goes on by each pull that may follow it, and by no other.
+-- The empty log is a run, and a run goes on by each pull that may follow it, and by no other.
 pub record GoesOn (tree : Tree) : Type 0 where
   pub start : IsRun tree []
   pub step : (log pull : List Visit) → IsRun tree log → IsNextPull tree log pull → IsOnePullMore tree log pull

@@ -1,3 +1,5 @@
+//! What a tree pulls from.
+
 ghost use Rattle.std.specs.Prelude.{◌≡◌, ℕ, Bool, false, None};
 ghost use Rattle.std.specs.declared.option.Option.{Option};
 ghost use Rattle.clk_packet.specs.declared.packet.Packet.{Packet};

@@ -99,7 +99,7 @@ impl Ask for OnePacket {
     }
 }
 
-// Through the bound alone.
+// Through the trait's bound alone, and so by its contract.
 fn ask_twice<Q: Ask>(queues: &mut Q, leaf: u16) -> [Option<Packet>; 2] {
     [queues.ask(leaf), queues.ask(leaf)]
 }

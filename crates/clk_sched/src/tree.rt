@@ -15,7 +15,7 @@ use std::marker::Model;
 const MAX_INPUTS: usize = 64;
 
 /// How many schedulers stand on a path at most.
-const MAX_HEIGHT: u8 = 64;
+const MAX_LEVELS: u8 = 64;
 
 /// A tree of schedulers over queues: a queue alone, or a scheduler with its inputs.
 #[cycle(tree)]
@@ -164,7 +164,7 @@ impl Tree {
             return Err(Fault::TooLarge);
         }
         let below = highest(&children);
-        if below >= MAX_HEIGHT {
+        if below >= MAX_LEVELS {
             return Err(Fault::TooLarge);
         }
         Ok(Tree {

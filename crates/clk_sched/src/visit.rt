@@ -1,3 +1,5 @@
+//! One entry of the log.
+
 use clk_packet::Packet;
 
 /// One look of a node at one of its inputs, as the log records it once its answer is known. The visits of a node's
@@ -25,7 +27,7 @@ impl Visit {
     ghost use Rattle.std.specs.Prelude.{◌≡◌};
     ghost use Rattle.clk_sched.specs.Log.{asking};
 
-    /// A visit that asked, and whose packet is the node's result.
+    /// A visit that asked, and whose packet is the node's result, in a pull counted from 0 at a moment in ticks.
     pub fn asking(pull: u64, moment: u64, node: u16, input: u16, got: Option<Packet>) -> Visit
         ensures { result ≡ asking pull moment node input got }
     {

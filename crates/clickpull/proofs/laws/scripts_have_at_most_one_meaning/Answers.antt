@@ -1,6 +1,6 @@
 use Rattle.clickpull.specs.Builtin.{builtin}
 use Rattle.clickpull.proofs.OneMeaning.{has-one_meaning, builtin-wired}
-use Rattle.clickpull.proofs.laws.scripts_have_one_meaning.Goals as goal
+use Rattle.clickpull.proofs.laws.scripts_have_at_most_one_meaning.Goals as goal
 
 pub returns-clause-wired : goal.returns-clause-wired
 returns-clause-wired c = λ setup wired. has-one_meaning setup wired c.histories_leave_no_choice.ensures (c.runs_leave_no_choice.ensures.pulls setup.tree)
