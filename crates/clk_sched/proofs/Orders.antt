@@ -120,7 +120,7 @@ round_robin-order inputs earlier l =
     }
 
 -- inputs with passes, put in order
-put-all : (P : ℕ × ℕ → Type 0) (i : ℕ × ℕ) (pairs : List (ℕ × ℕ)) → P i → AllByRecursion P pairs → AllByRecursion P (put_in_order i pairs)
+pub put-all : (P : ℕ × ℕ → Type 0) (i : ℕ × ℕ) (pairs : List (ℕ × ℕ)) → P i → AllByRecursion P pairs → AllByRecursion P (put_in_order i pairs)
 put-all P i [] l h = (l, tt)
 put-all P i (j ∷ pairs) l h = by_order (nat_lt i.1 j.1 || ((i.1 == j.1) && nat_le i.0 j.0)) (put-all P i pairs l h.1)
   where
@@ -157,7 +157,7 @@ enumerated n high (p ∷ passes) l =
       (all-weaker (λ (y : ℕ × ℕ). Between (n + 1) high (paired_input y)) (λ (y : ℕ × ℕ). paired_input y ≢ n) (enumerate_from (n + 1) passes) (λ y h e. let m = h.0 in omega (arith, e)) rest.0, rest.1),
     )
 
-passes-length : (tickets : List ℕ) (earlier : List Turn) → length (passes_of tickets earlier) ≡ length tickets
+pub passes-length : (tickets : List ℕ) (earlier : List Turn) → length (passes_of tickets earlier) ≡ length tickets
 passes-length tickets [] = length-map tickets (λ _. 0)
 passes-length tickets (t ∷ earlier) = by_giver (giver t.visits) refl ∙ passes-length tickets earlier
   where

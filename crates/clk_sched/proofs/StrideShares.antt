@@ -3,7 +3,6 @@ use Rattle.std.proofs.Common.{◌≡◌, ℕ, zero, suc, ◌+◌, ◌*◌, ◌<�
 use Rattle.std.specs.List.{enumerate_from, AllByRecursion}
 use Rattle.std.proofs.lemmas.Bool.{false≢true}
 use Rattle.std.proofs.lemmas.Bool.Decides.{nat_tests}
-use Rattle.std.proofs.lemmas.List.{length-map}
 use Rattle.std.proofs.lemmas.Option.{slice_get-map, slice_get-get_or, unwrap_or-slice_get}
 use Rattle.std.proofs.lemmas.List.FromFn.{get_or-enumerate_from, length-enumerate_from}
 use Rattle.clk_packet.specs.declared.packet.Packet.{Packet}
@@ -14,6 +13,7 @@ use Rattle.clk_sched.specs.Laws.Stride.{visits_input, passes_after, passes_of, p
 use Rattle.clk_sched.specs.Service.{AlwaysGets, Near, largest_stride, given_in, pass_at, SharesByStride}
 use Rattle.clk_sched.proofs.Members.{In, of-all, all-split}
 use Rattle.clk_sched.proofs.Allowed.{onto, onto-reverse, each-split}
+use Rattle.clk_sched.proofs.Orders.{put-all, passes-length}
 
 -- inputs with their passes
 at-enumerated : (passes : List ℕ) (i : ℕ) → i < length passes → slice_get (enumerate_from 0 passes) i ≡ Some (i, pass_in passes i)
@@ -83,14 +83,6 @@ IsRising (x ∷ pairs) = AtLeast x.1 pairs × IsRising pairs
 lower : (m n : ℕ) (pairs : List (ℕ × ℕ)) → m ≤ n → AtLeast n pairs → AtLeast m pairs
 lower m n [] l h = tt
 lower m n (y ∷ pairs) l h = (let k = h.0 in omega arith, lower m n pairs l h.1)
-
-put-all : (P : ℕ × ℕ → Type 0) (i : ℕ × ℕ) (pairs : List (ℕ × ℕ)) → P i → AllByRecursion P pairs → AllByRecursion P (put_in_order i pairs)
-put-all P i [] l h = (l, tt)
-put-all P i (j ∷ pairs) l h = by_order (nat_lt i.1 j.1 || ((i.1 == j.1) && nat_le i.0 j.0)) (put-all P i pairs l h.1)
-  where
-    by_order : (b : Bool) → AllByRecursion P (put_in_order i pairs) → AllByRecursion P (if b then i ∷ j ∷ pairs else j ∷ put_in_order i pairs)
-    by_order true rest = (l, h)
-    by_order false rest = (h.0, rest)
 
 put-rising : (i : ℕ × ℕ) (pairs : List (ℕ × ℕ)) → IsRising pairs → IsRising (put_in_order i pairs)
 put-rising i [] h = (tt, tt)
@@ -185,14 +177,6 @@ strides : (tickets : List ℕ) (i : ℕ) → i < length tickets → stride_at ti
 strides [] i l = absurd (omega arith)
 strides (t ∷ tickets) zero l = omega arith
 strides (t ∷ tickets) (suc i) l = let rest = strides tickets i (omega arith) in omega (arith, rest)
-
-passes-length : (tickets : List ℕ) (earlier : List Turn) → length (passes_of tickets earlier) ≡ length tickets
-passes-length tickets [] = length-map tickets (λ _. 0)
-passes-length tickets (t ∷ earlier) = by_giver (giver t.visits) refl ∙ passes-length tickets earlier
-  where
-    by_giver : (o : Option ℕ) → giver t.visits ≡ o → length (passes_after tickets (passes_of tickets earlier) t) ≡ length (passes_of tickets earlier)
-    by_giver None e = rw e refl
-    by_giver (Some w) e = rw e (length-map (enumerate_from 0 (passes_of tickets earlier)) _ ∙ length-enumerate_from 0 (passes_of tickets earlier))
 
 -- a turn as a StrideSched has it
 abbrev IsStrideTurn : List ℕ → List Turn → Turn → Type 0
