@@ -18,6 +18,10 @@ pub mod Conserved
 pub mod CameFrom
 pub mod GoesOn
 pub mod Apart
+pub mod Below
+pub mod Pulling
+pub mod Asking
+pub mod Asked
 pub mod Orders
 pub mod Chosen
 pub mod WithAsked

@@ -1,5 +1,5 @@
 -- Members of lists, and lists that a test or a law goes over.
-use Rattle.std.proofs.Common.{◌≡◌, ◌⊎◌, Bool, true, false, cond, ◌||◌, List, [], ◌∷◌, ◌++◌, map, filter, inl, inr, refl, sym, ◌∙◌, subst}
+use Rattle.std.proofs.Common.{◌≡◌, ◌⊎◌, ℕ, zero, suc, Bool, true, false, cond, ◌||◌, List, [], ◌∷◌, ◌++◌, map, filter, slice_get, unwrap_or, is_some, Some, inl, inr, refl, sym, ap, ◌∙◌, subst}
 use Rattle.std.specs.List.{AllByRecursion, list_any, flat_map}
 use Rattle.std.proofs.lemmas.Bool.{false≢true}
 use Rattle.clk_sched.specs.Turns.{EachAfter}
@@ -7,6 +7,11 @@ use Rattle.clk_sched.specs.Turns.{EachAfter}
 abbrev pub In : {X : Type 0} → X → List X → Type 0
 In x [] = ⊥
 In x (y ∷ ys) = (y ≡ x) ⊎ In x ys
+
+pub in-slice : {X : Type 0} (xs : List X) (i : ℕ) (x : X) → slice_get xs i ≡ Some x → In x xs
+in-slice [] i x e = absurd (false≢true (ap is_some e))
+in-slice (y ∷ xs) zero x e = inl (ap (λ o. unwrap_or o y) e)
+in-slice (y ∷ xs) (suc i) x e = inr (in-slice xs i x e)
 
 pub of-all : {X : Type 0} (P : X → Type 0) (x : X) (xs : List X) → AllByRecursion P xs → In x xs → P x
 of-all P x [] h m = absurd m

@@ -11,7 +11,7 @@ use Rattle.clk_sched.specs.Tree.{is_number}
 use Rattle.clk_sched.specs.Turns.{Turn, EachAfter, giver, all_visits, UpToFirst, AsksInOrder}
 use Rattle.clk_sched.specs.Laws.Stride.{visits_input, passes_after, passes_of, put_in_order, in_rising_order, stride_order, pass_in, stride_at}
 use Rattle.clk_sched.specs.Service.{AlwaysGets, Near, largest_stride, given_in, pass_at, SharesByStride}
-use Rattle.clk_sched.proofs.Members.{In, of-all, all-split}
+use Rattle.clk_sched.proofs.Members.{In, of-all, all-split, in-slice}
 use Rattle.clk_sched.proofs.Allowed.{onto, onto-reverse, each-split}
 use Rattle.clk_sched.proofs.Orders.{put-all, passes-length}
 
@@ -20,11 +20,6 @@ at-enumerated : (passes : List ℕ) (i : ℕ) → i < length passes → slice_ge
 at-enumerated passes i l =
     slice_get-get_or (enumerate_from 0 passes) i (0, 0) (subst (λ n. i < n) (sym (length-enumerate_from 0 passes)) l)
     ∙ ap Some (get_or-enumerate_from 0 passes i (0, 0) l ∙ ap₂ (λ j x. (j, x)) (zero-add i) (sym (unwrap_or-slice_get passes i 0)))
-
-in-slice : {X : Type 0} (xs : List X) (i : ℕ) (x : X) → slice_get xs i ≡ Some x → In x xs
-in-slice [] i x e = absurd (false≢true (ap is_some e))
-in-slice (y ∷ xs) zero x e = inl (ap (λ o. unwrap_or o y) e)
-in-slice (y ∷ xs) (suc i) x e = inr (in-slice xs i x e)
 
 in-enumerated : (passes : List ℕ) (i : ℕ) → i < length passes → In (i, pass_in passes i) (enumerate_from 0 passes)
 in-enumerated passes i l = in-slice (enumerate_from 0 passes) i (i, pass_in passes i) (at-enumerated passes i l)

@@ -10,6 +10,9 @@ pub mod Turns
 pub mod Heads
 pub mod Log
 pub mod Laws
+pub mod Holds
+pub mod Places
+pub mod Pulling
 pub mod Run
 pub mod Step
 pub mod Examples

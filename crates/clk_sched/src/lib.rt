@@ -4,6 +4,7 @@
 mod ask;
 mod examples;
 mod laws;
+mod session;
 mod tree;
 mod visit;
 

@@ -1,0 +1,104 @@
+//! The nodes of a tree, by number, as they are pulled.
+
+use crate::ask::Ask;
+use crate::session::inputs::{Input, Inputs};
+use crate::session::state::State;
+use crate::visit::Visit;
+use clk_packet::Packet;
+use std::mem::replace;
+
+/// The nodes of a tree in a pull, with the log.
+#[derive(Drop)]
+pub struct Nodes {
+    /// The inputs of each node.
+    pub inputs: Vec<Inputs>,
+    /// What each node holds from pull to pull. While a node is pulled, `Prio` stands in its place.
+    pub states: Vec<State>,
+    /// Every visit so far, in order.
+    pub log: Vec<Visit>,
+    /// The number of the pull, from 0.
+    pub pull: u64,
+    /// Its counted moment, in ticks.
+    pub moment: u64,
+}
+
+impl Nodes {
+    ghost use Rattle.std.specs.Prelude.{◌≡◌, ◌-◌, ◌<◌, ◌++◌, ◌∷◌, [], length, IsSome, IfSome, true};
+    ghost use Rattle.std.specs.List.{AllByRecursion};
+    ghost use Rattle.clk_sched.specs.declared.visit.Visit.{Visit};
+    ghost use Rattle.clk_sched.specs.Places.{edges_of, edges_at, edges_in, input_at, Answers, queue_asked};
+    ghost use Rattle.clk_sched.specs.Pulling.{CanPull, Keeps, Pulls, Asks, AsksAll, added, now_of, asked_in_order};
+    ghost use Rattle.clk_sched.specs.Log.{asking};
+
+    /// Pulls a node, and answers its result.
+    #[cycle(pull)]
+    pub fn pull<Q: Ask>(&mut self, q: &mut Q, node: u16) -> Option<Packet>
+        requires can_pull { CanPull self.old node (edges_of self.old.inputs.items node) }
+        ensures keeps { Keeps self.old self.new (edges_of self.old.inputs.items node) }
+        ensures answers { Answers Q.gives (queue_asked self.old.inputs.items) q.old (added self.old self.new) q.new }
+        ensures pulls { Pulls self.old self.new node result }
+    {
+        match replace(&mut self.states[node as usize], State::Prio) {
+            State::Prio => self.pull_prio(q, node),
+            State::RoundRobin(mut beginning) => {
+                let got = beginning.pull(self, q, node);
+                self.states[node as usize] = State::RoundRobin(beginning);
+                got
+            }
+        }
+    }
+
+    /// Asks inputs of a node in this order until one gives a packet, and answers its place in the order and the packet.
+    #[cycle(pull)]
+    pub fn ask_in_order<Q: Ask>(
+        &mut self,
+        q: &mut Q,
+        node: u16,
+        order: &[u16],
+    ) -> Option<(usize, Packet)>
+        requires can_pull { CanPull self.old node (edges_in self.old.inputs.items node order.now) }
+        requires within { AllByRecursion (λ i. IsSome (input_at self.old.inputs.items node i)) order.now }
+        ensures keeps { Keeps self.old self.new (edges_in self.old.inputs.items node order.now) }
+        ensures answers { Answers Q.gives (queue_asked self.old.inputs.items) q.old (added self.old self.new) q.new }
+        ensures place { IfSome result (λ r. r.0 < length order.now) }
+        ensures asks { AsksAll self.old self.new node order.now (asked_in_order (now_of self.old) node order.now result) }
+    {
+        for place in 0..order.len() {
+            if let Some(packet) = self.look(q, node, order[place]) {
+                return Some((place, packet));
+            }
+        }
+        None
+    }
+
+    /// Asks what stands at an input of a node, and records the visit.
+    #[cycle(pull)]
+    fn look<Q: Ask>(&mut self, q: &mut Q, node: u16, input: u16) -> Option<Packet>
+        requires can_pull { CanPull self.old node (edges_at self.old.inputs.items node input) }
+        requires within { IsSome (input_at self.old.inputs.items node input) }
+        ensures keeps { Keeps self.old self.new (edges_at self.old.inputs.items node input) }
+        ensures answers { Answers Q.gives (queue_asked self.old.inputs.items) q.old (added self.old self.new) q.new }
+        ensures asks { AsksAll self.old self.new node (input ∷ []) (asking self.old.pull self.old.moment node input result ∷ []) }
+    {
+        let got = self.ask(q, node, input);
+        self.log
+            .push_reserved(Visit::asking(self.pull, self.moment, node, input, got));
+        got
+    }
+
+    /// Asks what stands at an input of a node.
+    #[cycle(pull)]
+    pub fn ask<Q: Ask>(&mut self, q: &mut Q, node: u16, input: u16) -> Option<Packet>
+        requires can_pull { CanPull self.old node (edges_at self.old.inputs.items node input) }
+        requires within { IsSome (input_at self.old.inputs.items node input) }
+        ensures keeps { Keeps self.old self.new (edges_at self.old.inputs.items node input - 1) }
+        ensures answers { (v : Visit) → v.node ≡ node → v.input ≡ input → v.fresh ≡ true → v.got ≡ result
+            → Answers Q.gives (queue_asked self.old.inputs.items) q.old (added self.old self.new ++ v ∷ []) q.new }
+        ensures asks { Asks self.old self.new node input result }
+    {
+        match self.inputs[node as usize].each[input as usize] {
+            Input::Queue(leaf) => q.ask(leaf),
+            Input::Scheduler(child) => self.pull(q, child),
+        }
+    }
+}
