@@ -11,8 +11,9 @@ use Rattle.clk_sched.specs.declared.session.nodes.Nodes.{Nodes}
 use Rattle.clk_sched.specs.declared.session.inputs.Inputs.{Inputs}
 use Rattle.clk_sched.specs.Tree.{Row, nodes}
 use Rattle.clk_sched.specs.Log.{asking}
+use Rattle.clk_sched.specs.Holds.Shaper.{AreBefore}
 use Rattle.clk_sched.specs.Places.{StandsIn, AreWired, AllFit, edges_at, edges_in, Answers, at_queue, queue_asked}
-use Rattle.clk_sched.specs.Pulling.{Now, History, AreBefore, AreApart, CanPull, Keeps, Asks, AsksAll, IsGoing, GoesOnBy, SameButBelow, IsPulling, IsUnasked, IsVisitAt, added, now_of, asked_in_vain, asked_in_order}
+use Rattle.clk_sched.specs.Pulling.{Now, History, AreApart, CanPull, Keeps, Asks, AsksAll, IsGoing, GoesOnBy, SameButBelow, IsPulling, IsUnasked, IsVisitAt, added, now_of, asked_in_vain, asked_in_order}
 use Rattle.clk_sched.proofs.Members.{In, of-all, to-all, all-append, all-split, all-weaker}
 use Rattle.clk_sched.proofs.Apart.{all-map}
 
@@ -73,6 +74,7 @@ can-go_on a b x m n can h =
       fit = subst (λ t. AllFit t b.states.items) (sym h.inputs) h.fit;
       there = subst (λ t. x < length t) (sym h.inputs) can.there;
       room = let r = can.room in let c = h.capacity in let l = h.at_most in omega (arith, c);
+      moment = let r = can.moment in let e = h.moment in omega (arith, e);
     }
 
 pub same-now : (a b : Nodes) (m : ℕ) → Keeps a b m → now_of b ≡ now_of a
@@ -206,7 +208,7 @@ asking-can gives a b p q x k order can h l =
     let m = front-edges a.inputs.items x order (k + 1) in
     subst (λ t. CanPull b x (edges_at t x i)) (sym h.keeps.inputs)
     (can-go_on a b x (edges_in a.inputs.items x (take k order)) (edges_at a.inputs.items x i)
-    (record { wired = can.wired; fit = can.fit; there = can.there; room = let r = can.room in omega (arith, e, f, m) }) h.keeps)
+    (record { wired = can.wired; fit = can.fit; there = can.there; room = (let r = can.room in omega (arith, e, f, m)); moment = can.moment }) h.keeps)
 
 pub asking-next : {S : Type 0} (gives : S → ℕ → Option Packet → S → Type 0) (a b c : Nodes) (p q r : S) (x k : ℕ) (order : List ℕ) → k < length order → IsAsking gives a b p q x (take k order)
     → HasAsked gives b c q r x (slice_index order k) None → IsAsking gives a c p r x (take (k + 1) order)

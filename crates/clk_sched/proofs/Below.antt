@@ -10,7 +10,7 @@ use Rattle.clk_sched.specs.declared.session.inputs.Input.TheVariants.{Queue, Sch
 use Rattle.clk_sched.specs.declared.session.inputs.Inputs.{Inputs}
 use Rattle.clk_sched.specs.declared.session.state.State.{State}
 use Rattle.clk_sched.specs.Tree.{Class, Row, end, leaf, node, nodes, width}
-use Rattle.clk_sched.specs.Holds.{Holds}
+use Rattle.clk_sched.specs.Holds.OfClass.{Holds}
 use Rattle.clk_sched.specs.Places.{inputs_of, EachHasInputs, StandsIn}
 use Rattle.clk_sched.specs.Pulling.{Now, History, EachHolds, NodeHolds, asked_of, with_asked, IsVisitAt, IsBlockOf, IsBlock, IsAskedAt}
 use Rattle.clk_sched.proofs.Members.{In, of-all, all-append, all-flat_map}

@@ -29,4 +29,9 @@ pub mod Made
 pub mod CanGoOn
 pub mod DeficitShares
 pub mod StrideShares
+pub mod Bucket
+pub mod Deficits
+pub mod Rising
+pub mod RankLemmas
+pub mod StridePasses
 pub mod Shares

@@ -19,7 +19,7 @@ pub record IsOrderOf (inputs : ℕ) (order : List ℕ) : Type 0 where
   pub apart : AreApart (λ (i : ℕ). i) order
 
 -- numbers from one on, up to another
-abbrev Between : ℕ → ℕ → ℕ → Type 0
+abbrev pub Between : ℕ → ℕ → ℕ → Type 0
 Between low high k = (low ≤ k) × (k < high)
 
 range-between : (a n high : ℕ) → a + n ≤ high → AllByRecursion (Between a high) (range_with_len a n)
@@ -133,7 +133,7 @@ rising-all P [] h = tt
 rising-all P (i ∷ pairs) h = put-all P i (in_rising_order pairs) h.0 (rising-all P pairs h.1)
 
 -- the input of one with a pass
-abbrev paired_input : ℕ × ℕ → ℕ
+abbrev pub paired_input : ℕ × ℕ → ℕ
 paired_input pair = pair.0
 
 put-apart : (i : ℕ × ℕ) (pairs : List (ℕ × ℕ)) → AllByRecursion (λ (y : ℕ × ℕ). paired_input y ≢ paired_input i) pairs → AreApart paired_input pairs → AreApart paired_input (put_in_order i pairs)
@@ -144,11 +144,11 @@ put-apart i (j ∷ pairs) d h = by_order (nat_lt i.1 j.1 || ((i.1 == j.1) && nat
     by_order true rest = (d, h)
     by_order false rest = (put-all (λ (y : ℕ × ℕ). paired_input y ≢ paired_input j) i pairs (λ e. d.0 (sym e)) h.0, rest)
 
-rising-apart : (pairs : List (ℕ × ℕ)) → AreApart paired_input pairs → AreApart paired_input (in_rising_order pairs)
+pub rising-apart : (pairs : List (ℕ × ℕ)) → AreApart paired_input pairs → AreApart paired_input (in_rising_order pairs)
 rising-apart [] h = tt
 rising-apart (i ∷ pairs) h = put-apart i (in_rising_order pairs) (rising-all (λ (y : ℕ × ℕ). paired_input y ≢ paired_input i) pairs h.0) (rising-apart pairs h.1)
 
-enumerated : (n high : ℕ) (passes : List ℕ) → n + length passes ≤ high
+pub enumerated : (n high : ℕ) (passes : List ℕ) → n + length passes ≤ high
     → AllByRecursion (λ (y : ℕ × ℕ). Between n high (paired_input y)) (enumerate_from n passes) × AreApart paired_input (enumerate_from n passes)
 enumerated n high [] l = (tt, tt)
 enumerated n high (p ∷ passes) l =

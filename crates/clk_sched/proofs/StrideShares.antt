@@ -25,7 +25,7 @@ in-enumerated : (passes : List ℕ) (i : ℕ) → i < length passes → In (i, p
 in-enumerated passes i l = in-slice (enumerate_from 0 passes) i (i, pass_in passes i) (at-enumerated passes i l)
 
 -- a pair among the inputs from one on, with its place
-enumerated-at : (n : ℕ) (passes : List ℕ) (x : ℕ × ℕ) → In x (enumerate_from n passes) → (k : ℕ) × (n + k ≡ x.0) × (k < length passes) × (pass_in passes k ≡ x.1)
+pub enumerated-at : (n : ℕ) (passes : List ℕ) (x : ℕ × ℕ) → In x (enumerate_from n passes) → (k : ℕ) × (n + k ≡ x.0) × (k < length passes) × (pass_in passes k ≡ x.1)
 enumerated-at n [] x m = absurd m
 enumerated-at n (p ∷ passes) x (inl e) = (0, ap (λ y. y.0) (let zero_is : n + 0 ≡ n = omega arith in ap (λ j. (j, p)) zero_is ∙ e), omega arith, ap (λ y. y.1) e)
 enumerated-at n (p ∷ passes) x (inr m) = let rest = enumerated-at (n + 1) passes x m in (suc rest.0, let e = rest.1 in omega (arith, e), let l = rest.2 in omega arith, rest.3)
@@ -59,7 +59,7 @@ in-ordered x [] m = absurd m
 in-ordered x (i ∷ pairs) (inl e) = in-put i x (in_rising_order pairs) (inl e)
 in-ordered x (i ∷ pairs) (inr m) = in-put i x (in_rising_order pairs) (inr (in-ordered x pairs m))
 
-ordered-in : (x : ℕ × ℕ) (pairs : List (ℕ × ℕ)) → In x (in_rising_order pairs) → In x pairs
+pub ordered-in : (x : ℕ × ℕ) (pairs : List (ℕ × ℕ)) → In x (in_rising_order pairs) → In x pairs
 ordered-in x [] m = absurd m
 ordered-in x (i ∷ pairs) m = by_place (put-in i x (in_rising_order pairs) m) (ordered-in x pairs)
   where

@@ -10,9 +10,12 @@ pub mod Turns
 pub mod Heads
 pub mod Log
 pub mod Laws
+pub mod Ranks
 pub mod Holds
 pub mod Places
 pub mod Pulling
+pub mod Turn
+pub mod Session
 pub mod Run
 pub mod Step
 pub mod Examples

@@ -9,7 +9,7 @@ use Rattle.clk_sched.specs.declared.session.inputs.Inputs.{Inputs}
 use Rattle.clk_sched.specs.declared.session.state.State.{State}
 use Rattle.clk_sched.specs.Tree.{Row, end, leaf, node, nodes}
 use Rattle.clk_sched.specs.Limits.{most_inputs}
-use Rattle.clk_sched.specs.Holds.{Fits}
+use Rattle.clk_sched.specs.Holds.OfClass.{Fits}
 
 -- the inputs of a row whose schedulers are numbered from `next` on
 abbrev pub inputs_of : ℕ → Row → List Input

@@ -1,16 +1,18 @@
 -- What a pull does below a node, while it goes on: which visits it makes, and what each node holds then.
-use Rattle.std.specs.Prelude.{◌≡◌, ◌≢◌, ◌⊎◌, ℕ, ◌+◌, ◌<◌, ◌≤◌, Bool, true, List, [], ◌∷◌, ◌++◌, length, drop, suc, zero, ⊤, Option, Some, None, MatchOption, slice_get, slice_index, take, map, if◌then◌else◌}
+use Rattle.std.specs.Prelude.{◌≡◌, ◌≢◌, ◌⊎◌, ℕ, ◌+◌, ◌<◌, ◌≤◌, ◌^◌, Bool, true, List, [], ◌∷◌, ◌++◌, length, drop, suc, zero, ⊤, Option, Some, None, MatchOption, slice_get, slice_index, take, map, if◌then◌else◌}
 use Rattle.std.specs.List.{AllByRecursion, flat_map}
 use Rattle.std.specs.Vec.{vec_len, vec_capacity}
 use Rattle.clk_packet.specs.declared.packet.Packet.{Packet}
 use Rattle.clk_sched.specs.declared.visit.Visit.{Visit}
 use Rattle.clk_sched.specs.declared.session.state.State.{State}
 use Rattle.clk_sched.specs.declared.session.nodes.Nodes.{Nodes}
+use Rattle.clk_sched.specs.declared.session.stride.Rank.{Rank}
 use Rattle.clk_sched.specs.Tree.{Class, Row, end, leaf, node, nodes, width}
 use Rattle.clk_sched.specs.Turns.{Turn}
 use Rattle.clk_sched.specs.Laws.{AllowsTurn}
 use Rattle.clk_sched.specs.Log.{visits_of, result_of, asking}
-use Rattle.clk_sched.specs.Holds.{Holds}
+use Rattle.clk_sched.specs.Holds.OfClass.{Holds}
+use Rattle.clk_sched.specs.Holds.Shaper.{AreBefore}
 use Rattle.clk_sched.specs.Places.{StandsIn, AreWired, AllFit, edges_of, edges_in, Answers, queue_asked}
 
 -- the number of a pull, and its counted moment
@@ -33,10 +35,6 @@ with_turn moment (v ∷ visits) turns = as_turn moment (v ∷ visits) ∷ turns
 -- the history after these visits at a moment
 abbrev pub after : History → ℕ → List Visit → History
 after history moment visits x = with_turn moment (visits_of x visits) (history x)
-
--- no turn was after a moment
-abbrev pub AreBefore : ℕ → List Turn → Type 0
-AreBefore moment turns = AllByRecursion (λ (t : Turn). t.moment ≤ moment) turns
 
 -- each scheduler of a row, which are numbered from `next` on, holds what its history says
 abbrev pub EachHolds : List State → History → ℕ → Row → Type 0
@@ -122,6 +120,7 @@ pub record CanPull (n : Nodes) (x visits : ℕ) : Type 0 where
   pub fit : AllFit n.inputs.items n.states.items
   pub there : x < length n.inputs.items
   pub room : vec_len n.log + visits ≤ vec_capacity n.log
+  pub moment : n.moment < 2 ^ 44
 
 -- what stays while nodes are pulled, and that the log grows, by so many visits at most
 pub record Keeps (old new : Nodes) (most : ℕ) : Type 0 where
@@ -179,6 +178,10 @@ abbrev pub AsksAll : Nodes → Nodes → ℕ → List ℕ → List Visit → Typ
 AsksAll old new x order more =
     (row : Row) (history : History) (visits own : List Visit) → IsGoing old history x row visits own → AllByRecursion (IsUnasked own) order → AreApart (λ (i : ℕ). i) order
     → GoesOnBy old new history x row visits own more
+
+-- the inputs of ranks
+abbrev pub inputs_in : List Rank → List ℕ
+inputs_in ranks = map (λ (r : Rank). r.input) ranks
 
 -- the visits that ask these inputs in order and get none
 abbrev pub asked_in_vain : Now → ℕ → List ℕ → List Visit

@@ -3,6 +3,7 @@
 use crate::ask::Ask;
 use crate::session::inputs::{Input, Inputs};
 use crate::session::state::State;
+use crate::session::stride::Rank;
 use crate::visit::Visit;
 use clk_packet::Packet;
 use std::mem::replace;
@@ -23,11 +24,11 @@ pub struct Nodes {
 }
 
 impl Nodes {
-    ghost use Rattle.std.specs.Prelude.{◌≡◌, ◌-◌, ◌<◌, ◌++◌, ◌∷◌, [], length, IsSome, IfSome, true};
-    ghost use Rattle.std.specs.List.{AllByRecursion};
+    ghost use Rattle.std.specs.Prelude.{◌≡◌, ◌-◌, ◌<◌, ◌++◌, ◌∷◌, [], ◌+◌, ◌≤◌, length, IsSome, IfSome, true};
+    ghost use Rattle.std.specs.List.{AllByRecursion, range_with_len};
     ghost use Rattle.clk_sched.specs.declared.visit.Visit.{Visit};
     ghost use Rattle.clk_sched.specs.Places.{edges_of, edges_at, edges_in, input_at, Answers, queue_asked};
-    ghost use Rattle.clk_sched.specs.Pulling.{CanPull, Keeps, Pulls, Asks, AsksAll, added, now_of, asked_in_order};
+    ghost use Rattle.clk_sched.specs.Pulling.{CanPull, Keeps, Pulls, Asks, AsksAll, added, now_of, asked_in_order, inputs_in};
     ghost use Rattle.clk_sched.specs.Log.{asking};
 
     /// Pulls a node, and answers its result.
@@ -38,14 +39,10 @@ impl Nodes {
         ensures answers { Answers Q.gives (queue_asked self.old.inputs.items) q.old (added self.old self.new) q.new }
         ensures pulls { Pulls self.old self.new node result }
     {
-        match replace(&mut self.states[node as usize], State::Prio) {
-            State::Prio => self.pull_prio(q, node),
-            State::RoundRobin(mut beginning) => {
-                let got = beginning.pull(self, q, node);
-                self.states[node as usize] = State::RoundRobin(beginning);
-                got
-            }
-        }
+        let mut state = replace(&mut self.states[usize::from(node)], State::Prio);
+        let got = state.pull(self, q, node);
+        self.states[usize::from(node)] = state;
+        got
     }
 
     /// Asks inputs of a node in this order until one gives a packet, and answers its place in the order and the packet.
@@ -54,17 +51,42 @@ impl Nodes {
         &mut self,
         q: &mut Q,
         node: u16,
-        order: &[u16],
+        order: &[Rank],
     ) -> Option<(usize, Packet)>
-        requires can_pull { CanPull self.old node (edges_in self.old.inputs.items node order.now) }
-        requires within { AllByRecursion (λ i. IsSome (input_at self.old.inputs.items node i)) order.now }
-        ensures keeps { Keeps self.old self.new (edges_in self.old.inputs.items node order.now) }
+        requires can_pull { CanPull self.old node (edges_in self.old.inputs.items node (inputs_in order.now)) }
+        requires within { AllByRecursion (λ i. IsSome (input_at self.old.inputs.items node i)) (inputs_in order.now) }
+        ensures keeps { Keeps self.old self.new (edges_in self.old.inputs.items node (inputs_in order.now)) }
         ensures answers { Answers Q.gives (queue_asked self.old.inputs.items) q.old (added self.old self.new) q.new }
         ensures place { IfSome result (λ r. r.0 < length order.now) }
-        ensures asks { AsksAll self.old self.new node order.now (asked_in_order (now_of self.old) node order.now result) }
+        ensures asks { AsksAll self.old self.new node (inputs_in order.now) (asked_in_order (now_of self.old) node (inputs_in order.now) result) }
     {
         for place in 0..order.len() {
-            if let Some(packet) = self.look(q, node, order[place]) {
+            if let Some(packet) = self.look(q, node, order[place].input) {
+                return Some((place, packet));
+            }
+        }
+        None
+    }
+
+    /// Asks so many inputs of a node from the first on until one gives a packet, and answers its place and the packet.
+    #[cycle(pull)]
+    pub fn ask_in_turn<Q: Ask>(
+        &mut self,
+        q: &mut Q,
+        node: u16,
+        first: u16,
+        count: u16,
+    ) -> Option<(u16, Packet)>
+        requires can_pull { CanPull self.old node (edges_in self.old.inputs.items node (range_with_len first count)) }
+        requires within { AllByRecursion (λ i. IsSome (input_at self.old.inputs.items node i)) (range_with_len first count) }
+        requires few { first + count ≤ 64 }
+        ensures keeps { Keeps self.old self.new (edges_in self.old.inputs.items node (range_with_len first count)) }
+        ensures answers { Answers Q.gives (queue_asked self.old.inputs.items) q.old (added self.old self.new) q.new }
+        ensures place { IfSome result (λ r. r.0 < count) }
+        ensures asks { AsksAll self.old self.new node (range_with_len first count) (asked_in_order (now_of self.old) node (range_with_len first count) result) }
+    {
+        for place in 0..count {
+            if let Some(packet) = self.look(q, node, first + place) {
                 return Some((place, packet));
             }
         }
@@ -96,7 +118,7 @@ impl Nodes {
             → Answers Q.gives (queue_asked self.old.inputs.items) q.old (added self.old self.new ++ v ∷ []) q.new }
         ensures asks { Asks self.old self.new node input result }
     {
-        match self.inputs[node as usize].each[input as usize] {
+        match self.inputs[usize::from(node)].each[usize::from(input)] {
             Input::Queue(leaf) => q.ask(leaf),
             Input::Scheduler(child) => self.pull(q, child),
         }

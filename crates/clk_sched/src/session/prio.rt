@@ -1,26 +1,24 @@
 //! The pull of a PrioSched, and of the device, which is one over one input.
 
+ghost use Rattle.clk_sched.specs.Tree.{prio};
+ghost use Rattle.clk_sched.specs.Places.{edges_of, Answers, queue_asked};
+ghost use Rattle.clk_sched.specs.Pulling.{CanPull, Keeps, added};
+ghost use Rattle.clk_sched.specs.Turn.{TakesTurn};
+ghost use Rattle.clk_sched.specs.declared.session.state.State.TheVariants.{Prio};
+
 use crate::ask::Ask;
 use crate::session::nodes::Nodes;
-use crate::session::round_robin::IN_ORDER;
 use clk_packet::Packet;
 
-impl Nodes {
-    ghost use Rattle.std.specs.Prelude.{◌≡◌};
-    ghost use Rattle.clk_sched.specs.Tree.{prio};
-    ghost use Rattle.clk_sched.specs.Places.{edges_of, Answers, queue_asked};
-    ghost use Rattle.clk_sched.specs.Pulling.{CanPull, Keeps, IsReady, HasTurned, added};
-
-    /// Pulls a PrioSched.
-    #[cycle(pull)]
-    pub fn pull_prio<Q: Ask>(&mut self, q: &mut Q, node: u16) -> Option<Packet>
-        requires can_pull { CanPull self.old node (edges_of self.old.inputs.items node) }
-        ensures keeps { Keeps self.old self.new (edges_of self.old.inputs.items node) }
-        ensures answers { Answers Q.gives (queue_asked self.old.inputs.items) q.old (added self.old self.new) q.new }
-        ensures turned { (row : _) (history : _) → IsReady self.old history node row → HasTurned self.old self.new history node prio row result }
-    {
-        let inputs = self.inputs[node as usize].each.len();
-        let (_, packet) = self.ask_in_order(q, node, &IN_ORDER[..inputs])?;
-        Some(packet)
-    }
+/// Pulls a PrioSched.
+#[cycle(pull)]
+pub fn pull_prio<Q: Ask>(nodes: &mut Nodes, q: &mut Q, node: u16) -> Option<Packet>
+    requires can_pull { CanPull nodes.old node (edges_of nodes.old.inputs.items node) }
+    ensures keeps { Keeps nodes.old nodes.new (edges_of nodes.old.inputs.items node) }
+    ensures answers { Answers Q.gives (queue_asked nodes.old.inputs.items) q.old (added nodes.old nodes.new) q.new }
+    ensures turn { TakesTurn nodes.old nodes.new node prio Prio Prio result }
+{
+    let inputs = nodes.inputs[usize::from(node)].each.len() as u16;
+    let (_, packet) = nodes.ask_in_turn(q, node, 0, inputs)?;
+    Some(packet)
 }

@@ -1,4 +1,6 @@
 use Rattle.std.proofs.Common.{◌≡◌, ℕ, ◌+◌, ◌*◌, ◌-◌, length, take}
+use Rattle.std.specs.List.{range_with_len}
+use Rattle.clk_sched.specs.Pulling.{inputs_in}
 use Rattle.clk_sched.proofs.Asking.{IsAsking}
 use Rattle.clk_sched.proofs.session.+pull.Given as goal
 
@@ -15,14 +17,35 @@ decreases-nodes::Nodes::look g l = rank (length l.self.now.inputs.items) l.node 
 abbrev pub decreases-nodes::Nodes::ask_in_order : goal.decreases-nodes::Nodes::ask_in_order
 decreases-nodes::Nodes::ask_in_order g l = rank (length l.self.now.inputs.items) l.node 2
 
-abbrev pub decreases-nodes::Nodes::pull_prio : goal.decreases-nodes::Nodes::pull_prio
-decreases-nodes::Nodes::pull_prio g l = rank (length l.self.now.inputs.items) l.node 4
+abbrev pub decreases-nodes::Nodes::ask_in_turn : goal.decreases-nodes::Nodes::ask_in_turn
+decreases-nodes::Nodes::ask_in_turn g l = rank (length l.self.now.inputs.items) l.node 2
+
+abbrev pub decreases-prio::pull_prio : goal.decreases-prio::pull_prio
+decreases-prio::pull_prio g l = rank (length l.nodes.now.inputs.items) l.node 4
 
 abbrev pub decreases-round_robin::Beginning::pull : goal.decreases-round_robin::Beginning::pull
 decreases-round_robin::Beginning::pull g l = rank (length l.nodes.now.inputs.items) l.node 4
 
+abbrev pub decreases-drr::Deficits::pull : goal.decreases-drr::Deficits::pull
+decreases-drr::Deficits::pull g l = rank (length l.nodes.now.inputs.items) l.node 4
+
+abbrev pub decreases-stride::Passes::pull : goal.decreases-stride::Passes::pull
+decreases-stride::Passes::pull g l = rank (length l.nodes.now.inputs.items) l.node 4
+
+abbrev pub decreases-shaper::Bucket::pull : goal.decreases-shaper::Bucket::pull
+decreases-shaper::Bucket::pull g l = rank (length l.nodes.now.inputs.items) l.node 4
+
+abbrev pub decreases-drr::Deficits::look : goal.decreases-drr::Deficits::look
+decreases-drr::Deficits::look g l = rank (length l.nodes.now.inputs.items) l.node 3
+
+abbrev pub decreases-state::State::pull : goal.decreases-state::State::pull
+decreases-state::State::pull g l = rank (length l.nodes.now.inputs.items) l.node 5
+
 abbrev pub decreases-nodes::Nodes::pull : goal.decreases-nodes::Nodes::pull
-decreases-nodes::Nodes::pull g l = rank (length l.self.now.inputs.items) l.node 5
+decreases-nodes::Nodes::pull g l = rank (length l.self.now.inputs.items) l.node 6
 
 abbrev pub invariant-nodes::Nodes::ask_in_order-loop-place : goal.invariant-nodes::Nodes::ask_in_order-loop-place
-invariant-nodes::Nodes::ask_in_order-loop-place g l = IsAsking g.Q.Ask.gives l.initial.self l.self l.initial.q l.q l.node (take l.place l.fn.order)
+invariant-nodes::Nodes::ask_in_order-loop-place g l = IsAsking g.Q.Ask.gives l.initial.self l.self l.initial.q l.q l.node (take l.place (inputs_in l.fn.order))
+
+abbrev pub invariant-nodes::Nodes::ask_in_turn-loop-place : goal.invariant-nodes::Nodes::ask_in_turn-loop-place
+invariant-nodes::Nodes::ask_in_turn-loop-place g l = IsAsking g.Q.Ask.gives l.initial.self l.self l.initial.q l.q l.node (take l.place (range_with_len l.fn.first l.fn.count))

@@ -1,0 +1,6 @@
+use Rattle.std.proofs.Common.{◌≡◌, ◌-◌, ◌++◌, take, drop}
+use Rattle.clk_sched.specs.Ranks.{after_win}
+use Rattle.clk_sched.proofs.session.stride.place_visited.Given as goal
+
+abbrev pub invariant-loop-idle : goal.invariant-loop-idle
+invariant-loop-idle l = l.row ≡ take l.idle l.fn.row ++ after_win l.pass l.stride (l.place - l.idle) (drop l.idle l.fn.row)

@@ -1,0 +1,33 @@
+-- What a DRRSched holds of each input: its quantum, its deficit and its head.
+use Rattle.std.specs.Prelude.{◌≡◌, ℕ, ◌+◌, ◌-◌, ◌<◌, ◌≤◌, ◌==◌, Bool, false, nat_le, List, Option, Some, None, slice_get, if◌then◌else◌}
+use Rattle.clk_packet.specs.declared.packet.Packet.{Packet}
+use Rattle.clk_packet.specs.Limits.{most_length}
+use Rattle.clk_sched.specs.declared.session.drr.Served.{Served}
+use Rattle.clk_sched.specs.Limits.{most_quantum}
+
+-- each quantum keeps to its limit
+abbrev pub AreQuantaWithin : List Served → Type 0
+AreQuantaWithin row = (i : ℕ) (s : Served) → slice_get row i ≡ Some s → s.quantum ≤ most_quantum
+
+-- what is left over is less than a packet, and at the cursor a quantum was added
+abbrev pub AreDeficitsWithin : ℕ → List Served → Type 0
+AreDeficitsWithin cursor row = (i : ℕ) (s : Served) → slice_get row i ≡ Some s → s.deficit < most_length + (if i == cursor then s.quantum else 0)
+
+-- an input before its first arrival
+abbrev pub waiting : ℕ → Served
+waiting quantum = record { quantum = quantum; deficit = 0; head = None }
+
+-- an input that is arrived at
+abbrev pub with_quantum : Served → Served
+with_quantum s = record { quantum = s.quantum; deficit = s.deficit + s.quantum; head = s.head }
+
+-- whether its deficit covers what was got
+abbrev pub covers : Served → Option Packet → Bool
+covers s None = false
+covers s (Some p) = nat_le p.length s.deficit
+
+-- an input after a visit that got this: what isn't covered is held
+abbrev pub settled : Served → Option Packet → Served
+settled s None = record { quantum = s.quantum; deficit = 0; head = None }
+settled s (Some p) =
+    if nat_le p.length s.deficit then record { quantum = s.quantum; deficit = s.deficit - p.length; head = None } else record { quantum = s.quantum; deficit = s.deficit; head = Some p }

@@ -1,0 +1,23 @@
+-- What a Shaper's bucket tells of the turns before it.
+use Rattle.std.specs.Prelude.{◌≡◌, ℕ, ◌+◌, ◌-◌, ◌*◌, ◌≤◌, min, nat_le, List}
+use Rattle.std.specs.List.{AllByRecursion}
+use Rattle.clk_sched.specs.declared.session.shaper.Bucket.{Bucket}
+use Rattle.clk_sched.specs.Turns.{Turn}
+use Rattle.clk_sched.specs.Laws.Shaper.{has_room}
+
+-- none of these turns was after a moment
+abbrev pub AreBefore : ℕ → List Turn → Type 0
+AreBefore moment turns = AllByRecursion (λ (t : Turn). t.moment ≤ moment) turns
+
+-- the tokens of a bucket at a moment
+abbrev pub tokens_at : Bucket → ℕ → ℕ
+tokens_at b moment = min (b.tokens + b.rate * (moment - b.filled)) b.burst
+
+-- What a Shaper's bucket holds after these turns, the latest first: from its last filling on it tells whether there is room, also
+-- for more packets that are passed at that moment.
+pub record HoldsBucket (rate burst : ℕ) (turns : List Turn) (b : Bucket) : Type 0 where
+  pub rate_is : b.rate ≡ rate
+  pub burst_is : b.burst ≡ burst
+  pub filled : (moment : ℕ) → AreBefore moment turns → b.filled ≤ moment
+  pub room : (moment since : ℕ) → b.filled ≤ moment → since + 1 ≤ burst + rate * (moment - b.filled)
+      → has_room rate burst moment since turns ≡ nat_le (since + 1) (b.tokens + rate * (moment - b.filled))

@@ -1,0 +1,58 @@
+-- The ranks of a StrideSched's inputs, and what a pull does to them.
+use Rattle.std.specs.Prelude.{ℕ, zero, suc, ◌+◌, ◌-◌, ◌<◌, ◌≤◌, ◌==◌, ◌&&◌, ◌||◌, Bool, nat_lt, nat_le, List, [], ◌∷◌, ⊤, if◌then◌else◌}
+use Rattle.std.specs.List.{AllByRecursion, AllByRecursion-prop}
+use Rattle.std.specs.Coded.{×_prop, Unit-prop, le_prop}
+use Rattle.clk_sched.specs.declared.session.stride.Rank.{Rank}
+
+-- an input with its pass, to which what was taken is added again
+abbrev pub with_pass : ℕ → Rank → ℕ × ℕ
+with_pass taken r = (r.input, r.pass + taken)
+
+-- the greatest stride, that of one ticket, by which two passes differ at most
+abbrev pub greatest_stride : ℕ
+greatest_stride = 65536
+
+-- a rank of one of so many inputs, as it stands between pulls
+abbrev pub IsRankOf : ℕ → Rank → Type 0
+IsRankOf inputs r = (r.input < inputs) × (r.pass ≤ greatest_stride)
+
+-- no pass is above one after it
+abbrev pub HasRisingPasses : List Rank → Type 0
+HasRisingPasses [] = ⊤
+HasRisingPasses (r ∷ others) = AllByRecursion (λ (other : Rank). r.pass ≤ other.pass) others × HasRisingPasses others
+
+pub HasRisingPasses-prop : (ranks : List Rank) → IsProp (HasRisingPasses ranks)
+HasRisingPasses-prop [] = Unit-prop
+HasRisingPasses-prop (r ∷ others) = ×_prop (AllByRecursion-prop _ (λ other. le_prop) others) (HasRisingPasses-prop others)
+
+-- whether a rank stands before another by (pass, index), or is the same
+abbrev pub is_up_to : Rank → Rank → Bool
+is_up_to r other = nat_lt r.pass other.pass || ((r.pass == other.pass) && nat_le r.input other.input)
+
+-- ranks in rising order, and one more in its place
+abbrev pub put_rank : Rank → List Rank → List Rank
+put_rank r [] = r ∷ []
+put_rank r (other ∷ others) = if is_up_to r other then r ∷ other ∷ others else other ∷ put_rank r others
+
+-- the rank of the same input with another pass
+abbrev pub at_pass : ℕ → Rank → Rank
+at_pass pass r = record { pass = pass; input = r.input }
+
+-- The ranks after a pull that the one at a place won, by the pass that it had and its stride: it and those before it stand
+-- in their new places.
+abbrev pub after_win : ℕ → ℕ → ℕ → List Rank → List Rank
+after_win pass stride place [] = []
+after_win pass stride zero (r ∷ others) = put_rank (at_pass (pass + stride) r) others
+after_win pass stride (suc place) (r ∷ others) = put_rank (at_pass pass r) (after_win pass stride place others)
+
+-- the first pass, which is the least where passes rise
+abbrev pub first_pass : List Rank → ℕ
+first_pass [] = 0
+first_pass (r ∷ others) = r.pass
+
+abbrev pub less : ℕ → Rank → Rank
+less least r = at_pass (r.pass - least) r
+
+-- the rank of an input before the first pull
+abbrev pub first_rank : ℕ → Rank
+first_rank input = record { pass = 0; input = input }

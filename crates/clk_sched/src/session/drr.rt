@@ -1,0 +1,229 @@
+//! The heads, deficits and cursor of a DRRSched.
+
+ghost use Rattle.std.specs.Prelude.{◌≡◌, ◌+◌, ◌^◌, ◌<◌, ◌≤◌, length, map, slice_get, slice_set, Some, IfOk};
+ghost use Rattle.clk_sched.specs.Limits.{most_inputs, most_quantum};
+ghost use Rattle.clk_sched.specs.Holds.Served.{AreQuantaWithin, AreDeficitsWithin, waiting, with_quantum};
+ghost use Rattle.clk_sched.specs.declared.session.drr.Served.{Served};
+
+use crate::ask::Ask;
+use crate::session::nodes::Nodes;
+use crate::visit::Visit;
+use clk_packet::Packet;
+use smallvec::SmallVec;
+use std::alloc::{AllocError, Global};
+
+/// What is held of one input.
+#[derive(Clone, Copy, Debug, Default)]
+struct Served {
+    quantum: u32,
+    deficit: u32,
+    // The packet that was got and isn't covered yet.
+    head: Option<Packet>,
+}
+
+/// The inputs of a DRRSched, and the cursor: the input whose turn it is.
+#[derive(Drop)]
+pub struct Deficits {
+    // Few inputs stay in the value.
+    row: SmallVec<Served, 4>,
+    cursor: u16,
+    ghost few: { length row.items ≤ most_inputs },
+    ghost cursor_within: { cursor < length row.items },
+    ghost quanta_within: { AreQuantaWithin row.items },
+    ghost deficits_within: { AreDeficitsWithin cursor row.items },
+}
+
+impl Served {
+    ghost use Rattle.clk_sched.specs.Holds.Served.{settled, covers};
+
+    fn waiting(quantum: u32) -> Served
+        ensures { result ≡ waiting quantum }
+    {
+        Served {
+            quantum,
+            deficit: 0,
+            head: None,
+        }
+    }
+
+    // Whether the deficit covers what was got.
+    fn covers(self, got: Option<Packet>) -> bool
+        ensures { result ≡ covers self got }
+    {
+        match got {
+            None => false,
+            Some(packet) => u32::from(packet.length) <= self.deficit,
+        }
+    }
+
+    // The same after a visit that got this.
+    fn settled(self, got: Option<Packet>) -> Served
+        ensures { result ≡ settled self got }
+    {
+        match got {
+            None => Served {
+                deficit: 0,
+                head: None,
+                ..self
+            },
+            Some(packet) => {
+                let length = u32::from(packet.length);
+                if length <= self.deficit {
+                    Served {
+                        deficit: self.deficit - length,
+                        head: None,
+                        ..self
+                    }
+                } else {
+                    Served { head: got, ..self }
+                }
+            }
+        }
+    }
+}
+
+impl Deficits {
+    ghost use Rattle.std.specs.Prelude.{◌%◌, ℕ, List, [], ◌∷◌, IfSome};
+    ghost use Rattle.std.specs.List.{AllByRecursion};
+    ghost use Rattle.clk_packet.specs.Limits.{most_length};
+    ghost use Rattle.clk_sched.specs.declared.visit.Visit.{Visit};
+    ghost use Rattle.clk_sched.specs.Heads.{head_at, is_covered};
+    ghost use Rattle.clk_sched.specs.Laws.Deficit.{next_input, deficit_covers};
+    ghost use Rattle.clk_sched.specs.Holds.Deficit.{HoldsDeficits};
+
+    /// What a DRRSched with these quanta, one for each input, holds before its first visit.
+    pub fn new(alloc: Global, quanta: &[u32]) -> Result<Deficits, AllocError>
+        requires inputs { (1 ≤ length quanta.now) × (length quanta.now ≤ most_inputs) }
+        requires quanta { AllByRecursion (λ n. (1 ≤ n) × (n ≤ most_quantum)) quanta.now }
+        ensures { IfOk result (λ d. HoldsDeficits quanta.now (length quanta.now) [] d) }
+    {
+        let mut row = all_waiting(alloc, quanta)?;
+        add_quantum(&mut row, 0);
+        Ok(Deficits { row, cursor: 0 })
+    }
+
+    /// The input whose turn it is.
+    pub fn cursor(&self) -> u16
+        ensures value { result ≡ self.now.cursor }
+        ensures within { result < length self.now.row.items }
+        ensures turn { (quanta : List ℕ) (inputs : ℕ) (before : List Visit) → HoldsDeficits quanta inputs before self.now → result ≡ next_input inputs before }
+    {
+        self.cursor
+    }
+
+    /// The head held at that input.
+    pub fn head(&self) -> Option<Packet>
+        ensures { (quanta : List ℕ) (inputs : ℕ) (before : List Visit) → HoldsDeficits quanta inputs before self.now → result ≡ head_at (next_input inputs before) before }
+    {
+        self.at_cursor().head
+    }
+
+    /// Takes what was got at that input, as its head or by asking, and answers whether it is passed. If not, the turn moves on.
+    pub fn settle(&mut self, got: Option<Packet>) -> bool
+        ensures holds { (quanta : List ℕ) (inputs : ℕ) (before : List Visit) (v : Visit) → HoldsDeficits quanta inputs before self.old → v.input ≡ next_input inputs before
+            → v.got ≡ got → v.passed ≡ result → HoldsDeficits quanta inputs (v ∷ before) self.new }
+        ensures covered { (quanta : List ℕ) (inputs : ℕ) (before : List Visit) → HoldsDeficits quanta inputs before self.old
+            → result ≡ is_covered (deficit_covers quanta before (next_input inputs before)) got }
+        ensures length { length self.new.row.items ≡ length self.old.row.items }
+    {
+        let served = self.at_cursor();
+        let passed = served.covers(got);
+        self.row[usize::from(self.cursor)] = served.settled(got);
+        if !passed {
+            self.move_on();
+        }
+        passed
+    }
+
+    ghost use Rattle.clk_sched.specs.Tree.{drr};
+    ghost use Rattle.clk_sched.specs.Places.{edges_of, Answers, queue_asked};
+    ghost use Rattle.clk_sched.specs.Pulling.{CanPull, Keeps, added};
+    ghost use Rattle.clk_sched.specs.Turn.{TakesTurn};
+    ghost use Rattle.clk_sched.specs.declared.session.state.State.TheVariants.{Drr};
+
+    /// Pulls a DRRSched.
+    #[cycle(pull)]
+    pub fn pull<Q: Ask>(&mut self, nodes: &mut Nodes, q: &mut Q, node: u16) -> Option<Packet>
+        requires can_pull { CanPull nodes.old node (edges_of nodes.old.inputs.items node) }
+        requires fits { IfSome (slice_get nodes.old.inputs.items node) (λ p. length self.old.row.items ≡ length p.each.items) }
+        ensures keeps { Keeps nodes.old nodes.new (edges_of nodes.old.inputs.items node) }
+        ensures fits { IfSome (slice_get nodes.old.inputs.items node) (λ p. length self.new.row.items ≡ length p.each.items) }
+        ensures answers { Answers Q.gives (queue_asked nodes.old.inputs.items) q.old (added nodes.old nodes.new) q.new }
+        ensures turn { (quanta : List ℕ) → TakesTurn nodes.old nodes.new node (drr quanta) (Drr self.old) (Drr self.new) result }
+    {
+        for _ in 0..self.row.len() {
+            let (got, passed) = self.look(nodes, q, node);
+            if passed {
+                return got;
+            }
+        }
+        None
+    }
+
+    /// Looks at the input whose turn it is, at its head or by asking, records the visit, and answers what was got and whether
+    /// it is passed.
+    #[cycle(pull)]
+    fn look<Q: Ask>(&mut self, nodes: &mut Nodes, q: &mut Q, node: u16) -> (Option<Packet>, bool)
+    {
+        let input = self.cursor();
+        let head = self.head();
+        let got = match head {
+            Some(_) => head,
+            None => nodes.ask(q, node, input),
+        };
+        let passed = self.settle(got);
+        nodes.log.push_reserved(Visit {
+            pull: nodes.pull,
+            moment: nodes.moment,
+            got,
+            node,
+            input,
+            fresh: head.is_none(),
+            passed,
+        });
+        (got, passed)
+    }
+
+    // Moves on to the next input, wrapping round, and adds its quantum to its deficit.
+    fn move_on(&mut self)
+        requires { (s : Served) → slice_get self.old.row.items self.old.cursor ≡ Some s → s.deficit < most_length }
+        ensures length { length self.new.row.items ≡ length self.old.row.items }
+        ensures cursor { self.new.cursor ≡ (self.old.cursor + 1) % length self.old.row.items }
+        ensures row { (s : Served) → slice_get self.old.row.items self.new.cursor ≡ Some s → self.new.row.items ≡ slice_set self.old.row.items self.new.cursor (with_quantum s) }
+    {
+        self.cursor = (self.cursor + 1) % self.row.len() as u16;
+        add_quantum(&mut self.row, usize::from(self.cursor));
+    }
+
+    // What is held of the input whose turn it is.
+    fn at_cursor(&self) -> Served
+        ensures { slice_get self.now.row.items self.now.cursor ≡ Some result }
+    {
+        self.row[usize::from(self.cursor)]
+    }
+}
+
+// An input for each quantum, before its first arrival.
+fn all_waiting(alloc: Global, quanta: &[u32]) -> Result<SmallVec<Served, 4>, AllocError>
+    ensures { IfOk result (λ row. row.items ≡ map waiting quanta.now) }
+{
+    let mut row = SmallVec::with_capacity(alloc, quanta.len())?;
+    for quantum in quanta {
+        row.push(Served::waiting(*quantum))?;
+    }
+    Ok(row)
+}
+
+// Adds the quantum of an input to its deficit, as at each arrival.
+fn add_quantum(row: &mut SmallVec<Served, 4>, place: usize)
+    requires place { place < length row.old.items }
+    requires fits { (s : Served) → slice_get row.old.items place ≡ Some s → s.deficit + s.quantum < 2 ^ 32 }
+    ensures length { length row.new.items ≡ length row.old.items }
+    ensures adds { (s : Served) → slice_get row.old.items place ≡ Some s → row.new.items ≡ slice_set row.old.items place (with_quantum s) }
+{
+    let served = row[place];
+    row[place] = Served {
+        deficit: served.deficit + served.quantum,
+        ..served
+    };
+}

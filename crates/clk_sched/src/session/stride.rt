@@ -1,0 +1,196 @@
+//! The passes of a StrideSched.
+
+ghost use Rattle.std.specs.Prelude.{◌≡◌, ◌≤◌, ◌<◌, ◌+◌, ◌^◌, ◌++◌, take, drop, length, map, IfOk};
+ghost use Rattle.std.specs.List.{All, AllByRecursion, range_with_len};
+ghost use Rattle.clk_sched.specs.Limits.{most_tickets};
+ghost use Rattle.clk_sched.specs.Laws.Stride.{stride_of};
+ghost use Rattle.clk_sched.specs.Ranks.{greatest_stride, IsRankOf, HasRisingPasses, HasRisingPasses-prop, is_up_to, put_rank, after_win, first_pass, first_rank, less};
+
+use crate::ask::Ask;
+use crate::session::nodes::Nodes;
+use clk_packet::Packet;
+use smallvec::SmallVec;
+use std::alloc::{AllocError, Global};
+
+/// The stride of one ticket.
+const GREATEST_STRIDE: u32 = 65_536;
+
+/// An input with its pass, less the least of all.
+#[derive(Clone, Copy, Debug, Default, PartialEq, Eq)]
+pub struct Rank {
+    pub pass: u32,
+    pub input: u16,
+}
+
+impl Rank {
+    /// Whether this rank stands before another by (pass, index), or is the same.
+    fn is_up_to(self, other: Rank) -> bool
+        ensures { result ≡ is_up_to self other }
+    {
+        self.pass < other.pass || (self.pass == other.pass && self.input <= other.input)
+    }
+}
+
+/// The inputs of a StrideSched in rising order of (pass, index), with the stride of each. No pass is above 65,536 between
+/// pulls.
+#[derive(Drop)]
+pub struct Passes {
+    row: SmallVec<Rank, 8>,
+    strides: SmallVec<u32, 8>,
+    ghost ranks: { All (IsRankOf (length strides.items)) row.items },
+    ghost rising: { HasRisingPasses row.items } by { HasRisingPasses-prop row.items },
+    ghost bounded: { All (λ stride. stride ≤ greatest_stride) strides.items },
+}
+
+impl Passes {
+    ghost use Rattle.std.specs.Prelude.{ℕ, [], ◌∷◌, List, slice_get, IfSome};
+    ghost use Rattle.clk_sched.specs.declared.visit.Visit.{Visit};
+    ghost use Rattle.clk_sched.specs.Turns.{Turn, giver};
+    ghost use Rattle.clk_sched.specs.Holds.Stride.{HoldsPasses};
+
+    /// The passes before the first pull, by the tickets of each input.
+    ///
+    /// # Errors
+    ///
+    /// Where the allocator refuses memory.
+    pub fn new(alloc: Global, tickets: &[u32]) -> Result<Passes, AllocError>
+        requires inputs { length tickets.now ≤ 64 }
+        requires tickets { AllByRecursion (λ n. (1 ≤ n) × (n ≤ most_tickets)) tickets.now }
+        ensures holds { IfOk result (λ p. HoldsPasses tickets.now [] p) }
+        ensures inputs { IfOk result (λ p. length p.row.items ≡ length tickets.now) }
+    {
+        let row = first_row(alloc, tickets.len() as u16)?;
+        let strides = strides_of(alloc, tickets)?;
+        Ok(Passes { row, strides })
+    }
+
+    /// The inputs in rising order of (pass, index).
+    pub fn row(&self) -> &[Rank]
+        ensures { result.now ≡ self.now.row.items }
+    {
+        self.row.as_slice()
+    }
+
+    /// Gives the input at this place of the row, which gave a packet, its stride, and those before it, which had none, the
+    /// pass that it had.
+    pub fn won(&mut self, place: usize)
+        requires { place < length self.old.row.items }
+        ensures holds { (tickets : List ℕ) (turns : List Turn) (t : Turn) → HoldsPasses tickets turns self.old
+            → map (λ (v : Visit). v.input) t.visits ≡ take (place + 1) (map (λ (r : Rank). r.input) self.old.row.items)
+            → giver t.visits ≡ slice_get (map (λ (r : Rank). r.input) self.old.row.items) place
+            → HoldsPasses tickets (t ∷ turns) self.new }
+        ensures inputs { length self.new.row.items ≡ length self.old.row.items }
+    {
+        let row = self.row.as_mut_slice();
+        let winner = row[place];
+        place_visited(
+            row,
+            place,
+            winner.pass,
+            self.strides[usize::from(winner.input)],
+        );
+        take_least(row);
+    }
+
+    ghost use Rattle.clk_sched.specs.Tree.{stride};
+    ghost use Rattle.clk_sched.specs.Places.{edges_of, Answers, queue_asked};
+    ghost use Rattle.clk_sched.specs.Pulling.{CanPull, Keeps, added};
+    ghost use Rattle.clk_sched.specs.Turn.{TakesTurn};
+    ghost use Rattle.clk_sched.specs.declared.session.state.State.TheVariants.{Stride};
+    ghost use Rattle.clk_sched.specs.Holds.OfClass.{FitsPasses};
+
+    /// Pulls a StrideSched.
+    #[cycle(pull)]
+    pub fn pull<Q: Ask>(&mut self, nodes: &mut Nodes, q: &mut Q, node: u16) -> Option<Packet>
+        requires can_pull { CanPull nodes.old node (edges_of nodes.old.inputs.items node) }
+        requires fits { IfSome (slice_get nodes.old.inputs.items node) (λ p. FitsPasses (length p.each.items) self.old) }
+        ensures keeps { Keeps nodes.old nodes.new (edges_of nodes.old.inputs.items node) }
+        ensures fits { IfSome (slice_get nodes.old.inputs.items node) (λ p. FitsPasses (length p.each.items) self.new) }
+        ensures answers { Answers Q.gives (queue_asked nodes.old.inputs.items) q.old (added nodes.old nodes.new) q.new }
+        ensures turn { (tickets : List ℕ) → TakesTurn nodes.old nodes.new node (stride tickets) (Stride self.old) (Stride self.new) result }
+    {
+        let (place, packet) = nodes.ask_in_order(q, node, self.row())?;
+        self.won(place);
+        Some(packet)
+    }
+}
+
+#[cfg(test)]
+mod tests;
+
+/// So many inputs, with a pass of 0 each.
+fn first_row(alloc: Global, inputs: u16) -> Result<SmallVec<Rank, 8>, AllocError>
+    ensures { IfOk result (λ row. row.items ≡ map first_rank (range_with_len 0 inputs)) }
+{
+    let mut row = SmallVec::new(alloc);
+    for input in 0..inputs {
+        row.push(Rank { pass: 0, input })?;
+    }
+    Ok(row)
+}
+
+/// The stride of each input, by its tickets.
+fn strides_of(alloc: Global, tickets: &[u32]) -> Result<SmallVec<u32, 8>, AllocError>
+    requires { All (λ n. 1 ≤ n) tickets.now }
+    ensures { IfOk result (λ strides. strides.items ≡ map stride_of tickets.now) }
+{
+    let mut strides = SmallVec::new(alloc);
+    for count in tickets {
+        strides.push(GREATEST_STRIDE / count)?;
+    }
+    Ok(strides)
+}
+
+/// Puts the winner, whose pass grows by its stride, in its new place, and then those before it. These had no packet, and get
+/// the pass that the winner had, so that an input that was idle has no claim to what it missed. From the last to the first,
+/// each is put among ranks that are in order.
+fn place_visited(row: &mut [Rank], place: usize, pass: u32, stride: u32)
+    requires place { place < length row.old }
+    requires fits { pass + stride < 2 ^ 32 }
+    ensures { row.new ≡ after_win pass stride place row.old }
+{
+    let winner = Rank {
+        pass: pass + stride,
+        input: row[place].input,
+    };
+    put(row, place, winner);
+    for idle in (0..place).rev() {
+        let rank = Rank {
+            pass,
+            input: row[idle].input,
+        };
+        put(row, idle, rank);
+    }
+}
+
+/// Takes out the rank at a place, and puts this one among those after it, which are in order.
+fn put(row: &mut [Rank], from: usize, rank: Rank)
+    requires { from < length row.old }
+    ensures { row.new ≡ take from row.old ++ put_rank rank (drop (from + 1) row.old) }
+{
+    let mut place = from;
+    for next in from + 1..row.len() {
+        let other = row[next];
+        if rank.is_up_to(other) {
+            break;
+        }
+        row[place] = other;
+        place = next;
+    }
+    row[place] = rank;
+}
+
+/// Takes the first pass, which is the least, from all, so that no pass grows with the number of pulls.
+fn take_least(row: &mut [Rank])
+    requires some { 0 < length row.old }
+    requires least { All (λ rank. first_pass row.old ≤ rank.pass) row.old }
+    ensures { row.new ≡ map (less (first_pass row.old)) row.old }
+{
+    let least = row[0].pass;
+    if least == 0 {
+        return;
+    }
+    for rank in row.iter_mut() {
+        rank.pass -= least;
+    }
+}
