@@ -1,19 +1,20 @@
 -- A node that asks one of its inputs.
-use Rattle.std.proofs.Common.{◌≡◌, ◌⊎◌, ℕ, zero, suc, ◌+◌, ◌-◌, ◌<◌, ◌≤◌, nat_lt, Bool, true, false, if◌then◌else◌, List, [], ◌∷◌, ◌++◌, length, get_or, slice_get, Option, Some, None, IsSome, is_some, MatchOption, inl, inr, refl, sym, ap, ◌∙◌, subst, append-nil, arith}
+use Rattle.std.proofs.Common.{◌≡◌, ◌⊎◌, ℕ, zero, suc, ◌+◌, ◌-◌, ◌<◌, ◌≤◌, nat_lt, Bool, true, false, if◌then◌else◌, List, [], ◌∷◌, ◌++◌, length, get_or, slice_get, slice_index, option_map, Option, Some, None, IsSome, is_some, MatchOption, inl, inr, refl, sym, ap, ◌∙◌, subst, append-nil, arith}
 use Rattle.std.specs.Bool.{⊤}
 use Rattle.std.specs.List.{AllByRecursion}
 use Rattle.std.proofs.lemmas.Bool.{false≢true}
 use Rattle.std.proofs.lemmas.Bool.Decides.{nat_tests}
-use Rattle.std.proofs.lemmas.Option.{slice_get-get_or, slice_get_within}
+use Rattle.std.proofs.lemmas.Option.{slice_get-get_or, slice_get_within, get_or_from_slice_get, slice_get-map}
 use Rattle.clk_packet.specs.declared.packet.Packet.{Packet}
 use Rattle.clk_sched.specs.declared.visit.Visit.{Visit}
 use Rattle.clk_sched.specs.declared.session.nodes.Nodes.{Nodes}
 use Rattle.clk_sched.specs.declared.session.inputs.Input.{Input}
 use Rattle.clk_sched.specs.declared.session.inputs.Input.TheVariants.{Queue, Scheduler}
 use Rattle.clk_sched.specs.declared.session.inputs.Inputs.{Inputs}
+use Rattle.clk_sched.specs.declared.session.stride.Rank.{Rank}
 use Rattle.clk_sched.specs.Tree.{Row, nodes}
 use Rattle.clk_sched.specs.Places.{inputs_of, StandsIn, HasInputs, AreWired, IsAfter, edges_of, edges_to, edges_at, option_edges_to, input_at, option_input, queue_of, queue_asked, Answers}
-use Rattle.clk_sched.specs.Pulling.{CanPull, Keeps, Pulls, Asks, IsGoing, SameButBelow, HasPulled, IsPulling, IsUnasked, IsVisitAt, added, now_of, after}
+use Rattle.clk_sched.specs.Pulling.{CanPull, Keeps, Pulls, Asks, IsGoing, SameButBelow, HasPulled, IsPulling, IsUnasked, IsVisitAt, added, now_of, after, inputs_in}
 use Rattle.clk_sched.proofs.Members.{of-all, in-slice}
 use Rattle.clk_sched.proofs.Below.{LiesAt, lies-within, IsChildAt, child-at, IsQueueAt, queue-at}
 use Rattle.clk_sched.proofs.Pulling.{pulling-asks, pulling-before}
@@ -90,3 +91,12 @@ asks-child a b x i child got e pulls row history visits own going unasked v at i
     outside : (y : ℕ) → (y ≤ x) ⊎ (suc (x + nodes row) ≤ y) → (y < child) ⊎ (suc (child + nodes here.inputs) ≤ y)
     outside y (inl l) = let k = here.ahead in inl (omega arith)
     outside y (inr l) = let k = (lies-within (suc x) row i (child + nodes here.inputs) (here.lies (child + nodes here.inputs) (omega arith) (omega arith))).1 in inr (omega arith)
+
+-- an entry of a list of ranks names an input of its order
+abbrev pub rank_at : List Rank → ℕ → Rank
+rank_at order k = get_or order k (record { pass = 0; input = 0 })
+
+pub entry-input : (order : List Rank) (k : ℕ) → k < length order → (rank_at order k).input ≡ slice_index (inputs_in order) k
+entry-input order k l =
+    sym (get_or_from_slice_get (inputs_in order) k (rank_at order k).input 0
+    (slice_get-map (λ (s : Rank). s.input) order k ∙ ap (option_map (λ (s : Rank). s.input)) (slice_get-get_or order k (record { pass = 0; input = 0 }) l)))

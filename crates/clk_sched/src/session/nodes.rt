@@ -39,9 +39,9 @@ impl Nodes {
         ensures answers { Answers Q.gives (queue_asked self.old.inputs.items) q.old (added self.old self.new) q.new }
         ensures pulls { Pulls self.old self.new node result }
     {
-        let mut state = replace(&mut self.states[usize::from(node)], State::Prio);
+        let mut state = replace(&mut self.states[node as usize], State::Prio);
         let got = state.pull(self, q, node);
-        self.states[usize::from(node)] = state;
+        self.states[node as usize] = state;
         got
     }
 
@@ -118,7 +118,7 @@ impl Nodes {
             → Answers Q.gives (queue_asked self.old.inputs.items) q.old (added self.old self.new ++ v ∷ []) q.new }
         ensures asks { Asks self.old self.new node input result }
     {
-        match self.inputs[usize::from(node)].each[usize::from(input)] {
+        match self.inputs[node as usize].each[input as usize] {
             Input::Queue(leaf) => q.ask(leaf),
             Input::Scheduler(child) => self.pull(q, child),
         }

@@ -18,7 +18,7 @@ pub fn pull_prio<Q: Ask>(nodes: &mut Nodes, q: &mut Q, node: u16) -> Option<Pack
     ensures answers { Answers Q.gives (queue_asked nodes.old.inputs.items) q.old (added nodes.old nodes.new) q.new }
     ensures turn { TakesTurn nodes.old nodes.new node prio Prio Prio result }
 {
-    let inputs = nodes.inputs[usize::from(node)].each.len() as u16;
+    let inputs = nodes.inputs[node as usize].each.len() as u16;
     let (_, packet) = nodes.ask_in_turn(q, node, 0, inputs)?;
     Some(packet)
 }

@@ -28,7 +28,7 @@ impl Beginning {
         ensures answers { Answers Q.gives (queue_asked nodes.old.inputs.items) q.old (added nodes.old nodes.new) q.new }
         ensures turn { TakesTurn nodes.old nodes.new node round_robin (RoundRobin self.old) (RoundRobin self.new) result }
     {
-        let inputs = nodes.inputs[usize::from(node)].each.len() as u16;
+        let inputs = nodes.inputs[node as usize].each.len() as u16;
         let first = self.input;
         if let Some((place, packet)) = nodes.ask_in_turn(q, node, first, inputs - first) {
             self.input = (first + place + 1) % inputs;

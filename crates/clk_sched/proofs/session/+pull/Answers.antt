@@ -1,13 +1,16 @@
-use Rattle.std.proofs.Common.{◌≡◌, ◌+◌, ◌-◌, ◌<◌, ◌∷◌, [], ◌++◌, length, Option, Some, None, IsSome, slice_get, slice_index, refl, sym, ap, ap₂, ◌∙◌, subst, arith}
+use Rattle.std.proofs.Common.{◌≡◌, ◌+◌, ◌-◌, ◌<◌, ◌≤◌, ◌∷◌, [], ◌++◌, length, Option, Some, None, IsSome, slice_get, slice_index, refl, sym, ap, ap₂, ◌∙◌, subst, arith}
 use Rattle.std.specs.List.{range_with_len}
 use Rattle.std.proofs.lemmas.Option.{slice_get-get_or}
+use Rattle.std.proofs.lemmas.List.{length-map}
+use Rattle.std.proofs.lemmas.List.FromFn.{length-range_with_len, get_or-range_with_len}
+use Rattle.clk_sched.specs.declared.session.stride.Rank.{Rank}
 use Rattle.clk_sched.specs.Log.{asking}
 use Rattle.clk_sched.proofs.Members.{of-all, in-slice}
 use Rattle.clk_sched.specs.declared.session.inputs.Input.TheVariants.{Queue, Scheduler}
 use Rattle.clk_sched.specs.Places.{input_at, Answers, queue_asked, edges_of, edges_at, edges_in, at_queue}
-use Rattle.clk_sched.specs.Pulling.{Keeps, AsksAll, added, now_of, asked_in_order, inputs_in}
+use Rattle.clk_sched.specs.Pulling.{CanPull, Keeps, AsksAll, added, now_of, asked_in_order, inputs_in}
 use Rattle.clk_sched.proofs.Asking.{added-none, keeps-more, answers-then, asks-one, asking-first, asking-can, HasAsked, asking-given, asking-next, asking-all}
-use Rattle.clk_sched.proofs.Asked.{entry, input-is, child-after, edges-scheduler, queue-visited, asks-queue, asks-child}
+use Rattle.clk_sched.proofs.Asked.{entry, rank_at, entry-input, input-is, child-after, edges-scheduler, queue-visited, asks-queue, asks-child}
 use Rattle.clk_sched.proofs.session.+pull.Goals as goal
 
 pub nodes::Nodes::ask-returns-in-Queue-clause-answers : goal.nodes::Nodes::ask-returns-in-Queue-clause-answers
@@ -61,13 +64,15 @@ nodes::Nodes::ask_in_order-look-requires g t c =
     let order = inputs_in c.args.order.now in
     let k = c.loop-place.place in
     let h = c.loop-place.invariant in
-    let can = asking-can g.Q.Ask.gives a c.loop-place.self c.args.q.now c.loop-place.q c.args.node k order c.requires.can_pull h c.loop-place-test.true in
+    let l : k < length order = subst (λ n. k < n) (sym (length-map c.args.order.now (λ (r : Rank). r.input))) c.loop-place-test.true in
+    let same_input = entry-input c.args.order.now k c.loop-place-test.true in
+    let can = subst (λ i. CanPull c.loop-place.self c.args.node (edges_at c.loop-place.self.inputs.items c.args.node i)) (sym same_input) (asking-can g.Q.Ask.gives a c.loop-place.self c.args.q.now c.loop-place.q c.args.node k order c.requires.can_pull h l) in
     let within : IsSome (input_at c.loop-place.self.inputs.items c.args.node (slice_index order k)) =
-    subst (λ table. IsSome (input_at table c.args.node (slice_index order k))) (sym h.keeps.inputs) (of-all (λ i. IsSome (input_at a.inputs.items c.args.node i)) (slice_index order k) order c.requires.within (in-slice order k (slice_index order k) (slice_get-get_or order k 0 c.loop-place-test.true)))
+    subst (λ table. IsSome (input_at table c.args.node (slice_index order k))) (sym h.keeps.inputs) (of-all (λ i. IsSome (input_at a.inputs.items c.args.node i)) (slice_index order k) order c.requires.within (in-slice order k (slice_index order k) (slice_get-get_or order k 0 l)))
     in
     let same = ap length h.keeps.inputs in
     let less = c.decreases in
-    λ κs le. (omega (arith, same, less), (search, (can, within)))
+    λ κs le. (omega (arith, same, less), (search, (can, subst (λ i. IsSome (input_at c.loop-place.self.inputs.items c.args.node i)) (sym same_input) within)))
 
 pub nodes::Nodes::ask_in_order-returns-in-Some-clause-keeps : goal.nodes::Nodes::ask_in_order-returns-in-Some-clause-keeps
 nodes::Nodes::ask_in_order-returns-in-Some-clause-keeps g t c =
@@ -75,10 +80,12 @@ nodes::Nodes::ask_in_order-returns-in-Some-clause-keeps g t c =
     let order = inputs_in c.args.order.now in
     let k = c.loop-place.place in
     let h = c.loop-place.invariant in
+    let l : k < length order = subst (λ n. k < n) (sym (length-map c.args.order.now (λ (r : Rank). r.input))) c.loop-place-test.true in
+    let same_input = entry-input c.args.order.now k c.loop-place-test.true in
     let one : HasAsked g.Q.Ask.gives c.loop-place.self c.look.new.self c.loop-place.q c.look.new.q c.args.node (slice_index order k) (Some c.in-Some.packet) =
-    record { keeps = c.look.ensures.keeps; answers = c.look.ensures.answers; asks = subst (λ o. AsksAll c.loop-place.self c.look.new.self c.args.node (slice_index order k ∷ []) (asking c.loop-place.self.pull c.loop-place.self.moment c.args.node (slice_index order k) o ∷ [])) c.in-Some.is c.look.ensures.asks }
+    subst (λ i. HasAsked g.Q.Ask.gives c.loop-place.self c.look.new.self c.loop-place.q c.look.new.q c.args.node i (Some c.in-Some.packet)) same_input (record { keeps = c.look.ensures.keeps; answers = c.look.ensures.answers; asks = subst (λ o. AsksAll c.loop-place.self c.look.new.self c.args.node ((rank_at c.args.order.now k).input ∷ []) (asking c.loop-place.self.pull c.loop-place.self.moment c.args.node (rank_at c.args.order.now k).input o ∷ [])) c.in-Some.is c.look.ensures.asks })
     in
-    let given = asking-given g.Q.Ask.gives a c.loop-place.self c.look.new.self c.args.q.now c.loop-place.q c.look.new.q c.args.node k order c.in-Some.packet c.loop-place-test.true h one in
+    let given = asking-given g.Q.Ask.gives a c.loop-place.self c.look.new.self c.args.q.now c.loop-place.q c.look.new.q c.args.node k order c.in-Some.packet l h one in
     given.keeps
 
 pub nodes::Nodes::ask_in_order-returns-in-Some-clause-answers : goal.nodes::Nodes::ask_in_order-returns-in-Some-clause-answers
@@ -87,10 +94,12 @@ nodes::Nodes::ask_in_order-returns-in-Some-clause-answers g t c =
     let order = inputs_in c.args.order.now in
     let k = c.loop-place.place in
     let h = c.loop-place.invariant in
+    let l : k < length order = subst (λ n. k < n) (sym (length-map c.args.order.now (λ (r : Rank). r.input))) c.loop-place-test.true in
+    let same_input = entry-input c.args.order.now k c.loop-place-test.true in
     let one : HasAsked g.Q.Ask.gives c.loop-place.self c.look.new.self c.loop-place.q c.look.new.q c.args.node (slice_index order k) (Some c.in-Some.packet) =
-    record { keeps = c.look.ensures.keeps; answers = c.look.ensures.answers; asks = subst (λ o. AsksAll c.loop-place.self c.look.new.self c.args.node (slice_index order k ∷ []) (asking c.loop-place.self.pull c.loop-place.self.moment c.args.node (slice_index order k) o ∷ [])) c.in-Some.is c.look.ensures.asks }
+    subst (λ i. HasAsked g.Q.Ask.gives c.loop-place.self c.look.new.self c.loop-place.q c.look.new.q c.args.node i (Some c.in-Some.packet)) same_input (record { keeps = c.look.ensures.keeps; answers = c.look.ensures.answers; asks = subst (λ o. AsksAll c.loop-place.self c.look.new.self c.args.node ((rank_at c.args.order.now k).input ∷ []) (asking c.loop-place.self.pull c.loop-place.self.moment c.args.node (rank_at c.args.order.now k).input o ∷ [])) c.in-Some.is c.look.ensures.asks })
     in
-    let given = asking-given g.Q.Ask.gives a c.loop-place.self c.look.new.self c.args.q.now c.loop-place.q c.look.new.q c.args.node k order c.in-Some.packet c.loop-place-test.true h one in
+    let given = asking-given g.Q.Ask.gives a c.loop-place.self c.look.new.self c.args.q.now c.loop-place.q c.look.new.q c.args.node k order c.in-Some.packet l h one in
     given.answers
 
 pub nodes::Nodes::ask_in_order-returns-in-Some-clause-place : goal.nodes::Nodes::ask_in_order-returns-in-Some-clause-place
@@ -103,10 +112,12 @@ nodes::Nodes::ask_in_order-returns-in-Some-clause-asks g t c =
     let order = inputs_in c.args.order.now in
     let k = c.loop-place.place in
     let h = c.loop-place.invariant in
+    let l : k < length order = subst (λ n. k < n) (sym (length-map c.args.order.now (λ (r : Rank). r.input))) c.loop-place-test.true in
+    let same_input = entry-input c.args.order.now k c.loop-place-test.true in
     let one : HasAsked g.Q.Ask.gives c.loop-place.self c.look.new.self c.loop-place.q c.look.new.q c.args.node (slice_index order k) (Some c.in-Some.packet) =
-    record { keeps = c.look.ensures.keeps; answers = c.look.ensures.answers; asks = subst (λ o. AsksAll c.loop-place.self c.look.new.self c.args.node (slice_index order k ∷ []) (asking c.loop-place.self.pull c.loop-place.self.moment c.args.node (slice_index order k) o ∷ [])) c.in-Some.is c.look.ensures.asks }
+    subst (λ i. HasAsked g.Q.Ask.gives c.loop-place.self c.look.new.self c.loop-place.q c.look.new.q c.args.node i (Some c.in-Some.packet)) same_input (record { keeps = c.look.ensures.keeps; answers = c.look.ensures.answers; asks = subst (λ o. AsksAll c.loop-place.self c.look.new.self c.args.node ((rank_at c.args.order.now k).input ∷ []) (asking c.loop-place.self.pull c.loop-place.self.moment c.args.node (rank_at c.args.order.now k).input o ∷ [])) c.in-Some.is c.look.ensures.asks })
     in
-    let given = asking-given g.Q.Ask.gives a c.loop-place.self c.look.new.self c.args.q.now c.loop-place.q c.look.new.q c.args.node k order c.in-Some.packet c.loop-place-test.true h one in
+    let given = asking-given g.Q.Ask.gives a c.loop-place.self c.look.new.self c.args.q.now c.loop-place.q c.look.new.q c.args.node k order c.in-Some.packet l h one in
     given.asks
 
 pub nodes::Nodes::ask_in_order-loop-place-preserved : goal.nodes::Nodes::ask_in_order-loop-place-preserved
@@ -115,10 +126,12 @@ nodes::Nodes::ask_in_order-loop-place-preserved g t c =
     let order = inputs_in c.args.order.now in
     let k = c.loop-place.place in
     let h = c.loop-place.invariant in
+    let l : k < length order = subst (λ n. k < n) (sym (length-map c.args.order.now (λ (r : Rank). r.input))) c.loop-place-test.true in
+    let same_input = entry-input c.args.order.now k c.loop-place-test.true in
     let one : HasAsked g.Q.Ask.gives c.loop-place.self c.look.new.self c.loop-place.q c.look.new.q c.args.node (slice_index order k) None =
-    record { keeps = c.look.ensures.keeps; answers = c.look.ensures.answers; asks = subst (λ o. AsksAll c.loop-place.self c.look.new.self c.args.node (slice_index order k ∷ []) (asking c.loop-place.self.pull c.loop-place.self.moment c.args.node (slice_index order k) o ∷ [])) c.in_default.is c.look.ensures.asks }
+    subst (λ i. HasAsked g.Q.Ask.gives c.loop-place.self c.look.new.self c.loop-place.q c.look.new.q c.args.node i None) same_input (record { keeps = c.look.ensures.keeps; answers = c.look.ensures.answers; asks = subst (λ o. AsksAll c.loop-place.self c.look.new.self c.args.node ((rank_at c.args.order.now k).input ∷ []) (asking c.loop-place.self.pull c.loop-place.self.moment c.args.node (rank_at c.args.order.now k).input o ∷ [])) c.in_default.is c.look.ensures.asks })
     in
-    asking-next g.Q.Ask.gives a c.loop-place.self c.look.new.self c.args.q.now c.loop-place.q c.look.new.q c.args.node k order c.loop-place-test.true h one
+    asking-next g.Q.Ask.gives a c.loop-place.self c.look.new.self c.args.q.now c.loop-place.q c.look.new.q c.args.node k order l h one
 
 pub nodes::Nodes::ask_in_order-returns-clause-keeps : goal.nodes::Nodes::ask_in_order-returns-clause-keeps
 nodes::Nodes::ask_in_order-returns-clause-keeps g t c =
@@ -126,7 +139,8 @@ nodes::Nodes::ask_in_order-returns-clause-keeps g t c =
     let order = inputs_in c.args.order.now in
     let k = c.loop-place.place in
     let h = c.loop-place.invariant in
-    let all = asking-all g.Q.Ask.gives a c.loop-place.self c.args.q.now c.loop-place.q c.args.node k order (let f = c.loop-place-test.false in omega (arith, f)) h in
+    let l : length order ≤ k = let f = c.loop-place-test.false in let e = length-map c.args.order.now (λ (r : Rank). r.input) in omega (arith, f, e) in
+    let all = asking-all g.Q.Ask.gives a c.loop-place.self c.args.q.now c.loop-place.q c.args.node k order l h in
     all.keeps
 
 pub nodes::Nodes::ask_in_order-returns-clause-answers : goal.nodes::Nodes::ask_in_order-returns-clause-answers
@@ -135,7 +149,8 @@ nodes::Nodes::ask_in_order-returns-clause-answers g t c =
     let order = inputs_in c.args.order.now in
     let k = c.loop-place.place in
     let h = c.loop-place.invariant in
-    let all = asking-all g.Q.Ask.gives a c.loop-place.self c.args.q.now c.loop-place.q c.args.node k order (let f = c.loop-place-test.false in omega (arith, f)) h in
+    let l : length order ≤ k = let f = c.loop-place-test.false in let e = length-map c.args.order.now (λ (r : Rank). r.input) in omega (arith, f, e) in
+    let all = asking-all g.Q.Ask.gives a c.loop-place.self c.args.q.now c.loop-place.q c.args.node k order l h in
     all.answers
 
 pub nodes::Nodes::ask_in_order-returns-clause-asks : goal.nodes::Nodes::ask_in_order-returns-clause-asks
@@ -144,7 +159,8 @@ nodes::Nodes::ask_in_order-returns-clause-asks g t c =
     let order = inputs_in c.args.order.now in
     let k = c.loop-place.place in
     let h = c.loop-place.invariant in
-    let all = asking-all g.Q.Ask.gives a c.loop-place.self c.args.q.now c.loop-place.q c.args.node k order (let f = c.loop-place-test.false in omega (arith, f)) h in
+    let l : length order ≤ k = let f = c.loop-place-test.false in let e = length-map c.args.order.now (λ (r : Rank). r.input) in omega (arith, f, e) in
+    let all = asking-all g.Q.Ask.gives a c.loop-place.self c.args.q.now c.loop-place.q c.args.node k order l h in
     all.asks
 
 pub nodes::Nodes::ask_in_turn-loop-place-init : goal.nodes::Nodes::ask_in_turn-loop-place-init
@@ -157,13 +173,15 @@ nodes::Nodes::ask_in_turn-look-requires g t c =
     let order = range_with_len c.args.first c.args.count in
     let k = c.loop-place.place in
     let h = c.loop-place.invariant in
-    let can = asking-can g.Q.Ask.gives a c.loop-place.self c.args.q.now c.loop-place.q c.args.node k order c.requires.can_pull h c.loop-place-test.true in
+    let l : k < length order = subst (λ n. k < n) (sym (length-range_with_len c.args.first c.args.count)) c.loop-place-test.true in
+    let same_input : c.args.first + k ≡ slice_index order k = sym (get_or-range_with_len c.args.first c.args.count k 0 c.loop-place-test.true) in
+    let can = subst (λ i. CanPull c.loop-place.self c.args.node (edges_at c.loop-place.self.inputs.items c.args.node i)) (sym same_input) (asking-can g.Q.Ask.gives a c.loop-place.self c.args.q.now c.loop-place.q c.args.node k order c.requires.can_pull h l) in
     let within : IsSome (input_at c.loop-place.self.inputs.items c.args.node (slice_index order k)) =
-    subst (λ table. IsSome (input_at table c.args.node (slice_index order k))) (sym h.keeps.inputs) (of-all (λ i. IsSome (input_at a.inputs.items c.args.node i)) (slice_index order k) order c.requires.within (in-slice order k (slice_index order k) (slice_get-get_or order k 0 c.loop-place-test.true)))
+    subst (λ table. IsSome (input_at table c.args.node (slice_index order k))) (sym h.keeps.inputs) (of-all (λ i. IsSome (input_at a.inputs.items c.args.node i)) (slice_index order k) order c.requires.within (in-slice order k (slice_index order k) (slice_get-get_or order k 0 l)))
     in
     let same = ap length h.keeps.inputs in
     let less = c.decreases in
-    λ κs le. (omega (arith, same, less), (search, (can, within)))
+    λ κs le. (omega (arith, same, less), (search, (can, subst (λ i. IsSome (input_at c.loop-place.self.inputs.items c.args.node i)) (sym same_input) within)))
 
 pub nodes::Nodes::ask_in_turn-returns-in-Some-clause-keeps : goal.nodes::Nodes::ask_in_turn-returns-in-Some-clause-keeps
 nodes::Nodes::ask_in_turn-returns-in-Some-clause-keeps g t c =
@@ -171,10 +189,12 @@ nodes::Nodes::ask_in_turn-returns-in-Some-clause-keeps g t c =
     let order = range_with_len c.args.first c.args.count in
     let k = c.loop-place.place in
     let h = c.loop-place.invariant in
+    let l : k < length order = subst (λ n. k < n) (sym (length-range_with_len c.args.first c.args.count)) c.loop-place-test.true in
+    let same_input : c.args.first + k ≡ slice_index order k = sym (get_or-range_with_len c.args.first c.args.count k 0 c.loop-place-test.true) in
     let one : HasAsked g.Q.Ask.gives c.loop-place.self c.look.new.self c.loop-place.q c.look.new.q c.args.node (slice_index order k) (Some c.in-Some.packet) =
-    record { keeps = c.look.ensures.keeps; answers = c.look.ensures.answers; asks = subst (λ o. AsksAll c.loop-place.self c.look.new.self c.args.node (slice_index order k ∷ []) (asking c.loop-place.self.pull c.loop-place.self.moment c.args.node (slice_index order k) o ∷ [])) c.in-Some.is c.look.ensures.asks }
+    subst (λ i. HasAsked g.Q.Ask.gives c.loop-place.self c.look.new.self c.loop-place.q c.look.new.q c.args.node i (Some c.in-Some.packet)) same_input (record { keeps = c.look.ensures.keeps; answers = c.look.ensures.answers; asks = subst (λ o. AsksAll c.loop-place.self c.look.new.self c.args.node ((c.args.first + k) ∷ []) (asking c.loop-place.self.pull c.loop-place.self.moment c.args.node (c.args.first + k) o ∷ [])) c.in-Some.is c.look.ensures.asks })
     in
-    let given = asking-given g.Q.Ask.gives a c.loop-place.self c.look.new.self c.args.q.now c.loop-place.q c.look.new.q c.args.node k order c.in-Some.packet c.loop-place-test.true h one in
+    let given = asking-given g.Q.Ask.gives a c.loop-place.self c.look.new.self c.args.q.now c.loop-place.q c.look.new.q c.args.node k order c.in-Some.packet l h one in
     given.keeps
 
 pub nodes::Nodes::ask_in_turn-returns-in-Some-clause-answers : goal.nodes::Nodes::ask_in_turn-returns-in-Some-clause-answers
@@ -183,10 +203,12 @@ nodes::Nodes::ask_in_turn-returns-in-Some-clause-answers g t c =
     let order = range_with_len c.args.first c.args.count in
     let k = c.loop-place.place in
     let h = c.loop-place.invariant in
+    let l : k < length order = subst (λ n. k < n) (sym (length-range_with_len c.args.first c.args.count)) c.loop-place-test.true in
+    let same_input : c.args.first + k ≡ slice_index order k = sym (get_or-range_with_len c.args.first c.args.count k 0 c.loop-place-test.true) in
     let one : HasAsked g.Q.Ask.gives c.loop-place.self c.look.new.self c.loop-place.q c.look.new.q c.args.node (slice_index order k) (Some c.in-Some.packet) =
-    record { keeps = c.look.ensures.keeps; answers = c.look.ensures.answers; asks = subst (λ o. AsksAll c.loop-place.self c.look.new.self c.args.node (slice_index order k ∷ []) (asking c.loop-place.self.pull c.loop-place.self.moment c.args.node (slice_index order k) o ∷ [])) c.in-Some.is c.look.ensures.asks }
+    subst (λ i. HasAsked g.Q.Ask.gives c.loop-place.self c.look.new.self c.loop-place.q c.look.new.q c.args.node i (Some c.in-Some.packet)) same_input (record { keeps = c.look.ensures.keeps; answers = c.look.ensures.answers; asks = subst (λ o. AsksAll c.loop-place.self c.look.new.self c.args.node ((c.args.first + k) ∷ []) (asking c.loop-place.self.pull c.loop-place.self.moment c.args.node (c.args.first + k) o ∷ [])) c.in-Some.is c.look.ensures.asks })
     in
-    let given = asking-given g.Q.Ask.gives a c.loop-place.self c.look.new.self c.args.q.now c.loop-place.q c.look.new.q c.args.node k order c.in-Some.packet c.loop-place-test.true h one in
+    let given = asking-given g.Q.Ask.gives a c.loop-place.self c.look.new.self c.args.q.now c.loop-place.q c.look.new.q c.args.node k order c.in-Some.packet l h one in
     given.answers
 
 pub nodes::Nodes::ask_in_turn-returns-in-Some-clause-place : goal.nodes::Nodes::ask_in_turn-returns-in-Some-clause-place
@@ -199,10 +221,12 @@ nodes::Nodes::ask_in_turn-returns-in-Some-clause-asks g t c =
     let order = range_with_len c.args.first c.args.count in
     let k = c.loop-place.place in
     let h = c.loop-place.invariant in
+    let l : k < length order = subst (λ n. k < n) (sym (length-range_with_len c.args.first c.args.count)) c.loop-place-test.true in
+    let same_input : c.args.first + k ≡ slice_index order k = sym (get_or-range_with_len c.args.first c.args.count k 0 c.loop-place-test.true) in
     let one : HasAsked g.Q.Ask.gives c.loop-place.self c.look.new.self c.loop-place.q c.look.new.q c.args.node (slice_index order k) (Some c.in-Some.packet) =
-    record { keeps = c.look.ensures.keeps; answers = c.look.ensures.answers; asks = subst (λ o. AsksAll c.loop-place.self c.look.new.self c.args.node (slice_index order k ∷ []) (asking c.loop-place.self.pull c.loop-place.self.moment c.args.node (slice_index order k) o ∷ [])) c.in-Some.is c.look.ensures.asks }
+    subst (λ i. HasAsked g.Q.Ask.gives c.loop-place.self c.look.new.self c.loop-place.q c.look.new.q c.args.node i (Some c.in-Some.packet)) same_input (record { keeps = c.look.ensures.keeps; answers = c.look.ensures.answers; asks = subst (λ o. AsksAll c.loop-place.self c.look.new.self c.args.node ((c.args.first + k) ∷ []) (asking c.loop-place.self.pull c.loop-place.self.moment c.args.node (c.args.first + k) o ∷ [])) c.in-Some.is c.look.ensures.asks })
     in
-    let given = asking-given g.Q.Ask.gives a c.loop-place.self c.look.new.self c.args.q.now c.loop-place.q c.look.new.q c.args.node k order c.in-Some.packet c.loop-place-test.true h one in
+    let given = asking-given g.Q.Ask.gives a c.loop-place.self c.look.new.self c.args.q.now c.loop-place.q c.look.new.q c.args.node k order c.in-Some.packet l h one in
     given.asks
 
 pub nodes::Nodes::ask_in_turn-loop-place-preserved : goal.nodes::Nodes::ask_in_turn-loop-place-preserved
@@ -211,10 +235,12 @@ nodes::Nodes::ask_in_turn-loop-place-preserved g t c =
     let order = range_with_len c.args.first c.args.count in
     let k = c.loop-place.place in
     let h = c.loop-place.invariant in
+    let l : k < length order = subst (λ n. k < n) (sym (length-range_with_len c.args.first c.args.count)) c.loop-place-test.true in
+    let same_input : c.args.first + k ≡ slice_index order k = sym (get_or-range_with_len c.args.first c.args.count k 0 c.loop-place-test.true) in
     let one : HasAsked g.Q.Ask.gives c.loop-place.self c.look.new.self c.loop-place.q c.look.new.q c.args.node (slice_index order k) None =
-    record { keeps = c.look.ensures.keeps; answers = c.look.ensures.answers; asks = subst (λ o. AsksAll c.loop-place.self c.look.new.self c.args.node (slice_index order k ∷ []) (asking c.loop-place.self.pull c.loop-place.self.moment c.args.node (slice_index order k) o ∷ [])) c.in_default.is c.look.ensures.asks }
+    subst (λ i. HasAsked g.Q.Ask.gives c.loop-place.self c.look.new.self c.loop-place.q c.look.new.q c.args.node i None) same_input (record { keeps = c.look.ensures.keeps; answers = c.look.ensures.answers; asks = subst (λ o. AsksAll c.loop-place.self c.look.new.self c.args.node ((c.args.first + k) ∷ []) (asking c.loop-place.self.pull c.loop-place.self.moment c.args.node (c.args.first + k) o ∷ [])) c.in_default.is c.look.ensures.asks })
     in
-    asking-next g.Q.Ask.gives a c.loop-place.self c.look.new.self c.args.q.now c.loop-place.q c.look.new.q c.args.node k order c.loop-place-test.true h one
+    asking-next g.Q.Ask.gives a c.loop-place.self c.look.new.self c.args.q.now c.loop-place.q c.look.new.q c.args.node k order l h one
 
 pub nodes::Nodes::ask_in_turn-returns-clause-keeps : goal.nodes::Nodes::ask_in_turn-returns-clause-keeps
 nodes::Nodes::ask_in_turn-returns-clause-keeps g t c =
@@ -222,7 +248,8 @@ nodes::Nodes::ask_in_turn-returns-clause-keeps g t c =
     let order = range_with_len c.args.first c.args.count in
     let k = c.loop-place.place in
     let h = c.loop-place.invariant in
-    let all = asking-all g.Q.Ask.gives a c.loop-place.self c.args.q.now c.loop-place.q c.args.node k order (let f = c.loop-place-test.false in omega (arith, f)) h in
+    let l : length order ≤ k = let f = c.loop-place-test.false in let e = length-range_with_len c.args.first c.args.count in omega (arith, f, e) in
+    let all = asking-all g.Q.Ask.gives a c.loop-place.self c.args.q.now c.loop-place.q c.args.node k order l h in
     all.keeps
 
 pub nodes::Nodes::ask_in_turn-returns-clause-answers : goal.nodes::Nodes::ask_in_turn-returns-clause-answers
@@ -231,7 +258,8 @@ nodes::Nodes::ask_in_turn-returns-clause-answers g t c =
     let order = range_with_len c.args.first c.args.count in
     let k = c.loop-place.place in
     let h = c.loop-place.invariant in
-    let all = asking-all g.Q.Ask.gives a c.loop-place.self c.args.q.now c.loop-place.q c.args.node k order (let f = c.loop-place-test.false in omega (arith, f)) h in
+    let l : length order ≤ k = let f = c.loop-place-test.false in let e = length-range_with_len c.args.first c.args.count in omega (arith, f, e) in
+    let all = asking-all g.Q.Ask.gives a c.loop-place.self c.args.q.now c.loop-place.q c.args.node k order l h in
     all.answers
 
 pub nodes::Nodes::ask_in_turn-returns-clause-asks : goal.nodes::Nodes::ask_in_turn-returns-clause-asks
@@ -240,7 +268,8 @@ nodes::Nodes::ask_in_turn-returns-clause-asks g t c =
     let order = range_with_len c.args.first c.args.count in
     let k = c.loop-place.place in
     let h = c.loop-place.invariant in
-    let all = asking-all g.Q.Ask.gives a c.loop-place.self c.args.q.now c.loop-place.q c.args.node k order (let f = c.loop-place-test.false in omega (arith, f)) h in
+    let l : length order ≤ k = let f = c.loop-place-test.false in let e = length-range_with_len c.args.first c.args.count in omega (arith, f, e) in
+    let all = asking-all g.Q.Ask.gives a c.loop-place.self c.args.q.now c.loop-place.q c.args.node k order l h in
     all.asks
 
 pub nodes::Nodes::look-returns-clause-asks : goal.nodes::Nodes::look-returns-clause-asks
@@ -248,3 +277,141 @@ nodes::Nodes::look-returns-clause-asks g t c =
     asks-one c.args.self.now c.ask-got.new.self _ _ c.args.node c.args.input c.ask-got.result c.ask-got.ensures.keeps
     (c.push_reserved.ensures.items
     ∙ ap (λ v. c.ask-got.new.self.log.items ++ v ∷ []) (c.asking.ensures ∙ ap₂ (λ n m. asking n m c.args.node c.args.input c.ask-got.result) c.ask-got.ensures.keeps.pull c.ask-got.ensures.keeps.moment)) refl c.ask-got.ensures.asks
+
+pub drr::Deficits::look-ask-got-requires : goal.drr::Deficits::look-ask-got-requires
+drr::Deficits::look-ask-got-requires g t c = ?
+
+pub drr::Deficits::look-push_reserved-requires : goal.drr::Deficits::look-push_reserved-requires
+drr::Deficits::look-push_reserved-requires g t c = ?
+
+pub drr::Deficits::pull-look-got-requires : goal.drr::Deficits::pull-look-got-requires
+drr::Deficits::pull-look-got-requires g t c = ?
+
+pub drr::Deficits::pull-returns-then-passed-clause-keeps : goal.drr::Deficits::pull-returns-then-passed-clause-keeps
+drr::Deficits::pull-returns-then-passed-clause-keeps g t c = ?
+
+pub drr::Deficits::pull-returns-then-passed-clause-fits : goal.drr::Deficits::pull-returns-then-passed-clause-fits
+drr::Deficits::pull-returns-then-passed-clause-fits g t c = ?
+
+pub drr::Deficits::pull-returns-then-passed-clause-answers : goal.drr::Deficits::pull-returns-then-passed-clause-answers
+drr::Deficits::pull-returns-then-passed-clause-answers g t c = ?
+
+pub drr::Deficits::pull-returns-then-passed-clause-turn : goal.drr::Deficits::pull-returns-then-passed-clause-turn
+drr::Deficits::pull-returns-then-passed-clause-turn g t c = ?
+
+pub drr::Deficits::pull-returns-clause-keeps : goal.drr::Deficits::pull-returns-clause-keeps
+drr::Deficits::pull-returns-clause-keeps g t c = ?
+
+pub drr::Deficits::pull-returns-clause-fits : goal.drr::Deficits::pull-returns-clause-fits
+drr::Deficits::pull-returns-clause-fits g t c = ?
+
+pub drr::Deficits::pull-returns-clause-answers : goal.drr::Deficits::pull-returns-clause-answers
+drr::Deficits::pull-returns-clause-answers g t c = ?
+
+pub drr::Deficits::pull-returns-clause-turn : goal.drr::Deficits::pull-returns-clause-turn
+drr::Deficits::pull-returns-clause-turn g t c = ?
+
+pub nodes::Nodes::pull-returns-clause-pulls : goal.nodes::Nodes::pull-returns-clause-pulls
+nodes::Nodes::pull-returns-clause-pulls g t c = ?
+
+pub prio::pull_prio-ask_in_turn-requires : goal.prio::pull_prio-ask_in_turn-requires
+prio::pull_prio-ask_in_turn-requires g t c = ?
+
+pub prio::pull_prio-returns-in_err-packet-clause-keeps : goal.prio::pull_prio-returns-in_err-packet-clause-keeps
+prio::pull_prio-returns-in_err-packet-clause-keeps g t c = ?
+
+pub prio::pull_prio-returns-in_err-packet-clause-turn : goal.prio::pull_prio-returns-in_err-packet-clause-turn
+prio::pull_prio-returns-in_err-packet-clause-turn g t c = ?
+
+pub prio::pull_prio-returns-clause-keeps : goal.prio::pull_prio-returns-clause-keeps
+prio::pull_prio-returns-clause-keeps g t c = ?
+
+pub prio::pull_prio-returns-clause-turn : goal.prio::pull_prio-returns-clause-turn
+prio::pull_prio-returns-clause-turn g t c = ?
+
+pub round_robin::Beginning::pull-ask_in_turn-requires : goal.round_robin::Beginning::pull-ask_in_turn-requires
+round_robin::Beginning::pull-ask_in_turn-requires g t c = ?
+
+pub round_robin::Beginning::pull-overflow_add-self : goal.round_robin::Beginning::pull-overflow_add-self
+round_robin::Beginning::pull-overflow_add-self g t c = ?
+
+pub round_robin::Beginning::pull-overflow_add-self-in-Some : goal.round_robin::Beginning::pull-overflow_add-self-in-Some
+round_robin::Beginning::pull-overflow_add-self-in-Some g t c = ?
+
+pub round_robin::Beginning::pull-returns-in-Some-clause-keeps : goal.round_robin::Beginning::pull-returns-in-Some-clause-keeps
+round_robin::Beginning::pull-returns-in-Some-clause-keeps g t c = ?
+
+pub round_robin::Beginning::pull-returns-in-Some-clause-fits : goal.round_robin::Beginning::pull-returns-in-Some-clause-fits
+round_robin::Beginning::pull-returns-in-Some-clause-fits g t c = ?
+
+pub round_robin::Beginning::pull-returns-in-Some-clause-turn : goal.round_robin::Beginning::pull-returns-in-Some-clause-turn
+round_robin::Beginning::pull-returns-in-Some-clause-turn g t c = ?
+
+pub round_robin::Beginning::pull-ask_in_turn-requires-2 : goal.round_robin::Beginning::pull-ask_in_turn-requires-2
+round_robin::Beginning::pull-ask_in_turn-requires-2 g t c = ?
+
+pub round_robin::Beginning::pull-returns-in_err-place-clause-keeps : goal.round_robin::Beginning::pull-returns-in_err-place-clause-keeps
+round_robin::Beginning::pull-returns-in_err-place-clause-keeps g t c = ?
+
+pub round_robin::Beginning::pull-returns-in_err-place-clause-answers : goal.round_robin::Beginning::pull-returns-in_err-place-clause-answers
+round_robin::Beginning::pull-returns-in_err-place-clause-answers g t c = ?
+
+pub round_robin::Beginning::pull-returns-in_err-place-clause-turn : goal.round_robin::Beginning::pull-returns-in_err-place-clause-turn
+round_robin::Beginning::pull-returns-in_err-place-clause-turn g t c = ?
+
+pub round_robin::Beginning::pull-overflow_add-self-2 : goal.round_robin::Beginning::pull-overflow_add-self-2
+round_robin::Beginning::pull-overflow_add-self-2 g t c = ?
+
+pub round_robin::Beginning::pull-returns-clause-keeps : goal.round_robin::Beginning::pull-returns-clause-keeps
+round_robin::Beginning::pull-returns-clause-keeps g t c = ?
+
+pub round_robin::Beginning::pull-returns-clause-answers : goal.round_robin::Beginning::pull-returns-clause-answers
+round_robin::Beginning::pull-returns-clause-answers g t c = ?
+
+pub round_robin::Beginning::pull-returns-clause-turn : goal.round_robin::Beginning::pull-returns-clause-turn
+round_robin::Beginning::pull-returns-clause-turn g t c = ?
+
+pub shaper::Bucket::pull-returns-then-not-has_token-clause-turn : goal.shaper::Bucket::pull-returns-then-not-has_token-clause-turn
+shaper::Bucket::pull-returns-then-not-has_token-clause-turn g t c = ?
+
+pub shaper::Bucket::pull-ask_in_turn-requires : goal.shaper::Bucket::pull-ask_in_turn-requires
+shaper::Bucket::pull-ask_in_turn-requires g t c = ?
+
+pub shaper::Bucket::pull-returns-in_err-packet-clause-keeps : goal.shaper::Bucket::pull-returns-in_err-packet-clause-keeps
+shaper::Bucket::pull-returns-in_err-packet-clause-keeps g t c = ?
+
+pub shaper::Bucket::pull-returns-in_err-packet-clause-turn : goal.shaper::Bucket::pull-returns-in_err-packet-clause-turn
+shaper::Bucket::pull-returns-in_err-packet-clause-turn g t c = ?
+
+pub shaper::Bucket::pull-returns-clause-keeps : goal.shaper::Bucket::pull-returns-clause-keeps
+shaper::Bucket::pull-returns-clause-keeps g t c = ?
+
+pub shaper::Bucket::pull-returns-clause-turn : goal.shaper::Bucket::pull-returns-clause-turn
+shaper::Bucket::pull-returns-clause-turn g t c = ?
+
+pub state::State::pull-returns-in-Drr-clause-turn : goal.state::State::pull-returns-in-Drr-clause-turn
+state::State::pull-returns-in-Drr-clause-turn g t c = ?
+
+pub state::State::pull-returns-in-Stride-clause-turn : goal.state::State::pull-returns-in-Stride-clause-turn
+state::State::pull-returns-in-Stride-clause-turn g t c = ?
+
+pub state::State::pull-returns-in-Shaper-clause-turn : goal.state::State::pull-returns-in-Shaper-clause-turn
+state::State::pull-returns-in-Shaper-clause-turn g t c = ?
+
+pub stride::Passes::pull-ask_in_order-requires : goal.stride::Passes::pull-ask_in_order-requires
+stride::Passes::pull-ask_in_order-requires g t c = ?
+
+pub stride::Passes::pull-returns-in_err-place-clause-keeps : goal.stride::Passes::pull-returns-in_err-place-clause-keeps
+stride::Passes::pull-returns-in_err-place-clause-keeps g t c = ?
+
+pub stride::Passes::pull-returns-in_err-place-clause-turn : goal.stride::Passes::pull-returns-in_err-place-clause-turn
+stride::Passes::pull-returns-in_err-place-clause-turn g t c = ?
+
+pub stride::Passes::pull-returns-clause-keeps : goal.stride::Passes::pull-returns-clause-keeps
+stride::Passes::pull-returns-clause-keeps g t c = ?
+
+pub stride::Passes::pull-returns-clause-fits : goal.stride::Passes::pull-returns-clause-fits
+stride::Passes::pull-returns-clause-fits g t c = ?
+
+pub stride::Passes::pull-returns-clause-turn : goal.stride::Passes::pull-returns-clause-turn
+stride::Passes::pull-returns-clause-turn g t c = ?
