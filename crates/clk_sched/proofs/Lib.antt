@@ -22,6 +22,8 @@ pub mod Below
 pub mod Pulling
 pub mod Asking
 pub mod Asked
+pub mod Edges
+pub mod InOrder
 pub mod Orders
 pub mod Chosen
 pub mod WithAsked

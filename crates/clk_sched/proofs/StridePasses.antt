@@ -171,7 +171,6 @@ passes-moved tickets passes t w e =
 -- what is known where an input won: the row and its place there, and what was visited
 record IsWin (tickets : List ℕ) (turns : List Turn) (t : Turn) (taken place : ℕ) (row : List Rank) (d : Rank) : Type 0 where
   within : place < length row
-  rises : HasRisingPasses row
   row_is : map (with_pass taken) row ≡ in_rising_order (enumerate_from 0 (passes_of tickets turns))
   visited : map (λ (v : Visit). v.input) t.visits ≡ take (suc place) (map (λ (r : Rank). r.input) row)
   won : giver t.visits ≡ Some (get_or row place d).input
@@ -260,7 +259,6 @@ passes-won tickets turns t p q place d holds l rises visits gives pass stride pa
     win =
         record {
           within = l;
-          rises = rises;
           row_is = holds.row_is;
           visited = visits ∙ ap (λ n. take n (map (λ (o : Rank). o.input) p.row.items)) (let next : place + 1 ≡ suc place = omega arith in next);
           won = gives ∙ input-at place p.row.items d l;

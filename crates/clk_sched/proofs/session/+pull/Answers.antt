@@ -9,6 +9,8 @@ use Rattle.clk_sched.proofs.Members.{of-all, in-slice}
 use Rattle.clk_sched.specs.declared.session.inputs.Input.TheVariants.{Queue, Scheduler}
 use Rattle.clk_sched.specs.Places.{input_at, Answers, queue_asked, edges_of, edges_at, edges_in, at_queue}
 use Rattle.clk_sched.specs.Pulling.{CanPull, Keeps, AsksAll, added, now_of, asked_in_order, inputs_in}
+use Rattle.clk_sched.proofs.Edges.{edges-order}
+use Rattle.clk_sched.proofs.InOrder.{turned-in-order}
 use Rattle.clk_sched.proofs.Asking.{added-none, keeps-more, answers-then, asks-one, asking-first, asking-can, HasAsked, asking-given, asking-next, asking-all}
 use Rattle.clk_sched.proofs.Asked.{entry, rank_at, entry-input, input-is, child-after, edges-scheduler, queue-visited, asks-queue, asks-child}
 use Rattle.clk_sched.proofs.session.+pull.Goals as goal

@@ -23,7 +23,6 @@ loop-rank-preserved c =
     let f = less (get_or c.args.row.now 0 blank).pass in
     let i = c.loop-rank.rank-index in
     let next : suc i ≡ i + 1 = omega arith in
-    let read = ap (λ (xs : _). get_or xs i blank) c.loop-rank.invariant ∙ changed-read f i c.args.row.now blank in
     ap (λ xs. set xs i (f (get_or xs i blank))) c.loop-rank.invariant
     ∙ ap (λ r. set (map f (take i c.args.row.now) ++ drop i c.args.row.now) i (f r)) (changed-read f i c.args.row.now blank)
     ∙ changed-more f i c.args.row.now blank c.loop-rank-test.true
