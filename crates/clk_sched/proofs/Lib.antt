@@ -24,6 +24,9 @@ pub mod Asking
 pub mod Asked
 pub mod Edges
 pub mod InOrder
+pub mod PutBack
+pub mod Ordered
+pub mod TurnPrio
 pub mod Orders
 pub mod Chosen
 pub mod WithAsked

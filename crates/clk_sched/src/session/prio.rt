@@ -19,6 +19,8 @@ pub fn pull_prio<Q: Ask>(nodes: &mut Nodes, q: &mut Q, node: u16) -> Option<Pack
     ensures turn { TakesTurn nodes.old nodes.new node prio Prio Prio result }
 {
     let inputs = nodes.inputs[node as usize].each.len() as u16;
-    let (_, packet) = nodes.ask_in_turn(q, node, 0, inputs)?;
-    Some(packet)
+    match nodes.ask_in_turn(q, node, 0, inputs) {
+        Some((_, packet)) => Some(packet),
+        None => None,
+    }
 }

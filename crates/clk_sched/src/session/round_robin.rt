@@ -34,8 +34,12 @@ impl Beginning {
             self.input = (first + place + 1) % inputs;
             return Some(packet);
         }
-        let (place, packet) = nodes.ask_in_turn(q, node, 0, first)?;
-        self.input = place + 1;
-        Some(packet)
+        match nodes.ask_in_turn(q, node, 0, first) {
+            Some((place, packet)) => {
+                self.input = place + 1;
+                Some(packet)
+            }
+            None => None,
+        }
     }
 }

@@ -89,8 +89,12 @@ impl Bucket {
         if !self.has_token(nodes.moment) {
             return None;
         }
-        let (_, packet) = nodes.ask_in_turn(q, node, 0, 1)?;
-        self.take(nodes.moment);
-        Some(packet)
+        match nodes.ask_in_turn(q, node, 0, 1) {
+            Some((_, packet)) => {
+                self.take(nodes.moment);
+                Some(packet)
+            }
+            None => None,
+        }
     }
 }

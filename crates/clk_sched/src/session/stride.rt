@@ -109,9 +109,13 @@ impl Passes {
         ensures answers { Answers Q.gives (queue_asked nodes.old.inputs.items) q.old (added nodes.old nodes.new) q.new }
         ensures turn { (tickets : List ℕ) → TakesTurn nodes.old nodes.new node (stride tickets) (Stride self.old) (Stride self.new) result }
     {
-        let (place, packet) = nodes.ask_in_order(q, node, self.row())?;
-        self.won(place);
-        Some(packet)
+        match nodes.ask_in_order(q, node, self.row()) {
+            Some((place, packet)) => {
+                self.won(place);
+                Some(packet)
+            }
+            None => None,
+        }
     }
 }
 

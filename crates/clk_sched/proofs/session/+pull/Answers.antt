@@ -1,5 +1,6 @@
 use Rattle.std.proofs.Common.{◌≡◌, ◌+◌, ◌-◌, ◌<◌, ◌≤◌, ◌∷◌, [], ◌++◌, length, Option, Some, None, IsSome, slice_get, slice_index, refl, sym, ap, ap₂, ◌∙◌, subst, arith}
 use Rattle.std.specs.List.{range_with_len}
+use Rattle.std.specs.Vec.{with_item}
 use Rattle.std.proofs.lemmas.Option.{slice_get-get_or}
 use Rattle.std.proofs.lemmas.List.{length-map}
 use Rattle.std.proofs.lemmas.List.FromFn.{length-range_with_len, get_or-range_with_len}
@@ -11,6 +12,11 @@ use Rattle.clk_sched.specs.Places.{input_at, Answers, queue_asked, edges_of, edg
 use Rattle.clk_sched.specs.Pulling.{CanPull, Keeps, AsksAll, added, now_of, asked_in_order, inputs_in}
 use Rattle.clk_sched.proofs.Edges.{edges-order}
 use Rattle.clk_sched.proofs.InOrder.{turned-in-order}
+use Rattle.std.specs.List.{AllByRecursion}
+use Rattle.clk_sched.proofs.Orders.{priority-order}
+use Rattle.clk_sched.proofs.Ordered.{can-order, order-there, keeps-order}
+use Rattle.clk_sched.proofs.TurnPrio.{prio-turn}
+use Rattle.clk_sched.proofs.PutBack.{pulls-put, set-here, set-other, fit-set}
 use Rattle.clk_sched.proofs.Asking.{added-none, keeps-more, answers-then, asks-one, asking-first, asking-can, HasAsked, asking-given, asking-next, asking-all}
 use Rattle.clk_sched.proofs.Asked.{entry, rank_at, entry-input, input-is, child-after, edges-scheduler, queue-visited, asks-queue, asks-child}
 use Rattle.clk_sched.proofs.session.+pull.Goals as goal
@@ -280,6 +286,36 @@ nodes::Nodes::look-returns-clause-asks g t c =
     (c.push_reserved.ensures.items
     ∙ ap (λ v. c.ask-got.new.self.log.items ++ v ∷ []) (c.asking.ensures ∙ ap₂ (λ n m. asking n m c.args.node c.args.input c.ask-got.result) c.ask-got.ensures.keeps.pull c.ask-got.ensures.keeps.moment)) refl c.ask-got.ensures.asks
 
+pub nodes::Nodes::pull-returns-clause-pulls : goal.nodes::Nodes::pull-returns-clause-pulls
+nodes::Nodes::pull-returns-clause-pulls g t c =
+    let a = c.args.self.now in
+    let x = c.args.node in
+    let within : x < length a.states.items = subst (λ n. x < n) (sym c.requires.can_pull.fit.lengths) c.requires.can_pull.there in
+    let turned = c.pull-got.new.nodes in
+    let after_within : x < length turned.states.items = subst (λ n. x < n) (sym c.pull-got.ensures.keeps.fit.lengths) c.requires.can_pull.there in
+    let state : slice_get a.states.items x ≡ Some c.replace-state.result = entry a.states.items x c.index_mut.result.now within c.index_mut.ensures.value ∙ ap Some (sym c.replace-state.ensures.value) in
+    pulls-put a (record { inputs = a.inputs; states = with_item a.states x c.replace-state.new.dest; log = a.log; pull = a.pull; moment = a.moment }) turned
+    (record { inputs = turned.inputs; states = with_item turned.states x c.pull-got.new.self; log = turned.log; pull = turned.pull; moment = turned.moment }) x c.replace-state.new.dest c.replace-state.result c.pull-got.new.self
+    c.pull-got.result
+    (record { inputs = refl; log = refl; pull = refl; moment = refl; here = set-here a.states.items x c.replace-state.new.dest within; others = λ y d. set-other a.states.items x y c.replace-state.new.dest d }) state
+    c.pull-got.ensures.turn
+    (record { inputs = refl; log = refl; pull = refl; moment = refl; here = set-here turned.states.items x c.pull-got.new.self after_within; others = λ y d. set-other turned.states.items x y c.pull-got.new.self d })
+
+pub prio::pull_prio-ask_in_turn-requires : goal.prio::pull_prio-ask_in_turn-requires
+prio::pull_prio-ask_in_turn-requires g t c =
+    let a = c.args.nodes.now in
+    let x = c.args.node in
+    let p = c.index.result.now in
+    let place : slice_get a.inputs.items x ≡ Some p = entry a.inputs.items x p c.requires.can_pull.there c.index.ensures in
+    let count : c.len-inputs.result ≡ length p.each.items = c.len-inputs.ensures ∙ p.each.ok.0 in
+    let order = range_with_len 0 c.len-inputs.result in
+    let is = priority-order c.len-inputs.result in
+    let can = can-order a x p order c.requires.can_pull place is.apart in
+    let there = order-there a.inputs.items x p order place (subst (λ n. AllByRecursion (λ i. i < n) order) count is.within) in
+    let few = (c.requires.can_pull.wired x p place).few in
+    let less = c.decreases in
+    λ κs le. (omega (arith, less), (search, (can, (there, omega (arith, count, few)))))
+
 pub drr::Deficits::look-ask-got-requires : goal.drr::Deficits::look-ask-got-requires
 drr::Deficits::look-ask-got-requires g t c = ?
 
@@ -313,23 +349,17 @@ drr::Deficits::pull-returns-clause-answers g t c = ?
 pub drr::Deficits::pull-returns-clause-turn : goal.drr::Deficits::pull-returns-clause-turn
 drr::Deficits::pull-returns-clause-turn g t c = ?
 
-pub nodes::Nodes::pull-returns-clause-pulls : goal.nodes::Nodes::pull-returns-clause-pulls
-nodes::Nodes::pull-returns-clause-pulls g t c = ?
+pub prio::pull_prio-returns-in-Some-clause-keeps : goal.prio::pull_prio-returns-in-Some-clause-keeps
+prio::pull_prio-returns-in-Some-clause-keeps g t c = ?
 
-pub prio::pull_prio-ask_in_turn-requires : goal.prio::pull_prio-ask_in_turn-requires
-prio::pull_prio-ask_in_turn-requires g t c = ?
+pub prio::pull_prio-returns-in-Some-clause-turn : goal.prio::pull_prio-returns-in-Some-clause-turn
+prio::pull_prio-returns-in-Some-clause-turn g t c = ?
 
-pub prio::pull_prio-returns-in_err-packet-clause-keeps : goal.prio::pull_prio-returns-in_err-packet-clause-keeps
-prio::pull_prio-returns-in_err-packet-clause-keeps g t c = ?
+pub prio::pull_prio-returns-in-None-clause-keeps : goal.prio::pull_prio-returns-in-None-clause-keeps
+prio::pull_prio-returns-in-None-clause-keeps g t c = ?
 
-pub prio::pull_prio-returns-in_err-packet-clause-turn : goal.prio::pull_prio-returns-in_err-packet-clause-turn
-prio::pull_prio-returns-in_err-packet-clause-turn g t c = ?
-
-pub prio::pull_prio-returns-clause-keeps : goal.prio::pull_prio-returns-clause-keeps
-prio::pull_prio-returns-clause-keeps g t c = ?
-
-pub prio::pull_prio-returns-clause-turn : goal.prio::pull_prio-returns-clause-turn
-prio::pull_prio-returns-clause-turn g t c = ?
+pub prio::pull_prio-returns-in-None-clause-turn : goal.prio::pull_prio-returns-in-None-clause-turn
+prio::pull_prio-returns-in-None-clause-turn g t c = ?
 
 pub round_robin::Beginning::pull-ask_in_turn-requires : goal.round_robin::Beginning::pull-ask_in_turn-requires
 round_robin::Beginning::pull-ask_in_turn-requires g t c = ?
@@ -352,26 +382,26 @@ round_robin::Beginning::pull-returns-in-Some-clause-turn g t c = ?
 pub round_robin::Beginning::pull-ask_in_turn-requires-2 : goal.round_robin::Beginning::pull-ask_in_turn-requires-2
 round_robin::Beginning::pull-ask_in_turn-requires-2 g t c = ?
 
-pub round_robin::Beginning::pull-returns-in_err-place-clause-keeps : goal.round_robin::Beginning::pull-returns-in_err-place-clause-keeps
-round_robin::Beginning::pull-returns-in_err-place-clause-keeps g t c = ?
+pub round_robin::Beginning::pull-overflow_add-self-in-Some-ask_in_turn : goal.round_robin::Beginning::pull-overflow_add-self-in-Some-ask_in_turn
+round_robin::Beginning::pull-overflow_add-self-in-Some-ask_in_turn g t c = ?
 
-pub round_robin::Beginning::pull-returns-in_err-place-clause-answers : goal.round_robin::Beginning::pull-returns-in_err-place-clause-answers
-round_robin::Beginning::pull-returns-in_err-place-clause-answers g t c = ?
+pub round_robin::Beginning::pull-returns-in-Some-ask_in_turn-clause-keeps : goal.round_robin::Beginning::pull-returns-in-Some-ask_in_turn-clause-keeps
+round_robin::Beginning::pull-returns-in-Some-ask_in_turn-clause-keeps g t c = ?
 
-pub round_robin::Beginning::pull-returns-in_err-place-clause-turn : goal.round_robin::Beginning::pull-returns-in_err-place-clause-turn
-round_robin::Beginning::pull-returns-in_err-place-clause-turn g t c = ?
+pub round_robin::Beginning::pull-returns-in-Some-ask_in_turn-clause-answers : goal.round_robin::Beginning::pull-returns-in-Some-ask_in_turn-clause-answers
+round_robin::Beginning::pull-returns-in-Some-ask_in_turn-clause-answers g t c = ?
 
-pub round_robin::Beginning::pull-overflow_add-self-2 : goal.round_robin::Beginning::pull-overflow_add-self-2
-round_robin::Beginning::pull-overflow_add-self-2 g t c = ?
+pub round_robin::Beginning::pull-returns-in-Some-ask_in_turn-clause-turn : goal.round_robin::Beginning::pull-returns-in-Some-ask_in_turn-clause-turn
+round_robin::Beginning::pull-returns-in-Some-ask_in_turn-clause-turn g t c = ?
 
-pub round_robin::Beginning::pull-returns-clause-keeps : goal.round_robin::Beginning::pull-returns-clause-keeps
-round_robin::Beginning::pull-returns-clause-keeps g t c = ?
+pub round_robin::Beginning::pull-returns-in-None-clause-keeps : goal.round_robin::Beginning::pull-returns-in-None-clause-keeps
+round_robin::Beginning::pull-returns-in-None-clause-keeps g t c = ?
 
-pub round_robin::Beginning::pull-returns-clause-answers : goal.round_robin::Beginning::pull-returns-clause-answers
-round_robin::Beginning::pull-returns-clause-answers g t c = ?
+pub round_robin::Beginning::pull-returns-in-None-clause-answers : goal.round_robin::Beginning::pull-returns-in-None-clause-answers
+round_robin::Beginning::pull-returns-in-None-clause-answers g t c = ?
 
-pub round_robin::Beginning::pull-returns-clause-turn : goal.round_robin::Beginning::pull-returns-clause-turn
-round_robin::Beginning::pull-returns-clause-turn g t c = ?
+pub round_robin::Beginning::pull-returns-in-None-clause-turn : goal.round_robin::Beginning::pull-returns-in-None-clause-turn
+round_robin::Beginning::pull-returns-in-None-clause-turn g t c = ?
 
 pub shaper::Bucket::pull-returns-then-not-has_token-clause-turn : goal.shaper::Bucket::pull-returns-then-not-has_token-clause-turn
 shaper::Bucket::pull-returns-then-not-has_token-clause-turn g t c = ?
@@ -379,17 +409,17 @@ shaper::Bucket::pull-returns-then-not-has_token-clause-turn g t c = ?
 pub shaper::Bucket::pull-ask_in_turn-requires : goal.shaper::Bucket::pull-ask_in_turn-requires
 shaper::Bucket::pull-ask_in_turn-requires g t c = ?
 
-pub shaper::Bucket::pull-returns-in_err-packet-clause-keeps : goal.shaper::Bucket::pull-returns-in_err-packet-clause-keeps
-shaper::Bucket::pull-returns-in_err-packet-clause-keeps g t c = ?
+pub shaper::Bucket::pull-returns-in-Some-clause-keeps : goal.shaper::Bucket::pull-returns-in-Some-clause-keeps
+shaper::Bucket::pull-returns-in-Some-clause-keeps g t c = ?
 
-pub shaper::Bucket::pull-returns-in_err-packet-clause-turn : goal.shaper::Bucket::pull-returns-in_err-packet-clause-turn
-shaper::Bucket::pull-returns-in_err-packet-clause-turn g t c = ?
+pub shaper::Bucket::pull-returns-in-Some-clause-turn : goal.shaper::Bucket::pull-returns-in-Some-clause-turn
+shaper::Bucket::pull-returns-in-Some-clause-turn g t c = ?
 
-pub shaper::Bucket::pull-returns-clause-keeps : goal.shaper::Bucket::pull-returns-clause-keeps
-shaper::Bucket::pull-returns-clause-keeps g t c = ?
+pub shaper::Bucket::pull-returns-in-None-clause-keeps : goal.shaper::Bucket::pull-returns-in-None-clause-keeps
+shaper::Bucket::pull-returns-in-None-clause-keeps g t c = ?
 
-pub shaper::Bucket::pull-returns-clause-turn : goal.shaper::Bucket::pull-returns-clause-turn
-shaper::Bucket::pull-returns-clause-turn g t c = ?
+pub shaper::Bucket::pull-returns-in-None-clause-turn : goal.shaper::Bucket::pull-returns-in-None-clause-turn
+shaper::Bucket::pull-returns-in-None-clause-turn g t c = ?
 
 pub state::State::pull-returns-in-Drr-clause-turn : goal.state::State::pull-returns-in-Drr-clause-turn
 state::State::pull-returns-in-Drr-clause-turn g t c = ?
@@ -403,17 +433,17 @@ state::State::pull-returns-in-Shaper-clause-turn g t c = ?
 pub stride::Passes::pull-ask_in_order-requires : goal.stride::Passes::pull-ask_in_order-requires
 stride::Passes::pull-ask_in_order-requires g t c = ?
 
-pub stride::Passes::pull-returns-in_err-place-clause-keeps : goal.stride::Passes::pull-returns-in_err-place-clause-keeps
-stride::Passes::pull-returns-in_err-place-clause-keeps g t c = ?
+pub stride::Passes::pull-returns-in-Some-clause-keeps : goal.stride::Passes::pull-returns-in-Some-clause-keeps
+stride::Passes::pull-returns-in-Some-clause-keeps g t c = ?
 
-pub stride::Passes::pull-returns-in_err-place-clause-turn : goal.stride::Passes::pull-returns-in_err-place-clause-turn
-stride::Passes::pull-returns-in_err-place-clause-turn g t c = ?
+pub stride::Passes::pull-returns-in-Some-clause-fits : goal.stride::Passes::pull-returns-in-Some-clause-fits
+stride::Passes::pull-returns-in-Some-clause-fits g t c = ?
 
-pub stride::Passes::pull-returns-clause-keeps : goal.stride::Passes::pull-returns-clause-keeps
-stride::Passes::pull-returns-clause-keeps g t c = ?
+pub stride::Passes::pull-returns-in-Some-clause-turn : goal.stride::Passes::pull-returns-in-Some-clause-turn
+stride::Passes::pull-returns-in-Some-clause-turn g t c = ?
 
-pub stride::Passes::pull-returns-clause-fits : goal.stride::Passes::pull-returns-clause-fits
-stride::Passes::pull-returns-clause-fits g t c = ?
+pub stride::Passes::pull-returns-in-None-clause-keeps : goal.stride::Passes::pull-returns-in-None-clause-keeps
+stride::Passes::pull-returns-in-None-clause-keeps g t c = ?
 
-pub stride::Passes::pull-returns-clause-turn : goal.stride::Passes::pull-returns-clause-turn
-stride::Passes::pull-returns-clause-turn g t c = ?
+pub stride::Passes::pull-returns-in-None-clause-turn : goal.stride::Passes::pull-returns-in-None-clause-turn
+stride::Passes::pull-returns-in-None-clause-turn g t c = ?
