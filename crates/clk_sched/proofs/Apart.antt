@@ -20,7 +20,7 @@ pub apart-map : {X : Type 0} (f : X → ℕ) (xs : List X) → AreApart f xs →
 apart-map f [] h = tt
 apart-map f (x ∷ xs) h = (all-map (λ n. n ≢ f x) f xs h.0, apart-map f xs h.1)
 
-flat_map-none : {X Y : Type 0} (g : X → List Y) (xs : List X) → AllByRecursion (λ x. g x ≡ []) xs → flat_map g xs ≡ []
+pub flat_map-none : {X Y : Type 0} (g : X → List Y) (xs : List X) → AllByRecursion (λ x. g x ≡ []) xs → flat_map g xs ≡ []
 flat_map-none g [] h = refl
 flat_map-none g (x ∷ xs) h = ap₂ (λ l k. l ++ k) h.0 (flat_map-none g xs h.1)
 

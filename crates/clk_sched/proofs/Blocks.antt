@@ -1,6 +1,7 @@
 -- Whose visits stand in a block: a node's visits in a pull are those in the blocks that its parent asked for.
 use Rattle.std.proofs.Common.{◌≡◌, ◌≢◌, ℕ, zero, suc, ◌+◌, ◌<◌, ◌≤◌, ◌==◌, ◌&&◌, inl, inr, if◌then◌else◌, Bool, true, false, List, [], ◌∷◌, ◌++◌, length, filter, refl, sym, ap, ap₂, ◌∙◌, length-append, append-nil, arith}
 use Rattle.std.specs.List.{flat_map, AllByRecursion}
+use Rattle.std.proofs.lemmas.Bool.{false≢true}
 use Rattle.std.proofs.lemmas.Bool.Decides.{nat_tests}
 use Rattle.std.proofs.lemmas.List.Elements.{filter-append}
 use Rattle.clk_sched.specs.declared.visit.Visit.{Visit}
@@ -146,7 +147,7 @@ owns-here y pull above first next class inputs row l h = h ∙ flat_map-same _ _
         let differs : (i == first) ≡ false = grind (arith, nat_tests) in
         rw differs (absent-below y (suc (next + nodes inputs)) (suc (next + nodes inputs) + nodes row) (rest i) l (block-within pull (suc first) (suc (next + nodes inputs)) row i))
 
-flat_map-one : {X : Type 0} (xs : List X) → flat_map (λ x. x ∷ []) xs ≡ xs
+pub flat_map-one : {X : Type 0} (xs : List X) → flat_map (λ x. x ∷ []) xs ≡ xs
 flat_map-one [] = refl
 flat_map-one (x ∷ xs) = ap (λ l. x ∷ l) (flat_map-one xs)
 
@@ -239,3 +240,11 @@ owns-inputs y pull above first next class inputs row l h self own =
     owns-here y pull above first next class inputs row h own ∙ ap (λ k. copies (asks first) k (visits_of above pull)) (visits-asked pull y next (suc next) inputs (λ e. omega (arith, e)))
     ∙ copies-cancel (asks first) (visits_of next pull) _ (visits_of above pull) (owns-self pull above first next class inputs row self)
     (λ e. ap (flat_map (λ (v : Visit). visits_of y (asked_in pull 0 (suc next) inputs v))) e)
+
+-- a visit that asked at an input
+pub asks-both : (first : ℕ) (v : Visit) → asks first v ≡ true → (v.fresh ≡ true) × (v.input ≡ first)
+asks-both first v = by_fresh v.fresh refl
+  where
+    by_fresh : (b : Bool) → v.fresh ≡ b → (b && (v.input == first)) ≡ true → (v.fresh ≡ true) × (v.input ≡ first)
+    by_fresh true e k = (e, grind (arith, nat_tests))
+    by_fresh false e k = absurd (false≢true k)

@@ -1,6 +1,7 @@
 -- The turn of a scheduler that asks its inputs in an order.
 use Rattle.std.proofs.Common.{◌≡◌, ◌≢◌, ℕ, zero, suc, ◌+◌, ◌<◌, ◌≤◌, true, List, [], ◌∷◌, ◌++◌, length, take, map, slice_get, slice_index, Option, Some, None, IfSome, is_some, MatchOption, option_map, refl, sym, ap, ◌∙◌, subst, append-nil, arith}
-use Rattle.std.specs.List.{AllByRecursion}
+use Rattle.std.specs.List.{AllByRecursion, range_with_len}
+use Rattle.std.proofs.lemmas.List.FromFn.{length-range_with_len}
 use Rattle.std.specs.Bool.{⊤}
 use Rattle.std.proofs.lemmas.Bool.{false≢true}
 use Rattle.clk_packet.specs.declared.packet.Packet.{Packet}
@@ -19,6 +20,9 @@ use Rattle.clk_sched.proofs.Pulling.{pulling-first, pulling-own}
 -- the place at which a packet was given is one of an order
 abbrev pub IsWithin : List ℕ → Option (ℕ × Packet) → Type 0
 IsWithin order r = IfSome r (λ p. p.0 < length order)
+
+pub within-range : (first count : ℕ) (r : Option (ℕ × Packet)) → IfSome r (λ p. p.0 < count) → IsWithin (range_with_len first count) r
+within-range first count r h = subst (λ n. IfSome r (λ p. p.0 < n)) (sym (length-range_with_len first count)) h
 
 -- the visits up to the place k, which gave a packet
 abbrev walked : Now → ℕ → List ℕ → ℕ → Packet → List Visit

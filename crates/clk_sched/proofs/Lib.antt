@@ -32,6 +32,8 @@ pub mod Chosen
 pub mod WithAsked
 pub mod Made
 pub mod CanGoOn
+pub mod IdleTurns
+pub mod DeviceBlock
 pub mod DeficitShares
 pub mod StrideShares
 pub mod Bucket

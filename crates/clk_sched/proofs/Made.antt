@@ -2,7 +2,6 @@
 -- and what is given there.
 use Rattle.std.proofs.Common.{◌≡◌, ◌≢◌, ◌&&◌, ◌==◌, ℕ, suc, ◌+◌, ◌<◌, ◌≤◌, if◌then◌else◌, Bool, true, false, List, [], ◌∷◌, ◌++◌, map, filter, Option, Some, None, IfSome, refl, sym, ap, ap₂, ◌∙◌, subst, arith}
 use Rattle.std.specs.List.{flat_map, AllByRecursion, list_any}
-use Rattle.std.proofs.lemmas.Bool.{false≢true}
 use Rattle.std.proofs.lemmas.Bool.Decides.{nat_tests}
 use Rattle.clk_packet.specs.declared.packet.Packet.{Packet}
 use Rattle.clk_sched.specs.declared.visit.Visit.{Visit}
@@ -17,7 +16,7 @@ use Rattle.clk_sched.proofs.Members.{In, of-all, to-all, in-filter, all-weaker}
 use Rattle.clk_sched.proofs.Numbering.{StandsAt, queue_in-before, queue_in-earlier, stands-after_leaf, stands-after_node, stands-inputs}
 use Rattle.clk_sched.proofs.Allowed.{AreWithin}
 use Rattle.clk_sched.proofs.PullByPull.{asked}
-use Rattle.clk_sched.proofs.Blocks.{flat_map-same}
+use Rattle.clk_sched.proofs.Blocks.{flat_map-same, asks-both}
 use Rattle.clk_sched.proofs.Apart.{AreApart, all-map, only-one, any-member}
 use Rattle.clk_sched.proofs.WithAsked.{asked_of, with_asked, IsAbsent, AreOf, absent, with_asked-all, with_asked-self, with_asked-other}
 use Rattle.clk_sched.proofs.Chosen.{Asker, IsVisitBy, HasChosen, as_turn, input_of, choose}
@@ -108,13 +107,6 @@ at-here first i x others e = ap (λ b. if b then x else others i) (equal first i
 
 at-other : {X : Type 0} (first i : ℕ) (x : X) (others : ℕ → X) → first ≢ i → here_or first x others i ≡ others i
 at-other first i x others d = ap (λ b. if b then x else others i) (differs first i d)
-
-asks-both : (first : ℕ) (v : Visit) → asks first v ≡ true → (v.fresh ≡ true) × (v.input ≡ first)
-asks-both first v = by_fresh v.fresh refl
-  where
-    by_fresh : (b : Bool) → v.fresh ≡ b → (b && (v.input == first)) ≡ true → (v.fresh ≡ true) × (v.input ≡ first)
-    by_fresh true e k = (e, grind (arith, nat_tests))
-    by_fresh false e k = absurd (false≢true k)
 
 no-queue : (tree : Tree) (above first next : ℕ) (class : Class) (inputs row : Row) → StandsAt tree above first next (node class inputs row) → queue_at tree above first ≡ None
 no-queue tree above first next class inputs row s =

@@ -13,12 +13,12 @@ use Rattle.clk_sched.proofs.Orders.{IsOrderOf, priority-order}
 use Rattle.clk_sched.proofs.InOrder.{IsWithin, packet_of, turned-in-order}
 use Rattle.clk_sched.proofs.Ordered.{stands-width}
 
-pub prio-turn : (a b : Nodes) (x : ℕ) (p : Inputs) (r : Option (ℕ × Packet)) → slice_get a.inputs.items x ≡ Some p → IsWithin (range_with_len 0 (length p.each.items)) r
-    → AsksAll a b x (range_with_len 0 (length p.each.items)) (asked_in_order (now_of a) x (range_with_len 0 (length p.each.items)) r) → TakesTurn a b x prio Prio Prio (packet_of r)
-prio-turn a b x p r e within asked row history ready holds =
+pub prio-turn : (a b : Nodes) (x count : ℕ) (p : Inputs) (r : Option (ℕ × Packet)) → slice_get a.inputs.items x ≡ Some p → count ≡ length p.each.items → IsWithin (range_with_len 0 count) r
+    → AsksAll a b x (range_with_len 0 count) (asked_in_order (now_of a) x (range_with_len 0 count) r) → TakesTurn a b x prio Prio Prio (packet_of r)
+prio-turn a b x count p r e all within asked row history ready holds =
+    let inputs : count ≡ width row = all ∙ stands-width a.inputs.items x row p ready.stands e in
     record {
-      turned = (turned-in-order a b history x prio row (range_with_len 0 (length p.each.items)) r ready within asked
-          (subst (λ n. IsOrderOf n (range_with_len 0 (length p.each.items))) (stands-width a.inputs.items x row p ready.stands e) (priority-order (length p.each.items)))
-          (λ h. subst (λ n. AsksInOrder (range_with_len 0 n) (asked_in_order (now_of a) x (range_with_len 0 (length p.each.items)) r)) (stands-width a.inputs.items x row p ready.stands e) h)).turned;
+      turned = (turned-in-order a b history x prio row (range_with_len 0 count) r ready within asked (subst (λ n. IsOrderOf n (range_with_len 0 count)) inputs (priority-order count))
+          (λ h. subst (λ n. AsksInOrder (range_with_len 0 n) (asked_in_order (now_of a) x (range_with_len 0 count) r)) inputs h)).turned;
       holds = tt;
     }

@@ -26,7 +26,7 @@ AreOf x visits = AllByRecursion (λ (v : Visit). v.node ≡ x) visits
 pub absent : (y : ℕ) (visits : List Visit) → IsAbsent y visits → visits_of y visits ≡ []
 absent y visits h = filter-none (λ (v : Visit). v.node == y) visits (all-weaker (λ (v : Visit). v.node ≢ y) (λ (v : Visit). (v.node == y) ≡ false) visits (λ v d. differs v.node y d) h)
 
-present : (x : ℕ) (visits : List Visit) → AreOf x visits → visits_of x visits ≡ visits
+pub present : (x : ℕ) (visits : List Visit) → AreOf x visits → visits_of x visits ≡ visits
 present x visits h = filter-all (λ (v : Visit). v.node == x) visits (all-weaker (λ (v : Visit). v.node ≡ x) (λ (v : Visit). (v.node == x) ≡ true) visits (λ v e. equal v.node x e) h)
 
 pub with_asked-all : (P : Visit → Type 0) (made : ℕ → List Visit) (visits : List Visit) → ((i : ℕ) → AllByRecursion P (made i)) → AllByRecursion P visits → AllByRecursion P (with_asked made visits)

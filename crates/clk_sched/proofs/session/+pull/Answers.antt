@@ -11,7 +11,10 @@ use Rattle.clk_sched.specs.declared.session.inputs.Input.TheVariants.{Queue, Sch
 use Rattle.clk_sched.specs.Places.{input_at, Answers, queue_asked, edges_of, edges_at, edges_in, at_queue}
 use Rattle.clk_sched.specs.Pulling.{CanPull, Keeps, AsksAll, added, now_of, asked_in_order, inputs_in}
 use Rattle.clk_sched.proofs.Edges.{edges-order}
-use Rattle.clk_sched.proofs.InOrder.{turned-in-order}
+use Rattle.clk_sched.specs.Tree.{prio}
+use Rattle.clk_sched.specs.Turn.{TakesTurn}
+use Rattle.clk_sched.specs.declared.session.state.State.TheVariants.{Prio}
+use Rattle.clk_sched.proofs.InOrder.{packet_of, within-range}
 use Rattle.std.specs.List.{AllByRecursion}
 use Rattle.clk_sched.proofs.Orders.{priority-order}
 use Rattle.clk_sched.proofs.Ordered.{can-order, order-there, keeps-order}
@@ -350,16 +353,45 @@ pub drr::Deficits::pull-returns-clause-turn : goal.drr::Deficits::pull-returns-c
 drr::Deficits::pull-returns-clause-turn g t c = ?
 
 pub prio::pull_prio-returns-in-Some-clause-keeps : goal.prio::pull_prio-returns-in-Some-clause-keeps
-prio::pull_prio-returns-in-Some-clause-keeps g t c = ?
+prio::pull_prio-returns-in-Some-clause-keeps g t c =
+    let a = c.args.nodes.now in
+    let x = c.args.node in
+    let p = c.index.result.now in
+    let place : slice_get a.inputs.items x ≡ Some p = entry a.inputs.items x p c.requires.can_pull.there c.index.ensures in
+    let count : c.len-inputs.result ≡ length p.each.items = c.len-inputs.ensures ∙ p.each.ok.0 in
+    let order = range_with_len 0 c.len-inputs.result in
+    let is = priority-order c.len-inputs.result in
+    keeps-order a c.ask_in_turn.new.self x p order c.requires.can_pull place is.apart c.ask_in_turn.ensures.keeps
 
 pub prio::pull_prio-returns-in-Some-clause-turn : goal.prio::pull_prio-returns-in-Some-clause-turn
-prio::pull_prio-returns-in-Some-clause-turn g t c = ?
+prio::pull_prio-returns-in-Some-clause-turn g t c =
+    let a = c.args.nodes.now in
+    let x = c.args.node in
+    let p = c.index.result.now in
+    let place : slice_get a.inputs.items x ≡ Some p = entry a.inputs.items x p c.requires.can_pull.there c.index.ensures in
+    let count : c.len-inputs.result ≡ length p.each.items = c.len-inputs.ensures ∙ p.each.ok.0 in
+    subst (λ o. TakesTurn a c.ask_in_turn.new.self x prio Prio Prio o) (ap packet_of c.in-Some.is ∙ ap Some (sym c.in-Some.packet-is))
+    (prio-turn a c.ask_in_turn.new.self x c.len-inputs.result p c.ask_in_turn.result place count (within-range 0 c.len-inputs.result c.ask_in_turn.result c.ask_in_turn.ensures.place) c.ask_in_turn.ensures.asks)
 
 pub prio::pull_prio-returns-in-None-clause-keeps : goal.prio::pull_prio-returns-in-None-clause-keeps
-prio::pull_prio-returns-in-None-clause-keeps g t c = ?
+prio::pull_prio-returns-in-None-clause-keeps g t c =
+    let a = c.args.nodes.now in
+    let x = c.args.node in
+    let p = c.index.result.now in
+    let place : slice_get a.inputs.items x ≡ Some p = entry a.inputs.items x p c.requires.can_pull.there c.index.ensures in
+    let count : c.len-inputs.result ≡ length p.each.items = c.len-inputs.ensures ∙ p.each.ok.0 in
+    let order = range_with_len 0 c.len-inputs.result in
+    let is = priority-order c.len-inputs.result in
+    keeps-order a c.ask_in_turn.new.self x p order c.requires.can_pull place is.apart c.ask_in_turn.ensures.keeps
 
 pub prio::pull_prio-returns-in-None-clause-turn : goal.prio::pull_prio-returns-in-None-clause-turn
-prio::pull_prio-returns-in-None-clause-turn g t c = ?
+prio::pull_prio-returns-in-None-clause-turn g t c =
+    let a = c.args.nodes.now in
+    let x = c.args.node in
+    let p = c.index.result.now in
+    let place : slice_get a.inputs.items x ≡ Some p = entry a.inputs.items x p c.requires.can_pull.there c.index.ensures in
+    let count : c.len-inputs.result ≡ length p.each.items = c.len-inputs.ensures ∙ p.each.ok.0 in
+    prio-turn a c.ask_in_turn.new.self x c.len-inputs.result p None place count tt (subst (λ r. AsksAll a c.ask_in_turn.new.self x (range_with_len 0 c.len-inputs.result) (asked_in_order (now_of a) x (range_with_len 0 c.len-inputs.result) r)) c.in-None.is c.ask_in_turn.ensures.asks)
 
 pub round_robin::Beginning::pull-ask_in_turn-requires : goal.round_robin::Beginning::pull-ask_in_turn-requires
 round_robin::Beginning::pull-ask_in_turn-requires g t c = ?
