@@ -158,7 +158,7 @@ asks-one a b c m x i got h log states f row history visits own going unasked apa
       outside = λ y l. ap (λ s. slice_get s y) states ∙ r.1 y l;
     }
 
-vain-in : (now : Now) (x : ℕ) (order : List ℕ) → AllByRecursion (λ (v : Visit). In v.input order) (asked_in_vain now x order)
+pub vain-in : (now : Now) (x : ℕ) (order : List ℕ) → AllByRecursion (λ (v : Visit). In v.input order) (asked_in_vain now x order)
 vain-in now x order = all-map (λ (v : Visit). In v.input order) (λ i. asking now.number now.moment x i None) order (to-all (λ i. In i order) order (λ i m. m))
 
 -- a node asked some inputs and got nothing

@@ -27,6 +27,7 @@ pub mod InOrder
 pub mod PutBack
 pub mod Ordered
 pub mod TurnPrio
+pub mod TurnRoundRobin
 pub mod Orders
 pub mod Chosen
 pub mod WithAsked

@@ -91,7 +91,7 @@ pub beyond-lower : (n s low i : ℕ) → IsBeyond n s (low + 1) i → IsBeyond n
 beyond-lower n s low i b = record { places = b.places; above = let a = b.above in omega arith; below = b.below; place = b.place }
 
 -- inputs one after another, around
-around : (n s j count : ℕ) → s < n → j + count ≤ n
+pub around : (n s j count : ℕ) → s < n → j + count ≤ n
     → AllByRecursion (IsBeyond n s j) (map (λ k. (s + k) % n) (range_with_len j count)) × AreApart (λ (i : ℕ). i) (map (λ k. (s + k) % n) (range_with_len j count))
 around n s j zero l m = (tt, tt)
 around n s j (suc count) l m =

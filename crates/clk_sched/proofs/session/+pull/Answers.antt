@@ -1,8 +1,8 @@
-use Rattle.std.proofs.Common.{◌≡◌, ◌+◌, ◌-◌, ◌<◌, ◌≤◌, ◌∷◌, [], ◌++◌, length, Option, Some, None, IsSome, slice_get, slice_index, refl, sym, ap, ap₂, ◌∙◌, subst, arith}
+use Rattle.std.proofs.Common.{◌≡◌, ◌+◌, ◌-◌, ◌%◌, ◌<◌, ◌≤◌, ◌∷◌, [], ◌++◌, length, Option, Some, None, IsSome, IfSome, slice_get, slice_index, refl, sym, ap, ap₂, ◌∙◌, subst, mod-lt, mod-eq_of_lt, arith}
 use Rattle.std.specs.List.{range_with_len}
 use Rattle.std.specs.Vec.{with_item}
 use Rattle.std.proofs.lemmas.Option.{slice_get-get_or}
-use Rattle.std.proofs.lemmas.List.{length-map}
+use Rattle.std.proofs.lemmas.List.{length-map, length-append}
 use Rattle.std.proofs.lemmas.List.FromFn.{length-range_with_len, get_or-range_with_len}
 use Rattle.clk_sched.specs.declared.session.stride.Rank.{Rank}
 use Rattle.clk_sched.specs.Log.{asking}
@@ -19,8 +19,9 @@ use Rattle.std.specs.List.{AllByRecursion}
 use Rattle.clk_sched.proofs.Orders.{priority-order}
 use Rattle.clk_sched.proofs.Ordered.{can-order, order-there, keeps-order}
 use Rattle.clk_sched.proofs.TurnPrio.{prio-turn}
+use Rattle.clk_sched.proofs.TurnRoundRobin.{round_robin-turn, parts, parts-order, can-first, can-second, there-both, asked-both, in_second, in_order-first, index-first, index-second, past, past-length}
 use Rattle.clk_sched.proofs.PutBack.{pulls-put, set-here, set-other, fit-set}
-use Rattle.clk_sched.proofs.Asking.{added-none, keeps-more, answers-then, asks-one, asking-first, asking-can, HasAsked, asking-given, asking-next, asking-all}
+use Rattle.clk_sched.proofs.Asking.{IsAsking, asks-front, apart-split, added-none, keeps-more, answers-then, asks-one, asking-first, asking-can, HasAsked, asking-given, asking-next, asking-all}
 use Rattle.clk_sched.proofs.Asked.{entry, rank_at, entry-input, input-is, child-after, edges-scheduler, queue-visited, asks-queue, asks-child}
 use Rattle.clk_sched.proofs.session.+pull.Goals as goal
 
@@ -394,46 +395,292 @@ prio::pull_prio-returns-in-None-clause-turn g t c =
     prio-turn a c.ask_in_turn.new.self x c.len-inputs.result p None place count tt (subst (λ r. AsksAll a c.ask_in_turn.new.self x (range_with_len 0 c.len-inputs.result) (asked_in_order (now_of a) x (range_with_len 0 c.len-inputs.result) r)) c.in-None.is c.ask_in_turn.ensures.asks)
 
 pub round_robin::Beginning::pull-ask_in_turn-requires : goal.round_robin::Beginning::pull-ask_in_turn-requires
-round_robin::Beginning::pull-ask_in_turn-requires g t c = ?
+round_robin::Beginning::pull-ask_in_turn-requires g t c =
+    let a = c.args.nodes.now in
+    let x = c.args.node in
+    let p = c.index.result.now in
+    let place : slice_get a.inputs.items x ≡ Some p = entry a.inputs.items x p c.requires.can_pull.there c.index.ensures in
+    let count : c.len-inputs.result ≡ length p.each.items = c.len-inputs.ensures ∙ p.each.ok.0 in
+    let first = c.args.self.now.input in
+    let n = c.len-inputs.result in
+    let low : first < n = subst (λ m. first < m) (sym count) (subst (λ o. IfSome o (λ q. first < length q.each.items)) place c.requires.fits) in
+    let can = can-first a x n first p c.requires.can_pull place low in
+    let there = (there-both a.inputs.items x n first p place count low).0 in
+    let few = (c.requires.can_pull.wired x p place).few in
+    let less = c.decreases in
+    λ κs le. (omega (arith, less), (search, (can, (there, omega (arith, count, few, low)))))
 
 pub round_robin::Beginning::pull-overflow_add-self : goal.round_robin::Beginning::pull-overflow_add-self
-round_robin::Beginning::pull-overflow_add-self g t c = ?
+round_robin::Beginning::pull-overflow_add-self g t c =
+    let a = c.args.nodes.now in
+    let x = c.args.node in
+    let p = c.index.result.now in
+    let place : slice_get a.inputs.items x ≡ Some p = entry a.inputs.items x p c.requires.can_pull.there c.index.ensures in
+    let count : c.len-inputs.result ≡ length p.each.items = c.len-inputs.ensures ∙ p.each.ok.0 in
+    let first = c.args.self.now.input in
+    let n = c.len-inputs.result in
+    let low : first < n = subst (λ m. first < m) (sym count) (subst (λ o. IfSome o (λ q. first < length q.each.items)) place c.requires.fits) in
+    let one = range_with_len first (n - first) in
+    let other = range_with_len 0 first in
+    let within : c.in-Some.place < n - first = subst (λ r. IfSome r (λ q. q.0 < n - first)) (c.in-Some.is) c.ask_in_turn.ensures.place in
+    let few = (c.requires.can_pull.wired x p place).few in omega (arith, count, few, low, within)
 
 pub round_robin::Beginning::pull-overflow_add-self-in-Some : goal.round_robin::Beginning::pull-overflow_add-self-in-Some
-round_robin::Beginning::pull-overflow_add-self-in-Some g t c = ?
+round_robin::Beginning::pull-overflow_add-self-in-Some g t c =
+    let a = c.args.nodes.now in
+    let x = c.args.node in
+    let p = c.index.result.now in
+    let place : slice_get a.inputs.items x ≡ Some p = entry a.inputs.items x p c.requires.can_pull.there c.index.ensures in
+    let count : c.len-inputs.result ≡ length p.each.items = c.len-inputs.ensures ∙ p.each.ok.0 in
+    let first = c.args.self.now.input in
+    let n = c.len-inputs.result in
+    let low : first < n = subst (λ m. first < m) (sym count) (subst (λ o. IfSome o (λ q. first < length q.each.items)) place c.requires.fits) in
+    let one = range_with_len first (n - first) in
+    let other = range_with_len 0 first in
+    let within : c.in-Some.place < n - first = subst (λ r. IfSome r (λ q. q.0 < n - first)) (c.in-Some.is) c.ask_in_turn.ensures.place in
+    let few = (c.requires.can_pull.wired x p place).few in omega (arith, count, few, low, within)
 
 pub round_robin::Beginning::pull-returns-in-Some-clause-keeps : goal.round_robin::Beginning::pull-returns-in-Some-clause-keeps
-round_robin::Beginning::pull-returns-in-Some-clause-keeps g t c = ?
+round_robin::Beginning::pull-returns-in-Some-clause-keeps g t c =
+    let a = c.args.nodes.now in
+    let x = c.args.node in
+    let p = c.index.result.now in
+    let place : slice_get a.inputs.items x ≡ Some p = entry a.inputs.items x p c.requires.can_pull.there c.index.ensures in
+    let count : c.len-inputs.result ≡ length p.each.items = c.len-inputs.ensures ∙ p.each.ok.0 in
+    let first = c.args.self.now.input in
+    let n = c.len-inputs.result in
+    let low : first < n = subst (λ m. first < m) (sym count) (subst (λ o. IfSome o (λ q. first < length q.each.items)) place c.requires.fits) in
+    let one = range_with_len first (n - first) in
+    let other = range_with_len 0 first in
+    keeps-order a c.ask_in_turn.new.self x p one c.requires.can_pull place (apart-split one other (parts-order n first low).apart).0 c.ask_in_turn.ensures.keeps
 
 pub round_robin::Beginning::pull-returns-in-Some-clause-fits : goal.round_robin::Beginning::pull-returns-in-Some-clause-fits
-round_robin::Beginning::pull-returns-in-Some-clause-fits g t c = ?
+round_robin::Beginning::pull-returns-in-Some-clause-fits g t c =
+    let a = c.args.nodes.now in
+    let x = c.args.node in
+    let p = c.index.result.now in
+    let place : slice_get a.inputs.items x ≡ Some p = entry a.inputs.items x p c.requires.can_pull.there c.index.ensures in
+    let count : c.len-inputs.result ≡ length p.each.items = c.len-inputs.ensures ∙ p.each.ok.0 in
+    let first = c.args.self.now.input in
+    let n = c.len-inputs.result in
+    let low : first < n = subst (λ m. first < m) (sym count) (subst (λ o. IfSome o (λ q. first < length q.each.items)) place c.requires.fits) in
+    subst (λ o. IfSome o (λ q. (first + c.in-Some.place + 1) % n < length q.each.items)) (sym place) (subst (λ m. (first + c.in-Some.place + 1) % n < m) count (mod-lt (first + c.in-Some.place + 1) (omega (arith, low))))
 
 pub round_robin::Beginning::pull-returns-in-Some-clause-turn : goal.round_robin::Beginning::pull-returns-in-Some-clause-turn
-round_robin::Beginning::pull-returns-in-Some-clause-turn g t c = ?
+round_robin::Beginning::pull-returns-in-Some-clause-turn g t c =
+    let a = c.args.nodes.now in
+    let x = c.args.node in
+    let p = c.index.result.now in
+    let place : slice_get a.inputs.items x ≡ Some p = entry a.inputs.items x p c.requires.can_pull.there c.index.ensures in
+    let count : c.len-inputs.result ≡ length p.each.items = c.len-inputs.ensures ∙ p.each.ok.0 in
+    let first = c.args.self.now.input in
+    let n = c.len-inputs.result in
+    let low : first < n = subst (λ m. first < m) (sym count) (subst (λ o. IfSome o (λ q. first < length q.each.items)) place c.requires.fits) in
+    let one = range_with_len first (n - first) in
+    let other = range_with_len 0 first in
+    let k = c.in-Some.place in
+    let within : k < n - first = subst (λ r. IfSome r (λ q. q.0 < n - first)) (c.in-Some.is) c.ask_in_turn.ensures.place in
+    let inside : k < length one = subst (λ m. k < m) (sym (length-range_with_len first (n - first))) within in
+    let total = length-append one other in
+    let input : slice_index (parts first n) k ≡ first + k = index-first one other k inside ∙ get_or-range_with_len first (n - first) k 0 within in
+    round_robin-turn a c.ask_in_turn.new.self x n first ((first + k + 1) % n) p (Some (k, c.in-Some.packet)) place count low (omega (arith, inside, total))
+    (subst (AsksAll a c.ask_in_turn.new.self x (parts first n)) (in_order-first (now_of a) x one other k c.in-Some.packet inside)
+    (asks-front a c.ask_in_turn.new.self x one other (asked_in_order (now_of a) x one (Some (k, c.in-Some.packet))) (subst (λ r. AsksAll a c.ask_in_turn.new.self x one (asked_in_order (now_of a) x one r)) c.in-Some.is c.ask_in_turn.ensures.asks)))
+    (ap (λ i. (i + 1) % n) (sym input))
 
 pub round_robin::Beginning::pull-ask_in_turn-requires-2 : goal.round_robin::Beginning::pull-ask_in_turn-requires-2
-round_robin::Beginning::pull-ask_in_turn-requires-2 g t c = ?
+round_robin::Beginning::pull-ask_in_turn-requires-2 g t c =
+    let a = c.args.nodes.now in
+    let x = c.args.node in
+    let p = c.index.result.now in
+    let place : slice_get a.inputs.items x ≡ Some p = entry a.inputs.items x p c.requires.can_pull.there c.index.ensures in
+    let count : c.len-inputs.result ≡ length p.each.items = c.len-inputs.ensures ∙ p.each.ok.0 in
+    let first = c.args.self.now.input in
+    let n = c.len-inputs.result in
+    let low : first < n = subst (λ m. first < m) (sym count) (subst (λ o. IfSome o (λ q. first < length q.each.items)) place c.requires.fits) in
+    let one = range_with_len first (n - first) in
+    let other = range_with_len 0 first in
+    let b = c.ask_in_turn.new.self in
+    let h = c.ask_in_turn.ensures.keeps in
+    let can = can-second a b x n first p c.requires.can_pull place low h in
+    let there = subst (λ table. AllByRecursion (λ i. IsSome (input_at table x i)) other) (sym h.inputs) (there-both a.inputs.items x n first p place count low).1 in
+    let few = (c.requires.can_pull.wired x p place).few in
+    let less = c.decreases in
+    let same = ap length h.inputs in
+    λ κs le. (omega (arith, less, same), (search, (can, (there, omega (arith, count, few, low)))))
 
 pub round_robin::Beginning::pull-overflow_add-self-in-Some-ask_in_turn : goal.round_robin::Beginning::pull-overflow_add-self-in-Some-ask_in_turn
-round_robin::Beginning::pull-overflow_add-self-in-Some-ask_in_turn g t c = ?
+round_robin::Beginning::pull-overflow_add-self-in-Some-ask_in_turn g t c =
+    let a = c.args.nodes.now in
+    let x = c.args.node in
+    let p = c.index.result.now in
+    let place : slice_get a.inputs.items x ≡ Some p = entry a.inputs.items x p c.requires.can_pull.there c.index.ensures in
+    let count : c.len-inputs.result ≡ length p.each.items = c.len-inputs.ensures ∙ p.each.ok.0 in
+    let first = c.args.self.now.input in
+    let n = c.len-inputs.result in
+    let low : first < n = subst (λ m. first < m) (sym count) (subst (λ o. IfSome o (λ q. first < length q.each.items)) place c.requires.fits) in
+    let one = range_with_len first (n - first) in
+    let other = range_with_len 0 first in
+    let within : c.in-Some-ask_in_turn.place < first = subst (λ r. IfSome r (λ q. q.0 < first)) (c.in-Some-ask_in_turn.is) c.ask_in_turn-2.ensures.place in
+    let few = (c.requires.can_pull.wired x p place).few in omega (arith, count, few, low, within)
 
 pub round_robin::Beginning::pull-returns-in-Some-ask_in_turn-clause-keeps : goal.round_robin::Beginning::pull-returns-in-Some-ask_in_turn-clause-keeps
-round_robin::Beginning::pull-returns-in-Some-ask_in_turn-clause-keeps g t c = ?
+round_robin::Beginning::pull-returns-in-Some-ask_in_turn-clause-keeps g t c =
+    let a = c.args.nodes.now in
+    let x = c.args.node in
+    let p = c.index.result.now in
+    let place : slice_get a.inputs.items x ≡ Some p = entry a.inputs.items x p c.requires.can_pull.there c.index.ensures in
+    let count : c.len-inputs.result ≡ length p.each.items = c.len-inputs.ensures ∙ p.each.ok.0 in
+    let first = c.args.self.now.input in
+    let n = c.len-inputs.result in
+    let low : first < n = subst (λ m. first < m) (sym count) (subst (λ o. IfSome o (λ q. first < length q.each.items)) place c.requires.fits) in
+    let one = range_with_len first (n - first) in
+    let other = range_with_len 0 first in
+    let b = c.ask_in_turn.new.self in
+    let d = c.ask_in_turn-2.new.self in
+    let vain : IsAsking g.Q.Ask.gives a b c.args.q.now c.ask_in_turn.new.q x one =
+    record {
+      keeps = c.ask_in_turn.ensures.keeps;
+      answers = c.ask_in_turn.ensures.answers;
+      asks = subst (λ r. AsksAll a b x one (asked_in_order (now_of a) x one r)) c.in_default.is c.ask_in_turn.ensures.asks;
+    }
+    in
+    let all = asked-both g.Q.Ask.gives a b d c.args.q.now c.ask_in_turn.new.q c.ask_in_turn-2.new.q x one other c.ask_in_turn-2.result vain
+    (record { keeps = c.ask_in_turn-2.ensures.keeps; answers = c.ask_in_turn-2.ensures.answers; asks = c.ask_in_turn-2.ensures.asks }) in
+    keeps-order a d x p (parts first n) c.requires.can_pull place (parts-order n first low).apart all.keeps
 
 pub round_robin::Beginning::pull-returns-in-Some-ask_in_turn-clause-answers : goal.round_robin::Beginning::pull-returns-in-Some-ask_in_turn-clause-answers
-round_robin::Beginning::pull-returns-in-Some-ask_in_turn-clause-answers g t c = ?
+round_robin::Beginning::pull-returns-in-Some-ask_in_turn-clause-answers g t c =
+    let a = c.args.nodes.now in
+    let x = c.args.node in
+    let p = c.index.result.now in
+    let place : slice_get a.inputs.items x ≡ Some p = entry a.inputs.items x p c.requires.can_pull.there c.index.ensures in
+    let count : c.len-inputs.result ≡ length p.each.items = c.len-inputs.ensures ∙ p.each.ok.0 in
+    let first = c.args.self.now.input in
+    let n = c.len-inputs.result in
+    let low : first < n = subst (λ m. first < m) (sym count) (subst (λ o. IfSome o (λ q. first < length q.each.items)) place c.requires.fits) in
+    let one = range_with_len first (n - first) in
+    let other = range_with_len 0 first in
+    let b = c.ask_in_turn.new.self in
+    let d = c.ask_in_turn-2.new.self in
+    let vain : IsAsking g.Q.Ask.gives a b c.args.q.now c.ask_in_turn.new.q x one =
+    record {
+      keeps = c.ask_in_turn.ensures.keeps;
+      answers = c.ask_in_turn.ensures.answers;
+      asks = subst (λ r. AsksAll a b x one (asked_in_order (now_of a) x one r)) c.in_default.is c.ask_in_turn.ensures.asks;
+    }
+    in
+    let all = asked-both g.Q.Ask.gives a b d c.args.q.now c.ask_in_turn.new.q c.ask_in_turn-2.new.q x one other c.ask_in_turn-2.result vain
+    (record { keeps = c.ask_in_turn-2.ensures.keeps; answers = c.ask_in_turn-2.ensures.answers; asks = c.ask_in_turn-2.ensures.asks }) in
+    all.answers
 
 pub round_robin::Beginning::pull-returns-in-Some-ask_in_turn-clause-turn : goal.round_robin::Beginning::pull-returns-in-Some-ask_in_turn-clause-turn
-round_robin::Beginning::pull-returns-in-Some-ask_in_turn-clause-turn g t c = ?
+round_robin::Beginning::pull-returns-in-Some-ask_in_turn-clause-turn g t c =
+    let a = c.args.nodes.now in
+    let x = c.args.node in
+    let p = c.index.result.now in
+    let place : slice_get a.inputs.items x ≡ Some p = entry a.inputs.items x p c.requires.can_pull.there c.index.ensures in
+    let count : c.len-inputs.result ≡ length p.each.items = c.len-inputs.ensures ∙ p.each.ok.0 in
+    let first = c.args.self.now.input in
+    let n = c.len-inputs.result in
+    let low : first < n = subst (λ m. first < m) (sym count) (subst (λ o. IfSome o (λ q. first < length q.each.items)) place c.requires.fits) in
+    let one = range_with_len first (n - first) in
+    let other = range_with_len 0 first in
+    let b = c.ask_in_turn.new.self in
+    let d = c.ask_in_turn-2.new.self in
+    let vain : IsAsking g.Q.Ask.gives a b c.args.q.now c.ask_in_turn.new.q x one =
+    record {
+      keeps = c.ask_in_turn.ensures.keeps;
+      answers = c.ask_in_turn.ensures.answers;
+      asks = subst (λ r. AsksAll a b x one (asked_in_order (now_of a) x one r)) c.in_default.is c.ask_in_turn.ensures.asks;
+    }
+    in
+    let all = asked-both g.Q.Ask.gives a b d c.args.q.now c.ask_in_turn.new.q c.ask_in_turn-2.new.q x one other c.ask_in_turn-2.result vain
+    (record { keeps = c.ask_in_turn-2.ensures.keeps; answers = c.ask_in_turn-2.ensures.answers; asks = c.ask_in_turn-2.ensures.asks }) in
+    let k = c.in-Some-ask_in_turn.place in
+    let within : k < first = subst (λ r. IfSome r (λ q. q.0 < first)) (c.in-Some-ask_in_turn.is) c.ask_in_turn-2.ensures.place in
+    let total = length-append one other in
+    let second = length-range_with_len 0 first in
+    let at = past-length one k in
+    let input : slice_index (parts first n) (past one k) ≡ k = index-second one other k ∙ get_or-range_with_len 0 first k 0 within ∙ omega arith in
+    let next : k + 1 ≡ (k + 1) % n = sym (mod-eq_of_lt (omega (arith, within, low))) in
+    round_robin-turn a d x n first (k + 1) p (Some (past one k, c.in-Some-ask_in_turn.packet)) place count low (omega (arith, total, second, at, within))
+    (subst (λ r. AsksAll a d x (parts first n) (asked_in_order (now_of a) x (parts first n) (in_second one r))) c.in-Some-ask_in_turn.is all.asks) (next ∙ ap (λ i. (i + 1) % n) (sym input))
 
 pub round_robin::Beginning::pull-returns-in-None-clause-keeps : goal.round_robin::Beginning::pull-returns-in-None-clause-keeps
-round_robin::Beginning::pull-returns-in-None-clause-keeps g t c = ?
+round_robin::Beginning::pull-returns-in-None-clause-keeps g t c =
+    let a = c.args.nodes.now in
+    let x = c.args.node in
+    let p = c.index.result.now in
+    let place : slice_get a.inputs.items x ≡ Some p = entry a.inputs.items x p c.requires.can_pull.there c.index.ensures in
+    let count : c.len-inputs.result ≡ length p.each.items = c.len-inputs.ensures ∙ p.each.ok.0 in
+    let first = c.args.self.now.input in
+    let n = c.len-inputs.result in
+    let low : first < n = subst (λ m. first < m) (sym count) (subst (λ o. IfSome o (λ q. first < length q.each.items)) place c.requires.fits) in
+    let one = range_with_len first (n - first) in
+    let other = range_with_len 0 first in
+    let b = c.ask_in_turn.new.self in
+    let d = c.ask_in_turn-2.new.self in
+    let vain : IsAsking g.Q.Ask.gives a b c.args.q.now c.ask_in_turn.new.q x one =
+    record {
+      keeps = c.ask_in_turn.ensures.keeps;
+      answers = c.ask_in_turn.ensures.answers;
+      asks = subst (λ r. AsksAll a b x one (asked_in_order (now_of a) x one r)) c.in_default.is c.ask_in_turn.ensures.asks;
+    }
+    in
+    let all = asked-both g.Q.Ask.gives a b d c.args.q.now c.ask_in_turn.new.q c.ask_in_turn-2.new.q x one other c.ask_in_turn-2.result vain
+    (record { keeps = c.ask_in_turn-2.ensures.keeps; answers = c.ask_in_turn-2.ensures.answers; asks = c.ask_in_turn-2.ensures.asks }) in
+    keeps-order a d x p (parts first n) c.requires.can_pull place (parts-order n first low).apart all.keeps
 
 pub round_robin::Beginning::pull-returns-in-None-clause-answers : goal.round_robin::Beginning::pull-returns-in-None-clause-answers
-round_robin::Beginning::pull-returns-in-None-clause-answers g t c = ?
+round_robin::Beginning::pull-returns-in-None-clause-answers g t c =
+    let a = c.args.nodes.now in
+    let x = c.args.node in
+    let p = c.index.result.now in
+    let place : slice_get a.inputs.items x ≡ Some p = entry a.inputs.items x p c.requires.can_pull.there c.index.ensures in
+    let count : c.len-inputs.result ≡ length p.each.items = c.len-inputs.ensures ∙ p.each.ok.0 in
+    let first = c.args.self.now.input in
+    let n = c.len-inputs.result in
+    let low : first < n = subst (λ m. first < m) (sym count) (subst (λ o. IfSome o (λ q. first < length q.each.items)) place c.requires.fits) in
+    let one = range_with_len first (n - first) in
+    let other = range_with_len 0 first in
+    let b = c.ask_in_turn.new.self in
+    let d = c.ask_in_turn-2.new.self in
+    let vain : IsAsking g.Q.Ask.gives a b c.args.q.now c.ask_in_turn.new.q x one =
+    record {
+      keeps = c.ask_in_turn.ensures.keeps;
+      answers = c.ask_in_turn.ensures.answers;
+      asks = subst (λ r. AsksAll a b x one (asked_in_order (now_of a) x one r)) c.in_default.is c.ask_in_turn.ensures.asks;
+    }
+    in
+    let all = asked-both g.Q.Ask.gives a b d c.args.q.now c.ask_in_turn.new.q c.ask_in_turn-2.new.q x one other c.ask_in_turn-2.result vain
+    (record { keeps = c.ask_in_turn-2.ensures.keeps; answers = c.ask_in_turn-2.ensures.answers; asks = c.ask_in_turn-2.ensures.asks }) in
+    all.answers
 
 pub round_robin::Beginning::pull-returns-in-None-clause-turn : goal.round_robin::Beginning::pull-returns-in-None-clause-turn
-round_robin::Beginning::pull-returns-in-None-clause-turn g t c = ?
+round_robin::Beginning::pull-returns-in-None-clause-turn g t c =
+    let a = c.args.nodes.now in
+    let x = c.args.node in
+    let p = c.index.result.now in
+    let place : slice_get a.inputs.items x ≡ Some p = entry a.inputs.items x p c.requires.can_pull.there c.index.ensures in
+    let count : c.len-inputs.result ≡ length p.each.items = c.len-inputs.ensures ∙ p.each.ok.0 in
+    let first = c.args.self.now.input in
+    let n = c.len-inputs.result in
+    let low : first < n = subst (λ m. first < m) (sym count) (subst (λ o. IfSome o (λ q. first < length q.each.items)) place c.requires.fits) in
+    let one = range_with_len first (n - first) in
+    let other = range_with_len 0 first in
+    let b = c.ask_in_turn.new.self in
+    let d = c.ask_in_turn-2.new.self in
+    let vain : IsAsking g.Q.Ask.gives a b c.args.q.now c.ask_in_turn.new.q x one =
+    record {
+      keeps = c.ask_in_turn.ensures.keeps;
+      answers = c.ask_in_turn.ensures.answers;
+      asks = subst (λ r. AsksAll a b x one (asked_in_order (now_of a) x one r)) c.in_default.is c.ask_in_turn.ensures.asks;
+    }
+    in
+    let all = asked-both g.Q.Ask.gives a b d c.args.q.now c.ask_in_turn.new.q c.ask_in_turn-2.new.q x one other c.ask_in_turn-2.result vain
+    (record { keeps = c.ask_in_turn-2.ensures.keeps; answers = c.ask_in_turn-2.ensures.answers; asks = c.ask_in_turn-2.ensures.asks }) in
+    round_robin-turn a d x n first first p None place count low tt (subst (λ r. AsksAll a d x (parts first n) (asked_in_order (now_of a) x (parts first n) (in_second one r))) c.in-None.is all.asks) refl
 
 pub shaper::Bucket::pull-returns-then-not-has_token-clause-turn : goal.shaper::Bucket::pull-returns-then-not-has_token-clause-turn
 shaper::Bucket::pull-returns-then-not-has_token-clause-turn g t c = ?
