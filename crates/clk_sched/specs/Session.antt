@@ -1,9 +1,11 @@
 -- What a session is: the nodes of a tree, laid out by number, and a run of it.
-use Rattle.std.specs.Prelude.{◌≡◌, ℕ, ◌+◌, ◌<◌, ◌≤◌, List, [], ◌∷◌, length, map, reverse, suc, max}
+use Rattle.std.specs.Prelude.{◌≡◌, ℕ, ◌+◌, ◌<◌, true, List, [], ◌∷◌, ◌++◌, length, drop, map, reverse, suc, max, is_some, Option, ⊤}
+use Rattle.std.specs.List.{flat_map, filter_map, range_with_len}
+use Rattle.clk_packet.specs.declared.packet.Packet.{Packet}
 use Rattle.clk_sched.specs.declared.visit.Visit.{Visit}
 use Rattle.clk_sched.specs.declared.session.nodes.Nodes.{Nodes}
 use Rattle.clk_sched.specs.Tree.{Class, prio, Row, end, leaf, node, Tree, root, nodes}
-use Rattle.clk_sched.specs.Log.{visits_of, pulls, moment_of}
+use Rattle.clk_sched.specs.Log.{visits_of, pulls, moment_of, result_of}
 use Rattle.clk_sched.specs.Run.{IsRun}
 use Rattle.clk_sched.specs.Places.{StandsIn, AreWired, AllFit}
 use Rattle.clk_sched.specs.Pulling.{History, NodeHolds, with_turn}
@@ -45,3 +47,57 @@ pub record IsAfterRun (tree : Tree) (n : Nodes) : Type 0 where
   pub holds : NodeHolds n.states.items (history_of (reverse (pulls n.log.items))) 0 prio (root tree)
   pub pull : n.pull ≡ length (pulls n.log.items)
   pub moment : n.moment ≡ latest_moment (reverse (pulls n.log.items))
+
+-- what a session is seen as: its tree, and the log of its pulls
+pub record Progress : Type 0 where
+  pub tree : Tree
+  pub log : List Visit
+
+-- the counted moment of a session
+abbrev pub counted_moment : Progress → ℕ
+counted_moment s = latest_moment (reverse (pulls s.log))
+
+-- the visits that were logged between two moments of a session
+abbrev pub newly : Progress → Progress → List Visit
+newly old new = drop (length old.log) new.log
+
+-- A session was pulled once, at a moment that was handed in, with this result: the log is a run with one pull more.
+pub record IsPulledOnce (old new : Progress) (moment : ℕ) (got : Option Packet) : Type 0 where
+  pub tree : new.tree ≡ old.tree
+  pub log : new.log ≡ old.log ++ newly old new
+  pub last : pulls new.log ≡ pulls old.log ++ newly old new ∷ []
+  pub run : IsRun new.tree new.log
+  pub at_moment : moment_of (newly old new) ≡ max (counted_moment old) moment
+  pub result : got ≡ result_of (visits_of 0 (newly old new))
+
+-- the packets that came out in some pulls
+abbrev pub given_in : List (List Visit) → List Packet
+given_in more = filter_map (λ pull. result_of (visits_of 0 pull)) more
+
+-- A session was pulled so many times, one tick apart, the first one tick after a moment, and so many packets came out.
+pub record IsDrained (old new : Progress) (moment made given : ℕ) : Type 0 where
+  pub more : List (List Visit)
+  pub tree : new.tree ≡ old.tree
+  pub log : new.log ≡ old.log ++ flat_map (λ pull. pull) more
+  pub pulls_are : pulls new.log ≡ pulls old.log ++ more
+  pub run : IsRun new.tree new.log
+  pub made_are : length more ≡ made
+  pub moments : map moment_of more ≡ range_with_len (moment + 1) made
+  pub given_are : length (given_in more) ≡ given
+
+-- the last of some pulls gave a packet, if there was one
+abbrev pub LastGives : List (List Visit) → Type 0
+LastGives [] = ⊤
+LastGives (pull ∷ []) = is_some (result_of (visits_of 0 pull)) ≡ true
+LastGives (pull ∷ next ∷ more) = LastGives (next ∷ more)
+
+-- A drain gave all that was left, and stopped as soon as it had.
+pub record GivesAll (old new : Progress) (moment made left : ℕ) : Type 0 where
+  pub drained : IsDrained old new moment made left
+  pub stops : LastGives drained.more
+
+-- A drain stopped before all that was left came out.
+pub record StopsShort (old new : Progress) (moment made left : ℕ) : Type 0 where
+  pub given : ℕ
+  pub fewer : given < left
+  pub drained : IsDrained old new moment made given
