@@ -43,3 +43,6 @@ pub mod Rising
 pub mod RankLemmas
 pub mod StridePasses
 pub mod Shares
+pub mod Held
+pub mod TreeBound
+pub mod SessionPull

@@ -20,6 +20,7 @@ pub mod Run
 pub mod Step
 pub mod Examples
 pub mod Results
+pub mod Held
 pub mod Bound
 pub mod Service
 pub mod Choice

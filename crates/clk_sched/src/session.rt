@@ -4,6 +4,7 @@ mod drr;
 mod inputs;
 mod nodes;
 mod prio;
+mod results;
 mod round_robin;
 mod shaper;
 mod state;
@@ -29,7 +30,12 @@ impl Model for Session {
     ghost use Rattle.std.specs.Prelude.{◌<◌, ◌^◌};
     ghost use Rattle.clk_sched.specs.Session.{Progress, IsAfterRun};
 
+    ghost use Rattle.std.specs.Coded.{codes};
+    ghost use Rattle.clk_sched.specs.Stored.{tree_code};
+
     ghost Value = { Progress };
+
+    ghost coded = { Prim.hlevel (codes, tree_code) };
 
     ghost view = { λ s. record { tree = s.tree; log = s.nodes.log.items } };
 

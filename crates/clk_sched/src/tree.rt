@@ -1,5 +1,6 @@
 //! Trees of schedulers over queues.
 
+mod bound;
 mod distinct;
 
 ghost use Rattle.std.specs.Prelude.{◌≡◌, ◌≤◌, length};
@@ -47,7 +48,7 @@ enum Class {
 }
 
 impl Model for Tree {
-    ghost use Rattle.std.specs.Prelude.{◌≡◌};
+    ghost use Rattle.std.specs.Prelude.{◌≡◌, ◌≤◌};
     ghost use Rattle.clk_sched.specs.Tree as tree;
     ghost use Rattle.clk_sched.specs.Stored.{tree_code};
 
@@ -57,11 +58,12 @@ impl Model for Tree {
 
     ghost use Rattle.clk_sched.specs.Tree.{root, IsWellFormed};
     ghost use Rattle.clk_sched.specs.Built.{levels};
+    ghost use Rattle.clk_sched.specs.Limits.{most_levels};
     ghost use Rattle.clk_sched.specs.Kept.{kept};
 
     ghost view = { λ a. kept a.node };
 
-    ghost invariant = { λ a. (a.height ≡ levels (kept a.node)) × IsWellFormed (root (kept a.node)) };
+    ghost invariant = { λ a. (a.height ≡ levels (kept a.node)) × IsWellFormed (root (kept a.node)) × (a.height ≤ most_levels) };
 
     ghost size = { levels };
 

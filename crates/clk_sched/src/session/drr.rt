@@ -83,13 +83,14 @@ impl Served {
 }
 
 impl Deficits {
-    ghost use Rattle.std.specs.Prelude.{◌%◌, ℕ, List, [], ◌∷◌, IfSome};
+    ghost use Rattle.std.specs.Prelude.{◌%◌, ◌++◌, ℕ, List, [], ◌∷◌, IfSome};
     ghost use Rattle.std.specs.List.{AllByRecursion};
     ghost use Rattle.clk_packet.specs.Limits.{most_length};
     ghost use Rattle.clk_sched.specs.declared.visit.Visit.{Visit};
     ghost use Rattle.clk_sched.specs.Heads.{head_at, is_covered};
     ghost use Rattle.clk_sched.specs.Laws.Deficit.{next_input, deficit_covers};
     ghost use Rattle.clk_sched.specs.Holds.Deficit.{HoldsDeficits};
+    ghost use Rattle.clk_sched.specs.Held.{heads_in};
 
     /// What a DRRSched with these quanta, one for each input, holds before its first visit.
     pub fn new(alloc: Global, quanta: &[u32]) -> Result<Deficits, AllocError>
@@ -116,6 +117,18 @@ impl Deficits {
         ensures { (quanta : List ℕ) (inputs : ℕ) (before : List Visit) → HoldsDeficits quanta inputs before self.now → result ≡ head_at (next_input inputs before) before }
     {
         self.at_cursor().head
+    }
+
+    /// Adds the heads held, by input, to other packets.
+    pub fn add_heads(&self, heads: &mut Vec<Packet>) -> Result<(), AllocError>
+        ensures { IfOk result (λ _. heads.new.items ≡ heads.old.items ++ heads_in self.now.row.items) }
+    {
+        for served in self.row.as_slice() {
+            if let Some(head) = served.head {
+                heads.push(head)?;
+            }
+        }
+        Ok(())
     }
 
     /// Takes what was got at that input, as its head or by asking, and answers whether it is passed. If not, the turn moves on.

@@ -20,4 +20,5 @@ invariant_of-result c =
     let below : c.highest-below.result ≡ height (row c.args.children.items) = search in (
       omega (arith, below),
       (subst (λ n. 1 ≤ n) inputs c.requires.inputs, subst (λ n. HasArguments (class_of c.args.class) n) inputs c.requires.arguments, subst (λ trees. IsWellFormed (row trees)) c.deref.ensures.value c.highest-below.ensures.well_formed, tt),
+      omega arith,
     )

@@ -1,0 +1,152 @@
+-- One pull of a session: what its nodes did is the next pull of its run.
+use Rattle.std.proofs.Common.{◌≡◌, ℕ, suc, ◌+◌, ◌<◌, ◌≤◌, max, List, [], ◌∷◌, ◌++◌, length, map, reverse, drop, Option, refl, sym, ap, ◌∙◌, subst, append-nil, append_assoc, arith}
+use Rattle.std.specs.List.{AllByRecursion}
+use Rattle.std.proofs.lemmas.List.{reverse-append, length-append}
+use Rattle.clk_packet.specs.declared.packet.Packet.{Packet}
+use Rattle.clk_sched.specs.declared.visit.Visit.{Visit}
+use Rattle.clk_sched.specs.declared.session.nodes.Nodes.{Nodes}
+use Rattle.clk_sched.specs.Tree.{Tree, root, prio, nodes}
+use Rattle.clk_sched.specs.Turns.{Turn}
+use Rattle.clk_sched.specs.Log.{visits_of, pulls, moment_of, result_of, NeverFalls}
+use Rattle.clk_sched.specs.Run.{IsRun}
+use Rattle.clk_sched.specs.Step.{IsOnePullMore}
+use Rattle.clk_sched.specs.Holds.Shaper.{AreBefore}
+use Rattle.clk_sched.specs.Places.{StandsIn, AreWired, AllFit}
+use Rattle.clk_sched.specs.Pulling.{History, NodeHolds, EachHolds, IsBlock, Keeps, Pulls, HasPulled, added, now_of, after, with_turn, as_turn}
+use Rattle.clk_sched.specs.Session.{Progress, IsAfterRun, IsPulledOnce, history_of, latest_moment, counted_moment, newly}
+use Rattle.clk_sched.proofs.Members.{all-weaker}
+use Rattle.clk_sched.proofs.Apart.{all-reverse}
+use Rattle.clk_sched.proofs.GoesOn.{goes-on}
+use Rattle.clk_sched.proofs.Asking.{added-is}
+use Rattle.clk_sched.proofs.DeviceBlock.{IsNextOf, next-pull}
+
+-- moments that never fall, and those before the latest
+abbrev latest : ℕ → List ℕ → ℕ
+latest least [] = least
+latest least (n ∷ ns) = latest n ns
+
+never-more : (least : ℕ) (ns : List ℕ) (n : ℕ) → NeverFalls least ns → latest least ns ≤ n → NeverFalls least (ns ++ n ∷ [])
+never-more least [] n h l = (l, tt)
+never-more least (k ∷ ns) n h l = (h.0, never-more k ns n h.1 l)
+
+least-latest : (least : ℕ) (ns : List ℕ) → NeverFalls least ns → least ≤ latest least ns
+least-latest least [] h = omega arith
+least-latest least (n ∷ ns) h = let k = least-latest n ns h.1 in let l = h.0 in omega arith
+
+never-all : (least : ℕ) (ns : List ℕ) → NeverFalls least ns → AllByRecursion (λ n. n ≤ latest least ns) ns
+never-all least [] h = tt
+never-all least (n ∷ ns) h = (least-latest n ns h.1, never-all n ns h.1)
+
+-- the latest of pulls, from either end
+latest-onto : (ps earlier : List (List Visit)) → latest (latest_moment earlier) (map moment_of ps) ≡ latest_moment (reverse ps ++ earlier)
+latest-onto [] earlier = refl
+latest-onto (p ∷ ps) earlier = latest-onto ps (p ∷ earlier) ∙ ap latest_moment (sym (append_assoc (reverse ps) (p ∷ []) earlier) ∙ ap (λ l. l ++ earlier) (sym (reverse-append (p ∷ []) ps)))
+
+latest-pulls : (ps : List (List Visit)) → latest 0 (map moment_of ps) ≡ latest_moment (reverse ps)
+latest-pulls ps = latest-onto ps [] ∙ ap latest_moment (append-nil (reverse ps))
+
+-- no turn of a history is after the moments of its pulls
+with_turn-before : (moment at : ℕ) (visits : List Visit) (turns : List Turn) → at ≤ moment → AreBefore moment turns → AreBefore moment (with_turn at visits turns)
+with_turn-before moment at [] turns l h = h
+with_turn-before moment at (v ∷ visits) turns l h = (l, h)
+
+history-before : (moment : ℕ) (ps : List (List Visit)) (x : ℕ) → AllByRecursion (λ p. moment_of p ≤ moment) ps → AreBefore moment (history_of ps x)
+history-before moment [] x h = tt
+history-before moment (p ∷ ps) x h = with_turn-before moment (moment_of p) (visits_of x p) (history_of ps x) h.0 (history-before moment ps x h.1)
+
+all-of-map : (ps : List (List Visit)) (moment : ℕ) → AllByRecursion (λ n. n ≤ moment) (map moment_of ps) → AllByRecursion (λ p. moment_of p ≤ moment) ps
+all-of-map [] moment h = tt
+all-of-map (p ∷ ps) moment h = (h.0, all-of-map ps moment h.1)
+
+-- the session's view of its nodes
+abbrev progress : Tree → Nodes → Progress
+progress tree n = record { tree = tree; log = n.log.items }
+
+-- nodes that are ready for a pull at a moment, after a run
+pub record IsReadied (a b : Nodes) (moment : ℕ) : Type 0 where
+  pub inputs : b.inputs.items ≡ a.inputs.items
+  pub states : b.states.items ≡ a.states.items
+  pub log : b.log.items ≡ a.log.items
+  pub pull : b.pull ≡ a.pull
+  pub at_moment : b.moment ≡ max a.moment moment
+
+-- nodes that are counted one pull further
+pub record IsCounted (a b : Nodes) : Type 0 where
+  pub inputs : b.inputs.items ≡ a.inputs.items
+  pub states : b.states.items ≡ a.states.items
+  pub log : b.log.items ≡ a.log.items
+  pub pull : b.pull ≡ a.pull + 1
+  pub at_moment : b.moment ≡ a.moment
+
+-- A session was pulled.
+pub record HasGoneOn (tree : Tree) (a b : Nodes) (moment : ℕ) (got : Option Packet) : Type 0 where
+  pub still : IsAfterRun tree b
+  pub once : IsPulledOnce (progress tree a) (progress tree b) moment got
+
+pub session-pulled : (tree : Tree) (a ready pulled b : Nodes) (moment most : ℕ) (got : Option Packet) → IsAfterRun tree a → IsReadied a ready moment → Keeps ready pulled most → Pulls ready pulled 0 got
+    → IsCounted pulled b → HasGoneOn tree a b moment got
+session-pulled tree a ready pulled b moment most got run readied keeps pull counted =
+    record {
+      still = record {
+        stands = subst (λ t. StandsIn t 0 (root tree)) (sym inputs) run.stands;
+        wired = subst AreWired (sym inputs) run.wired;
+        fit = subst (λ t. AllFit t b.states.items) (sym (counted.inputs ∙ keeps.inputs)) (subst (AllFit ready.inputs.items) (sym counted.states) keeps.fit);
+        size = ap length inputs ∙ run.size;
+        run = subst (IsRun tree) (sym logged) more.run;
+        holds = subst (λ s. NodeHolds s (history_of (reverse (pulls b.log.items))) 0 prio (root tree)) (sym counted.states) (subst (λ h. NodeHolds pulled.states.items h 0 prio (root tree)) history done.holds);
+        pull = counted.pull ∙ ap (λ n. n + 1) (keeps.pull ∙ readied.pull ∙ run.pull) ∙ sym (ap length last ∙ length-append (pulls a.log.items) (visits ∷ []));
+        moment = counted.at_moment ∙ keeps.moment ∙ sym next.at_moment ∙ ap latest_moment (sym turned);
+      };
+      once = record {
+        tree = refl;
+        log = logged ∙ ap (λ l. a.log.items ++ l) (sym new);
+        last = last ∙ ap (λ l. pulls a.log.items ++ l ∷ []) (sym new);
+        run = subst (IsRun tree) (sym logged) more.run;
+        at_moment = ap moment_of new ∙ next.at_moment ∙ readied.at_moment ∙ ap (λ m. max m moment) run.moment;
+        result = next.result ∙ ap (λ l. result_of (visits_of 0 l)) (sym new);
+      };
+    }
+  where
+    visits : List Visit
+    visits = added ready pulled
+
+    inputs : b.inputs.items ≡ a.inputs.items
+    inputs = counted.inputs ∙ keeps.inputs ∙ readied.inputs
+
+    before : List (List Visit)
+    before = pulls a.log.items
+
+    past : latest 0 (map moment_of before) ≤ ready.moment
+    past = let e = readied.at_moment in let f = run.moment in let g = latest-pulls before in omega (arith, e, f, g)
+
+    falls : NeverFalls 0 (map moment_of before)
+    falls = run.run.shape.moments
+
+    early : AllByRecursion (λ p. moment_of p ≤ ready.moment) (reverse before)
+    early = all-reverse (λ p. moment_of p ≤ ready.moment) before (all-of-map before ready.moment (all-weaker (λ n. n ≤ latest 0 (map moment_of before)) (λ n. n ≤ ready.moment) (map moment_of before) (λ n l. omega (arith, past)) (never-all 0 (map moment_of before) falls)))
+
+    done : HasPulled ready pulled (history_of (reverse before)) 0 prio (root tree) got
+    done =
+        pull prio (root tree) (history_of (reverse before)) (subst (λ t. StandsIn t 0 (root tree)) (sym readied.inputs) run.stands)
+        (subst (λ s. NodeHolds s (history_of (reverse before)) 0 prio (root tree)) (sym readied.states) run.holds) (λ y. history-before ready.moment (reverse before) y early)
+
+    next : IsNextOf tree a.log.items (now_of ready) visits got
+    next = next-pull tree a.log.items visits (now_of ready) got run.run (readied.pull ∙ run.pull) (never-more 0 (map moment_of before) ready.moment falls past) done.block
+
+    more : IsOnePullMore tree a.log.items visits
+    more = (goes-on tree).step a.log.items visits run.run next.next
+
+    logged : b.log.items ≡ a.log.items ++ visits
+    logged = counted.log ∙ keeps.grown ∙ ap (λ l. l ++ visits) readied.log
+
+    new : newly (progress tree a) (progress tree b) ≡ visits
+    new = added-is a b visits logged
+
+    last : pulls b.log.items ≡ before ++ visits ∷ []
+    last = ap pulls logged ∙ more.last
+
+    turned : reverse (pulls b.log.items) ≡ visits ∷ reverse before
+    turned = ap reverse last ∙ reverse-append before (visits ∷ [])
+
+    history : after (history_of (reverse before)) ready.moment visits ≡ history_of (reverse (pulls b.log.items))
+    history = ap (λ m. after (history_of (reverse before)) m visits) (sym next.at_moment) ∙ ap history_of (sym turned)

@@ -1,0 +1,28 @@
+-- What came out by a visit, and what the states of nodes hold as heads.
+use Rattle.std.specs.Prelude.{◌==◌, List, [], Option, None, if◌then◌else◌}
+use Rattle.std.specs.List.{filter_map, flat_map}
+use Rattle.clk_packet.specs.declared.packet.Packet.{Packet}
+use Rattle.clk_sched.specs.declared.visit.Visit.{Visit}
+use Rattle.clk_sched.specs.declared.session.drr.Served.{Served}
+use Rattle.clk_sched.specs.declared.session.state.State.{State}
+use Rattle.clk_sched.specs.declared.session.state.State.TheVariants.{Prio, RoundRobin, Drr, Stride, Shaper}
+
+-- the packet that came out at the device by a visit, if one did
+abbrev pub emitted_by : Visit → Option Packet
+emitted_by v = if v.node == 0 then (if v.passed then v.got else None) else None
+
+-- the heads of inputs, in order
+abbrev pub heads_in : List Served → List Packet
+heads_in row = filter_map (λ (s : Served). s.head) row
+
+-- the heads that a state holds, which that of a DRRSched alone has
+abbrev pub heads_of : State → List Packet
+heads_of Prio = []
+heads_of (RoundRobin b) = []
+heads_of (Drr d) = heads_in d.row.items
+heads_of (Stride p) = []
+heads_of (Shaper b) = []
+
+-- the heads that nodes hold, by node
+abbrev pub heads_of_all : List State → List Packet
+heads_of_all states = flat_map heads_of states

@@ -1,0 +1,104 @@
+//! How many pulls the closing of a tree is given.
+
+ghost use Rattle.std.specs.Prelude.{◌≡◌, ◌+◌, ◌*◌, ◌≤◌, ℕ, drop};
+ghost use Rattle.clk_sched.specs.Tree.{root};
+ghost use Rattle.clk_sched.specs.Built.{row};
+ghost use Rattle.clk_sched.specs.Bound.{lesser, least, least_quantum};
+
+use super::{Class, Node, Tree};
+
+/// The greatest length of a packet, in bytes.
+const MAX_LENGTH: u64 = 65_535;
+
+impl Tree {
+    ghost use Rattle.clk_sched.specs.Limits.{most_levels};
+    ghost use Rattle.clk_sched.specs.Bound.{rounds, closing_bound};
+    ghost use Rattle.clk_packet.specs.Limits.{most_length};
+
+    /// How many pulls the closing gives for each packet that is left.
+    pub fn pulls_per_packet(&self) -> u64
+        ensures value { (left : ℕ) → closing_bound self.now left ≡ left * result }
+        ensures limit { result ≤ (most_levels + 1) * (most_length + 1) }
+    {
+        let levels = u64::from(self.height);
+        (levels + 1) * self.rounds()
+    }
+
+    // How many rounds give an input of a DRRSched as much as the longest packet takes, and one more.
+    fn rounds(&self) -> u64
+        ensures value { result ≡ rounds (least_quantum (root self.now)) }
+        ensures limit { result ≤ most_length + 1 }
+    {
+        // The arguments are within their limits.
+        let _ = &self.node;
+        match self.least_quantum() {
+            None => 1,
+            Some(quantum) => {
+                let quantum = u64::from(quantum);
+                1 + (MAX_LENGTH + (quantum - 1)) / quantum
+            }
+        }
+    }
+
+    // The least quantum of any input of a DRRSched in this tree.
+    #[cycle(least_quantum)]
+    fn least_quantum(&self) -> Option<u32>
+        ensures { result ≡ least_quantum (root self.now) }
+    {
+        match &self.node {
+            Node::Leaf(_) => None,
+            Node::Scheduler(class, inputs) => {
+                let own = class.least_quantum();
+                lesser(own, least_quantum(inputs))
+            }
+        }
+    }
+}
+
+/// The same of these trees.
+#[cycle(least_quantum)]
+fn least_quantum(trees: &[Tree]) -> Option<u32>
+    ensures { result ≡ least_quantum (row trees.now) }
+{
+    let [first, rest @ ..] = trees else {
+        return None;
+    };
+    let least = first.least_quantum();
+    lesser(least, least_quantum(rest))
+}
+
+impl Class {
+    ghost use Rattle.clk_sched.specs.Bound.{quanta_of};
+    ghost use Rattle.clk_sched.specs.Kept.{class_of};
+
+    // The least quantum, which a DRRSched alone has.
+    fn least_quantum(&self) -> Option<u32>
+        ensures { result ≡ least (quanta_of (class_of self.now)) }
+    {
+        match self {
+            Class::Drr(quanta) => least(quanta),
+            _ => None,
+        }
+    }
+}
+
+fn least(numbers: &[u32]) -> Option<u32>
+    ensures { result ≡ least numbers.now }
+{
+    let mut least = None;
+    for number in numbers {
+        least = lesser(least, Some(*number));
+    }
+    least
+}
+
+// The lesser of two numbers, of those that are there.
+fn lesser(one: Option<u32>, other: Option<u32>) -> Option<u32>
+    ensures { result ≡ lesser one other }
+{
+    match (one, other) {
+        (None, _) => other,
+        (_, None) => one,
+        (Some(one), Some(other)) => Some(one.min(other)),
+    }
+}
