@@ -27,6 +27,9 @@ pub mod InOrder
 pub mod PutBack
 pub mod Ordered
 pub mod TurnPrio
+pub mod TurnStride
+pub mod TurnShaper
+pub mod TurnOfClass
 pub mod Orders
 pub mod Chosen
 pub mod WithAsked

@@ -1,4 +1,4 @@
-use Rattle.std.proofs.Common.{◌≡◌, ◌+◌, ◌-◌, ◌<◌, ◌≤◌, ◌∷◌, [], ◌++◌, length, Option, Some, None, IsSome, slice_get, slice_index, refl, sym, ap, ap₂, ◌∙◌, subst, arith}
+use Rattle.std.proofs.Common.{◌≡◌, ◌+◌, ◌-◌, ◌<◌, ◌≤◌, ◌∷◌, [], true, ◌++◌, length, Option, Some, None, IsSome, slice_get, slice_index, refl, sym, ap, ap₂, ◌∙◌, subst, arith}
 use Rattle.std.specs.List.{range_with_len}
 use Rattle.std.specs.Vec.{with_item}
 use Rattle.std.proofs.lemmas.Option.{slice_get-get_or}
@@ -17,8 +17,11 @@ use Rattle.clk_sched.specs.declared.session.state.State.TheVariants.{Prio}
 use Rattle.clk_sched.proofs.InOrder.{packet_of, within-range}
 use Rattle.std.specs.List.{AllByRecursion}
 use Rattle.clk_sched.proofs.Orders.{priority-order}
-use Rattle.clk_sched.proofs.Ordered.{can-order, order-there, keeps-order}
+use Rattle.clk_sched.proofs.Ordered.{can-order, order-there, keeps-order, IsOrderAt, can-ask, inputs-asked, keeps-asked}
 use Rattle.clk_sched.proofs.TurnPrio.{prio-turn}
+use Rattle.clk_sched.proofs.TurnStride.{stride-asks, stride-fits, stride-won, stride-none, stride-turn}
+use Rattle.clk_sched.proofs.TurnShaper.{Tells, shaper-asks, shaper-taken, shaper-none, shaper-turn, shaper-without}
+use Rattle.clk_sched.proofs.TurnOfClass.{drr-only, stride-only, shaper-only}
 use Rattle.clk_sched.proofs.PutBack.{pulls-put, set-here, set-other, fit-set}
 use Rattle.clk_sched.proofs.Asking.{added-none, keeps-more, answers-then, asks-one, asking-first, asking-can, HasAsked, asking-given, asking-next, asking-all}
 use Rattle.clk_sched.proofs.Asked.{entry, rank_at, entry-input, input-is, child-after, edges-scheduler, queue-visited, asks-queue, asks-child}
@@ -436,46 +439,93 @@ pub round_robin::Beginning::pull-returns-in-None-clause-turn : goal.round_robin:
 round_robin::Beginning::pull-returns-in-None-clause-turn g t c = ?
 
 pub shaper::Bucket::pull-returns-then-not-has_token-clause-turn : goal.shaper::Bucket::pull-returns-then-not-has_token-clause-turn
-shaper::Bucket::pull-returns-then-not-has_token-clause-turn g t c = ?
+shaper::Bucket::pull-returns-then-not-has_token-clause-turn g t c =
+    λ rate burst. shaper-without c.args.nodes.now c.args.node c.args.self.now rate burst c.requires.can_pull.there c.requires.fits (subst (Tells c.args.self.now c.args.nodes.now.moment) c.if-not-has_token.true c.has_token.ensures)
 
 pub shaper::Bucket::pull-ask_in_turn-requires : goal.shaper::Bucket::pull-ask_in_turn-requires
-shaper::Bucket::pull-ask_in_turn-requires g t c = ?
+shaper::Bucket::pull-ask_in_turn-requires g t c =
+    let a = c.args.nodes.now in
+    let x = c.args.node in
+    let is : IsOrderAt a.inputs.items x (0 ∷ []) = shaper-asks a.inputs.items x true c.requires.fits in
+    let can = can-ask a x (0 ∷ []) c.requires.can_pull is in
+    let there = inputs-asked a.inputs.items x (0 ∷ []) c.requires.can_pull.there is in
+    let less = c.decreases in
+    λ κs le. (omega (arith, less), (search, (can, (there, omega arith))))
 
 pub shaper::Bucket::pull-returns-in-Some-clause-keeps : goal.shaper::Bucket::pull-returns-in-Some-clause-keeps
-shaper::Bucket::pull-returns-in-Some-clause-keeps g t c = ?
+shaper::Bucket::pull-returns-in-Some-clause-keeps g t c =
+    let a = c.args.nodes.now in
+    let x = c.args.node in
+    let is : IsOrderAt a.inputs.items x (0 ∷ []) = shaper-asks a.inputs.items x true c.requires.fits in
+    keeps-asked a c.ask_in_turn.new.self x (0 ∷ []) c.requires.can_pull is c.ask_in_turn.ensures.keeps
 
 pub shaper::Bucket::pull-returns-in-Some-clause-turn : goal.shaper::Bucket::pull-returns-in-Some-clause-turn
-shaper::Bucket::pull-returns-in-Some-clause-turn g t c = ?
+shaper::Bucket::pull-returns-in-Some-clause-turn g t c = let h = c.in-Some in let k = c.ask_in_turn in let l = c.take in ?
 
 pub shaper::Bucket::pull-returns-in-None-clause-keeps : goal.shaper::Bucket::pull-returns-in-None-clause-keeps
-shaper::Bucket::pull-returns-in-None-clause-keeps g t c = ?
+shaper::Bucket::pull-returns-in-None-clause-keeps g t c =
+    let a = c.args.nodes.now in
+    let x = c.args.node in
+    let is : IsOrderAt a.inputs.items x (0 ∷ []) = shaper-asks a.inputs.items x true c.requires.fits in
+    keeps-asked a c.ask_in_turn.new.self x (0 ∷ []) c.requires.can_pull is c.ask_in_turn.ensures.keeps
 
 pub shaper::Bucket::pull-returns-in-None-clause-turn : goal.shaper::Bucket::pull-returns-in-None-clause-turn
-shaper::Bucket::pull-returns-in-None-clause-turn g t c = ?
+shaper::Bucket::pull-returns-in-None-clause-turn g t c =
+    let a = c.args.nodes.now in
+    let x = c.args.node in
+    let s = c.args.self.now in
+    λ rate burst.
+        shaper-turn a c.ask_in_turn.new.self x s s true None rate burst c.requires.can_pull.there c.requires.fits (subst (Tells s a.moment) c.if-not-has_token.false c.has_token.ensures) tt
+        (subst (λ r. AsksAll a c.ask_in_turn.new.self x (0 ∷ []) (asked_in_order (now_of a) x (0 ∷ []) r)) c.in-None.is c.ask_in_turn.ensures.asks) (shaper-none a x true s)
 
 pub state::State::pull-returns-in-Drr-clause-turn : goal.state::State::pull-returns-in-Drr-clause-turn
 state::State::pull-returns-in-Drr-clause-turn g t c = ?
 
 pub state::State::pull-returns-in-Stride-clause-turn : goal.state::State::pull-returns-in-Stride-clause-turn
-state::State::pull-returns-in-Stride-clause-turn g t c = ?
+state::State::pull-returns-in-Stride-clause-turn g t c = let h = c.in-Stride in let l = c.pull-in-Stride in ?
 
 pub state::State::pull-returns-in-Shaper-clause-turn : goal.state::State::pull-returns-in-Shaper-clause-turn
 state::State::pull-returns-in-Shaper-clause-turn g t c = ?
 
 pub stride::Passes::pull-ask_in_order-requires : goal.stride::Passes::pull-ask_in_order-requires
-stride::Passes::pull-ask_in_order-requires g t c = ?
+stride::Passes::pull-ask_in_order-requires g t c =
+    let a = c.args.nodes.now in
+    let x = c.args.node in
+    let order = inputs_in c.row.result.now in
+    let is : IsOrderAt a.inputs.items x order = stride-asks a.inputs.items x c.args.self.now order c.requires.fits (ap inputs_in c.row.ensures) in
+    let can = can-ask a x order c.requires.can_pull is in
+    let there = inputs-asked a.inputs.items x order c.requires.can_pull.there is in
+    let less = c.decreases in
+    λ κs le. (omega (arith, less), (search, (can, there)))
 
 pub stride::Passes::pull-returns-in-Some-clause-keeps : goal.stride::Passes::pull-returns-in-Some-clause-keeps
-stride::Passes::pull-returns-in-Some-clause-keeps g t c = ?
+stride::Passes::pull-returns-in-Some-clause-keeps g t c =
+    let a = c.args.nodes.now in
+    let x = c.args.node in
+    let order = inputs_in c.row.result.now in
+    let is : IsOrderAt a.inputs.items x order = stride-asks a.inputs.items x c.args.self.now order c.requires.fits (ap inputs_in c.row.ensures) in
+    keeps-asked a c.ask_in_order.new.self x order c.requires.can_pull is c.ask_in_order.ensures.keeps
 
 pub stride::Passes::pull-returns-in-Some-clause-fits : goal.stride::Passes::pull-returns-in-Some-clause-fits
 stride::Passes::pull-returns-in-Some-clause-fits g t c = ?
 
 pub stride::Passes::pull-returns-in-Some-clause-turn : goal.stride::Passes::pull-returns-in-Some-clause-turn
-stride::Passes::pull-returns-in-Some-clause-turn g t c = ?
+stride::Passes::pull-returns-in-Some-clause-turn g t c = let h = c.in-Some in let k = c.ask_in_order in let l = c.won in ?
 
 pub stride::Passes::pull-returns-in-None-clause-keeps : goal.stride::Passes::pull-returns-in-None-clause-keeps
-stride::Passes::pull-returns-in-None-clause-keeps g t c = ?
+stride::Passes::pull-returns-in-None-clause-keeps g t c =
+    let a = c.args.nodes.now in
+    let x = c.args.node in
+    let order = inputs_in c.row.result.now in
+    let is : IsOrderAt a.inputs.items x order = stride-asks a.inputs.items x c.args.self.now order c.requires.fits (ap inputs_in c.row.ensures) in
+    keeps-asked a c.ask_in_order.new.self x order c.requires.can_pull is c.ask_in_order.ensures.keeps
 
 pub stride::Passes::pull-returns-in-None-clause-turn : goal.stride::Passes::pull-returns-in-None-clause-turn
-stride::Passes::pull-returns-in-None-clause-turn g t c = ?
+stride::Passes::pull-returns-in-None-clause-turn g t c =
+    let a = c.args.nodes.now in
+    let x = c.args.node in
+    let s = c.args.self.now in
+    let order = inputs_in c.row.result.now in
+    λ tickets.
+        stride-turn a c.ask_in_order.new.self x s s order None tickets c.requires.can_pull.there c.requires.fits (ap inputs_in c.row.ensures) tt
+        (subst (λ r. AsksAll a c.ask_in_order.new.self x order (asked_in_order (now_of a) x order r)) c.in-None.is c.ask_in_order.ensures.asks) (stride-none a x order s)
