@@ -1,27 +1,28 @@
 -- The turn of a Shaper.
-use Rattle.std.proofs.Common.{◌≡◌, ℕ, ◌<◌, ◌≤◌, Bool, true, false, if◌then◌else◌, List, [], ◌∷◌, length, slice_get, Option, Some, None, IfSome, is_some, refl, sym, ap, ◌∙◌, subst, arith}
+use Rattle.std.proofs.Common.{◌≡◌, ℕ, ◌<◌, ◌≤◌, Bool, true, false, if◌then◌else◌, List, [], ◌∷◌, length, slice_get, Option, Some, None, IfSome, is_some, refl, sym, ap, subst}
+use Rattle.std.proofs.lemmas.Bool.{false≢true}
 use Rattle.clk_packet.specs.declared.packet.Packet.{Packet}
 use Rattle.clk_sched.specs.declared.visit.Visit.{Visit}
 use Rattle.clk_sched.specs.declared.session.inputs.Inputs.{Inputs}
 use Rattle.clk_sched.specs.declared.session.nodes.Nodes.{Nodes}
 use Rattle.clk_sched.specs.declared.session.state.State.TheVariants.{Shaper}
 use Rattle.clk_sched.specs.declared.session.shaper.Bucket.{Bucket}
-use Rattle.clk_sched.specs.Tree.{Row, shaper, width}
+use Rattle.clk_sched.specs.Tree.{shaper}
 use Rattle.clk_sched.specs.Turns.{Turn, AsksInOrder, giver}
 use Rattle.clk_sched.specs.Laws.Shaper.{has_room}
 use Rattle.clk_sched.specs.Holds.Shaper.{AreBefore, HoldsBucket}
-use Rattle.clk_sched.specs.Pulling.{AsksAll, IsReady, History, now_of, as_turn, with_turn, asked_in_order}
+use Rattle.clk_sched.specs.Pulling.{AsksAll, now_of, as_turn, with_turn, asked_in_order}
 use Rattle.clk_sched.specs.Turn.{TakesTurn}
 use Rattle.clk_sched.proofs.Asking.{asks-none}
 use Rattle.clk_sched.proofs.Bucket.{bucket-none}
 use Rattle.clk_sched.proofs.InOrder.{IsWithin, packet_of, HasTurnedBy, turned-in-order, in_order-giver, with_turn-given, after-own}
 use Rattle.clk_sched.proofs.Ordered.{IsOrderAt, row-order}
 
--- what is asked, with a token or without
+-- what is asked with a token, and without one
 abbrev pub asked_by : Bool → List ℕ
 asked_by token = if token then 0 ∷ [] else []
 
--- a node has an input
+-- a node has an input, if it is in the table
 abbrev pub HasInput : List Inputs → ℕ → Type 0
 HasInput table x = IfSome (slice_get table x) (λ p. 1 ≤ length p.each.items)
 
@@ -29,7 +30,7 @@ pub shaper-asks : (table : List Inputs) (x : ℕ) (token : Bool) → HasInput ta
 shaper-asks table x true some p e = record { within = (subst (λ o. IfSome o (λ (q : Inputs). 1 ≤ length q.each.items)) e some, tt); apart = (tt, tt) }
 shaper-asks table x false some p e = record { within = tt; apart = tt }
 
--- a bucket tells whether there is room
+-- whether there is a token is whether there is room at the moment
 abbrev pub Tells : Bucket → ℕ → Bool → Type 0
 Tells s moment token = (rate burst : ℕ) (turns : List Turn) → HoldsBucket rate burst turns s → AreBefore moment turns → token ≡ has_room rate burst moment 0 turns
 
@@ -44,10 +45,11 @@ abbrev pub HoldsThen : Nodes → ℕ → Bool → Option (ℕ × Packet) → Buc
 HoldsThen a x token r s z =
     (rate burst : ℕ) (turns : List Turn) → HoldsBucket rate burst turns s → AreBefore a.moment turns → HoldsBucket rate burst (with_turn a.moment (asked_in_order (now_of a) x (asked_by token) r) turns) z
 
-pub shaper-taken : (a : Nodes) (x place : ℕ) (packet : Packet) (s z : Bucket) → place < 1 → Tells s a.moment true → IsTakenAt s z a.moment → HoldsThen a x true (Some (place, packet)) s z
-shaper-taken a x place packet s z l tells taken rate burst turns holds before =
-    let own = asked_in_order (now_of a) x (0 ∷ []) (Some (place, packet)) in
-    let gives = in_order-giver (now_of a) x (0 ∷ []) (Some (place, packet)) l in
+pub shaper-taken : (a : Nodes) (x : ℕ) (r : Option (ℕ × Packet)) (s z : Bucket) → is_some r ≡ true → IsWithin (0 ∷ []) r → Tells s a.moment true → IsTakenAt s z a.moment → HoldsThen a x true r s z
+shaper-taken a x None s z e l tells taken rate burst turns holds before = absurd (false≢true e)
+shaper-taken a x (Some p) s z e l tells taken rate burst turns holds before =
+    let own = asked_in_order (now_of a) x (0 ∷ []) (Some p) in
+    let gives = in_order-giver (now_of a) x (0 ∷ []) (Some p) l in
     subst (λ ts. HoldsBucket rate burst ts z) (sym (with_turn-given a.moment own turns _ gives)) (taken rate burst turns (as_turn a.moment own) holds before (sym (tells rate burst turns holds before)) refl (ap is_some gives))
 
 none-turn : (moment : ℕ) (own : List Visit) (rate burst : ℕ) (turns : List Turn) (s : Bucket) → giver own ≡ None → HoldsBucket rate burst turns s → HoldsBucket rate burst (with_turn moment own turns) s

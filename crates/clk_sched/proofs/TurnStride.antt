@@ -1,5 +1,5 @@
 -- The turn of a StrideSched.
-use Rattle.std.proofs.Common.{◌≡◌, ℕ, suc, ◌+◌, ◌<◌, List, [], ◌∷◌, length, map, take, slice_get, slice_index, Option, Some, None, IfSome, refl, sym, ap, ap₂, ◌∙◌, subst, arith}
+use Rattle.std.proofs.Common.{◌≡◌, ℕ, suc, ◌+◌, ◌<◌, List, [], ◌∷◌, length, map, take, slice_get, slice_index, Option, Some, None, IfSome, sym, ap, ap₂, ◌∙◌, subst, arith}
 use Rattle.std.proofs.lemmas.Option.{slice_get-get_or}
 use Rattle.clk_packet.specs.declared.packet.Packet.{Packet}
 use Rattle.clk_sched.specs.declared.visit.Visit.{Visit}
@@ -8,22 +8,22 @@ use Rattle.clk_sched.specs.declared.session.nodes.Nodes.{Nodes}
 use Rattle.clk_sched.specs.declared.session.state.State.TheVariants.{Stride}
 use Rattle.clk_sched.specs.declared.session.stride.Rank.{Rank}
 use Rattle.clk_sched.specs.declared.session.stride.Passes.{Passes}
-use Rattle.clk_sched.specs.Tree.{Row, stride, width}
+use Rattle.clk_sched.specs.Tree.{stride}
 use Rattle.clk_sched.specs.Turns.{Turn, AsksInOrder, giver}
 use Rattle.clk_sched.specs.Holds.OfClass.{FitsPasses}
 use Rattle.clk_sched.specs.Holds.Stride.{HoldsPasses}
-use Rattle.clk_sched.specs.Pulling.{Now, History, IsReady, AsksAll, now_of, as_turn, with_turn, inputs_in, asked_in_order}
+use Rattle.clk_sched.specs.Pulling.{Now, AsksAll, now_of, as_turn, with_turn, inputs_in, asked_in_order}
 use Rattle.clk_sched.specs.Turn.{TakesTurn}
 use Rattle.clk_sched.proofs.Orders.{IsOrderOf, stride-order}
 use Rattle.clk_sched.proofs.StridePasses.{order-is, passes-none}
 use Rattle.clk_sched.proofs.InOrder.{IsWithin, packet_of, HasTurnedBy, turned-in-order, in_order-giver, walked-inputs, with_turn-given, after-own}
 use Rattle.clk_sched.proofs.Ordered.{IsOrderAt, row-order}
 
--- what a node with so many inputs as the table has holds
+-- passes that fit the inputs of a node, if it is in the table
 abbrev pub FitsAt : List Inputs → ℕ → Passes → Type 0
 FitsAt table x s = IfSome (slice_get table x) (λ p. FitsPasses (length p.each.items) s)
 
--- The row is an order of the inputs.
+-- The row of such passes names inputs that there are, and none twice.
 pub stride-asks : (table : List Inputs) (x : ℕ) (s : Passes) (order : List ℕ) → FitsAt table x s → order ≡ inputs_in s.row.items → IsOrderAt table x order
 stride-asks table x s order fits is p e =
     let here : FitsPasses (length p.each.items) s = subst (λ o. IfSome o (λ (q : Inputs). FitsPasses (length q.each.items) s)) e fits in
@@ -42,10 +42,10 @@ won-turn now x place moment packet order tickets turns s z is l won holds =
     (walked-inputs now x order place packet l ∙ ap₂ (λ n l. take n l) (let next : suc place ≡ place + 1 = omega arith in next) is)
     (in_order-giver now x order (Some (place, packet)) l ∙ sym (slice_get-get_or order place 0 l) ∙ ap (λ l. slice_get l place) is)
 
--- The state fits still.
-pub stride-fits : (table : List Inputs) (now : Now) (x place moment : ℕ) (packet : Packet) (order : List ℕ) (s z : Passes) → x < length table → FitsAt table x s → order ≡ inputs_in s.row.items → place < length order
+-- Such passes fit still, since the pull that was won is one more turn.
+pub stride-fits : (table : List Inputs) (now : Now) (x place moment : ℕ) (packet : Packet) (order : List ℕ) (s z : Passes) → FitsAt table x s → order ≡ inputs_in s.row.items → place < length order
     → IsWonAt s z place → FitsAt table x z
-stride-fits table now x place moment packet order s z there fits is l won = by_place (slice_get table x) fits
+stride-fits table now x place moment packet order s z fits is l won = by_place (slice_get table x) fits
   where
     by_place : (o : Option Inputs) → IfSome o (λ (p : Inputs). FitsPasses (length p.each.items) s) → IfSome o (λ (p : Inputs). FitsPasses (length p.each.items) z)
     by_place None h = tt
