@@ -28,6 +28,9 @@ pub mod PutBack
 pub mod Ordered
 pub mod TurnPrio
 pub mod TurnRoundRobin
+pub mod TurnStride
+pub mod TurnShaper
+pub mod TurnOfClass
 pub mod Orders
 pub mod Chosen
 pub mod WithAsked

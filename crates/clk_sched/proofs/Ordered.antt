@@ -1,5 +1,5 @@
 -- What it takes to ask the inputs of a node in an order that names none twice.
-use Rattle.std.proofs.Common.{◌≡◌, ℕ, suc, ◌+◌, ◌<◌, ◌≤◌, List, [], ◌∷◌, ◌++◌, length, slice_get, slice_index, take, Option, Some, None, IsSome, MatchOption, refl, sym, ap, ◌∙◌, subst, arith}
+use Rattle.std.proofs.Common.{◌≡◌, ℕ, zero, suc, ◌+◌, ◌<◌, ◌≤◌, List, [], ◌∷◌, ◌++◌, length, slice_get, slice_index, take, Option, Some, None, IsSome, MatchOption, refl, sym, ap, ◌∙◌, subst, arith}
 use Rattle.std.specs.List.{AllByRecursion, range_with_len}
 use Rattle.std.proofs.lemmas.Option.{slice_get-get_or}
 use Rattle.clk_packet.specs.declared.packet.Packet.{Packet}
@@ -45,3 +45,27 @@ order-there table x p order e h =
 pub keeps-order : (a b : Nodes) (x : ℕ) (p : Inputs) (order : List ℕ) → CanPull a x (edges_of a.inputs.items x) → slice_get a.inputs.items x ≡ Some p → AreApart (λ (i : ℕ). i) order
     → Keeps a b (edges_in a.inputs.items x order) → Keeps a b (edges_of a.inputs.items x)
 keeps-order a b x p order can e apart h = keeps-more a b _ _ h (edges-order a.inputs.items x p order can.wired e apart)
+
+-- the inputs of a node that is in the table
+pub inputs-there : (table : List Inputs) (x : ℕ) → x < length table → (p : Inputs) × (slice_get table x ≡ Some p)
+inputs-there [] x l = absurd (omega arith)
+inputs-there (p ∷ table) zero l = (p, refl)
+inputs-there (p ∷ table) (suc x) l = inputs-there table x (omega arith)
+
+-- an order of some inputs of a node
+abbrev pub IsOrderAt : List Inputs → ℕ → List ℕ → Type 0
+IsOrderAt table x order = (p : Inputs) → slice_get table x ≡ Some p → IsOrderOf (length p.each.items) order
+
+-- What it takes to ask in such an order, and what stays.
+pub can-ask : (a : Nodes) (x : ℕ) (order : List ℕ) → CanPull a x (edges_of a.inputs.items x) → IsOrderAt a.inputs.items x order → CanPull a x (edges_in a.inputs.items x order)
+can-ask a x order can is = let p = inputs-there a.inputs.items x can.there in can-order a x p.0 order can p.1 (is p.0 p.1).apart
+
+pub inputs-asked : (table : List Inputs) (x : ℕ) (order : List ℕ) → x < length table → IsOrderAt table x order → AllByRecursion (λ i. IsSome (input_at table x i)) order
+inputs-asked table x order l is = let p = inputs-there table x l in order-there table x p.0 order p.1 (is p.0 p.1).within
+
+pub keeps-asked : (a b : Nodes) (x : ℕ) (order : List ℕ) → CanPull a x (edges_of a.inputs.items x) → IsOrderAt a.inputs.items x order → Keeps a b (edges_in a.inputs.items x order) → Keeps a b (edges_of a.inputs.items x)
+keeps-asked a b x order can is h = let p = inputs-there a.inputs.items x can.there in keeps-order a b x p.0 order can p.1 (is p.0 p.1).apart h
+
+-- the same as an order of the inputs of the row that stands there
+pub row-order : (table : List Inputs) (x : ℕ) (row : Row) (order : List ℕ) → x < length table → StandsIn table x row → IsOrderAt table x order → IsOrderOf (width row) order
+row-order table x row order l stands is = let p = inputs-there table x l in subst (λ n. IsOrderOf n order) (stands-width table x row p.0 stands p.1) (is p.0 p.1)

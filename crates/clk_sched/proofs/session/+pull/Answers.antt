@@ -1,4 +1,4 @@
-use Rattle.std.proofs.Common.{◌≡◌, ◌+◌, ◌-◌, ◌%◌, ◌<◌, ◌≤◌, ◌∷◌, [], ◌++◌, length, Option, Some, None, IsSome, IfSome, slice_get, slice_index, refl, sym, ap, ap₂, ◌∙◌, subst, mod-lt, mod-eq_of_lt, arith}
+use Rattle.std.proofs.Common.{◌≡◌, ◌+◌, ◌-◌, ◌%◌, ◌<◌, ◌≤◌, ◌∷◌, [], true, ◌++◌, length, Option, Some, None, IsSome, IfSome, is_some, slice_get, slice_index, refl, sym, ap, ap₂, ◌∙◌, subst, mod-lt, mod-eq_of_lt, arith}
 use Rattle.std.specs.List.{range_with_len}
 use Rattle.std.specs.Vec.{with_item}
 use Rattle.std.proofs.lemmas.Option.{slice_get-get_or}
@@ -11,15 +11,18 @@ use Rattle.clk_sched.specs.declared.session.inputs.Input.TheVariants.{Queue, Sch
 use Rattle.clk_sched.specs.Places.{input_at, Answers, queue_asked, edges_of, edges_at, edges_in, at_queue}
 use Rattle.clk_sched.specs.Pulling.{CanPull, Keeps, AsksAll, added, now_of, asked_in_order, inputs_in}
 use Rattle.clk_sched.proofs.Edges.{edges-order}
-use Rattle.clk_sched.specs.Tree.{prio}
+use Rattle.clk_sched.specs.Tree.{prio, shaper}
 use Rattle.clk_sched.specs.Turn.{TakesTurn}
-use Rattle.clk_sched.specs.declared.session.state.State.TheVariants.{Prio}
-use Rattle.clk_sched.proofs.InOrder.{packet_of, within-range}
+use Rattle.clk_sched.specs.declared.session.state.State.TheVariants.{Prio, Drr, Stride, Shaper}
+use Rattle.clk_sched.proofs.InOrder.{IsWithin, packet_of, within-range}
 use Rattle.std.specs.List.{AllByRecursion}
 use Rattle.clk_sched.proofs.Orders.{priority-order}
-use Rattle.clk_sched.proofs.Ordered.{can-order, order-there, keeps-order}
+use Rattle.clk_sched.proofs.Ordered.{can-order, order-there, keeps-order, IsOrderAt, can-ask, inputs-asked, keeps-asked}
 use Rattle.clk_sched.proofs.TurnPrio.{prio-turn}
 use Rattle.clk_sched.proofs.TurnRoundRobin.{round_robin-turn, parts, parts-order, can-first, can-second, there-both, asked-both, in_second, in_order-first, index-first, index-second, past, past-length}
+use Rattle.clk_sched.proofs.TurnStride.{stride-asks, stride-fits, stride-won, stride-none, stride-turn}
+use Rattle.clk_sched.proofs.TurnShaper.{Tells, IsTakenAt, shaper-asks, shaper-taken, shaper-none, shaper-turn, shaper-without}
+use Rattle.clk_sched.proofs.TurnOfClass.{drr-only, stride-only, shaper-only}
 use Rattle.clk_sched.proofs.PutBack.{pulls-put, set-here, set-other, fit-set}
 use Rattle.clk_sched.proofs.Asking.{IsAsking, asks-front, apart-split, added-none, keeps-more, answers-then, asks-one, asking-first, asking-can, HasAsked, asking-given, asking-next, asking-all}
 use Rattle.clk_sched.proofs.Asked.{entry, rank_at, entry-input, input-is, child-after, edges-scheduler, queue-visited, asks-queue, asks-child}
@@ -31,9 +34,9 @@ nodes::Nodes::ask-returns-in-Queue-clause-answers g t c =
     let place = entry table c.args.node c.index.result.now (c.requires.can_pull.there) c.index.ensures in
     let input : input_at table c.args.node c.args.input ≡ Some (Queue c.in-Queue.leaf) = input-is table c.args.node c.args.input c.index.result.now c.index-2.result.now place c.requires.within c.index-2.ensures ∙ ap Some c.in-Queue.is in
     λ v node at fresh got.
-        subst (λ l. Answers g.Q.Ask.gives (queue_asked table) c.args.q.now (l ++ v ∷ []) c.ask.new.self) (sym (added-none c.args.self.now))
-        (subst (λ o. at_queue g.Q.Ask.gives o v.got c.args.q.now (λ s. s ≡ c.ask.new.self)) (sym (queue-visited table c.args.node c.args.input (Queue c.in-Queue.leaf) v input node at fresh))
-        (c.ask.new.self, subst (λ o. g.Q.Ask.gives c.args.q.now c.in-Queue.leaf o c.ask.new.self) (sym got) c.ask.ensures.answer, refl))
+    subst (λ l. Answers g.Q.Ask.gives (queue_asked table) c.args.q.now (l ++ v ∷ []) c.ask.new.self) (sym (added-none c.args.self.now))
+    (subst (λ o. at_queue g.Q.Ask.gives o v.got c.args.q.now (λ s. s ≡ c.ask.new.self)) (sym (queue-visited table c.args.node c.args.input (Queue c.in-Queue.leaf) v input node at fresh))
+    (c.ask.new.self, subst (λ o. g.Q.Ask.gives c.args.q.now c.in-Queue.leaf o c.ask.new.self) (sym got) c.ask.ensures.answer, refl))
 
 pub nodes::Nodes::ask-returns-in-Queue-clause-asks : goal.nodes::Nodes::ask-returns-in-Queue-clause-asks
 nodes::Nodes::ask-returns-in-Queue-clause-asks g t c =
@@ -56,8 +59,8 @@ nodes::Nodes::ask-returns-in-Scheduler-clause-answers g t c =
     let place = entry table c.args.node c.index.result.now (c.requires.can_pull.there) c.index.ensures in
     let input : input_at table c.args.node c.args.input ≡ Some (Scheduler c.in-Scheduler.child) = input-is table c.args.node c.args.input c.index.result.now c.index-2.result.now place c.requires.within c.index-2.ensures ∙ ap Some c.in-Scheduler.is in
     λ v node at fresh got.
-        answers-then g.Q.Ask.gives (queue_asked table) (added c.args.self.now c.pull.new.self) (v ∷ []) c.args.q.now c.pull.new.q c.pull.new.q c.pull.ensures.answers
-        (subst (λ o. at_queue g.Q.Ask.gives o v.got c.pull.new.q (λ s. s ≡ c.pull.new.q)) (sym (queue-visited table c.args.node c.args.input (Scheduler c.in-Scheduler.child) v input node at fresh)) refl)
+    answers-then g.Q.Ask.gives (queue_asked table) (added c.args.self.now c.pull.new.self) (v ∷ []) c.args.q.now c.pull.new.q c.pull.new.q c.pull.ensures.answers
+    (subst (λ o. at_queue g.Q.Ask.gives o v.got c.pull.new.q (λ s. s ≡ c.pull.new.q)) (sym (queue-visited table c.args.node c.args.input (Scheduler c.in-Scheduler.child) v input node at fresh)) refl)
 
 pub nodes::Nodes::ask-returns-in-Scheduler-clause-asks : goal.nodes::Nodes::ask-returns-in-Scheduler-clause-asks
 nodes::Nodes::ask-returns-in-Scheduler-clause-asks g t c =
@@ -683,46 +686,123 @@ round_robin::Beginning::pull-returns-in-None-clause-turn g t c =
     round_robin-turn a d x n first first p None place count low tt (subst (λ r. AsksAll a d x (parts first n) (asked_in_order (now_of a) x (parts first n) (in_second one r))) c.in-None.is all.asks) refl
 
 pub shaper::Bucket::pull-returns-then-not-has_token-clause-turn : goal.shaper::Bucket::pull-returns-then-not-has_token-clause-turn
-shaper::Bucket::pull-returns-then-not-has_token-clause-turn g t c = ?
+shaper::Bucket::pull-returns-then-not-has_token-clause-turn g t c =
+    λ rate burst. shaper-without c.args.nodes.now c.args.node c.args.self.now rate burst c.requires.can_pull.there c.requires.fits (subst (Tells c.args.self.now c.args.nodes.now.moment) c.if-not-has_token.true c.has_token.ensures)
 
 pub shaper::Bucket::pull-ask_in_turn-requires : goal.shaper::Bucket::pull-ask_in_turn-requires
-shaper::Bucket::pull-ask_in_turn-requires g t c = ?
+shaper::Bucket::pull-ask_in_turn-requires g t c =
+    let a = c.args.nodes.now in
+    let x = c.args.node in
+    let is : IsOrderAt a.inputs.items x (0 ∷ []) = shaper-asks a.inputs.items x true c.requires.fits in
+    let can = can-ask a x (0 ∷ []) c.requires.can_pull is in
+    let there = inputs-asked a.inputs.items x (0 ∷ []) c.requires.can_pull.there is in
+    let less = c.decreases in
+    λ κs le. (omega (arith, less), (search, (can, (there, omega arith))))
 
 pub shaper::Bucket::pull-returns-in-Some-clause-keeps : goal.shaper::Bucket::pull-returns-in-Some-clause-keeps
-shaper::Bucket::pull-returns-in-Some-clause-keeps g t c = ?
+shaper::Bucket::pull-returns-in-Some-clause-keeps g t c =
+    let a = c.args.nodes.now in
+    let x = c.args.node in
+    let is : IsOrderAt a.inputs.items x (0 ∷ []) = shaper-asks a.inputs.items x true c.requires.fits in
+    keeps-asked a c.ask_in_turn.new.self x (0 ∷ []) c.requires.can_pull is c.ask_in_turn.ensures.keeps
 
 pub shaper::Bucket::pull-returns-in-Some-clause-turn : goal.shaper::Bucket::pull-returns-in-Some-clause-turn
-shaper::Bucket::pull-returns-in-Some-clause-turn g t c = ?
+shaper::Bucket::pull-returns-in-Some-clause-turn g t c =
+    let a = c.args.nodes.now in
+    let x = c.args.node in
+    let s = c.args.self.now in
+    let r = c.ask_in_turn.result in
+    let tells : Tells s a.moment true = subst (Tells s a.moment) c.if-not-has_token.false c.has_token.ensures in
+    let taken : IsTakenAt s c.take.new.self a.moment = subst (IsTakenAt s c.take.new.self) c.ask_in_turn.ensures.keeps.moment c.take.ensures in
+    λ rate burst.
+    subst (TakesTurn a c.ask_in_turn.new.self x (shaper rate burst) (Shaper s) (Shaper c.take.new.self)) (ap packet_of c.in-Some.is ∙ ap Some (sym c.in-Some.packet-is))
+    (shaper-turn a c.ask_in_turn.new.self x s c.take.new.self true r rate burst c.requires.can_pull.there c.requires.fits tells c.ask_in_turn.ensures.place c.ask_in_turn.ensures.asks
+    (shaper-taken a x r s c.take.new.self (ap is_some c.in-Some.is) c.ask_in_turn.ensures.place tells taken))
 
 pub shaper::Bucket::pull-returns-in-None-clause-keeps : goal.shaper::Bucket::pull-returns-in-None-clause-keeps
-shaper::Bucket::pull-returns-in-None-clause-keeps g t c = ?
+shaper::Bucket::pull-returns-in-None-clause-keeps g t c =
+    let a = c.args.nodes.now in
+    let x = c.args.node in
+    let is : IsOrderAt a.inputs.items x (0 ∷ []) = shaper-asks a.inputs.items x true c.requires.fits in
+    keeps-asked a c.ask_in_turn.new.self x (0 ∷ []) c.requires.can_pull is c.ask_in_turn.ensures.keeps
 
 pub shaper::Bucket::pull-returns-in-None-clause-turn : goal.shaper::Bucket::pull-returns-in-None-clause-turn
-shaper::Bucket::pull-returns-in-None-clause-turn g t c = ?
+shaper::Bucket::pull-returns-in-None-clause-turn g t c =
+    let a = c.args.nodes.now in
+    let x = c.args.node in
+    let s = c.args.self.now in
+    λ rate burst.
+    shaper-turn a c.ask_in_turn.new.self x s s true None rate burst c.requires.can_pull.there c.requires.fits (subst (Tells s a.moment) c.if-not-has_token.false c.has_token.ensures) tt
+    (subst (λ r. AsksAll a c.ask_in_turn.new.self x (0 ∷ []) (asked_in_order (now_of a) x (0 ∷ []) r)) c.in-None.is c.ask_in_turn.ensures.asks) (shaper-none a x true s)
 
 pub state::State::pull-returns-in-Drr-clause-turn : goal.state::State::pull-returns-in-Drr-clause-turn
-state::State::pull-returns-in-Drr-clause-turn g t c = ?
+state::State::pull-returns-in-Drr-clause-turn g t c =
+    drr-only c.args.nodes.now c.pull-in-Drr.new.nodes c.args.node c.args.self.now c.in-Drr.deficits (Drr c.pull-in-Drr.new.self) c.pull-in-Drr.result c.in-Drr.is c.pull-in-Drr.ensures.turn
 
 pub state::State::pull-returns-in-Stride-clause-turn : goal.state::State::pull-returns-in-Stride-clause-turn
-state::State::pull-returns-in-Stride-clause-turn g t c = ?
+state::State::pull-returns-in-Stride-clause-turn g t c =
+    stride-only c.args.nodes.now c.pull-in-Stride.new.nodes c.args.node c.args.self.now c.in-Stride.passes (Stride c.pull-in-Stride.new.self) c.pull-in-Stride.result c.in-Stride.is c.pull-in-Stride.ensures.turn
 
 pub state::State::pull-returns-in-Shaper-clause-turn : goal.state::State::pull-returns-in-Shaper-clause-turn
-state::State::pull-returns-in-Shaper-clause-turn g t c = ?
+state::State::pull-returns-in-Shaper-clause-turn g t c =
+    shaper-only c.args.nodes.now c.pull-in-Shaper.new.nodes c.args.node c.args.self.now c.in-Shaper.bucket (Shaper c.pull-in-Shaper.new.self) c.pull-in-Shaper.result c.in-Shaper.is c.pull-in-Shaper.ensures.turn
 
 pub stride::Passes::pull-ask_in_order-requires : goal.stride::Passes::pull-ask_in_order-requires
-stride::Passes::pull-ask_in_order-requires g t c = ?
+stride::Passes::pull-ask_in_order-requires g t c =
+    let a = c.args.nodes.now in
+    let x = c.args.node in
+    let order = inputs_in c.row.result.now in
+    let is : IsOrderAt a.inputs.items x order = stride-asks a.inputs.items x c.args.self.now order c.requires.fits (ap inputs_in c.row.ensures) in
+    let can = can-ask a x order c.requires.can_pull is in
+    let there = inputs-asked a.inputs.items x order c.requires.can_pull.there is in
+    let less = c.decreases in
+    λ κs le. (omega (arith, less), (search, (can, there)))
 
 pub stride::Passes::pull-returns-in-Some-clause-keeps : goal.stride::Passes::pull-returns-in-Some-clause-keeps
-stride::Passes::pull-returns-in-Some-clause-keeps g t c = ?
+stride::Passes::pull-returns-in-Some-clause-keeps g t c =
+    let a = c.args.nodes.now in
+    let x = c.args.node in
+    let order = inputs_in c.row.result.now in
+    let is : IsOrderAt a.inputs.items x order = stride-asks a.inputs.items x c.args.self.now order c.requires.fits (ap inputs_in c.row.ensures) in
+    keeps-asked a c.ask_in_order.new.self x order c.requires.can_pull is c.ask_in_order.ensures.keeps
 
 pub stride::Passes::pull-returns-in-Some-clause-fits : goal.stride::Passes::pull-returns-in-Some-clause-fits
-stride::Passes::pull-returns-in-Some-clause-fits g t c = ?
+stride::Passes::pull-returns-in-Some-clause-fits g t c =
+    let a = c.args.nodes.now in
+    let x = c.args.node in
+    let s = c.args.self.now in
+    let order = inputs_in c.row.result.now in
+    let given : c.ask_in_order.result ≡ Some (c.in-Some.place, c.in-Some.packet) = c.in-Some.is ∙ ap₂ (λ n p. Some (n, p)) (sym c.in-Some.place-is) (sym c.in-Some.packet-is) in
+    let within : c.in-Some.place < length order = subst (IsWithin order) given (subst (λ n. IfSome c.ask_in_order.result (λ r. r.0 < n)) (sym (length-map c.row.result.now (λ (r : Rank). r.input))) c.ask_in_order.ensures.place) in
+    stride-fits a.inputs.items (now_of a) x c.in-Some.place a.moment c.in-Some.packet order s c.won.new.self c.requires.fits (ap inputs_in c.row.ensures) within c.won.ensures.holds
 
 pub stride::Passes::pull-returns-in-Some-clause-turn : goal.stride::Passes::pull-returns-in-Some-clause-turn
-stride::Passes::pull-returns-in-Some-clause-turn g t c = ?
+stride::Passes::pull-returns-in-Some-clause-turn g t c =
+    let a = c.args.nodes.now in
+    let x = c.args.node in
+    let s = c.args.self.now in
+    let order = inputs_in c.row.result.now in
+    let given : c.ask_in_order.result ≡ Some (c.in-Some.place, c.in-Some.packet) = c.in-Some.is ∙ ap₂ (λ n p. Some (n, p)) (sym c.in-Some.place-is) (sym c.in-Some.packet-is) in
+    let within : c.in-Some.place < length order = subst (IsWithin order) given (subst (λ n. IfSome c.ask_in_order.result (λ r. r.0 < n)) (sym (length-map c.row.result.now (λ (r : Rank). r.input))) c.ask_in_order.ensures.place) in
+    λ tickets.
+    stride-turn a c.ask_in_order.new.self x s c.won.new.self order (Some (c.in-Some.place, c.in-Some.packet)) tickets c.requires.can_pull.there c.requires.fits (ap inputs_in c.row.ensures) within
+    (subst (λ r. AsksAll a c.ask_in_order.new.self x order (asked_in_order (now_of a) x order r)) given c.ask_in_order.ensures.asks)
+    (stride-won a x c.in-Some.place c.in-Some.packet order s c.won.new.self (ap inputs_in c.row.ensures) within c.won.ensures.holds)
 
 pub stride::Passes::pull-returns-in-None-clause-keeps : goal.stride::Passes::pull-returns-in-None-clause-keeps
-stride::Passes::pull-returns-in-None-clause-keeps g t c = ?
+stride::Passes::pull-returns-in-None-clause-keeps g t c =
+    let a = c.args.nodes.now in
+    let x = c.args.node in
+    let order = inputs_in c.row.result.now in
+    let is : IsOrderAt a.inputs.items x order = stride-asks a.inputs.items x c.args.self.now order c.requires.fits (ap inputs_in c.row.ensures) in
+    keeps-asked a c.ask_in_order.new.self x order c.requires.can_pull is c.ask_in_order.ensures.keeps
 
 pub stride::Passes::pull-returns-in-None-clause-turn : goal.stride::Passes::pull-returns-in-None-clause-turn
-stride::Passes::pull-returns-in-None-clause-turn g t c = ?
+stride::Passes::pull-returns-in-None-clause-turn g t c =
+    let a = c.args.nodes.now in
+    let x = c.args.node in
+    let s = c.args.self.now in
+    let order = inputs_in c.row.result.now in
+    λ tickets.
+    stride-turn a c.ask_in_order.new.self x s s order None tickets c.requires.can_pull.there c.requires.fits (ap inputs_in c.row.ensures) tt
+    (subst (λ r. AsksAll a c.ask_in_order.new.self x order (asked_in_order (now_of a) x order r)) c.in-None.is c.ask_in_order.ensures.asks) (stride-none a x order s)

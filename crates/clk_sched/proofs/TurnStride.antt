@@ -1,0 +1,89 @@
+-- The turn of a StrideSched.
+use Rattle.std.proofs.Common.{◌≡◌, ℕ, suc, ◌+◌, ◌<◌, List, [], ◌∷◌, length, map, take, slice_get, slice_index, Option, Some, None, IfSome, sym, ap, ap₂, ◌∙◌, subst, arith}
+use Rattle.std.proofs.lemmas.Option.{slice_get-get_or}
+use Rattle.clk_packet.specs.declared.packet.Packet.{Packet}
+use Rattle.clk_sched.specs.declared.visit.Visit.{Visit}
+use Rattle.clk_sched.specs.declared.session.inputs.Inputs.{Inputs}
+use Rattle.clk_sched.specs.declared.session.nodes.Nodes.{Nodes}
+use Rattle.clk_sched.specs.declared.session.state.State.TheVariants.{Stride}
+use Rattle.clk_sched.specs.declared.session.stride.Rank.{Rank}
+use Rattle.clk_sched.specs.declared.session.stride.Passes.{Passes}
+use Rattle.clk_sched.specs.Tree.{stride}
+use Rattle.clk_sched.specs.Turns.{Turn, AsksInOrder, giver}
+use Rattle.clk_sched.specs.Holds.OfClass.{FitsPasses}
+use Rattle.clk_sched.specs.Holds.Stride.{HoldsPasses}
+use Rattle.clk_sched.specs.Pulling.{Now, AsksAll, now_of, as_turn, with_turn, inputs_in, asked_in_order}
+use Rattle.clk_sched.specs.Turn.{TakesTurn}
+use Rattle.clk_sched.proofs.Orders.{IsOrderOf, stride-order}
+use Rattle.clk_sched.proofs.StridePasses.{order-is, passes-none}
+use Rattle.clk_sched.proofs.InOrder.{IsWithin, packet_of, HasTurnedBy, turned-in-order, in_order-giver, walked-inputs, with_turn-given, after-own}
+use Rattle.clk_sched.proofs.Ordered.{IsOrderAt, row-order}
+
+-- passes that fit the inputs of a node, if it is in the table
+abbrev pub FitsAt : List Inputs → ℕ → Passes → Type 0
+FitsAt table x s = IfSome (slice_get table x) (λ p. FitsPasses (length p.each.items) s)
+
+-- The row of such passes names inputs that there are, and none twice.
+pub stride-asks : (table : List Inputs) (x : ℕ) (s : Passes) (order : List ℕ) → FitsAt table x s → order ≡ inputs_in s.row.items → IsOrderAt table x order
+stride-asks table x s order fits is p e =
+    let here : FitsPasses (length p.each.items) s = subst (λ o. IfSome o (λ (q : Inputs). FitsPasses (length q.each.items) s)) e fits in
+    subst (IsOrderOf (length p.each.items)) (sym (is ∙ order-is here.tickets here.turns s here.holds)) (stride-order here.tickets (length p.each.items) here.turns here.inputs_are)
+
+-- what is held after a pull that the input at a place of the row won
+abbrev pub IsWonAt : Passes → Passes → ℕ → Type 0
+IsWonAt s z place =
+    (tickets : List ℕ) (turns : List Turn) (t : Turn) → HoldsPasses tickets turns s → map (λ (v : Visit). v.input) t.visits ≡ take (place + 1) (map (λ (r : Rank). r.input) s.row.items)
+    → giver t.visits ≡ slice_get (map (λ (r : Rank). r.input) s.row.items) place → HoldsPasses tickets (t ∷ turns) z
+
+won-turn : (now : Now) (x place moment : ℕ) (packet : Packet) (order tickets : List ℕ) (turns : List Turn) (s z : Passes) → order ≡ inputs_in s.row.items → place < length order → IsWonAt s z place
+    → HoldsPasses tickets turns s → HoldsPasses tickets (as_turn moment (asked_in_order now x order (Some (place, packet))) ∷ turns) z
+won-turn now x place moment packet order tickets turns s z is l won holds =
+    won tickets turns (as_turn moment (asked_in_order now x order (Some (place, packet)))) holds
+    (walked-inputs now x order place packet l ∙ ap₂ (λ n l. take n l) (let next : suc place ≡ place + 1 = omega arith in next) is)
+    (in_order-giver now x order (Some (place, packet)) l ∙ sym (slice_get-get_or order place 0 l) ∙ ap (λ l. slice_get l place) is)
+
+-- Such passes fit still, since the pull that was won is one more turn.
+pub stride-fits : (table : List Inputs) (now : Now) (x place moment : ℕ) (packet : Packet) (order : List ℕ) (s z : Passes) → FitsAt table x s → order ≡ inputs_in s.row.items → place < length order
+    → IsWonAt s z place → FitsAt table x z
+stride-fits table now x place moment packet order s z fits is l won = by_place (slice_get table x) fits
+  where
+    by_place : (o : Option Inputs) → IfSome o (λ (p : Inputs). FitsPasses (length p.each.items) s) → IfSome o (λ (p : Inputs). FitsPasses (length p.each.items) z)
+    by_place None h = tt
+    by_place (Some p) h =
+        record {
+          tickets = h.tickets;
+          turns = as_turn moment (asked_in_order now x order (Some (place, packet))) ∷ h.turns;
+          inputs_are = h.inputs_are;
+          holds = won-turn now x place moment packet order h.tickets h.turns s z is l won h.holds;
+        }
+
+-- what is held after a turn in which inputs were asked in this order
+abbrev pub HoldsThen : Nodes → ℕ → List ℕ → Option (ℕ × Packet) → Passes → Passes → Type 0
+HoldsThen a x order r s z = (tickets : List ℕ) (turns : List Turn) → HoldsPasses tickets turns s → HoldsPasses tickets (with_turn a.moment (asked_in_order (now_of a) x order r) turns) z
+
+pub stride-won : (a : Nodes) (x place : ℕ) (packet : Packet) (order : List ℕ) (s z : Passes) → order ≡ inputs_in s.row.items → place < length order → IsWonAt s z place → HoldsThen a x order (Some (place, packet)) s z
+stride-won a x place packet order s z is l won tickets turns holds =
+    subst (λ ts. HoldsPasses tickets ts z) (sym (with_turn-given a.moment (asked_in_order (now_of a) x order (Some (place, packet))) turns (slice_index order place) (in_order-giver (now_of a) x order (Some (place, packet)) l)))
+    (won-turn (now_of a) x place a.moment packet order tickets turns s z is l won holds)
+
+none-turn : (moment : ℕ) (own : List Visit) (tickets : List ℕ) (turns : List Turn) (s : Passes) → giver own ≡ None → HoldsPasses tickets turns s → HoldsPasses tickets (with_turn moment own turns) s
+none-turn moment [] tickets turns s e holds = holds
+none-turn moment (v ∷ own) tickets turns s e holds = passes-none tickets turns (as_turn moment (v ∷ own)) s holds e
+
+pub stride-none : (a : Nodes) (x : ℕ) (order : List ℕ) (s : Passes) → HoldsThen a x order None s s
+stride-none a x order s tickets turns holds = none-turn a.moment (asked_in_order (now_of a) x order None) tickets turns s (in_order-giver (now_of a) x order None tt) holds
+
+pub stride-turn : (a b : Nodes) (x : ℕ) (s z : Passes) (order : List ℕ) (r : Option (ℕ × Packet)) (tickets : List ℕ) → x < length a.inputs.items → FitsAt a.inputs.items x s → order ≡ inputs_in s.row.items → IsWithin order r
+    → AsksAll a b x order (asked_in_order (now_of a) x order r) → HoldsThen a x order r s z → TakesTurn a b x (stride tickets) (Stride s) (Stride z) (packet_of r)
+stride-turn a b x s z order r tickets there fits is within asked follows row history ready holds =
+    record {
+      turned = by.turned;
+      holds = subst (λ turns. HoldsPasses tickets turns z) (sym (after-own a b history x own by.own_is)) (follows tickets (history x) holds);
+    }
+  where
+    own : List Visit
+    own = asked_in_order (now_of a) x order r
+
+    by : HasTurnedBy a b history x (stride tickets) row own (packet_of r)
+    by = turned-in-order a b history x (stride tickets) row order r ready within asked (row-order a.inputs.items x row order there ready.stands (stride-asks a.inputs.items x s order fits is))
+        (λ h. subst (λ l. AsksInOrder l own) (is ∙ order-is tickets (history x) s holds) h)
