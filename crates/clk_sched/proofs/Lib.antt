@@ -22,6 +22,7 @@ pub mod Below
 pub mod Pulling
 pub mod Asking
 pub mod Asked
+pub mod QueuesAsked
 pub mod Edges
 pub mod InOrder
 pub mod PutBack

@@ -1,10 +1,10 @@
 -- What a session is: the nodes of a tree, laid out by number, and a run of it.
-use Rattle.std.specs.Prelude.{◌≡◌, ℕ, ◌+◌, ◌<◌, true, List, [], ◌∷◌, ◌++◌, length, drop, map, reverse, suc, max, is_some, Option, ⊤}
+use Rattle.std.specs.Prelude.{◌≡◌, ℕ, ◌+◌, ◌<◌, true, List, [], ◌∷◌, ◌++◌, length, drop, map, reverse, suc, max, is_some, Option, None, ⊤, if◌then◌else◌}
 use Rattle.std.specs.List.{flat_map, filter_map, range_with_len}
 use Rattle.clk_packet.specs.declared.packet.Packet.{Packet}
 use Rattle.clk_sched.specs.declared.visit.Visit.{Visit}
 use Rattle.clk_sched.specs.declared.session.nodes.Nodes.{Nodes}
-use Rattle.clk_sched.specs.Tree.{Class, prio, Row, end, leaf, node, Tree, root, nodes}
+use Rattle.clk_sched.specs.Tree.{Class, prio, Row, end, leaf, node, Tree, root, nodes, queue_at}
 use Rattle.clk_sched.specs.Log.{visits_of, pulls, moment_of, result_of}
 use Rattle.clk_sched.specs.Run.{IsRun}
 use Rattle.clk_sched.specs.Places.{StandsIn, AreWired, AllFit}
@@ -25,6 +25,10 @@ history_of (pull ∷ earlier) x = with_turn (moment_of pull) (visits_of x pull) 
 abbrev pub latest_moment : List (List Visit) → ℕ
 latest_moment [] = 0
 latest_moment (pull ∷ earlier) = moment_of pull
+
+-- the queue of a tree that a visit asked, if it asked one
+abbrev pub tree_queue : Tree → Visit → Option ℕ
+tree_queue tree v = if v.fresh then queue_at tree v.node v.input else None
 
 -- A tree is laid out in tables: the device is node 0, as a PrioSched over one input. Nothing has happened yet.
 pub record IsLaidOut (tree : Tree) (n : Nodes) : Type 0 where
