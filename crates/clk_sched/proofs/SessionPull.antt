@@ -1,13 +1,14 @@
 -- One pull of a session: what its nodes did is the next pull of its run.
-use Rattle.std.proofs.Common.{◌≡◌, ℕ, suc, ◌+◌, ◌<◌, ◌≤◌, max, List, [], ◌∷◌, ◌++◌, length, map, reverse, drop, Option, refl, sym, ap, ◌∙◌, subst, append-nil, append_assoc, arith}
+use Rattle.std.proofs.Common.{◌≡◌, ℕ, suc, ◌+◌, ◌<◌, ◌≤◌, max, List, [], ◌∷◌, ◌++◌, length, map, reverse, drop, filter, Bool, true, false, ◌==◌, if◌then◌else◌, Option, refl, sym, ap, ◌∙◌, subst, append-nil, append_assoc, arith}
 use Rattle.std.specs.List.{AllByRecursion}
 use Rattle.std.proofs.lemmas.List.{reverse-append, length-append}
+use Rattle.std.proofs.lemmas.List.FromFn.{length-map-range_with_len}
 use Rattle.clk_packet.specs.declared.packet.Packet.{Packet}
 use Rattle.clk_sched.specs.declared.visit.Visit.{Visit}
 use Rattle.clk_sched.specs.declared.session.nodes.Nodes.{Nodes}
 use Rattle.clk_sched.specs.Tree.{Tree, root, prio, nodes}
 use Rattle.clk_sched.specs.Turns.{Turn}
-use Rattle.clk_sched.specs.Log.{visits_of, pulls, moment_of, result_of, NeverFalls}
+use Rattle.clk_sched.specs.Log.{visits_of, in_pull, pulls, moment_of, result_of, NeverFalls}
 use Rattle.clk_sched.specs.Run.{IsRun}
 use Rattle.clk_sched.specs.Step.{IsOnePullMore}
 use Rattle.clk_sched.specs.Holds.Shaper.{AreBefore}
@@ -18,6 +19,7 @@ use Rattle.clk_sched.proofs.Members.{all-weaker}
 use Rattle.clk_sched.proofs.Apart.{all-reverse}
 use Rattle.clk_sched.proofs.GoesOn.{goes-on}
 use Rattle.clk_sched.proofs.Asking.{added-is}
+use Rattle.clk_sched.proofs.QueuesAsked.{block-nodes}
 use Rattle.clk_sched.proofs.DeviceBlock.{IsNextOf, next-pull}
 
 -- moments that never fall, and those before the latest
@@ -79,12 +81,14 @@ pub record IsCounted (a b : Nodes) : Type 0 where
   pub at_moment : b.moment ≡ a.moment
 
 -- A session was pulled.
-pub record HasGoneOn (tree : Tree) (a b : Nodes) (moment : ℕ) (got : Option Packet) : Type 0 where
+pub record HasGoneOn (tree : Tree) (a b : Nodes) (moment : ℕ) (visits : List Visit) (got : Option Packet) : Type 0 where
   pub still : IsAfterRun tree b
   pub once : IsPulledOnce (progress tree a) (progress tree b) moment got
+  pub new : newly (progress tree a) (progress tree b) ≡ visits
+  pub within : AllByRecursion (λ (v : Visit). v.node < suc (nodes (root tree))) visits
 
 pub session-pulled : (tree : Tree) (a ready pulled b : Nodes) (moment most : ℕ) (got : Option Packet) → IsAfterRun tree a → IsReadied a ready moment → Keeps ready pulled most → Pulls ready pulled 0 got
-    → IsCounted pulled b → HasGoneOn tree a b moment got
+    → IsCounted pulled b → HasGoneOn tree a b moment (added ready pulled) got
 session-pulled tree a ready pulled b moment most got run readied keeps pull counted =
     record {
       still = record {
@@ -105,6 +109,9 @@ session-pulled tree a ready pulled b moment most got run readied keeps pull coun
         at_moment = ap moment_of new ∙ next.at_moment ∙ readied.at_moment ∙ ap (λ m. max m moment) run.moment;
         result = next.result ∙ ap (λ l. result_of (visits_of 0 l)) (sym new);
       };
+      new = new;
+      within = all-weaker (λ (v : Visit). (0 ≤ v.node) × (v.node < suc (0 + nodes (root tree)))) (λ (v : Visit). v.node < suc (nodes (root tree))) visits (λ v h. let k = h.1 in omega arith)
+          (block-nodes (now_of ready) (history_of (reverse before)) 0 prio (root tree) visits got done.block);
     }
   where
     visits : List Visit
@@ -150,3 +157,15 @@ session-pulled tree a ready pulled b moment most got run readied keeps pull coun
 
     history : after (history_of (reverse before)) ready.moment visits ≡ history_of (reverse (pulls b.log.items))
     history = ap (λ m. after (history_of (reverse before)) m visits) (sym next.at_moment) ∙ ap history_of (sym turned)
+
+-- there are no more pulls than visits
+filter-few : {X : Type 0} (test : X → Bool) (xs : List X) → length (filter test xs) ≤ length xs
+filter-few test [] = omega arith
+filter-few test (x ∷ xs) = by_test (test x) (filter-few test xs)
+  where
+    by_test : (b : Bool) → length (filter test xs) ≤ length xs → length (if b then x ∷ filter test xs else filter test xs) ≤ length (x ∷ xs)
+    by_test true l = omega arith
+    by_test false l = omega arith
+
+pub pulls-few : (log : List Visit) → length (pulls log) ≤ length log
+pulls-few log = let e = length-map-range_with_len (λ k. in_pull k log) 0 (length (visits_of 0 log)) in let l = filter-few (λ (v : Visit). v.node == 0) log in omega (arith, e, l)

@@ -43,10 +43,10 @@ impl Model for Session {
 }
 
 impl Session {
-    ghost use Rattle.std.specs.Prelude.{◌≡◌, ◌<◌, ◌^◌, IfOk, IfErr, OnOk, OnErr};
+    ghost use Rattle.std.specs.Prelude.{◌≡◌, ◌<◌, ◌^◌, IfOk, OnOk, OnErr, IsOkUnless};
     ghost use Rattle.clk_packet.specs.declared.fault.Fault.TheVariants.{Memory};
     ghost use Rattle.clk_sched.specs.Places.{Answers};
-    ghost use Rattle.clk_sched.specs.Session.{IsPulledOnce, newly};
+    ghost use Rattle.clk_sched.specs.Session.{IsPulledOnce, newly, tree_queue};
 
     /// Pulls the device once, at this moment in ticks or, where that is later, at the greatest so far, and answers its result.
     ///
@@ -56,7 +56,8 @@ impl Session {
     pub fn pull<Q: Ask>(&mut self, q: &mut Q, moment: u64) -> Result<Option<Packet>, Fault>
         requires { moment < 2 ^ 44 }
         ensures pulled { IfOk result (IsPulledOnce self.old self.new moment) }
-        ensures fault { IfErr result (λ fault. fault ≡ Memory) }
+        ensures answers { OnOk result (Answers Q.gives (tree_queue self.old.tree) q.old (newly self.old self.new) q.new) }
+        ensures fault { IsOkUnless result Fault.Memory }
         ensures unchanged { OnErr result (self.new ≡ self.old) }
         ensures unasked { OnErr result (q.new ≡ q.old) }
     {
