@@ -284,7 +284,7 @@ make g (node class inputs row) above first next earlier formed stands were =
     let below = make g inputs next 0 (suc next) before formed.2 (stands-inputs g.tree above first next class inputs row stands) (λ p m. let w = was p m in (w.0, w.2)) in
     node-made g above first next class inputs row earlier stands below
     (make g row above (suc first) (suc (next + nodes inputs)) earlier formed.3 (stands-after_node g.tree above first next class inputs row stands) (λ p m. let w = were p m in (w.0, w.1.2)))
-    (choose (asker g next below.gives) class (width inputs) (map (turn next) before) formed.0 formed.1
+    (choose (asker g next below.gives) class (width inputs) (map (turn next) before) formed.0.0 formed.1
     (all-map (λ (t : Turn). AreWithin (width inputs) t.visits) (turn next) before (to-all (λ p. AreWithin (width inputs) (visits_of next p)) before (λ p m. (was p m).1))))
   where
     before : List (List Visit)

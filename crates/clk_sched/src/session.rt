@@ -1,10 +1,10 @@
 //! A session: a tree that is pulled, and the log of its visits.
 
-mod drr;
-mod inputs;
-mod nodes;
+pub mod drr;
+pub mod inputs;
+pub mod nodes;
 mod prio;
-mod round_robin;
-mod shaper;
-mod state;
-mod stride;
+pub mod round_robin;
+pub mod shaper;
+pub mod state;
+pub mod stride;

@@ -1,6 +1,7 @@
 //! Trees of schedulers over queues.
 
 mod distinct;
+mod layout;
 
 ghost use Rattle.std.specs.Prelude.{◌≡◌, ◌≤◌, length};
 ghost use Rattle.clk_sched.specs.Tree.{prio, round_robin, drr, stride, shaper, queue, height, IsWellFormed};
