@@ -91,7 +91,7 @@ adds-node old a b new below state place p kept held f each edges put same class 
       inputs =
           ap (map entry) put ∙ map-set entry b.inputs.items n p
           ∙ ap₂ (λ l e. slice_set l n e) (f.inputs ∙ ap₂ (λ l m. l ++ entries m below) (ap (map entry) kept ∙ map-append entry old.inputs.items (place ∷ [])) size ∙ append_assoc (map entry old.inputs.items) (entry place ∷ []) (entries (suc n) below))
-            (ap₂ (λ l m. (l, m)) (each ∙ ap (λ m. inputs_of m below) size) edges)
+          (ap₂ (λ l m. (l, m)) (each ∙ ap (λ m. inputs_of m below) size) edges)
           ∙ ap (λ m. slice_set (map entry old.inputs.items ++ (entry place ∷ entries (suc n) below)) m (entry_over n below)) (sym (length-map old.inputs.items entry))
           ∙ set-append_seam (map entry old.inputs.items) (entry place) (entries (suc n) below) (entry_over n below);
       states = λ before h.
@@ -109,7 +109,6 @@ adds-node old a b new below state place p kept held f each edges put same class 
 pub row-root : (tree : Tree) → row (tree ∷ []) ≡ root tree
 row-root (queue q) = refl
 row-root (scheduler class inputs) = refl
-
 
 -- The device was added to empty tables, over a tree.
 pub adds-device : (tree : Tree) (trees : List Tree) (old new : Tables) → trees ≡ tree ∷ [] → old.inputs.items ≡ [] → old.states.items ≡ [] → AddsNode old new Prio (row trees)

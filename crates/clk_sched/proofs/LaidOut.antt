@@ -8,7 +8,6 @@ use Rattle.clk_sched.specs.declared.session.inputs.Inputs.{Inputs}
 use Rattle.clk_sched.specs.declared.session.nodes.Nodes.{Nodes}
 use Rattle.clk_sched.specs.declared.session.state.State.{State}
 use Rattle.clk_sched.specs.declared.session.state.State.TheVariants.{Prio, RoundRobin, Drr, Stride, Shaper}
-use Rattle.clk_sched.specs.declared.tree.layout.Tables.{Tables}
 use Rattle.clk_sched.specs.Limits.{most_inputs}
 use Rattle.clk_sched.specs.Tree.{Class, prio, round_robin, drr, stride, shaper, Row, end, leaf, node, Tree, queue, scheduler, root, nodes, width, HasArguments, IsWellFormed}
 use Rattle.clk_sched.specs.Places.{inputs_of, EachHasInputs, option_edges, edges_to_all, IsAfter, IsWired}
@@ -121,8 +120,7 @@ placed table states next end formed size e f = tt
 placed table states next (leaf q row) formed size e f = placed table states next row formed size e f
 placed table states next (node class inputs row) formed size e f =
     let es = entries-after table next inputs row e.1 in
-    let fs = sits-split IsFirst states (suc next) (kinds inputs) (kinds row) f.1 in
-    (
+    let fs = sits-split IsFirst states (suc next) (kinds inputs) (kinds row) f.1 in (
       record {
         inputs = e.0;
         state = f.0;
@@ -134,7 +132,7 @@ placed table states next (node class inputs row) formed size e f =
       },
       placed table states (suc next) inputs formed.2 (omega arith) es.0 fs.0,
       placed table states (suc (next + nodes inputs)) row formed.3 (omega arith) es.1
-      (subst (λ n. Sits IsFirst states n (kinds row)) (let k = length-kinds inputs in let s : suc next + length (kinds inputs) ≡ suc (next + nodes inputs) = omega (arith, k) in s) fs.1),
+          (subst (λ n. Sits IsFirst states n (kinds row)) (let k = length-kinds inputs in let s : suc next + length (kinds inputs) ≡ suc (next + nodes inputs) = omega (arith, k) in s) fs.1),
     )
 
 match-weaker : {X : Type 0} (P Q : X → Type 0) (o : Option X) → ((x : X) → P x → Q x) → MatchOption o ⊥ P → MatchOption o ⊥ Q

@@ -1,6 +1,6 @@
 //! How a tree is laid out in tables, by node number, before its first pull.
 
-ghost use Rattle.std.specs.Prelude.{◌≡◌, ◌+◌, ◌≤◌, ◌<◌, ◌++◌, length, ⊤, MatchOption, MatchResult, IfOk};
+ghost use Rattle.std.specs.Prelude.{◌≡◌, ◌+◌, ◌≤◌, ◌<◌, ◌++◌, length, MatchOption, IfOk, IfErr};
 ghost use Rattle.clk_sched.specs.Built.{row};
 ghost use Rattle.clk_sched.specs.Places.{inputs_of};
 ghost use Rattle.clk_sched.specs.Session.{elements};
@@ -18,8 +18,8 @@ use clk_packet::Fault;
 use std::alloc::{AllocError, Global};
 use std::slice;
 
-/// How many queues and schedulers a tree of a session has at most, without the device.
-const MAX_ELEMENTS: u16 = 255;
+/// How many queues and schedulers a tree of a session has at most, the device counted.
+const MAX_ELEMENTS: u16 = 256;
 
 /// The tables of nodes, by number, as they are filled.
 #[derive(Drop)]
@@ -41,11 +41,11 @@ impl Tree {
     pub(crate) fn lay_out(&self, alloc: Global) -> Result<Nodes, Fault>
         ensures laid_out { IfOk result (λ n. IsLaidOut self.now n) }
         ensures fits { IfOk result (λ n. 1 + elements (root self.now) ≤ most_elements) }
-        ensures refused { MatchResult result (λ n. ⊤) (λ fault. IsRefused self.now fault) }
+        ensures refused { IfErr result (λ fault. IsRefused self.now fault) }
     {
         // That the tree is well formed is known where a field of it is read.
         let _ = &self.node;
-        if self.room_after(MAX_ELEMENTS).is_none() {
+        if self.room_after(MAX_ELEMENTS - 1).is_none() {
             return Err(Fault::TooLarge);
         }
         let mut tables = Tables {
@@ -117,7 +117,10 @@ impl Class {
     }
 }
 
-/// The same of these trees.
+#[cfg(test)]
+mod tests;
+
+/// What is left of room for so many queues and schedulers after those of these trees, if they have room.
 #[cycle(room)]
 fn room_after(trees: &[Tree], room: u16) -> Option<u16>
     ensures { MatchOption result (room < elements (row trees.now)) (λ left. left + elements (row trees.now) ≡ room) }

@@ -24,7 +24,7 @@ layout::lay_inputs-returns-clause-adds t c =
 pub layout::lay_inputs-returns-clause-each : goal.layout::lay_inputs-returns-clause-each
 layout::lay_inputs-returns-clause-each t c =
     let pushed : c.push.new.self.items ≡ c.args.node.now.each.items ++ input_of (length c.args.tables.now.inputs.items) c.first-item.result ∷ [] =
-        c.in_ok-push.ensures.items ∙ ap (λ i. c.args.node.now.each.items ++ i ∷ []) c.in_ok-input.ensures.input in
+    c.in_ok-push.ensures.items ∙ ap (λ i. c.args.node.now.each.items ++ i ∷ []) c.in_ok-input.ensures.input in
     IfOk-equal c.lay_inputs.result _ _ _ c.lay_inputs.ensures.each
     (ap (λ l. l ++ inputs_of (length c.lay.new.tables.inputs.items) (row (rest c.args.trees.now))) pushed
     ∙ inputs-more c.args.tables.now c.lay.new.tables c.args.trees.now c.first-item.result c.args.node.now.each.items (omega arith) c.first-item.is c.in_ok-input.ensures.adds)
