@@ -1,7 +1,8 @@
-pub mod Elements
 pub mod Numbers
 pub mod Members
 pub mod TreeLemmas
+pub mod LaidOut
+pub mod Added
 pub mod Distinct
 pub mod Numbering
 pub mod Allowed

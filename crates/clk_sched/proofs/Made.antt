@@ -5,7 +5,7 @@ use Rattle.std.specs.List.{flat_map, AllByRecursion, list_any}
 use Rattle.std.proofs.lemmas.Bool.Decides.{nat_tests}
 use Rattle.clk_packet.specs.declared.packet.Packet.{Packet}
 use Rattle.clk_sched.specs.declared.visit.Visit.{Visit}
-use Rattle.clk_sched.specs.Tree.{Class, Row, end, leaf, node, Tree, nodes, width, queue_at, IsWellFormed}
+use Rattle.clk_sched.specs.Tree.{Class, Row, end, leaf, node, Tree, nodes, width, queue_at, IsSound}
 use Rattle.clk_sched.specs.Turns.{Turn}
 use Rattle.clk_sched.specs.Laws.{AllowsTurn}
 use Rattle.clk_sched.specs.Log.{visits_of, block_at, moment_of, turn, asks, pulls_below, result_of}
@@ -267,7 +267,7 @@ node-made g above first next class inputs row earlier stands below rest choice =
 abbrev pub WereAllowed : ℕ → ℕ → ℕ → Row → List (List Visit) → Type 0
 WereAllowed above first next row earlier = (p : List Visit) → In p earlier → (e : List (List Visit)) × EachAllows above first next row e p
 
-pub make : (g : Given) (row : Row) (above first next : ℕ) (earlier : List (List Visit)) → IsWellFormed row → StandsAt g.tree above first next row → WereAllowed above first next row earlier
+pub make : (g : Given) (row : Row) (above first next : ℕ) (earlier : List (List Visit)) → IsSound row → StandsAt g.tree above first next row → WereAllowed above first next row earlier
     → IsMade g above first next row earlier
 make g end above first next earlier formed stands were = end-made g above first next earlier
 make g (leaf k row) above first next earlier formed stands were =

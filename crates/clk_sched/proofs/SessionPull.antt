@@ -61,7 +61,7 @@ all-of-map [] moment h = tt
 all-of-map (p ∷ ps) moment h = (h.0, all-of-map ps moment h.1)
 
 -- the session's view of its nodes
-abbrev progress : Tree → Nodes → Progress
+abbrev pub progress : Tree → Nodes → Progress
 progress tree n = record { tree = tree; log = n.log.items }
 
 -- nodes that are ready for a pull at a moment, after a run

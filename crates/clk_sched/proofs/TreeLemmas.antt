@@ -6,7 +6,8 @@ use Rattle.clk_packet.specs.declared.fault.Fault.TheVariants.{TooLarge}
 use Rattle.clk_sched.specs.Limits.{most_inputs, most_levels}
 use Rattle.clk_sched.specs.Tree.{Class, Tree, queue, scheduler, root, height, width, leaves, stands_in}
 use Rattle.clk_sched.specs.Built.{built, row, leaves_of}
-use Rattle.clk_sched.proofs.Elements.{elements, elements_of}
+use Rattle.clk_sched.specs.Session.{elements}
+use Rattle.clk_sched.specs.LaidOut.{elements_of}
 
 pub built-wide : (class : Class) (children : List Tree) → most_inputs < length children → Err TooLarge ≡ built class children
 unfolding built
@@ -45,7 +46,7 @@ stands_in-append q (p ∷ ps) rs = rw (stands_in-append q ps rs, or_assoc (p == 
 abbrev pub rest : List Tree → List Tree
 rest trees = take (length trees - 1) (drop 1 trees)
 
-rest-cons : (t : Tree) (trees : List Tree) → rest (t ∷ trees) ≡ trees
+pub rest-cons : (t : Tree) (trees : List Tree) → rest (t ∷ trees) ≡ trees
 rest-cons t trees = let e : length (t ∷ trees) - 1 ≡ length trees = omega arith in rw e (take_all (length trees) trees (omega arith))
 
 -- the queues of the first tree and of the others, after more

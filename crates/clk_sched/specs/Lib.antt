@@ -16,6 +16,7 @@ pub mod Places
 pub mod Pulling
 pub mod Turn
 pub mod Session
+pub mod LaidOut
 pub mod Run
 pub mod Step
 pub mod Examples

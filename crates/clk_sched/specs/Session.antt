@@ -2,10 +2,13 @@
 use Rattle.std.specs.Prelude.{◌≡◌, ℕ, ◌+◌, ◌<◌, true, List, [], ◌∷◌, ◌++◌, length, drop, map, reverse, suc, max, is_some, Option, None, ⊤, if◌then◌else◌}
 use Rattle.std.specs.List.{flat_map, filter_map, range_with_len}
 use Rattle.clk_packet.specs.declared.packet.Packet.{Packet}
+use Rattle.clk_packet.specs.declared.fault.Fault.{Fault}
+use Rattle.clk_packet.specs.declared.fault.Fault.TheVariants.{Memory, TooManyPulls}
 use Rattle.clk_sched.specs.declared.visit.Visit.{Visit}
 use Rattle.clk_sched.specs.declared.session.nodes.Nodes.{Nodes}
 use Rattle.clk_sched.specs.Tree.{Class, prio, Row, end, leaf, node, Tree, root, nodes, queue_at}
 use Rattle.clk_sched.specs.Log.{visits_of, pulls, moment_of, result_of}
+use Rattle.clk_sched.specs.Bound.{closing_bound}
 use Rattle.clk_sched.specs.Run.{IsRun}
 use Rattle.clk_sched.specs.Places.{StandsIn, AreWired, AllFit}
 use Rattle.clk_sched.specs.Pulling.{History, NodeHolds, with_turn}
@@ -105,3 +108,9 @@ pub record StopsShort (old new : Progress) (moment made left : ℕ) : Type 0 whe
   pub given : ℕ
   pub fewer : given < left
   pub drained : IsDrained old new moment made given
+
+-- why a drain stopped short: memory was refused, or it had made all the pulls that the closing is given
+abbrev pub StopsAt : Progress → Progress → ℕ → ℕ → Fault → Type 0
+StopsAt old new moment left Memory = (made : ℕ) × StopsShort old new moment made left
+StopsAt old new moment left (TooManyPulls made) = (made ≡ closing_bound old.tree left) × StopsShort old new moment made left
+StopsAt old new moment left fault = ⊥

@@ -3,7 +3,7 @@ use Rattle.std.specs.Prelude.{◌≡◌, ℕ, ◌+◌, true, List, [], ◌∷◌
 use Rattle.std.specs.List.{AllByRecursion, list_any}
 use Rattle.clk_packet.specs.declared.packet.Packet.{Packet}
 use Rattle.clk_sched.specs.declared.visit.Visit.{Visit}
-use Rattle.clk_sched.specs.Tree.{Row, end, leaf, node, Tree, root, width, nodes, queue_at, IsWellFormed}
+use Rattle.clk_sched.specs.Tree.{Row, end, leaf, node, Tree, root, width, nodes, queue_at, IsSound}
 use Rattle.clk_sched.specs.Laws.{AllowsTurn}
 use Rattle.clk_sched.specs.Log.{pulls, visits_of, block, moment_of, HasOneMoment, NeverFalls, turn, asks, pulls_below}
 use Rattle.clk_sched.specs.Laws.Device.{IsDeviceTurn}
@@ -55,8 +55,8 @@ pub record IsPullWith (tree : Tree) (log : List Visit) (moment : ℕ) (answer : 
   pub at_moment : moment_of pull ≡ moment
   pub answered : AllByRecursion (λ (v : Visit). v.fresh ≡ true → IfSome (queue_at tree v.node v.input) (λ q. v.got ≡ answer v.node v.input)) pull
 
--- A run of a well-formed tree can go on at each moment that is no earlier than its last, whatever the queues answer.
+-- A run of a sound tree can go on at each moment that is no earlier than its last, whatever the queues answer.
 abbrev pub CanGoOn : Tree → Type 0
 CanGoOn tree =
-    IsWellFormed (root tree) → (log : List Visit) (moment : ℕ) (answer : ℕ → ℕ → Option Packet) → IsRun tree log → NeverFalls 0 (map moment_of (pulls log) ++ moment ∷ [])
+    IsSound (root tree) → (log : List Visit) (moment : ℕ) (answer : ℕ → ℕ → Option Packet) → IsRun tree log → NeverFalls 0 (map moment_of (pulls log) ++ moment ∷ [])
     → IsPullWith tree log moment answer

@@ -2,7 +2,7 @@
 use Rattle.std.specs.Prelude.{◌≡◌, ℕ, ◌+◌, ◌≤◌, ◌==◌, ◌&&◌, ◌||◌, ◌++◌, Bool, true, false, not, List, [], ◌∷◌, length, ⊤, Option, Some, None, suc, max, if◌then◌else◌}
 use Rattle.std.specs.Option.{option_or}
 use Rattle.std.specs.List.{AllByRecursion}
-use Rattle.clk_sched.specs.Limits.{most_quantum, most_tickets, most_rate, most_burst}
+use Rattle.clk_sched.specs.Limits.{most_inputs, most_quantum, most_tickets, most_rate, most_burst}
 
 -- What a scheduler does with its inputs, and its arguments: the quantum of each input in bytes, the tickets of each input, and
 -- the rate in packets a tick with the burst in packets.
@@ -88,10 +88,16 @@ HasArguments class inputs = ⊤
 
 -- Each scheduler of a row has an input at least, and arguments within their limits: a DRRSched has a quantum for each input, a
 -- StrideSched has tickets for each, and a Shaper has one input.
+abbrev pub IsSound : Row → Type 0
+IsSound end = ⊤
+IsSound (leaf q row) = IsSound row
+IsSound (node class inputs row) = (1 ≤ width inputs) × HasArguments class (width inputs) × IsSound inputs × IsSound row
+
+-- The same, where each scheduler has as many inputs as are allowed at most.
 abbrev pub IsWellFormed : Row → Type 0
 IsWellFormed end = ⊤
 IsWellFormed (leaf q row) = IsWellFormed row
-IsWellFormed (node class inputs row) = (1 ≤ width inputs) × HasArguments class (width inputs) × IsWellFormed inputs × IsWellFormed row
+IsWellFormed (node class inputs row) = ((1 ≤ width inputs) × (width inputs ≤ most_inputs)) × HasArguments class (width inputs) × IsWellFormed inputs × IsWellFormed row
 
 -- how many schedulers stand on the longest path through a row
 abbrev pub height : Row → ℕ

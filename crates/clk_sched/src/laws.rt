@@ -12,7 +12,7 @@ pub fn runs_go_on()
     ensures { (tree : _) → GoesOn tree }
 {}
 
-/// A run of a well-formed tree can go on by one pull at each moment that is no earlier than its last, whatever the queues answer.
+/// A run of a sound tree can go on by one pull at each moment that is no earlier than its last, whatever the queues answer.
 pub fn runs_can_go_on()
     ensures { (tree : _) → CanGoOn tree }
 {}

@@ -16,6 +16,7 @@ pub use examples::{
 pub use laws::{
     runs_can_go_on, runs_conserve_packets, runs_go_on, runs_leave_no_choice, runs_share_out,
 };
+pub use session::Session;
 pub use tree::Tree;
 pub use visit::Visit;
 

@@ -1,19 +1,22 @@
 //! A session: a tree that is pulled, and the log of its visits.
 
-mod drr;
-mod inputs;
-mod nodes;
+pub mod drr;
+pub mod inputs;
+pub mod nodes;
 mod prio;
 mod results;
-mod round_robin;
-mod shaper;
-mod state;
-mod stride;
+pub mod round_robin;
+pub mod shaper;
+pub mod state;
+pub mod stride;
 
 use crate::ask::Ask;
 use crate::session::nodes::Nodes;
+use crate::session::results::{emitted, held_heads};
 use crate::tree::Tree;
+use crate::visit::Visit;
 use clk_packet::{Fault, Packet};
+use std::alloc::Global;
 use std::marker::Model;
 
 /// The node number of the device.
@@ -43,10 +46,29 @@ impl Model for Session {
 }
 
 impl Session {
-    ghost use Rattle.std.specs.Prelude.{◌≡◌, ◌<◌, ◌^◌, IfOk, OnOk, OnErr, IsOkUnless};
+    ghost use Rattle.std.specs.Prelude.{◌≡◌, ◌+◌, ◌-◌, ◌<◌, ◌≤◌, ◌^◌, true, [], Ok, max, IfOk, IfErr, OnOk, OnErr, IsOkUnless};
+    ghost use Rattle.clk_sched.specs.Tree.{root, leaves_distinct};
+    ghost use Rattle.clk_sched.specs.LaidOut.{most_elements, IsRefused};
+    ghost use Rattle.clk_sched.specs.Bound.{closing_bound};
+    ghost use Rattle.clk_sched.specs.Results.{emitted, heads};
     ghost use Rattle.clk_packet.specs.declared.fault.Fault.TheVariants.{Memory};
     ghost use Rattle.clk_sched.specs.Places.{Answers};
-    ghost use Rattle.clk_sched.specs.Session.{IsPulledOnce, newly, tree_queue};
+    ghost use Rattle.clk_sched.specs.Session.{IsPulledOnce, GivesAll, StopsAt, counted_moment, elements, newly, tree_queue};
+
+    /// A session of this tree, in which no queue stands twice, before its first pull.
+    ///
+    /// # Errors
+    ///
+    /// Fault 1 where memory is refused, and fault 18 for a tree of more than 256 nodes and queues, the device counted.
+    pub fn new(alloc: Global, tree: Tree) -> Result<Session, Fault>
+        requires distinct { leaves_distinct tree ≡ true }
+        ensures made { IfOk result (λ session. (session.tree ≡ tree) × (session.log ≡ [])) }
+        ensures fits { IfOk result (λ session. 1 + elements (root tree) ≤ most_elements) }
+        ensures refused { IfErr result (λ fault. IsRefused tree fault) }
+    {
+        let nodes = tree.lay_out(alloc)?;
+        Ok(Session { tree, nodes })
+    }
 
     /// Pulls the device once, at this moment in ticks or, where that is later, at the greatest so far, and answers its result.
     ///
@@ -67,5 +89,77 @@ impl Session {
         let got = self.nodes.pull(q, DEVICE);
         self.nodes.pull += 1;
         Ok(got)
+    }
+
+    /// Pulls the device, one tick apart and the first time one tick after the later of this moment and the greatest so far, until
+    /// `left` packets came out, and answers how often. With nothing left it pulls nothing.
+    ///
+    /// # Errors
+    ///
+    /// Fault 1 where memory is refused, and fault 17 with the number of pulls where so many as the closing is given were made and
+    /// fewer packets came out. The session then holds the pulls that were made.
+    pub fn drain<Q: Ask>(&mut self, q: &mut Q, left: u64, moment: u64) -> Result<u64, Fault>
+        requires left { left ≤ 1000000 }
+        requires moment { max (counted_moment self.old) moment < 2 ^ 43 - 1 }
+        ensures all { IfOk result (λ made. GivesAll self.old self.new (max (counted_moment self.old) moment) made left) }
+        ensures none_left { left ≡ 0 → (result ≡ Ok 0) × (self.new ≡ self.old) × (q.new ≡ q.old) }
+        ensures short { IfErr result (StopsAt self.old self.new (max (counted_moment self.old) moment) left) }
+        ensures answers { Answers Q.gives (tree_queue self.old.tree) q.old (newly self.old self.new) q.new }
+    {
+        let bound = self.bound(left);
+        let start = self.now().max(moment);
+        let mut made = 0;
+        let mut given = 0;
+        while given < left {
+            if made == bound {
+                return Err(Fault::TooManyPulls { pulls: made });
+            }
+            let got = self.pull(q, start + made + 1)?;
+            made += 1;
+            if got.is_some() {
+                given += 1;
+            }
+        }
+        Ok(made)
+    }
+
+    /// How many pulls the closing is given where so many packets are left in queues and heads.
+    pub fn bound(&self, left: u64) -> u64
+        requires { left ≤ 1000000 }
+        ensures value { result ≡ closing_bound self.now.tree left }
+        ensures limit { result < 2 ^ 42 }
+    {
+        left * self.tree.pulls_per_packet()
+    }
+
+    /// Every visit so far, in order.
+    pub fn log(&self) -> &[Visit]
+        ensures { result.now ≡ self.now.log }
+    {
+        self.nodes.log.as_slice()
+    }
+
+    /// The counted moment, in ticks: the greatest at which it was pulled, and 0 before the first pull.
+    pub fn now(&self) -> u64
+        ensures moment { result ≡ counted_moment self.now }
+        ensures limit { result < 2 ^ 44 }
+    {
+        self.nodes.moment
+    }
+
+    /// The packets that came out at the device, in order. Fault 1 where memory is refused.
+    pub fn emitted(&self, alloc: Global) -> Result<Vec<Packet>, Fault>
+        ensures packets { IfOk result (λ packets. packets.items ≡ emitted self.now.log) }
+        ensures fault { IsOkUnless result Fault.Memory }
+    {
+        emitted(alloc, self.nodes.log.as_slice())
+    }
+
+    /// The packets held as heads, by node and then by input. Fault 1 where memory is refused.
+    pub fn held_heads(&self, alloc: Global) -> Result<Vec<Packet>, Fault>
+        ensures packets { IfOk result (λ packets. packets.items ≡ heads self.now.tree self.now.log) }
+        ensures fault { IsOkUnless result Fault.Memory }
+    {
+        held_heads(alloc, &self.nodes)
     }
 }

@@ -2,6 +2,7 @@
 
 mod bound;
 mod distinct;
+mod layout;
 
 ghost use Rattle.std.specs.Prelude.{◌≡◌, ◌≤◌, length};
 ghost use Rattle.clk_sched.specs.Tree.{prio, round_robin, drr, stride, shaper, queue, height, IsWellFormed};

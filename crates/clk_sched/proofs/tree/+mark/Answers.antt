@@ -2,7 +2,8 @@ use Rattle.std.proofs.Common.{◌≡◌, ◌∷◌, [], sym, ap, ◌∙◌, subs
 use Rattle.clk_sched.specs.Built.{row, leaves_of}
 use Rattle.clk_sched.specs.Kept.{kept}
 use Rattle.clk_sched.specs.Marks.{AreMarked}
-use Rattle.clk_sched.proofs.Elements.{elements, elements_of}
+use Rattle.clk_sched.specs.Session.{elements}
+use Rattle.clk_sched.specs.LaidOut.{elements_of}
 use Rattle.clk_sched.proofs.TreeLemmas.{leaves-row, elements-row}
 use Rattle.clk_sched.proofs.Distinct.{marked-less, marks-queue}
 use Rattle.clk_sched.proofs.tree.+mark.Goals as goal

@@ -1,7 +1,8 @@
 use Rattle.std.proofs.Common.{◌≡◌, ◌+◌, ◌<◌, ◌≤◌, length, max, refl, sym, ap, ◌∙◌, subst, arith}
-use Rattle.clk_sched.specs.Places.{Answers}
-use Rattle.clk_sched.specs.Session.{IsPulledOnce, tree_queue}
-use Rattle.clk_sched.proofs.SessionPull.{session-pulled, pulls-few}
+use Rattle.clk_sched.specs.Places.{Answers, queue_asked}
+use Rattle.clk_sched.specs.declared.session.nodes.Nodes.{Nodes}
+use Rattle.clk_sched.specs.Session.{IsPulledOnce, newly, tree_queue}
+use Rattle.clk_sched.proofs.SessionPull.{session-pulled, pulls-few, progress, HasGoneOn}
 use Rattle.clk_sched.proofs.QueuesAsked.{answers-tree}
 use Rattle.clk_sched.proofs.session.Session.pull.Goals as goal
 
@@ -11,9 +12,10 @@ overflow_add-self g c =
     let few = pulls-few a.log.items in
     let same = c.pull-got.ensures.keeps.pull in
     let counted = c.self.invariant.0.pull in
-    let h = a.log.small in
-    let k = a.log.ok in
-    ?
+    let small = a.log.small in
+    let whole = a.log.ok.0 in
+    let room = a.log.ok.1 in
+    omega (arith, few, same, counted, small, whole, room)
 
 pub invariant_of-self-2 : goal.invariant_of-self-2
 invariant_of-self-2 g c =
@@ -23,11 +25,33 @@ invariant_of-self-2 g c =
     let below = c.self.invariant.1 in
     let asked = c.requires in
     ((session-pulled c.self.inside.tree a _ c.pull-got.new.self _ c.args.moment _ c.pull-got.result c.self.invariant.0
-    (record { inputs = refl; states = refl; log = ?; pull = refl; at_moment = most }) c.pull-got.ensures.keeps c.pull-got.ensures.pulls
+    (record { inputs = refl; states = refl; log = c.reserve.ensures.items; pull = refl; at_moment = most }) c.pull-got.ensures.keeps c.pull-got.ensures.pulls
     (record { inputs = refl; states = refl; log = refl; pull = refl; at_moment = refl })).still, omega (arith, most, kept, below, asked))
 
 pub returns-clause-pulled : goal.returns-clause-pulled
-returns-clause-pulled g c = ?
+returns-clause-pulled g c =
+    let a = c.self.inside.nodes in
+    let n = c.pull-got.new.self in
+    let tree = c.self.inside.tree in
+    let b : Nodes = record { inputs = n.inputs; states = n.states; log = n.log; pull = n.pull + 1; moment = n.moment } in
+    let gone : HasGoneOn tree a b c.args.moment _ c.pull-got.result =
+    session-pulled tree a _ n b c.args.moment _ c.pull-got.result c.self.invariant.0
+    (record { inputs = refl; states = refl; log = c.reserve.ensures.items; pull = refl; at_moment = c.max-self-inside.ensures }) c.pull-got.ensures.keeps c.pull-got.ensures.pulls
+    (record { inputs = refl; states = refl; log = refl; pull = refl; at_moment = refl })
+    in
+    subst (λ s. IsPulledOnce s (progress tree b) c.args.moment c.pull-got.result) c.self.view_is gone.once
 
 pub returns-clause-answers : goal.returns-clause-answers
-returns-clause-answers g c = ?
+returns-clause-answers g c =
+    let a = c.self.inside.nodes in
+    let n = c.pull-got.new.self in
+    let tree = c.self.inside.tree in
+    let b : Nodes = record { inputs = n.inputs; states = n.states; log = n.log; pull = n.pull + 1; moment = n.moment } in
+    let gone =
+    session-pulled tree a _ n b c.args.moment _ c.pull-got.result c.self.invariant.0
+    (record { inputs = refl; states = refl; log = c.reserve.ensures.items; pull = refl; at_moment = c.max-self-inside.ensures }) c.pull-got.ensures.keeps c.pull-got.ensures.pulls
+    (record { inputs = refl; states = refl; log = refl; pull = refl; at_moment = refl })
+    in
+    subst (λ s. Answers g.Q.Ask.gives (tree_queue s.tree) c.args.q.now (newly s (progress tree b)) c.pull-got.new.q) c.self.view_is
+    (subst (λ l. Answers g.Q.Ask.gives (tree_queue tree) c.args.q.now l c.pull-got.new.q) (sym gone.new)
+    (answers-tree g.Q.Ask.gives tree a.inputs.items _ c.args.q.now c.pull-got.new.q c.self.invariant.0.stands gone.within c.pull-got.ensures.answers))

@@ -1,4 +1,4 @@
-use Rattle.std.proofs.Common.{◌≡◌, ◌≤◌, subst, arith}
+use Rattle.std.proofs.Common.{◌≡◌, subst, arith}
 use Rattle.clk_sched.specs.Tree.{height, HasArguments, IsWellFormed}
 use Rattle.clk_sched.specs.Built.{row}
 use Rattle.clk_sched.specs.Kept.{class_of}
@@ -19,6 +19,6 @@ invariant_of-result c =
     let inputs = width-row c.args.children.items in
     let below : c.highest-below.result ≡ height (row c.args.children.items) = search in (
       omega (arith, below),
-      (subst (λ n. 1 ≤ n) inputs c.requires.inputs, subst (λ n. HasArguments (class_of c.args.class) n) inputs c.requires.arguments, subst (λ trees. IsWellFormed (row trees)) c.deref.ensures.value c.highest-below.ensures.well_formed, tt),
+      ((omega (arith, inputs), omega (arith, inputs)), subst (λ n. HasArguments (class_of c.args.class) n) inputs c.requires.arguments, subst (λ trees. IsWellFormed (row trees)) c.deref.ensures.value c.highest-below.ensures.well_formed, tt),
       omega arith,
     )

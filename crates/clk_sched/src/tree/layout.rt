@@ -1,0 +1,185 @@
+//! How a tree is laid out in tables, by node number, before its first pull.
+
+ghost use Rattle.std.specs.Prelude.{◌≡◌, ◌+◌, ◌≤◌, ◌<◌, ◌++◌, length, MatchOption, IfOk, IfErr};
+ghost use Rattle.clk_sched.specs.Built.{row};
+ghost use Rattle.clk_sched.specs.Places.{inputs_of};
+ghost use Rattle.clk_sched.specs.Session.{elements};
+ghost use Rattle.clk_sched.specs.LaidOut.{most_elements, entries, kinds, Adds, AddsNode};
+
+use super::{Class, Node, Tree};
+use crate::session::drr::Deficits;
+use crate::session::inputs::{Input, Inputs};
+use crate::session::nodes::Nodes;
+use crate::session::round_robin::Beginning;
+use crate::session::shaper::Bucket;
+use crate::session::state::State;
+use crate::session::stride::Passes;
+use clk_packet::Fault;
+use std::alloc::{AllocError, Global};
+use std::slice;
+
+/// How many queues and schedulers a tree of a session has at most, the device counted.
+const MAX_ELEMENTS: u16 = 256;
+
+/// The tables of nodes, by number, as they are filled.
+#[derive(Drop)]
+struct Tables {
+    inputs: Vec<Inputs>,
+    states: Vec<State>,
+}
+
+impl Tree {
+    ghost use Rattle.clk_sched.specs.Tree.{root};
+    ghost use Rattle.clk_sched.specs.Session.{IsLaidOut};
+    ghost use Rattle.clk_sched.specs.LaidOut.{elements_of, input_of, entries_of, kinds_of, IsRefused};
+
+    /// The tables of this tree, before its first pull.
+    ///
+    /// # Errors
+    ///
+    /// Fault 18 where the tree has more than 256 queues and schedulers, the device counted, and fault 1.
+    pub(crate) fn lay_out(&self, alloc: Global) -> Result<Nodes, Fault>
+        ensures laid_out { IfOk result (λ n. IsLaidOut self.now n) }
+        ensures fits { IfOk result (λ n. 1 + elements (root self.now) ≤ most_elements) }
+        ensures refused { IfErr result (λ fault. IsRefused self.now fault) }
+    {
+        // That the tree is well formed is known where a field of it is read.
+        let _ = &self.node;
+        if self.room_after(MAX_ELEMENTS - 1).is_none() {
+            return Err(Fault::TooLarge);
+        }
+        let mut tables = Tables {
+            inputs: Vec::new(alloc),
+            states: Vec::new(alloc),
+        };
+        // The device is node 0: it stands over this tree as a PrioSched over one input.
+        lay_node(alloc, &mut tables, State::Prio, slice::from_ref(self))?;
+        Ok(Nodes {
+            inputs: tables.inputs,
+            states: tables.states,
+            log: Vec::new(alloc),
+            pull: 0,
+            moment: 0,
+        })
+    }
+
+    // What is left of room for so many queues and schedulers after those of this tree, if they have room.
+    #[cycle(room)]
+    fn room_after(&self, room: u16) -> Option<u16>
+        ensures { MatchOption result (room < elements_of self.now) (λ left. left + elements_of self.now ≡ room) }
+    {
+        let left = room.checked_sub(1)?;
+        match &self.node {
+            Node::Leaf(_) => Some(left),
+            Node::Scheduler(_, inputs) => room_after(inputs, left),
+        }
+    }
+
+    // Lays this tree out, and answers what stands for it at an input, and how many edges there are to it and below.
+    #[cycle(lay)]
+    fn lay(&self, alloc: Global, tables: &mut Tables) -> Result<(Input, usize), AllocError>
+        requires room { length tables.old.inputs.items + elements_of self.now ≤ most_elements }
+        ensures adds { IfOk result (λ r. Adds tables.old tables.new (entries_of (length tables.old.inputs.items) self.now) (kinds_of self.now)) }
+        ensures input { IfOk result (λ r. r.0 ≡ input_of (length tables.old.inputs.items) self.now) }
+        ensures edges { IfOk result (λ r. r.1 ≡ elements_of self.now) }
+    {
+        match &self.node {
+            Node::Leaf(q) => Ok((Input::Queue(*q), 1)),
+            Node::Scheduler(class, inputs) => {
+                let number = tables.inputs.len() as u16;
+                let state = class.first_state(alloc)?;
+                let edges = lay_node(alloc, tables, state, inputs)?;
+                Ok((Input::Scheduler(number), 1 + edges))
+            }
+        }
+    }
+}
+
+impl Class {
+    ghost use Rattle.std.specs.Prelude.{ℕ, []};
+    ghost use Rattle.clk_sched.specs.Holds.OfClass.{Holds};
+    ghost use Rattle.clk_sched.specs.Tree.{HasArguments};
+    ghost use Rattle.clk_sched.specs.Kept.{class_of};
+    ghost use Rattle.clk_sched.specs.LaidOut.{FitsInputs};
+
+    // What a scheduler of this class holds before its first pull.
+    fn first_state(&self, alloc: Global) -> Result<State, AllocError>
+        requires { FitsInputs (class_of self.now) }
+        ensures { IfOk result (λ state. (inputs : ℕ) → HasArguments (class_of self.now) inputs → Holds (class_of self.now) inputs [] state) }
+    {
+        match self {
+            Class::Prio => Ok(State::Prio),
+            Class::RoundRobin => Ok(State::RoundRobin(Beginning { input: 0 })),
+            Class::Drr(quanta) => Ok(State::Drr(Deficits::new(alloc, quanta)?)),
+            Class::Stride(tickets) => Ok(State::Stride(Passes::new(alloc, tickets)?)),
+            Class::Shaper(rate, burst) => Ok(State::Shaper(Bucket::new(*rate, *burst))),
+        }
+    }
+}
+
+#[cfg(test)]
+mod tests;
+
+/// What is left of room for so many queues and schedulers after those of these trees, if they have room.
+#[cycle(room)]
+fn room_after(trees: &[Tree], room: u16) -> Option<u16>
+    ensures { MatchOption result (room < elements (row trees.now)) (λ left. left + elements (row trees.now) ≡ room) }
+{
+    let [first, rest @ ..] = trees else {
+        return Some(room);
+    };
+    room_after(rest, first.room_after(room)?)
+}
+
+/// Adds a node that holds this, and stands over these trees, and lays them out after it. It answers how many edges there are
+/// from the node and below.
+#[cycle(lay)]
+fn lay_node(
+    alloc: Global,
+    tables: &mut Tables,
+    state: State,
+    trees: &[Tree],
+) -> Result<usize, AllocError>
+    requires room { length tables.old.inputs.items + elements (row trees.now) < most_elements }
+    ensures adds { IfOk result (λ edges. AddsNode tables.old tables.new state (row trees.now)) }
+    ensures edges { IfOk result (λ edges. edges ≡ elements (row trees.now)) }
+{
+    let number = tables.inputs.len();
+    tables.states.push(state)?;
+    // This takes the node's number, until what stands at its inputs is known.
+    tables.inputs.push(Inputs {
+        each: Vec::new(alloc),
+        edges: 0,
+    })?;
+    let mut node = Inputs {
+        each: Vec::with_capacity(alloc, trees.len())?,
+        edges: 0,
+    };
+    lay_inputs(alloc, tables, &mut node, trees)?;
+    let edges = node.edges;
+    tables.inputs[number] = node;
+    Ok(edges)
+}
+
+/// Lays these trees out, and adds what stands for them to the inputs of a node.
+#[cycle(lay)]
+fn lay_inputs(
+    alloc: Global,
+    tables: &mut Tables,
+    node: &mut Inputs,
+    trees: &[Tree],
+) -> Result<(), AllocError>
+    requires room { length tables.old.inputs.items + elements (row trees.now) ≤ most_elements }
+    requires edges { node.old.edges + elements (row trees.now) ≤ most_elements }
+    ensures adds { IfOk result (λ r. Adds tables.old tables.new (entries (length tables.old.inputs.items) (row trees.now)) (kinds (row trees.now))) }
+    ensures each { IfOk result (λ r. node.new.each.items ≡ node.old.each.items ++ inputs_of (length tables.old.inputs.items) (row trees.now)) }
+    ensures edges { IfOk result (λ r. node.new.edges ≡ node.old.edges + elements (row trees.now)) }
+{
+    let [first, rest @ ..] = trees else {
+        return Ok(());
+    };
+    let (input, edges) = first.lay(alloc, tables)?;
+    node.each.push(input)?;
+    node.edges += edges;
+    lay_inputs(alloc, tables, node, rest)
+}
