@@ -51,3 +51,4 @@ pub mod Shares
 pub mod Held
 pub mod TreeBound
 pub mod SessionPull
+pub mod SessionDrain

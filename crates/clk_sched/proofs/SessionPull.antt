@@ -14,7 +14,7 @@ use Rattle.clk_sched.specs.Step.{IsOnePullMore}
 use Rattle.clk_sched.specs.Holds.Shaper.{AreBefore}
 use Rattle.clk_sched.specs.Places.{StandsIn, AreWired, AllFit}
 use Rattle.clk_sched.specs.Pulling.{History, NodeHolds, EachHolds, IsBlock, Keeps, Pulls, HasPulled, added, now_of, after, with_turn, as_turn}
-use Rattle.clk_sched.specs.Session.{Progress, IsAfterRun, IsPulledOnce, history_of, latest_moment, counted_moment, newly}
+use Rattle.clk_sched.specs.Session.{Progress, IsLaidOut, IsAfterRun, IsPulledOnce, history_of, latest_moment, counted_moment, newly}
 use Rattle.clk_sched.proofs.Members.{all-weaker}
 use Rattle.clk_sched.proofs.Apart.{all-reverse}
 use Rattle.clk_sched.proofs.GoesOn.{goes-on}
@@ -169,3 +169,17 @@ filter-few test (x ∷ xs) = by_test (test x) (filter-few test xs)
 
 pub pulls-few : (log : List Visit) → length (pulls log) ≤ length log
 pulls-few log = let e = length-map-range_with_len (λ k. in_pull k log) 0 (length (visits_of 0 log)) in let l = filter-few (λ (v : Visit). v.node == 0) log in omega (arith, e, l)
+
+-- a session before its first pull
+pub session-first : (tree : Tree) (n : Nodes) → IsLaidOut tree n → IsAfterRun tree n
+session-first tree n laid =
+    record {
+      stands = laid.stands;
+      wired = laid.wired;
+      fit = laid.fit;
+      size = laid.size;
+      run = subst (IsRun tree) (sym laid.log) (goes-on tree).start;
+      holds = subst (λ l. NodeHolds n.states.items (history_of (reverse (pulls l))) 0 prio (root tree)) (sym laid.log) laid.holds;
+      pull = laid.pull ∙ ap (λ l. length (pulls l)) (sym laid.log);
+      moment = laid.moment ∙ ap (λ l. latest_moment (reverse (pulls l))) (sym laid.log);
+    }

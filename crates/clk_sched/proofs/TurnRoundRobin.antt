@@ -38,7 +38,7 @@ after-wrap n s j (suc m) low e l =
     let here : (s + j) % n ≡ low = ap (λ k. k % n) is ∙ mod-mul-add 1 n low (omega arith) in
     ap₂ (λ i is. i ∷ is) here (after-wrap n s (j + 1) m (low + 1) (omega (arith, e)) (omega arith))
 
-range-append : (a m n : ℕ) → range_with_len a (m + n) ≡ range_with_len a m ++ range_with_len (a + m) n
+pub range-append : (a m n : ℕ) → range_with_len a (m + n) ≡ range_with_len a m ++ range_with_len (a + m) n
 range-append a zero n = let e : zero + n ≡ n = omega arith in let f : a + zero ≡ a = omega arith in ap (range_with_len a) e ∙ ap (λ b. range_with_len b n) (sym f)
 range-append a (suc m) n =
     let e : suc m + n ≡ suc (m + n) = omega arith in

@@ -1,0 +1,107 @@
+-- A session that is drained, pull by pull.
+use Rattle.std.proofs.Common.{◌≡◌, ◌≢◌, ℕ, suc, ◌+◌, ◌<◌, ◌≤◌, true, max, List, [], ◌∷◌, ◌++◌, length, map, reverse, drop, Option, Some, None, is_some, refl, sym, ap, ap₂, ◌∙◌, subst, append-nil, append_assoc, arith}
+use Rattle.std.specs.List.{flat_map, filter_map, range_with_len}
+use Rattle.std.specs.Option.{cons_option}
+use Rattle.std.proofs.Math.Seq.{drop-append_seam}
+use Rattle.std.proofs.lemmas.List.{map-append, reverse-append, length-append}
+use Rattle.std.proofs.lemmas.List.Concat.{flat_map-append}
+use Rattle.std.proofs.lemmas.List.Elements.{filter_map-append}
+use Rattle.clk_packet.specs.declared.packet.Packet.{Packet}
+use Rattle.clk_sched.specs.declared.visit.Visit.{Visit}
+use Rattle.clk_sched.specs.Log.{visits_of, pulls, moment_of, result_of}
+use Rattle.clk_sched.specs.Run.{IsRun}
+use Rattle.clk_sched.specs.Places.{Answers}
+use Rattle.clk_sched.specs.Session.{Progress, IsPulledOnce, IsDrained, GivesAll, StopsShort, LastGives, given_in, counted_moment, latest_moment, newly, tree_queue}
+use Rattle.clk_sched.proofs.Asking.{answers-then}
+use Rattle.clk_sched.proofs.TurnRoundRobin.{range-append}
+
+abbrev joined : List (List Visit) → List Visit
+joined more = flat_map (λ pull. pull) more
+
+newly-is : (old new : Progress) (visits : List Visit) → new.log ≡ old.log ++ visits → newly old new ≡ visits
+newly-is old new visits e = ap (drop (length old.log)) e ∙ drop-append_seam old.log visits
+
+abbrev one_if : Option Packet → ℕ
+one_if None = 0
+one_if (Some p) = 1
+
+last-more : (more : List (List Visit)) (pull : List Visit) → is_some (result_of (visits_of 0 pull)) ≡ true → LastGives (more ++ pull ∷ [])
+last-more [] pull e = e
+last-more (p ∷ []) pull e = e
+last-more (p ∷ q ∷ more) pull e = last-more (q ∷ more) pull e
+
+-- a drain so far: so many pulls were made, and so many packets came out, of those that are left
+pub record IsDraining {S : Type 0} (gives : S → ℕ → Option Packet → S → Type 0) (old now : Progress) (before after : S) (moment made given left : ℕ) : Type 0 where
+  pub drained : IsDrained old now moment made given
+  pub counted : counted_moment now ≤ moment + made
+  pub enough : given ≤ left
+  pub stops : given ≡ left → LastGives drained.more
+  pub answers : Answers gives (tree_queue old.tree) before (newly old now) after
+  pub idle : left ≡ 0 → (made ≡ 0) × (now ≡ old) × (after ≡ before)
+
+pub draining-first : {S : Type 0} (gives : S → ℕ → Option Packet → S → Type 0) (s : Progress) (q : S) (moment left : ℕ) → IsRun s.tree s.log → counted_moment s ≤ moment → IsDraining gives s s q q moment 0 0 left
+draining-first gives s q moment left run l =
+    record {
+      drained = record { more = []; tree = refl; log = sym (append-nil s.log); pulls_are = sym (append-nil (pulls s.log)); run = run; made_are = refl; moments = refl; given_are = refl };
+      counted = omega arith;
+      enough = omega arith;
+      stops = λ e. tt;
+      answers = subst (λ l. Answers gives (tree_queue s.tree) q l q) (sym (newly-is s s [] (sym (append-nil s.log)))) refl;
+      idle = λ e. (refl, refl, refl);
+    }
+
+-- one pull more
+drained-more : (old s t : Progress) (moment made given : ℕ) (got : Option Packet) → IsDrained old s moment made given → counted_moment s ≤ moment + made → IsPulledOnce s t (moment + made + 1) got
+    → IsDrained old t moment (made + 1) (given + one_if got)
+drained-more old s t moment made given got d counted once =
+    record {
+      more = d.more ++ pull ∷ [];
+      tree = once.tree ∙ d.tree;
+      log = once.log ∙ ap (λ l. l ++ pull) d.log ∙ append_assoc old.log (joined d.more) pull ∙ ap (λ l. old.log ++ l) (sym (flat_map-append (λ p. p) d.more (pull ∷ []) ∙ ap (λ l. joined d.more ++ l) (append-nil pull)));
+      pulls_are = once.last ∙ ap (λ l. l ++ pull ∷ []) d.pulls_are ∙ append_assoc (pulls old.log) d.more (pull ∷ []);
+      run = once.run;
+      made_are = let e = d.made_are in let f = length-append d.more (pull ∷ []) in omega (arith, e, f);
+      moments = map-append moment_of d.more (pull ∷ []) ∙ ap₂ (λ a b. a ++ b ∷ []) d.moments at ∙ ap (λ n. range_with_len (moment + 1) made ++ n ∷ []) next ∙ sym (range-append (moment + 1) made 1);
+      given_are = let e = d.given_are in let f = ap length (filter_map-append (λ p. result_of (visits_of 0 p)) d.more (pull ∷ [])) in let k = length-append (given_in d.more) (given_in (pull ∷ [])) in let one = by_got got once.result in omega (arith, e, f, k, one);
+    }
+  where
+    pull : List Visit
+    pull = newly s t
+
+    next : moment + made + 1 ≡ moment + 1 + made
+    next = omega arith
+
+    at : moment_of pull ≡ moment + made + 1
+    at = let e = once.at_moment in omega (arith, e, counted)
+
+    by_got : (o : Option Packet) → o ≡ result_of (visits_of 0 pull) → length (given_in (pull ∷ [])) ≡ one_if o
+    by_got None e = ap (λ r. length (cons_option r [])) (sym e)
+    by_got (Some p) e = ap (λ r. length (cons_option r [])) (sym e)
+
+pub draining-more : {S : Type 0} (gives : S → ℕ → Option Packet → S → Type 0) (old s t : Progress) (p q r : S) (moment made given left : ℕ) (got : Option Packet) → IsDraining gives old s p q moment made given left → given < left
+    → IsPulledOnce s t (moment + made + 1) got → Answers gives (tree_queue s.tree) q (newly s t) r → IsDraining gives old t p r moment (made + 1) (given + one_if got) left
+draining-more gives old s t p q r moment made given left got d l once told =
+    record {
+      drained = more;
+      counted = let e = ap latest_moment (ap reverse once.last ∙ reverse-append (pulls s.log) (newly s t ∷ [])) in let f = once.at_moment in let k = d.counted in omega (arith, e, f, k);
+      enough = by_enough got;
+      stops = by_got got once.result;
+      answers = subst (λ l. Answers gives (tree_queue old.tree) p l r) (sym (newly-is old t (newly old s ++ newly s t) whole))
+          (answers-then gives (tree_queue old.tree) (newly old s) (newly s t) p q r d.answers (subst (λ tree. Answers gives (tree_queue tree) q (newly s t) r) d.drained.tree told));
+      idle = λ e. absurd (omega (arith, e, l));
+    }
+  where
+    more : IsDrained old t moment (made + 1) (given + one_if got)
+    more = drained-more old s t moment made given got d.drained d.counted once
+
+    by_enough : (o : Option Packet) → given + one_if o ≤ left
+    by_enough None = omega arith
+    by_enough (Some x) = omega arith
+
+    by_got : (o : Option Packet) → o ≡ result_of (visits_of 0 (newly s t)) → given + one_if o ≡ left → LastGives (d.drained.more ++ newly s t ∷ [])
+    by_got None e f = absurd (omega (arith, f, l))
+    by_got (Some x) e f = last-more d.drained.more (newly s t) (ap is_some (sym e))
+
+    whole : t.log ≡ old.log ++ (newly old s ++ newly s t)
+    whole =
+        once.log ∙ ap (λ l. l ++ newly s t) (d.drained.log ∙ ap (λ l. old.log ++ l) (sym (newly-is old s (joined d.drained.more) d.drained.log))) ∙ append_assoc old.log (newly old s) (newly s t)
