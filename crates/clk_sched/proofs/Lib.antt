@@ -38,6 +38,7 @@ pub mod DeficitShares
 pub mod StrideShares
 pub mod Bucket
 pub mod Deficits
+pub mod TurnDrr
 pub mod Rising
 pub mod RankLemmas
 pub mod StridePasses
