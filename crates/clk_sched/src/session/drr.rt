@@ -102,16 +102,7 @@ impl Deficits {
         Ok(Deficits { row, cursor: 0 })
     }
 
-    /// The input whose turn it is.
-    pub fn cursor(&self) -> u16
-        ensures value { result ≡ self.now.cursor }
-        ensures within { result < length self.now.row.items }
-        ensures turn { (quanta : List ℕ) (inputs : ℕ) (before : List Visit) → HoldsDeficits quanta inputs before self.now → result ≡ next_input inputs before }
-    {
-        self.cursor
-    }
-
-    /// The head held at that input.
+    /// The head held at the input whose turn it is.
     pub fn head(&self) -> Option<Packet>
         ensures { (quanta : List ℕ) (inputs : ℕ) (before : List Visit) → HoldsDeficits quanta inputs before self.now → result ≡ head_at (next_input inputs before) before }
     {

@@ -344,52 +344,40 @@ drr::Deficits::look-visit-requires-in-None g t c =
     let at_most = c.ask-got.ensures.keeps.at_most in
     record { room = omega (arith, there, room, capacity, at_most) }
 
-pub drr::Deficits::look-returns-in-Some-clause-keeps : goal.drr::Deficits::look-returns-in-Some-clause-keeps
-drr::Deficits::look-returns-in-Some-clause-keeps g t c =
+pub drr::Deficits::look-returns-in-Some : goal.drr::Deficits::look-returns-in-Some
+drr::Deficits::look-returns-in-Some g t c =
     let a = c.args.nodes.now in
-    let v = looking a c.args.node c.args.self.now.cursor c.head-head.result false c.visit.result in
-    keeps-more a c.visit.new.nodes _ _ (keeps-logged a a c.visit.new.nodes 0 v (keeps-none a c.requires.can_pull.fit) c.visit.ensures.logs) (edge-there a.inputs.items c.args.node c.args.self.now.cursor c.requires.within)
+    let after = c.visit.new.nodes in
+    let d = c.args.self.now in
+    let v = looking a c.args.node d.cursor c.head-head.result false c.visit.result in
+    let logs = c.visit.ensures.logs in
+    let settles = c.visit.ensures.settles in
+    record {
+      keeps = keeps-more a after _ _ (keeps-logged a a after 0 v (keeps-none a c.requires.can_pull.fit) logs) (edge-there a.inputs.items c.args.node d.cursor c.requires.within);
+      answers = answers-held g.Q.Ask.gives a.inputs.items a after c.args.q.now v logs refl;
+      length = settles.length_is;
+      moves = settles.moves;
+      looks = looks-held a after c.args.node d c.visit.new.self c.in-Some.field-0 c.head-head.result c.visit.result c.in-Some.is c.head-head.ensures logs settles;
+    }
 
-pub drr::Deficits::look-returns-in-Some-clause-answers : goal.drr::Deficits::look-returns-in-Some-clause-answers
-drr::Deficits::look-returns-in-Some-clause-answers g t c =
-    let a = c.args.nodes.now in
-    let v = looking a c.args.node c.args.self.now.cursor c.head-head.result false c.visit.result in
-    answers-held g.Q.Ask.gives a.inputs.items a c.visit.new.nodes c.args.q.now v c.visit.ensures.logs refl
-
-pub drr::Deficits::look-returns-in-Some-clause-length : goal.drr::Deficits::look-returns-in-Some-clause-length
-drr::Deficits::look-returns-in-Some-clause-length g t c = c.visit.ensures.settles.length_is
-
-pub drr::Deficits::look-returns-in-Some-clause-moves : goal.drr::Deficits::look-returns-in-Some-clause-moves
-drr::Deficits::look-returns-in-Some-clause-moves g t c = c.visit.ensures.settles.moves
-
-pub drr::Deficits::look-returns-in-Some-clause-looks : goal.drr::Deficits::look-returns-in-Some-clause-looks
-drr::Deficits::look-returns-in-Some-clause-looks g t c =
-    looks-held c.args.nodes.now c.visit.new.nodes c.args.node c.args.self.now c.visit.new.self c.in-Some.field-0 c.head-head.result c.visit.result c.in-Some.is c.head-head.ensures c.visit.ensures.logs c.visit.ensures.settles
-
-pub drr::Deficits::look-returns-in-None-clause-keeps : goal.drr::Deficits::look-returns-in-None-clause-keeps
-drr::Deficits::look-returns-in-None-clause-keeps g t c =
-    let a = c.args.nodes.now in
-    let there = edge-there a.inputs.items c.args.node c.args.self.now.cursor c.requires.within in
-    let b = c.ask-got.new.self in
-    let v = looking b c.args.node c.args.self.now.cursor c.ask-got.result true c.visit-in-None.result in
-    keeps-more a c.visit-in-None.new.nodes _ _ (keeps-logged a b c.visit-in-None.new.nodes _ v c.ask-got.ensures.keeps c.visit-in-None.ensures.logs) (omega (arith, there))
-
-pub drr::Deficits::look-returns-in-None-clause-answers : goal.drr::Deficits::look-returns-in-None-clause-answers
-drr::Deficits::look-returns-in-None-clause-answers g t c =
+pub drr::Deficits::look-returns-in-None : goal.drr::Deficits::look-returns-in-None
+drr::Deficits::look-returns-in-None g t c =
     let a = c.args.nodes.now in
     let b = c.ask-got.new.self in
-    let v = looking b c.args.node c.args.self.now.cursor c.ask-got.result true c.visit-in-None.result in
-    subst (λ l. Answers g.Q.Ask.gives (queue_asked a.inputs.items) c.args.q.now l c.ask-got.new.q) (sym (added-logged a b c.visit-in-None.new.nodes _ v c.ask-got.ensures.keeps c.visit-in-None.ensures.logs)) (c.ask-got.ensures.answers v refl refl refl refl)
-
-pub drr::Deficits::look-returns-in-None-clause-length : goal.drr::Deficits::look-returns-in-None-clause-length
-drr::Deficits::look-returns-in-None-clause-length g t c = c.visit-in-None.ensures.settles.length_is
-
-pub drr::Deficits::look-returns-in-None-clause-moves : goal.drr::Deficits::look-returns-in-None-clause-moves
-drr::Deficits::look-returns-in-None-clause-moves g t c = c.visit-in-None.ensures.settles.moves
-
-pub drr::Deficits::look-returns-in-None-clause-looks : goal.drr::Deficits::look-returns-in-None-clause-looks
-drr::Deficits::look-returns-in-None-clause-looks g t c =
-    looks-fresh c.args.nodes.now c.ask-got.new.self c.visit-in-None.new.nodes _ c.args.node c.args.self.now c.visit-in-None.new.self c.head-head.result c.ask-got.result c.visit-in-None.result c.in-None.is c.head-head.ensures c.ask-got.ensures.keeps c.ask-got.ensures.asks c.visit-in-None.ensures.logs c.visit-in-None.ensures.settles
+    let after = c.visit-in-None.new.nodes in
+    let d = c.args.self.now in
+    let v = looking b c.args.node d.cursor c.ask-got.result true c.visit-in-None.result in
+    let asked = c.ask-got.ensures in
+    let logs = c.visit-in-None.ensures.logs in
+    let settles = c.visit-in-None.ensures.settles in
+    let there = edge-there a.inputs.items c.args.node d.cursor c.requires.within in
+    record {
+      keeps = keeps-more a after _ _ (keeps-logged a b after _ v asked.keeps logs) (omega (arith, there));
+      answers = subst (λ l. Answers g.Q.Ask.gives (queue_asked a.inputs.items) c.args.q.now l c.ask-got.new.q) (sym (added-logged a b after _ v asked.keeps logs)) (asked.answers v refl refl refl refl);
+      length = settles.length_is;
+      moves = settles.moves;
+      looks = looks-fresh a b after _ c.args.node d c.visit-in-None.new.self c.head-head.result c.ask-got.result c.visit-in-None.result c.in-None.is c.head-head.ensures asked.keeps asked.asks logs settles;
+    }
 
 pub drr::Deficits::pull-loop-init : goal.drr::Deficits::pull-loop-init
 drr::Deficits::pull-loop-init g t c =
@@ -418,8 +406,8 @@ drr::Deficits::pull-loop-preserved g t c =
     let looked = has-looked g.Q.Ask.gives c.loop.nodes c.look-got.new.nodes c.loop.q c.look-got.new.q x c.loop.self c.look-got.new.self c.look-got.result.0 c.look-got.result.1 look.keeps look.answers look.length look.looks in
     making-next g.Q.Ask.gives a c.loop.nodes c.look-got.new.nodes c.args.q.now c.loop.q c.look-got.new.q x c.args.self.now c.loop.self c.look-got.new.self c.loop.counter look.looks.visit c.loop.invariant l look.looks.input looked (look.looks.passes ∙ c.if-passed.false) (look.moves c.if-passed.false)
 
-pub drr::Deficits::pull-returns-then-passed-clause-keeps : goal.drr::Deficits::pull-returns-then-passed-clause-keeps
-drr::Deficits::pull-returns-then-passed-clause-keeps g t c =
+pub drr::Deficits::pull-returns-then-passed : goal.drr::Deficits::pull-returns-then-passed
+drr::Deficits::pull-returns-then-passed g t c =
     let a = c.args.nodes.now in
     let x = c.args.node in
     let place = entry-there a.inputs.items x c.requires.can_pull.there in
@@ -429,47 +417,15 @@ drr::Deficits::pull-returns-then-passed-clause-keeps g t c =
     let look = c.look-got.ensures in
     let looked = has-looked g.Q.Ask.gives c.loop.nodes c.look-got.new.nodes c.loop.q c.look-got.new.q x c.loop.self c.look-got.new.self c.look-got.result.0 c.look-got.result.1 look.keeps look.answers look.length look.looks in
     let ended = making-passed g.Q.Ask.gives a c.loop.nodes c.look-got.new.nodes c.args.q.now c.loop.q c.look-got.new.q x c.args.self.now c.loop.self c.look-got.new.self c.loop.counter look.looks.visit c.loop.invariant l look.looks.input looked (look.looks.passes ∙ c.if-passed.true) in
-    ended-keeps g.Q.Ask.gives a c.look-got.new.nodes c.args.q.now c.look-got.new.q x c.args.self.now c.look-got.new.self look.looks.visit.got place.0 c.requires.can_pull place.1 ended
+    record {
+      keeps = ended-keeps g.Q.Ask.gives a c.look-got.new.nodes c.args.q.now c.look-got.new.q x c.args.self.now c.look-got.new.self look.looks.visit.got place.0 c.requires.can_pull place.1 ended;
+      fits = to-entry (λ p. length c.look-got.new.self.row.items ≡ length p.each.items) (slice_get a.inputs.items x) place.0 place.1 (ended.made.length_is ∙ long);
+      answers = ended.made.answers;
+      turn = λ quanta. subst (λ o. TakesTurn a c.look-got.new.nodes x (drr quanta) (Drr c.args.self.now) (Drr c.look-got.new.self) o) look.looks.gets (drr-turn g.Q.Ask.gives a c.look-got.new.nodes c.args.q.now c.look-got.new.q x c.args.self.now c.look-got.new.self look.looks.visit.got place.0 place.1 long ended quanta);
+    }
 
-pub drr::Deficits::pull-returns-then-passed-clause-fits : goal.drr::Deficits::pull-returns-then-passed-clause-fits
-drr::Deficits::pull-returns-then-passed-clause-fits g t c =
-    let a = c.args.nodes.now in
-    let x = c.args.node in
-    let place = entry-there a.inputs.items x c.requires.can_pull.there in
-    let long = of-entry (λ p. length c.args.self.now.row.items ≡ length p.each.items) (slice_get a.inputs.items x) place.0 place.1 c.requires.fits in
-    let count : c.len-end.result ≡ length c.args.self.now.row.items = c.len-end.ensures.value in
-    let l : c.loop.counter < length c.args.self.now.row.items = subst (λ n. c.loop.counter < n) count c.loop-test.true in
-    let look = c.look-got.ensures in
-    let looked = has-looked g.Q.Ask.gives c.loop.nodes c.look-got.new.nodes c.loop.q c.look-got.new.q x c.loop.self c.look-got.new.self c.look-got.result.0 c.look-got.result.1 look.keeps look.answers look.length look.looks in
-    let ended = making-passed g.Q.Ask.gives a c.loop.nodes c.look-got.new.nodes c.args.q.now c.loop.q c.look-got.new.q x c.args.self.now c.loop.self c.look-got.new.self c.loop.counter look.looks.visit c.loop.invariant l look.looks.input looked (look.looks.passes ∙ c.if-passed.true) in
-    to-entry (λ p. length c.look-got.new.self.row.items ≡ length p.each.items) (slice_get a.inputs.items x) place.0 place.1 (ended.made.length_is ∙ long)
-
-pub drr::Deficits::pull-returns-then-passed-clause-answers : goal.drr::Deficits::pull-returns-then-passed-clause-answers
-drr::Deficits::pull-returns-then-passed-clause-answers g t c =
-    let a = c.args.nodes.now in
-    let x = c.args.node in
-    let count : c.len-end.result ≡ length c.args.self.now.row.items = c.len-end.ensures.value in
-    let l : c.loop.counter < length c.args.self.now.row.items = subst (λ n. c.loop.counter < n) count c.loop-test.true in
-    let look = c.look-got.ensures in
-    let looked = has-looked g.Q.Ask.gives c.loop.nodes c.look-got.new.nodes c.loop.q c.look-got.new.q x c.loop.self c.look-got.new.self c.look-got.result.0 c.look-got.result.1 look.keeps look.answers look.length look.looks in
-    let ended = making-passed g.Q.Ask.gives a c.loop.nodes c.look-got.new.nodes c.args.q.now c.loop.q c.look-got.new.q x c.args.self.now c.loop.self c.look-got.new.self c.loop.counter look.looks.visit c.loop.invariant l look.looks.input looked (look.looks.passes ∙ c.if-passed.true) in
-    ended.made.answers
-
-pub drr::Deficits::pull-returns-then-passed-clause-turn : goal.drr::Deficits::pull-returns-then-passed-clause-turn
-drr::Deficits::pull-returns-then-passed-clause-turn g t c =
-    let a = c.args.nodes.now in
-    let x = c.args.node in
-    let place = entry-there a.inputs.items x c.requires.can_pull.there in
-    let long = of-entry (λ p. length c.args.self.now.row.items ≡ length p.each.items) (slice_get a.inputs.items x) place.0 place.1 c.requires.fits in
-    let count : c.len-end.result ≡ length c.args.self.now.row.items = c.len-end.ensures.value in
-    let l : c.loop.counter < length c.args.self.now.row.items = subst (λ n. c.loop.counter < n) count c.loop-test.true in
-    let look = c.look-got.ensures in
-    let looked = has-looked g.Q.Ask.gives c.loop.nodes c.look-got.new.nodes c.loop.q c.look-got.new.q x c.loop.self c.look-got.new.self c.look-got.result.0 c.look-got.result.1 look.keeps look.answers look.length look.looks in
-    let ended = making-passed g.Q.Ask.gives a c.loop.nodes c.look-got.new.nodes c.args.q.now c.loop.q c.look-got.new.q x c.args.self.now c.loop.self c.look-got.new.self c.loop.counter look.looks.visit c.loop.invariant l look.looks.input looked (look.looks.passes ∙ c.if-passed.true) in
-    λ quanta. subst (λ o. TakesTurn a c.look-got.new.nodes x (drr quanta) (Drr c.args.self.now) (Drr c.look-got.new.self) o) look.looks.gets (drr-turn g.Q.Ask.gives a c.look-got.new.nodes c.args.q.now c.look-got.new.q x c.args.self.now c.look-got.new.self look.looks.visit.got place.0 place.1 long ended quanta)
-
-pub drr::Deficits::pull-returns-clause-keeps : goal.drr::Deficits::pull-returns-clause-keeps
-drr::Deficits::pull-returns-clause-keeps g t c =
+pub drr::Deficits::pull-returns : goal.drr::Deficits::pull-returns
+drr::Deficits::pull-returns g t c =
     let a = c.args.nodes.now in
     let x = c.args.node in
     let place = entry-there a.inputs.items x c.requires.can_pull.there in
@@ -477,38 +433,12 @@ drr::Deficits::pull-returns-clause-keeps g t c =
     let count : c.len-end.result ≡ length c.args.self.now.row.items = c.len-end.ensures.value in
     let all : c.loop.counter ≡ length c.args.self.now.row.items = let f = c.loop-test.false in let m = c.loop.auto.counter-end in omega (arith, count, f, m) in
     let ended = making-all g.Q.Ask.gives a c.loop.nodes c.args.q.now c.loop.q x c.args.self.now c.loop.self c.loop.counter c.loop.invariant all in
-    ended-keeps g.Q.Ask.gives a c.loop.nodes c.args.q.now c.loop.q x c.args.self.now c.loop.self None place.0 c.requires.can_pull place.1 ended
-
-pub drr::Deficits::pull-returns-clause-fits : goal.drr::Deficits::pull-returns-clause-fits
-drr::Deficits::pull-returns-clause-fits g t c =
-    let a = c.args.nodes.now in
-    let x = c.args.node in
-    let place = entry-there a.inputs.items x c.requires.can_pull.there in
-    let long = of-entry (λ p. length c.args.self.now.row.items ≡ length p.each.items) (slice_get a.inputs.items x) place.0 place.1 c.requires.fits in
-    let count : c.len-end.result ≡ length c.args.self.now.row.items = c.len-end.ensures.value in
-    let all : c.loop.counter ≡ length c.args.self.now.row.items = let f = c.loop-test.false in let m = c.loop.auto.counter-end in omega (arith, count, f, m) in
-    let ended = making-all g.Q.Ask.gives a c.loop.nodes c.args.q.now c.loop.q x c.args.self.now c.loop.self c.loop.counter c.loop.invariant all in
-    to-entry (λ p. length c.loop.self.row.items ≡ length p.each.items) (slice_get a.inputs.items x) place.0 place.1 (ended.made.length_is ∙ long)
-
-pub drr::Deficits::pull-returns-clause-answers : goal.drr::Deficits::pull-returns-clause-answers
-drr::Deficits::pull-returns-clause-answers g t c =
-    let a = c.args.nodes.now in
-    let x = c.args.node in
-    let count : c.len-end.result ≡ length c.args.self.now.row.items = c.len-end.ensures.value in
-    let all : c.loop.counter ≡ length c.args.self.now.row.items = let f = c.loop-test.false in let m = c.loop.auto.counter-end in omega (arith, count, f, m) in
-    let ended = making-all g.Q.Ask.gives a c.loop.nodes c.args.q.now c.loop.q x c.args.self.now c.loop.self c.loop.counter c.loop.invariant all in
-    ended.made.answers
-
-pub drr::Deficits::pull-returns-clause-turn : goal.drr::Deficits::pull-returns-clause-turn
-drr::Deficits::pull-returns-clause-turn g t c =
-    let a = c.args.nodes.now in
-    let x = c.args.node in
-    let place = entry-there a.inputs.items x c.requires.can_pull.there in
-    let long = of-entry (λ p. length c.args.self.now.row.items ≡ length p.each.items) (slice_get a.inputs.items x) place.0 place.1 c.requires.fits in
-    let count : c.len-end.result ≡ length c.args.self.now.row.items = c.len-end.ensures.value in
-    let all : c.loop.counter ≡ length c.args.self.now.row.items = let f = c.loop-test.false in let m = c.loop.auto.counter-end in omega (arith, count, f, m) in
-    let ended = making-all g.Q.Ask.gives a c.loop.nodes c.args.q.now c.loop.q x c.args.self.now c.loop.self c.loop.counter c.loop.invariant all in
-    drr-turn g.Q.Ask.gives a c.loop.nodes c.args.q.now c.loop.q x c.args.self.now c.loop.self None place.0 place.1 long ended
+    record {
+      keeps = ended-keeps g.Q.Ask.gives a c.loop.nodes c.args.q.now c.loop.q x c.args.self.now c.loop.self None place.0 c.requires.can_pull place.1 ended;
+      fits = to-entry (λ p. length c.loop.self.row.items ≡ length p.each.items) (slice_get a.inputs.items x) place.0 place.1 (ended.made.length_is ∙ long);
+      answers = ended.made.answers;
+      turn = drr-turn g.Q.Ask.gives a c.loop.nodes c.args.q.now c.loop.q x c.args.self.now c.loop.self None place.0 place.1 long ended;
+    }
 
 pub prio::pull_prio-returns-in-Some-clause-keeps : goal.prio::pull_prio-returns-in-Some-clause-keeps
 prio::pull_prio-returns-in-Some-clause-keeps g t c =
