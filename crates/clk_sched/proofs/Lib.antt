@@ -27,6 +27,7 @@ pub mod InOrder
 pub mod PutBack
 pub mod Ordered
 pub mod TurnPrio
+pub mod TurnDrr
 pub mod Orders
 pub mod Chosen
 pub mod WithAsked
@@ -38,7 +39,6 @@ pub mod DeficitShares
 pub mod StrideShares
 pub mod Bucket
 pub mod Deficits
-pub mod TurnDrr
 pub mod Rising
 pub mod RankLemmas
 pub mod StridePasses

@@ -1,8 +1,7 @@
 -- The turn of a DRRSched, visit by visit.
-use Rattle.std.proofs.Common.{◌≡◌, ◌≢◌, ◌⊎◌, ℕ, zero, suc, ◌+◌, ◌-◌, ◌%◌, ◌<◌, ◌≤◌, Bool, true, false, not, if◌then◌else◌, List, [], ◌∷◌, ◌++◌, length, map, reverse, slice_get, Option, Some, None, IsSome, IfSome, is_some, MatchOption, MatchBool, inl, inr, refl, sym, ap, ap₂, ◌∙◌, subst, append-nil, append_assoc, arith}
+use Rattle.std.proofs.Common.{◌≡◌, ◌≢◌, ℕ, zero, suc, ◌+◌, ◌%◌, ◌<◌, ◌≤◌, Bool, true, false, not, if◌then◌else◌, List, [], ◌∷◌, ◌++◌, length, map, slice_get, Option, Some, None, IsSome, IfSome, is_some, MatchOption, MatchBool, inl, inr, refl, sym, ap, ◌∙◌, subst, append_assoc, arith}
 use Rattle.std.specs.Bool.{⊤}
 use Rattle.std.specs.List.{AllByRecursion}
-use Rattle.std.specs.Vec.{vec_len, vec_capacity}
 use Rattle.std.proofs.lemmas.Bool.{false≢true}
 use Rattle.std.proofs.lemmas.List.{map-append, length-append}
 use Rattle.clk_packet.specs.declared.packet.Packet.{Packet}
@@ -13,22 +12,22 @@ use Rattle.clk_sched.specs.declared.session.inputs.Inputs.{Inputs}
 use Rattle.clk_sched.specs.declared.session.drr.Deficits.{Deficits}
 use Rattle.clk_sched.specs.declared.session.nodes.Nodes.{Nodes}
 use Rattle.clk_sched.specs.declared.session.state.State.TheVariants.{Drr}
-use Rattle.clk_sched.specs.Tree.{Class, Row, prio, round_robin, drr, stride, shaper, width}
+use Rattle.clk_sched.specs.Tree.{Class, prio, round_robin, drr, stride, shaper, width}
 use Rattle.clk_sched.specs.Turns.{Turn, EachAfter, visits_before}
 use Rattle.clk_sched.specs.Heads.{head_at, is_covered, LooksAtHeads, EndAtPass}
 use Rattle.clk_sched.specs.Laws.Deficit.{next_input, deficit_covers}
 use Rattle.clk_sched.specs.Log.{visits_of, result_of}
 use Rattle.clk_sched.specs.Holds.Deficit.{HoldsDeficits}
-use Rattle.clk_sched.specs.Places.{AllFit, edges_of, edges_at, edges_in, edges_to, option_edges_to, input_at, Answers, at_queue, queue_asked}
-use Rattle.clk_sched.specs.Pulling.{Now, History, AreApart, input_of, IsReady, HasTurned, CanPull, Keeps, Asks, AsksAll, IsGoing, GoesOnBy, IsPulling, IsUnasked, IsVisitAt, added, now_of, after, with_turn, as_turn}
+use Rattle.clk_sched.specs.Places.{AllFit, edges_of, edges_at, edges_in, option_edges_to, input_at, Answers, at_queue, queue_asked}
+use Rattle.clk_sched.specs.Pulling.{AreApart, input_of, CanPull, Keeps, Asks, AsksAll, GoesOnBy, IsPulling, IsUnasked, IsVisitAt, added, now_of, with_turn}
 use Rattle.clk_sched.specs.Looking.{looking, Logs, Settles, Looks}
 use Rattle.clk_sched.specs.Turn.{TakesTurn}
-use Rattle.clk_sched.proofs.Members.{In, of-all, to-all, all-append, all-weaker}
+use Rattle.clk_sched.proofs.Members.{In, to-all, all-append, all-weaker}
 use Rattle.clk_sched.proofs.Allowed.{onto, onto-append, each-join}
 use Rattle.clk_sched.proofs.Apart.{apart-map}
-use Rattle.clk_sched.proofs.Orders.{IsPlace, IsBeyond, first-place, next-place, beyond-differs}
+use Rattle.clk_sched.proofs.Orders.{IsPlace, first-place, next-place, beyond-differs}
 use Rattle.clk_sched.proofs.Pulling.{pulling-first, pulling-looks, pulling-own}
-use Rattle.clk_sched.proofs.Asking.{added-is, added-none, added-then, keeps-then, keeps-more, keeps-none, can-go_on, answers-then, edges-append, asks-then, asks-none}
+use Rattle.clk_sched.proofs.Asking.{added-is, added-none, added-then, keeps-then, keeps-none, can-go_on, answers-then, edges-append, asks-then, asks-none}
 use Rattle.clk_sched.proofs.Ordered.{stands-width, can-order, order-there, keeps-order}
 
 -- a visit is logged after a pull below

@@ -36,9 +36,9 @@ nodes::Nodes::ask-returns-in-Queue-clause-answers g t c =
     let place = entry table c.args.node c.index.result.now (c.requires.can_pull.there) c.index.ensures in
     let input : input_at table c.args.node c.args.input ≡ Some (Queue c.in-Queue.leaf) = input-is table c.args.node c.args.input c.index.result.now c.index-2.result.now place c.requires.within c.index-2.ensures ∙ ap Some c.in-Queue.is in
     λ v node at fresh got.
-        subst (λ l. Answers g.Q.Ask.gives (queue_asked table) c.args.q.now (l ++ v ∷ []) c.ask.new.self) (sym (added-none c.args.self.now))
-        (subst (λ o. at_queue g.Q.Ask.gives o v.got c.args.q.now (λ s. s ≡ c.ask.new.self)) (sym (queue-visited table c.args.node c.args.input (Queue c.in-Queue.leaf) v input node at fresh))
-        (c.ask.new.self, subst (λ o. g.Q.Ask.gives c.args.q.now c.in-Queue.leaf o c.ask.new.self) (sym got) c.ask.ensures.answer, refl))
+    subst (λ l. Answers g.Q.Ask.gives (queue_asked table) c.args.q.now (l ++ v ∷ []) c.ask.new.self) (sym (added-none c.args.self.now))
+    (subst (λ o. at_queue g.Q.Ask.gives o v.got c.args.q.now (λ s. s ≡ c.ask.new.self)) (sym (queue-visited table c.args.node c.args.input (Queue c.in-Queue.leaf) v input node at fresh))
+    (c.ask.new.self, subst (λ o. g.Q.Ask.gives c.args.q.now c.in-Queue.leaf o c.ask.new.self) (sym got) c.ask.ensures.answer, refl))
 
 pub nodes::Nodes::ask-returns-in-Queue-clause-asks : goal.nodes::Nodes::ask-returns-in-Queue-clause-asks
 nodes::Nodes::ask-returns-in-Queue-clause-asks g t c =
@@ -61,8 +61,8 @@ nodes::Nodes::ask-returns-in-Scheduler-clause-answers g t c =
     let place = entry table c.args.node c.index.result.now (c.requires.can_pull.there) c.index.ensures in
     let input : input_at table c.args.node c.args.input ≡ Some (Scheduler c.in-Scheduler.child) = input-is table c.args.node c.args.input c.index.result.now c.index-2.result.now place c.requires.within c.index-2.ensures ∙ ap Some c.in-Scheduler.is in
     λ v node at fresh got.
-        answers-then g.Q.Ask.gives (queue_asked table) (added c.args.self.now c.pull.new.self) (v ∷ []) c.args.q.now c.pull.new.q c.pull.new.q c.pull.ensures.answers
-        (subst (λ o. at_queue g.Q.Ask.gives o v.got c.pull.new.q (λ s. s ≡ c.pull.new.q)) (sym (queue-visited table c.args.node c.args.input (Scheduler c.in-Scheduler.child) v input node at fresh)) refl)
+    answers-then g.Q.Ask.gives (queue_asked table) (added c.args.self.now c.pull.new.self) (v ∷ []) c.args.q.now c.pull.new.q c.pull.new.q c.pull.ensures.answers
+    (subst (λ o. at_queue g.Q.Ask.gives o v.got c.pull.new.q (λ s. s ≡ c.pull.new.q)) (sym (queue-visited table c.args.node c.args.input (Scheduler c.in-Scheduler.child) v input node at fresh)) refl)
 
 pub nodes::Nodes::ask-returns-in-Scheduler-clause-asks : goal.nodes::Nodes::ask-returns-in-Scheduler-clause-asks
 nodes::Nodes::ask-returns-in-Scheduler-clause-asks g t c =
