@@ -33,6 +33,7 @@ pub mod TurnRoundRobin
 pub mod TurnStride
 pub mod TurnShaper
 pub mod TurnOfClass
+pub mod TurnDrr
 pub mod Orders
 pub mod Chosen
 pub mod WithAsked

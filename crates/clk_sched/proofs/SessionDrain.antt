@@ -1,7 +1,7 @@
 -- A session that is drained, pull by pull.
-use Rattle.std.proofs.Common.{◌≡◌, ◌≢◌, ℕ, suc, ◌+◌, ◌<◌, ◌≤◌, true, max, List, [], ◌∷◌, ◌++◌, length, map, reverse, drop, Option, Some, None, is_some, refl, sym, ap, ap₂, ◌∙◌, subst, append-nil, append_assoc, arith}
-use Rattle.std.specs.List.{flat_map, filter_map, range_with_len}
-use Rattle.std.specs.Option.{cons_option}
+use Rattle.std.proofs.Common.{◌≡◌, ◌≢◌, ℕ, suc, ◌+◌, ◌<◌, ◌≤◌, true, max, List, [], ◌∷◌, ◌++◌, length, map, reverse, drop, Option, Some, None, is_some, false, refl, sym, ap, ap₂, ◌∙◌, subst, append-nil, append_assoc, arith}
+use Rattle.std.specs.List.{flat_map, filter_map, range_with_len, cons_option}
+use Rattle.std.proofs.lemmas.Bool.{false≢true}
 use Rattle.std.proofs.Math.Seq.{drop-append_seam}
 use Rattle.std.proofs.lemmas.List.{map-append, reverse-append, length-append}
 use Rattle.std.proofs.lemmas.List.Concat.{flat_map-append}
@@ -51,7 +51,7 @@ draining-first gives s q moment left run l =
     }
 
 -- one pull more
-drained-more : (old s t : Progress) (moment made given : ℕ) (got : Option Packet) → IsDrained old s moment made given → counted_moment s ≤ moment + made → IsPulledOnce s t (moment + made + 1) got
+abbrev drained-more : (old s t : Progress) (moment made given : ℕ) (got : Option Packet) → IsDrained old s moment made given → counted_moment s ≤ moment + made → IsPulledOnce s t (moment + made + 1) got
     → IsDrained old t moment (made + 1) (given + one_if got)
 drained-more old s t moment made given got d counted once =
     record {
@@ -105,3 +105,22 @@ draining-more gives old s t p q r moment made given left got d l once told =
     whole : t.log ≡ old.log ++ (newly old s ++ newly s t)
     whole =
         once.log ∙ ap (λ l. l ++ newly s t) (d.drained.log ∙ ap (λ l. old.log ++ l) (sym (newly-is old s (joined d.drained.more) d.drained.log))) ∙ append_assoc old.log (newly old s) (newly s t)
+
+-- what a packet adds, and what none does
+pub given-one : {S : Type 0} (gives : S → ℕ → Option Packet → S → Type 0) (old t : Progress) (p r : S) (moment made given left : ℕ) (got : Option Packet) → is_some got ≡ true
+    → IsDraining gives old t p r moment made (given + one_if got) left → IsDraining gives old t p r moment made (given + 1) left
+given-one gives old t p r moment made given left None e h = absurd (false≢true e)
+given-one gives old t p r moment made given left (Some x) e h = h
+
+pub given-none : {S : Type 0} (gives : S → ℕ → Option Packet → S → Type 0) (old t : Progress) (p r : S) (moment made given left : ℕ) (got : Option Packet) → is_some got ≡ false
+    → IsDraining gives old t p r moment made (given + one_if got) left → IsDraining gives old t p r moment made given left
+given-none gives old t p r moment made given left None e h = let same : given + 0 ≡ given = omega arith in subst (λ n. IsDraining gives old t p r moment made n left) same h
+given-none gives old t p r moment made given left (Some x) e h = absurd (false≢true (sym e))
+
+-- all that was left came out
+pub draining-all : {S : Type 0} (gives : S → ℕ → Option Packet → S → Type 0) (old t : Progress) (p r : S) (moment made given left : ℕ) → IsDraining gives old t p r moment made given left → left ≤ given
+    → GivesAll old t moment made left
+draining-all gives old t p r moment made given left h l =
+    let all : given ≡ left = let e = h.enough in omega (arith, e, l) in
+    let g : GivesAll old t moment made given = record { drained = h.drained; stops = h.stops all } in
+    subst (λ n. GivesAll old t moment made n) all g

@@ -14,6 +14,7 @@ pub mod Ranks
 pub mod Holds
 pub mod Places
 pub mod Pulling
+pub mod Looking
 pub mod Turn
 pub mod Session
 pub mod LaidOut

@@ -49,6 +49,7 @@ impl Session {
     ghost use Rattle.std.specs.Prelude.{◌≡◌, ◌+◌, ◌-◌, ◌<◌, ◌≤◌, ◌^◌, true, [], Ok, max, IfOk, IfErr, OnOk, OnErr, IsOkUnless};
     ghost use Rattle.clk_sched.specs.Tree.{root, leaves_distinct};
     ghost use Rattle.clk_sched.specs.LaidOut.{most_elements, IsRefused};
+    ghost use Rattle.clk_sched.specs.Run.{IsRun};
     ghost use Rattle.clk_sched.specs.Bound.{closing_bound};
     ghost use Rattle.clk_sched.specs.Results.{emitted, heads};
     ghost use Rattle.clk_packet.specs.declared.fault.Fault.TheVariants.{Memory};
@@ -106,6 +107,8 @@ impl Session {
         ensures short { IfErr result (StopsAt self.old self.new (max (counted_moment self.old) moment) left) }
         ensures answers { Answers Q.gives (tree_queue self.old.tree) q.old (newly self.old self.new) q.new }
     {
+        // The log is a run.
+        let _ = &self.nodes;
         let bound = self.bound(left);
         let start = self.now().max(moment);
         let mut made = 0;
@@ -132,9 +135,10 @@ impl Session {
         left * self.tree.pulls_per_packet()
     }
 
-    /// Every visit so far, in order.
+    /// Every visit so far, in order: a run of the tree.
     pub fn log(&self) -> &[Visit]
-        ensures { result.now ≡ self.now.log }
+        ensures visits { result.now ≡ self.now.log }
+        ensures run { IsRun self.now.tree self.now.log }
     {
         self.nodes.log.as_slice()
     }

@@ -83,7 +83,7 @@ impl Served {
 }
 
 impl Deficits {
-    ghost use Rattle.std.specs.Prelude.{◌%◌, ◌++◌, ℕ, List, [], ◌∷◌, IfSome};
+    ghost use Rattle.std.specs.Prelude.{◌%◌, ◌++◌, ℕ, false, List, [], ◌∷◌, IfSome};
     ghost use Rattle.std.specs.List.{AllByRecursion};
     ghost use Rattle.clk_packet.specs.Limits.{most_length};
     ghost use Rattle.clk_sched.specs.declared.visit.Visit.{Visit};
@@ -103,16 +103,7 @@ impl Deficits {
         Ok(Deficits { row, cursor: 0 })
     }
 
-    /// The input whose turn it is.
-    pub fn cursor(&self) -> u16
-        ensures value { result ≡ self.now.cursor }
-        ensures within { result < length self.now.row.items }
-        ensures turn { (quanta : List ℕ) (inputs : ℕ) (before : List Visit) → HoldsDeficits quanta inputs before self.now → result ≡ next_input inputs before }
-    {
-        self.cursor
-    }
-
-    /// The head held at that input.
+    /// The head held at the input whose turn it is.
     pub fn head(&self) -> Option<Packet>
         ensures { (quanta : List ℕ) (inputs : ℕ) (before : List Visit) → HoldsDeficits quanta inputs before self.now → result ≡ head_at (next_input inputs before) before }
     {
@@ -138,6 +129,7 @@ impl Deficits {
         ensures covered { (quanta : List ℕ) (inputs : ℕ) (before : List Visit) → HoldsDeficits quanta inputs before self.old
             → result ≡ is_covered (deficit_covers quanta before (next_input inputs before)) got }
         ensures length { length self.new.row.items ≡ length self.old.row.items }
+        ensures moves { result ≡ false → self.new.cursor ≡ (self.old.cursor + 1) % length self.old.row.items }
     {
         let served = self.at_cursor();
         let passed = served.covers(got);
@@ -148,9 +140,12 @@ impl Deficits {
         passed
     }
 
+    ghost use Rattle.std.specs.Prelude.{IsSome};
+    ghost use Rattle.std.specs.Vec.{vec_len, vec_capacity};
     ghost use Rattle.clk_sched.specs.Tree.{drr};
-    ghost use Rattle.clk_sched.specs.Places.{edges_of, Answers, queue_asked};
+    ghost use Rattle.clk_sched.specs.Places.{edges_of, edges_at, input_at, Answers, queue_asked};
     ghost use Rattle.clk_sched.specs.Pulling.{CanPull, Keeps, added};
+    ghost use Rattle.clk_sched.specs.Looking.{looking, Logs, Settles, Looks};
     ghost use Rattle.clk_sched.specs.Turn.{TakesTurn};
     ghost use Rattle.clk_sched.specs.declared.session.state.State.TheVariants.{Drr};
 
@@ -173,17 +168,34 @@ impl Deficits {
         None
     }
 
-    /// Looks at the input whose turn it is, at its head or by asking, records the visit, and answers what was got and whether
-    /// it is passed.
+    /// Looks at the input whose turn it is, at its head or by asking, and answers what was got and whether it is passed.
     #[cycle(pull)]
     fn look<Q: Ask>(&mut self, nodes: &mut Nodes, q: &mut Q, node: u16) -> (Option<Packet>, bool)
+        requires can_pull { CanPull nodes.old node (edges_at nodes.old.inputs.items node self.old.cursor) }
+        requires within { IsSome (input_at nodes.old.inputs.items node self.old.cursor) }
+        ensures keeps { Keeps nodes.old nodes.new (edges_at nodes.old.inputs.items node self.old.cursor) }
+        ensures answers { Answers Q.gives (queue_asked nodes.old.inputs.items) q.old (added nodes.old nodes.new) q.new }
+        ensures length { length self.new.row.items ≡ length self.old.row.items }
+        ensures moves { result.1 ≡ false → self.new.cursor ≡ (self.old.cursor + 1) % length self.old.row.items }
+        ensures looks { Looks nodes.old nodes.new node self.old self.new result.0 result.1 }
     {
-        let input = self.cursor();
         let head = self.head();
-        let got = match head {
-            Some(_) => head,
-            None => nodes.ask(q, node, input),
-        };
+        match head {
+            Some(_) => (head, self.visit(nodes, node, head, false)),
+            None => {
+                let got = nodes.ask(q, node, self.cursor);
+                (got, self.visit(nodes, node, got, true))
+            }
+        }
+    }
+
+    // Takes what was got at the input whose turn it is, records the visit, and answers whether it is passed.
+    fn visit(&mut self, nodes: &mut Nodes, node: u16, got: Option<Packet>, fresh: bool) -> bool
+        requires room { vec_len nodes.old.log < vec_capacity nodes.old.log }
+        ensures logs { Logs nodes.old nodes.new (looking nodes.old node self.old.cursor got fresh result) }
+        ensures settles { Settles self.old self.new got result }
+    {
+        let input = self.cursor;
         let passed = self.settle(got);
         nodes.log.push_reserved(Visit {
             pull: nodes.pull,
@@ -191,10 +203,10 @@ impl Deficits {
             got,
             node,
             input,
-            fresh: head.is_none(),
+            fresh,
             passed,
         });
-        (got, passed)
+        passed
     }
 
     // Moves on to the next input, wrapping round, and adds its quantum to its deficit.

@@ -1,4 +1,4 @@
-use Rattle.std.proofs.Common.{◌≡◌, ◌+◌, ◌-◌, ◌%◌, ◌<◌, ◌≤◌, ◌∷◌, [], true, ◌++◌, length, Option, Some, None, IsSome, IfSome, is_some, slice_get, slice_index, refl, sym, ap, ap₂, ◌∙◌, subst, mod-lt, mod-eq_of_lt, arith}
+use Rattle.std.proofs.Common.{◌≡◌, ◌+◌, ◌-◌, ◌%◌, ◌<◌, ◌≤◌, ◌∷◌, [], true, false, ◌++◌, length, Option, Some, None, IsSome, IfSome, is_some, slice_get, slice_index, refl, sym, ap, ap₂, ◌∙◌, subst, mod-lt, mod-eq_of_lt, arith}
 use Rattle.std.specs.List.{range_with_len}
 use Rattle.std.specs.Vec.{with_item}
 use Rattle.std.proofs.lemmas.Option.{slice_get-get_or}
@@ -26,6 +26,11 @@ use Rattle.clk_sched.proofs.TurnOfClass.{drr-only, stride-only, shaper-only}
 use Rattle.clk_sched.proofs.PutBack.{pulls-put, set-here, set-other, fit-set}
 use Rattle.clk_sched.proofs.Asking.{IsAsking, asks-front, apart-split, added-none, keeps-more, answers-then, asks-one, asking-first, asking-can, HasAsked, asking-given, asking-next, asking-all}
 use Rattle.clk_sched.proofs.Asked.{entry, rank_at, entry-input, input-is, child-after, edges-scheduler, queue-visited, asks-queue, asks-child}
+use Rattle.clk_sched.specs.Tree.{drr, width}
+use Rattle.clk_sched.specs.Holds.OfClass.{Holds}
+use Rattle.clk_sched.specs.Looking.{looking}
+use Rattle.clk_sched.proofs.Asking.{keeps-none}
+use Rattle.clk_sched.proofs.TurnDrr.{edge-there, entry-there, of-entry, to-entry, keeps-logged, added-logged, answers-held, looks-held, looks-fresh, has-looked, making-first, making-can, making-next, making-passed, making-all, ended-keeps, drr-turn}
 use Rattle.clk_sched.proofs.session.+pull.Goals as goal
 
 pub nodes::Nodes::ask-returns-in-Queue-clause-answers : goal.nodes::Nodes::ask-returns-in-Queue-clause-answers
@@ -324,37 +329,119 @@ prio::pull_prio-ask_in_turn-requires g t c =
     λ κs le. (omega (arith, less), (search, (can, (there, omega (arith, count, few)))))
 
 pub drr::Deficits::look-ask-got-requires : goal.drr::Deficits::look-ask-got-requires
-drr::Deficits::look-ask-got-requires g t c = ?
+drr::Deficits::look-ask-got-requires g t c =
+    let less = c.decreases in
+    λ κs le. (omega (arith, less), (search, (c.requires.can_pull, c.requires.within)))
 
-pub drr::Deficits::look-push_reserved-requires : goal.drr::Deficits::look-push_reserved-requires
-drr::Deficits::look-push_reserved-requires g t c = ?
+pub drr::Deficits::look-visit-requires : goal.drr::Deficits::look-visit-requires
+drr::Deficits::look-visit-requires g t c =
+    let there = edge-there c.args.nodes.now.inputs.items c.args.node c.args.self.now.cursor c.requires.within in
+    let room = c.requires.can_pull.room in
+    record { room = omega (arith, there, room) }
+
+pub drr::Deficits::look-visit-requires-in-None : goal.drr::Deficits::look-visit-requires-in-None
+drr::Deficits::look-visit-requires-in-None g t c =
+    let there = edge-there c.args.nodes.now.inputs.items c.args.node c.args.self.now.cursor c.requires.within in
+    let room = c.requires.can_pull.room in
+    let capacity = c.ask-got.ensures.keeps.capacity in
+    let at_most = c.ask-got.ensures.keeps.at_most in
+    record { room = omega (arith, there, room, capacity, at_most) }
+
+pub drr::Deficits::look-returns-in-Some : goal.drr::Deficits::look-returns-in-Some
+drr::Deficits::look-returns-in-Some g t c =
+    let a = c.args.nodes.now in
+    let after = c.visit.new.nodes in
+    let d = c.args.self.now in
+    let v = looking a c.args.node d.cursor c.head-head.result false c.visit.result in
+    let logs = c.visit.ensures.logs in
+    let settles = c.visit.ensures.settles in
+    record {
+      keeps = keeps-more a after _ _ (keeps-logged a a after 0 v (keeps-none a c.requires.can_pull.fit) logs) (edge-there a.inputs.items c.args.node d.cursor c.requires.within);
+      answers = answers-held g.Q.Ask.gives a.inputs.items a after c.args.q.now v logs refl;
+      length = settles.length_is;
+      moves = settles.moves;
+      looks = looks-held a after c.args.node d c.visit.new.self c.in-Some.field-0 c.head-head.result c.visit.result c.in-Some.is c.head-head.ensures logs settles;
+    }
+
+pub drr::Deficits::look-returns-in-None : goal.drr::Deficits::look-returns-in-None
+drr::Deficits::look-returns-in-None g t c =
+    let a = c.args.nodes.now in
+    let b = c.ask-got.new.self in
+    let after = c.visit-in-None.new.nodes in
+    let d = c.args.self.now in
+    let v = looking b c.args.node d.cursor c.ask-got.result true c.visit-in-None.result in
+    let asked = c.ask-got.ensures in
+    let logs = c.visit-in-None.ensures.logs in
+    let settles = c.visit-in-None.ensures.settles in
+    let there = edge-there a.inputs.items c.args.node d.cursor c.requires.within in
+    record {
+      keeps = keeps-more a after _ _ (keeps-logged a b after _ v asked.keeps logs) (omega (arith, there));
+      answers = subst (λ l. Answers g.Q.Ask.gives (queue_asked a.inputs.items) c.args.q.now l c.ask-got.new.q) (sym (added-logged a b after _ v asked.keeps logs)) (asked.answers v refl refl refl refl);
+      length = settles.length_is;
+      moves = settles.moves;
+      looks = looks-fresh a b after _ c.args.node d c.visit-in-None.new.self c.head-head.result c.ask-got.result c.visit-in-None.result c.in-None.is c.head-head.ensures asked.keeps asked.asks logs settles;
+    }
+
+pub drr::Deficits::pull-loop-init : goal.drr::Deficits::pull-loop-init
+drr::Deficits::pull-loop-init g t c =
+    making-first g.Q.Ask.gives c.args.nodes.now c.args.q.now c.args.node c.args.self.now c.requires.can_pull.fit
 
 pub drr::Deficits::pull-look-got-requires : goal.drr::Deficits::pull-look-got-requires
-drr::Deficits::pull-look-got-requires g t c = ?
+drr::Deficits::pull-look-got-requires g t c =
+    let a = c.args.nodes.now in
+    let x = c.args.node in
+    let place = entry-there a.inputs.items x c.requires.can_pull.there in
+    let long = of-entry (λ p. length c.args.self.now.row.items ≡ length p.each.items) (slice_get a.inputs.items x) place.0 place.1 c.requires.fits in
+    let count : c.len-end.result ≡ length c.args.self.now.row.items = c.len-end.ensures.value in
+    let l : c.loop.counter < length c.args.self.now.row.items = subst (λ n. c.loop.counter < n) count c.loop-test.true in
+    let can = making-can g.Q.Ask.gives a c.loop.nodes c.args.q.now c.loop.q x c.args.self.now c.loop.self c.loop.counter place.0 c.requires.can_pull place.1 long c.loop.invariant l in
+    let same = ap length c.loop.invariant.made.keeps.inputs in
+    let less = c.decreases in
+    λ κs le. (omega (arith, same, less), (search, (can.0, can.1)))
 
-pub drr::Deficits::pull-returns-then-passed-clause-keeps : goal.drr::Deficits::pull-returns-then-passed-clause-keeps
-drr::Deficits::pull-returns-then-passed-clause-keeps g t c = ?
+pub drr::Deficits::pull-loop-preserved : goal.drr::Deficits::pull-loop-preserved
+drr::Deficits::pull-loop-preserved g t c =
+    let a = c.args.nodes.now in
+    let x = c.args.node in
+    let count : c.len-end.result ≡ length c.args.self.now.row.items = c.len-end.ensures.value in
+    let l : c.loop.counter < length c.args.self.now.row.items = subst (λ n. c.loop.counter < n) count c.loop-test.true in
+    let look = c.look-got.ensures in
+    let looked = has-looked g.Q.Ask.gives c.loop.nodes c.look-got.new.nodes c.loop.q c.look-got.new.q x c.loop.self c.look-got.new.self c.look-got.result.0 c.look-got.result.1 look.keeps look.answers look.length look.looks in
+    making-next g.Q.Ask.gives a c.loop.nodes c.look-got.new.nodes c.args.q.now c.loop.q c.look-got.new.q x c.args.self.now c.loop.self c.look-got.new.self c.loop.counter look.looks.visit c.loop.invariant l look.looks.input looked (look.looks.passes ∙ c.if-passed.false) (look.moves c.if-passed.false)
 
-pub drr::Deficits::pull-returns-then-passed-clause-fits : goal.drr::Deficits::pull-returns-then-passed-clause-fits
-drr::Deficits::pull-returns-then-passed-clause-fits g t c = ?
+pub drr::Deficits::pull-returns-then-passed : goal.drr::Deficits::pull-returns-then-passed
+drr::Deficits::pull-returns-then-passed g t c =
+    let a = c.args.nodes.now in
+    let x = c.args.node in
+    let place = entry-there a.inputs.items x c.requires.can_pull.there in
+    let long = of-entry (λ p. length c.args.self.now.row.items ≡ length p.each.items) (slice_get a.inputs.items x) place.0 place.1 c.requires.fits in
+    let count : c.len-end.result ≡ length c.args.self.now.row.items = c.len-end.ensures.value in
+    let l : c.loop.counter < length c.args.self.now.row.items = subst (λ n. c.loop.counter < n) count c.loop-test.true in
+    let look = c.look-got.ensures in
+    let looked = has-looked g.Q.Ask.gives c.loop.nodes c.look-got.new.nodes c.loop.q c.look-got.new.q x c.loop.self c.look-got.new.self c.look-got.result.0 c.look-got.result.1 look.keeps look.answers look.length look.looks in
+    let ended = making-passed g.Q.Ask.gives a c.loop.nodes c.look-got.new.nodes c.args.q.now c.loop.q c.look-got.new.q x c.args.self.now c.loop.self c.look-got.new.self c.loop.counter look.looks.visit c.loop.invariant l look.looks.input looked (look.looks.passes ∙ c.if-passed.true) in
+    record {
+      keeps = ended-keeps g.Q.Ask.gives a c.look-got.new.nodes c.args.q.now c.look-got.new.q x c.args.self.now c.look-got.new.self look.looks.visit.got place.0 c.requires.can_pull place.1 ended;
+      fits = to-entry (λ p. length c.look-got.new.self.row.items ≡ length p.each.items) (slice_get a.inputs.items x) place.0 place.1 (ended.made.length_is ∙ long);
+      answers = ended.made.answers;
+      turn = λ quanta. subst (λ o. TakesTurn a c.look-got.new.nodes x (drr quanta) (Drr c.args.self.now) (Drr c.look-got.new.self) o) look.looks.gets (drr-turn g.Q.Ask.gives a c.look-got.new.nodes c.args.q.now c.look-got.new.q x c.args.self.now c.look-got.new.self look.looks.visit.got place.0 place.1 long ended quanta);
+    }
 
-pub drr::Deficits::pull-returns-then-passed-clause-answers : goal.drr::Deficits::pull-returns-then-passed-clause-answers
-drr::Deficits::pull-returns-then-passed-clause-answers g t c = ?
-
-pub drr::Deficits::pull-returns-then-passed-clause-turn : goal.drr::Deficits::pull-returns-then-passed-clause-turn
-drr::Deficits::pull-returns-then-passed-clause-turn g t c = ?
-
-pub drr::Deficits::pull-returns-clause-keeps : goal.drr::Deficits::pull-returns-clause-keeps
-drr::Deficits::pull-returns-clause-keeps g t c = ?
-
-pub drr::Deficits::pull-returns-clause-fits : goal.drr::Deficits::pull-returns-clause-fits
-drr::Deficits::pull-returns-clause-fits g t c = ?
-
-pub drr::Deficits::pull-returns-clause-answers : goal.drr::Deficits::pull-returns-clause-answers
-drr::Deficits::pull-returns-clause-answers g t c = ?
-
-pub drr::Deficits::pull-returns-clause-turn : goal.drr::Deficits::pull-returns-clause-turn
-drr::Deficits::pull-returns-clause-turn g t c = ?
+pub drr::Deficits::pull-returns : goal.drr::Deficits::pull-returns
+drr::Deficits::pull-returns g t c =
+    let a = c.args.nodes.now in
+    let x = c.args.node in
+    let place = entry-there a.inputs.items x c.requires.can_pull.there in
+    let long = of-entry (λ p. length c.args.self.now.row.items ≡ length p.each.items) (slice_get a.inputs.items x) place.0 place.1 c.requires.fits in
+    let count : c.len-end.result ≡ length c.args.self.now.row.items = c.len-end.ensures.value in
+    let all : c.loop.counter ≡ length c.args.self.now.row.items = let f = c.loop-test.false in let m = c.loop.auto.counter-end in omega (arith, count, f, m) in
+    let ended = making-all g.Q.Ask.gives a c.loop.nodes c.args.q.now c.loop.q x c.args.self.now c.loop.self c.loop.counter c.loop.invariant all in
+    record {
+      keeps = ended-keeps g.Q.Ask.gives a c.loop.nodes c.args.q.now c.loop.q x c.args.self.now c.loop.self None place.0 c.requires.can_pull place.1 ended;
+      fits = to-entry (λ p. length c.loop.self.row.items ≡ length p.each.items) (slice_get a.inputs.items x) place.0 place.1 (ended.made.length_is ∙ long);
+      answers = ended.made.answers;
+      turn = drr-turn g.Q.Ask.gives a c.loop.nodes c.args.q.now c.loop.q x c.args.self.now c.loop.self None place.0 place.1 long ended;
+    }
 
 pub prio::pull_prio-returns-in-Some-clause-keeps : goal.prio::pull_prio-returns-in-Some-clause-keeps
 prio::pull_prio-returns-in-Some-clause-keeps g t c =

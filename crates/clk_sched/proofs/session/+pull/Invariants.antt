@@ -2,6 +2,7 @@ use Rattle.std.proofs.Common.{◌≡◌, ℕ, ◌+◌, ◌*◌, ◌-◌, length,
 use Rattle.std.specs.List.{range_with_len}
 use Rattle.clk_sched.specs.Pulling.{inputs_in}
 use Rattle.clk_sched.proofs.Asking.{IsAsking}
+use Rattle.clk_sched.proofs.TurnDrr.{IsMaking}
 use Rattle.clk_sched.proofs.session.+pull.Given as goal
 
 -- a node is pulled before those below it, and each step of its pull before the next
@@ -49,3 +50,6 @@ invariant-nodes::Nodes::ask_in_order-loop-place g l = IsAsking g.Q.Ask.gives l.i
 
 abbrev pub invariant-nodes::Nodes::ask_in_turn-loop-place : goal.invariant-nodes::Nodes::ask_in_turn-loop-place
 invariant-nodes::Nodes::ask_in_turn-loop-place g l = IsAsking g.Q.Ask.gives l.initial.self l.self l.initial.q l.q l.node (take l.place (range_with_len l.fn.first l.fn.count))
+
+abbrev pub invariant-drr::Deficits::pull-loop : goal.invariant-drr::Deficits::pull-loop
+invariant-drr::Deficits::pull-loop g l = IsMaking g.Q.Ask.gives l.initial.nodes l.nodes l.initial.q l.q l.node l.initial.self l.self l.counter

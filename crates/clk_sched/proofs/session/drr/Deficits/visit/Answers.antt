@@ -1,0 +1,19 @@
+use Rattle.std.proofs.Common.{refl}
+use Rattle.clk_sched.proofs.session.drr.Deficits.visit.Goals as goal
+
+pub returns-clause-logs : goal.returns-clause-logs
+returns-clause-logs c =
+    record {
+      inputs = refl;
+      states = refl;
+      pull = refl;
+      moment = refl;
+      capacity = c.push_reserved.ensures.capacity;
+      more = c.push_reserved.ensures.len;
+      items = c.push_reserved.ensures.items;
+    }
+
+pub returns-clause-settles : goal.returns-clause-settles
+returns-clause-settles c =
+    let s = c.settle-passed.ensures in
+    record { length_is = s.length; moves = s.moves; covered = s.covered; holds = s.holds }

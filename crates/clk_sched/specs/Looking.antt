@@ -1,0 +1,43 @@
+-- What a scheduler that holds heads does at one of its inputs.
+use Rattle.std.specs.Prelude.{◌≡◌, ℕ, ◌+◌, ◌%◌, Bool, false, List, [], ◌∷◌, ◌++◌, length, Option}
+use Rattle.std.specs.Vec.{vec_len, vec_capacity}
+use Rattle.clk_packet.specs.declared.packet.Packet.{Packet}
+use Rattle.clk_sched.specs.declared.visit.Visit.{Visit}
+use Rattle.clk_sched.specs.declared.session.drr.Deficits.{Deficits}
+use Rattle.clk_sched.specs.declared.session.nodes.Nodes.{Nodes}
+use Rattle.clk_sched.specs.Heads.{LooksAtHeads, is_covered}
+use Rattle.clk_sched.specs.Laws.Deficit.{next_input, deficit_covers}
+use Rattle.clk_sched.specs.Holds.Deficit.{HoldsDeficits}
+use Rattle.clk_sched.specs.Pulling.{AsksAll}
+
+-- a visit of a node in the pull that nodes are in
+abbrev pub looking : Nodes → ℕ → ℕ → Option Packet → Bool → Bool → Visit
+looking n x i got fresh passed = record { pull = n.pull; moment = n.moment; got = got; node = x; input = i; fresh = fresh; passed = passed }
+
+-- One visit was logged, and nothing else changed.
+pub record Logs (old new : Nodes) (v : Visit) : Type 0 where
+  pub inputs : new.inputs.items ≡ old.inputs.items
+  pub states : new.states.items ≡ old.states.items
+  pub pull : new.pull ≡ old.pull
+  pub moment : new.moment ≡ old.moment
+  pub capacity : vec_capacity new.log ≡ vec_capacity old.log
+  pub more : vec_len new.log ≡ vec_len old.log + 1
+  pub items : new.log.items ≡ old.log.items ++ v ∷ []
+
+-- What was got at the input whose turn it is was taken, and passed or not.
+pub record Settles (old new : Deficits) (got : Option Packet) (passed : Bool) : Type 0 where
+  pub length_is : length new.row.items ≡ length old.row.items
+  pub moves : passed ≡ false → new.cursor ≡ (old.cursor + 1) % length old.row.items
+  pub covered : (quanta : List ℕ) (inputs : ℕ) (before : List Visit) → HoldsDeficits quanta inputs before old → passed ≡ is_covered (deficit_covers quanta before (next_input inputs before)) got
+  pub holds : (quanta : List ℕ) (inputs : ℕ) (before : List Visit) (v : Visit) → HoldsDeficits quanta inputs before old → v.input ≡ next_input inputs before → v.got ≡ got → v.passed ≡ passed
+      → HoldsDeficits quanta inputs (v ∷ before) new
+
+-- A DRRSched at node x went on by one visit, to the input whose turn it was, in its manner.
+pub record Looks (old new : Nodes) (x : ℕ) (before after : Deficits) (got : Option Packet) (passed : Bool) : Type 0 where
+  pub visit : Visit
+  pub input : visit.input ≡ before.cursor
+  pub gets : visit.got ≡ got
+  pub passes : visit.passed ≡ passed
+  pub asks : AsksAll old new x (before.cursor ∷ []) (visit ∷ [])
+  pub lawful : (quanta : List ℕ) (inputs : ℕ) (earlier : List Visit) → HoldsDeficits quanta inputs earlier before → LooksAtHeads (next_input inputs) (deficit_covers quanta) earlier visit
+  pub holds : (quanta : List ℕ) (inputs : ℕ) (earlier : List Visit) → HoldsDeficits quanta inputs earlier before → HoldsDeficits quanta inputs (visit ∷ earlier) after
