@@ -5,12 +5,8 @@ use Rattle.std.specs.Bool.{⊤}
 use Rattle.std.proofs.lemmas.Bool.{false≢true}
 use Rattle.std.proofs.lemmas.List.{reverse-append}
 use Rattle.clk_sched.specs.Turns.{EachAfter}
-use Rattle.clk_sched.proofs.Members.{In, of-all, all-append, all-weaker}
-
--- no two members have the same number
-abbrev pub AreApart : {X : Type 0} → (X → ℕ) → List X → Type 0
-AreApart f [] = ⊤
-AreApart f (x ∷ xs) = AllByRecursion (λ y. f y ≢ f x) xs × AreApart f xs
+use Rattle.clk_sched.specs.Pulling.{AreApart}
+use Rattle.clk_sched.proofs.Members.{In, of-all, to-all, all-append}
 
 pub all-map : {X Y : Type 0} (P : Y → Type 0) (f : X → Y) (xs : List X) → AllByRecursion (λ x. P (f x)) xs → AllByRecursion P (map f xs)
 all-map P f [] h = tt
@@ -20,16 +16,17 @@ pub apart-map : {X : Type 0} (f : X → ℕ) (xs : List X) → AreApart f xs →
 apart-map f [] h = tt
 apart-map f (x ∷ xs) h = (all-map (λ n. n ≢ f x) f xs h.0, apart-map f xs h.1)
 
-pub flat_map-none : {X Y : Type 0} (g : X → List Y) (xs : List X) → AllByRecursion (λ x. g x ≡ []) xs → flat_map g xs ≡ []
+flat_map-none : {X Y : Type 0} (g : X → List Y) (xs : List X) → AllByRecursion (λ x. g x ≡ []) xs → flat_map g xs ≡ []
 flat_map-none g [] h = refl
 flat_map-none g (x ∷ xs) h = ap₂ (λ l k. l ++ k) h.0 (flat_map-none g xs h.1)
 
 -- what members give where those with other numbers give nothing
-pub only-one : {X Y : Type 0} (f : X → ℕ) (g : X → List Y) (xs : List X) (x : X) → AreApart f xs → In x xs → ((y : X) → f y ≢ f x → g y ≡ []) → flat_map g xs ≡ g x
+pub only-one : {X Y : Type 0} (f : X → ℕ) (g : X → List Y) (xs : List X) (x : X) → AreApart f xs → In x xs → ((y : X) → In y xs → f y ≢ f x → g y ≡ []) → flat_map g xs ≡ g x
 only-one f g [] x h m none = absurd m
 only-one f g (y ∷ xs) x h (inl e) none =
-    ap₂ (λ l k. l ++ k) (ap g e) (flat_map-none g xs (all-weaker (λ z. f z ≢ f y) (λ z. g z ≡ []) xs (λ z d. none z (λ s. d (s ∙ sym (ap f e)))) h.0)) ∙ append-nil (g x)
-only-one f g (y ∷ xs) x h (inr m) none = ap₂ (λ l k. l ++ k) (none y (λ e. of-all (λ z. f z ≢ f y) x xs h.0 m (sym e))) (only-one f g xs x h.1 m none)
+    ap₂ (λ l k. l ++ k) (ap g e) (flat_map-none g xs (to-all (λ z. g z ≡ []) xs (λ z k. none z (inr k) (λ s. of-all (λ w. f w ≢ f y) z xs h.0 k (s ∙ sym (ap f e)))))) ∙ append-nil (g x)
+only-one f g (y ∷ xs) x h (inr m) none =
+    ap₂ (λ l k. l ++ k) (none y (inl refl) (λ e. of-all (λ z. f z ≢ f y) x xs h.0 m (sym e))) (only-one f g xs x h.1 m (λ z k. none z (inr k)))
 
 pub any-member : {X : Type 0} (test : X → Bool) (xs : List X) → list_any test xs ≡ true → (x : X) × In x xs × (test x ≡ true)
 any-member test [] e = absurd (false≢true e)

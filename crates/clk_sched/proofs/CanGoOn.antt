@@ -8,14 +8,14 @@ use Rattle.clk_sched.specs.declared.visit.Visit.{Visit}
 use Rattle.clk_sched.specs.Tree.{Tree, root, nodes}
 use Rattle.clk_sched.specs.Turns.{AsksInOrder}
 use Rattle.clk_sched.specs.Log.{visits_of, pulls, block_at, moment_of, NeverFalls, asking}
+use Rattle.clk_sched.specs.Pulling.{AreApart, input_of, asked_of, with_asked}
 use Rattle.clk_sched.specs.Step.{EachAllows, IsPullWith, CanGoOn}
 use Rattle.clk_sched.proofs.Members.{In, of-all, all-weaker}
 use Rattle.clk_sched.proofs.Numbering.{stands-root}
 use Rattle.clk_sched.proofs.Allowed.{each-allowed}
 use Rattle.clk_sched.proofs.PullByPull.{asked}
-use Rattle.clk_sched.proofs.Apart.{AreApart, all-reverse, each-some}
-use Rattle.clk_sched.proofs.Chosen.{input_of}
-use Rattle.clk_sched.proofs.WithAsked.{asked_of, with_asked, with_asked-all, with_asked-self, with_asked-other, IsAbsent}
+use Rattle.clk_sched.proofs.Apart.{all-reverse, each-some}
+use Rattle.clk_sched.proofs.WithAsked.{with_asked-all, with_asked-self, with_asked-other, IsAbsent}
 use Rattle.clk_sched.proofs.Made.{Given, IsVisitOf, IsAsked, IsMade, make}
 
 -- the device asks what stands at its input

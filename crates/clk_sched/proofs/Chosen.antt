@@ -16,8 +16,9 @@ use Rattle.clk_sched.specs.Laws.Deficit.{next_input, deficit_covers}
 use Rattle.clk_sched.specs.Laws.Stride.{stride_order}
 use Rattle.clk_sched.specs.Laws.Shaper.{shaper_order}
 use Rattle.clk_sched.specs.Log.{asking}
+use Rattle.clk_sched.specs.Pulling.{AreApart, input_of, as_turn}
 use Rattle.clk_sched.proofs.Members.{to-all, all-append, all-weaker}
-use Rattle.clk_sched.proofs.Apart.{AreApart, all-reverse}
+use Rattle.clk_sched.proofs.Apart.{all-reverse}
 use Rattle.clk_sched.proofs.Allowed.{AreWithin}
 use Rattle.clk_sched.proofs.Orders.{IsOrderOf, priority-order, round_robin-order, stride-order, shaper-order, IsPlace, IsBeyond, first-place, next-place, beyond-differs, beyond-lower}
 
@@ -34,12 +35,6 @@ pub record IsVisitBy (a : Asker) (v : Visit) : Type 0 where
   pub number : v.pull ≡ a.number
   pub moment : v.moment ≡ a.moment
   pub got : v.fresh ≡ true → v.got ≡ a.gives v.input
-
-abbrev pub as_turn : ℕ → List Visit → Turn
-as_turn moment visits = record { moment = moment; visits = visits }
-
-abbrev pub input_of : Visit → ℕ
-input_of v = v.input
 
 -- what a scheduler may do in that pull
 pub record HasChosen (a : Asker) (class : Class) (inputs : ℕ) (earlier : List Turn) : Type 0 where

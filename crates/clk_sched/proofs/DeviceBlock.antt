@@ -18,20 +18,12 @@ use Rattle.clk_sched.proofs.Members.{In, of-all, to-all, in-filter, all-weaker}
 use Rattle.clk_sched.proofs.Numbers.{equal, differs}
 use Rattle.clk_sched.proofs.Allowed.{IsOneVisit, device-visit}
 use Rattle.clk_sched.proofs.PullByPull.{asked}
-use Rattle.clk_sched.proofs.Apart.{flat_map-none, any-member, all-reverse}
+use Rattle.clk_sched.proofs.Apart.{any-member, all-reverse, only-one}
 use Rattle.clk_sched.proofs.WithAsked.{absent, present}
 use Rattle.clk_sched.proofs.Blocks.{flat_map-same, filter-flat_map, flat_map-one, Owns, owns-after_leaf, owns-after_node, owns-self, owns-inputs, asks-both}
 use Rattle.clk_sched.proofs.Pulled.{copies-unasked, pulled-root}
 use Rattle.clk_sched.proofs.Below.{LiesAt, lies-within, lies-apart, IsVisitBelow, asked-below}
 use Rattle.clk_sched.proofs.IdleTurns.{busy, history-busy, busy-filtered, allows-idle}
-
--- what members give where those of them with other numbers give nothing
-only-member : {X Y : Type 0} (f : X → ℕ) (g : X → List Y) (xs : List X) (x : X) → AreApart f xs → In x xs → ((y : X) → In y xs → f y ≢ f x → g y ≡ []) → flat_map g xs ≡ g x
-only-member f g [] x h m none = absurd m
-only-member f g (y ∷ xs) x h (inl e) none =
-    ap₂ (λ l k. l ++ k) (ap g e) (flat_map-none g xs (to-all (λ z. g z ≡ []) xs (λ z k. none z (inr k) (λ s. of-all (λ w. f w ≢ f y) z xs h.0 k (s ∙ sym (ap f e)))))) ∙ append-nil (g x)
-only-member f g (y ∷ xs) x h (inr m) none =
-    ap₂ (λ l k. l ++ k) (none y (inl refl) (λ e. of-all (λ z. f z ≢ f y) x xs h.0 m (sym e))) (only-member f g xs x h.1 m (λ z k. none z (inr k)))
 
 -- what a visit asked has no visits of a node that doesn't lie there
 asked-absent : (now : Now) (history : History) (next : ℕ) (row : Row) (made : ℕ → List Visit) (v : Visit) (y : ℕ) → (v.fresh ≡ true → IsAskedAt now history next row v.input (made v.input) v.got)
@@ -100,7 +92,7 @@ block-made now history x class row visits got pull h =
         ∙ flat_map-same _ (λ u. visits_of y (asked_of b.made u)) b.own
         (λ u k. filter-append (λ (w : Visit). w.node == y) (asked_of b.made u) (u ∷ [])
         ∙ ap (λ l. visits_of y (asked_of b.made u) ++ l) (other u k y (lies-within (suc x) row v.input y at).0) ∙ append-nil _)
-        ∙ only-member input_of (λ u. visits_of y (asked_of b.made u)) b.own v b.apart m
+        ∙ only-one input_of (λ u. visits_of y (asked_of b.made u)) b.own v b.apart m
         (λ u k d. asked-absent now history (suc x) row b.made u y (of-all _ u b.own b.each k) (λ l. d (lies-apart (suc x) row u.input v.input y l at)))
         ∙ ap (λ c. visits_of y (if c then b.made v.input else [])) f
 

@@ -10,6 +10,7 @@ use Rattle.clk_sched.specs.Turns.{Turn}
 use Rattle.clk_sched.specs.Laws.{AllowsTurn}
 use Rattle.clk_sched.specs.Log.{visits_of, block_at, moment_of, turn, asks, pulls_below, result_of}
 use Rattle.clk_sched.specs.Run.{GetsResult}
+use Rattle.clk_sched.specs.Pulling.{AreApart, input_of, as_turn, asked_of, with_asked}
 use Rattle.clk_sched.specs.Step.{EachAllows}
 use Rattle.clk_sched.proofs.Numbers.{equal, differs}
 use Rattle.clk_sched.proofs.Members.{In, of-all, to-all, in-filter, all-weaker}
@@ -17,9 +18,9 @@ use Rattle.clk_sched.proofs.Numbering.{StandsAt, queue_in-before, queue_in-earli
 use Rattle.clk_sched.proofs.Allowed.{AreWithin}
 use Rattle.clk_sched.proofs.PullByPull.{asked}
 use Rattle.clk_sched.proofs.Blocks.{flat_map-same, asks-both}
-use Rattle.clk_sched.proofs.Apart.{AreApart, all-map, only-one, any-member}
-use Rattle.clk_sched.proofs.WithAsked.{asked_of, with_asked, IsAbsent, AreOf, absent, with_asked-all, with_asked-self, with_asked-other}
-use Rattle.clk_sched.proofs.Chosen.{Asker, IsVisitBy, HasChosen, as_turn, input_of, choose}
+use Rattle.clk_sched.proofs.Apart.{all-map, only-one, any-member}
+use Rattle.clk_sched.proofs.WithAsked.{IsAbsent, AreOf, absent, with_asked-all, with_asked-self, with_asked-other}
+use Rattle.clk_sched.proofs.Chosen.{Asker, IsVisitBy, HasChosen, choose}
 
 -- what is given of a pull: the tree, the pull's number and moment, and what is answered at each input of each node
 pub record Given : Type 0 where
@@ -193,7 +194,7 @@ node-made g above first next class inputs row earlier stands below rest choice =
     here pull h y l k v m t =
         let both = asks-both first v t in
         h.owns y l (omega arith)
-        ∙ only-one input_of (λ (u : Visit). visits_of y (asked_of (here_or first own rest.made) u)) (visits_of above pull) v h.apart m (λ u d. none u (λ e. d (sym e ∙ sym both.1)) u.fresh)
+        ∙ only-one input_of (λ (u : Visit). visits_of y (asked_of (here_or first own rest.made) u)) (visits_of above pull) v h.apart m (λ u k d. none u (λ e. d (sym e ∙ sym both.1)) u.fresh)
         ∙ ap (visits_of y) (ap (λ b. if b then here_or first own rest.made v.input else []) both.0 ∙ at-here first v.input own rest.made both.1)
       where
         none : (u : Visit) → first ≢ u.input → (b : Bool) → visits_of y (if b then here_or first own rest.made u.input else []) ≡ []

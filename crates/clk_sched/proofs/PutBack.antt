@@ -14,7 +14,7 @@ use Rattle.clk_sched.specs.Holds.OfClass.{Fits, Holds}
 use Rattle.clk_sched.specs.Holds.Shaper.{AreBefore}
 use Rattle.clk_sched.specs.Places.{StandsIn, AllFit}
 use Rattle.clk_sched.specs.Pulling.{History, Pulls, HasPulled, NodeHolds, EachHolds, IsBlock, IsReady, added, now_of, after}
-use Rattle.clk_sched.specs.Turn.{TakesTurn, TurnIsTaken}
+use Rattle.clk_sched.specs.Pulling.{TakesTurn, TurnIsTaken}
 use Rattle.clk_sched.proofs.Below.{AreAlike, holds-same}
 use Rattle.clk_sched.proofs.Numbers.{equal}
 

@@ -13,7 +13,8 @@ use Rattle.clk_sched.specs.Laws.Stride.{stride_of, stride_at, pass_in, visits_in
 use Rattle.clk_sched.specs.Ranks.{with_pass, greatest_stride, IsRankOf, HasRisingPasses, is_up_to, put_rank, at_pass, after_win, first_pass, first_rank, less}
 use Rattle.clk_sched.specs.Holds.Stride.{HoldsPasses}
 use Rattle.clk_sched.proofs.Members.{In, of-all, to-all, any-in, all-weaker, in-slice}
-use Rattle.clk_sched.proofs.Apart.{AreApart, all-map}
+use Rattle.clk_sched.specs.Pulling.{AreApart}
+use Rattle.clk_sched.proofs.Apart.{all-map}
 use Rattle.clk_sched.proofs.Orders.{paired_input, rising-apart, enumerated, passes-length}
 use Rattle.clk_sched.proofs.StrideShares.{enumerated-at, ordered-in}
 use Rattle.clk_sched.proofs.Rising.{up_to, put-first, IsInOrder, rising-is, rising-same, rising-length, mapped-rising}

@@ -21,7 +21,7 @@ use Rattle.clk_sched.specs.Holds.Deficit.{HoldsDeficits}
 use Rattle.clk_sched.specs.Places.{AllFit, edges_of, edges_at, edges_in, option_edges_to, input_at, Answers, at_queue, queue_asked}
 use Rattle.clk_sched.specs.Pulling.{AreApart, input_of, CanPull, Keeps, Asks, AsksAll, GoesOnBy, IsPulling, IsUnasked, IsVisitAt, added, now_of, with_turn}
 use Rattle.clk_sched.specs.Looking.{looking, Logs, Settles, Looks}
-use Rattle.clk_sched.specs.Turn.{TakesTurn}
+use Rattle.clk_sched.specs.Pulling.{TakesTurn}
 use Rattle.clk_sched.proofs.Members.{In, to-all, all-append, all-weaker}
 use Rattle.clk_sched.proofs.Allowed.{onto, onto-append, each-join}
 use Rattle.clk_sched.proofs.Apart.{apart-map}

@@ -8,7 +8,7 @@ use Rattle.clk_sched.specs.declared.session.drr.Deficits.{Deficits}
 use Rattle.clk_sched.specs.declared.session.stride.Passes.{Passes}
 use Rattle.clk_sched.specs.declared.session.shaper.Bucket.{Bucket}
 use Rattle.clk_sched.specs.Tree.{Class, prio, round_robin, drr, stride, shaper}
-use Rattle.clk_sched.specs.Turn.{TakesTurn}
+use Rattle.clk_sched.specs.Pulling.{TakesTurn}
 
 drr-alone : (a b : Nodes) (x : ℕ) (s : Deficits) (now : State) (got : Option Packet) → ((quanta : List ℕ) → TakesTurn a b x (drr quanta) (Drr s) now got) → (class : Class) → TakesTurn a b x class (Drr s) now got
 drr-alone a b x s now got h prio row history ready holds = absurd holds

@@ -8,7 +8,7 @@ use Rattle.clk_sched.specs.declared.session.state.State.TheVariants.{Prio}
 use Rattle.clk_sched.specs.Tree.{prio, width}
 use Rattle.clk_sched.specs.Turns.{AsksInOrder}
 use Rattle.clk_sched.specs.Pulling.{AsksAll, now_of, asked_in_order}
-use Rattle.clk_sched.specs.Turn.{TakesTurn}
+use Rattle.clk_sched.specs.Pulling.{TakesTurn}
 use Rattle.clk_sched.proofs.Orders.{IsOrderOf, priority-order}
 use Rattle.clk_sched.proofs.InOrder.{IsWithin, packet_of, turned-in-order}
 use Rattle.clk_sched.proofs.Ordered.{stands-width}

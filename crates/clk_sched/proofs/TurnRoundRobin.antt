@@ -16,7 +16,7 @@ use Rattle.clk_sched.specs.Turns.{Turn, AsksInOrder, giver}
 use Rattle.clk_sched.specs.Laws.RoundRobin.{beginning, round_robin_order}
 use Rattle.clk_sched.specs.Places.{edges_of, edges_in, input_at, Answers, queue_asked}
 use Rattle.clk_sched.specs.Pulling.{Now, CanPull, Keeps, AsksAll, now_of, after, with_turn, as_turn, added, asked_in_vain, asked_in_order}
-use Rattle.clk_sched.specs.Turn.{TakesTurn}
+use Rattle.clk_sched.specs.Pulling.{TakesTurn}
 use Rattle.clk_sched.proofs.Members.{all-weaker, all-split}
 use Rattle.clk_sched.proofs.Asking.{IsAsking, HasAskedAll, keeps-then, added-then, answers-then, asks-then, edges-append, vain-in, same-now, apart-split, can-go_on}
 use Rattle.clk_sched.proofs.Orders.{IsOrderOf, IsBeyond, around, round_robin-order}

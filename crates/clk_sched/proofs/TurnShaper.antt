@@ -12,7 +12,7 @@ use Rattle.clk_sched.specs.Turns.{Turn, AsksInOrder, giver}
 use Rattle.clk_sched.specs.Laws.Shaper.{has_room}
 use Rattle.clk_sched.specs.Holds.Shaper.{AreBefore, HoldsBucket}
 use Rattle.clk_sched.specs.Pulling.{AsksAll, now_of, as_turn, with_turn, asked_in_order}
-use Rattle.clk_sched.specs.Turn.{TakesTurn}
+use Rattle.clk_sched.specs.Pulling.{TakesTurn}
 use Rattle.clk_sched.proofs.Asking.{asks-none}
 use Rattle.clk_sched.proofs.Bucket.{bucket-none}
 use Rattle.clk_sched.proofs.InOrder.{IsWithin, packet_of, HasTurnedBy, turned-in-order, in_order-giver, with_turn-given, after-own}

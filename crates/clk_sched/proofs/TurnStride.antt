@@ -13,7 +13,7 @@ use Rattle.clk_sched.specs.Turns.{Turn, AsksInOrder, giver}
 use Rattle.clk_sched.specs.Holds.OfClass.{FitsPasses}
 use Rattle.clk_sched.specs.Holds.Stride.{HoldsPasses}
 use Rattle.clk_sched.specs.Pulling.{Now, AsksAll, now_of, as_turn, with_turn, inputs_in, asked_in_order}
-use Rattle.clk_sched.specs.Turn.{TakesTurn}
+use Rattle.clk_sched.specs.Pulling.{TakesTurn}
 use Rattle.clk_sched.proofs.Orders.{IsOrderOf, stride-order}
 use Rattle.clk_sched.proofs.StridePasses.{order-is, passes-none}
 use Rattle.clk_sched.proofs.InOrder.{IsWithin, packet_of, HasTurnedBy, turned-in-order, in_order-giver, walked-inputs, with_turn-given, after-own}

@@ -4,16 +4,9 @@ use Rattle.std.specs.List.{flat_map, AllByRecursion}
 use Rattle.std.proofs.lemmas.List.Elements.{filter-append}
 use Rattle.clk_sched.specs.declared.visit.Visit.{Visit}
 use Rattle.clk_sched.specs.Log.{visits_of}
+use Rattle.clk_sched.specs.Pulling.{asked_of, with_asked}
 use Rattle.clk_sched.proofs.Numbers.{equal, differs}
 use Rattle.clk_sched.proofs.Members.{filter-all, filter-none, all-append, all-weaker}
-
--- what a visit asked
-abbrev pub asked_of : (ℕ → List Visit) → Visit → List Visit
-asked_of made v = if v.fresh then made v.input else []
-
--- each visit after what it asked
-abbrev pub with_asked : (ℕ → List Visit) → List Visit → List Visit
-with_asked made visits = flat_map (λ (v : Visit). asked_of made v ++ v ∷ []) visits
 
 -- no visit is of this node
 abbrev pub IsAbsent : ℕ → List Visit → Type 0

@@ -15,7 +15,6 @@ pub mod Holds
 pub mod Places
 pub mod Pulling
 pub mod Looking
-pub mod Turn
 pub mod Session
 pub mod LaidOut
 pub mod Run

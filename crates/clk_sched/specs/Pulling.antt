@@ -203,3 +203,13 @@ pub record IsReady (n : Nodes) (history : History) (x : ℕ) (row : Row) : Type 
   pub stands : StandsIn n.inputs.items x row
   pub before : (y : ℕ) → AreBefore n.moment (history y)
   pub holds : EachHolds n.states.items history (suc x) row
+
+-- A scheduler of a class had its turn, and what it holds itself follows.
+pub record TurnIsTaken (old new : Nodes) (history : History) (x : ℕ) (class : Class) (row : Row) (now : State) (got : Option Packet) : Type 0 where
+  pub turned : HasTurned old new history x class row got
+  pub holds : Holds class (width row) (after history old.moment (added old new) x) now
+
+-- The scheduler at a node, if it is of this class, takes its turn by one state and holds another after it.
+abbrev pub TakesTurn : Nodes → Nodes → ℕ → Class → State → State → Option Packet → Type 0
+TakesTurn old new x class before now got =
+    (row : Row) (history : History) → IsReady old history x row → Holds class (width row) (history x) before → TurnIsTaken old new history x class row now got

@@ -146,7 +146,7 @@ impl Deficits {
     ghost use Rattle.clk_sched.specs.Places.{edges_of, edges_at, input_at, Answers, queue_asked};
     ghost use Rattle.clk_sched.specs.Pulling.{CanPull, Keeps, added};
     ghost use Rattle.clk_sched.specs.Looking.{looking, Logs, Settles, Looks};
-    ghost use Rattle.clk_sched.specs.Turn.{TakesTurn};
+    ghost use Rattle.clk_sched.specs.Pulling.{TakesTurn};
     ghost use Rattle.clk_sched.specs.declared.session.state.State.TheVariants.{Drr};
 
     /// Pulls a DRRSched.

@@ -24,7 +24,7 @@ impl State {
     ghost use Rattle.clk_sched.specs.Places.{edges_of, Answers, queue_asked};
     ghost use Rattle.clk_sched.specs.Holds.OfClass.{Fits};
     ghost use Rattle.clk_sched.specs.Pulling.{CanPull, Keeps, added};
-    ghost use Rattle.clk_sched.specs.Turn.{TakesTurn};
+    ghost use Rattle.clk_sched.specs.Pulling.{TakesTurn};
 
     /// Pulls the node that holds this, as its class does, and answers its result.
     #[cycle(pull)]

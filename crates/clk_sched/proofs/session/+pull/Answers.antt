@@ -12,7 +12,7 @@ use Rattle.clk_sched.specs.Places.{input_at, Answers, queue_asked, edges_of, edg
 use Rattle.clk_sched.specs.Pulling.{CanPull, Keeps, AsksAll, added, now_of, asked_in_order, inputs_in}
 use Rattle.clk_sched.proofs.Edges.{edges-order}
 use Rattle.clk_sched.specs.Tree.{prio, shaper}
-use Rattle.clk_sched.specs.Turn.{TakesTurn}
+use Rattle.clk_sched.specs.Pulling.{TakesTurn}
 use Rattle.clk_sched.specs.declared.session.state.State.TheVariants.{Prio, Drr, Stride, Shaper}
 use Rattle.clk_sched.proofs.InOrder.{IsWithin, packet_of, within-range}
 use Rattle.std.specs.List.{AllByRecursion}
@@ -94,8 +94,8 @@ nodes::Nodes::ask_in_order-look-requires g t c =
     let less = c.decreases in
     λ κs le. (omega (arith, same, less), (search, (can, subst (λ i. IsSome (input_at c.loop-place.self.inputs.items c.args.node i)) (sym same_input) within)))
 
-pub nodes::Nodes::ask_in_order-returns-in-Some-clause-keeps : goal.nodes::Nodes::ask_in_order-returns-in-Some-clause-keeps
-nodes::Nodes::ask_in_order-returns-in-Some-clause-keeps g t c =
+pub nodes::Nodes::ask_in_order-returns-in-Some : goal.nodes::Nodes::ask_in_order-returns-in-Some
+nodes::Nodes::ask_in_order-returns-in-Some g t c =
     let a = c.args.self.now in
     let order = inputs_in c.args.order.now in
     let k = c.loop-place.place in
@@ -106,39 +106,12 @@ nodes::Nodes::ask_in_order-returns-in-Some-clause-keeps g t c =
     subst (λ i. HasAsked g.Q.Ask.gives c.loop-place.self c.look.new.self c.loop-place.q c.look.new.q c.args.node i (Some c.in-Some.packet)) same_input (record { keeps = c.look.ensures.keeps; answers = c.look.ensures.answers; asks = subst (λ o. AsksAll c.loop-place.self c.look.new.self c.args.node ((rank_at c.args.order.now k).input ∷ []) (asking c.loop-place.self.pull c.loop-place.self.moment c.args.node (rank_at c.args.order.now k).input o ∷ [])) c.in-Some.is c.look.ensures.asks })
     in
     let given = asking-given g.Q.Ask.gives a c.loop-place.self c.look.new.self c.args.q.now c.loop-place.q c.look.new.q c.args.node k order c.in-Some.packet l h one in
-    given.keeps
-
-pub nodes::Nodes::ask_in_order-returns-in-Some-clause-answers : goal.nodes::Nodes::ask_in_order-returns-in-Some-clause-answers
-nodes::Nodes::ask_in_order-returns-in-Some-clause-answers g t c =
-    let a = c.args.self.now in
-    let order = inputs_in c.args.order.now in
-    let k = c.loop-place.place in
-    let h = c.loop-place.invariant in
-    let l : k < length order = subst (λ n. k < n) (sym (length-map c.args.order.now (λ (r : Rank). r.input))) c.loop-place-test.true in
-    let same_input = entry-input c.args.order.now k c.loop-place-test.true in
-    let one : HasAsked g.Q.Ask.gives c.loop-place.self c.look.new.self c.loop-place.q c.look.new.q c.args.node (slice_index order k) (Some c.in-Some.packet) =
-    subst (λ i. HasAsked g.Q.Ask.gives c.loop-place.self c.look.new.self c.loop-place.q c.look.new.q c.args.node i (Some c.in-Some.packet)) same_input (record { keeps = c.look.ensures.keeps; answers = c.look.ensures.answers; asks = subst (λ o. AsksAll c.loop-place.self c.look.new.self c.args.node ((rank_at c.args.order.now k).input ∷ []) (asking c.loop-place.self.pull c.loop-place.self.moment c.args.node (rank_at c.args.order.now k).input o ∷ [])) c.in-Some.is c.look.ensures.asks })
-    in
-    let given = asking-given g.Q.Ask.gives a c.loop-place.self c.look.new.self c.args.q.now c.loop-place.q c.look.new.q c.args.node k order c.in-Some.packet l h one in
-    given.answers
-
-pub nodes::Nodes::ask_in_order-returns-in-Some-clause-place : goal.nodes::Nodes::ask_in_order-returns-in-Some-clause-place
-nodes::Nodes::ask_in_order-returns-in-Some-clause-place g t c =
-    c.loop-place-test.true
-
-pub nodes::Nodes::ask_in_order-returns-in-Some-clause-asks : goal.nodes::Nodes::ask_in_order-returns-in-Some-clause-asks
-nodes::Nodes::ask_in_order-returns-in-Some-clause-asks g t c =
-    let a = c.args.self.now in
-    let order = inputs_in c.args.order.now in
-    let k = c.loop-place.place in
-    let h = c.loop-place.invariant in
-    let l : k < length order = subst (λ n. k < n) (sym (length-map c.args.order.now (λ (r : Rank). r.input))) c.loop-place-test.true in
-    let same_input = entry-input c.args.order.now k c.loop-place-test.true in
-    let one : HasAsked g.Q.Ask.gives c.loop-place.self c.look.new.self c.loop-place.q c.look.new.q c.args.node (slice_index order k) (Some c.in-Some.packet) =
-    subst (λ i. HasAsked g.Q.Ask.gives c.loop-place.self c.look.new.self c.loop-place.q c.look.new.q c.args.node i (Some c.in-Some.packet)) same_input (record { keeps = c.look.ensures.keeps; answers = c.look.ensures.answers; asks = subst (λ o. AsksAll c.loop-place.self c.look.new.self c.args.node ((rank_at c.args.order.now k).input ∷ []) (asking c.loop-place.self.pull c.loop-place.self.moment c.args.node (rank_at c.args.order.now k).input o ∷ [])) c.in-Some.is c.look.ensures.asks })
-    in
-    let given = asking-given g.Q.Ask.gives a c.loop-place.self c.look.new.self c.args.q.now c.loop-place.q c.look.new.q c.args.node k order c.in-Some.packet l h one in
-    given.asks
+    record {
+      keeps = given.keeps;
+      answers = given.answers;
+      place = c.loop-place-test.true;
+      asks = given.asks;
+    }
 
 pub nodes::Nodes::ask_in_order-loop-place-preserved : goal.nodes::Nodes::ask_in_order-loop-place-preserved
 nodes::Nodes::ask_in_order-loop-place-preserved g t c =
@@ -153,35 +126,20 @@ nodes::Nodes::ask_in_order-loop-place-preserved g t c =
     in
     asking-next g.Q.Ask.gives a c.loop-place.self c.look.new.self c.args.q.now c.loop-place.q c.look.new.q c.args.node k order l h one
 
-pub nodes::Nodes::ask_in_order-returns-clause-keeps : goal.nodes::Nodes::ask_in_order-returns-clause-keeps
-nodes::Nodes::ask_in_order-returns-clause-keeps g t c =
+pub nodes::Nodes::ask_in_order-returns : goal.nodes::Nodes::ask_in_order-returns
+nodes::Nodes::ask_in_order-returns g t c =
     let a = c.args.self.now in
     let order = inputs_in c.args.order.now in
     let k = c.loop-place.place in
     let h = c.loop-place.invariant in
     let l : length order ≤ k = let f = c.loop-place-test.false in let e = length-map c.args.order.now (λ (r : Rank). r.input) in omega (arith, f, e) in
     let all = asking-all g.Q.Ask.gives a c.loop-place.self c.args.q.now c.loop-place.q c.args.node k order l h in
-    all.keeps
-
-pub nodes::Nodes::ask_in_order-returns-clause-answers : goal.nodes::Nodes::ask_in_order-returns-clause-answers
-nodes::Nodes::ask_in_order-returns-clause-answers g t c =
-    let a = c.args.self.now in
-    let order = inputs_in c.args.order.now in
-    let k = c.loop-place.place in
-    let h = c.loop-place.invariant in
-    let l : length order ≤ k = let f = c.loop-place-test.false in let e = length-map c.args.order.now (λ (r : Rank). r.input) in omega (arith, f, e) in
-    let all = asking-all g.Q.Ask.gives a c.loop-place.self c.args.q.now c.loop-place.q c.args.node k order l h in
-    all.answers
-
-pub nodes::Nodes::ask_in_order-returns-clause-asks : goal.nodes::Nodes::ask_in_order-returns-clause-asks
-nodes::Nodes::ask_in_order-returns-clause-asks g t c =
-    let a = c.args.self.now in
-    let order = inputs_in c.args.order.now in
-    let k = c.loop-place.place in
-    let h = c.loop-place.invariant in
-    let l : length order ≤ k = let f = c.loop-place-test.false in let e = length-map c.args.order.now (λ (r : Rank). r.input) in omega (arith, f, e) in
-    let all = asking-all g.Q.Ask.gives a c.loop-place.self c.args.q.now c.loop-place.q c.args.node k order l h in
-    all.asks
+    record {
+      keeps = all.keeps;
+      answers = all.answers;
+      place = tt;
+      asks = all.asks;
+    }
 
 pub nodes::Nodes::ask_in_turn-loop-place-init : goal.nodes::Nodes::ask_in_turn-loop-place-init
 nodes::Nodes::ask_in_turn-loop-place-init g t c =
@@ -203,8 +161,8 @@ nodes::Nodes::ask_in_turn-look-requires g t c =
     let less = c.decreases in
     λ κs le. (omega (arith, same, less), (search, (can, subst (λ i. IsSome (input_at c.loop-place.self.inputs.items c.args.node i)) (sym same_input) within)))
 
-pub nodes::Nodes::ask_in_turn-returns-in-Some-clause-keeps : goal.nodes::Nodes::ask_in_turn-returns-in-Some-clause-keeps
-nodes::Nodes::ask_in_turn-returns-in-Some-clause-keeps g t c =
+pub nodes::Nodes::ask_in_turn-returns-in-Some : goal.nodes::Nodes::ask_in_turn-returns-in-Some
+nodes::Nodes::ask_in_turn-returns-in-Some g t c =
     let a = c.args.self.now in
     let order = range_with_len c.args.first c.args.count in
     let k = c.loop-place.place in
@@ -215,39 +173,12 @@ nodes::Nodes::ask_in_turn-returns-in-Some-clause-keeps g t c =
     subst (λ i. HasAsked g.Q.Ask.gives c.loop-place.self c.look.new.self c.loop-place.q c.look.new.q c.args.node i (Some c.in-Some.packet)) same_input (record { keeps = c.look.ensures.keeps; answers = c.look.ensures.answers; asks = subst (λ o. AsksAll c.loop-place.self c.look.new.self c.args.node ((c.args.first + k) ∷ []) (asking c.loop-place.self.pull c.loop-place.self.moment c.args.node (c.args.first + k) o ∷ [])) c.in-Some.is c.look.ensures.asks })
     in
     let given = asking-given g.Q.Ask.gives a c.loop-place.self c.look.new.self c.args.q.now c.loop-place.q c.look.new.q c.args.node k order c.in-Some.packet l h one in
-    given.keeps
-
-pub nodes::Nodes::ask_in_turn-returns-in-Some-clause-answers : goal.nodes::Nodes::ask_in_turn-returns-in-Some-clause-answers
-nodes::Nodes::ask_in_turn-returns-in-Some-clause-answers g t c =
-    let a = c.args.self.now in
-    let order = range_with_len c.args.first c.args.count in
-    let k = c.loop-place.place in
-    let h = c.loop-place.invariant in
-    let l : k < length order = subst (λ n. k < n) (sym (length-range_with_len c.args.first c.args.count)) c.loop-place-test.true in
-    let same_input : c.args.first + k ≡ slice_index order k = sym (get_or-range_with_len c.args.first c.args.count k 0 c.loop-place-test.true) in
-    let one : HasAsked g.Q.Ask.gives c.loop-place.self c.look.new.self c.loop-place.q c.look.new.q c.args.node (slice_index order k) (Some c.in-Some.packet) =
-    subst (λ i. HasAsked g.Q.Ask.gives c.loop-place.self c.look.new.self c.loop-place.q c.look.new.q c.args.node i (Some c.in-Some.packet)) same_input (record { keeps = c.look.ensures.keeps; answers = c.look.ensures.answers; asks = subst (λ o. AsksAll c.loop-place.self c.look.new.self c.args.node ((c.args.first + k) ∷ []) (asking c.loop-place.self.pull c.loop-place.self.moment c.args.node (c.args.first + k) o ∷ [])) c.in-Some.is c.look.ensures.asks })
-    in
-    let given = asking-given g.Q.Ask.gives a c.loop-place.self c.look.new.self c.args.q.now c.loop-place.q c.look.new.q c.args.node k order c.in-Some.packet l h one in
-    given.answers
-
-pub nodes::Nodes::ask_in_turn-returns-in-Some-clause-place : goal.nodes::Nodes::ask_in_turn-returns-in-Some-clause-place
-nodes::Nodes::ask_in_turn-returns-in-Some-clause-place g t c =
-    c.loop-place-test.true
-
-pub nodes::Nodes::ask_in_turn-returns-in-Some-clause-asks : goal.nodes::Nodes::ask_in_turn-returns-in-Some-clause-asks
-nodes::Nodes::ask_in_turn-returns-in-Some-clause-asks g t c =
-    let a = c.args.self.now in
-    let order = range_with_len c.args.first c.args.count in
-    let k = c.loop-place.place in
-    let h = c.loop-place.invariant in
-    let l : k < length order = subst (λ n. k < n) (sym (length-range_with_len c.args.first c.args.count)) c.loop-place-test.true in
-    let same_input : c.args.first + k ≡ slice_index order k = sym (get_or-range_with_len c.args.first c.args.count k 0 c.loop-place-test.true) in
-    let one : HasAsked g.Q.Ask.gives c.loop-place.self c.look.new.self c.loop-place.q c.look.new.q c.args.node (slice_index order k) (Some c.in-Some.packet) =
-    subst (λ i. HasAsked g.Q.Ask.gives c.loop-place.self c.look.new.self c.loop-place.q c.look.new.q c.args.node i (Some c.in-Some.packet)) same_input (record { keeps = c.look.ensures.keeps; answers = c.look.ensures.answers; asks = subst (λ o. AsksAll c.loop-place.self c.look.new.self c.args.node ((c.args.first + k) ∷ []) (asking c.loop-place.self.pull c.loop-place.self.moment c.args.node (c.args.first + k) o ∷ [])) c.in-Some.is c.look.ensures.asks })
-    in
-    let given = asking-given g.Q.Ask.gives a c.loop-place.self c.look.new.self c.args.q.now c.loop-place.q c.look.new.q c.args.node k order c.in-Some.packet l h one in
-    given.asks
+    record {
+      keeps = given.keeps;
+      answers = given.answers;
+      place = c.loop-place-test.true;
+      asks = given.asks;
+    }
 
 pub nodes::Nodes::ask_in_turn-loop-place-preserved : goal.nodes::Nodes::ask_in_turn-loop-place-preserved
 nodes::Nodes::ask_in_turn-loop-place-preserved g t c =
@@ -262,35 +193,20 @@ nodes::Nodes::ask_in_turn-loop-place-preserved g t c =
     in
     asking-next g.Q.Ask.gives a c.loop-place.self c.look.new.self c.args.q.now c.loop-place.q c.look.new.q c.args.node k order l h one
 
-pub nodes::Nodes::ask_in_turn-returns-clause-keeps : goal.nodes::Nodes::ask_in_turn-returns-clause-keeps
-nodes::Nodes::ask_in_turn-returns-clause-keeps g t c =
+pub nodes::Nodes::ask_in_turn-returns : goal.nodes::Nodes::ask_in_turn-returns
+nodes::Nodes::ask_in_turn-returns g t c =
     let a = c.args.self.now in
     let order = range_with_len c.args.first c.args.count in
     let k = c.loop-place.place in
     let h = c.loop-place.invariant in
     let l : length order ≤ k = let f = c.loop-place-test.false in let e = length-range_with_len c.args.first c.args.count in omega (arith, f, e) in
     let all = asking-all g.Q.Ask.gives a c.loop-place.self c.args.q.now c.loop-place.q c.args.node k order l h in
-    all.keeps
-
-pub nodes::Nodes::ask_in_turn-returns-clause-answers : goal.nodes::Nodes::ask_in_turn-returns-clause-answers
-nodes::Nodes::ask_in_turn-returns-clause-answers g t c =
-    let a = c.args.self.now in
-    let order = range_with_len c.args.first c.args.count in
-    let k = c.loop-place.place in
-    let h = c.loop-place.invariant in
-    let l : length order ≤ k = let f = c.loop-place-test.false in let e = length-range_with_len c.args.first c.args.count in omega (arith, f, e) in
-    let all = asking-all g.Q.Ask.gives a c.loop-place.self c.args.q.now c.loop-place.q c.args.node k order l h in
-    all.answers
-
-pub nodes::Nodes::ask_in_turn-returns-clause-asks : goal.nodes::Nodes::ask_in_turn-returns-clause-asks
-nodes::Nodes::ask_in_turn-returns-clause-asks g t c =
-    let a = c.args.self.now in
-    let order = range_with_len c.args.first c.args.count in
-    let k = c.loop-place.place in
-    let h = c.loop-place.invariant in
-    let l : length order ≤ k = let f = c.loop-place-test.false in let e = length-range_with_len c.args.first c.args.count in omega (arith, f, e) in
-    let all = asking-all g.Q.Ask.gives a c.loop-place.self c.args.q.now c.loop-place.q c.args.node k order l h in
-    all.asks
+    record {
+      keeps = all.keeps;
+      answers = all.answers;
+      place = tt;
+      asks = all.asks;
+    }
 
 pub nodes::Nodes::look-returns-clause-asks : goal.nodes::Nodes::look-returns-clause-asks
 nodes::Nodes::look-returns-clause-asks g t c =
@@ -443,8 +359,8 @@ drr::Deficits::pull-returns g t c =
       turn = drr-turn g.Q.Ask.gives a c.loop.nodes c.args.q.now c.loop.q x c.args.self.now c.loop.self None place.0 place.1 long ended;
     }
 
-pub prio::pull_prio-returns-in-Some-clause-keeps : goal.prio::pull_prio-returns-in-Some-clause-keeps
-prio::pull_prio-returns-in-Some-clause-keeps g t c =
+pub prio::pull_prio-returns-in-Some : goal.prio::pull_prio-returns-in-Some
+prio::pull_prio-returns-in-Some g t c =
     let a = c.args.nodes.now in
     let x = c.args.node in
     let p = c.index.result.now in
@@ -452,20 +368,15 @@ prio::pull_prio-returns-in-Some-clause-keeps g t c =
     let count : c.len-inputs.result ≡ length p.each.items = c.len-inputs.ensures ∙ p.each.ok.0 in
     let order = range_with_len 0 c.len-inputs.result in
     let is = priority-order c.len-inputs.result in
-    keeps-order a c.ask_in_turn.new.self x p order c.requires.can_pull place is.apart c.ask_in_turn.ensures.keeps
+    record {
+      keeps = keeps-order a c.ask_in_turn.new.self x p order c.requires.can_pull place is.apart c.ask_in_turn.ensures.keeps;
+      answers = c.ask_in_turn.ensures.answers;
+      turn = subst (λ o. TakesTurn a c.ask_in_turn.new.self x prio Prio Prio o) (ap packet_of c.in-Some.is ∙ ap Some (sym c.in-Some.packet-is))
+          (prio-turn a c.ask_in_turn.new.self x c.len-inputs.result p c.ask_in_turn.result place count (within-range 0 c.len-inputs.result c.ask_in_turn.result c.ask_in_turn.ensures.place) c.ask_in_turn.ensures.asks);
+    }
 
-pub prio::pull_prio-returns-in-Some-clause-turn : goal.prio::pull_prio-returns-in-Some-clause-turn
-prio::pull_prio-returns-in-Some-clause-turn g t c =
-    let a = c.args.nodes.now in
-    let x = c.args.node in
-    let p = c.index.result.now in
-    let place : slice_get a.inputs.items x ≡ Some p = entry a.inputs.items x p c.requires.can_pull.there c.index.ensures in
-    let count : c.len-inputs.result ≡ length p.each.items = c.len-inputs.ensures ∙ p.each.ok.0 in
-    subst (λ o. TakesTurn a c.ask_in_turn.new.self x prio Prio Prio o) (ap packet_of c.in-Some.is ∙ ap Some (sym c.in-Some.packet-is))
-    (prio-turn a c.ask_in_turn.new.self x c.len-inputs.result p c.ask_in_turn.result place count (within-range 0 c.len-inputs.result c.ask_in_turn.result c.ask_in_turn.ensures.place) c.ask_in_turn.ensures.asks)
-
-pub prio::pull_prio-returns-in-None-clause-keeps : goal.prio::pull_prio-returns-in-None-clause-keeps
-prio::pull_prio-returns-in-None-clause-keeps g t c =
+pub prio::pull_prio-returns-in-None : goal.prio::pull_prio-returns-in-None
+prio::pull_prio-returns-in-None g t c =
     let a = c.args.nodes.now in
     let x = c.args.node in
     let p = c.index.result.now in
@@ -473,16 +384,11 @@ prio::pull_prio-returns-in-None-clause-keeps g t c =
     let count : c.len-inputs.result ≡ length p.each.items = c.len-inputs.ensures ∙ p.each.ok.0 in
     let order = range_with_len 0 c.len-inputs.result in
     let is = priority-order c.len-inputs.result in
-    keeps-order a c.ask_in_turn.new.self x p order c.requires.can_pull place is.apart c.ask_in_turn.ensures.keeps
-
-pub prio::pull_prio-returns-in-None-clause-turn : goal.prio::pull_prio-returns-in-None-clause-turn
-prio::pull_prio-returns-in-None-clause-turn g t c =
-    let a = c.args.nodes.now in
-    let x = c.args.node in
-    let p = c.index.result.now in
-    let place : slice_get a.inputs.items x ≡ Some p = entry a.inputs.items x p c.requires.can_pull.there c.index.ensures in
-    let count : c.len-inputs.result ≡ length p.each.items = c.len-inputs.ensures ∙ p.each.ok.0 in
-    prio-turn a c.ask_in_turn.new.self x c.len-inputs.result p None place count tt (subst (λ r. AsksAll a c.ask_in_turn.new.self x (range_with_len 0 c.len-inputs.result) (asked_in_order (now_of a) x (range_with_len 0 c.len-inputs.result) r)) c.in-None.is c.ask_in_turn.ensures.asks)
+    record {
+      keeps = keeps-order a c.ask_in_turn.new.self x p order c.requires.can_pull place is.apart c.ask_in_turn.ensures.keeps;
+      answers = c.ask_in_turn.ensures.answers;
+      turn = prio-turn a c.ask_in_turn.new.self x c.len-inputs.result p None place count tt (subst (λ r. AsksAll a c.ask_in_turn.new.self x (range_with_len 0 c.len-inputs.result) (asked_in_order (now_of a) x (range_with_len 0 c.len-inputs.result) r)) c.in-None.is c.ask_in_turn.ensures.asks);
+    }
 
 pub round_robin::Beginning::pull-ask_in_turn-requires : goal.round_robin::Beginning::pull-ask_in_turn-requires
 round_robin::Beginning::pull-ask_in_turn-requires g t c =
@@ -530,34 +436,8 @@ round_robin::Beginning::pull-overflow_add-self-in-Some g t c =
     let within : c.in-Some.place < n - first = subst (λ r. IfSome r (λ q. q.0 < n - first)) (c.in-Some.is) c.ask_in_turn.ensures.place in
     let few = (c.requires.can_pull.wired x p place).few in omega (arith, count, few, low, within)
 
-pub round_robin::Beginning::pull-returns-in-Some-clause-keeps : goal.round_robin::Beginning::pull-returns-in-Some-clause-keeps
-round_robin::Beginning::pull-returns-in-Some-clause-keeps g t c =
-    let a = c.args.nodes.now in
-    let x = c.args.node in
-    let p = c.index.result.now in
-    let place : slice_get a.inputs.items x ≡ Some p = entry a.inputs.items x p c.requires.can_pull.there c.index.ensures in
-    let count : c.len-inputs.result ≡ length p.each.items = c.len-inputs.ensures ∙ p.each.ok.0 in
-    let first = c.args.self.now.input in
-    let n = c.len-inputs.result in
-    let low : first < n = subst (λ m. first < m) (sym count) (subst (λ o. IfSome o (λ q. first < length q.each.items)) place c.requires.fits) in
-    let one = range_with_len first (n - first) in
-    let other = range_with_len 0 first in
-    keeps-order a c.ask_in_turn.new.self x p one c.requires.can_pull place (apart-split one other (parts-order n first low).apart).0 c.ask_in_turn.ensures.keeps
-
-pub round_robin::Beginning::pull-returns-in-Some-clause-fits : goal.round_robin::Beginning::pull-returns-in-Some-clause-fits
-round_robin::Beginning::pull-returns-in-Some-clause-fits g t c =
-    let a = c.args.nodes.now in
-    let x = c.args.node in
-    let p = c.index.result.now in
-    let place : slice_get a.inputs.items x ≡ Some p = entry a.inputs.items x p c.requires.can_pull.there c.index.ensures in
-    let count : c.len-inputs.result ≡ length p.each.items = c.len-inputs.ensures ∙ p.each.ok.0 in
-    let first = c.args.self.now.input in
-    let n = c.len-inputs.result in
-    let low : first < n = subst (λ m. first < m) (sym count) (subst (λ o. IfSome o (λ q. first < length q.each.items)) place c.requires.fits) in
-    subst (λ o. IfSome o (λ q. (first + c.in-Some.place + 1) % n < length q.each.items)) (sym place) (subst (λ m. (first + c.in-Some.place + 1) % n < m) count (mod-lt (first + c.in-Some.place + 1) (omega (arith, low))))
-
-pub round_robin::Beginning::pull-returns-in-Some-clause-turn : goal.round_robin::Beginning::pull-returns-in-Some-clause-turn
-round_robin::Beginning::pull-returns-in-Some-clause-turn g t c =
+pub round_robin::Beginning::pull-returns-in-Some : goal.round_robin::Beginning::pull-returns-in-Some
+round_robin::Beginning::pull-returns-in-Some g t c =
     let a = c.args.nodes.now in
     let x = c.args.node in
     let p = c.index.result.now in
@@ -573,10 +453,15 @@ round_robin::Beginning::pull-returns-in-Some-clause-turn g t c =
     let inside : k < length one = subst (λ m. k < m) (sym (length-range_with_len first (n - first))) within in
     let total = length-append one other in
     let input : slice_index (parts first n) k ≡ first + k = index-first one other k inside ∙ get_or-range_with_len first (n - first) k 0 within in
-    round_robin-turn a c.ask_in_turn.new.self x n first ((first + k + 1) % n) p (Some (k, c.in-Some.packet)) place count low (omega (arith, inside, total))
-    (subst (AsksAll a c.ask_in_turn.new.self x (parts first n)) (in_order-first (now_of a) x one other k c.in-Some.packet inside)
-    (asks-front a c.ask_in_turn.new.self x one other (asked_in_order (now_of a) x one (Some (k, c.in-Some.packet))) (subst (λ r. AsksAll a c.ask_in_turn.new.self x one (asked_in_order (now_of a) x one r)) c.in-Some.is c.ask_in_turn.ensures.asks)))
-    (ap (λ i. (i + 1) % n) (sym input))
+    record {
+      keeps = keeps-order a c.ask_in_turn.new.self x p one c.requires.can_pull place (apart-split one other (parts-order n first low).apart).0 c.ask_in_turn.ensures.keeps;
+      fits = subst (λ o. IfSome o (λ q. (first + c.in-Some.place + 1) % n < length q.each.items)) (sym place) (subst (λ m. (first + c.in-Some.place + 1) % n < m) count (mod-lt (first + c.in-Some.place + 1) (omega (arith, low))));
+      answers = c.ask_in_turn.ensures.answers;
+      turn = round_robin-turn a c.ask_in_turn.new.self x n first ((first + k + 1) % n) p (Some (k, c.in-Some.packet)) place count low (omega (arith, inside, total))
+          (subst (AsksAll a c.ask_in_turn.new.self x (parts first n)) (in_order-first (now_of a) x one other k c.in-Some.packet inside)
+          (asks-front a c.ask_in_turn.new.self x one other (asked_in_order (now_of a) x one (Some (k, c.in-Some.packet))) (subst (λ r. AsksAll a c.ask_in_turn.new.self x one (asked_in_order (now_of a) x one r)) c.in-Some.is c.ask_in_turn.ensures.asks)))
+          (ap (λ i. (i + 1) % n) (sym input));
+    }
 
 pub round_robin::Beginning::pull-ask_in_turn-requires-2 : goal.round_robin::Beginning::pull-ask_in_turn-requires-2
 round_robin::Beginning::pull-ask_in_turn-requires-2 g t c =
@@ -614,58 +499,8 @@ round_robin::Beginning::pull-overflow_add-self-in-Some-ask_in_turn g t c =
     let within : c.in-Some-ask_in_turn.place < first = subst (λ r. IfSome r (λ q. q.0 < first)) (c.in-Some-ask_in_turn.is) c.ask_in_turn-2.ensures.place in
     let few = (c.requires.can_pull.wired x p place).few in omega (arith, count, few, low, within)
 
-pub round_robin::Beginning::pull-returns-in-Some-ask_in_turn-clause-keeps : goal.round_robin::Beginning::pull-returns-in-Some-ask_in_turn-clause-keeps
-round_robin::Beginning::pull-returns-in-Some-ask_in_turn-clause-keeps g t c =
-    let a = c.args.nodes.now in
-    let x = c.args.node in
-    let p = c.index.result.now in
-    let place : slice_get a.inputs.items x ≡ Some p = entry a.inputs.items x p c.requires.can_pull.there c.index.ensures in
-    let count : c.len-inputs.result ≡ length p.each.items = c.len-inputs.ensures ∙ p.each.ok.0 in
-    let first = c.args.self.now.input in
-    let n = c.len-inputs.result in
-    let low : first < n = subst (λ m. first < m) (sym count) (subst (λ o. IfSome o (λ q. first < length q.each.items)) place c.requires.fits) in
-    let one = range_with_len first (n - first) in
-    let other = range_with_len 0 first in
-    let b = c.ask_in_turn.new.self in
-    let d = c.ask_in_turn-2.new.self in
-    let vain : IsAsking g.Q.Ask.gives a b c.args.q.now c.ask_in_turn.new.q x one =
-    record {
-      keeps = c.ask_in_turn.ensures.keeps;
-      answers = c.ask_in_turn.ensures.answers;
-      asks = subst (λ r. AsksAll a b x one (asked_in_order (now_of a) x one r)) c.in_default.is c.ask_in_turn.ensures.asks;
-    }
-    in
-    let all = asked-both g.Q.Ask.gives a b d c.args.q.now c.ask_in_turn.new.q c.ask_in_turn-2.new.q x one other c.ask_in_turn-2.result vain
-    (record { keeps = c.ask_in_turn-2.ensures.keeps; answers = c.ask_in_turn-2.ensures.answers; asks = c.ask_in_turn-2.ensures.asks }) in
-    keeps-order a d x p (parts first n) c.requires.can_pull place (parts-order n first low).apart all.keeps
-
-pub round_robin::Beginning::pull-returns-in-Some-ask_in_turn-clause-answers : goal.round_robin::Beginning::pull-returns-in-Some-ask_in_turn-clause-answers
-round_robin::Beginning::pull-returns-in-Some-ask_in_turn-clause-answers g t c =
-    let a = c.args.nodes.now in
-    let x = c.args.node in
-    let p = c.index.result.now in
-    let place : slice_get a.inputs.items x ≡ Some p = entry a.inputs.items x p c.requires.can_pull.there c.index.ensures in
-    let count : c.len-inputs.result ≡ length p.each.items = c.len-inputs.ensures ∙ p.each.ok.0 in
-    let first = c.args.self.now.input in
-    let n = c.len-inputs.result in
-    let low : first < n = subst (λ m. first < m) (sym count) (subst (λ o. IfSome o (λ q. first < length q.each.items)) place c.requires.fits) in
-    let one = range_with_len first (n - first) in
-    let other = range_with_len 0 first in
-    let b = c.ask_in_turn.new.self in
-    let d = c.ask_in_turn-2.new.self in
-    let vain : IsAsking g.Q.Ask.gives a b c.args.q.now c.ask_in_turn.new.q x one =
-    record {
-      keeps = c.ask_in_turn.ensures.keeps;
-      answers = c.ask_in_turn.ensures.answers;
-      asks = subst (λ r. AsksAll a b x one (asked_in_order (now_of a) x one r)) c.in_default.is c.ask_in_turn.ensures.asks;
-    }
-    in
-    let all = asked-both g.Q.Ask.gives a b d c.args.q.now c.ask_in_turn.new.q c.ask_in_turn-2.new.q x one other c.ask_in_turn-2.result vain
-    (record { keeps = c.ask_in_turn-2.ensures.keeps; answers = c.ask_in_turn-2.ensures.answers; asks = c.ask_in_turn-2.ensures.asks }) in
-    all.answers
-
-pub round_robin::Beginning::pull-returns-in-Some-ask_in_turn-clause-turn : goal.round_robin::Beginning::pull-returns-in-Some-ask_in_turn-clause-turn
-round_robin::Beginning::pull-returns-in-Some-ask_in_turn-clause-turn g t c =
+pub round_robin::Beginning::pull-returns-in-Some-ask_in_turn : goal.round_robin::Beginning::pull-returns-in-Some-ask_in_turn
+round_robin::Beginning::pull-returns-in-Some-ask_in_turn g t c =
     let a = c.args.nodes.now in
     let x = c.args.node in
     let p = c.index.result.now in
@@ -694,11 +529,16 @@ round_robin::Beginning::pull-returns-in-Some-ask_in_turn-clause-turn g t c =
     let at = past-length one k in
     let input : slice_index (parts first n) (past one k) ≡ k = index-second one other k ∙ get_or-range_with_len 0 first k 0 within ∙ omega arith in
     let next : k + 1 ≡ (k + 1) % n = sym (mod-eq_of_lt (omega (arith, within, low))) in
-    round_robin-turn a d x n first (k + 1) p (Some (past one k, c.in-Some-ask_in_turn.packet)) place count low (omega (arith, total, second, at, within))
-    (subst (λ r. AsksAll a d x (parts first n) (asked_in_order (now_of a) x (parts first n) (in_second one r))) c.in-Some-ask_in_turn.is all.asks) (next ∙ ap (λ i. (i + 1) % n) (sym input))
+    record {
+      keeps = keeps-order a d x p (parts first n) c.requires.can_pull place (parts-order n first low).apart all.keeps;
+      fits = subst (λ o. IfSome o (λ q. k + 1 < length q.each.items)) (sym place) (omega (arith, within, low, count));
+      answers = all.answers;
+      turn = round_robin-turn a d x n first (k + 1) p (Some (past one k, c.in-Some-ask_in_turn.packet)) place count low (omega (arith, total, second, at, within))
+          (subst (λ r. AsksAll a d x (parts first n) (asked_in_order (now_of a) x (parts first n) (in_second one r))) c.in-Some-ask_in_turn.is all.asks) (next ∙ ap (λ i. (i + 1) % n) (sym input));
+    }
 
-pub round_robin::Beginning::pull-returns-in-None-clause-keeps : goal.round_robin::Beginning::pull-returns-in-None-clause-keeps
-round_robin::Beginning::pull-returns-in-None-clause-keeps g t c =
+pub round_robin::Beginning::pull-returns-in-None : goal.round_robin::Beginning::pull-returns-in-None
+round_robin::Beginning::pull-returns-in-None g t c =
     let a = c.args.nodes.now in
     let x = c.args.node in
     let p = c.index.result.now in
@@ -720,57 +560,12 @@ round_robin::Beginning::pull-returns-in-None-clause-keeps g t c =
     in
     let all = asked-both g.Q.Ask.gives a b d c.args.q.now c.ask_in_turn.new.q c.ask_in_turn-2.new.q x one other c.ask_in_turn-2.result vain
     (record { keeps = c.ask_in_turn-2.ensures.keeps; answers = c.ask_in_turn-2.ensures.answers; asks = c.ask_in_turn-2.ensures.asks }) in
-    keeps-order a d x p (parts first n) c.requires.can_pull place (parts-order n first low).apart all.keeps
-
-pub round_robin::Beginning::pull-returns-in-None-clause-answers : goal.round_robin::Beginning::pull-returns-in-None-clause-answers
-round_robin::Beginning::pull-returns-in-None-clause-answers g t c =
-    let a = c.args.nodes.now in
-    let x = c.args.node in
-    let p = c.index.result.now in
-    let place : slice_get a.inputs.items x ≡ Some p = entry a.inputs.items x p c.requires.can_pull.there c.index.ensures in
-    let count : c.len-inputs.result ≡ length p.each.items = c.len-inputs.ensures ∙ p.each.ok.0 in
-    let first = c.args.self.now.input in
-    let n = c.len-inputs.result in
-    let low : first < n = subst (λ m. first < m) (sym count) (subst (λ o. IfSome o (λ q. first < length q.each.items)) place c.requires.fits) in
-    let one = range_with_len first (n - first) in
-    let other = range_with_len 0 first in
-    let b = c.ask_in_turn.new.self in
-    let d = c.ask_in_turn-2.new.self in
-    let vain : IsAsking g.Q.Ask.gives a b c.args.q.now c.ask_in_turn.new.q x one =
     record {
-      keeps = c.ask_in_turn.ensures.keeps;
-      answers = c.ask_in_turn.ensures.answers;
-      asks = subst (λ r. AsksAll a b x one (asked_in_order (now_of a) x one r)) c.in_default.is c.ask_in_turn.ensures.asks;
+      keeps = keeps-order a d x p (parts first n) c.requires.can_pull place (parts-order n first low).apart all.keeps;
+      fits = c.requires.fits;
+      answers = all.answers;
+      turn = round_robin-turn a d x n first first p None place count low tt (subst (λ r. AsksAll a d x (parts first n) (asked_in_order (now_of a) x (parts first n) (in_second one r))) c.in-None.is all.asks) refl;
     }
-    in
-    let all = asked-both g.Q.Ask.gives a b d c.args.q.now c.ask_in_turn.new.q c.ask_in_turn-2.new.q x one other c.ask_in_turn-2.result vain
-    (record { keeps = c.ask_in_turn-2.ensures.keeps; answers = c.ask_in_turn-2.ensures.answers; asks = c.ask_in_turn-2.ensures.asks }) in
-    all.answers
-
-pub round_robin::Beginning::pull-returns-in-None-clause-turn : goal.round_robin::Beginning::pull-returns-in-None-clause-turn
-round_robin::Beginning::pull-returns-in-None-clause-turn g t c =
-    let a = c.args.nodes.now in
-    let x = c.args.node in
-    let p = c.index.result.now in
-    let place : slice_get a.inputs.items x ≡ Some p = entry a.inputs.items x p c.requires.can_pull.there c.index.ensures in
-    let count : c.len-inputs.result ≡ length p.each.items = c.len-inputs.ensures ∙ p.each.ok.0 in
-    let first = c.args.self.now.input in
-    let n = c.len-inputs.result in
-    let low : first < n = subst (λ m. first < m) (sym count) (subst (λ o. IfSome o (λ q. first < length q.each.items)) place c.requires.fits) in
-    let one = range_with_len first (n - first) in
-    let other = range_with_len 0 first in
-    let b = c.ask_in_turn.new.self in
-    let d = c.ask_in_turn-2.new.self in
-    let vain : IsAsking g.Q.Ask.gives a b c.args.q.now c.ask_in_turn.new.q x one =
-    record {
-      keeps = c.ask_in_turn.ensures.keeps;
-      answers = c.ask_in_turn.ensures.answers;
-      asks = subst (λ r. AsksAll a b x one (asked_in_order (now_of a) x one r)) c.in_default.is c.ask_in_turn.ensures.asks;
-    }
-    in
-    let all = asked-both g.Q.Ask.gives a b d c.args.q.now c.ask_in_turn.new.q c.ask_in_turn-2.new.q x one other c.ask_in_turn-2.result vain
-    (record { keeps = c.ask_in_turn-2.ensures.keeps; answers = c.ask_in_turn-2.ensures.answers; asks = c.ask_in_turn-2.ensures.asks }) in
-    round_robin-turn a d x n first first p None place count low tt (subst (λ r. AsksAll a d x (parts first n) (asked_in_order (now_of a) x (parts first n) (in_second one r))) c.in-None.is all.asks) refl
 
 pub shaper::Bucket::pull-returns-then-not-has_token-clause-turn : goal.shaper::Bucket::pull-returns-then-not-has_token-clause-turn
 shaper::Bucket::pull-returns-then-not-has_token-clause-turn g t c =
