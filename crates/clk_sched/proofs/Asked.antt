@@ -1,7 +1,5 @@
 -- A node that asks one of its inputs.
-use Rattle.std.proofs.Common.{◌≡◌, ◌⊎◌, ℕ, zero, suc, ◌+◌, ◌-◌, ◌<◌, ◌≤◌, nat_lt, Bool, true, false, if◌then◌else◌, List, [], ◌∷◌, ◌++◌, length, get_or, slice_get, slice_index, option_map, Option, Some, None, IsSome, is_some, MatchOption, inl, inr, refl, sym, ap, ◌∙◌, subst, append-nil, arith}
-use Rattle.std.specs.Bool.{⊤}
-use Rattle.std.specs.List.{AllByRecursion}
+use Rattle.std.proofs.Common.{◌≡◌, ◌⊎◌, ℕ, suc, ◌+◌, ◌<◌, ◌≤◌, nat_lt, Bool, true, false, if◌then◌else◌, List, [], ◌∷◌, ◌++◌, length, get_or, slice_get, slice_index, option_map, Option, Some, None, IsSome, is_some, MatchOption, inl, inr, refl, sym, ap, ◌∙◌, subst, arith}
 use Rattle.std.proofs.lemmas.Bool.{false≢true}
 use Rattle.std.proofs.lemmas.Bool.Decides.{nat_tests}
 use Rattle.std.proofs.lemmas.Option.{slice_get-get_or, slice_get_within, get_or_from_slice_get, slice_get-map}
@@ -13,12 +11,12 @@ use Rattle.clk_sched.specs.declared.session.inputs.Input.TheVariants.{Queue, Sch
 use Rattle.clk_sched.specs.declared.session.inputs.Inputs.{Inputs}
 use Rattle.clk_sched.specs.declared.session.stride.Rank.{Rank}
 use Rattle.clk_sched.specs.Tree.{Row, nodes}
-use Rattle.clk_sched.specs.Places.{inputs_of, StandsIn, HasInputs, AreWired, IsAfter, edges_of, edges_to, edges_at, option_edges_to, input_at, option_input, queue_of, queue_asked, Answers}
-use Rattle.clk_sched.specs.Pulling.{CanPull, Keeps, Pulls, Asks, IsGoing, SameButBelow, HasPulled, IsPulling, IsUnasked, IsVisitAt, added, now_of, after, inputs_in}
+use Rattle.clk_sched.specs.Places.{inputs_of, StandsIn, AreWired, IsAfter, edges_of, edges_at, option_edges_to, input_at, option_input, queue_of, queue_asked}
+use Rattle.clk_sched.specs.Pulling.{Pulls, Asks, HasPulled, IsPulling, added, now_of, after, inputs_in}
 use Rattle.clk_sched.proofs.Members.{of-all, in-slice}
-use Rattle.clk_sched.proofs.Below.{LiesAt, lies-within, IsChildAt, child-at, IsQueueAt, queue-at}
+use Rattle.clk_sched.proofs.Below.{LiesAt, lies-within, IsChildAt, child-at, queue-at}
 use Rattle.clk_sched.proofs.Pulling.{pulling-asks, pulling-before}
-use Rattle.clk_sched.proofs.Asking.{added-none, keeps-more, answers-then}
+use Rattle.clk_sched.proofs.Asking.{added-none}
 
 pub entry : {X : Type 0} (xs : List X) (i : ℕ) (x : X) → i < length xs → x ≡ get_or xs i x → slice_get xs i ≡ Some x
 entry xs i x l e = slice_get-get_or xs i x l ∙ ap Some (sym e)

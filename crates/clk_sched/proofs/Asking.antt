@@ -1,20 +1,17 @@
 -- Inputs of a node that are asked one after another.
-use Rattle.std.proofs.Common.{◌≡◌, ◌≢◌, ◌⊎◌, ℕ, suc, ◌+◌, ◌<◌, ◌≤◌, List, [], ◌∷◌, ◌++◌, length, take, drop, map, get_or, slice_get, slice_index, Option, Some, None, inl, inr, refl, sym, ap, ap₂, ◌∙◌, subst, append-nil, append_assoc, arith}
+use Rattle.std.proofs.Common.{◌≡◌, ◌≢◌, ℕ, suc, ◌+◌, ◌<◌, ◌≤◌, List, [], ◌∷◌, ◌++◌, length, take, drop, slice_get, slice_index, Option, Some, None, refl, sym, ap, ap₂, ◌∙◌, subst, append-nil, append_assoc, arith}
 use Rattle.std.specs.List.{AllByRecursion}
-use Rattle.std.specs.Bool.{⊤}
-use Rattle.std.specs.Vec.{vec_len, vec_capacity}
 use Rattle.std.proofs.Math.Seq.{drop-append_seam, take-suc}
 use Rattle.std.proofs.lemmas.List.{map-append, take-append-drop, take_all}
 use Rattle.clk_packet.specs.declared.packet.Packet.{Packet}
 use Rattle.clk_sched.specs.declared.visit.Visit.{Visit}
 use Rattle.clk_sched.specs.declared.session.nodes.Nodes.{Nodes}
 use Rattle.clk_sched.specs.declared.session.inputs.Inputs.{Inputs}
-use Rattle.clk_sched.specs.Tree.{Row, nodes}
 use Rattle.clk_sched.specs.Log.{asking}
 use Rattle.clk_sched.specs.Holds.Shaper.{AreBefore}
 use Rattle.clk_sched.specs.Places.{StandsIn, AreWired, AllFit, edges_at, edges_in, Answers, at_queue, queue_asked}
-use Rattle.clk_sched.specs.Pulling.{Now, History, AreApart, CanPull, Keeps, Asks, AsksAll, IsGoing, GoesOnBy, SameButBelow, IsPulling, IsUnasked, IsVisitAt, added, now_of, asked_in_vain, asked_in_order}
-use Rattle.clk_sched.proofs.Members.{In, of-all, to-all, all-append, all-split, all-weaker}
+use Rattle.clk_sched.specs.Pulling.{Now, AreApart, CanPull, Keeps, Asks, AsksAll, IsGoing, IsPulling, IsUnasked, added, now_of, asked_in_vain, asked_in_order}
+use Rattle.clk_sched.proofs.Members.{In, of-all, to-all, all-append, all-split}
 use Rattle.clk_sched.proofs.Apart.{all-map}
 
 -- what was logged, where the log is known

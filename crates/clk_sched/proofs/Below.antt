@@ -1,6 +1,6 @@
 -- What stands at an input of a row: which nodes, what they hold, and what they may have done.
-use Rattle.std.proofs.Common.{◌≡◌, ◌≢◌, ◌==◌, ℕ, zero, suc, ◌+◌, ◌<◌, ◌≤◌, Bool, true, false, if◌then◌else◌, List, [], ◌∷◌, ◌++◌, Option, Some, None, is_some, MatchOption, slice_get, inl, inr, refl, sym, ap, ap₂, ◌∙◌, subst, arith}
-use Rattle.std.specs.List.{flat_map, AllByRecursion}
+use Rattle.std.proofs.Common.{◌≡◌, ℕ, zero, suc, ◌+◌, ◌<◌, ◌≤◌, Bool, true, false, if◌then◌else◌, List, [], ◌∷◌, ◌++◌, Option, Some, None, is_some, MatchOption, slice_get, refl, sym, ap, subst, arith}
+use Rattle.std.specs.List.{AllByRecursion}
 use Rattle.std.specs.Bool.{⊤}
 use Rattle.std.proofs.lemmas.Bool.{false≢true}
 use Rattle.clk_packet.specs.declared.packet.Packet.{Packet}
@@ -12,7 +12,7 @@ use Rattle.clk_sched.specs.declared.session.state.State.{State}
 use Rattle.clk_sched.specs.Tree.{Class, Row, end, leaf, node, nodes, width}
 use Rattle.clk_sched.specs.Holds.OfClass.{Holds}
 use Rattle.clk_sched.specs.Places.{inputs_of, EachHasInputs, StandsIn}
-use Rattle.clk_sched.specs.Pulling.{Now, History, EachHolds, NodeHolds, asked_of, with_asked, IsVisitAt, IsBlockOf, IsBlock, IsAskedAt}
+use Rattle.clk_sched.specs.Pulling.{Now, History, EachHolds, NodeHolds, asked_of, IsVisitAt, IsBlock, IsAskedAt}
 use Rattle.clk_sched.proofs.Members.{In, of-all, all-append, all-flat_map}
 
 -- a node stands at an input of a row, or below what does

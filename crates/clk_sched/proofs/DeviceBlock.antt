@@ -1,5 +1,5 @@
 -- The block of the device, once it is a pull of its own, may follow the run after which it was made.
-use Rattle.std.proofs.Common.{◌≡◌, ◌≢◌, ◌==◌, ℕ, zero, suc, ◌+◌, ◌<◌, ◌≤◌, Bool, true, false, if◌then◌else◌, inl, inr, List, [], ◌∷◌, ◌++◌, length, map, reverse, filter, Option, refl, sym, ap, ap₂, ◌∙◌, subst, append-nil, arith}
+use Rattle.std.proofs.Common.{◌≡◌, ◌≢◌, ◌==◌, ℕ, zero, suc, ◌+◌, ◌<◌, ◌≤◌, Bool, true, false, if◌then◌else◌, List, [], ◌∷◌, ◌++◌, length, map, reverse, filter, Option, refl, sym, ap, ap₂, ◌∙◌, subst, append-nil, arith}
 use Rattle.std.specs.List.{flat_map, AllByRecursion, list_any}
 use Rattle.std.proofs.lemmas.List.{map-append}
 use Rattle.std.proofs.lemmas.List.Elements.{filter-append}
@@ -12,7 +12,7 @@ use Rattle.clk_sched.specs.Laws.{AllowsTurn}
 use Rattle.clk_sched.specs.Laws.Priority.{priority_order}
 use Rattle.clk_sched.specs.Run.{IsRun}
 use Rattle.clk_sched.specs.Step.{EachAllows, IsNextPull}
-use Rattle.clk_sched.specs.Pulling.{Now, History, as_turn, asked_of, with_asked, AreApart, input_of, IsVisitAt, IsAskedAt, IsBlock}
+use Rattle.clk_sched.specs.Pulling.{Now, History, as_turn, asked_of, with_asked, input_of, IsVisitAt, IsAskedAt, IsBlock}
 use Rattle.clk_sched.specs.Session.{history_of}
 use Rattle.clk_sched.proofs.Members.{In, of-all, to-all, in-filter, all-weaker}
 use Rattle.clk_sched.proofs.Numbers.{equal, differs}

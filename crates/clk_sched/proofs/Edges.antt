@@ -1,10 +1,10 @@
 -- How many edges some inputs of a node have at most.
-use Rattle.std.proofs.Common.{◌≡◌, ◌≢◌, ℕ, zero, suc, ◌+◌, ◌≤◌, List, [], ◌∷◌, map, slice_get, Option, Some, None, refl, sym, ap, ◌∙◌, subst, arith}
+use Rattle.std.proofs.Common.{◌≡◌, ◌≢◌, ℕ, zero, suc, ◌+◌, ◌≤◌, List, [], ◌∷◌, map, slice_get, Some, refl, ap, ◌∙◌, arith}
 use Rattle.std.specs.List.{AllByRecursion}
 use Rattle.std.proofs.lemmas.Option.{slice_get_past}
 use Rattle.clk_sched.specs.declared.session.inputs.Input.{Input}
 use Rattle.clk_sched.specs.declared.session.inputs.Inputs.{Inputs}
-use Rattle.clk_sched.specs.Places.{AreWired, edges_of, option_edges, edges_to, edges_to_all, edges_at, edges_in, option_edges_to, input_at, option_input}
+use Rattle.clk_sched.specs.Places.{AreWired, edges_of, option_edges, edges_to, edges_to_all, edges_at, edges_in, option_edges_to, option_input}
 use Rattle.clk_sched.specs.Pulling.{AreApart}
 
 abbrev total : List ℕ → ℕ

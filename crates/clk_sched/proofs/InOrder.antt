@@ -1,19 +1,17 @@
 -- The turn of a scheduler that asks its inputs in an order.
-use Rattle.std.proofs.Common.{◌≡◌, ◌≢◌, ℕ, zero, suc, ◌+◌, ◌<◌, ◌≤◌, true, List, [], ◌∷◌, ◌++◌, length, take, map, slice_get, slice_index, Option, Some, None, IfSome, is_some, MatchOption, option_map, refl, sym, ap, ◌∙◌, subst, append-nil, arith}
+use Rattle.std.proofs.Common.{◌≡◌, ◌≢◌, ℕ, zero, suc, ◌<◌, List, [], ◌∷◌, length, take, map, slice_index, Option, Some, None, IfSome, is_some, refl, sym, ap, subst, arith}
 use Rattle.std.specs.List.{AllByRecursion, range_with_len}
 use Rattle.std.proofs.lemmas.List.FromFn.{length-range_with_len}
-use Rattle.std.specs.Bool.{⊤}
 use Rattle.std.proofs.lemmas.Bool.{false≢true}
 use Rattle.clk_packet.specs.declared.packet.Packet.{Packet}
 use Rattle.clk_sched.specs.declared.visit.Visit.{Visit}
 use Rattle.clk_sched.specs.declared.session.nodes.Nodes.{Nodes}
 use Rattle.clk_sched.specs.Tree.{Class, Row, width}
 use Rattle.clk_sched.specs.Turns.{Turn, UpToFirst, IsPlain, AsksInOrder, giver}
-use Rattle.clk_sched.specs.Laws.{manner, Follows, AllowsTurn}
+use Rattle.clk_sched.specs.Laws.{manner, Follows}
 use Rattle.clk_sched.specs.Log.{visits_of, result_of, asking}
 use Rattle.clk_sched.specs.Pulling.{Now, History, AreApart, input_of, IsReady, HasTurned, AsksAll, IsUnasked, GoesOnBy, added, now_of, after, with_turn, as_turn, asked_in_vain, asked_in_order}
-use Rattle.clk_sched.proofs.Members.{In, of-all, to-all, all-append, all-weaker}
-use Rattle.clk_sched.proofs.Apart.{all-map}
+use Rattle.clk_sched.proofs.Members.{In, of-all, to-all, all-weaker}
 use Rattle.clk_sched.proofs.Orders.{IsOrderOf}
 use Rattle.clk_sched.proofs.Pulling.{pulling-first, pulling-own}
 

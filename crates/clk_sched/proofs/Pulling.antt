@@ -1,21 +1,20 @@
 -- A node that is being pulled, visit by visit.
-use Rattle.std.proofs.Common.{◌≡◌, ◌≢◌, ◌==◌, ◌⊎◌, ℕ, suc, ◌+◌, ◌<◌, ◌≤◌, Bool, true, false, if◌then◌else◌, List, [], ◌∷◌, ◌++◌, Option, inl, inr, slice_get, refl, sym, ap, ap₂, ◌∙◌, subst, append-nil, append_assoc, arith}
-use Rattle.std.specs.List.{flat_map, AllByRecursion}
+use Rattle.std.proofs.Common.{◌≡◌, ◌≢◌, ◌==◌, ℕ, suc, ◌≤◌, Bool, true, false, if◌then◌else◌, List, [], ◌∷◌, ◌++◌, Option, slice_get, refl, sym, ap, ap₂, ◌∙◌, subst, append-nil, arith}
+use Rattle.std.specs.List.{AllByRecursion}
 use Rattle.std.proofs.lemmas.Bool.{false≢true}
-use Rattle.std.proofs.lemmas.Bool.Decides.{nat_tests}
 use Rattle.std.proofs.lemmas.List.Concat.{flat_map-append}
 use Rattle.std.proofs.lemmas.List.Elements.{filter-append}
 use Rattle.clk_packet.specs.declared.packet.Packet.{Packet}
 use Rattle.clk_sched.specs.declared.visit.Visit.{Visit}
 use Rattle.clk_sched.specs.declared.session.state.State.{State}
-use Rattle.clk_sched.specs.Tree.{Row, nodes}
+use Rattle.clk_sched.specs.Tree.{Row}
 use Rattle.clk_sched.specs.Log.{visits_of}
 use Rattle.clk_sched.specs.Pulling.{Now, History, after, with_turn, EachHolds, asked_of, with_asked, IsVisitAt, IsAskedAt, IsPulling, IsUnasked}
 use Rattle.clk_sched.proofs.Numbers.{equal, differs}
 use Rattle.clk_sched.proofs.Members.{In, of-all, to-all, all-append, all-weaker, all-flat_map}
 use Rattle.clk_sched.proofs.Blocks.{flat_map-same}
 use Rattle.clk_sched.proofs.WithAsked.{absent, IsAbsent}
-use Rattle.clk_sched.proofs.Below.{LiesAt, lies-within, lies-apart, IsVisitBelow, asked-below, HoldsAt, AreAlike, holds-at, holds_at-same, holds-put, holds-same}
+use Rattle.clk_sched.proofs.Below.{LiesAt, lies-within, lies-apart, IsVisitBelow, asked-below, HoldsAt, holds-at, holds_at-same, holds-put, holds-same}
 
 pub pulling-first : (now : Now) (history : History) (x : ℕ) (row : Row) (states : List State) → EachHolds states history (suc x) row → IsPulling now history x row states [] []
 pulling-first now history x row states h = record { made = λ i. []; whole = refl; theirs = tt; each = tt; holds = h }

@@ -1,21 +1,20 @@
 -- A node's own state, which is taken out while it has its turn, and put back.
-use Rattle.std.proofs.Common.{◌≡◌, ◌≢◌, ◌⊎◌, ℕ, zero, suc, ◌+◌, ◌<◌, ◌≤◌, List, [], ◌∷◌, ◌++◌, length, drop, Bool, true, false, ◌==◌, slice_get, slice_set, Option, Some, None, MatchOption, inl, inr, refl, sym, ap, ap₂, ◌∙◌, subst, arith}
-use Rattle.std.proofs.lemmas.Option.{slice_get_within, slice_get_past}
+use Rattle.std.proofs.Common.{◌≡◌, ◌≢◌, ◌⊎◌, ℕ, zero, suc, ◌+◌, ◌<◌, ◌≤◌, List, [], ◌∷◌, length, drop, Bool, true, false, ◌==◌, slice_get, slice_set, Option, Some, None, MatchOption, inl, inr, refl, sym, ap, ap₂, ◌∙◌, subst, arith}
+use Rattle.std.proofs.lemmas.Option.{slice_get_within}
 use Rattle.std.proofs.lemmas.List.{length-set}
 use Rattle.std.proofs.lemmas.Bool.{false≢true}
 use Rattle.std.proofs.lemmas.Bool.Decides.{nat_tests}
 use Rattle.clk_packet.specs.declared.packet.Packet.{Packet}
-use Rattle.clk_sched.specs.declared.visit.Visit.{Visit}
 use Rattle.clk_sched.specs.declared.session.inputs.Inputs.{Inputs}
 use Rattle.clk_sched.specs.declared.session.state.State.{State}
 use Rattle.clk_sched.specs.declared.session.nodes.Nodes.{Nodes}
-use Rattle.clk_sched.specs.Tree.{Class, Row, nodes, width}
+use Rattle.clk_sched.specs.Tree.{Class, nodes, width}
 use Rattle.clk_sched.specs.Holds.OfClass.{Fits, Holds}
 use Rattle.clk_sched.specs.Holds.Shaper.{AreBefore}
 use Rattle.clk_sched.specs.Places.{StandsIn, AllFit}
-use Rattle.clk_sched.specs.Pulling.{History, Pulls, HasPulled, NodeHolds, EachHolds, IsBlock, IsReady, added, now_of, after}
+use Rattle.clk_sched.specs.Pulling.{Pulls, EachHolds, IsBlock, IsReady, added, now_of, after}
 use Rattle.clk_sched.specs.Pulling.{TakesTurn, TurnIsTaken}
-use Rattle.clk_sched.proofs.Below.{AreAlike, holds-same}
+use Rattle.clk_sched.proofs.Below.{holds-same}
 use Rattle.clk_sched.proofs.Numbers.{equal}
 
 pub set-here : {X : Type 0} (xs : List X) (i : ℕ) (x : X) → i < length xs → slice_get (slice_set xs i x) i ≡ Some x

@@ -1,6 +1,6 @@
 -- A session that is drained, pull by pull.
-use Rattle.std.proofs.Common.{◌≡◌, ◌≢◌, ℕ, suc, ◌+◌, ◌<◌, ◌≤◌, true, max, List, [], ◌∷◌, ◌++◌, length, map, reverse, drop, Option, Some, None, is_some, false, refl, sym, ap, ap₂, ◌∙◌, subst, append-nil, append_assoc, arith}
-use Rattle.std.specs.List.{flat_map, filter_map, range_with_len, cons_option}
+use Rattle.std.proofs.Common.{◌≡◌, ℕ, ◌+◌, ◌<◌, ◌≤◌, true, List, [], ◌∷◌, ◌++◌, length, reverse, drop, Option, Some, None, is_some, false, refl, sym, ap, ap₂, ◌∙◌, subst, append-nil, append_assoc, arith}
+use Rattle.std.specs.List.{flat_map, range_with_len, cons_option}
 use Rattle.std.proofs.lemmas.Bool.{false≢true}
 use Rattle.std.proofs.Math.Seq.{drop-append_seam}
 use Rattle.std.proofs.lemmas.List.{map-append, reverse-append, length-append}
@@ -11,7 +11,7 @@ use Rattle.clk_sched.specs.declared.visit.Visit.{Visit}
 use Rattle.clk_sched.specs.Log.{visits_of, pulls, moment_of, result_of}
 use Rattle.clk_sched.specs.Run.{IsRun}
 use Rattle.clk_sched.specs.Places.{Answers}
-use Rattle.clk_sched.specs.Session.{Progress, IsPulledOnce, IsDrained, GivesAll, StopsShort, LastGives, given_in, counted_moment, latest_moment, newly, tree_queue}
+use Rattle.clk_sched.specs.Session.{Progress, IsPulledOnce, IsDrained, GivesAll, LastGives, given_in, counted_moment, latest_moment, newly, tree_queue}
 use Rattle.clk_sched.proofs.Asking.{answers-then}
 use Rattle.clk_sched.proofs.TurnRoundRobin.{range-append}
 

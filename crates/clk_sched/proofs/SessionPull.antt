@@ -1,5 +1,5 @@
 -- One pull of a session: what its nodes did is the next pull of its run.
-use Rattle.std.proofs.Common.{◌≡◌, ℕ, suc, ◌+◌, ◌<◌, ◌≤◌, max, List, [], ◌∷◌, ◌++◌, length, map, reverse, drop, filter, Bool, true, false, ◌==◌, if◌then◌else◌, Option, refl, sym, ap, ◌∙◌, subst, append-nil, append_assoc, arith}
+use Rattle.std.proofs.Common.{◌≡◌, ℕ, suc, ◌+◌, ◌<◌, ◌≤◌, max, List, [], ◌∷◌, ◌++◌, length, map, reverse, filter, Bool, true, false, ◌==◌, if◌then◌else◌, Option, refl, sym, ap, ◌∙◌, subst, append-nil, append_assoc, arith}
 use Rattle.std.specs.List.{AllByRecursion}
 use Rattle.std.proofs.lemmas.List.{reverse-append, length-append}
 use Rattle.std.proofs.lemmas.List.FromFn.{length-map-range_with_len}
@@ -13,8 +13,8 @@ use Rattle.clk_sched.specs.Run.{IsRun}
 use Rattle.clk_sched.specs.Step.{IsOnePullMore}
 use Rattle.clk_sched.specs.Holds.Shaper.{AreBefore}
 use Rattle.clk_sched.specs.Places.{StandsIn, AreWired, AllFit}
-use Rattle.clk_sched.specs.Pulling.{History, NodeHolds, EachHolds, IsBlock, Keeps, Pulls, HasPulled, added, now_of, after, with_turn, as_turn}
-use Rattle.clk_sched.specs.Session.{Progress, IsLaidOut, IsAfterRun, IsPulledOnce, history_of, latest_moment, counted_moment, newly}
+use Rattle.clk_sched.specs.Pulling.{NodeHolds, Keeps, Pulls, HasPulled, added, now_of, after, with_turn}
+use Rattle.clk_sched.specs.Session.{Progress, IsLaidOut, IsAfterRun, IsPulledOnce, history_of, latest_moment, newly}
 use Rattle.clk_sched.proofs.Members.{all-weaker}
 use Rattle.clk_sched.proofs.Apart.{all-reverse}
 use Rattle.clk_sched.proofs.GoesOn.{goes-on}

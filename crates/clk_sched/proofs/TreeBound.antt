@@ -1,5 +1,5 @@
 -- The least quantum of a tree, and the bound of its closing.
-use Rattle.std.proofs.Common.{◌≡◌, ℕ, ◌+◌, ◌-◌, ◌*◌, ◌≤◌, mul_assoc, List, [], ◌∷◌, Option, Some, None, refl, sym, ap₂, ◌∙◌, subst, arith}
+use Rattle.std.proofs.Common.{◌≡◌, ℕ, ◌+◌, ◌*◌, ◌≤◌, mul_assoc, List, [], ◌∷◌, Option, Some, None, refl, sym, ap₂, ◌∙◌, subst, arith}
 use Rattle.std.specs.Bool.{⊤}
 use Rattle.std.specs.List.{AllByRecursion}
 use Rattle.clk_sched.specs.Limits.{most_quantum}

@@ -12,7 +12,7 @@ use Rattle.clk_sched.specs.declared.session.inputs.Inputs.{Inputs}
 use Rattle.clk_sched.specs.declared.session.drr.Deficits.{Deficits}
 use Rattle.clk_sched.specs.declared.session.nodes.Nodes.{Nodes}
 use Rattle.clk_sched.specs.declared.session.state.State.TheVariants.{Drr}
-use Rattle.clk_sched.specs.Tree.{Class, prio, round_robin, drr, stride, shaper, width}
+use Rattle.clk_sched.specs.Tree.{drr, width}
 use Rattle.clk_sched.specs.Turns.{Turn, EachAfter, visits_before}
 use Rattle.clk_sched.specs.Heads.{head_at, is_covered, LooksAtHeads, EndAtPass}
 use Rattle.clk_sched.specs.Laws.Deficit.{next_input, deficit_covers}

@@ -1,5 +1,5 @@
 -- The turn of a PrioSched.
-use Rattle.std.proofs.Common.{◌≡◌, ℕ, length, slice_get, Option, Some, sym, ◌∙◌, subst}
+use Rattle.std.proofs.Common.{◌≡◌, ℕ, length, slice_get, Option, Some, ◌∙◌, subst}
 use Rattle.std.specs.List.{range_with_len}
 use Rattle.clk_packet.specs.declared.packet.Packet.{Packet}
 use Rattle.clk_sched.specs.declared.session.inputs.Inputs.{Inputs}

@@ -1,21 +1,18 @@
 -- The turn of a RoundRobinSched.
-use Rattle.std.proofs.Common.{◌≡◌, ℕ, zero, suc, ◌+◌, ◌-◌, ◌*◌, ◌%◌, ◌<◌, ◌≤◌, List, [], ◌∷◌, ◌++◌, length, take, map, slice_get, slice_index, Option, Some, None, IsSome, IfSome, MatchOption, refl, sym, ap, ap₂, ◌∙◌, subst, mod-eq_of_lt, mod-lt, arith}
+use Rattle.std.proofs.Common.{◌≡◌, ℕ, zero, suc, ◌+◌, ◌-◌, ◌*◌, ◌%◌, ◌<◌, ◌≤◌, List, [], ◌∷◌, ◌++◌, length, map, slice_get, slice_index, Option, Some, None, IsSome, refl, sym, ap, ap₂, ◌∙◌, subst, mod-eq_of_lt, arith}
 use Rattle.std.specs.List.{AllByRecursion, range_with_len}
 use Rattle.std.proofs.lemmas.Nat.{mod-mul-add}
-use Rattle.std.proofs.lemmas.List.{length-append}
-use Rattle.std.proofs.lemmas.List.FromFn.{length-range_with_len, get_or-range_with_len}
 use Rattle.clk_packet.specs.declared.packet.Packet.{Packet}
 use Rattle.clk_sched.specs.declared.visit.Visit.{Visit}
 use Rattle.clk_sched.specs.declared.session.inputs.Inputs.{Inputs}
 use Rattle.clk_sched.specs.declared.session.nodes.Nodes.{Nodes}
-use Rattle.clk_sched.specs.declared.session.round_robin.Beginning.{Beginning}
 use Rattle.clk_sched.specs.declared.session.state.State.TheVariants.{RoundRobin}
 use Rattle.clk_sched.specs.Tree.{round_robin, width}
 use Rattle.clk_sched.specs.Log.{asking}
 use Rattle.clk_sched.specs.Turns.{Turn, AsksInOrder, giver}
 use Rattle.clk_sched.specs.Laws.RoundRobin.{beginning, round_robin_order}
 use Rattle.clk_sched.specs.Places.{edges_of, edges_in, input_at, Answers, queue_asked}
-use Rattle.clk_sched.specs.Pulling.{Now, CanPull, Keeps, AsksAll, now_of, after, with_turn, as_turn, added, asked_in_vain, asked_in_order}
+use Rattle.clk_sched.specs.Pulling.{Now, CanPull, Keeps, AsksAll, now_of, after, with_turn, added, asked_in_vain, asked_in_order}
 use Rattle.clk_sched.specs.Pulling.{TakesTurn}
 use Rattle.clk_sched.proofs.Members.{all-weaker, all-split}
 use Rattle.clk_sched.proofs.Asking.{IsAsking, HasAskedAll, keeps-then, added-then, answers-then, asks-then, edges-append, vain-in, same-now, apart-split, can-go_on}

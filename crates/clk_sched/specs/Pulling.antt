@@ -1,5 +1,5 @@
 -- What a pull does below a node, while it goes on: which visits it makes, and what each node holds then.
-use Rattle.std.specs.Prelude.{◌≡◌, ◌≢◌, ◌⊎◌, ℕ, ◌+◌, ◌<◌, ◌≤◌, ◌^◌, Bool, true, List, [], ◌∷◌, ◌++◌, length, drop, suc, zero, ⊤, Option, Some, None, MatchOption, slice_get, slice_index, take, map, if◌then◌else◌}
+use Rattle.std.specs.Prelude.{◌≡◌, ◌≢◌, ◌⊎◌, ℕ, ◌+◌, ◌<◌, ◌≤◌, ◌^◌, true, List, [], ◌∷◌, ◌++◌, length, drop, suc, zero, ⊤, Option, Some, None, MatchOption, slice_get, slice_index, take, map, if◌then◌else◌}
 use Rattle.std.specs.List.{AllByRecursion, flat_map}
 use Rattle.std.specs.Vec.{vec_len, vec_capacity}
 use Rattle.clk_packet.specs.declared.packet.Packet.{Packet}
@@ -13,7 +13,7 @@ use Rattle.clk_sched.specs.Laws.{AllowsTurn}
 use Rattle.clk_sched.specs.Log.{visits_of, result_of, asking}
 use Rattle.clk_sched.specs.Holds.OfClass.{Holds}
 use Rattle.clk_sched.specs.Holds.Shaper.{AreBefore}
-use Rattle.clk_sched.specs.Places.{StandsIn, AreWired, AllFit, edges_of, edges_in, Answers, queue_asked}
+use Rattle.clk_sched.specs.Places.{StandsIn, AreWired, AllFit}
 
 -- the number of a pull, and its counted moment
 pub record Now : Type 0 where

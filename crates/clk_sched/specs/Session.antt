@@ -6,7 +6,7 @@ use Rattle.clk_packet.specs.declared.fault.Fault.{Fault}
 use Rattle.clk_packet.specs.declared.fault.Fault.TheVariants.{Memory, TooManyPulls}
 use Rattle.clk_sched.specs.declared.visit.Visit.{Visit}
 use Rattle.clk_sched.specs.declared.session.nodes.Nodes.{Nodes}
-use Rattle.clk_sched.specs.Tree.{Class, prio, Row, end, leaf, node, Tree, root, nodes, queue_at}
+use Rattle.clk_sched.specs.Tree.{prio, Row, end, leaf, node, Tree, root, nodes, queue_at}
 use Rattle.clk_sched.specs.Log.{visits_of, pulls, moment_of, result_of}
 use Rattle.clk_sched.specs.Bound.{closing_bound}
 use Rattle.clk_sched.specs.Run.{IsRun}

@@ -1,4 +1,4 @@
-use Rattle.std.proofs.Common.{◌≡◌, ◌+◌, ◌-◌, ◌%◌, ◌<◌, ◌≤◌, ◌∷◌, [], true, false, ◌++◌, length, Option, Some, None, IsSome, IfSome, is_some, slice_get, slice_index, refl, sym, ap, ap₂, ◌∙◌, subst, mod-lt, mod-eq_of_lt, arith}
+use Rattle.std.proofs.Common.{◌≡◌, ◌+◌, ◌-◌, ◌%◌, ◌<◌, ◌≤◌, ◌∷◌, [], true, false, ◌++◌, length, Some, None, IsSome, IfSome, is_some, slice_get, slice_index, refl, sym, ap, ap₂, ◌∙◌, subst, mod-lt, mod-eq_of_lt, arith}
 use Rattle.std.specs.List.{range_with_len}
 use Rattle.std.specs.Vec.{with_item}
 use Rattle.std.proofs.lemmas.Option.{slice_get-get_or}
@@ -8,9 +8,8 @@ use Rattle.clk_sched.specs.declared.session.stride.Rank.{Rank}
 use Rattle.clk_sched.specs.Log.{asking}
 use Rattle.clk_sched.proofs.Members.{of-all, in-slice}
 use Rattle.clk_sched.specs.declared.session.inputs.Input.TheVariants.{Queue, Scheduler}
-use Rattle.clk_sched.specs.Places.{input_at, Answers, queue_asked, edges_of, edges_at, edges_in, at_queue}
-use Rattle.clk_sched.specs.Pulling.{CanPull, Keeps, AsksAll, added, now_of, asked_in_order, inputs_in}
-use Rattle.clk_sched.proofs.Edges.{edges-order}
+use Rattle.clk_sched.specs.Places.{input_at, Answers, queue_asked, edges_at, at_queue}
+use Rattle.clk_sched.specs.Pulling.{CanPull, AsksAll, added, now_of, asked_in_order, inputs_in}
 use Rattle.clk_sched.specs.Tree.{prio, shaper}
 use Rattle.clk_sched.specs.Pulling.{TakesTurn}
 use Rattle.clk_sched.specs.declared.session.state.State.TheVariants.{Prio, Drr, Stride, Shaper}
@@ -23,11 +22,10 @@ use Rattle.clk_sched.proofs.TurnRoundRobin.{round_robin-turn, parts, parts-order
 use Rattle.clk_sched.proofs.TurnStride.{stride-asks, stride-fits, stride-won, stride-none, stride-turn}
 use Rattle.clk_sched.proofs.TurnShaper.{Tells, IsTakenAt, shaper-asks, shaper-taken, shaper-none, shaper-turn, shaper-without}
 use Rattle.clk_sched.proofs.TurnOfClass.{drr-only, stride-only, shaper-only}
-use Rattle.clk_sched.proofs.PutBack.{pulls-put, set-here, set-other, fit-set}
+use Rattle.clk_sched.proofs.PutBack.{pulls-put, set-here, set-other}
 use Rattle.clk_sched.proofs.Asking.{IsAsking, asks-front, apart-split, added-none, keeps-more, answers-then, asks-one, asking-first, asking-can, HasAsked, asking-given, asking-next, asking-all}
-use Rattle.clk_sched.proofs.Asked.{entry, rank_at, entry-input, input-is, child-after, edges-scheduler, queue-visited, asks-queue, asks-child}
-use Rattle.clk_sched.specs.Tree.{drr, width}
-use Rattle.clk_sched.specs.Holds.OfClass.{Holds}
+use Rattle.clk_sched.proofs.Asked.{entry, rank_at, entry-input, input-is, edges-scheduler, queue-visited, asks-queue, asks-child}
+use Rattle.clk_sched.specs.Tree.{drr}
 use Rattle.clk_sched.specs.Looking.{looking}
 use Rattle.clk_sched.proofs.Asking.{keeps-none}
 use Rattle.clk_sched.proofs.TurnDrr.{edge-there, entry-there, of-entry, to-entry, keeps-logged, added-logged, answers-held, looks-held, looks-fresh, has-looked, making-first, making-can, making-next, making-passed, making-all, ended-keeps, drr-turn}

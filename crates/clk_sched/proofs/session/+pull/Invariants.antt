@@ -1,4 +1,4 @@
-use Rattle.std.proofs.Common.{◌≡◌, ℕ, ◌+◌, ◌*◌, ◌-◌, length, take}
+use Rattle.std.proofs.Common.{ℕ, ◌+◌, ◌*◌, ◌-◌, length, take}
 use Rattle.std.specs.List.{range_with_len}
 use Rattle.clk_sched.specs.Pulling.{inputs_in}
 use Rattle.clk_sched.proofs.Asking.{IsAsking}

@@ -1,5 +1,5 @@
-use Rattle.std.proofs.Common.{◌≡◌, ◌+◌, ◌<◌, ◌≤◌, length, max, refl, sym, ap, ◌∙◌, subst, arith}
-use Rattle.clk_sched.specs.Places.{Answers, queue_asked}
+use Rattle.std.proofs.Common.{◌+◌, refl, sym, subst, arith}
+use Rattle.clk_sched.specs.Places.{Answers}
 use Rattle.clk_sched.specs.declared.session.nodes.Nodes.{Nodes}
 use Rattle.clk_sched.specs.Session.{IsPulledOnce, newly, tree_queue}
 use Rattle.clk_sched.proofs.SessionPull.{session-pulled, pulls-few, progress, HasGoneOn}
@@ -23,10 +23,12 @@ invariant_of-self-2 g c =
     let most = c.max-self-inside.ensures in
     let kept = c.pull-got.ensures.keeps.moment in
     let below = c.self.invariant.1 in
-    let asked = c.requires in
-    ((session-pulled c.self.inside.tree a _ c.pull-got.new.self _ c.args.moment _ c.pull-got.result c.self.invariant.0
-    (record { inputs = refl; states = refl; log = c.reserve.ensures.items; pull = refl; at_moment = most }) c.pull-got.ensures.keeps c.pull-got.ensures.pulls
-    (record { inputs = refl; states = refl; log = refl; pull = refl; at_moment = refl })).still, omega (arith, most, kept, below, asked))
+    let asked = c.requires in (
+      (session-pulled c.self.inside.tree a _ c.pull-got.new.self _ c.args.moment _ c.pull-got.result c.self.invariant.0
+          (record { inputs = refl; states = refl; log = c.reserve.ensures.items; pull = refl; at_moment = most }) c.pull-got.ensures.keeps c.pull-got.ensures.pulls
+          (record { inputs = refl; states = refl; log = refl; pull = refl; at_moment = refl })).still,
+      omega (arith, most, kept, below, asked),
+    )
 
 pub returns-clause-pulled : goal.returns-clause-pulled
 returns-clause-pulled g c =
