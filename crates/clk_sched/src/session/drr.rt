@@ -83,7 +83,7 @@ impl Served {
 }
 
 impl Deficits {
-    ghost use Rattle.std.specs.Prelude.{◌%◌, ◌++◌, ℕ, false, List, [], ◌∷◌, IfSome};
+    ghost use Rattle.std.specs.Prelude.{◌%◌, ◌++◌, ℕ, false, List, [], ◌∷◌, IsSome, IfSome};
     ghost use Rattle.std.specs.List.{AllByRecursion};
     ghost use Rattle.clk_packet.specs.Limits.{most_length};
     ghost use Rattle.clk_sched.specs.declared.visit.Visit.{Visit};
@@ -91,6 +91,12 @@ impl Deficits {
     ghost use Rattle.clk_sched.specs.Laws.Deficit.{next_input, deficit_covers};
     ghost use Rattle.clk_sched.specs.Holds.Deficit.{HoldsDeficits};
     ghost use Rattle.clk_sched.specs.Held.{heads_in};
+    ghost use Rattle.std.specs.Vec.{vec_len, vec_capacity};
+    ghost use Rattle.clk_sched.specs.Tree.{drr};
+    ghost use Rattle.clk_sched.specs.Places.{edges_of, edges_at, input_at, Answers, queue_asked};
+    ghost use Rattle.clk_sched.specs.Pulling.{CanPull, Keeps, TakesTurn, added};
+    ghost use Rattle.clk_sched.specs.Looking.{looking, Logs, Settles, Looks};
+    ghost use Rattle.clk_sched.specs.declared.session.state.State.TheVariants.{Drr};
 
     /// What a DRRSched with these quanta, one for each input, holds before its first visit.
     pub fn new(alloc: Global, quanta: &[u32]) -> Result<Deficits, AllocError>
@@ -104,7 +110,7 @@ impl Deficits {
     }
 
     /// The head held at the input whose turn it is.
-    pub fn head(&self) -> Option<Packet>
+    fn head(&self) -> Option<Packet>
         ensures { (quanta : List ℕ) (inputs : ℕ) (before : List Visit) → HoldsDeficits quanta inputs before self.now → result ≡ head_at (next_input inputs before) before }
     {
         self.at_cursor().head
@@ -122,8 +128,9 @@ impl Deficits {
         Ok(())
     }
 
-    /// Takes what was got at that input, as its head or by asking, and answers whether it is passed. If not, the turn moves on.
-    pub fn settle(&mut self, got: Option<Packet>) -> bool
+    /// Takes what was got at the input whose turn it is, as its head or by asking, and answers whether it is passed. If not, the
+    /// turn moves on.
+    fn settle(&mut self, got: Option<Packet>) -> bool
         ensures holds { (quanta : List ℕ) (inputs : ℕ) (before : List Visit) (v : Visit) → HoldsDeficits quanta inputs before self.old → v.input ≡ next_input inputs before
             → v.got ≡ got → v.passed ≡ result → HoldsDeficits quanta inputs (v ∷ before) self.new }
         ensures covered { (quanta : List ℕ) (inputs : ℕ) (before : List Visit) → HoldsDeficits quanta inputs before self.old
@@ -139,15 +146,6 @@ impl Deficits {
         }
         passed
     }
-
-    ghost use Rattle.std.specs.Prelude.{IsSome};
-    ghost use Rattle.std.specs.Vec.{vec_len, vec_capacity};
-    ghost use Rattle.clk_sched.specs.Tree.{drr};
-    ghost use Rattle.clk_sched.specs.Places.{edges_of, edges_at, input_at, Answers, queue_asked};
-    ghost use Rattle.clk_sched.specs.Pulling.{CanPull, Keeps, added};
-    ghost use Rattle.clk_sched.specs.Looking.{looking, Logs, Settles, Looks};
-    ghost use Rattle.clk_sched.specs.Pulling.{TakesTurn};
-    ghost use Rattle.clk_sched.specs.declared.session.state.State.TheVariants.{Drr};
 
     /// Pulls a DRRSched.
     #[cycle(pull)]

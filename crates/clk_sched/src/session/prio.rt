@@ -2,8 +2,7 @@
 
 ghost use Rattle.clk_sched.specs.Tree.{prio};
 ghost use Rattle.clk_sched.specs.Places.{edges_of, Answers, queue_asked};
-ghost use Rattle.clk_sched.specs.Pulling.{CanPull, Keeps, added};
-ghost use Rattle.clk_sched.specs.Pulling.{TakesTurn};
+ghost use Rattle.clk_sched.specs.Pulling.{CanPull, Keeps, TakesTurn, added};
 ghost use Rattle.clk_sched.specs.declared.session.state.State.TheVariants.{Prio};
 
 use crate::ask::Ask;

@@ -14,8 +14,7 @@ impl Beginning {
     ghost use Rattle.std.specs.Prelude.{◌<◌, length, IfSome, slice_get};
     ghost use Rattle.clk_sched.specs.Tree.{round_robin};
     ghost use Rattle.clk_sched.specs.Places.{edges_of, Answers, queue_asked};
-    ghost use Rattle.clk_sched.specs.Pulling.{CanPull, Keeps, added};
-    ghost use Rattle.clk_sched.specs.Pulling.{TakesTurn};
+    ghost use Rattle.clk_sched.specs.Pulling.{CanPull, Keeps, TakesTurn, added};
     ghost use Rattle.clk_sched.specs.declared.session.state.State.TheVariants.{RoundRobin};
 
     /// Pulls a RoundRobinSched.

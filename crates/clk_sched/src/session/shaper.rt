@@ -72,8 +72,7 @@ impl Bucket {
 
     ghost use Rattle.clk_sched.specs.Tree.{shaper};
     ghost use Rattle.clk_sched.specs.Places.{edges_of, Answers, queue_asked};
-    ghost use Rattle.clk_sched.specs.Pulling.{CanPull, Keeps, added};
-    ghost use Rattle.clk_sched.specs.Pulling.{TakesTurn};
+    ghost use Rattle.clk_sched.specs.Pulling.{CanPull, Keeps, TakesTurn, added};
     ghost use Rattle.clk_sched.specs.declared.session.state.State.TheVariants.{Shaper};
 
     /// Pulls a Shaper.

@@ -23,8 +23,7 @@ impl State {
     ghost use Rattle.std.specs.Prelude.{length, IfSome, slice_get};
     ghost use Rattle.clk_sched.specs.Places.{edges_of, Answers, queue_asked};
     ghost use Rattle.clk_sched.specs.Holds.OfClass.{Fits};
-    ghost use Rattle.clk_sched.specs.Pulling.{CanPull, Keeps, added};
-    ghost use Rattle.clk_sched.specs.Pulling.{TakesTurn};
+    ghost use Rattle.clk_sched.specs.Pulling.{CanPull, Keeps, TakesTurn, added};
 
     /// Pulls the node that holds this, as its class does, and answers its result.
     #[cycle(pull)]

@@ -94,8 +94,7 @@ impl Passes {
 
     ghost use Rattle.clk_sched.specs.Tree.{stride};
     ghost use Rattle.clk_sched.specs.Places.{edges_of, Answers, queue_asked};
-    ghost use Rattle.clk_sched.specs.Pulling.{CanPull, Keeps, added};
-    ghost use Rattle.clk_sched.specs.Pulling.{TakesTurn};
+    ghost use Rattle.clk_sched.specs.Pulling.{CanPull, Keeps, TakesTurn, added};
     ghost use Rattle.clk_sched.specs.declared.session.state.State.TheVariants.{Stride};
     ghost use Rattle.clk_sched.specs.Holds.OfClass.{FitsPasses};
 
