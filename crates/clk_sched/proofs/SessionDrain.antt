@@ -9,6 +9,7 @@ use Rattle.std.proofs.lemmas.List.Elements.{filter_map-append}
 use Rattle.clk_packet.specs.declared.packet.Packet.{Packet}
 use Rattle.clk_sched.specs.declared.visit.Visit.{Visit}
 use Rattle.clk_sched.specs.Log.{visits_of, pulls, moment_of, result_of}
+use Rattle.clk_sched.specs.Bound.{closing_bound}
 use Rattle.clk_sched.specs.Run.{IsRun}
 use Rattle.clk_sched.specs.Places.{Answers}
 use Rattle.clk_sched.specs.Session.{Progress, IsPulledOnce, IsDrained, GivesAll, LastGives, given_in, counted_moment, latest_moment, newly, tree_queue}
@@ -119,8 +120,8 @@ given-none gives old t p r moment made given left (Some x) e h = absurd (false�
 
 -- all that was left came out
 pub draining-all : {S : Type 0} (gives : S → ℕ → Option Packet → S → Type 0) (old t : Progress) (p r : S) (moment made given left : ℕ) → IsDraining gives old t p r moment made given left → left ≤ given
-    → GivesAll old t moment made left
-draining-all gives old t p r moment made given left h l =
+    → made ≤ closing_bound old.tree left → GivesAll old t moment made left
+draining-all gives old t p r moment made given left h l within =
     let all : given ≡ left = let e = h.enough in omega (arith, e, l) in
-    let g : GivesAll old t moment made given = record { drained = h.drained; stops = h.stops all } in
+    let g : GivesAll old t moment made given = record { within = subst (λ n. made ≤ closing_bound old.tree n) (sym all) within; drained = h.drained; stops = h.stops all } in
     subst (λ n. GivesAll old t moment made n) all g

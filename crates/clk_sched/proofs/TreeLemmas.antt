@@ -4,7 +4,7 @@ use Rattle.std.proofs.lemmas.Bool.Decides.{nat_tests}
 use Rattle.std.proofs.lemmas.List.{take_all}
 use Rattle.clk_packet.specs.declared.fault.Fault.TheVariants.{TooLarge}
 use Rattle.clk_sched.specs.Limits.{most_inputs, most_levels}
-use Rattle.clk_sched.specs.Tree.{Class, Tree, queue, scheduler, root, height, width, leaves, stands_in}
+use Rattle.clk_sched.specs.Tree.{Class, Tree, queue, scheduler, root, height, width, leaves, stands_in, Row, end, leaf, node, IsWellFormed, IsSound}
 use Rattle.clk_sched.specs.Built.{built, row, leaves_of}
 use Rattle.clk_sched.specs.Session.{elements}
 use Rattle.clk_sched.specs.LaidOut.{elements_of}
@@ -63,3 +63,9 @@ elements-row (scheduler class inputs ∷ trees) first h e = rw (e, rest-cons (sc
 pub leaves-root : (tree : Tree) → leaves_of tree ≡ leaves (root tree)
 leaves-root (queue q) = refl
 leaves-root (scheduler class inputs) = sym (append-nil (leaves inputs))
+
+-- what is well formed is sound
+pub sound-formed : (r : Row) → IsWellFormed r → IsSound r
+sound-formed end h = tt
+sound-formed (leaf q r) h = sound-formed r h
+sound-formed (node class inputs r) h = (h.0.0, h.1, sound-formed inputs h.2, sound-formed r h.3)

@@ -7,15 +7,11 @@ use Rattle.clk_sched.specs.declared.session.inputs.Input.TheVariants.{Queue, Sch
 use Rattle.clk_sched.specs.declared.session.inputs.Inputs.{Inputs}
 use Rattle.clk_sched.specs.declared.session.state.State.{State}
 use Rattle.clk_sched.specs.declared.tree.layout.Tables.{Tables}
-use Rattle.clk_sched.specs.Limits.{most_inputs}
+use Rattle.clk_sched.specs.Limits.{most_inputs, most_elements}
 use Rattle.clk_sched.specs.Tree.{Class, Row, end, leaf, node, Tree, queue, scheduler, root, nodes, width, HasArguments}
 use Rattle.clk_sched.specs.Places.{inputs_of}
 use Rattle.clk_sched.specs.Session.{elements}
 use Rattle.clk_sched.specs.Holds.OfClass.{Holds}
-
--- how many queues and schedulers a tree of a session has at most, the device counted (this project's own choice)
-abbrev pub most_elements : ℕ
-most_elements = 256
 
 -- how many queues and schedulers a tree has, and how many schedulers
 abbrev pub elements_of : Tree → ℕ

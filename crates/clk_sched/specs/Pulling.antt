@@ -1,5 +1,5 @@
 -- What a pull does below a node, while it goes on: which visits it makes, and what each node holds then.
-use Rattle.std.specs.Prelude.{◌≡◌, ◌≢◌, ◌⊎◌, ℕ, ◌+◌, ◌<◌, ◌≤◌, ◌^◌, true, List, [], ◌∷◌, ◌++◌, length, drop, suc, zero, ⊤, Option, Some, None, MatchOption, slice_get, slice_index, take, map, if◌then◌else◌}
+use Rattle.std.specs.Prelude.{◌≡◌, ◌≢◌, ◌⊎◌, ℕ, ◌+◌, ◌<◌, ◌≤◌, true, List, [], ◌∷◌, ◌++◌, length, drop, suc, zero, ⊤, Option, Some, None, MatchOption, slice_get, slice_index, take, map, if◌then◌else◌}
 use Rattle.std.specs.List.{AllByRecursion, flat_map}
 use Rattle.std.specs.Vec.{vec_len, vec_capacity}
 use Rattle.clk_packet.specs.declared.packet.Packet.{Packet}
@@ -7,6 +7,7 @@ use Rattle.clk_sched.specs.declared.visit.Visit.{Visit}
 use Rattle.clk_sched.specs.declared.session.state.State.{State}
 use Rattle.clk_sched.specs.declared.session.nodes.Nodes.{Nodes}
 use Rattle.clk_sched.specs.declared.session.stride.Rank.{Rank}
+use Rattle.clk_sched.specs.Limits.{end_of_moments}
 use Rattle.clk_sched.specs.Tree.{Class, Row, end, leaf, node, nodes, width}
 use Rattle.clk_sched.specs.Turns.{Turn}
 use Rattle.clk_sched.specs.Laws.{AllowsTurn}
@@ -120,7 +121,7 @@ pub record CanPull (n : Nodes) (x visits : ℕ) : Type 0 where
   pub fit : AllFit n.inputs.items n.states.items
   pub there : x < length n.inputs.items
   pub room : vec_len n.log + visits ≤ vec_capacity n.log
-  pub moment : n.moment < 2 ^ 44
+  pub moment : n.moment < end_of_moments
 
 -- what stays while nodes are pulled, and that the log grows, by so many visits at most
 pub record Keeps (old new : Nodes) (most : ℕ) : Type 0 where

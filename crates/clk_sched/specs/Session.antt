@@ -1,5 +1,5 @@
 -- What a session is: the nodes of a tree, laid out by number, and a run of it.
-use Rattle.std.specs.Prelude.{◌≡◌, ℕ, ◌+◌, ◌<◌, true, List, [], ◌∷◌, ◌++◌, length, drop, map, reverse, suc, max, is_some, Option, None, ⊤, if◌then◌else◌}
+use Rattle.std.specs.Prelude.{◌≡◌, ℕ, ◌+◌, ◌<◌, ◌≤◌, true, List, [], ◌∷◌, ◌++◌, length, drop, map, reverse, suc, max, is_some, Option, None, ⊤, if◌then◌else◌}
 use Rattle.std.specs.List.{flat_map, filter_map, range_with_len}
 use Rattle.clk_packet.specs.declared.packet.Packet.{Packet}
 use Rattle.clk_packet.specs.declared.fault.Fault.{Fault}
@@ -98,13 +98,15 @@ LastGives [] = ⊤
 LastGives (pull ∷ []) = is_some (result_of (visits_of 0 pull)) ≡ true
 LastGives (pull ∷ next ∷ more) = LastGives (next ∷ more)
 
--- A drain gave all that was left, and stopped as soon as it had.
+-- A drain gave all that was left, within the pulls that the closing is given, and stopped as soon as it had.
 pub record GivesAll (old new : Progress) (moment made left : ℕ) : Type 0 where
+  pub within : made ≤ closing_bound old.tree left
   pub drained : IsDrained old new moment made left
   pub stops : LastGives drained.more
 
 -- A drain stopped before all that was left came out.
 pub record StopsShort (old new : Progress) (moment made left : ℕ) : Type 0 where
+  pub within : made ≤ closing_bound old.tree left
   pub given : ℕ
   pub fewer : given < left
   pub drained : IsDrained old new moment made given

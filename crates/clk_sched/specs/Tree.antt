@@ -93,7 +93,7 @@ IsSound end = ⊤
 IsSound (leaf q row) = IsSound row
 IsSound (node class inputs row) = (1 ≤ width inputs) × HasArguments class (width inputs) × IsSound inputs × IsSound row
 
--- The same, where each scheduler has as many inputs as are allowed at most.
+-- The same, where no scheduler has more inputs than are allowed.
 abbrev pub IsWellFormed : Row → Type 0
 IsWellFormed end = ⊤
 IsWellFormed (leaf q row) = IsWellFormed row

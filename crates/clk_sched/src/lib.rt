@@ -1,4 +1,4 @@
-//! Trees of pull schedulers, and what a run of one is.
+//! Trees of pull schedulers, sessions that pull them, and what a run of one is.
 #![tactic(auto)]
 
 mod ask;

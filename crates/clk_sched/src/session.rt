@@ -1,14 +1,14 @@
 //! A session: a tree that is pulled, and the log of its visits.
 
-pub mod drr;
-pub mod inputs;
-pub mod nodes;
+pub(crate) mod drr;
+pub(crate) mod inputs;
+pub(crate) mod nodes;
 mod prio;
 mod results;
-pub mod round_robin;
-pub mod shaper;
-pub mod state;
-pub mod stride;
+pub(crate) mod round_robin;
+pub(crate) mod shaper;
+pub(crate) mod state;
+pub(crate) mod stride;
 
 use crate::ask::Ask;
 use crate::session::nodes::Nodes;
@@ -30,7 +30,9 @@ pub struct Session {
 }
 
 impl Model for Session {
-    ghost use Rattle.std.specs.Prelude.{◌<◌, ◌^◌};
+    ghost use Rattle.std.specs.Prelude.{◌≡◌, ◌<◌, true};
+    ghost use Rattle.clk_sched.specs.Limits.{end_of_moments};
+    ghost use Rattle.clk_sched.specs.Tree.{leaves_distinct};
     ghost use Rattle.clk_sched.specs.Session.{Progress, IsAfterRun};
     ghost use Rattle.std.specs.Coded.{codes};
     ghost use Rattle.clk_sched.specs.Stored.{tree_code};
@@ -41,13 +43,14 @@ impl Model for Session {
 
     ghost view = { λ s. record { tree = s.tree; log = s.nodes.log.items } };
 
-    ghost invariant = { λ s. IsAfterRun s.tree s.nodes × (s.nodes.moment < 2 ^ 44) };
+    ghost invariant = { λ s. IsAfterRun s.tree s.nodes × (s.nodes.moment < end_of_moments) × (leaves_distinct s.tree ≡ true) };
 }
 
 impl Session {
     ghost use Rattle.std.specs.Prelude.{◌≡◌, ◌+◌, ◌-◌, ◌<◌, ◌≤◌, ◌^◌, true, [], Ok, max, IfOk, IfErr, OnOk, OnErr, IsOkUnless};
     ghost use Rattle.clk_sched.specs.Tree.{root, leaves_distinct};
-    ghost use Rattle.clk_sched.specs.LaidOut.{most_elements, IsRefused};
+    ghost use Rattle.clk_sched.specs.Limits.{most_elements, most_left, end_of_moments, end_of_drains};
+    ghost use Rattle.clk_sched.specs.LaidOut.{IsRefused};
     ghost use Rattle.clk_sched.specs.Run.{IsRun};
     ghost use Rattle.clk_sched.specs.Bound.{closing_bound};
     ghost use Rattle.clk_sched.specs.Results.{emitted, heads};
@@ -70,13 +73,14 @@ impl Session {
         Ok(Session { tree, nodes })
     }
 
-    /// Pulls the device once, at this moment in ticks or, where that is later, at the greatest so far, and answers its result.
+    /// Pulls the device once, at this moment in ticks, below 2^44, or, where that is later, at the greatest so far, and answers its
+    /// result.
     ///
     /// # Errors
     ///
     /// Fault 1 where memory is refused. Then nothing has changed, and nothing was asked.
     pub fn pull<Q: Ask>(&mut self, q: &mut Q, moment: u64) -> Result<Option<Packet>, Fault>
-        requires { moment < 2 ^ 44 }
+        requires { moment < end_of_moments }
         ensures pulled { IfOk result (IsPulledOnce self.old self.new moment) }
         ensures answers { OnOk result (Answers Q.gives (tree_queue self.old.tree) q.old (newly self.old self.new) q.new) }
         ensures fault { IsOkUnless result Fault.Memory }
@@ -91,22 +95,23 @@ impl Session {
         Ok(got)
     }
 
-    /// Pulls the device, one tick apart and the first time one tick after the later of this moment and the greatest so far, until
-    /// `left` packets came out, and answers how often. With nothing left it pulls nothing.
+    /// Pulls the device, one tick apart and the first time one tick after the later of this moment and the greatest so far, which
+    /// is below 2^43 - 1, until `left` packets came out, 1,000,000 at most, and answers how often. With nothing left it pulls
+    /// nothing.
     ///
     /// # Errors
     ///
-    /// Fault 1 where memory is refused, and fault 17 with the number of pulls where so many as the closing is given were made and
-    /// fewer packets came out. The session then holds the pulls that were made.
+    /// Fault 1 where memory is refused, and fault 17 with the number of pulls after `bound(left)` pulls that gave fewer packets. The
+    /// session then holds the pulls that were made.
     pub fn drain<Q: Ask>(&mut self, q: &mut Q, left: u64, moment: u64) -> Result<u64, Fault>
-        requires left { left ≤ 1000000 }
-        requires moment { max (counted_moment self.old) moment < 2 ^ 43 - 1 }
+        requires left { left ≤ most_left }
+        requires moment { max (counted_moment self.old) moment < end_of_drains }
         ensures all { IfOk result (λ made. GivesAll self.old self.new (max (counted_moment self.old) moment) made left) }
         ensures none_left { left ≡ 0 → (result ≡ Ok 0) × (self.new ≡ self.old) × (q.new ≡ q.old) }
         ensures short { IfErr result (StopsAt self.old self.new (max (counted_moment self.old) moment) left) }
         ensures answers { Answers Q.gives (tree_queue self.old.tree) q.old (newly self.old self.new) q.new }
     {
-        // The log is a run.
+        // That the log is a run is known where a field is read.
         let _ = &self.nodes;
         let bound = self.bound(left);
         let start = self.now().max(moment);
@@ -125,9 +130,11 @@ impl Session {
         Ok(made)
     }
 
-    /// How many pulls the closing is given where so many packets are left in queues and heads.
+    /// How many pulls the closing is given where so many packets, 1,000,000 at most, are left in queues and heads: for each one
+    /// more than the schedulers on the longest path, times the rounds that a DRRSched of the least quantum needs for the longest
+    /// packet.
     pub fn bound(&self, left: u64) -> u64
-        requires { left ≤ 1000000 }
+        requires { left ≤ most_left }
         ensures value { result ≡ closing_bound self.now.tree left }
         ensures limit { result < 2 ^ 42 }
     {
@@ -138,6 +145,7 @@ impl Session {
     pub fn log(&self) -> &[Visit]
         ensures visits { result.now ≡ self.now.log }
         ensures run { IsRun self.now.tree self.now.log }
+        ensures distinct { leaves_distinct self.now.tree ≡ true }
     {
         self.nodes.log.as_slice()
     }
@@ -145,12 +153,16 @@ impl Session {
     /// The counted moment, in ticks: the greatest at which it was pulled, and 0 before the first pull.
     pub fn now(&self) -> u64
         ensures moment { result ≡ counted_moment self.now }
-        ensures limit { result < 2 ^ 44 }
+        ensures limit { result < end_of_moments }
     {
         self.nodes.moment
     }
 
-    /// The packets that came out at the device, in order. Fault 1 where memory is refused.
+    /// The packets that came out at the device, in order.
+    ///
+    /// # Errors
+    ///
+    /// Fault 1 where memory is refused.
     pub fn emitted(&self, alloc: Global) -> Result<Vec<Packet>, Fault>
         ensures packets { IfOk result (λ packets. packets.items ≡ emitted self.now.log) }
         ensures fault { IsOkUnless result Fault.Memory }
@@ -158,7 +170,11 @@ impl Session {
         emitted(alloc, self.nodes.log.as_slice())
     }
 
-    /// The packets held as heads, by node and then by input. Fault 1 where memory is refused.
+    /// The packets held as heads, by node and then by input.
+    ///
+    /// # Errors
+    ///
+    /// Fault 1 where memory is refused.
     pub fn held_heads(&self, alloc: Global) -> Result<Vec<Packet>, Fault>
         ensures packets { IfOk result (λ packets. packets.items ≡ heads self.now.tree self.now.log) }
         ensures fault { IsOkUnless result Fault.Memory }

@@ -1,7 +1,7 @@
 //! The token bucket of a Shaper.
 
-ghost use Rattle.std.specs.Prelude.{◌≤◌, ◌<◌, ◌^◌};
-ghost use Rattle.clk_sched.specs.Limits.{most_rate, most_burst};
+ghost use Rattle.std.specs.Prelude.{◌≤◌, ◌<◌};
+ghost use Rattle.clk_sched.specs.Limits.{most_rate, most_burst, end_of_moments};
 
 use crate::ask::Ask;
 use crate::session::nodes::Nodes;
@@ -44,7 +44,7 @@ impl Bucket {
 
     /// Whether there is a token at this moment, in ticks.
     pub fn has_token(&self, moment: u64) -> bool
-        requires { moment < 2 ^ 44 }
+        requires { moment < end_of_moments }
         ensures { (rate burst : ℕ) (turns : List Turn) → HoldsBucket rate burst turns self.now → AreBefore moment turns → result ≡ has_room rate burst moment 0 turns }
     {
         self.tokens_at(moment) > 0
@@ -52,7 +52,7 @@ impl Bucket {
 
     /// Takes a token, for a packet that is passed at this moment.
     pub fn take(&mut self, moment: u64)
-        requires { moment < 2 ^ 44 }
+        requires { moment < end_of_moments }
         ensures { (rate burst : ℕ) (turns : List Turn) (t : Turn) → HoldsBucket rate burst turns self.old → AreBefore moment turns → has_room rate burst moment 0 turns ≡ true
             → t.moment ≡ moment → is_some (giver t.visits) ≡ true → HoldsBucket rate burst (t ∷ turns) self.new }
     {
@@ -62,7 +62,7 @@ impl Bucket {
 
     // The tokens at this moment: what doesn't fit is lost.
     fn tokens_at(&self, moment: u64) -> u32
-        requires { moment < 2 ^ 44 }
+        requires { moment < end_of_moments }
         ensures { result ≡ tokens_at self.now moment }
     {
         let fresh = u64::from(self.rate) * moment.saturating_sub(self.filled);

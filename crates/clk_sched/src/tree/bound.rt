@@ -16,7 +16,7 @@ impl Tree {
     ghost use Rattle.clk_packet.specs.Limits.{most_length};
 
     /// How many pulls the closing gives for each packet that is left.
-    pub fn pulls_per_packet(&self) -> u64
+    pub(crate) fn pulls_per_packet(&self) -> u64
         ensures value { (left : ℕ) → closing_bound self.now left ≡ left * result }
         ensures limit { result ≤ (most_levels + 1) * (most_length + 1) }
     {
@@ -29,7 +29,7 @@ impl Tree {
         ensures value { result ≡ rounds (least_quantum (root self.now)) }
         ensures limit { result ≤ most_length + 1 }
     {
-        // The arguments are within their limits.
+        // That the arguments are within their limits is known where a field is read.
         let _ = &self.node;
         match self.least_quantum() {
             None => 1,

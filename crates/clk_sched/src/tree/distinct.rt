@@ -11,12 +11,15 @@ use super::{Node, Tree};
 const NUMBERS: usize = 65_536;
 
 impl Tree {
-    ghost use Rattle.clk_sched.specs.Tree.{leaves_distinct};
+    ghost use Rattle.clk_sched.specs.Tree.{leaves_distinct, root, IsSound};
 
-    /// Whether no queue stands twice in this tree. It goes over the tree once.
+    /// Whether no queue stands twice in this tree, which is sound, as every tree. It goes over the tree once.
     pub fn leaves_distinct(&self) -> bool
-        ensures { result ≡ leaves_distinct self.now }
+        ensures distinct { result ≡ leaves_distinct self.now }
+        ensures sound { IsSound (root self.now) }
     {
+        // That the tree is well formed is known where a field is read.
+        let _ = &self.node;
         let mut marks = [false; NUMBERS];
         self.mark(&mut marks)
     }

@@ -4,7 +4,8 @@ ghost use Rattle.std.specs.Prelude.{◌≡◌, ◌+◌, ◌≤◌, ◌<◌, ◌+
 ghost use Rattle.clk_sched.specs.Built.{row};
 ghost use Rattle.clk_sched.specs.Places.{inputs_of};
 ghost use Rattle.clk_sched.specs.Session.{elements};
-ghost use Rattle.clk_sched.specs.LaidOut.{most_elements, entries, kinds, Adds, AddsNode};
+ghost use Rattle.clk_sched.specs.Limits.{most_elements};
+ghost use Rattle.clk_sched.specs.LaidOut.{entries, kinds, Adds, AddsNode};
 
 use super::{Class, Node, Tree};
 use crate::session::drr::Deficits;

@@ -34,4 +34,5 @@ pub returns-clause-all : goal.returns-clause-all
 returns-clause-all g c =
     let most : c.max-start.result ≡ max (counted_moment c.args.self.now) c.args.moment = c.max-start.ensures ∙ ap (λ n. max n c.args.moment) c.now.ensures.moment in
     subst (λ m. GivesAll c.args.self.now c.loop-given.self m c.loop-given.made c.args.left) most
-    (draining-all g.Q.Ask.gives c.args.self.now c.loop-given.self c.args.q.now c.loop-given.q c.max-start.result c.loop-given.made c.loop-given.given c.args.left c.loop-given.invariant.1 (let f = c.loop-given-test.false in omega (arith, f)))
+    (draining-all g.Q.Ask.gives c.args.self.now c.loop-given.self c.args.q.now c.loop-given.q c.max-start.result c.loop-given.made c.loop-given.given c.args.left c.loop-given.invariant.1 (let f = c.loop-given-test.false in omega (arith, f))
+    (let few = c.loop-given.invariant.0 in let all = c.bound-bound.ensures.value in omega (arith, few, all)))

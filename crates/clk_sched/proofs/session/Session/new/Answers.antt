@@ -6,4 +6,4 @@ pub invariant_of-result : goal.invariant_of-result
 invariant_of-result c =
     let n = c.in_ok-nodes.nodes in
     let laid = c.in_ok-nodes.ensures.laid_out in
-    (session-first c.args.tree n laid, let e = laid.moment in omega (arith, e))
+    (session-first c.args.tree n laid, (let e = laid.moment in omega (arith, e)), c.requires.distinct)

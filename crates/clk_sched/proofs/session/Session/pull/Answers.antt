@@ -28,6 +28,7 @@ invariant_of-self-2 g c =
           (record { inputs = refl; states = refl; log = c.reserve.ensures.items; pull = refl; at_moment = most }) c.pull-got.ensures.keeps c.pull-got.ensures.pulls
           (record { inputs = refl; states = refl; log = refl; pull = refl; at_moment = refl })).still,
       omega (arith, most, kept, below, asked),
+      c.self.invariant.2,
     )
 
 pub returns-clause-pulled : goal.returns-clause-pulled
