@@ -9,6 +9,8 @@ pub mod round_robin;
 pub mod shaper;
 pub mod state;
 pub mod stride;
+#[cfg(test)]
+mod tests;
 
 use crate::ask::Ask;
 use crate::session::nodes::Nodes;
@@ -32,7 +34,6 @@ pub struct Session {
 impl Model for Session {
     ghost use Rattle.std.specs.Prelude.{◌<◌, ◌^◌};
     ghost use Rattle.clk_sched.specs.Session.{Progress, IsAfterRun};
-
     ghost use Rattle.std.specs.Coded.{codes};
     ghost use Rattle.clk_sched.specs.Stored.{tree_code};
 
