@@ -2,6 +2,7 @@
 
 use crate::ask::Ask;
 use crate::session::inputs::{Input, Inputs};
+use crate::session::prio::pull_prio;
 use crate::session::state::State;
 use crate::session::stride::Rank;
 use crate::visit::Visit;
@@ -39,6 +40,10 @@ impl Nodes {
         ensures answers { Answers Q.gives (queue_asked self.old.inputs.items) q.old (added self.old self.new) q.new }
         ensures pulls { Pulls self.old self.new node result }
     {
+        // A PrioSched has nothing to take out.
+        if self.states[node as usize].is_prio() {
+            return pull_prio(self, q, node);
+        }
         let mut state = replace(&mut self.states[node as usize], State::Prio);
         let got = state.pull(self, q, node);
         self.states[node as usize] = state;
