@@ -1,6 +1,6 @@
 -- How the answer to a script goes on by one line.
-use Rattle.std.proofs.Common.{◌≡◌, ℕ, ◌+◌, ◌≤◌, List, [], ◌∷◌, ◌++◌, length, map, slice_get, Option, Some, None, Result, Ok, Err, MatchResult, OnOk, IsOkUnless, ◌⊎◌, inl, nat_lt, false, refl, sym, ap, subst, ◌∙◌, append_assoc, length-append, arith}
-use Rattle.std.specs.List.{flat_map, filter_map, enumerate_from}
+use Rattle.std.proofs.Common.{◌≡◌, ℕ, ◌+◌, ◌≤◌, List, [], ◌∷◌, ◌++◌, length, map, slice_get, Option, Some, None, Result, Ok, Err, MatchResult, OnOk, IsOkUnless, ◌⊎◌, inl, inr, nat_lt, false, refl, sym, ap, subst, ◌∙◌, append_assoc, length-append, arith}
+use Rattle.std.specs.List.{flat_map, filter_map, enumerate_from, AllByRecursion}
 use Rattle.std.specs.Str.Lines.{lines}
 use Rattle.std.proofs.lemmas.Bool.Decides.{nat_tests}
 use Rattle.std.proofs.lemmas.List.{append-nil, map-append}
@@ -9,32 +9,36 @@ use Rattle.clk_packet.specs.declared.fault.Fault.{Fault}
 use Rattle.clk_packet.specs.declared.fault.Fault.TheVariants.{Memory}
 use Rattle.clickpull.specs.declared.script.Command.{Command}
 use Rattle.clickpull.specs.declared.router.Router.{Router}
-use Rattle.clickpull.specs.Script.{line_of, command_in, commands_of, fault_at, script_fault, most_bytes}
-use Rattle.clickpull.specs.Meaning.{Event, command_of, number_from, pull_in, event_text, Writes}
-use Rattle.clickpull.specs.Builtin.{builtin}
-use Rattle.clickpull.specs.Router.{IsAt, CarriesOut, AnswersLine}
+use Rattle.clickpull.specs.declared.script.Line.{Line}
+use Rattle.clickpull.specs.declared.script.Line.TheVariants as line
+use Rattle.clickpull.specs.declared.setup.SenderSpec.{SenderSpec}
+use Rattle.clickpull.specs.declared.senders.Sender.{Sender}
+use Rattle.clickpull.specs.Script.{line_of, command_in, commands_of, command_fault, fault_at, script_fault, most_bytes, most_lines}
+use Rattle.clickpull.specs.Meaning.{Setup, sender_numbers, Event, command_of, number_from, event_text, Writes, AreRising}
+use Rattle.clickpull.specs.Router.{SendsWithin, IsNumber, sender_after, IsAt, CanSend, IsReady, AnswersCommand, AnswersLine}
+use Rattle.clickpull.proofs.RouterLemmas.{numbers-its}
 
 -- some events, no more than there were lines, have led here and wrote the text, and what is left follows them
-pub record HasAnswered (router : Router) (script rest : List ℕ) (number : ℕ) (text : List ℕ) : Type 0 where
+pub record HasAnswered (setup : Setup) (router : Router) (script rest : List ℕ) (number : ℕ) (text : List ℕ) : Type 0 where
   pub events : List Event
   pub theirs : map command_of events ++ commands_of rest ≡ commands_of script
   pub few : length events ≤ number
   pub lines : text ≡ flat_map event_text events
-  pub leads : IsAt events router
+  pub leads : IsAt setup events router
 
-pub HasAnswered-none : (router : Router) (script text : List ℕ) → IsAt [] router → text ≡ [] → HasAnswered router script script 0 text
-HasAnswered-none router script text at none = record { events = []; theirs = refl; few = omega arith; lines = none; leads = at }
+pub HasAnswered-none : (setup : Setup) (router : Router) (script text : List ℕ) → IsAt setup [] router → text ≡ [] → HasAnswered setup router script script 0 text
+HasAnswered-none setup router script text at none = record { events = []; theirs = refl; few = omega arith; lines = none; leads = at }
 
 -- the commands of what is left, by its first line
 commands_on : (rest after line : List ℕ) (o : Option Command) → lines rest ≡ line ∷ lines after → command_in (line_of line) ≡ o → commands_of rest ≡ filter_map (λ (p : Option Command). p) (o ∷ []) ++ commands_of after
 commands_on rest after line None e f = rw (e, f) refl
 commands_on rest after line (Some command) e f = rw (e, f) refl
 
-pub HasAnswered-line : (old new : Router) (script rest after line : List ℕ) (number : ℕ) (before text : List ℕ) → HasAnswered old script rest number before → lines rest ≡ line ∷ lines after
-    → AnswersLine old new before text (command_in (line_of line)) → HasAnswered new script after (number + 1) text
-HasAnswered-line old new script rest after line number before text h e answers = by_command (command_in (line_of line)) refl answers
+pub HasAnswered-line : (setup : Setup) (old new : Router) (script rest after line : List ℕ) (number : ℕ) (before text : List ℕ) → HasAnswered setup old script rest number before → lines rest ≡ line ∷ lines after
+    → AnswersLine old new before text (command_in (line_of line)) → HasAnswered setup new script after (number + 1) text
+HasAnswered-line setup old new script rest after line number before text h e answers = by_command (command_in (line_of line)) refl answers
   where
-    by_command : (o : Option Command) → command_in (line_of line) ≡ o → AnswersLine old new before text o → HasAnswered new script after (number + 1) text
+    by_command : (o : Option Command) → command_in (line_of line) ≡ o → AnswersLine old new before text o → HasAnswered setup new script after (number + 1) text
     by_command None f same =
         let few = h.few in
         record {
@@ -42,10 +46,10 @@ HasAnswered-line old new script rest after line number before text h e answers =
           theirs = ap (λ l. map command_of h.events ++ l) (sym (commands_on rest after line None e f)) ∙ h.theirs;
           few = omega arith;
           lines = same.1 ∙ h.lines;
-          leads = subst (λ (r : Router). IsAt h.events r) (sym same.0) h.leads;
+          leads = subst (λ (r : Router). IsAt setup h.events r) (sym same.0) h.leads;
         }
     by_command (Some command) f carries =
-        let more = carries h.events h.leads in
+        let more = carries setup h.events h.leads in
         let few = h.few in
         record {
           events = h.events ++ more.event ∷ [];
@@ -59,9 +63,9 @@ HasAnswered-line old new script rest after line number before text h e answers =
           leads = more.leads;
         }
 
-pub Writes-answered : (router : Router) (script rest : List ℕ) (number : ℕ) (text : List ℕ) → HasAnswered router script rest number text → length rest ≡ 0 → Writes builtin (commands_of script) text
-Writes-answered router script (byte ∷ rest) number text h none = absurd (omega arith)
-Writes-answered router script [] number text h none =
+pub Writes-answered : (setup : Setup) (router : Router) (script rest : List ℕ) (number : ℕ) (text : List ℕ) → HasAnswered setup router script rest number text → length rest ≡ 0 → Writes setup (commands_of script) text
+Writes-answered setup router script (byte ∷ rest) number text h none = absurd (omega arith)
+Writes-answered setup router script [] number text h none =
     record { events = h.events; theirs = sym (append-nil (map command_of h.events)) ∙ h.theirs; can_happen = h.leads.can_happen; lines = h.lines }
 
 -- the first fault of the lines of a text from the n-th on
@@ -78,15 +82,46 @@ pub fault-none : (senders script rest : List ℕ) (n : ℕ) → length script �
 fault-none senders script (byte ∷ rest) n small e none = absurd (omega arith)
 fault-none senders script [] n small e none = fault-of_lines senders script small ∙ sym e
 
--- a line whose command was carried out, or for which there was no memory
-pub line-answered : (r : Result (Unit {0}) Fault) (old new : Router) (before after line : List ℕ) (senders : List ℕ) (n : ℕ) (command : Command) → fault_at senders (n, line) ≡ None → Some command ≡ command_in (line_of line)
-    → OnOk r ((events : List Event) → IsAt events old → CarriesOut new command before after events) → IsOkUnless r Memory
-    → MatchResult r (λ done. (fault_at senders (n, line) ≡ None) × AnswersLine old new before after (command_in (line_of line))) (λ fault. (fault ≡ Memory) ⊎ (fault_at senders (n, line) ≡ Some fault))
-line-answered (Ok x) old new before after line senders n command sound is leads memory = (sound, subst (λ (o : Option Command). AnswersLine old new before after o) is leads)
-line-answered (Err fault) old new before after line senders n command sound is leads memory = inl memory
+-- the first line that has a fault decides
+fault-here : (senders script rest after line : List ℕ) (n : ℕ) (fault : Fault) → length script ≤ most_bytes → fault_from senders n rest ≡ fault_from senders 1 script → lines rest ≡ line ∷ lines after
+    → fault_at senders (n, line) ≡ Some fault → script_fault senders script ≡ Some fault
+fault-here senders script rest after line n fault small e f is = fault-of_lines senders script small ∙ sym e ∙ here
+  where
+    here : fault_from senders n rest ≡ Some fault
+    here = rw (f, is) refl
 
-pub line-blank : (router : Router) (text line : List ℕ) → None ≡ command_in (line_of line) → AnswersLine router router text text (command_in (line_of line))
-line-blank router text line is = subst (λ (o : Option Command). AnswersLine router router text text o) is (refl, refl)
+pub first-fault : (senders script rest after line : List ℕ) (n : ℕ) (fault : Fault) → length script ≤ most_bytes → fault_from senders n rest ≡ fault_from senders 1 script → lines rest ≡ line ∷ lines after
+    → (fault ≡ Memory) ⊎ (fault_at senders (n, line) ≡ Some fault) → (fault ≡ Memory) ⊎ (script_fault senders script ≡ Some fault)
+first-fault senders script rest after line n fault small e f (inl memory) = inl memory
+first-fault senders script rest after line n fault small e f (inr is) = inr (fault-here senders script rest after line n fault small e f is)
+
+-- a command that was carried out, or for which there was no memory
+pub command-answered : (r : Result (Unit {0}) Fault) (old new : Router) (before after senders : List ℕ) (command : Command) → command_fault senders command ≡ None
+    → OnOk r (AnswersCommand old new before after command) → IsOkUnless r Memory
+    → MatchResult r (λ done. (command_fault senders command ≡ None) × AnswersCommand old new before after command) (λ fault. (fault ≡ Memory) ⊎ (command_fault senders command ≡ Some fault))
+command-answered (Ok x) old new before after senders command sound leads memory = (sound, leads)
+command-answered (Err fault) old new before after senders command sound leads memory = inl memory
+
+-- two numbers of the sender at a place
+pub same-number : (o : Option Sender) (one other : ℕ) → IsNumber one o → IsNumber other o → one ≡ other
+same-number None one other h k = absurd h
+same-number (Some s) one other h k = sym h ∙ k
+
+-- a line whose command was tried
+pub line-answered : (r : Result (Unit {0}) Fault) (old new : Router) (before after text senders : List ℕ) (n : ℕ) (command : Command) → n ≤ most_lines → line.Command command ≡ line_of text
+    → MatchResult r (λ done. (command_fault senders command ≡ None) × AnswersCommand old new before after command) (λ fault. (fault ≡ Memory) ⊎ (command_fault senders command ≡ Some fault))
+    → MatchResult r (λ done. (fault_at senders (n, text) ≡ None) × AnswersLine old new before after (command_in (line_of text))) (λ fault. (fault ≡ Memory) ⊎ (fault_at senders (n, text) ≡ Some fault))
+line-answered r old new before after text senders n command few is answered = by_result r answered
+  where
+    same : fault_at senders (n, text) ≡ command_fault senders command
+    same = let no : nat_lt most_lines n ≡ false = grind (arith, nat_tests) in rw (no, ← is) refl
+
+    by_result : (x : Result (Unit {0}) Fault)
+        → MatchResult x (λ done. (command_fault senders command ≡ None) × AnswersCommand old new before after command) (λ fault. (fault ≡ Memory) ⊎ (command_fault senders command ≡ Some fault))
+        → MatchResult x (λ done. (fault_at senders (n, text) ≡ None) × AnswersLine old new before after (command_in (line_of text))) (λ fault. (fault ≡ Memory) ⊎ (fault_at senders (n, text) ≡ Some fault))
+    by_result (Ok x) h = (same ∙ h.0, subst (λ (l : Line). AnswersLine old new before after (command_in l)) is h.1)
+    by_result (Err fault) (inl e) = inl e
+    by_result (Err fault) (inr e) = inr (same ∙ e)
 
 length-filter_map-le : {X Y : Type 0} (f : X → Option Y) (xs : List X) → length (filter_map f xs) ≤ length xs
 length-filter_map-le f [] = omega arith
@@ -96,17 +131,20 @@ length-filter_map-le {X} {Y} f (x ∷ xs) = by_case (f x) refl (length-filter_ma
     by_case None e h = rw e (omega arith)
     by_case (Some y) e h = rw e (omega arith)
 
--- nothing is counted more often than there were lines
-pub record CountsUpTo (router : Router) (n : ℕ) : Type 0 where
-  pub first : router.first_sent ≤ n
-  pub second : router.second_sent ≤ n
-  pub pulls : router.pulls ≤ n
+-- each sender can send, where there were few events
+each-sends : (events : List Event) (n count : ℕ) (specs : List SenderSpec) → AllByRecursion (SendsWithin count) specs → length events ≤ n → n ≤ most_lines
+    → AllByRecursion (CanSend count) (map (sender_after events) specs)
+each-sends events n count [] wired few bound = tt
+each-sends events n count (spec ∷ specs) wired few bound =
+    let sent = length-filter_map-le (number_from spec.number) events in
+    ((wired.0, omega (arith, sent, few, bound)), each-sends events n count specs wired.1 few bound)
 
-pub CountsUpTo-answered : (router : Router) (script rest : List ℕ) (n : ℕ) (text : List ℕ) → HasAnswered router script rest n text → CountsUpTo router n
-CountsUpTo-answered router script rest n text h =
-    let few = h.few in
+pub IsReady-answered : (setup : Setup) (router : Router) (script rest : List ℕ) (n : ℕ) (text : List ℕ) → HasAnswered setup router script rest n text → AreRising (sender_numbers setup)
+    → AllByRecursion (SendsWithin (length setup.queues)) setup.senders → n ≤ most_lines → IsReady router
+IsReady-answered setup router script rest n text h rising wired bound =
     record {
-      first = omega (arith, h.leads.first_sent, length-filter_map-le (number_from 0) h.events);
-      second = omega (arith, h.leads.second_sent, length-filter_map-le (number_from 1) h.events);
-      pulls = omega (arith, h.leads.pulls, length-filter_map-le pull_in h.events);
+      rising = subst AreRising (sym (numbers-its setup h.events router h.leads)) rising;
+      can_send =
+          subst (λ count. AllByRecursion (CanSend count) router.senders.items) (sym h.leads.count)
+          (subst (AllByRecursion (CanSend (length setup.queues))) (sym h.leads.senders) (each-sends h.events n (length setup.queues) setup.senders wired h.few bound));
     }

@@ -1,32 +1,25 @@
 -- How events go on by one.
-use Rattle.std.proofs.Common.{◌≡◌, ℕ, ◌+◌, ◌==◌, zero, suc, Bool, true, false, List, [], ◌∷◌, ◌++◌, length, map, max, fold, MatchOption, slice_get, refl, sym, ap, ◌∙◌, arith}
+use Rattle.std.proofs.Common.{◌≡◌, ℕ, ◌+◌, ◌==◌, zero, suc, Bool, true, false, List, [], ◌∷◌, ◌++◌, length, drop, map, reverse, max, fold, MatchOption, slice_get, refl, sym, ap, ◌∙◌, arith}
 use Rattle.std.specs.Bool.{⊤}
 use Rattle.std.specs.List.{filter_map, range_with_len, AllByRecursion}
-use Rattle.std.proofs.lemmas.List.{append-nil, map-append, length-append, map-id}
+use Rattle.std.proofs.lemmas.List.{append_assoc, append-nil, map-append, length-append, map-id, reverse-append}
 use Rattle.std.proofs.lemmas.List.Concat.{flat_map-append}
 use Rattle.std.proofs.lemmas.List.Elements.{filter_map-append}
 use Rattle.std.proofs.lemmas.List.FromFn.{map-range_with_len_more}
 use Rattle.std.proofs.lemmas.Bool.Decides.{nat_tests}
 use Rattle.clk_packet.specs.declared.packet.Packet.{Packet}
 use Rattle.clk_packet.specs.declared.packet.Offered.{Offered}
-use Rattle.clk_packet.specs.declared.packet.Kind.TheVariants.{TailDrop}
 use Rattle.clk_sched.specs.declared.visit.Visit.{Visit}
 use Rattle.clk_ring.specs.QueueHistory.{NamesOffer, IsQueueHistory}
-use Rattle.clk_sched.specs.Log.{pulls, moment_of, NeverFalls, counted}
-use Rattle.clk_sched.specs.Step.{IsNextPull, GoesOn}
-use Rattle.clickpull.specs.Meaning.{QueueSpec, Event, offered, pulled, number_from, numbers_of, visits_in, pull_in, moment_in, log_of, history, NamesItsOffer, CanHappen}
-use Rattle.clickpull.specs.Builtin.{builtin}
+use Rattle.clk_sched.specs.Log.{pulls, moment_of, counted}
+use Rattle.clk_sched.specs.Run.{IsRun}
+use Rattle.clk_sched.specs.Session.{latest_moment}
+use Rattle.clickpull.specs.declared.setup.QueueSpec.{QueueSpec}
+use Rattle.clickpull.specs.Meaning.{Setup, Event, offered, pulled, number_from, numbers_of, visits_in, pull_in, moment_in, log_of, history, NamesItsOffer, CanHappen}
 
 -- the numbers from 0 on, and the next
 range-more : (n : ℕ) → range_with_len 0 (n + 1) ≡ range_with_len 0 n ++ n ∷ []
 range-more n = sym (map-id (range_with_len 0 (n + 1))) ∙ map-range_with_len_more (λ k. k) 0 n n (omega arith) ∙ ap (λ l. l ++ n ∷ []) (map-id (range_with_len 0 n))
-
--- the histories of the built-in queues are all there are
-pub builtin-histories : (events : List Event) → IsQueueHistory TailDrop 2 (history builtin 0 events) → IsQueueHistory TailDrop 2 (history builtin 1 events)
-    → (q : ℕ) → MatchOption (slice_get builtin.queues q) ⊤ (λ (spec : QueueSpec). IsQueueHistory spec.kind spec.capacity (history builtin q events))
-builtin-histories events first second zero = first
-builtin-histories events first second (suc zero) = second
-builtin-histories events first second (suc (suc q)) = tt
 
 -- a sender's numbers where it offers its next packet
 numbers-more : (s : ℕ) (events : List Event) (p : Packet) (outcome : Offered) → p.number ≡ length (numbers_of p.sender events)
@@ -53,10 +46,10 @@ all-join P [] ys h k = k
 all-join P (x ∷ xs) ys h k = (h.0, all-join P xs ys h.1 k)
 
 -- an offer leads on
-pub CanHappen-offer : (events : List Event) (p : Packet) (outcome : Offered) → CanHappen builtin events → p.number ≡ length (numbers_of p.sender events) → NamesOffer p outcome
-    → ((q : ℕ) → MatchOption (slice_get builtin.queues q) ⊤ (λ (spec : QueueSpec). IsQueueHistory spec.kind spec.capacity (history builtin q (events ++ offered p outcome ∷ []))))
-    → CanHappen builtin (events ++ offered p outcome ∷ [])
-CanHappen-offer events p outcome can number names histories =
+pub CanHappen-offer : (setup : Setup) (events : List Event) (p : Packet) (outcome : Offered) → CanHappen setup events → p.number ≡ length (numbers_of p.sender events) → NamesOffer p outcome
+    → ((q : ℕ) → MatchOption (slice_get setup.queues q) ⊤ (λ (spec : QueueSpec). IsQueueHistory spec.kind spec.capacity (history setup q (events ++ offered p outcome ∷ []))))
+    → CanHappen setup (events ++ offered p outcome ∷ [])
+CanHappen-offer setup events p outcome can number names histories =
     let log = flat_map-append visits_in events (offered p outcome ∷ []) ∙ append-nil (log_of events) in
     let turns = filter_map-append pull_in events (offered p outcome ∷ []) ∙ append-nil (filter_map pull_in events) in
     let moments = filter_map-append moment_in events (offered p outcome ∷ []) ∙ append-nil (filter_map moment_in events) in
@@ -69,39 +62,60 @@ CanHappen-offer events p outcome can number names histories =
       histories = histories;
     }
 
+-- the log, and one pull more
+pub log-pulled : (events : List Event) (moment : ℕ) (visits : List Visit) → log_of (events ++ pulled moment visits ∷ []) ≡ log_of events ++ visits
+log-pulled events moment visits = flat_map-append visits_in events (pulled moment visits ∷ []) ∙ ap (λ l. log_of events ++ l) (append-nil visits)
+
 -- counted moments, and one more
 counted-more : (before : ℕ) (moments : List ℕ) (moment : ℕ) → counted before (moments ++ moment ∷ []) ≡ counted before moments ++ max (fold max before moments) moment ∷ []
 counted-more before [] moment = refl
 counted-more before (m ∷ moments) moment = λ i. max before m ∷ counted-more (max before m) moments moment i
 
--- counted moments never fall
-NeverFalls-counted : (before : ℕ) (moments : List ℕ) → NeverFalls before (counted before moments)
-NeverFalls-counted before [] = tt
-NeverFalls-counted before (m ∷ moments) = (omega arith, NeverFalls-counted (max before m) moments)
+-- the last of some moments, and `before` where there is none
+abbrev latest_from : ℕ → List (List Visit) → ℕ
+latest_from before [] = before
+latest_from before (pull ∷ more) = latest_from (moment_of pull) more
 
--- a pull leads on
-pub CanHappen-pull : GoesOn builtin.tree → (events : List Event) (moment : ℕ) (visits : List Visit) → CanHappen builtin events → moment_of visits ≡ max (fold max 0 (filter_map moment_in events)) moment
-    → (NeverFalls 0 (map moment_of (pulls (log_of events) ++ visits ∷ [])) → IsNextPull builtin.tree (log_of events) visits)
-    → ((q : ℕ) → MatchOption (slice_get builtin.queues q) ⊤ (λ (spec : QueueSpec). IsQueueHistory spec.kind spec.capacity (history builtin q (events ++ pulled moment visits ∷ []))))
-    → CanHappen builtin (events ++ pulled moment visits ∷ [])
-CanHappen-pull goes events moment visits can counted_is next histories =
-    let log : log_of (events ++ pulled moment visits ∷ []) ≡ log_of events ++ visits =
-    flat_map-append visits_in events (pulled moment visits ∷ []) ∙ ap (λ l. log_of events ++ l) (append-nil visits)
-    in
+latest-onto : (ps earlier : List (List Visit)) → latest_from (latest_moment earlier) ps ≡ latest_moment (reverse ps ++ earlier)
+latest-onto [] earlier = refl
+latest-onto (p ∷ ps) earlier =
+    latest-onto ps (p ∷ earlier) ∙ ap latest_moment (sym (append_assoc (reverse ps) (p ∷ []) earlier) ∙ ap (λ l. l ++ earlier) (sym (reverse-append (p ∷ []) ps)))
+
+latest-counted : (ps : List (List Visit)) (before : ℕ) (ms : List ℕ) → map moment_of ps ≡ counted before ms → latest_from before ps ≡ fold max before ms
+latest-counted [] before [] e = refl
+latest-counted [] before (m ∷ ms) e = absurd (omega (arith, ap length e))
+latest-counted (p ∷ ps) before [] e = absurd (omega (arith, ap length e))
+latest-counted (p ∷ ps) before (m ∷ ms) e =
+    ap (λ n. latest_from n ps) (ap (first 0) e) ∙ latest-counted ps (max before m) ms (ap (drop 1) e)
+  where
+    first : ℕ → List ℕ → ℕ
+    first d [] = d
+    first d (y ∷ ys) = y
+
+-- the latest moment of a run is the greatest that was handed in
+latest-moment : (setup : Setup) (events : List Event) → CanHappen setup events → latest_moment (reverse (pulls (log_of events))) ≡ fold max 0 (filter_map moment_in events)
+latest-moment setup events can =
+    ap (λ ps. latest_moment (reverse ps)) can.pull_by_pull ∙ ap latest_moment (sym (append-nil (reverse (filter_map pull_in events))))
+    ∙ sym (latest-onto (filter_map pull_in events) []) ∙ latest-counted (filter_map pull_in events) 0 (filter_map moment_in events) can.moments
+
+-- a pull of a session leads on
+pub CanHappen-pull : (setup : Setup) (events : List Event) (moment : ℕ) (visits : List Visit) → CanHappen setup events → IsRun setup.tree (log_of events ++ visits)
+    → pulls (log_of events ++ visits) ≡ pulls (log_of events) ++ visits ∷ [] → moment_of visits ≡ max (latest_moment (reverse (pulls (log_of events)))) moment
+    → ((q : ℕ) → MatchOption (slice_get setup.queues q) ⊤ (λ (spec : QueueSpec). IsQueueHistory spec.kind spec.capacity (history setup q (events ++ pulled moment visits ∷ []))))
+    → CanHappen setup (events ++ pulled moment visits ∷ [])
+CanHappen-pull setup events moment visits can run last at_moment histories =
+    let log = log-pulled events moment visits in
     let turns : filter_map pull_in (events ++ pulled moment visits ∷ []) ≡ filter_map pull_in events ++ visits ∷ [] = filter_map-append pull_in events (pulled moment visits ∷ []) in
+    let counted_is : moment_of visits ≡ max (fold max 0 (filter_map moment_in events)) moment = at_moment ∙ ap (λ n. max n moment) (latest-moment setup events can) in
     let moments : map moment_of (filter_map pull_in events ++ visits ∷ []) ≡ counted 0 (filter_map moment_in (events ++ pulled moment visits ∷ [])) =
     map-append moment_of (filter_map pull_in events) (visits ∷ []) ∙ ap (λ l. l ++ moment_of visits ∷ []) can.moments
     ∙ ap (λ m. counted 0 (filter_map moment_in events) ++ m ∷ []) counted_is
     ∙ sym (counted-more 0 (filter_map moment_in events) moment) ∙ ap (counted 0) (sym (filter_map-append moment_in events (pulled moment visits ∷ [])))
     in
-    let never : NeverFalls 0 (map moment_of (pulls (log_of events) ++ visits ∷ [])) =
-    rw can.pull_by_pull (rw moments (NeverFalls-counted 0 (filter_map moment_in (events ++ pulled moment visits ∷ []))))
-    in
-    let more = goes.step (log_of events) visits can.run (next never) in
     record {
       numbered = λ s. rw (filter_map-append (number_from s) events (pulled moment visits ∷ []), append-nil) (can.numbered s);
-      run = rw log more.run;
-      pull_by_pull = rw (log, turns) (more.last ∙ ap (λ ps. ps ++ visits ∷ []) can.pull_by_pull);
+      run = rw log run;
+      pull_by_pull = rw (log, turns) (last ∙ ap (λ ps. ps ++ visits ∷ []) can.pull_by_pull);
       moments = rw turns moments;
       refusals = all-join NamesItsOffer events (pulled moment visits ∷ []) can.refusals (tt, tt);
       histories = histories;

@@ -3,8 +3,8 @@ pub mod FieldLemmas
 pub mod NumberLemmas
 pub mod LineLemmas
 pub mod EventLemmas
-pub mod BuiltinLemmas
 pub mod RouterLemmas
+pub mod PlaceLemmas
 pub mod AnswerLemmas
 pub mod Alike
 pub mod OneMeaning

@@ -17,7 +17,9 @@ use Rattle.clk_sched.specs.Tree.{queue_at, is_number}
 use Rattle.clk_sched.specs.Log.{moment_of, counted}
 use Rattle.clk_sched.specs.Results.{asks_queue}
 use Rattle.clk_sched.specs.Choice.{answers_of, GoAlike, PullsLeaveNoChoice}
-use Rattle.clickpull.specs.Meaning.{QueueSpec, SenderSpec, Setup, sender_numbers, Event, offered, pulled, command_of, number_from, numbers_of, pull_in, moment_in, log_of, sends_to, at_queue, history, NamesItsOffer, event_text, CanHappen}
+use Rattle.clickpull.specs.declared.setup.QueueSpec.{QueueSpec}
+use Rattle.clickpull.specs.declared.setup.SenderSpec.{SenderSpec}
+use Rattle.clickpull.specs.Meaning.{Setup, sender_numbers, Event, offered, pulled, command_of, number_from, numbers_of, pull_in, moment_in, log_of, sends_to, at_queue, history, NamesItsOffer, event_text, CanHappen}
 use Rattle.clickpull.specs.Builtin.{builtin}
 use Rattle.clickpull.specs.Router.{IsSound}
 use Rattle.clickpull.specs.OneMeaning.{IsWired, HasAtMostOneMeaning}

@@ -1,5 +1,5 @@
 -- How a script's meaning and its faults follow from those of its first bytes.
-use Rattle.std.proofs.Common.{◌+◌, ◌≡◌, ◌≢◌, ℕ, ◌==◌, Bool, true, false, nat_lt, List, [], ◌∷◌, length, take, slice_get, Option, Some, None, Err, refl, sym, ap, subst, ◌∙◌, ◌⊎◌, inl, inr, IfSome, arith}
+use Rattle.std.proofs.Common.{◌+◌, ◌≡◌, ◌≢◌, ℕ, ◌==◌, Bool, true, false, nat_lt, List, [], ◌∷◌, length, take, slice_get, Option, Some, None, Ok, Err, refl, sym, ap, subst, ◌∙◌, ◌⊎◌, inl, inr, IfSome, arith}
 use Rattle.std.specs.Bool.{⊤}
 use Rattle.std.specs.List.{filter_map, enumerate_from, list_any}
 use Rattle.std.specs.Str.Lines.{lines}
@@ -13,7 +13,9 @@ use Rattle.clickpull.specs.declared.script.Line.{Line}
 use Rattle.clickpull.specs.declared.script.Line.TheVariants as line
 use Rattle.clickpull.specs.Script.{most_lines, line_of, command_fault, line_fault, fault_at, script_fault, commands_of, most_bytes}
 use Rattle.clickpull.specs.Bytes.{read_failures, write_failures}
-use Rattle.clickpull.specs.Meaning.{Writes, IsMeaning, Explains, sender_numbers}
+use Rattle.clk_sched.specs.Tree.{queue, prio}
+use Rattle.clk_sched.specs.Built.{built}
+use Rattle.clickpull.specs.Meaning.{Setup, Writes, IsMeaning, Explains, ExplainsOver, sender_numbers}
 use Rattle.clickpull.specs.Builtin.{builtin}
 
 -- one byte past the limit is enough to tell what is wrong
@@ -37,14 +39,19 @@ whole senders all e = by_test (nat_lt most_bytes (length all)) refl
         absurd (cc)
     by_test false f = take_all 33554433 all (grind (arith, nat_tests))
 
--- the meaning of a script whose first bytes were read
-pub meaning-known : (known : Option (List ℕ)) (bytes text : List ℕ) (P : List ℕ → Type 0) → IfSome known (λ all. bytes ≡ take (most_bytes + 1) all)
-    → script_fault (sender_numbers builtin) bytes ≡ None → Writes builtin (commands_of bytes) text → P text → IfSome known (λ script. (t : List ℕ) × IsMeaning builtin script t × P t)
-meaning-known None bytes text P is e w p = tt
-meaning-known (Some all) bytes text P is e w p =
-    let sound = rw is at e in
-    let all_of_it : bytes ≡ all = is ∙ whole (sender_numbers builtin) all sound in
-    (text, record { sound = sym (fault-cut (sender_numbers builtin) all) ∙ sound; written = subst (λ (script : List ℕ). Writes builtin (commands_of script) text) all_of_it w }, p)
+-- the meaning over a setup of a script whose first bytes were read
+pub meaning-known : (over setup : Setup) → over ≡ setup → (known : Option (List ℕ)) (bytes text : List ℕ) (P : List ℕ → Type 0) → IfSome known (λ all. bytes ≡ take (most_bytes + 1) all)
+    → script_fault (sender_numbers over) bytes ≡ None → Writes over (commands_of bytes) text → P text → IfSome known (λ script. (t : List ℕ) × IsMeaning setup script t × P t)
+meaning-known over setup same None bytes text P is e w p = tt
+meaning-known over setup same (Some all) bytes text P is e w p =
+    let here : script_fault (sender_numbers setup) bytes ≡ None = subst (λ (s : Setup). script_fault (sender_numbers s) bytes ≡ None) same e in
+    let sound = rw is at here in
+    let all_of_it : bytes ≡ all = is ∙ whole (sender_numbers setup) all sound in
+    (text,
+    record {
+      sound = sym (fault-cut (sender_numbers setup) all) ∙ sound;
+      written = subst (λ (script : List ℕ). Writes setup (commands_of script) text) all_of_it (subst (λ (s : Setup). Writes s (commands_of bytes) text) same w);
+    }, p)
 
 -- the faults that a script may have
 abbrev IsOfScript : Fault → Type 0
@@ -107,10 +114,27 @@ by_kind senders known (BadScript number) kind h = record { explains = h; reads =
 by_kind senders known (UnknownSender sender) kind h = record { explains = h; reads = λ n. refl; writes = λ n. refl; not_write = λ e. cc }
 by_kind senders known fault kind h = absurd kind
 
-pub IsRefusal-script : (senders : List ℕ) (known : Option (List ℕ)) (bytes : List ℕ) (fault : Fault) → IfSome known (λ all. bytes ≡ take (most_bytes + 1) all)
+refused-by : (senders : List ℕ) (known : Option (List ℕ)) (bytes : List ℕ) (fault : Fault) → IfSome known (λ all. bytes ≡ take (most_bytes + 1) all)
     → (fault ≡ Memory) ⊎ (script_fault senders bytes ≡ Some fault) → IsRefusal senders known fault
-IsRefusal-script senders known bytes fault is (inl e) =
+refused-by senders known bytes fault is (inl e) =
     subst (λ (f : Fault). IsRefusal senders known f) (sym e) (record { explains = tt; reads = λ n. refl; writes = λ n. refl; not_write = λ d. cc })
-IsRefusal-script senders known bytes fault is (inr e) =
+refused-by senders known bytes fault is (inr e) =
     let kind : IsOfScript fault = rw e at (of_script senders bytes) in
     by_kind senders known fault kind (named senders known bytes fault is e)
+
+pub IsRefusal-script : (over setup : Setup) → over ≡ setup → (known : Option (List ℕ)) (bytes : List ℕ) (fault : Fault) → IfSome known (λ all. bytes ≡ take (most_bytes + 1) all)
+    → (fault ≡ Memory) ⊎ (script_fault (sender_numbers over) bytes ≡ Some fault) → IsRefusal (sender_numbers setup) known fault
+IsRefusal-script over setup same known bytes fault is why =
+    refused-by (sender_numbers setup) known bytes fault is (subst (λ (s : Setup). (fault ≡ Memory) ⊎ (script_fault (sender_numbers s) bytes ≡ Some fault)) same why)
+
+-- the built-in tree is not too large
+pub explained-builtin : (known : Option (List ℕ)) (fault : Fault) → ExplainsOver builtin known fault → Explains (sender_numbers builtin) known fault
+explained-builtin known fault (inr why) = why
+explained-builtin known Memory (inl why) = tt
+explained-builtin known TooLarge (inl why) = absurd (omega (arith, why))
+explained-builtin known fault (inl why) = absurd why
+
+-- the built-in tree as it is built
+pub tree-built : built prio (queue 0 ∷ queue 1 ∷ []) ≡ Ok builtin.tree
+unfolding built
+tree-built = refl

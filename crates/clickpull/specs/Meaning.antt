@@ -1,5 +1,5 @@
 -- What the answer to a script is.
-use Rattle.std.specs.Prelude.{◌≡◌, ℕ, List, [], ◌∷◌, ◌++◌, length, map, ◌==◌, ◌&&◌, Bool, if◌then◌else◌, Option, Some, None, MatchOption, IfSome, ⊤, codes, decimal, slice_get}
+use Rattle.std.specs.Prelude.{◌≡◌, ℕ, ◌+◌, ◌<◌, ◌⊎◌, List, [], ◌∷◌, ◌++◌, length, map, ◌==◌, ◌&&◌, Bool, if◌then◌else◌, Option, Some, None, MatchOption, IfSome, ⊤, codes, decimal, slice_get}
 use Rattle.std.specs.List.{flat_map, filter_map, range_with_len, list_any, AllByRecursion}
 use Rattle.clk_packet.specs.declared.packet.Packet.{Packet}
 use Rattle.clk_packet.specs.declared.packet.Kind.{Kind}
@@ -7,31 +7,28 @@ use Rattle.clk_packet.specs.declared.packet.Offered.{Offered}
 use Rattle.clk_packet.specs.declared.packet.Offered.TheVariants.{Accepted, Refused, Evicted}
 use Rattle.clk_packet.specs.declared.fault.Fault.{Fault}
 use Rattle.clk_packet.specs.declared.fault.Fault.TheVariants.{Memory, UnknownSender, BadScript, TooLarge, Read, Write}
+use Rattle.clickpull.specs.declared.setup.QueueSpec.{QueueSpec}
+use Rattle.clickpull.specs.declared.setup.SenderSpec.{SenderSpec}
 use Rattle.clickpull.specs.declared.script.Command.{Command}
 use Rattle.clickpull.specs.declared.script.Command.TheVariants.{Send, Pull}
 use Rattle.clk_sched.specs.declared.visit.Visit.{Visit}
 use Rattle.clk_ring.specs.QueueHistory.{QueueEvent, offer_events, pull_event, NamesOffer, IsQueueHistory}
-use Rattle.clk_sched.specs.Tree.{Tree}
+use Rattle.clk_sched.specs.Tree.{Tree, root}
+use Rattle.clk_sched.specs.LaidOut.{most_elements}
+use Rattle.clk_sched.specs.Session.{elements}
 use Rattle.clk_sched.specs.Log.{visits_of, pulls, moment_of, counted, result_of}
 use Rattle.clk_sched.specs.Run.{IsRun}
 use Rattle.clk_sched.specs.Results.{asks_queue}
 use Rattle.clickpull.specs.Script.{script_fault, commands_of}
-
--- a queue's kind, and how many packets it holds at most
-pub record QueueSpec : Type 0 where
-  pub kind : Kind
-  pub capacity : ℕ
-
--- a sender, and the queue that it sends to
-pub record SenderSpec : Type 0 where
-  pub number : ℕ
-  pub queue : ℕ
 
 -- what a script runs over: a tree over queues, which senders send to
 pub record Setup : Type 0 where
   pub tree : Tree
   pub queues : List QueueSpec
   pub senders : List SenderSpec
+
+abbrev pub setup_of : Tree → List QueueSpec → List SenderSpec → Setup
+setup_of tree queues senders = record { tree = tree; queues = queues; senders = senders }
 
 abbrev pub sender_numbers : Setup → List ℕ
 sender_numbers setup = map (λ (s : SenderSpec). s.number) setup.senders
@@ -145,3 +142,18 @@ Explains senders script TooLarge = IfSome script (λ bytes. script_fault senders
 Explains senders script (BadScript line) = IfSome script (λ bytes. script_fault senders bytes ≡ Some (BadScript line))
 Explains senders script (UnknownSender sender) = IfSome script (λ bytes. script_fault senders bytes ≡ Some (UnknownSender sender))
 Explains senders script fault = ⊥
+
+-- the numbers rise
+abbrev pub AreRising : List ℕ → Type 0
+AreRising [] = ⊤
+AreRising (n ∷ ns) = AllByRecursion (λ m. n < m) ns × AreRising ns
+
+-- Why a router over a tree cannot be made: memory may run out, and the tree may be too large for a session.
+abbrev pub CannotStart : Tree → Fault → Type 0
+CannotStart tree Memory = ⊤
+CannotStart tree TooLarge = most_elements < 1 + elements (root tree)
+CannotStart tree fault = ⊥
+
+-- Why running a script over a setup is refused with a fault: its tree is too large, or as above.
+abbrev pub ExplainsOver : Setup → Option (List ℕ) → Fault → Type 0
+ExplainsOver setup script fault = CannotStart setup.tree fault ⊎ Explains (sender_numbers setup) script fault

@@ -1,80 +1,181 @@
 -- What the router's parts do, in the words of the definitions.
-use Rattle.std.specs.Prelude.{◌≡◌, ℕ, ◌≤◌, List, [], ◌∷◌, ◌++◌, length, fold, max, true, ◌==◌, ⊤, Option, Some, None}
-use Rattle.std.specs.Option.{option_or}
-use Rattle.std.specs.List.{filter_map, list_any}
+use Rattle.std.specs.Prelude.{◌≡◌, ℕ, ◌+◌, ◌<◌, ◌≤◌, ◌^◌, List, [], ◌∷◌, ◌++◌, length, map, true, false, ◌==◌, ⊤, Option, Some, None, slice_get}
+use Rattle.std.specs.List.{list_any, AllByRecursion}
 use Rattle.clk_packet.specs.declared.packet.Packet.{Packet}
-use Rattle.clk_packet.specs.declared.packet.Kind.TheVariants.{TailDrop}
-use Rattle.clk_ring.specs.Queue.{Queue, IsPulled}
-use Rattle.clk_ring.specs.QueueHistory.{QueueEvent, pull_event}
+use Rattle.clk_packet.specs.declared.packet.Offered.{Offered}
+use Rattle.clk_packet.specs.Limits.{most_capacity}
+use Rattle.clk_ring.specs.Queue.{Queue, empty_queue, IsOffered, IsPulled}
+use Rattle.clk_ring.specs.QueueHistory.{QueueEvent}
 use Rattle.clk_ring.specs.Laws.{LeadsTo}
 use Rattle.clk_sched.specs.declared.visit.Visit.{Visit}
 use Rattle.clickpull.specs.declared.script.Command.{Command}
 use Rattle.clickpull.specs.declared.script.Command.TheVariants.{Send, Pull}
+use Rattle.clickpull.specs.declared.setup.QueueSpec.{QueueSpec}
+use Rattle.clickpull.specs.declared.setup.SenderSpec.{SenderSpec}
+use Rattle.clickpull.specs.declared.senders.Sender.{Sender}
 use Rattle.clickpull.specs.declared.router.Router.{Router}
-use Rattle.clk_sched.specs.Log.{asking, visits_of, result_of}
-use Rattle.clickpull.specs.Meaning.{Event, pulled, command_of, event_text, CanHappen, numbers_of, history, log_of, moment_in, pull_in}
-use Rattle.clickpull.specs.Builtin.{builtin}
+use Rattle.clk_sched.specs.Log.{visits_of, result_of}
+use Rattle.clickpull.specs.Script.{most_moment}
+use Rattle.clickpull.specs.Meaning.{Setup, Event, pulled, command_of, event_text, CanHappen, numbers_of, history, log_of, AreRising, sender_numbers}
 
--- what the built-in scheduler records in a pull in which its queues have these answers
-abbrev pub prio_visits : ℕ → ℕ → Option Packet → Option Packet → List Visit
-prio_visits pull moment (Some p) second = asking pull moment 1 0 (Some p) ∷ []
-prio_visits pull moment None second = asking pull moment 1 0 None ∷ asking pull moment 1 1 second ∷ []
+-- a capacity within the limits
+abbrev pub HasCapacity : QueueSpec → Type 0
+HasCapacity spec = (1 ≤ spec.capacity) × (spec.capacity ≤ most_capacity)
 
--- the second queue is pulled where the first had no packet
-abbrev pub IsSecondPulled : Option Packet → Queue → Option Packet → Queue → Type 0
-IsSecondPulled (Some p) old second new = new ≡ old
-IsSecondPulled None old second new = IsPulled old second new
+abbrev pub spec_number : SenderSpec → ℕ
+spec_number spec = spec.number
 
--- what happens to the second queue in a pull in which the queues have these answers
-abbrev pub second_events : Option Packet → Option Packet → List QueueEvent
-second_events (Some p) second = []
-second_events None second = pull_event second ∷ []
+-- the queue of a sender is one of so many
+abbrev pub SendsWithin : ℕ → SenderSpec → Type 0
+SendsWithin count spec = spec.queue < count
 
--- The scheduler has pulled its queues for this result, and recorded its visits.
-pub record HasPulled (first_old first_new second_old second_new : Queue) (before after : List Visit) (pull moment : ℕ) (got : Option Packet) : Type 0 where
-  pub first : Option Packet
-  pub second : Option Packet
-  pub visits : after ≡ before ++ prio_visits pull moment first second
-  pub result : got ≡ option_or first second
-  pub first_queue : IsPulled first_old first first_new
-  pub second_queue : IsSecondPulled first second_old second second_new
+-- a queue and a sender as they are made, and what was asked for
+abbrev pub queue_made : QueueSpec → Queue
+queue_made spec = empty_queue spec.kind spec.capacity
 
--- These events lead to this queue, which is a Queue of two packets.
-pub record IsBuiltinQueue (events : List QueueEvent) (q : Queue) : Type 0 where
+abbrev pub queue_spec : Queue → QueueSpec
+queue_spec q = record { kind = q.kind; capacity = q.capacity }
+
+abbrev pub sender_made : SenderSpec → Sender
+sender_made spec = record { number = spec.number; queue = spec.queue; sent = 0 }
+
+abbrev pub sender_spec : Sender → SenderSpec
+sender_spec s = record { number = s.number; queue = s.queue }
+
+-- a sender once it has sent one packet more
+abbrev pub sent_one_more : Sender → Sender
+sent_one_more s = record { number = s.number; queue = s.queue; sent = s.sent + 1 }
+
+abbrev pub number_of : Sender → ℕ
+number_of s = s.number
+
+abbrev pub numbers_in : Router → List ℕ
+numbers_in router = map number_of router.senders.items
+
+abbrev pub IsNumber : ℕ → Option Sender → Type 0
+IsNumber number None = ⊥
+IsNumber number (Some s) = s.number ≡ number
+
+-- a sender stands at this place
+abbrev pub IsPlace : List Sender → ℕ → Type 0
+IsPlace senders place = place < length senders
+
+-- the sender of this number stands at this place
+pub record IsPlaceOf (senders : List Sender) (number place : ℕ) : Type 0 where
+  pub within : IsPlace senders place
+  pub here : IsNumber number (slice_get senders place)
+
+-- a packet of the sender at this place
+abbrev pub IsSentFrom : List Sender → ℕ → Packet → Type 0
+IsSentFrom senders place p = IsNumber p.sender (slice_get senders place)
+
+-- what an offer makes of the queue at a place, and a pull
+abbrev pub OffersTo : Packet → Offered → Option Queue → Option Queue → Type 0
+OffersTo p outcome None new = ⊥
+OffersTo p outcome (Some old) None = ⊥
+OffersTo p outcome (Some old) (Some new) = IsOffered old p outcome new
+
+abbrev pub PullsFrom : Option Packet → Option Queue → Option Queue → Type 0
+PullsFrom got None new = (got ≡ None) × (new ≡ None)
+PullsFrom got (Some old) None = ⊥
+PullsFrom got (Some old) (Some new) = IsPulled old got new
+
+-- Only the queue of this number may have changed.
+pub record ChangesOnly (old : List Queue) (number : ℕ) (new : List Queue) : Type 0 where
+  pub count : length new ≡ length old
+  pub others : (k : ℕ) → (number == k) ≡ false → slice_get new k ≡ slice_get old k
+
+-- A packet is offered to the queue of this number, with this outcome, and all others stay.
+pub record OffersAt (old : List Queue) (number : ℕ) (p : Packet) (outcome : Offered) (new : List Queue) : Type 0 where
+  pub here : OffersTo p outcome (slice_get old number) (slice_get new number)
+  pub only : ChangesOnly old number new
+
+-- The queue of this number is pulled, with this result, and all others stay. One that isn't there has none.
+pub record GivesAt (old : List Queue) (number : ℕ) (got : Option Packet) (new : List Queue) : Type 0 where
+  pub here : PullsFrom got (slice_get old number) (slice_get new number)
+  pub only : ChangesOnly old number new
+
+-- These events lead to this queue, which is as it was asked for.
+pub record IsQueueAt (events : List QueueEvent) (spec : QueueSpec) (q : Queue) : Type 0 where
   pub leads : LeadsTo events q
-  pub kind : q.kind ≡ TailDrop
-  pub capacity : q.capacity ≡ 2
+  pub kind : q.kind ≡ spec.kind
+  pub capacity : q.capacity ≡ spec.capacity
 
--- The router is where these events lead.
-pub record IsAt (events : List Event) (router : Router) : Type 0 where
-  pub can_happen : CanHappen builtin events
-  pub first_sent : router.first_sent ≡ length (numbers_of 0 events)
-  pub second_sent : router.second_sent ≡ length (numbers_of 1 events)
-  pub first_queue : IsBuiltinQueue (history builtin 0 events) router.first_queue
-  pub second_queue : IsBuiltinQueue (history builtin 1 events) router.second_queue
-  pub log : router.log.items ≡ log_of events
-  pub pulls : router.pulls ≡ length (filter_map pull_in events)
-  pub now : router.now ≡ fold max 0 (filter_map moment_in events)
+abbrev pub AreQueuesAt : List QueueEvent → Option QueueSpec → Option Queue → Type 0
+AreQueuesAt events None None = ⊤
+AreQueuesAt events None (Some q) = ⊥
+AreQueuesAt events (Some spec) None = ⊥
+AreQueuesAt events (Some spec) (Some q) = IsQueueAt events spec q
+
+-- a sender after some events
+abbrev pub sender_after : List Event → SenderSpec → Sender
+sender_after events spec = record { number = spec.number; queue = spec.queue; sent = length (numbers_of spec.number events) }
+
+-- The router is where these events lead over a setup.
+pub record IsAt (setup : Setup) (events : List Event) (router : Router) : Type 0 where
+  pub can_happen : CanHappen setup events
+  pub senders : router.senders.items ≡ map (sender_after events) setup.senders
+  pub queues : (q : ℕ) → AreQueuesAt (history setup q events) (slice_get setup.queues q) (slice_get router.queues.rings.items q)
+  pub count : length router.queues.rings.items ≡ length setup.queues
+  pub tree : router.session.tree ≡ setup.tree
+  pub log : router.session.log ≡ log_of events
+
+-- the setup that a router is over
+abbrev pub setup_at : Router → Setup
+setup_at router = record {
+  tree = router.session.tree;
+  queues = map queue_spec router.queues.rings.items;
+  senders = map sender_spec router.senders.items;
+}
+
+-- Nothing has happened to a router over this setup.
+pub record Starts (setup : Setup) (router : Router) : Type 0 where
+  pub over : setup_at router ≡ setup
+  pub leads : IsAt setup [] router
+
+-- A router to which nothing has happened, whose senders stand by rising numbers and send to queues that are there.
+pub record CanRun (router : Router) : Type 0 where
+  pub leads : IsAt (setup_at router) [] router
+  pub rising : AreRising (sender_numbers (setup_at router))
+  pub wired : AllByRecursion (SendsWithin (length (setup_at router).queues)) (setup_at router).senders
+
+-- a sender's queue is one of so many, and it can send a packet more
+abbrev pub CanSend : ℕ → Sender → Type 0
+CanSend count s = (s.queue < count) × (s.sent + 1 < 2 ^ 32)
+
+-- A router's senders stand by rising numbers, and each can send.
+pub record IsReady (router : Router) : Type 0 where
+  pub rising : AreRising (numbers_in router)
+  pub can_send : AllByRecursion (CanSend (length router.queues.rings.items)) router.senders.items
 
 -- One more pull, at a moment that was handed in, led on from these events to this result.
-pub record LeadsOnByPull (new : Router) (moment : ℕ) (got : Option Packet) (events : List Event) : Type 0 where
+pub record LeadsOnByPull (setup : Setup) (new : Router) (moment : ℕ) (got : Option Packet) (events : List Event) : Type 0 where
   pub visits : List Visit
   pub result : result_of (visits_of 0 visits) ≡ got
-  pub leads : IsAt (events ++ pulled moment visits ∷ []) new
+  pub leads : IsAt setup (events ++ pulled moment visits ∷ []) new
 
 -- One more event, of this command, led on from these events and wrote its line.
-pub record CarriesOut (new : Router) (command : Command) (before after : List ℕ) (events : List Event) : Type 0 where
+pub record CarriesOut (setup : Setup) (new : Router) (command : Command) (before after : List ℕ) (events : List Event) : Type 0 where
   pub event : Event
   pub theirs : command_of event ≡ command
   pub line : after ≡ before ++ event_text event
-  pub leads : IsAt (events ++ event ∷ []) new
+  pub leads : IsAt setup (events ++ event ∷ []) new
+
+-- a command whose numbers are those of a script
+abbrev pub IsReadable : Command → Type 0
+IsReadable (Send sender length) = 1 ≤ length
+IsReadable (Pull moment) = moment ≤ most_moment
 
 -- a command that these senders can carry out
 abbrev pub IsSound : List ℕ → Command → Type 0
 IsSound senders (Send sender length) = (list_any (λ s. s == sender) senders ≡ true) × (1 ≤ length)
 IsSound senders (Pull moment) = ⊤
 
--- A line of this command, or of none, was answered: nothing changed, or the command is carried out, whatever events led to the router.
+-- A command is carried out, whatever events led to the router.
+abbrev pub AnswersCommand : Router → Router → List ℕ → List ℕ → Command → Type 0
+AnswersCommand old new before after command = (setup : Setup) (events : List Event) → IsAt setup events old → CarriesOut setup new command before after events
+
+-- A line of this command, or of none, was answered: nothing changed, or the command is carried out.
 abbrev pub AnswersLine : Router → Router → List ℕ → List ℕ → Option Command → Type 0
 AnswersLine old new before after None = (new ≡ old) × (after ≡ before)
-AnswersLine old new before after (Some command) = (events : List Event) → IsAt events old → CarriesOut new command before after events
+AnswersLine old new before after (Some command) = AnswersCommand old new before after command

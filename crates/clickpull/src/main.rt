@@ -6,16 +6,19 @@ mod bytes;
 mod faults;
 mod fields;
 mod laws;
-mod prio;
+mod queues;
 mod router;
 mod run;
 mod script;
+mod senders;
+mod setup;
 mod text;
 
 use clk_packet::{FromRead, ToWrite};
 pub use faults::fault_line;
 pub use laws::{script_examples, scripts_have_at_most_one_meaning, word_examples};
-pub use run::run_builtin;
+pub use run::{run_builtin, run_parts};
+pub use setup::{QueueSpec, SenderSpec};
 use std::io;
 use std::process::ExitCode;
 

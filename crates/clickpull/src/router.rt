@@ -1,124 +1,93 @@
-//! The built-in router: two senders, each with a queue of its own, a PrioSched over the queues, and a device.
+//! The router that a script runs over: senders, queues, and a session of a tree over the queues.
 
-ghost use Rattle.std.specs.Prelude.{◌≡◌, ◌+◌, ◌^◌, ◌<◌, ◌≤◌};
-
-use crate::prio::pull_by_priority;
-use clk_packet::{Fault, Kind, Offered, Packet};
-use clk_ring::{Ring, calls_are_history};
-use clk_sched::{Visit, runs_go_on};
+use crate::queues::Queues;
+use crate::senders::{Sender, place_of, senders_of};
+use crate::setup::{QueueSpec, SenderSpec};
+use clk_packet::{Fault, Offered, Packet};
+use clk_ring::calls_are_history;
+use clk_sched::{Session, Tree, runs_go_on};
 use std::alloc::Global;
-
-/// The numbers of its senders.
-pub const SENDERS: [u16; 2] = [0, 1];
-
-/// The capacity of each of its queues, in packets.
-const CAPACITY: usize = 2;
-
-/// The device's node number.
-const DEVICE: u16 = 0;
 
 /// The router, and all that it has done.
 #[derive(Drop)]
 pub struct Router {
-    /// How many packets the first and the second sender have offered.
-    first_sent: u32,
-    second_sent: u32,
-    /// The queues of the first and of the second sender.
-    first_queue: Ring,
-    second_queue: Ring,
-    /// Every visit so far, in order.
-    log: Vec<Visit>,
-    /// How many pulls there were.
-    pulls: u64,
-    /// The greatest moment so far, in ticks.
-    now: u64,
+    /// The tree, with the log of its pulls.
+    session: Session,
+    queues: Queues,
+    /// The senders, by rising numbers.
+    senders: Vec<Sender>,
 }
 
 impl Router {
-    ghost use Rattle.std.specs.Prelude.{◌≡◌, ◌+◌, ◌^◌, ◌<◌, ◌≤◌, ◌==◌, ◌++◌, ◌∷◌, [], true, IfOk, IsOkUnless};
-    ghost use Rattle.std.specs.List.{list_any};
+    ghost use Rattle.std.specs.Prelude.{◌≡◌, ◌+◌, ◌^◌, ◌<◌, ◌≤◌, ◌==◌, ◌++◌, ◌∷◌, [], true, false, None, length, IfOk, IfErr, IfSome, IsOkUnless};
+    ghost use Rattle.std.specs.List.{AllByRecursion, list_any};
     ghost use Rattle.clk_packet.specs.declared.fault.Fault.TheVariants.{Memory};
-    ghost use Rattle.clickpull.specs.Meaning.{Event, offered};
-    ghost use Rattle.clickpull.specs.Router.{IsAt, LeadsOnByPull};
+    ghost use Rattle.clk_sched.specs.Tree.{leaves_distinct};
+    ghost use Rattle.clickpull.specs.Meaning.{Setup, Event, offered, setup_of, CannotStart};
+    ghost use Rattle.clickpull.specs.Router.{HasCapacity, numbers_in, IsPlace, IsPlaceOf, IsSentFrom, IsReady, IsAt, Starts, LeadsOnByPull};
 
-    /// The router before anything has happened. Fault 1 where memory is refused.
-    pub fn new(alloc: Global) -> Result<Router, Fault>
-        ensures at_start { IfOk result (λ router. IsAt [] router) }
-        ensures fault { IsOkUnless result Fault.Memory }
+    /// The router over these parts before anything has happened.
+    ///
+    /// # Errors
+    ///
+    /// Fault 1 where memory is refused, and fault 18 for a tree of more than 256 nodes and queues, the device counted.
+    pub fn new(
+        alloc: Global,
+        tree: Tree,
+        queues: &[QueueSpec],
+        senders: &[SenderSpec],
+    ) -> Result<Router, Fault>
+        requires distinct { leaves_distinct tree ≡ true }
+        requires capacities { AllByRecursion HasCapacity queues.now }
+        ensures made { IfOk result (Starts (setup_of tree queues.now senders.now)) }
+        ensures fault { IfErr result (CannotStart tree) }
     {
-        // The queues lead on from here by this law, which does nothing.
+        // The empty log is a run, and the queues lead on from here, by these laws, which do nothing.
+        runs_go_on();
         calls_are_history();
+        let session = Session::new(alloc, tree)?;
         Ok(Router {
-            first_sent: 0,
-            second_sent: 0,
-            first_queue: Ring::new(alloc, Kind::TailDrop, CAPACITY)?,
-            second_queue: Ring::new(alloc, Kind::TailDrop, CAPACITY)?,
-            log: Vec::new(alloc),
-            pulls: 0,
-            now: 0,
+            session,
+            queues: Queues::new(alloc, queues)?,
+            senders: senders_of(alloc, senders)?,
         })
     }
 
-    /// The sender offers its next packet, of this length in bytes, to its queue.
-    pub fn send(&mut self, sender: u16, length: u16) -> (Packet, Offered)
-        requires known { list_any (λ s. s == sender) (0 ∷ 1 ∷ []) ≡ true }
+    /// The place of the sender of this number, if it is there.
+    pub fn place_of(&self, number: u16) -> Option<usize>
+        requires ready { IsReady self.now }
+        ensures found { IfSome result (IsPlaceOf self.now.senders.items number) }
+        ensures missing { result ≡ None → list_any (λ s. s == number) (numbers_in self.now) ≡ false }
+    {
+        place_of(&self.senders, number)
+    }
+
+    /// The sender at this place offers its next packet, of this length in bytes, to its queue.
+    pub fn send(&mut self, place: usize, length: u16) -> (Packet, Offered)
+        requires ready { IsReady self.old }
+        requires is_there { IsPlace self.old.senders.items place }
         requires has_length { 1 ≤ length }
-        requires first { self.old.first_sent + 1 < 2 ^ 32 }
-        requires second { self.old.second_sent + 1 < 2 ^ 32 }
-        ensures packet { (result.0.sender ≡ sender) × (result.0.length ≡ length) }
-        ensures leads { (events : _) → IsAt events self.old → IsAt (events ++ offered result.0 result.1 ∷ []) self.new }
+        ensures sender { IsSentFrom self.old.senders.items place result.0 }
+        ensures length { result.0.length ≡ length }
+        ensures leads { (setup : Setup) (events : _) → IsAt setup events self.old → IsAt setup (events ++ offered result.0 result.1 ∷ []) self.new }
     {
         // What happened to the queue stays a history of it by this law, which does nothing.
         calls_are_history();
-        if sender == SENDERS[0] {
-            let packet = next_packet(&mut self.first_sent, sender, length);
-            (packet, self.first_queue.offer(packet))
-        } else {
-            let packet = next_packet(&mut self.second_sent, sender, length);
-            (packet, self.second_queue.offer(packet))
-        }
+        let sender = &mut self.senders[place];
+        let packet = sender.next_packet(length);
+        let queue = sender.queue;
+        (packet, self.queues.offer(queue, packet))
     }
 
     /// Pulls the device once, at this moment in ticks or, where that is later, at the greatest so far. Fault 1 where memory is
     /// refused.
     pub fn pull(&mut self, moment: u64) -> Result<Option<Packet>, Fault>
-        requires { self.old.pulls + 1 < 2 ^ 64 }
-        ensures leads { IfOk result (λ got. (events : _) → IsAt events self.old → LeadsOnByPull self.new moment got events) }
+        requires { moment < 2 ^ 44 }
+        ensures leads { IfOk result (λ got. (setup : Setup) (events : _) → IsAt setup events self.old → LeadsOnByPull setup self.new moment got events) }
         ensures fault { IsOkUnless result Fault.Memory }
     {
-        // The log stays a run, and what happened to the queues a history of them, by these laws, which do nothing.
-        runs_go_on();
+        // What happened to the queues stays a history of each by this law, which does nothing.
         calls_are_history();
-        let now = self.now.max(moment);
-        let got = pull_by_priority(
-            &mut self.first_queue,
-            &mut self.second_queue,
-            &mut self.log,
-            self.pulls,
-            now,
-        )?;
-        self.log
-            .push(Visit::asking(self.pulls, now, DEVICE, 0, got))?;
-        self.pulls += 1;
-        self.now = now;
-        Ok(got)
-    }
-}
-
-/// The next packet of a sender that has sent so many, which is counted.
-fn next_packet(sent: &mut u32, sender: u16, length: u16) -> Packet
-    requires has_length { 1 ≤ length }
-    requires room { sent.old + 1 < 2 ^ 32 }
-    ensures number { result.number ≡ sent.old }
-    ensures sender { result.sender ≡ sender }
-    ensures length { result.length ≡ length }
-    ensures counted { sent.new ≡ sent.old + 1 }
-{
-    let number = *sent;
-    *sent += 1;
-    Packet {
-        number,
-        sender,
-        length,
+        self.session.pull(&mut self.queues, moment)
     }
 }

@@ -1,18 +1,12 @@
-//! The script: its lines, and what may be wrong with them.
-
-ghost use Rattle.std.specs.Prelude.{◌≡◌, ◌≤◌, None, Some, MatchResult, OnOk};
-ghost use Rattle.std.specs.Option.{option_map};
-ghost use Rattle.clk_packet.specs.declared.fault.Fault.TheVariants.{UnknownSender};
-ghost use Rattle.clickpull.specs.Script.{line_of, command_in, command_fault, fault_at, most_lines};
+//! The lines of a script.
 
 use crate::fields::{first_field, first_number};
-use clk_packet::Fault;
 
 /// How many bytes a script may have.
 pub const MAX_BYTES: usize = 33_554_432;
 
 /// How many lines a script may have.
-const MAX_LINES: u32 = 1_000_000;
+pub const MAX_LINES: u32 = 1_000_000;
 
 /// The greatest moment that a script may name, in ticks.
 const MAX_MOMENT: u64 = (1 << 40) - 1;
@@ -100,42 +94,5 @@ impl Line {
             sender: sender as u16,
             length: length as u16,
         })
-    }
-}
-
-/// The command of the line of this number, counted from 1, unless it is blank. The line is one of the first 1,000,000
-/// (fault 18), a command or blank (16), and names one of these senders alone (15).
-pub fn command_at(senders: &[u16], number: u32, text: &[u8]) -> Result<Option<Command>, Fault>
-    ensures exact { MatchResult result
-        (λ command. (fault_at senders.now (number, text.now) ≡ None) × (command ≡ command_in (line_of text.now)))
-        (λ fault. fault_at senders.now (number, text.now) ≡ Some fault) }
-    ensures within { OnOk result (number ≤ most_lines) }
-{
-    if number > MAX_LINES {
-        return Err(Fault::TooLarge);
-    }
-    match Line::read(text) {
-        Line::Blank => Ok(None),
-        Line::Malformed => Err(Fault::BadScript { line: number }),
-        Line::Command(command) => match unknown_sender(senders, command) {
-            None => Ok(Some(command)),
-            Some(sender) => Err(Fault::UnknownSender { sender }),
-        },
-    }
-}
-
-/// The sender that a command names, where it isn't one of these.
-fn unknown_sender(senders: &[u16], command: Command) -> Option<u16>
-    ensures { option_map UnknownSender result ≡ command_fault senders.now command }
-{
-    match command {
-        Command::Send { sender, .. } => {
-            if senders.contains(&sender) {
-                None
-            } else {
-                Some(sender)
-            }
-        }
-        Command::Pull { .. } => None,
     }
 }
