@@ -2,7 +2,6 @@
 use Rattle.std.specs.Prelude.{◌≡◌, ℕ, ◌+◌, ◌<◌, ◌⊎◌, List, [], ◌∷◌, ◌++◌, length, map, ◌==◌, ◌&&◌, Bool, if◌then◌else◌, Option, Some, None, MatchOption, IfSome, ⊤, codes, decimal, slice_get}
 use Rattle.std.specs.List.{flat_map, filter_map, range_with_len, list_any, AllByRecursion}
 use Rattle.clk_packet.specs.declared.packet.Packet.{Packet}
-use Rattle.clk_packet.specs.declared.packet.Kind.{Kind}
 use Rattle.clk_packet.specs.declared.packet.Offered.{Offered}
 use Rattle.clk_packet.specs.declared.packet.Offered.TheVariants.{Accepted, Refused, Evicted}
 use Rattle.clk_packet.specs.declared.fault.Fault.{Fault}

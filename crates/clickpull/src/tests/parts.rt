@@ -117,7 +117,8 @@ fn round_robin_over_three(alloc: Global) -> Result<Tree, Fault> {
 #[test]
 fn three_queues_take_turns(rt: HostRuntime) -> Result<(), Fail> {
     let queues = [QUEUE, QUEUE, QUEUE];
-    let script = b"send 0 10\nsend 0 11\nsend 2 12\nsend 2 13\npull 0\npull 0\npull 0\npull 0\npull 0\n";
+    let script =
+        b"send 0 10\nsend 0 11\nsend 2 12\nsend 2 13\npull 0\npull 0\npull 0\npull 0\npull 0\n";
     let expected = b"0#0 10 accepted\n0#1 11 accepted\n2#0 12 accepted\n2#1 13 accepted\n\
         pull 0: 0#0 10\npull 0: 2#0 12\npull 0: 0#1 11\npull 0: 2#1 13\npull 0: none\n";
     let tree = round_robin_over_three(rt.alloc()).expect(&rt, "ample memory");
@@ -156,7 +157,8 @@ fn two_tickets_give_twice_as_much(rt: HostRuntime) -> Result<(), Fail> {
 #[test]
 fn a_shaper_lets_a_burst_through(rt: HostRuntime) -> Result<(), Fail> {
     let queues = [QUEUE, QUEUE, QUEUE];
-    let script = b"send 0 10\nsend 0 10\nsend 0 10\nsend 0 10\npull 0\npull 0\npull 0\npull 1\npull 0\n";
+    let script =
+        b"send 0 10\nsend 0 10\nsend 0 10\nsend 0 10\npull 0\npull 0\npull 0\npull 1\npull 0\n";
     let expected = b"0#0 10 accepted\n0#1 10 accepted\n0#2 10 accepted\n0#3 10 accepted\n\
         pull 0: 0#0 10\npull 0: 0#1 10\npull 0: none\npull 1: 0#2 10\npull 0: none\n";
     let tree = Tree::shaper(rt.alloc(), 1, 2, Tree::leaf(0)).expect(&rt, "ample memory");
