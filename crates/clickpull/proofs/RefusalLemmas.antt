@@ -15,7 +15,7 @@ use Rattle.clickpull.specs.Script.{most_lines, line_of, command_fault, line_faul
 use Rattle.clickpull.specs.Bytes.{read_failures, write_failures}
 use Rattle.clk_sched.specs.Tree.{queue, prio}
 use Rattle.clk_sched.specs.Built.{built}
-use Rattle.clickpull.specs.Meaning.{Setup, Writes, IsMeaning, Explains, ExplainsOver, sender_numbers}
+use Rattle.clickpull.specs.Meaning.{Setup, Writes, IsMeaning, Explains, sender_numbers}
 use Rattle.clickpull.specs.Builtin.{builtin}
 
 -- one byte past the limit is enough to tell what is wrong
@@ -46,12 +46,14 @@ meaning-known over setup same None bytes text P is e w p = tt
 meaning-known over setup same (Some all) bytes text P is e w p =
     let here : script_fault (sender_numbers setup) bytes ≡ None = subst (λ (s : Setup). script_fault (sender_numbers s) bytes ≡ None) same e in
     let sound = rw is at here in
-    let all_of_it : bytes ≡ all = is ∙ whole (sender_numbers setup) all sound in
-    (text,
-    record {
-      sound = sym (fault-cut (sender_numbers setup) all) ∙ sound;
-      written = subst (λ (script : List ℕ). Writes setup (commands_of script) text) all_of_it (subst (λ (s : Setup). Writes s (commands_of bytes) text) same w);
-    }, p)
+    let all_of_it : bytes ≡ all = is ∙ whole (sender_numbers setup) all sound in (
+      text,
+      record {
+        sound = sym (fault-cut (sender_numbers setup) all) ∙ sound;
+        written = subst (λ (script : List ℕ). Writes setup (commands_of script) text) all_of_it (subst (λ (s : Setup). Writes s (commands_of bytes) text) same w);
+      },
+      p,
+    )
 
 -- the faults that a script may have
 abbrev IsOfScript : Fault → Type 0
@@ -126,13 +128,6 @@ pub IsRefusal-script : (over setup : Setup) → over ≡ setup → (known : Opti
     → (fault ≡ Memory) ⊎ (script_fault (sender_numbers over) bytes ≡ Some fault) → IsRefusal (sender_numbers setup) known fault
 IsRefusal-script over setup same known bytes fault is why =
     refused-by (sender_numbers setup) known bytes fault is (subst (λ (s : Setup). (fault ≡ Memory) ⊎ (script_fault (sender_numbers s) bytes ≡ Some fault)) same why)
-
--- the built-in tree is not too large
-pub explained-builtin : (known : Option (List ℕ)) (fault : Fault) → ExplainsOver builtin known fault → Explains (sender_numbers builtin) known fault
-explained-builtin known fault (inr why) = why
-explained-builtin known Memory (inl why) = tt
-explained-builtin known TooLarge (inl why) = absurd (omega (arith, why))
-explained-builtin known fault (inl why) = absurd why
 
 -- the built-in tree as it is built
 pub tree-built : built prio (queue 0 ∷ queue 1 ∷ []) ≡ Ok builtin.tree

@@ -2,7 +2,7 @@
 use Rattle.std.proofs.Common.{◌≡◌, ℕ, ◌+◌, ◌<◌, ◌==◌, ◌&&◌, ◌||◌, zero, suc, Bool, true, false, List, [], ◌∷◌, ◌++◌, length, map, reverse, max, set, if◌then◌else◌, Option, Some, None, Result, Ok, Err, IfOk, OnOk, MatchOption, slice_get, refl, sym, ap, ap₂, ◌∙◌, subst, arith}
 use Rattle.std.specs.Bool.{⊤}
 use Rattle.std.specs.Option.{option_map}
-use Rattle.std.specs.List.{AllByRecursion, list_any}
+use Rattle.std.specs.List.{AllByRecursion}
 use Rattle.std.proofs.lemmas.List.{append_assoc, append-nil, length-append}
 use Rattle.std.proofs.lemmas.List.Concat.{flat_map-append}
 use Rattle.std.proofs.lemmas.List.Elements.{filter_map-append}
@@ -11,12 +11,12 @@ use Rattle.std.proofs.lemmas.Bool.Decides.{nat_tests}
 use Rattle.clk_packet.specs.declared.packet.Packet.{Packet}
 use Rattle.clk_packet.specs.declared.packet.Offered.{Offered}
 use Rattle.clk_packet.specs.declared.packet.Offered.TheVariants.{Accepted, Refused, Evicted}
-use Rattle.clk_ring.specs.Queue.{Queue, empty_queue, IsOffered, IsPulled}
+use Rattle.clk_ring.specs.Queue.{Queue, IsOffered, IsPulled}
 use Rattle.clk_ring.specs.QueueHistory.{QueueEvent, IsQueueHistory, offer_events, pull_event, NamesOffer}
-use Rattle.clk_ring.specs.Laws.{LeadsTo, CallsAreHistory}
+use Rattle.clk_ring.specs.Laws.{CallsAreHistory}
 use Rattle.clk_sched.specs.declared.visit.Visit.{Visit}
 use Rattle.clk_sched.specs.Tree.{Tree, queue_at, is_number}
-use Rattle.clk_sched.specs.Log.{pulls, moment_of}
+use Rattle.clk_sched.specs.Log.{pulls}
 use Rattle.clk_sched.specs.Run.{IsRun}
 use Rattle.clk_sched.specs.Results.{asks_queue}
 use Rattle.clk_sched.specs.Places.{Answers, at_queue as at_asked}
@@ -27,7 +27,7 @@ use Rattle.clickpull.specs.declared.senders.Sender.{Sender}
 use Rattle.clickpull.specs.declared.queues.Queues.{Queues}
 use Rattle.clickpull.specs.declared.router.Router.{Router}
 use Rattle.clickpull.specs.Meaning.{Setup, setup_of, sender_numbers, Event, offered, pulled, number_from, numbers_of, visits_in, log_of, sends_to, at_queue, history, AreRising}
-use Rattle.clickpull.specs.Router.{queue_made, queue_spec, sender_made, sender_spec, sent_one_more, spec_number, number_of, numbers_in, IsNumber, OffersTo, PullsFrom, OffersAt, GivesAt, IsQueueAt, AreQueuesAt, sender_after, IsAt, Starts, LeadsOnByPull}
+use Rattle.clickpull.specs.Router.{queue_made, queue_spec, sender_made, sender_spec, sent_one_more, spec_number, number_of, numbers_in, OffersTo, PullsFrom, OffersAt, GivesAt, AreQueuesAt, sender_after, IsAt, Starts, LeadsOnByPull}
 use Rattle.clickpull.proofs.EventLemmas.{CanHappen-offer, CanHappen-pull, log-pulled}
 
 -- what happened to a queue, and one event more

@@ -2,7 +2,6 @@
 use Rattle.std.specs.Prelude.{◌≡◌, ℕ, ◌+◌, ◌<◌, ◌⊎◌, List, [], ◌∷◌, ◌++◌, length, map, ◌==◌, ◌&&◌, Bool, if◌then◌else◌, Option, Some, None, MatchOption, IfSome, ⊤, codes, decimal, slice_get}
 use Rattle.std.specs.List.{flat_map, filter_map, range_with_len, list_any, AllByRecursion}
 use Rattle.clk_packet.specs.declared.packet.Packet.{Packet}
-use Rattle.clk_packet.specs.declared.packet.Kind.{Kind}
 use Rattle.clk_packet.specs.declared.packet.Offered.{Offered}
 use Rattle.clk_packet.specs.declared.packet.Offered.TheVariants.{Accepted, Refused, Evicted}
 use Rattle.clk_packet.specs.declared.fault.Fault.{Fault}
@@ -14,7 +13,7 @@ use Rattle.clickpull.specs.declared.script.Command.TheVariants.{Send, Pull}
 use Rattle.clk_sched.specs.declared.visit.Visit.{Visit}
 use Rattle.clk_ring.specs.QueueHistory.{QueueEvent, offer_events, pull_event, NamesOffer, IsQueueHistory}
 use Rattle.clk_sched.specs.Tree.{Tree, root}
-use Rattle.clk_sched.specs.LaidOut.{most_elements}
+use Rattle.clk_sched.specs.Limits.{most_elements}
 use Rattle.clk_sched.specs.Session.{elements}
 use Rattle.clk_sched.specs.Log.{visits_of, pulls, moment_of, counted, result_of}
 use Rattle.clk_sched.specs.Run.{IsRun}

@@ -3,6 +3,7 @@
 mod failures;
 mod fault_lines;
 mod limits;
+mod parts;
 
 use crate::run_builtin;
 use clk_packet::{FailingSink, FailingSource, Fault};

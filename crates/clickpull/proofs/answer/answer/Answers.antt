@@ -1,4 +1,4 @@
-use Rattle.std.proofs.Common.{◌+◌, arith, rules, refl, sym, ap, ◌∙◌, ◌≡◌, length}
+use Rattle.std.proofs.Common.{◌+◌, arith, rules, refl, sym, ◌∙◌, ◌≡◌, length}
 use Rattle.std.proofs.lemmas.Bool.Decides.{nat_tests}
 use Rattle.std.proofs.lemmas.Result.{err_from_is_err_and}
 use Rattle.clickpull.specs.Meaning.{sender_numbers}

@@ -1,4 +1,4 @@
-use Rattle.std.proofs.Common.{◌≡◌, Result, Ok, Err, IfOk, OnOk, refl}
+use Rattle.std.proofs.Common.{refl}
 use Rattle.clickpull.proofs.RouterLemmas.{IsAt-pulled, both-ok}
 use Rattle.clickpull.proofs.router.Router.pull.Goals as goal
 

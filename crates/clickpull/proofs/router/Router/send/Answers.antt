@@ -1,4 +1,4 @@
-use Rattle.std.proofs.Common.{◌≡◌, ◌∙◌, ap, set, slice_get, Some, refl}
+use Rattle.std.proofs.Common.{◌≡◌, ap, set, slice_get, Some, refl}
 use Rattle.std.proofs.lemmas.Option.{slice_get_read}
 use Rattle.clickpull.proofs.RouterLemmas.{IsAt-sent}
 use Rattle.clickpull.proofs.router.Router.send.Goals as goal
