@@ -1,6 +1,8 @@
 -- What two histories, or two lists of events, have in common after the same events.
-use Rattle.std.proofs.Common.{◌≡◌, ℕ, ◌+◌, ◌≤◌, zero, suc, List, [], ◌∷◌, ◌++◌, length, drop, map, max, fold, Option, sym, ap, ap₂, ◌∙◌, subst, arith}
-use Rattle.std.specs.List.{range_with_len}
+use Rattle.std.proofs.Common.{◌≡◌, ℕ, ◌+◌, ◌≤◌, zero, suc, List, [], ◌∷◌, ◌++◌, length, drop, map, max, fold, Option, refl, sym, ap, ap₂, ◌∙◌, subst, arith}
+use Rattle.std.specs.List.{filter_map, range_with_len, AllByRecursion}
+use Rattle.std.proofs.lemmas.List.{map-append}
+use Rattle.std.proofs.lemmas.List.Elements.{filter_map-append}
 use Rattle.std.proofs.lemmas.List.{append_assoc, append-nil}
 use Rattle.std.proofs.Math.Bridge.{le_prop}
 use mathlib.Core.HLevel.{is_prop→PathP}
@@ -9,8 +11,10 @@ use Rattle.clk_packet.specs.declared.packet.Kind.{Kind}
 use Rattle.clk_packet.specs.Limits.{most_length}
 use Rattle.clk_ring.specs.QueueHistory.{QueueEvent, IsQueueHistory, pull_event}
 use Rattle.clk_ring.specs.Laws.{HistoriesLeaveNoChoice}
-use Rattle.clk_sched.specs.Log.{counted}
+use Rattle.clk_sched.specs.declared.visit.Visit.{Visit}
+use Rattle.clk_sched.specs.Log.{moment_of, counted}
 use Rattle.clk_sched.specs.Choice.{GoAlike}
+use Rattle.clickpull.specs.Meaning.{Setup, Event, offered, pulled, pull_in, moment_in, CanHappen}
 
 -- two packets with the same number, sender and length
 pub packet-same : (p q : Packet) → p.number ≡ q.number → p.sender ≡ q.sender → p.length ≡ q.length → p ≡ q
@@ -59,3 +63,22 @@ number-at [] x more from (suc n) e = ap (first 0) e ∙ omega arith
     first d (y ∷ ys) = y
 number-at (y ∷ xs) x more from zero e = absurd (omega (arith, ap length e))
 number-at (y ∷ xs) x more from (suc n) e = number-at xs x more (from + 1) n (ap (drop 1) e) ∙ omega arith
+
+-- what holds of each member of two lists joined holds of a member between them
+pub member-between : {X : Type 0} (P : X → Type 0) (xs : List X) (x : X) (ys : List X) → AllByRecursion P (xs ++ x ∷ ys) → P x
+member-between P [] x ys h = h.0
+member-between P (z ∷ xs) x ys h = member-between P xs x ys h.1
+
+-- as many moments were handed in as there were pulls
+moments-count : (events : List Event) → length (map moment_of (filter_map pull_in events)) ≡ length (filter_map moment_in events)
+moments-count [] = refl
+moments-count (offered p outcome ∷ events) = moments-count events
+moments-count (pulled m v ∷ events) = ap suc (moments-count events)
+
+-- the counted moment of a pull between others
+pub its-moment : (setup : Setup) (done : List Event) (m : ℕ) (v : List Visit) (more : List Event) → CanHappen setup (done ++ pulled m v ∷ more)
+    → moment_of v ≡ max (fold max 0 (filter_map moment_in done)) m
+its-moment setup done m v more can =
+    moment-counted 0 (map moment_of (filter_map pull_in done)) (moment_of v) (map moment_of (filter_map pull_in more)) (filter_map moment_in done) m (filter_map moment_in more) (moments-count done)
+    (sym (ap (map moment_of) (filter_map-append pull_in done (pulled m v ∷ more)) ∙ map-append moment_of (filter_map pull_in done) (v ∷ filter_map pull_in more)) ∙ can.moments
+    ∙ ap (counted 0) (filter_map-append moment_in done (pulled m v ∷ more)))

@@ -1,7 +1,7 @@
 -- How events go on by one.
-use Rattle.std.proofs.Common.{◌≡◌, ℕ, ◌+◌, ◌==◌, Bool, true, false, List, [], ◌∷◌, ◌++◌, length, drop, map, reverse, max, fold, MatchOption, slice_get, refl, sym, ap, ◌∙◌, arith}
+use Rattle.std.proofs.Common.{◌≡◌, ℕ, ◌+◌, ◌≤◌, ◌==◌, zero, suc, Bool, true, false, List, [], ◌∷◌, ◌++◌, length, drop, map, reverse, max, fold, if◌then◌else◌, Option, None, MatchOption, slice_get, refl, sym, ap, ap₂, ◌∙◌, arith}
 use Rattle.std.specs.Bool.{⊤}
-use Rattle.std.specs.List.{filter_map, range_with_len, AllByRecursion}
+use Rattle.std.specs.List.{filter_map, flat_map, range_with_len, AllByRecursion}
 use Rattle.std.proofs.lemmas.List.{append_assoc, append-nil, map-append, length-append, map-id, reverse-append}
 use Rattle.std.proofs.lemmas.List.Concat.{flat_map-append}
 use Rattle.std.proofs.lemmas.List.Elements.{filter_map-append}
@@ -10,12 +10,13 @@ use Rattle.std.proofs.lemmas.Bool.Decides.{nat_tests}
 use Rattle.clk_packet.specs.declared.packet.Packet.{Packet}
 use Rattle.clk_packet.specs.declared.packet.Offered.{Offered}
 use Rattle.clk_sched.specs.declared.visit.Visit.{Visit}
-use Rattle.clk_ring.specs.QueueHistory.{NamesOffer, IsQueueHistory}
+use Rattle.clk_ring.specs.QueueHistory.{NamesOffer, IsQueueHistory, pull_event}
 use Rattle.clk_sched.specs.Log.{pulls, moment_of, counted}
 use Rattle.clk_sched.specs.Run.{IsRun}
+use Rattle.clk_sched.specs.Results.{asks_queue}
 use Rattle.clk_sched.specs.Session.{latest_moment}
 use Rattle.clickpull.specs.declared.setup.QueueSpec.{QueueSpec}
-use Rattle.clickpull.specs.Meaning.{Setup, Event, offered, pulled, number_from, numbers_of, visits_in, pull_in, moment_in, log_of, history, NamesItsOffer, CanHappen}
+use Rattle.clickpull.specs.Meaning.{Setup, Event, offered, pulled, number_from, numbers_of, visits_in, pull_in, moment_in, log_of, at_queue, history, NamesItsOffer, CanHappen, pulls_from}
 
 -- the numbers from 0 on, and the next
 range-more : (n : ℕ) → range_with_len 0 (n + 1) ≡ range_with_len 0 n ++ n ∷ []
@@ -71,6 +72,11 @@ counted-more : (before : ℕ) (moments : List ℕ) (moment : ℕ) → counted be
 counted-more before [] moment = refl
 counted-more before (m ∷ moments) moment = λ i. max before m ∷ counted-more (max before m) moments moment i
 
+-- the greatest of some moments, and one more
+pub fold-more : (before : ℕ) (moments : List ℕ) (moment : ℕ) → fold max before (moments ++ moment ∷ []) ≡ max (fold max before moments) moment
+fold-more before [] moment = refl
+fold-more before (m ∷ moments) moment = fold-more (max before m) moments moment
+
 -- the last of some moments, and `before` where there is none
 abbrev latest_from : ℕ → List (List Visit) → ℕ
 latest_from before [] = before
@@ -93,7 +99,7 @@ latest-counted (p ∷ ps) before (m ∷ ms) e =
     first d (y ∷ ys) = y
 
 -- the latest moment of a run is the greatest that was handed in
-latest-moment : (setup : Setup) (events : List Event) → CanHappen setup events → latest_moment (reverse (pulls (log_of events))) ≡ fold max 0 (filter_map moment_in events)
+pub latest-moment : (setup : Setup) (events : List Event) → CanHappen setup events → latest_moment (reverse (pulls (log_of events))) ≡ fold max 0 (filter_map moment_in events)
 latest-moment setup events can =
     ap (λ ps. latest_moment (reverse ps)) can.pull_by_pull ∙ ap latest_moment (sym (append-nil (reverse (filter_map pull_in events))))
     ∙ sym (latest-onto (filter_map pull_in events) []) ∙ latest-counted (filter_map pull_in events) 0 (filter_map moment_in events) can.moments
@@ -120,3 +126,75 @@ CanHappen-pull setup events moment visits can run last at_moment histories =
       refusals = all-join NamesItsOffer events (pulled moment visits ∷ []) can.refusals (tt, tt);
       histories = histories;
     }
+
+-- pulls one tick apart: their moments, their visits, and that they offer nothing
+pub pulls-moments : (t : ℕ) (more : List (List Visit)) → filter_map moment_in (pulls_from t more) ≡ range_with_len t (length more)
+pulls-moments t [] = refl
+pulls-moments t (visits ∷ more) = ap (λ l. t ∷ l) (pulls-moments (t + 1) more)
+
+pub pulls-visits : (t : ℕ) (more : List (List Visit)) → filter_map pull_in (pulls_from t more) ≡ more
+pulls-visits t [] = refl
+pulls-visits t (visits ∷ more) = ap (λ l. visits ∷ l) (pulls-visits (t + 1) more)
+
+pub pulls-log : (t : ℕ) (more : List (List Visit)) → log_of (pulls_from t more) ≡ flat_map (λ pull. pull) more
+pulls-log t [] = refl
+pulls-log t (visits ∷ more) = ap (λ l. visits ++ l) (pulls-log (t + 1) more)
+
+-- what pulls have nothing of adds nothing to some events
+pulls-none : {X : Type 0} (f : Event → Option X) → ((t : ℕ) (visits : List Visit) → f (pulled t visits) ≡ None) → (t : ℕ) (more : List (List Visit)) → filter_map f (pulls_from t more) ≡ []
+pulls-none f none t [] = refl
+pulls-none f none t (visits ∷ more) = rw none (pulls-none f none (t + 1) more)
+
+pub pulls-add_none : {X : Type 0} (f : Event → Option X) → ((t : ℕ) (visits : List Visit) → f (pulled t visits) ≡ None) → (events : List Event) (t : ℕ) (more : List (List Visit))
+    → filter_map f (events ++ pulls_from t more) ≡ filter_map f events
+pulls-add_none f none events t more = filter_map-append f events (pulls_from t more) ∙ ap (λ l. filter_map f events ++ l) (pulls-none f none t more) ∙ append-nil (filter_map f events)
+
+-- what they are to a queue: what one pull with all their visits is
+pub pulls-history : (setup : Setup) (q moment t : ℕ) (more : List (List Visit)) → history setup q (pulls_from t more) ≡ at_queue setup q (pulled moment (flat_map (λ pull. pull) more))
+pulls-history setup q moment t [] = refl
+pulls-history setup q moment t (visits ∷ more) =
+    ap (λ l. at_queue setup q (pulled t visits) ++ l) (pulls-history setup q moment (t + 1) more)
+    ∙ sym (flat_map-append (λ (v : Visit). if asks_queue setup.tree q v then pull_event v.got ∷ [] else []) visits (flat_map (λ pull. pull) more))
+
+-- counted moments of two lists, and those of a range that lies above what came before
+counted-append : (before : ℕ) (ms ks : List ℕ) → counted before (ms ++ ks) ≡ counted before ms ++ counted (fold max before ms) ks
+counted-append before [] ks = refl
+counted-append before (m ∷ ms) ks = ap (λ l. max before m ∷ l) (counted-append (max before m) ms ks)
+
+counted-range : (before t n : ℕ) → before ≤ t → counted before (range_with_len t n) ≡ range_with_len t n
+counted-range before t zero above = refl
+counted-range before t (suc n) above =
+    let greater : max before t ≡ t = omega (arith, above) in
+    ap₂ (λ m l. m ∷ l) greater (ap (λ b. counted b (range_with_len (t + 1) n)) greater ∙ counted-range t (t + 1) n (omega arith))
+
+-- pulls one tick apart lead on
+pub CanHappen-pulls : (setup : Setup) (events : List Event) (t : ℕ) (more : List (List Visit)) → CanHappen setup events → fold max 0 (filter_map moment_in events) ≤ t
+    → IsRun setup.tree (log_of events ++ flat_map (λ pull. pull) more) → pulls (log_of events ++ flat_map (λ pull. pull) more) ≡ pulls (log_of events) ++ more
+    → map moment_of more ≡ range_with_len t (length more)
+    → ((q : ℕ) → MatchOption (slice_get setup.queues q) ⊤ (λ (spec : QueueSpec). IsQueueHistory spec.kind spec.capacity (history setup q (events ++ pulls_from t more))))
+    → CanHappen setup (events ++ pulls_from t more)
+CanHappen-pulls setup events t more can above run last at_moments histories =
+    record {
+      numbered = λ s. rw (pulls-add_none (number_from s) (λ n visits. refl) events t more) (can.numbered s);
+      run = rw log run;
+      pull_by_pull = rw (log, turns) (last ∙ ap (λ ps. ps ++ more) can.pull_by_pull);
+      moments = rw turns moments;
+      refusals = all-join NamesItsOffer events (pulls_from t more) can.refusals (named t more);
+      histories = histories;
+    }
+  where
+    log : log_of (events ++ pulls_from t more) ≡ log_of events ++ flat_map (λ pull. pull) more
+    log = flat_map-append visits_in events (pulls_from t more) ∙ ap (λ l. log_of events ++ l) (pulls-log t more)
+
+    turns : filter_map pull_in (events ++ pulls_from t more) ≡ filter_map pull_in events ++ more
+    turns = filter_map-append pull_in events (pulls_from t more) ∙ ap (λ l. filter_map pull_in events ++ l) (pulls-visits t more)
+
+    moments : map moment_of (filter_map pull_in events ++ more) ≡ counted 0 (filter_map moment_in (events ++ pulls_from t more))
+    moments =
+        map-append moment_of (filter_map pull_in events) more ∙ ap₂ (λ k l. k ++ l) can.moments (at_moments ∙ sym (counted-range (fold max 0 (filter_map moment_in events)) t (length more) above))
+        ∙ sym (counted-append 0 (filter_map moment_in events) (range_with_len t (length more)))
+        ∙ ap (counted 0) (sym (filter_map-append moment_in events (pulls_from t more) ∙ ap (λ l. filter_map moment_in events ++ l) (pulls-moments t more)))
+
+    named : (n : ℕ) (ps : List (List Visit)) → AllByRecursion NamesItsOffer (pulls_from n ps)
+    named n [] = tt
+    named n (visits ∷ ps) = (tt, named (n + 1) ps)

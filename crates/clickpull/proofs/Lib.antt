@@ -2,11 +2,14 @@
 pub mod FieldLemmas
 pub mod NumberLemmas
 pub mod LineLemmas
+pub mod Alike
 pub mod EventLemmas
+pub mod SenderLemmas
 pub mod RouterLemmas
+pub mod TotalLemmas
+pub mod ClosingLemmas
 pub mod PlaceLemmas
 pub mod AnswerLemmas
-pub mod Alike
 pub mod OneMeaning
 pub mod BytesLemmas
 pub mod ScriptLemmas

@@ -1,11 +1,11 @@
 -- What the fields of a line say, by their places.
-use Rattle.std.proofs.Common.{◌≡◌, ℕ, ◌<◌, true, suc, List, [], ◌∷◌, length, drop, codes, Some, refl, ap, ◌∙◌, arith}
+use Rattle.std.proofs.Common.{◌≡◌, ℕ, ◌<◌, true, suc, List, [], ◌∷◌, length, drop, codes, Some, None, refl, ap, ◌∙◌, arith}
 use Rattle.std.specs.List.{AllByRecursion, filter, slice_split}
 use Rattle.std.proofs.lemmas.Bool.{false≢true}
 use Rattle.clickpull.specs.declared.script.Line.TheVariants as line
 use Rattle.clk_packet.specs.Limits.{most_sender, most_length}
-use Rattle.clickpull.specs.declared.script.Command.TheVariants.{Send, Pull}
-use Rattle.clickpull.specs.Script.{is_blank, has_bytes, fields, number_in, line_of_fields, most_moment}
+use Rattle.clickpull.specs.declared.script.Command.TheVariants.{Send}
+use Rattle.clickpull.specs.Script.{is_blank, has_bytes, fields, number_in, only_moment, line_of_fields, most_moment}
 use Rattle.clickpull.specs.Fields.{field_at}
 
 pub record HaveBytes (all : List (List ℕ)) : Type 0 where
@@ -38,13 +38,22 @@ pub line-word : (all rest : List (List ℕ)) (word : List ℕ) → 0 < length wo
 line-word [] rest word some e f = absurd (let none = ap length e in omega arith)
 line-word (first ∷ more) rest word some e f = ap line_of_fields (ap (λ w. w ∷ rest) e ∙ ap (λ r. first ∷ r) f)
 
--- `pull` and one number
-pub line-pull : (all : List (List ℕ)) (moment : ℕ) → HaveBytes all → number_in 0 most_moment (field_at all 0) ≡ Some moment → length (field_at all 1) ≡ 0
-    → line_of_fields (codes "pull" ∷ all) ≡ line.Command (Pull moment)
-line-pull [] m h e none = absurd (cc e)
-line-pull (moment ∷ []) m h e none = rw e refl
-line-pull (moment ∷ [] ∷ more) m h e none = absurd (false≢true h.each.1.0)
-line-pull (moment ∷ (byte ∷ bytes) ∷ more) m h e none = absurd (omega arith)
+-- one number alone, none, and more than one field
+pub moment-alone : (all : List (List ℕ)) (moment : ℕ) → HaveBytes all → number_in 0 most_moment (field_at all 0) ≡ Some moment → length (field_at all 1) ≡ 0 → only_moment all ≡ Some moment
+moment-alone [] m h e none = absurd (cc e)
+moment-alone (moment ∷ []) m h e none = e
+moment-alone (moment ∷ [] ∷ more) m h e none = absurd (false≢true h.each.1.0)
+moment-alone (moment ∷ (byte ∷ bytes) ∷ more) m h e none = absurd (omega arith)
+
+pub moment-none : (all : List (List ℕ)) → number_in 0 most_moment (field_at all 0) ≡ None → only_moment all ≡ None
+moment-none [] e = refl
+moment-none (moment ∷ []) e = e
+moment-none (moment ∷ next ∷ more) e = refl
+
+pub moment-more : (all : List (List ℕ)) → 0 < length (field_at all 1) → only_moment all ≡ None
+moment-more [] some = refl
+moment-more (moment ∷ []) some = absurd (omega arith)
+moment-more (moment ∷ next ∷ more) some = refl
 
 -- `send` and two numbers
 pub line-send : (all : List (List ℕ)) (sender size : ℕ) → HaveBytes all → number_in 0 most_sender (field_at all 0) ≡ Some sender → number_in 1 most_length (field_at all 1) ≡ Some size

@@ -1,8 +1,8 @@
 -- A script has at most one meaning: what its commands make happen follows, one after another.
-use Rattle.std.proofs.Common.{◌≡◌, ℕ, ◌==◌, ◌&&◌, ◌||◌, suc, Bool, true, false, List, [], ◌∷◌, ◌++◌, length, map, max, fold, if◌then◌else◌, Option, Some, None, IsSome, IfSome, MatchOption, slice_get, refl, sym, ap, ap₂, ◌∙◌, subst, zero-add, arith}
+use Rattle.std.proofs.Common.{◌≡◌, ℕ, ◌+◌, ◌≤◌, ◌==◌, ◌&&◌, ◌||◌, suc, is_some, Bool, true, false, List, [], ◌∷◌, ◌++◌, length, map, max, fold, if◌then◌else◌, Option, Some, None, IsSome, IfSome, MatchOption, slice_get, refl, sym, ap, ap₂, ◌∙◌, subst, zero-add, arith}
 use Rattle.std.specs.Bool.{⊤}
 use Rattle.std.specs.Option.{option_or}
-use Rattle.std.specs.List.{flat_map, filter_map, range_with_len, AllByRecursion, list_any}
+use Rattle.std.specs.List.{flat_map, filter_map, cons_option, range_with_len, AllByRecursion, list_any}
 use Rattle.std.proofs.lemmas.Bool.{false≢true}
 use Rattle.std.proofs.lemmas.Bool.Decides.{nat_tests}
 use Rattle.std.proofs.lemmas.List.{append_assoc, map-append}
@@ -14,22 +14,20 @@ use Rattle.clk_ring.specs.QueueHistory.{IsQueueHistory, offer_events, pull_event
 use Rattle.clk_ring.specs.Laws.{HistoriesLeaveNoChoice}
 use Rattle.clk_sched.specs.declared.visit.Visit.{Visit}
 use Rattle.clk_sched.specs.Tree.{queue_at, is_number}
-use Rattle.clk_sched.specs.Log.{moment_of, counted}
+use Rattle.clk_sched.specs.Log.{visits_of, moment_of, result_of, counted}
+use Rattle.clk_sched.specs.Session.{given_in, LastGives}
 use Rattle.clk_sched.specs.Results.{asks_queue}
 use Rattle.clk_sched.specs.Choice.{answers_of, GoAlike, PullsLeaveNoChoice}
 use Rattle.clickpull.specs.declared.setup.QueueSpec.{QueueSpec}
 use Rattle.clickpull.specs.declared.setup.SenderSpec.{SenderSpec}
-use Rattle.clickpull.specs.Meaning.{Setup, sender_numbers, Event, offered, pulled, command_of, number_from, numbers_of, pull_in, moment_in, log_of, sends_to, at_queue, history, NamesItsOffer, event_text, CanHappen}
+use Rattle.clickpull.specs.Meaning.{Setup, sender_numbers, Event, offered, pulled, command_of, number_from, numbers_of, pull_in, moment_in, log_of, sends_to, at_queue, history, NamesItsOffer, event_text, CanHappen, pulls_from, closing_pulls, closing_text, IsClosed, ending_text, Writes}
+use Rattle.clickpull.specs.declared.script.Command.{Command}
+use Rattle.clickpull.specs.Script.{commands_of, closing_moment}
 use Rattle.clickpull.specs.Builtin.{builtin}
 use Rattle.clickpull.specs.Router.{IsSound}
 use Rattle.clickpull.specs.OneMeaning.{IsWired, HasAtMostOneMeaning}
-use Rattle.clickpull.proofs.Alike.{packet-same, pulls-alike, moment-counted, number-at}
+use Rattle.clickpull.proofs.Alike.{member-between, packet-same, pulls-alike, its-moment, number-at}
 use Rattle.clickpull.proofs.ScriptLemmas.{each-command-sound}
-
--- what holds of each member of two lists joined holds of a member between them
-member-between : {X : Type 0} (P : X → Type 0) (xs : List X) (x : X) (ys : List X) → AllByRecursion P (xs ++ x ∷ ys) → P x
-member-between P [] x ys h = h.0
-member-between P (z ∷ xs) x ys h = member-between P xs x ys h.1
 
 -- a sender's packet has the number that is next
 next-number : (s : ℕ) (done : List Event) (p : Packet) (outcome : Offered) (more : List Event) (n : ℕ) → p.sender ≡ s
@@ -144,20 +142,7 @@ queue-alike setup wired law done m k v u more rest a b q = by_spec (slice_get se
         (subst (λ es. IsQueueHistory spec.kind spec.capacity (history setup q done ++ (es ++ history setup q more))) (pulled-events setup q m v) (its-history setup q spec done (pulled m v) more e a))
         (subst (λ es. IsQueueHistory spec.kind spec.capacity (history setup q done ++ (es ++ history setup q rest))) (pulled-events setup q k u) (its-history setup q spec done (pulled k u) rest e b))
 
--- as many moments were handed in as there were pulls
-moments-count : (events : List Event) → length (map moment_of (filter_map pull_in events)) ≡ length (filter_map moment_in events)
-moments-count [] = refl
-moments-count (offered p outcome ∷ events) = moments-count events
-moments-count (pulled m v ∷ events) = ap suc (moments-count events)
-
--- the counted moment of a pull between others
-its-moment : (setup : Setup) (done : List Event) (m : ℕ) (v : List Visit) (more : List Event) → CanHappen setup (done ++ pulled m v ∷ more)
-    → moment_of v ≡ max (fold max 0 (filter_map moment_in done)) m
-its-moment setup done m v more can =
-    moment-counted 0 (map moment_of (filter_map pull_in done)) (moment_of v) (map moment_of (filter_map pull_in more)) (filter_map moment_in done) m (filter_map moment_in more) (moments-count done)
-    (sym (ap (map moment_of) (filter_map-append pull_in done (pulled m v ∷ more)) ∙ map-append moment_of (filter_map pull_in done) (v ∷ filter_map pull_in more)) ∙ can.moments
-    ∙ ap (counted 0) (filter_map-append moment_in done (pulled m v ∷ more)))
-
+-- and so do two pulls
 same-visits : (setup : Setup) → IsWired setup → HistoriesLeaveNoChoice → PullsLeaveNoChoice setup.tree → (done : List Event) (m k : ℕ) (v u : List Visit) (more rest : List Event) → m ≡ k
     → CanHappen setup (done ++ pulled m v ∷ more) → CanHappen setup (done ++ pulled k u ∷ rest) → v ≡ u
 same-visits setup wired law runs done m k v u more rest same a b =
@@ -182,25 +167,85 @@ same-event setup wired law runs done (pulled m v) (pulled k u) more rest a b sam
     let moment : m ≡ k = cc in
     ap₂ pulled moment (same-visits setup wired law runs done m k v u more rest moment a b)
 
-same-events : (setup : Setup) → IsWired setup → HistoriesLeaveNoChoice → PullsLeaveNoChoice setup.tree → (done es fs : List Event) → CanHappen setup (done ++ es) → CanHappen setup (done ++ fs)
+-- the same commands make the same events happen, whatever follows
+same-events : (setup : Setup) → IsWired setup → HistoriesLeaveNoChoice → PullsLeaveNoChoice setup.tree → (done es fs more rest : List Event) → CanHappen setup (done ++ (es ++ more)) → CanHappen setup (done ++ (fs ++ rest))
     → map command_of es ≡ map command_of fs → AllByRecursion (IsSound (sender_numbers setup)) (map command_of es) → es ≡ fs
-same-events setup wired law runs done [] [] a b same sound = refl
-same-events setup wired law runs done [] (f ∷ fs) a b same sound = absurd (omega (arith, ap length same))
-same-events setup wired law runs done (e ∷ es) [] a b same sound = absurd (omega (arith, ap length same))
-same-events setup wired law runs done (e ∷ es) (f ∷ fs) a b same sound =
+same-events setup wired law runs done [] [] more rest a b same sound = refl
+same-events setup wired law runs done [] (f ∷ fs) more rest a b same sound = absurd (omega (arith, ap length same))
+same-events setup wired law runs done (e ∷ es) [] more rest a b same sound = absurd (omega (arith, ap length same))
+same-events setup wired law runs done (e ∷ es) (f ∷ fs) more rest a b same sound =
     let heads : command_of e ≡ command_of f = cc in
     let tails : map command_of es ≡ map command_of fs = cc in
-    let first : e ≡ f = same-event setup wired law runs done e f es fs a b heads sound.0 in
+    let first : e ≡ f = same-event setup wired law runs done e f (es ++ more) (fs ++ rest) a b heads sound.0 in
     ap₂ (λ x xs. x ∷ xs) first
-    (same-events setup wired law runs (done ++ e ∷ []) es fs (rw append_assoc a) (rw append_assoc (subst (λ x. CanHappen setup (done ++ x ∷ fs)) (sym first) b)) tails sound.1)
+    (same-events setup wired law runs (done ++ e ∷ []) es fs more rest (rw append_assoc a) (rw append_assoc (subst (λ x. CanHappen setup (done ++ x ∷ (fs ++ rest))) (sym first) b)) tails sound.1)
+
+-- a drain that is not over gives a packet more
+gives-more : (pull : List Visit) (more : List (List Visit)) → LastGives (pull ∷ more) → 1 ≤ length (given_in (pull ∷ more))
+gives-more pull [] gives = by_result (result_of (visits_of 0 pull)) gives
+  where
+    by_result : (o : Option Packet) → is_some o ≡ true → 1 ≤ length (cons_option o [])
+    by_result None e = absurd (false≢true e)
+    by_result (Some p) e = omega arith
+gives-more pull (next ∷ more) gives = by_result (result_of (visits_of 0 pull)) (gives-more next more gives)
+  where
+    by_result : (o : Option Packet) → 1 ≤ length (given_in (next ∷ more)) → 1 ≤ length (cons_option o (given_in (next ∷ more)))
+    by_result None h = h
+    by_result (Some p) h = omega arith
+
+gives-later : (pull : List Visit) (more : List (List Visit)) → LastGives (pull ∷ more) → LastGives more
+gives-later pull [] gives = tt
+gives-later pull (next ∷ more) gives = gives
+
+-- what is given after a first pull
+given-later : (o : Option Packet) (xs ys : List Packet) → length (cons_option o xs) ≡ length (cons_option o ys) → length xs ≡ length ys
+given-later None xs ys e = e
+given-later (Some p) xs ys e = omega (arith, e)
+
+-- closings after the same events that give as many packets are the same
+same-closing : (setup : Setup) → IsWired setup → HistoriesLeaveNoChoice → PullsLeaveNoChoice setup.tree → (done : List Event) (t : ℕ) (one other : List (List Visit)) → CanHappen setup (done ++ pulls_from t one)
+    → CanHappen setup (done ++ pulls_from t other) → length (given_in one) ≡ length (given_in other) → LastGives one → LastGives other → one ≡ other
+same-closing setup wired law runs done t [] [] a b given stops ends = refl
+same-closing setup wired law runs done t [] (u ∷ other) a b given stops ends = absurd (omega (arith, given, gives-more u other ends))
+same-closing setup wired law runs done t (v ∷ one) [] a b given stops ends = absurd (omega (arith, given, gives-more v one stops))
+same-closing setup wired law runs done t (v ∷ one) (u ∷ other) a b given stops ends =
+    let first : v ≡ u = same-visits setup wired law runs done t t v u (pulls_from (t + 1) one) (pulls_from (t + 1) other) refl a b in
+    ap₂ (λ x xs. x ∷ xs) first
+    (same-closing setup wired law runs (done ++ pulled t v ∷ []) (t + 1) one other (rw append_assoc a) (rw append_assoc (subst (λ x. CanHappen setup (done ++ pulled t x ∷ pulls_from (t + 1) other)) (sym first) b))
+    (given-later (result_of (visits_of 0 v)) (given_in one) (given_in other) (given ∙ ap (λ x. length (given_in (x ∷ other))) (sym first))) (gives-later v one stops) (gives-later u other ends))
+
+-- so are the closings of two writings of the same commands
+same-closed : (setup : Setup) → IsWired setup → HistoriesLeaveNoChoice → PullsLeaveNoChoice setup.tree → (drain : Option ℕ) (events one other : List Event) → IsClosed drain events one → IsClosed drain events other
+    → CanHappen setup (events ++ one) → CanHappen setup (events ++ other) → one ≡ other
+same-closed setup wired law runs None events one other a b can happens = a ∙ sym b
+same-closed setup wired law runs (Some moment) events one other a b can happens =
+    a.are
+    ∙ ap (closing_pulls moment events)
+    (same-closing setup wired law runs events (max (fold max 0 (filter_map moment_in events)) moment + 1) a.closing b.closing (subst (λ l. CanHappen setup (events ++ l)) a.are can) (subst (λ l. CanHappen setup (events ++ l)) b.are happens)
+    (a.all ∙ sym b.all) a.stops b.stops)
+    ∙ sym b.are
+
+same-writing : (setup : Setup) → IsWired setup → HistoriesLeaveNoChoice → PullsLeaveNoChoice setup.tree → (commands : List Command) → AllByRecursion (IsSound (sender_numbers setup)) commands
+    → (drain : Option ℕ) (one other : List ℕ) → Writes setup commands drain one → Writes setup commands drain other → one ≡ other
+same-writing setup wired law runs commands sound drain one other a b =
+    a.lines ∙ ap₂ text events closed ∙ sym b.lines
+  where
+    text : List Event → List Event → List ℕ
+    text es cs = flat_map event_text es ++ (flat_map closing_text cs ++ ending_text setup drain (es ++ cs))
+
+    events : a.events ≡ b.events
+    events =
+        same-events setup wired law runs [] a.events b.events a.closed b.closed a.can_happen b.can_happen (a.theirs ∙ sym b.theirs)
+        (subst (AllByRecursion (IsSound (sender_numbers setup))) (sym a.theirs) sound)
+
+    closed : a.closed ≡ b.closed
+    closed =
+        same-closed setup wired law runs drain a.events a.closed b.closed a.closes (subst (λ es. IsClosed drain es b.closed) (sym events) b.closes) a.can_happen
+        (subst (λ es. CanHappen setup (es ++ b.closed)) (sym events) b.can_happen)
 
 pub has-one_meaning : (setup : Setup) → IsWired setup → HistoriesLeaveNoChoice → PullsLeaveNoChoice setup.tree → HasAtMostOneMeaning setup
 has-one_meaning setup wired law runs script one other a b =
-    a.written.lines
-    ∙ ap (flat_map event_text)
-    (same-events setup wired law runs [] a.written.events b.written.events a.written.can_happen b.written.can_happen (a.written.theirs ∙ sym b.written.theirs)
-    (subst (AllByRecursion (IsSound (sender_numbers setup))) (sym a.written.theirs) (each-command-sound (sender_numbers setup) script a.sound)))
-    ∙ sym b.written.lines
+    same-writing setup wired law runs (commands_of script) (each-command-sound (sender_numbers setup) script a.sound) (closing_moment script) one other a.written b.written
 
 -- the queues of the built-in router are there
 pub builtin-wired : IsWired builtin

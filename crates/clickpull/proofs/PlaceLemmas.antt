@@ -14,7 +14,7 @@ use Rattle.clickpull.specs.Router.{number_of, IsNumber, IsPlaceOf}
 
 -- a sender that isn't there
 abbrev nobody : Sender
-nobody = record { number = 0; queue = 0; sent = 0 }
+nobody = record { number = 0; queue = 0; sent = 0; accepted = []; refused = [] }
 
 abbrev number_at : List Sender → ℕ → ℕ
 number_at senders i = number_of (get_or senders i nobody)

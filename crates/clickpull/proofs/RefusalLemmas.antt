@@ -1,21 +1,21 @@
 -- How a script's meaning and its faults follow from those of its first bytes.
-use Rattle.std.proofs.Common.{◌+◌, ◌≡◌, ◌≢◌, ℕ, ◌==◌, Bool, true, false, nat_lt, List, [], ◌∷◌, length, take, slice_get, Option, Some, None, Ok, Err, refl, sym, ap, subst, ◌∙◌, ◌⊎◌, inl, inr, IfSome, arith}
+use Rattle.std.proofs.Common.{◌+◌, ◌≡◌, ◌≢◌, ℕ, ◌==◌, ◌||◌, Bool, true, false, nat_lt, List, [], ◌∷◌, length, take, Option, Some, None, Ok, Err, refl, sym, ap, subst, ◌∙◌, ◌⊎◌, inl, inr, IfSome, arith}
 use Rattle.std.specs.Bool.{⊤}
-use Rattle.std.specs.List.{filter_map, enumerate_from, list_any}
-use Rattle.std.specs.Str.Lines.{lines}
+use Rattle.std.specs.List.{list_any}
 use Rattle.std.proofs.lemmas.Bool.Decides.{nat_tests}
 use Rattle.std.proofs.lemmas.List.{take_all, length-take}
 use Rattle.clk_packet.specs.declared.fault.Fault.{Fault}
-use Rattle.clk_packet.specs.declared.fault.Fault.TheVariants.{Memory, UnknownSender, BadScript, TooLarge, Write}
+use Rattle.clk_packet.specs.declared.fault.Fault.TheVariants.{Memory, UnknownSender, BadScript, TooManyPulls, TooLarge, Write}
 use Rattle.clickpull.specs.declared.script.Command.{Command}
 use Rattle.clickpull.specs.declared.script.Command.TheVariants.{Send, Pull}
 use Rattle.clickpull.specs.declared.script.Line.{Line}
 use Rattle.clickpull.specs.declared.script.Line.TheVariants as line
-use Rattle.clickpull.specs.Script.{most_lines, line_of, command_fault, line_fault, fault_at, script_fault, commands_of, most_bytes}
+use Rattle.clickpull.specs.Script.{most_lines, command_fault, line_fault, fault_at, is_drain, first_fault, lines_of, script_fault, commands_of, closing_moment, most_bytes}
 use Rattle.clickpull.specs.Bytes.{read_failures, write_failures}
 use Rattle.clk_sched.specs.Tree.{queue, prio}
 use Rattle.clk_sched.specs.Built.{built}
-use Rattle.clickpull.specs.Meaning.{Setup, Writes, IsMeaning, Explains, sender_numbers}
+use Rattle.clickpull.specs.Meaning.{Setup, Writes, IsMeaning, CannotClose, Explains, sender_numbers}
+use Rattle.clickpull.specs.Router.{StopsScript}
 use Rattle.clickpull.specs.Builtin.{builtin}
 
 -- one byte past the limit is enough to tell what is wrong
@@ -41,7 +41,7 @@ whole senders all e = by_test (nat_lt most_bytes (length all)) refl
 
 -- the meaning over a setup of a script whose first bytes were read
 pub meaning-known : (over setup : Setup) → over ≡ setup → (known : Option (List ℕ)) (bytes text : List ℕ) (P : List ℕ → Type 0) → IfSome known (λ all. bytes ≡ take (most_bytes + 1) all)
-    → script_fault (sender_numbers over) bytes ≡ None → Writes over (commands_of bytes) text → P text → IfSome known (λ script. (t : List ℕ) × IsMeaning setup script t × P t)
+    → script_fault (sender_numbers over) bytes ≡ None → Writes over (commands_of bytes) (closing_moment bytes) text → P text → IfSome known (λ script. (t : List ℕ) × IsMeaning setup script t × P t)
 meaning-known over setup same None bytes text P is e w p = tt
 meaning-known over setup same (Some all) bytes text P is e w p =
     let here : script_fault (sender_numbers setup) bytes ≡ None = subst (λ (s : Setup). script_fault (sender_numbers s) bytes ≡ None) same e in
@@ -50,7 +50,7 @@ meaning-known over setup same (Some all) bytes text P is e w p =
       text,
       record {
         sound = sym (fault-cut (sender_numbers setup) all) ∙ sound;
-        written = subst (λ (script : List ℕ). Writes setup (commands_of script) text) all_of_it (subst (λ (s : Setup). Writes s (commands_of bytes) text) same w);
+        written = subst (λ (script : List ℕ). Writes setup (commands_of script) (closing_moment script) text) all_of_it (subst (λ (s : Setup). Writes s (commands_of bytes) (closing_moment bytes) text) same w);
       },
       p,
     )
@@ -70,24 +70,27 @@ of_command senders (Send sender size) = by_test (list_any (λ s. s == sender) se
     by_test true e = rw e tt
     by_test false e = rw e tt
 
-of_line : (senders : List ℕ) (number : ℕ) (l : Line) → IfSome (line_fault senders number l) IsOfScript
-of_line senders number line.Blank = tt
-of_line senders number line.Malformed = tt
-of_line senders number (line.Command command) = of_command senders command
+of_line : (senders : List ℕ) (drained : Bool) (number : ℕ) (l : Line) → IfSome (line_fault senders drained number l) IsOfScript
+of_line senders drained number line.Blank = tt
+of_line senders drained number line.Malformed = tt
+of_line senders true number (line.Command command) = tt
+of_line senders false number (line.Command command) = of_command senders command
+of_line senders true number (line.Drain moment) = tt
+of_line senders false number (line.Drain moment) = tt
 
-of_text : (senders : List ℕ) (text : ℕ × List ℕ) → IfSome (fault_at senders text) IsOfScript
-of_text senders text = by_test (nat_lt most_lines text.0) refl
+of_at : (senders : List ℕ) (drained : Bool) (number : ℕ) (l : Line) → IfSome (fault_at senders drained number l) IsOfScript
+of_at senders drained number l = by_test (nat_lt most_lines number) refl
   where
-    by_test : (b : Bool) → nat_lt most_lines text.0 ≡ b → IfSome (fault_at senders text) IsOfScript
+    by_test : (b : Bool) → nat_lt most_lines number ≡ b → IfSome (fault_at senders drained number l) IsOfScript
     by_test true e = rw e tt
-    by_test false e = rw e (of_line senders text.0 (line_of text.1))
+    by_test false e = rw e (of_line senders drained number l)
 
-of_first : (senders : List ℕ) (texts : List (ℕ × List ℕ)) → IfSome (slice_get (filter_map (fault_at senders) texts) 0) IsOfScript
-of_first senders [] = tt
-of_first senders (text ∷ texts) = by_fault (fault_at senders text) refl (of_text senders text) (of_first senders texts)
+of_first : (senders : List ℕ) (drained : Bool) (number : ℕ) (ls : List Line) → IfSome (first_fault senders drained number ls) IsOfScript
+of_first senders drained number [] = tt
+of_first senders drained number (l ∷ ls) = by_fault (fault_at senders drained number l) refl (of_at senders drained number l) (of_first senders (drained || is_drain l) (number + 1) ls)
   where
-    by_fault : (o : Option Fault) → fault_at senders text ≡ o → IfSome (fault_at senders text) IsOfScript → IfSome (slice_get (filter_map (fault_at senders) texts) 0) IsOfScript
-        → IfSome (slice_get (filter_map (fault_at senders) (text ∷ texts)) 0) IsOfScript
+    by_fault : (o : Option Fault) → fault_at senders drained number l ≡ o → IfSome (fault_at senders drained number l) IsOfScript → IfSome (first_fault senders (drained || is_drain l) (number + 1) ls) IsOfScript
+        → IfSome (first_fault senders drained number (l ∷ ls)) IsOfScript
     by_fault None e here rest = rw e rest
     by_fault (Some fault) e here rest = rw e (rw e at here)
 
@@ -96,11 +99,11 @@ of_script senders script = by_test (nat_lt most_bytes (length script)) refl
   where
     by_test : (b : Bool) → nat_lt most_bytes (length script) ≡ b → IfSome (script_fault senders script) IsOfScript
     by_test true e = rw e tt
-    by_test false e = rw e (of_first senders (enumerate_from 1 (lines script)))
+    by_test false e = rw e (of_first senders false 1 (lines_of script))
 
 -- what a refusal of the script's first bytes says
-pub record IsRefusal (senders : List ℕ) (known : Option (List ℕ)) (fault : Fault) : Type 0 where
-  pub explains : Explains senders known fault
+pub record IsRefusal (setup : Setup) (known : Option (List ℕ)) (fault : Fault) : Type 0 where
+  pub explains : Explains setup known fault
   pub reads : (n : ℕ) → read_failures (Err fault) n ≡ n
   pub writes : (n : ℕ) → write_failures (Err fault) n ≡ n
   pub not_write : fault ≢ Write
@@ -110,24 +113,38 @@ named : (senders : List ℕ) (known : Option (List ℕ)) (bytes : List ℕ) (fau
 named senders None bytes fault is e = tt
 named senders (Some all) bytes fault is e = sym (fault-cut senders all) ∙ ap (script_fault senders) (sym is) ∙ e
 
-by_kind : (senders : List ℕ) (known : Option (List ℕ)) (fault : Fault) → IsOfScript fault → IfSome known (λ all. script_fault senders all ≡ Some fault) → IsRefusal senders known fault
-by_kind senders known TooLarge kind h = record { explains = h; reads = λ n. refl; writes = λ n. refl; not_write = λ e. cc }
-by_kind senders known (BadScript number) kind h = record { explains = h; reads = λ n. refl; writes = λ n. refl; not_write = λ e. cc }
-by_kind senders known (UnknownSender sender) kind h = record { explains = h; reads = λ n. refl; writes = λ n. refl; not_write = λ e. cc }
-by_kind senders known fault kind h = absurd kind
+by_kind : (setup : Setup) (known : Option (List ℕ)) (fault : Fault) → IsOfScript fault → IfSome known (λ all. script_fault (sender_numbers setup) all ≡ Some fault) → IsRefusal setup known fault
+by_kind setup known TooLarge kind h = record { explains = h; reads = λ n. refl; writes = λ n. refl; not_write = λ e. cc }
+by_kind setup known (BadScript number) kind h = record { explains = h; reads = λ n. refl; writes = λ n. refl; not_write = λ e. cc }
+by_kind setup known (UnknownSender sender) kind h = record { explains = h; reads = λ n. refl; writes = λ n. refl; not_write = λ e. cc }
+by_kind setup known fault kind h = absurd kind
 
-refused-by : (senders : List ℕ) (known : Option (List ℕ)) (bytes : List ℕ) (fault : Fault) → IfSome known (λ all. bytes ≡ take (most_bytes + 1) all)
-    → (fault ≡ Memory) ⊎ (script_fault senders bytes ≡ Some fault) → IsRefusal senders known fault
-refused-by senders known bytes fault is (inl e) =
-    subst (λ (f : Fault). IsRefusal senders known f) (sym e) (record { explains = tt; reads = λ n. refl; writes = λ n. refl; not_write = λ d. cc })
-refused-by senders known bytes fault is (inr e) =
-    let kind : IsOfScript fault = rw e at (of_script senders bytes) in
-    by_kind senders known fault kind (named senders known bytes fault is e)
+-- a drain that stops short is the whole script's
+closes_short : (setup : Setup) (known : Option (List ℕ)) (bytes : List ℕ) (made : ℕ) → IfSome known (λ all. bytes ≡ take (most_bytes + 1) all) → CannotClose setup bytes made
+    → IfSome known (λ all. CannotClose setup all made)
+closes_short setup None bytes made is short = tt
+closes_short setup (Some all) bytes made is short =
+    let sound : script_fault (sender_numbers setup) (take (most_bytes + 1) all) ≡ None = ap (script_fault (sender_numbers setup)) (sym is) ∙ short.sound in
+    subst (λ (script : List ℕ). CannotClose setup script made) (is ∙ whole (sender_numbers setup) all sound) short
+
+by_stop : (setup : Setup) (known : Option (List ℕ)) (bytes : List ℕ) (fault : Fault) → IfSome known (λ all. bytes ≡ take (most_bytes + 1) all) → StopsScript setup bytes fault → IsRefusal setup known fault
+by_stop setup known bytes (TooManyPulls made) is short = record { explains = closes_short setup known bytes made is short; reads = λ n. refl; writes = λ n. refl; not_write = λ e. cc }
+by_stop setup known bytes fault is short = absurd short
+
+-- why the answer to a script is refused
+abbrev Refuses : Setup → List ℕ → Fault → Type 0
+Refuses setup bytes fault = (fault ≡ Memory) ⊎ (script_fault (sender_numbers setup) bytes ≡ Some fault) ⊎ StopsScript setup bytes fault
+
+refused-by : (setup : Setup) (known : Option (List ℕ)) (bytes : List ℕ) (fault : Fault) → IfSome known (λ all. bytes ≡ take (most_bytes + 1) all) → Refuses setup bytes fault → IsRefusal setup known fault
+refused-by setup known bytes fault is (inl e) = subst (λ (f : Fault). IsRefusal setup known f) (sym e) (record { explains = tt; reads = λ n. refl; writes = λ n. refl; not_write = λ d. cc })
+refused-by setup known bytes fault is (inr (inl e)) =
+    let kind : IsOfScript fault = rw e at (of_script (sender_numbers setup) bytes) in
+    by_kind setup known fault kind (named (sender_numbers setup) known bytes fault is e)
+refused-by setup known bytes fault is (inr (inr short)) = by_stop setup known bytes fault is short
 
 pub IsRefusal-script : (over setup : Setup) → over ≡ setup → (known : Option (List ℕ)) (bytes : List ℕ) (fault : Fault) → IfSome known (λ all. bytes ≡ take (most_bytes + 1) all)
-    → (fault ≡ Memory) ⊎ (script_fault (sender_numbers over) bytes ≡ Some fault) → IsRefusal (sender_numbers setup) known fault
-IsRefusal-script over setup same known bytes fault is why =
-    refused-by (sender_numbers setup) known bytes fault is (subst (λ (s : Setup). (fault ≡ Memory) ⊎ (script_fault (sender_numbers s) bytes ≡ Some fault)) same why)
+    → Refuses over bytes fault → IsRefusal setup known fault
+IsRefusal-script over setup same known bytes fault is why = refused-by setup known bytes fault is (subst (λ (s : Setup). Refuses s bytes fault) same why)
 
 -- the built-in tree as it is built
 pub tree-built : built prio (queue 0 ∷ queue 1 ∷ []) ≡ Ok builtin.tree

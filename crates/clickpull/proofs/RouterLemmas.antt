@@ -2,7 +2,7 @@
 use Rattle.std.proofs.Common.{◌≡◌, ℕ, ◌+◌, ◌<◌, ◌==◌, ◌&&◌, ◌||◌, zero, suc, Bool, true, false, List, [], ◌∷◌, ◌++◌, length, map, reverse, max, set, if◌then◌else◌, Option, Some, None, Result, Ok, Err, IfOk, OnOk, MatchOption, slice_get, refl, sym, ap, ap₂, ◌∙◌, subst, arith}
 use Rattle.std.specs.Bool.{⊤}
 use Rattle.std.specs.Option.{option_map}
-use Rattle.std.specs.List.{AllByRecursion}
+use Rattle.std.specs.List.{AllByRecursion, filter_map, flat_map, cons_option}
 use Rattle.std.proofs.lemmas.List.{append_assoc, append-nil, length-append}
 use Rattle.std.proofs.lemmas.List.Concat.{flat_map-append}
 use Rattle.std.proofs.lemmas.List.Elements.{filter_map-append}
@@ -26,9 +26,10 @@ use Rattle.clickpull.specs.declared.setup.SenderSpec.{SenderSpec}
 use Rattle.clickpull.specs.declared.senders.Sender.{Sender}
 use Rattle.clickpull.specs.declared.queues.Queues.{Queues}
 use Rattle.clickpull.specs.declared.router.Router.{Router}
-use Rattle.clickpull.specs.Meaning.{Setup, setup_of, sender_numbers, Event, offered, pulled, number_from, numbers_of, visits_in, log_of, sends_to, at_queue, history, AreRising}
-use Rattle.clickpull.specs.Router.{queue_made, queue_spec, sender_made, sender_spec, sent_one_more, spec_number, number_of, numbers_in, OffersTo, PullsFrom, OffersAt, GivesAt, AreQueuesAt, sender_after, IsAt, Starts, LeadsOnByPull}
+use Rattle.clickpull.specs.Meaning.{Setup, setup_of, sender_numbers, Event, offered, pulled, numbers_of, accepted_in, evicted_in, visits_in, log_of, sends_to, at_queue, history, AreRising}
+use Rattle.clickpull.specs.Router.{queue_made, queue_spec, sender_made, sender_spec, sent_one_more, noted, spec_number, numbers_in, OffersTo, PullsFrom, OffersAt, GivesAt, AreQueuesAt, IsAt, Starts, Counts, LeadsOnByPull}
 use Rattle.clickpull.proofs.EventLemmas.{CanHappen-offer, CanHappen-pull, log-pulled}
+use Rattle.clickpull.proofs.SenderLemmas.{senders-pulled, senders-sent, sends-its, numbers-its, IsSpecAt, spec-at}
 
 -- what happened to a queue, and one event more
 history-with : (setup : Setup) (q : ℕ) (events : List Event) (e : Event) → history setup q (events ++ e ∷ []) ≡ history setup q events ++ at_queue setup q e
@@ -77,18 +78,18 @@ at-pulled calls events (Some spec) (Some old) (Some new) got is h =
     record { leads = calls.pulled events old new got is.leads h; kind = keeps.0 ∙ is.kind; capacity = keeps.1 ∙ is.capacity }
 
 -- what a queue has been through, as the setup says it
-its-history : (events : List QueueEvent) (spec : Option QueueSpec) (q : Option Queue) → AreQueuesAt events spec q → MatchOption spec ⊤ (λ (s : QueueSpec). IsQueueHistory s.kind s.capacity events)
+pub its-history : (events : List QueueEvent) (spec : Option QueueSpec) (q : Option Queue) → AreQueuesAt events spec q → MatchOption spec ⊤ (λ (s : QueueSpec). IsQueueHistory s.kind s.capacity events)
 its-history events None q is = tt
 its-history events (Some spec) None is = absurd is
 its-history events (Some spec) (Some q) is = subst (λ k. IsQueueHistory k spec.capacity events) is.kind (subst (λ n. IsQueueHistory q.kind n events) is.capacity is.leads.whole)
 
 -- these histories lead to these queues, which are those of a setup
-record StandAt (setup : Setup) (events : ℕ → List QueueEvent) (queues : List Queue) : Type 0 where
-  each : (q : ℕ) → AreQueuesAt (events q) (slice_get setup.queues q) (slice_get queues q)
-  count : length queues ≡ length setup.queues
+pub record StandAt (setup : Setup) (events : ℕ → List QueueEvent) (queues : List Queue) : Type 0 where
+  pub each : (q : ℕ) → AreQueuesAt (events q) (slice_get setup.queues q) (slice_get queues q)
+  pub count : length queues ≡ length setup.queues
 
 -- which answers queues may give
-abbrev gives : Queues → ℕ → Option Packet → Queues → Type 0
+abbrev pub gives : Queues → ℕ → Option Packet → Queues → Type 0
 gives old leaf got new = GivesAt old.rings.items leaf got new.rings.items
 
 -- what a visit is to a queue
@@ -134,7 +135,7 @@ visit-answered calls setup v a events Rest at answer = by_asked (tree_queue setu
                 rw (no, append-nil, answered.1.only.others q f) (at.each q)
 
 -- the answers of a pull
-queues-answered : CallsAreHistory → (setup : Setup) (moment : ℕ) (visits : List Visit) (a b : Queues) (events : ℕ → List QueueEvent) → StandAt setup events a.rings.items
+pub queues-answered : CallsAreHistory → (setup : Setup) (moment : ℕ) (visits : List Visit) (a b : Queues) (events : ℕ → List QueueEvent) → StandAt setup events a.rings.items
     → Answers gives (tree_queue setup.tree) a visits b → StandAt setup (λ q. events q ++ at_queue setup q (pulled moment visits)) b.rings.items
 queues-answered calls setup moment [] a b events at e =
     record {
@@ -149,122 +150,37 @@ queues-answered calls setup moment (v ∷ visits) a b events at answers =
       count = rest.count;
     }
 
--- how many packets a sender has offered, with one of its own, of another, or with a pull
-numbers-sent : (s : ℕ) (events : List Event) (p : Packet) (outcome : Offered) → (p.sender == s) ≡ true → length (numbers_of s (events ++ offered p outcome ∷ [])) ≡ length (numbers_of s events) + 1
-numbers-sent s events p outcome e = rw (filter_map-append (number_from s) events (offered p outcome ∷ []), e, length-append) refl
-
-numbers-other : (s : ℕ) (events : List Event) (p : Packet) (outcome : Offered) → (p.sender == s) ≡ false → length (numbers_of s (events ++ offered p outcome ∷ [])) ≡ length (numbers_of s events)
-numbers-other s events p outcome e = rw (filter_map-append (number_from s) events (offered p outcome ∷ []), e, append-nil) refl
-
-numbers-pulled : (s : ℕ) (events : List Event) (moment : ℕ) (visits : List Visit) → length (numbers_of s (events ++ pulled moment visits ∷ [])) ≡ length (numbers_of s events)
-numbers-pulled s events moment visits = ap length (filter_map-append (number_from s) events (pulled moment visits ∷ []) ∙ append-nil (numbers_of s events))
-
--- a sender with another count
-abbrev counts : SenderSpec → ℕ → Sender
-counts spec n = record { number = spec.number; queue = spec.queue; sent = n }
-
-senders-pulled : (events : List Event) (moment : ℕ) (visits : List Visit) (specs : List SenderSpec) → map (sender_after events) specs ≡ map (sender_after (events ++ pulled moment visits ∷ [])) specs
-senders-pulled events moment visits [] = refl
-senders-pulled events moment visits (spec ∷ specs) =
-    ap₂ (λ (s : Sender) ss. s ∷ ss) (ap (counts spec) (sym (numbers-pulled spec.number events moment visits))) (senders-pulled events moment visits specs)
-
--- senders of greater numbers are others
-senders-other : (events : List Event) (p : Packet) (outcome : Offered) (specs : List SenderSpec) → AllByRecursion (λ m. p.sender < m) (map spec_number specs)
-    → map (sender_after events) specs ≡ map (sender_after (events ++ offered p outcome ∷ [])) specs
-senders-other events p outcome [] greater = refl
-senders-other events p outcome (spec ∷ specs) greater =
-    let above = greater.0 in
-    let other : (p.sender == spec.number) ≡ false = grind (arith, nat_tests) in
-    ap₂ (λ (s : Sender) ss. s ∷ ss) (ap (counts spec) (sym (numbers-other spec.number events p outcome other))) (senders-other events p outcome specs greater.1)
-
--- what holds of each number holds of the one at a place
-at-place : (P : ℕ → Type 0) (specs : List SenderSpec) (i : ℕ) (spec : SenderSpec) → AllByRecursion P (map spec_number specs) → slice_get specs i ≡ Some spec → P spec.number
-at-place P [] i spec all e = absurd (cc)
-at-place P (s ∷ specs) zero spec all e = let same : s ≡ spec = cc in subst (λ (t : SenderSpec). P t.number) same all.0
-at-place P (s ∷ specs) (suc i) spec all e = at-place P specs i spec all.1 e
-
--- the senders after an offer of the one at a place
-senders-sent : (events : List Event) (p : Packet) (outcome : Offered) (specs : List SenderSpec) (i : ℕ) (spec : SenderSpec) → AreRising (map spec_number specs) → slice_get specs i ≡ Some spec
-    → p.sender ≡ spec.number → set (map (sender_after events) specs) i (sent_one_more (sender_after events spec)) ≡ map (sender_after (events ++ offered p outcome ∷ [])) specs
-senders-sent events p outcome [] i spec rising e theirs = absurd (cc)
-senders-sent events p outcome (s ∷ specs) zero spec rising e theirs =
-    let same : s ≡ spec = cc in
-    let mine : (p.sender == spec.number) ≡ true = grind (arith, nat_tests) in
-    let greater : AllByRecursion (λ m. p.sender < m) (map spec_number specs) = subst (λ n. AllByRecursion (λ m. n < m) (map spec_number specs)) (ap (λ (t : SenderSpec). t.number) same ∙ sym theirs) rising.0 in
-    ap₂ (λ (t : Sender) ss. t ∷ ss) (ap (counts spec) (sym (numbers-sent spec.number events p outcome mine)) ∙ ap (sender_after (events ++ offered p outcome ∷ [])) (sym same))
-    (senders-other events p outcome specs greater)
-senders-sent events p outcome (s ∷ specs) (suc i) spec rising e theirs =
-    let below : s.number < spec.number = at-place (λ m. s.number < m) specs i spec rising.0 e in
-    let other : (p.sender == s.number) ≡ false = grind (arith, nat_tests) in
-    ap₂ (λ (t : Sender) ss. t ∷ ss) (ap (counts s) (sym (numbers-other s.number events p outcome other))) (senders-sent events p outcome specs i spec rising.1 e theirs)
-
--- no sender of greater number sends for this one
-none-sends : (n q : ℕ) (specs : List SenderSpec) → AllByRecursion (λ m. n < m) (map spec_number specs) → sends_to specs n q ≡ false
-none-sends n q [] greater = refl
-none-sends n q (s ∷ specs) greater =
-    let above = greater.0 in
-    let other : (s.number == n) ≡ false = grind (arith, nat_tests) in
-    rw other (none-sends n q specs greater.1)
-
--- a sender sends to its own queue alone
-sends-its : (q : ℕ) (specs : List SenderSpec) (i : ℕ) (spec : SenderSpec) → AreRising (map spec_number specs) → slice_get specs i ≡ Some spec → sends_to specs spec.number q ≡ (spec.queue == q)
-sends-its q [] i spec rising e = absurd (cc)
-sends-its q (s ∷ specs) zero spec rising e =
-    let same : s ≡ spec = cc in
-    subst (λ (t : SenderSpec). sends_to (s ∷ specs) t.number q ≡ (t.queue == q)) same here
-  where
-    or_false : (b : Bool) → (b || false) ≡ b
-    or_false true = refl
-    or_false false = refl
-
-    here : sends_to (s ∷ specs) s.number q ≡ (s.queue == q)
-    here =
-        let mine : (s.number == s.number) ≡ true = grind (arith, nat_tests) in
-        rw (mine, none-sends s.number q specs rising.0) (or_false (s.queue == q))
-sends-its q (s ∷ specs) (suc i) spec rising e =
-    let below : s.number < spec.number = at-place (λ m. s.number < m) specs i spec rising.0 e in
-    let other : (s.number == spec.number) ≡ false = grind (arith, nat_tests) in
-    rw other (sends-its q specs i spec rising.1 e)
-
--- the numbers of a router's senders
-map-numbers : (events : List Event) (specs : List SenderSpec) → map number_of (map (sender_after events) specs) ≡ map spec_number specs
-map-numbers events [] = refl
-map-numbers events (spec ∷ specs) = ap (λ l. spec.number ∷ l) (map-numbers events specs)
-
-pub numbers-its : (setup : Setup) (events : List Event) (router : Router) → IsAt setup events router → numbers_in router ≡ sender_numbers setup
-numbers-its setup events router at = ap (map number_of) at.senders ∙ map-numbers events setup.senders
-
--- the sender at a place, as the setup has it
-record IsSpecAt (events : List Event) (specs : List SenderSpec) (i : ℕ) (s : Sender) : Type 0 where
-  spec : SenderSpec
-  here : slice_get specs i ≡ Some spec
-  is : s ≡ sender_after events spec
-
-spec-at : (events : List Event) (specs : List SenderSpec) (i : ℕ) (s : Sender) → slice_get (map (sender_after events) specs) i ≡ Some s → IsSpecAt events specs i s
-spec-at events [] i s e = absurd (cc)
-spec-at events (spec ∷ specs) zero s e = record { spec = spec; here = refl; is = cc }
-spec-at events (spec ∷ specs) (suc i) s e =
-    let there = spec-at events specs i s e in
-    record { spec = there.spec; here = there.here; is = there.is }
+-- how many packets were accepted, and which were put out, with one event more
+accepted-more : (events : List Event) (e : Event) → length (filter_map accepted_in (events ++ e ∷ [])) ≡ length (filter_map accepted_in events) + length (cons_option (accepted_in e) [])
+accepted-more events e = ap length (filter_map-append accepted_in events (e ∷ [])) ∙ length-append (filter_map accepted_in events) (cons_option (accepted_in e) [])
 
 -- An offer of the sender at a place leads on.
-pub IsAt-sent : CallsAreHistory → (setup : Setup) (events : List Event) (old new : Router) (place : ℕ) (s : Sender) (p : Packet) (outcome : Offered) → IsAt setup events old → AreRising (numbers_in old)
-    → slice_get old.senders.items place ≡ Some s → p.number ≡ s.sent → p.sender ≡ s.number → OffersAt old.queues.rings.items s.queue p outcome new.queues.rings.items
-    → new.senders.items ≡ set old.senders.items place (sent_one_more s) → new.session ≡ old.session → IsAt setup (events ++ offered p outcome ∷ []) new
-IsAt-sent calls setup events old new place s p outcome at rising here number sender offer senders session =
+pub IsAt-sent : CallsAreHistory → (setup : Setup) (events : List Event) (old mid new : Router) (place : ℕ) (s : Sender) (p : Packet) (outcome : Offered) → IsAt setup events old → AreRising (numbers_in old)
+    → slice_get old.senders.items place ≡ Some s → p.number ≡ s.sent → p.sender ≡ s.number → OffersAt old.queues.rings.items s.queue p outcome mid.queues.rings.items
+    → mid.senders.items ≡ set old.senders.items place (noted p outcome (sent_one_more s)) → mid.session ≡ old.session → mid.accepted ≡ old.accepted → mid.evicted ≡ old.evicted
+    → Counts mid p outcome new → IsAt setup (events ++ offered p outcome ∷ []) new
+IsAt-sent calls setup events old mid new place s p outcome at rising here number sender offered_at senders session accepted evicted counts =
     record {
       can_happen =
           CanHappen-offer setup events p outcome at.can_happen (number ∙ ap (λ (t : Sender). t.sent) theirs.is ∙ ap (λ n. length (numbers_of n events)) (sym its_number))
           (names-at (slice_get old.queues.rings.items s.queue) (slice_get new.queues.rings.items s.queue) p outcome offer.here)
           (λ q. its-history (history setup q more) (slice_get setup.queues q) (slice_get new.queues.rings.items q) (queues q));
       senders =
-          senders ∙ ap₂ (λ ss (t : Sender). set ss place (sent_one_more t)) at.senders theirs.is ∙ senders-sent events p outcome setup.senders place theirs.spec its_rising theirs.here its_number;
+          ap (λ ss. ss.items) counts.senders ∙ senders ∙ ap₂ (λ ss (t : Sender). set ss place (noted p outcome (sent_one_more t))) at.senders theirs.is ∙ senders-sent events p outcome setup.senders place theirs.spec its_rising theirs.here its_number;
       queues = queues;
       count = offer.only.count ∙ at.count;
-      tree = ap (λ t. t.tree) session ∙ at.tree;
-      log = ap (λ t. t.log) session ∙ at.log ∙ sym (flat_map-append visits_in events (offered p outcome ∷ []) ∙ append-nil (log_of events));
+      tree = ap (λ t. t.tree) kept ∙ at.tree;
+      log = ap (λ t. t.log) kept ∙ at.log ∙ sym (flat_map-append visits_in events (offered p outcome ∷ []) ∙ append-nil (log_of events));
+      accepted = counts.accepted ∙ ap (λ n. n + length (cons_option (accepted_in (offered p outcome)) [])) (accepted ∙ at.accepted) ∙ sym (accepted-more events (offered p outcome));
+      evicted = counts.evicted ∙ ap (λ l. l ++ cons_option (evicted_in (offered p outcome)) []) (evicted ∙ at.evicted) ∙ sym (filter_map-append evicted_in events (offered p outcome ∷ []));
     }
   where
+    kept : new.session ≡ old.session
+    kept = counts.session ∙ session
+
+    offer : OffersAt old.queues.rings.items s.queue p outcome new.queues.rings.items
+    offer = subst (λ (qs : Queues). OffersAt old.queues.rings.items s.queue p outcome qs.rings.items) (sym counts.queues) offered_at
+
     more : List Event
     more = events ++ offered p outcome ∷ []
 
@@ -299,8 +215,8 @@ IsAt-sent calls setup events old new place s p outcome at rising here number sen
 -- A pull leads on.
 pub IsAt-pulled : CallsAreHistory → (setup : Setup) (events : List Event) (old new : Router) (moment : ℕ) (got : Option Packet) → IsAt setup events old
     → IsPulledOnce old.session new.session moment got → Answers gives (tree_queue old.session.tree) old.queues (newly old.session new.session) new.queues → new.senders ≡ old.senders
-    → LeadsOnByPull setup new moment got events
-IsAt-pulled calls setup events old new moment got at once answers senders =
+    → new.accepted ≡ old.accepted → new.evicted ≡ old.evicted → LeadsOnByPull setup new moment got events
+IsAt-pulled calls setup events old new moment got at once answers senders accepted evicted =
     record {
       visits = visits;
       result = sym once.result;
@@ -314,6 +230,8 @@ IsAt-pulled calls setup events old new moment got at once answers senders =
         count = answered.count;
         tree = once.tree ∙ at.tree;
         log = log ∙ sym (log-pulled events moment visits);
+        accepted = accepted ∙ at.accepted ∙ ap length (sym (filter_map-append accepted_in events (pulled moment visits ∷ []) ∙ append-nil (filter_map accepted_in events)));
+        evicted = evicted ∙ at.evicted ∙ sym (filter_map-append evicted_in events (pulled moment visits ∷ []) ∙ append-nil (filter_map evicted_in events));
       };
     }
   where
@@ -352,8 +270,8 @@ length-made (spec ∷ specs) = ap suc (length-made specs)
 
 -- A router to which nothing has happened.
 pub Starts-made : CallsAreHistory → (tree : Tree) (queues : List QueueSpec) (senders : List SenderSpec) (router : Router) → IsRun tree [] → router.session.tree ≡ tree → router.session.log ≡ []
-    → router.queues.rings.items ≡ map queue_made queues → router.senders.items ≡ map sender_made senders → Starts (setup_of tree queues senders) router
-Starts-made calls tree queues senders router run tree_is log_is queues_are senders_are =
+    → router.queues.rings.items ≡ map queue_made queues → router.senders.items ≡ map sender_made senders → router.accepted ≡ 0 → router.evicted ≡ [] → Starts (setup_of tree queues senders) router
+Starts-made calls tree queues senders router run tree_is log_is queues_are senders_are accepted evicted =
     record {
       over =
           λ i. record {
@@ -368,6 +286,8 @@ Starts-made calls tree queues senders router run tree_is log_is queues_are sende
         count = ap length queues_are ∙ length-made queues;
         tree = tree_is;
         log = log_is;
+        accepted = accepted;
+        evicted = evicted;
       };
     }
   where

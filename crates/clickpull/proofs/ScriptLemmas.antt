@@ -1,7 +1,7 @@
 -- What a script with no fault is, and what faults a script may have.
-use Rattle.std.proofs.Common.{◌≡◌, ℕ, ◌+◌, ◌≤◌, ◌&&◌, ◌==◌, Bool, true, false, cond, nat_lt, nat_le, List, [], ◌∷◌, length, codes, slice_get, Option, Some, None, refl, sym, subst, IfSome, arith}
+use Rattle.std.proofs.Common.{◌≡◌, ℕ, ◌+◌, ◌≤◌, ◌&&◌, ◌||◌, ◌==◌, Bool, true, false, cond, nat_lt, nat_le, List, [], ◌∷◌, length, map, codes, if◌then◌else◌, Option, Some, None, refl, sym, subst, IfSome, arith}
 use Rattle.std.specs.Bool.{⊤}
-use Rattle.std.specs.List.{filter_map, enumerate_from, AllByRecursion, list_any}
+use Rattle.std.specs.List.{filter_map, AllByRecursion, list_any}
 use Rattle.std.specs.Str.{all_ascii_digits, bytes_eq}
 use Rattle.std.specs.Str.Parse.{digits_value}
 use Rattle.std.specs.Str.Lines.{lines}
@@ -12,14 +12,15 @@ use Rattle.clickpull.specs.declared.script.Command.{Command}
 use Rattle.clickpull.specs.declared.script.Command.TheVariants.{Send, Pull}
 use Rattle.clickpull.specs.declared.script.Line.{Line}
 use Rattle.clickpull.specs.declared.script.Line.TheVariants as line
-use Rattle.clickpull.specs.Script.{most_bytes, has_bytes, number_in, send_of, pull_line, send_line, line_of_fields, line_of, fields, line_fault, fault_at, script_fault, command_in, commands_of, most_lines, most_moment}
+use Rattle.clickpull.specs.Script.{most_bytes, has_bytes, number_in, send_of, pull_of, drain_of, sender_and_length, only_moment, line_of_fields, line_of, fields, line_fault, fault_at, is_drain, first_fault, script_fault, command_in, commands_of, most_lines, most_moment}
 use Rattle.clickpull.specs.Router.{IsReadable, IsSound}
 
 -- the numbers of a line's command are those of a script
-abbrev IsReadableLine : Line → Type 0
+abbrev pub IsReadableLine : Line → Type 0
 IsReadableLine line.Blank = ⊤
 IsReadableLine line.Malformed = ⊤
 IsReadableLine (line.Command command) = IsReadable command
+IsReadableLine (line.Drain moment) = moment ≤ most_moment
 
 -- a test that answers with its number
 tested : (v n : ℕ) (a b : Bool) → cond (a && nat_le 1 v && b) (Some v) None ≡ Some n → 1 ≤ n
@@ -44,64 +45,93 @@ sends_of None length h = tt
 sends_of (Some s) None h = tt
 sends_of (Some s) (Some n) h = h
 
-sends_line : (word sender length : List ℕ) → IsReadableLine (send_line word sender length)
-sends_line word sender length = by_test (bytes_eq word (codes "send")) refl
-  where
-    by_test : (b : Bool) → bytes_eq word (codes "send") ≡ b → IsReadableLine (send_line word sender length)
-    by_test true e = rw e (sends_of (number_in 0 most_sender sender) (number_in 1 most_length length) (number_in-least length (number_in 1 most_length length) refl))
-    by_test false e = rw e tt
+sends_arguments : (arguments : List (List ℕ)) → IsReadableLine (sender_and_length arguments)
+sends_arguments [] = tt
+sends_arguments (sender ∷ []) = tt
+sends_arguments (sender ∷ length ∷ []) = sends_of (number_in 0 most_sender sender) (number_in 1 most_length length) (number_in-least length (number_in 1 most_length length) refl)
+sends_arguments (sender ∷ length ∷ third ∷ more) = tt
 
-pulls_line : (word moment : List ℕ) → IsReadableLine (pull_line word moment)
-pulls_line word moment = by_test (bytes_eq word (codes "pull")) refl (number_in 0 most_moment moment) refl
-  where
-    by_test : (b : Bool) → bytes_eq word (codes "pull") ≡ b → (o : Option ℕ) → number_in 0 most_moment moment ≡ o → IsReadableLine (pull_line word moment)
-    by_test true e None f = rw (e, f) tt
-    by_test true e (Some m) f = rw (e, f) (number_in-most 0 most_moment moment m f)
-    by_test false e o f = rw e tt
+-- a moment that stands alone is one of a script
+moment-most : (arguments : List (List ℕ)) (o : Option ℕ) → only_moment arguments ≡ o → IfSome o (λ m. m ≤ most_moment)
+moment-most arguments None e = tt
+moment-most [] (Some m) e = absurd (cc e)
+moment-most (moment ∷ []) (Some m) e = number_in-most 0 most_moment moment m e
+moment-most (moment ∷ next ∷ more) (Some m) e = absurd (cc e)
 
-sends_some : (all : List (List ℕ)) → IsReadableLine (line_of_fields all)
-sends_some [] = tt
-sends_some (word ∷ []) = tt
-sends_some (word ∷ moment ∷ []) = pulls_line word moment
-sends_some (word ∷ sender ∷ size ∷ []) = sends_line word sender size
-sends_some (word ∷ first ∷ second ∷ third ∷ more) = tt
+pulls_arguments : (o : Option ℕ) → IfSome o (λ m. m ≤ most_moment) → IsReadableLine (pull_of o)
+pulls_arguments None h = tt
+pulls_arguments (Some m) h = h
+
+drains_arguments : (o : Option ℕ) → IfSome o (λ m. m ≤ most_moment) → IsReadableLine (drain_of o)
+drains_arguments None h = tt
+drains_arguments (Some m) h = h
+
+reads_fields : (all : List (List ℕ)) → IsReadableLine (line_of_fields all)
+reads_fields [] = tt
+reads_fields (word ∷ arguments) = by_word (bytes_eq word (codes "send")) (bytes_eq word (codes "pull")) (bytes_eq word (codes "drain"))
+  where
+    by_word : (send pull drain : Bool) → IsReadableLine (if send then sender_and_length arguments else (if pull then pull_of (only_moment arguments) else (if drain then drain_of (only_moment arguments) else line.Malformed)))
+    by_word true pull drain = sends_arguments arguments
+    by_word false true drain = pulls_arguments (only_moment arguments) (moment-most arguments (only_moment arguments) refl)
+    by_word false false true = drains_arguments (only_moment arguments) (moment-most arguments (only_moment arguments) refl)
+    by_word false false false = tt
+
+-- what is read of a line is readable
+pub readable-line : (text : List ℕ) (l : Line) → l ≡ line_of text → IsReadableLine l
+readable-line text l is = subst IsReadableLine (sym is) (reads_fields (fields text))
+
+readable-in : (l : Line) → IsReadableLine l → IfSome (command_in l) IsReadable
+readable-in line.Blank h = tt
+readable-in line.Malformed h = tt
+readable-in (line.Command command) h = h
+readable-in (line.Drain moment) h = tt
+
+readable-texts : (texts : List (List ℕ)) → AllByRecursion IsReadable (filter_map command_in (map line_of texts))
+readable-texts [] = tt
+readable-texts (text ∷ texts) = by_command (command_in (line_of text)) refl (readable-in (line_of text) (reads_fields (fields text))) (readable-texts texts)
+  where
+    by_command : (o : Option Command) → command_in (line_of text) ≡ o → IfSome (command_in (line_of text)) IsReadable → AllByRecursion IsReadable (filter_map command_in (map line_of texts))
+        → AllByRecursion IsReadable (filter_map command_in (map line_of (text ∷ texts)))
+    by_command None e here rest = rw e rest
+    by_command (Some command) e here rest = rw e ((rw e at here), rest)
+
+-- each command of a script can be read
+pub readable-commands : (script : List ℕ) → AllByRecursion IsReadable (commands_of script)
+readable-commands script = readable-texts (lines script)
 
 -- a line with no fault can be carried out
-line_sound : (senders : List ℕ) (number : ℕ) (l : Line) → IsReadableLine l → line_fault senders number l ≡ None → IfSome (command_in l) (IsSound senders)
-line_sound senders number line.Blank s e = tt
-line_sound senders number line.Malformed s e = tt
-line_sound senders number (line.Command (Pull moment)) s e = tt
-line_sound senders number (line.Command (Send sender size)) s e = by_test (list_any (λ x. x == sender) senders) refl
+line_sound : (senders : List ℕ) (drained : Bool) (number : ℕ) (l : Line) → IsReadableLine l → line_fault senders drained number l ≡ None → IfSome (command_in l) (IsSound senders)
+line_sound senders drained number line.Blank s e = tt
+line_sound senders drained number line.Malformed s e = tt
+line_sound senders drained number (line.Drain moment) s e = tt
+line_sound senders true number (line.Command command) s e = absurd (cc)
+line_sound senders false number (line.Command (Pull moment)) s e = tt
+line_sound senders false number (line.Command (Send sender size)) s e = by_test (list_any (λ x. x == sender) senders) refl
   where
     by_test : (b : Bool) → list_any (λ x. x == sender) senders ≡ b → (list_any (λ x. x == sender) senders ≡ true) × (1 ≤ size)
     by_test true f = (f, s)
     by_test false f = let no = rw f at e in absurd (cc)
 
--- a line of a script with no fault can be carried out
-text_sound : (senders : List ℕ) (n : ℕ) (text : List ℕ) → fault_at senders (n, text) ≡ None → IfSome (command_in (line_of text)) (IsSound senders)
-text_sound senders n text e = by_test (nat_lt most_lines n) refl
+at_sound : (senders : List ℕ) (drained : Bool) (n : ℕ) (l : Line) → IsReadableLine l → fault_at senders drained n l ≡ None → IfSome (command_in l) (IsSound senders)
+at_sound senders drained n l s e = by_test (nat_lt most_lines n) refl
   where
-    by_test : (b : Bool) → nat_lt most_lines n ≡ b → IfSome (command_in (line_of text)) (IsSound senders)
+    by_test : (b : Bool) → nat_lt most_lines n ≡ b → IfSome (command_in l) (IsSound senders)
     by_test true f = let no = rw f at e in absurd (cc)
-    by_test false f = line_sound senders n (line_of text) (sends_some (fields text)) (rw f at e)
+    by_test false f = line_sound senders drained n l s (rw f at e)
 
--- what is read of a line is readable
-pub readable-line : (text : List ℕ) (command : Command) → line.Command command ≡ line_of text → IsReadable command
-readable-line text command is = subst IsReadableLine (sym is) (sends_some (fields text))
-
-texts_sound : (senders : List ℕ) (n : ℕ) (texts : List (List ℕ)) → slice_get (filter_map (fault_at senders) (enumerate_from n texts)) 0 ≡ None → AllByRecursion (IsSound senders) (filter_map (λ text. command_in (line_of text)) texts)
-texts_sound senders n [] e = tt
-texts_sound senders n (text ∷ texts) e = by_fault (fault_at senders (n, text)) refl (texts_sound senders (n + 1) texts)
+texts_sound : (senders : List ℕ) (drained : Bool) (n : ℕ) (texts : List (List ℕ)) → first_fault senders drained n (map line_of texts) ≡ None → AllByRecursion (IsSound senders) (filter_map command_in (map line_of texts))
+texts_sound senders drained n [] e = tt
+texts_sound senders drained n (text ∷ texts) e = by_fault (fault_at senders drained n (line_of text)) refl (texts_sound senders (drained || is_drain (line_of text)) (n + 1) texts)
   where
-    by_command : (o : Option Command) → command_in (line_of text) ≡ o → IfSome o (IsSound senders) → AllByRecursion (IsSound senders) (filter_map (λ text. command_in (line_of text)) texts)
-        → AllByRecursion (IsSound senders) (filter_map (λ text. command_in (line_of text)) (text ∷ texts))
+    by_command : (o : Option Command) → command_in (line_of text) ≡ o → IfSome (command_in (line_of text)) (IsSound senders) → AllByRecursion (IsSound senders) (filter_map command_in (map line_of texts))
+        → AllByRecursion (IsSound senders) (filter_map command_in (map line_of (text ∷ texts)))
     by_command None f sound rest = rw f rest
-    by_command (Some command) f sound rest = rw f (sound, rest)
+    by_command (Some command) f sound rest = rw f ((rw f at sound), rest)
 
-    by_fault : (o : Option Fault) → fault_at senders (n, text) ≡ o
-        → (slice_get (filter_map (fault_at senders) (enumerate_from (n + 1) texts)) 0 ≡ None → AllByRecursion (IsSound senders) (filter_map (λ text. command_in (line_of text)) texts))
-        → AllByRecursion (IsSound senders) (filter_map (λ text. command_in (line_of text)) (text ∷ texts))
-    by_fault None f rest = by_command (command_in (line_of text)) refl (text_sound senders n text f) (rest (rw f at e))
+    by_fault : (o : Option Fault) → fault_at senders drained n (line_of text) ≡ o
+        → (first_fault senders (drained || is_drain (line_of text)) (n + 1) (map line_of texts) ≡ None → AllByRecursion (IsSound senders) (filter_map command_in (map line_of texts)))
+        → AllByRecursion (IsSound senders) (filter_map command_in (map line_of (text ∷ texts)))
+    by_fault None f rest = by_command (command_in (line_of text)) refl (at_sound senders drained n (line_of text) (reads_fields (fields text)) f) (rest (rw f at e))
     by_fault (Some fault) f rest = let no = rw f at e in absurd (cc)
 
 -- so can a script
@@ -110,4 +140,4 @@ each-command-sound senders script e = by_test (nat_lt most_bytes (length script)
   where
     by_test : (b : Bool) → nat_lt most_bytes (length script) ≡ b → AllByRecursion (IsSound senders) (commands_of script)
     by_test true f = let no = rw f at e in absurd (cc)
-    by_test false f = texts_sound senders 1 (lines script) (rw f at e)
+    by_test false f = texts_sound senders false 1 (lines script) (rw f at e)

@@ -1,9 +1,11 @@
 -- What a script and its answer are.
 pub mod Script
+pub mod Report
 pub mod Meaning
 pub mod Builtin
 pub mod Fields
 pub mod Router
 pub mod Bytes
+pub mod Totals
 pub mod OneMeaning
 pub mod Examples

@@ -1,11 +1,11 @@
 -- What the answer to a script is.
-use Rattle.std.specs.Prelude.{◌≡◌, ℕ, ◌+◌, ◌<◌, ◌⊎◌, List, [], ◌∷◌, ◌++◌, length, map, ◌==◌, ◌&&◌, Bool, if◌then◌else◌, Option, Some, None, MatchOption, IfSome, ⊤, codes, decimal, slice_get}
+use Rattle.std.specs.Prelude.{◌≡◌, ℕ, ◌+◌, ◌-◌, ◌<◌, ◌⊎◌, List, [], ◌∷◌, ◌++◌, length, map, fold, max, ◌==◌, ◌&&◌, Bool, if◌then◌else◌, Option, Some, None, MatchOption, IfSome, ⊤, codes, decimal, slice_get}
 use Rattle.std.specs.List.{flat_map, filter_map, range_with_len, list_any, AllByRecursion}
 use Rattle.clk_packet.specs.declared.packet.Packet.{Packet}
 use Rattle.clk_packet.specs.declared.packet.Offered.{Offered}
 use Rattle.clk_packet.specs.declared.packet.Offered.TheVariants.{Accepted, Refused, Evicted}
 use Rattle.clk_packet.specs.declared.fault.Fault.{Fault}
-use Rattle.clk_packet.specs.declared.fault.Fault.TheVariants.{Memory, UnknownSender, BadScript, TooLarge, Read, Write}
+use Rattle.clk_packet.specs.declared.fault.Fault.TheVariants.{Memory, UnknownSender, BadScript, TooManyPulls, TooLarge, Read, Write}
 use Rattle.clickpull.specs.declared.setup.QueueSpec.{QueueSpec}
 use Rattle.clickpull.specs.declared.setup.SenderSpec.{SenderSpec}
 use Rattle.clickpull.specs.declared.script.Command.{Command}
@@ -14,11 +14,13 @@ use Rattle.clk_sched.specs.declared.visit.Visit.{Visit}
 use Rattle.clk_ring.specs.QueueHistory.{QueueEvent, offer_events, pull_event, NamesOffer, IsQueueHistory}
 use Rattle.clk_sched.specs.Tree.{Tree, root}
 use Rattle.clk_sched.specs.Limits.{most_elements}
-use Rattle.clk_sched.specs.Session.{elements}
+use Rattle.clk_sched.specs.Session.{elements, given_in, LastGives}
+use Rattle.clk_sched.specs.Bound.{closing_bound}
 use Rattle.clk_sched.specs.Log.{visits_of, pulls, moment_of, counted, result_of}
 use Rattle.clk_sched.specs.Run.{IsRun}
-use Rattle.clk_sched.specs.Results.{asks_queue}
-use Rattle.clickpull.specs.Script.{script_fault, commands_of}
+use Rattle.clk_sched.specs.Results.{asks_queue, emitted}
+use Rattle.clickpull.specs.Script.{script_fault, commands_of, closing_moment}
+use Rattle.clickpull.specs.Report.{packets_from, Account, report_text}
 
 -- what a script runs over: a tree over queues, which senders send to
 pub record Setup : Type 0 where
@@ -68,6 +70,34 @@ moment_in (pulled moment visits) = Some moment
 abbrev pub log_of : List Event → List Visit
 log_of events = flat_map visits_in events
 
+-- the packets that an event accepted, refused and put out
+abbrev pub accepted_in : Event → Option Packet
+accepted_in (offered p (Refused q)) = None
+accepted_in (offered p outcome) = Some p
+accepted_in (pulled moment visits) = None
+
+abbrev pub refused_in : Event → Option Packet
+refused_in (offered p (Refused q)) = Some p
+refused_in event = None
+
+abbrev pub evicted_in : Event → Option Packet
+evicted_in (offered p (Evicted front)) = Some front
+evicted_in event = None
+
+-- the account of a sender
+abbrev pub account_after : List Event → ℕ → Account
+account_after events s = record {
+  sender = s;
+  accepted = packets_from s (filter_map accepted_in events);
+  refused = packets_from s (filter_map refused_in events);
+  evicted = packets_from s (filter_map evicted_in events);
+  emitted = packets_from s (emitted (log_of events));
+}
+
+-- how many packets are left in queues and heads: those accepted, less those put out, less those that came out
+abbrev pub left_after : List Event → ℕ
+left_after events = length (filter_map accepted_in events) - length (filter_map evicted_in events) - length (emitted (log_of events))
+
 -- whether a sender sends to this queue
 abbrev pub sends_to : List SenderSpec → ℕ → ℕ → Bool
 sends_to senders sender q = list_any (λ (s : SenderSpec). (s.number == sender) && (s.queue == q)) senders
@@ -103,11 +133,14 @@ abbrev pub result_text : Option Packet → List ℕ
 result_text None = codes "none"
 result_text (Some p) = packet_text p
 
+-- `pull M: S#n L`, or `pull M: none`
+abbrev pub pull_text : ℕ → Option Packet → List ℕ
+pull_text moment got = codes "pull " ++ (decimal moment ++ (codes ": " ++ (result_text got ++ codes "\n")))
+
 -- the line that an event writes
 abbrev pub event_text : Event → List ℕ
 event_text (offered p outcome) = packet_text p ++ (outcome_text outcome ++ codes "\n")
-event_text (pulled moment visits) =
-    codes "pull " ++ (decimal moment ++ (codes ": " ++ (result_text (result_of (visits_of 0 visits)) ++ codes "\n")))
+event_text (pulled moment visits) = pull_text moment (result_of (visits_of 0 visits))
 
 -- These events can happen one after another: each sender numbers its packets from 0 on, the pulls are a run of the tree at
 -- the counted moments, refusals name the packets that were offered, and what happened to each queue is a history of it.
@@ -119,28 +152,87 @@ pub record CanHappen (setup : Setup) (events : List Event) : Type 0 where
   pub refusals : AllByRecursion NamesItsOffer events
   pub histories : (q : ℕ) → MatchOption (slice_get setup.queues q) ⊤ (λ spec. IsQueueHistory spec.kind spec.capacity (history setup q events))
 
--- The commands write the text: it is the lines of some events that are theirs and can happen.
-pub record Writes (setup : Setup) (commands : List Command) (text : List ℕ) : Type 0 where
+-- pulls one tick apart, the first at this moment
+abbrev pub pulls_from : ℕ → List (List Visit) → List Event
+pulls_from moment [] = []
+pulls_from moment (visits ∷ more) = pulled moment visits ∷ pulls_from (moment + 1) more
+
+-- The closing pulls after some events, from a moment on: one tick apart, the first one tick after the greater of that moment and
+-- the counted one.
+abbrev pub closing_pulls : ℕ → List Event → List (List Visit) → List Event
+closing_pulls moment events closing = pulls_from (max (fold max 0 (filter_map moment_in events)) moment + 1) closing
+
+-- the line of a closing pull: one that gave none writes nothing
+abbrev pub given_text : ℕ → Option Packet → List ℕ
+given_text moment None = []
+given_text moment (Some p) = pull_text moment (Some p)
+
+abbrev pub closing_text : Event → List ℕ
+closing_text (offered p outcome) = []
+closing_text (pulled moment visits) = given_text moment (result_of (visits_of 0 visits))
+
+-- The closing of some events from a moment on: as many pulls as it takes until all packets that were left came out.
+pub record Closes (moment : ℕ) (events closed : List Event) : Type 0 where
+  pub closing : List (List Visit)
+  pub are : closed ≡ closing_pulls moment events closing
+  pub all : length (given_in closing) ≡ left_after events
+  pub stops : LastGives closing
+
+-- A script that has no drain closes nothing, and reports nothing.
+abbrev pub IsClosed : Option ℕ → List Event → List Event → Type 0
+IsClosed None events closed = closed ≡ []
+IsClosed (Some moment) events closed = Closes moment events closed
+
+abbrev pub ending_text : Setup → Option ℕ → List Event → List ℕ
+ending_text setup None events = []
+ending_text setup (Some moment) events = report_text (map (account_after events) (sender_numbers setup))
+
+-- The commands, and the closing drain if there is one, write the text: it is the lines of some events that are the commands', of the
+-- closing pulls, and of the report. All these can happen one after another.
+pub record Writes (setup : Setup) (commands : List Command) (drain : Option ℕ) (text : List ℕ) : Type 0 where
   pub events : List Event
   pub theirs : map command_of events ≡ commands
-  pub can_happen : CanHappen setup events
-  pub lines : text ≡ flat_map event_text events
+  pub closed : List Event
+  pub closes : IsClosed drain events closed
+  pub can_happen : CanHappen setup (events ++ closed)
+  pub lines : text ≡ flat_map event_text events ++ (flat_map closing_text closed ++ ending_text setup drain (events ++ closed))
 
--- The text is the meaning of the script over the setup: nothing is wrong with the script, and its commands write the text.
+-- The text is the meaning of the script over the setup: nothing is wrong with the script, and it writes the text.
 pub record IsMeaning (setup : Setup) (script text : List ℕ) : Type 0 where
   pub sound : script_fault (sender_numbers setup) script ≡ None
-  pub written : Writes setup (commands_of script) text
+  pub written : Writes setup (commands_of script) (closing_moment script) text
+
+-- The closing drain after some events, from a moment on, stops short: it made this many pulls, which are all that it is given, and
+-- fewer packets came out than were left.
+pub record DrainsShort (setup : Setup) (moment made : ℕ) (events : List Event) : Type 0 where
+  pub closing : List (List Visit)
+  pub can_happen : CanHappen setup (events ++ closing_pulls moment events closing)
+  pub made_are : length closing ≡ made
+  pub bound : made ≡ closing_bound setup.tree (left_after events)
+  pub fewer : length (given_in closing) < left_after events
+
+-- The closing drain after some commands stops short.
+pub record StopsShort (setup : Setup) (commands : List Command) (made moment : ℕ) : Type 0 where
+  pub events : List Event
+  pub theirs : map command_of events ≡ commands
+  pub short : DrainsShort setup moment made events
+
+-- Nothing is wrong with the script, but its drain stops short after this many pulls.
+pub record CannotClose (setup : Setup) (script : List ℕ) (made : ℕ) : Type 0 where
+  pub sound : script_fault (sender_numbers setup) script ≡ None
+  pub short : MatchOption (closing_moment script) ⊥ (StopsShort setup (commands_of script) made)
 
 -- Why running a script is refused with a fault: memory may run out at any growth, the reader and the writer may fail, and
--- otherwise it is what is wrong with the script, where its bytes are known.
-abbrev pub Explains : List ℕ → Option (List ℕ) → Fault → Type 0
-Explains senders script Memory = ⊤
-Explains senders script Read = ⊤
-Explains senders script Write = ⊤
-Explains senders script TooLarge = IfSome script (λ bytes. script_fault senders bytes ≡ Some TooLarge)
-Explains senders script (BadScript line) = IfSome script (λ bytes. script_fault senders bytes ≡ Some (BadScript line))
-Explains senders script (UnknownSender sender) = IfSome script (λ bytes. script_fault senders bytes ≡ Some (UnknownSender sender))
-Explains senders script fault = ⊥
+-- otherwise it is what is wrong with the script, or that its drain stops short, where its bytes are known.
+abbrev pub Explains : Setup → Option (List ℕ) → Fault → Type 0
+Explains setup script Memory = ⊤
+Explains setup script Read = ⊤
+Explains setup script Write = ⊤
+Explains setup script TooLarge = IfSome script (λ bytes. script_fault (sender_numbers setup) bytes ≡ Some TooLarge)
+Explains setup script (BadScript line) = IfSome script (λ bytes. script_fault (sender_numbers setup) bytes ≡ Some (BadScript line))
+Explains setup script (UnknownSender sender) = IfSome script (λ bytes. script_fault (sender_numbers setup) bytes ≡ Some (UnknownSender sender))
+Explains setup script (TooManyPulls made) = IfSome script (λ bytes. CannotClose setup bytes made)
+Explains setup script fault = ⊥
 
 -- the numbers rise
 abbrev pub AreRising : List ℕ → Type 0
@@ -155,4 +247,4 @@ CannotStart tree fault = ⊥
 
 -- Why running a script over a setup is refused with a fault: its tree is too large, or as above.
 abbrev pub ExplainsOver : Setup → Option (List ℕ) → Fault → Type 0
-ExplainsOver setup script fault = CannotStart setup.tree fault ⊎ Explains (sender_numbers setup) script fault
+ExplainsOver setup script fault = CannotStart setup.tree fault ⊎ Explains setup script fault

@@ -1,9 +1,11 @@
 -- What the router's parts do, in the words of the definitions.
-use Rattle.std.specs.Prelude.{◌≡◌, ℕ, ◌+◌, ◌<◌, ◌≤◌, ◌^◌, List, [], ◌∷◌, ◌++◌, length, map, true, false, ◌==◌, ⊤, Option, Some, None, slice_get}
-use Rattle.std.specs.List.{list_any, AllByRecursion}
+use Rattle.std.specs.Prelude.{◌≡◌, ℕ, ◌+◌, ◌<◌, ◌≤◌, ◌^◌, List, [], ◌∷◌, ◌++◌, length, map, true, false, ◌==◌, ◌&&◌, ⊤, if◌then◌else◌, Option, Some, None, slice_get}
+use Rattle.std.specs.List.{list_any, filter_map, flat_map, cons_option, AllByRecursion}
 use Rattle.clk_packet.specs.declared.packet.Packet.{Packet}
 use Rattle.clk_packet.specs.declared.packet.Offered.{Offered}
 use Rattle.clk_packet.specs.Limits.{most_capacity}
+use Rattle.clk_packet.specs.declared.fault.Fault.{Fault}
+use Rattle.clk_packet.specs.declared.fault.Fault.TheVariants.{TooManyPulls}
 use Rattle.clk_ring.specs.Queue.{Queue, empty_queue, IsOffered, IsPulled}
 use Rattle.clk_ring.specs.QueueHistory.{QueueEvent}
 use Rattle.clk_ring.specs.Laws.{LeadsTo}
@@ -15,8 +17,10 @@ use Rattle.clickpull.specs.declared.setup.SenderSpec.{SenderSpec}
 use Rattle.clickpull.specs.declared.senders.Sender.{Sender}
 use Rattle.clickpull.specs.declared.router.Router.{Router}
 use Rattle.clk_sched.specs.Log.{visits_of, result_of}
-use Rattle.clickpull.specs.Script.{most_moment}
-use Rattle.clickpull.specs.Meaning.{Setup, Event, pulled, command_of, event_text, CanHappen, numbers_of, history, log_of, AreRising, sender_numbers}
+use Rattle.clk_sched.specs.Session.{counted_moment}
+use Rattle.clickpull.specs.Script.{most_lines, most_moment}
+use Rattle.clickpull.specs.Report.{packets_from}
+use Rattle.clickpull.specs.Meaning.{Setup, Event, offered, pulled, command_of, event_text, CanHappen, numbers_of, accepted_in, refused_in, evicted_in, history, log_of, AreRising, sender_numbers, given_text, closing_text, ending_text, Closes, DrainsShort, CannotClose}
 
 -- a capacity within the limits
 abbrev pub HasCapacity : QueueSpec → Type 0
@@ -37,14 +41,23 @@ abbrev pub queue_spec : Queue → QueueSpec
 queue_spec q = record { kind = q.kind; capacity = q.capacity }
 
 abbrev pub sender_made : SenderSpec → Sender
-sender_made spec = record { number = spec.number; queue = spec.queue; sent = 0 }
+sender_made spec = record { number = spec.number; queue = spec.queue; sent = 0; accepted = []; refused = [] }
 
 abbrev pub sender_spec : Sender → SenderSpec
 sender_spec s = record { number = s.number; queue = s.queue }
 
--- a sender once it has sent one packet more
+-- a sender once it has sent one packet more, and once it knows what became of one
 abbrev pub sent_one_more : Sender → Sender
-sent_one_more s = record { number = s.number; queue = s.queue; sent = s.sent + 1 }
+sent_one_more s = record { number = s.number; queue = s.queue; sent = s.sent + 1; accepted = s.accepted; refused = s.refused }
+
+abbrev pub noted : Packet → Offered → Sender → Sender
+noted p outcome s = record {
+  number = s.number;
+  queue = s.queue;
+  sent = s.sent;
+  accepted = s.accepted ++ cons_option (accepted_in (offered p outcome)) [];
+  refused = s.refused ++ cons_option (refused_in (offered p outcome)) [];
+}
 
 abbrev pub number_of : Sender → ℕ
 number_of s = s.number
@@ -109,7 +122,13 @@ AreQueuesAt events (Some spec) (Some q) = IsQueueAt events spec q
 
 -- a sender after some events
 abbrev pub sender_after : List Event → SenderSpec → Sender
-sender_after events spec = record { number = spec.number; queue = spec.queue; sent = length (numbers_of spec.number events) }
+sender_after events spec = record {
+  number = spec.number;
+  queue = spec.queue;
+  sent = length (numbers_of spec.number events);
+  accepted = packets_from spec.number (filter_map accepted_in events);
+  refused = packets_from spec.number (filter_map refused_in events);
+}
 
 -- The router is where these events lead over a setup.
 pub record IsAt (setup : Setup) (events : List Event) (router : Router) : Type 0 where
@@ -119,6 +138,8 @@ pub record IsAt (setup : Setup) (events : List Event) (router : Router) : Type 0
   pub count : length router.queues.rings.items ≡ length setup.queues
   pub tree : router.session.tree ≡ setup.tree
   pub log : router.session.log ≡ log_of events
+  pub accepted : router.accepted ≡ length (filter_map accepted_in events)
+  pub evicted : router.evicted ≡ filter_map evicted_in events
 
 -- the setup that a router is over
 abbrev pub setup_at : Router → Setup
@@ -143,10 +164,20 @@ pub record CanRun (router : Router) : Type 0 where
 abbrev pub CanSend : ℕ → Sender → Type 0
 CanSend count s = (s.queue < count) × (s.sent + 1 < 2 ^ 32)
 
--- A router's senders stand by rising numbers, and each can send.
+-- A router's senders stand by rising numbers, and each can send. What was accepted and the counted moment are those of a script.
 pub record IsReady (router : Router) : Type 0 where
   pub rising : AreRising (numbers_in router)
   pub can_send : AllByRecursion (CanSend (length router.queues.rings.items)) router.senders.items
+  pub few : router.accepted ≤ most_lines
+  pub moment : counted_moment router.session ≤ most_moment
+
+-- What became of a packet is counted, and nothing else of the router changes.
+pub record Counts (old : Router) (p : Packet) (outcome : Offered) (new : Router) : Type 0 where
+  pub accepted : new.accepted ≡ old.accepted + length (cons_option (accepted_in (offered p outcome)) [])
+  pub evicted : new.evicted ≡ old.evicted ++ cons_option (evicted_in (offered p outcome)) []
+  pub session : new.session ≡ old.session
+  pub queues : new.queues ≡ old.queues
+  pub senders : new.senders ≡ old.senders
 
 -- One more pull, at a moment that was handed in, led on from these events to this result.
 pub record LeadsOnByPull (setup : Setup) (new : Router) (moment : ℕ) (got : Option Packet) (events : List Event) : Type 0 where
@@ -160,6 +191,36 @@ pub record CarriesOut (setup : Setup) (new : Router) (command : Command) (before
   pub theirs : command_of event ≡ command
   pub line : after ≡ before ++ event_text event
   pub leads : IsAt setup (events ++ event ∷ []) new
+
+-- The closing drain from a moment on led on from these events.
+pub record LeadsOnByClosing (setup : Setup) (new : Router) (moment : ℕ) (events : List Event) : Type 0 where
+  pub closed : List Event
+  pub closes : Closes moment events closed
+  pub leads : IsAt setup (events ++ closed) new
+
+-- the same, and it wrote its lines and the report
+pub record Ends (setup : Setup) (new : Router) (moment : ℕ) (before after : List ℕ) (events : List Event) : Type 0 where
+  pub closed : List Event
+  pub closes : Closes moment events closed
+  pub lines : after ≡ before ++ (flat_map closing_text closed ++ ending_text setup (Some moment) (events ++ closed))
+  pub leads : IsAt setup (events ++ closed) new
+
+-- whatever events led to the router
+abbrev pub AnswersDrain : Router → Router → ℕ → List ℕ → List ℕ → Type 0
+AnswersDrain old new moment before after = (setup : Setup) (events : List Event) → IsAt setup events old → Ends setup new moment before after events
+
+-- Why the closing drain of a router stops short: it made all the pulls that it is given. And why a script's does.
+abbrev pub StopsDrain : Router → ℕ → Fault → Type 0
+StopsDrain old moment (TooManyPulls made) = (setup : Setup) (events : List Event) → IsAt setup events old → DrainsShort setup moment made events
+StopsDrain old moment fault = ⊥
+
+abbrev pub StopsScript : Setup → List ℕ → Fault → Type 0
+StopsScript setup script (TooManyPulls made) = CannotClose setup script made
+StopsScript setup script fault = ⊥
+
+-- what a visit writes while a script closes
+abbrev pub visit_text : Visit → List ℕ
+visit_text v = if v.node == 0 then (if v.passed then given_text v.moment v.got else []) else []
 
 -- a command whose numbers are those of a script
 abbrev pub IsReadable : Command → Type 0

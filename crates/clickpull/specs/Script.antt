@@ -1,6 +1,7 @@
 -- The lines of a script, and what is wrong with it (this project's own format).
-use Rattle.std.specs.Prelude.{ℕ, ◌-◌, ◌^◌, List, [], ◌∷◌, length, filter, Bool, true, false, ◌==◌, ◌&&◌, ◌||◌, nat_lt, nat_le, if◌then◌else◌, Option, Some, None, codes, slice_get}
-use Rattle.std.specs.List.{slice_split, filter_map, enumerate_from, list_any}
+use Rattle.std.specs.Prelude.{ℕ, ◌+◌, ◌-◌, ◌^◌, List, [], ◌∷◌, length, map, filter, Bool, true, false, ◌==◌, ◌&&◌, ◌||◌, nat_lt, nat_le, if◌then◌else◌, Option, Some, None, codes, slice_get}
+use Rattle.std.specs.Option.{option_or}
+use Rattle.std.specs.List.{slice_split, filter_map, list_any}
 use Rattle.std.specs.Str.{all_ascii_digits, bytes_eq}
 use Rattle.std.specs.Str.Parse.{digits_value}
 use Rattle.std.specs.Str.Lines.{lines}
@@ -40,32 +41,36 @@ number_in least most digits =
     if all_ascii_digits digits && has_bytes digits && nat_le least (digits_value 10 digits) && nat_le (digits_value 10 digits) most
     then Some (digits_value 10 digits) else None
 
--- a line of a command, where its numbers are such
-abbrev pub pull_of : Option ℕ → Line
-pull_of None = line.Malformed
-pull_of (Some moment) = line.Command (Pull moment)
-
+-- what follows the word `send` or another, where it is numbers in range
 abbrev pub send_of : Option ℕ → Option ℕ → Line
 send_of None length = line.Malformed
 send_of (Some sender) None = line.Malformed
 send_of (Some sender) (Some length) = line.Command (Send sender length)
 
--- `pull M`
-abbrev pub pull_line : List ℕ → List ℕ → Line
-pull_line word moment = if bytes_eq word (codes "pull") then pull_of (number_in 0 most_moment moment) else line.Malformed
+abbrev pub pull_of : Option ℕ → Line
+pull_of None = line.Malformed
+pull_of (Some moment) = line.Command (Pull moment)
 
--- `send S L`
-abbrev pub send_line : List ℕ → List ℕ → List ℕ → Line
-send_line word sender length =
-    if bytes_eq word (codes "send") then send_of (number_in 0 most_sender sender) (number_in 1 most_length length) else line.Malformed
+abbrev pub drain_of : Option ℕ → Line
+drain_of None = line.Malformed
+drain_of (Some moment) = line.Drain moment
 
--- what the fields of a line say
+abbrev pub sender_and_length : List (List ℕ) → Line
+sender_and_length (sender ∷ length ∷ []) = send_of (number_in 0 most_sender sender) (number_in 1 most_length length)
+sender_and_length arguments = line.Malformed
+
+abbrev pub only_moment : List (List ℕ) → Option ℕ
+only_moment (moment ∷ []) = number_in 0 most_moment moment
+only_moment arguments = None
+
+-- What the fields of a line say: `send S L`, `pull M` or `drain M`.
 abbrev pub line_of_fields : List (List ℕ) → Line
 line_of_fields [] = line.Blank
-line_of_fields (word ∷ []) = line.Malformed
-line_of_fields (word ∷ moment ∷ []) = pull_line word moment
-line_of_fields (word ∷ sender ∷ length ∷ []) = send_line word sender length
-line_of_fields (word ∷ first ∷ second ∷ third ∷ more) = line.Malformed
+line_of_fields (word ∷ arguments) =
+    if bytes_eq word (codes "send") then sender_and_length arguments
+    else if bytes_eq word (codes "pull") then pull_of (only_moment arguments)
+    else if bytes_eq word (codes "drain") then drain_of (only_moment arguments)
+    else line.Malformed
 
 abbrev pub line_of : List ℕ → Line
 line_of text = line_of_fields (fields text)
@@ -75,26 +80,46 @@ abbrev pub command_fault : List ℕ → Command → Option Fault
 command_fault senders (Send sender length) = if list_any (λ s. s == sender) senders then None else Some (UnknownSender sender)
 command_fault senders (Pull moment) = None
 
-abbrev pub line_fault : List ℕ → ℕ → Line → Option Fault
-line_fault senders number line.Blank = None
-line_fault senders number line.Malformed = Some (BadScript number)
-line_fault senders number (line.Command command) = command_fault senders command
+-- what is wrong with the line of a number: after a drain only lines without fields may follow
+abbrev pub line_fault : List ℕ → Bool → ℕ → Line → Option Fault
+line_fault senders drained number line.Blank = None
+line_fault senders drained number line.Malformed = Some (BadScript number)
+line_fault senders drained number (line.Command command) = if drained then Some (BadScript number) else command_fault senders command
+line_fault senders drained number (line.Drain moment) = if drained then Some (BadScript number) else None
 
--- what is wrong with the line of this number, counted from 1
-abbrev pub fault_at : List ℕ → ℕ × List ℕ → Option Fault
-fault_at senders text = if nat_lt most_lines text.0 then Some TooLarge else line_fault senders text.0 (line_of text.1)
+abbrev pub fault_at : List ℕ → Bool → ℕ → Line → Option Fault
+fault_at senders drained number l = if nat_lt most_lines number then Some TooLarge else line_fault senders drained number l
+
+abbrev pub is_drain : Line → Bool
+is_drain (line.Drain moment) = true
+is_drain l = false
+
+-- What is wrong with the first of some lines that has something wrong. They are counted from a number on, and a drain may have
+-- come before them.
+abbrev pub first_fault : List ℕ → Bool → ℕ → List Line → Option Fault
+first_fault senders drained number [] = None
+first_fault senders drained number (l ∷ more) =
+    option_or (fault_at senders drained number l) (first_fault senders (drained || is_drain l) (number + 1) more)
+
+abbrev pub lines_of : List ℕ → List Line
+lines_of script = map line_of (lines script)
 
 -- What is wrong with a script: it has too many bytes, or else what is wrong with the first line that has something wrong.
 abbrev pub script_fault : List ℕ → List ℕ → Option Fault
-script_fault senders script =
-    if nat_lt most_bytes (length script) then Some TooLarge
-    else slice_get (filter_map (fault_at senders) (enumerate_from 1 (lines script))) 0
+script_fault senders script = if nat_lt most_bytes (length script) then Some TooLarge else first_fault senders false 1 (lines_of script)
 
 abbrev pub command_in : Line → Option Command
-command_in line.Blank = None
-command_in line.Malformed = None
 command_in (line.Command command) = Some command
+command_in l = None
 
 -- the commands of a script, in order
 abbrev pub commands_of : List ℕ → List Command
-commands_of script = filter_map (λ text. command_in (line_of text)) (lines script)
+commands_of script = filter_map command_in (lines_of script)
+
+abbrev pub drain_in : Line → Option ℕ
+drain_in (line.Drain moment) = Some moment
+drain_in l = None
+
+-- the moment from which a script closes, where it has a drain
+abbrev pub closing_moment : List ℕ → Option ℕ
+closing_moment script = slice_get (filter_map drain_in (lines_of script)) 0

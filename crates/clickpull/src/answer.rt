@@ -1,11 +1,12 @@
 //! The answer to a script.
 
-ghost use Rattle.std.specs.Prelude.{◌≡◌, ◌≤◌, ◌⊎◌, None, Some, [], MatchResult, OnOk};
+ghost use Rattle.std.specs.Prelude.{◌≡◌, ◌≤◌, ◌+◌, ◌⊎◌, true, false, None, Some, [], MatchResult, OnOk};
 ghost use Rattle.clk_packet.specs.declared.fault.Fault.TheVariants.{Memory};
-ghost use Rattle.clickpull.specs.Script.{line_of, command_in, command_fault, fault_at, script_fault, commands_of, most_lines};
+ghost use Rattle.clickpull.specs.Script.{line_of, lines_of, command_in, drain_in, command_fault, fault_at, first_fault, script_fault, commands_of, closing_moment, most_lines};
 ghost use Rattle.clickpull.specs.Meaning.{Writes, sender_numbers};
-ghost use Rattle.clickpull.specs.Router.{IsReadable, numbers_in, setup_at, IsReady, CanRun, AnswersCommand, AnswersLine};
+ghost use Rattle.clickpull.specs.Router.{IsReadable, numbers_in, setup_at, IsReady, CanRun, AnswersCommand, AnswersLine, StopsScript};
 
+use crate::closing::close;
 use crate::fields::first_line;
 use crate::router::Router;
 use crate::script::{Command, Line, MAX_BYTES, MAX_LINES};
@@ -13,16 +14,20 @@ use crate::text::{push_offer, push_pull};
 use clk_packet::Fault;
 use std::alloc::Global;
 
-/// What a script writes over a router to which nothing has happened. Each line is carried out as it is read.
+/// What a script writes over a router to which nothing has happened. Each line is carried out as it is read, but a drain once the
+/// lines after it are known to be empty.
 ///
 /// # Errors
 ///
-/// Fault 1 where memory is refused; 18 for more than 33,554,432 bytes; then the fault of the first line that has one.
+/// Fault 1 where memory is refused; 18 for more than 33,554,432 bytes; then the fault of the first line that has one; 17 where the
+/// drain stops short.
 pub fn answer(alloc: Global, router: &mut Router, script: &[u8]) -> Result<Vec<u8>, Fault>
     requires { CanRun router.old }
     ensures { MatchResult result
-        (λ text. (script_fault (sender_numbers (setup_at router.old)) script.now ≡ None) × Writes (setup_at router.old) (commands_of script.now) text.items)
-        (λ fault. (fault ≡ Memory) ⊎ (script_fault (sender_numbers (setup_at router.old)) script.now ≡ Some fault)) }
+        (λ text. (script_fault (sender_numbers (setup_at router.old)) script.now ≡ None)
+        × Writes (setup_at router.old) (commands_of script.now) (closing_moment script.now) text.items)
+        (λ fault. (fault ≡ Memory) ⊎ (script_fault (sender_numbers (setup_at router.old)) script.now ≡ Some fault)
+        ⊎ StopsScript (setup_at router.old) script.now fault) }
 {
     if script.len() > MAX_BYTES {
         return Err(Fault::TooLarge);
@@ -33,34 +38,44 @@ pub fn answer(alloc: Global, router: &mut Router, script: &[u8]) -> Result<Vec<u
     while !rest.is_empty() {
         let (line, after) = first_line(rest);
         number += 1;
-        answer_line(router, number, line, &mut text)?;
+        if let Some(moment) = answer_line(router, number, line, &mut text)? {
+            only_blank_lines(number, after)?;
+            close(alloc, router, moment, &mut text)?;
+            return Ok(text);
+        }
         rest = after;
     }
     Ok(text)
 }
 
-/// Carries out the line of this number, counted from 1, unless it has a fault or memory is refused. The line is one of the
-/// first 1,000,000 (fault 18), a command or blank (16), and names a sender that is there (15).
+/// Carries out the line of this number, counted from 1, unless it has a fault or memory is refused. Of a drain its moment is
+/// answered, and no more is done. The line is one of the first 1,000,000 (fault 18), a command or blank (16), and names a sender that
+/// is there (15).
 fn answer_line(
     router: &mut Router,
     number: u32,
     line: &[u8],
     text: &mut Vec<u8>,
-) -> Result<(), Fault>
+) -> Result<Option<u64>, Fault>
     requires ready { IsReady router.old }
     ensures exact { MatchResult result
-        (λ done. (fault_at (numbers_in router.old) (number, line.now) ≡ None)
+        (λ drain. (fault_at (numbers_in router.old) false number (line_of line.now) ≡ None)
+        × (drain ≡ drain_in (line_of line.now))
         × AnswersLine router.old router.new text.old.items text.new.items (command_in (line_of line.now)))
-        (λ fault. (fault ≡ Memory) ⊎ (fault_at (numbers_in router.old) (number, line.now) ≡ Some fault)) }
+        (λ fault. (fault ≡ Memory) ⊎ (fault_at (numbers_in router.old) false number (line_of line.now) ≡ Some fault)) }
     ensures within { OnOk result (number ≤ most_lines) }
 {
     if number > MAX_LINES {
         return Err(Fault::TooLarge);
     }
     match Line::read(line) {
-        Line::Blank => Ok(()),
+        Line::Blank => Ok(None),
         Line::Malformed => Err(Fault::BadScript { line: number }),
-        Line::Command(command) => carry_out(router, command, text),
+        Line::Drain { moment } => Ok(Some(moment)),
+        Line::Command(command) => {
+            carry_out(router, command, text)?;
+            Ok(None)
+        }
     }
 }
 
@@ -78,12 +93,47 @@ fn carry_out(router: &mut Router, command: Command, text: &mut Vec<u8>) -> Resul
             let Some(place) = router.place_of(sender) else {
                 return Err(Fault::UnknownSender { sender });
             };
-            let (packet, outcome) = router.send(place, length);
+            let (packet, outcome) = router.send(place, length)?;
             push_offer(text, packet, outcome)
         }
         Command::Pull { moment } => {
             let got = router.pull(moment)?;
             push_pull(text, moment, got)
         }
+    }
+}
+
+/// Whether the lines of a text, which come after a drain that is the line of this number, have no fields. Fault 16 for the first that
+/// has one, and 18 for line 1,000,001.
+fn only_blank_lines(drain: u32, text: &[u8]) -> Result<(), Fault>
+    requires { drain ≤ most_lines }
+    ensures { (senders : _) → MatchResult result
+        (λ blank. first_fault senders true (drain + 1) (lines_of text.now) ≡ None)
+        (λ fault. first_fault senders true (drain + 1) (lines_of text.now) ≡ Some fault) }
+{
+    let mut number = drain;
+    let mut rest = text;
+    while !rest.is_empty() {
+        let (line, after) = first_line(rest);
+        number += 1;
+        blank_line(number, line)?;
+        rest = after;
+    }
+    Ok(())
+}
+
+/// Whether the line of this number, which comes after a drain, has no fields.
+fn blank_line(number: u32, line: &[u8]) -> Result<(), Fault>
+    ensures fault { (senders : _) → MatchResult result
+        (λ blank. fault_at senders true number (line_of line.now) ≡ None)
+        (λ fault. fault_at senders true number (line_of line.now) ≡ Some fault) }
+    ensures within { OnOk result (number ≤ most_lines) }
+{
+    if number > MAX_LINES {
+        return Err(Fault::TooLarge);
+    }
+    match Line::read(line) {
+        Line::Blank => Ok(()),
+        _ => Err(Fault::BadScript { line: number }),
     }
 }

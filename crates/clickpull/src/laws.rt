@@ -4,7 +4,7 @@ ghost use Rattle.std.specs.Prelude.{◌≡◌, [], ◌∷◌, Some, codes};
 ghost use Rattle.clk_packet.specs.declared.fault.Fault.TheVariants.{TooLarge};
 ghost use Rattle.clickpull.specs.Builtin.{builtin};
 ghost use Rattle.clickpull.specs.Bytes.{Takes, AppendsFront};
-ghost use Rattle.clickpull.specs.Meaning.{CanHappen, IsMeaning, Explains, sender_numbers};
+ghost use Rattle.clickpull.specs.Meaning.{CanHappen, IsMeaning, Explains};
 ghost use Rattle.clickpull.specs.OneMeaning.{IsWired, HasAtMostOneMeaning};
 ghost use Rattle.clickpull.specs.Examples.{shaped, moment_not_counted, moment_ahead, second_first, number_left_out, refused_early, never_sent, other_refused};
 
@@ -40,5 +40,5 @@ pub fn script_examples()
 pub fn word_examples()
     ensures not_taken { ¬ (Takes 1 (Some (65 ∷ 66 ∷ [])) (Some [])) }
     ensures not_front { ¬ (AppendsFront (Some []) (Some (66 ∷ [])) (65 ∷ 66 ∷ [])) }
-    ensures not_too_large { ¬ (Explains (sender_numbers builtin) (Some (codes "pull 0\n")) TooLarge) }
+    ensures not_too_large { ¬ (Explains builtin (Some (codes "pull 0\n")) TooLarge) }
 {}

@@ -3,10 +3,12 @@
 
 mod answer;
 mod bytes;
+mod closing;
 mod faults;
 mod fields;
 mod laws;
 mod queues;
+mod report;
 mod router;
 mod run;
 mod script;

@@ -3,9 +3,9 @@
 use crate::queues::Queues;
 use crate::senders::{Sender, place_of, senders_of};
 use crate::setup::{QueueSpec, SenderSpec};
-use clk_packet::{Fault, Offered, Packet};
+use clk_packet::{Fault, Offered, Packet, Packets};
 use clk_ring::calls_are_history;
-use clk_sched::{Session, Tree, runs_go_on};
+use clk_sched::{Session, Tree, Visit, runs_go_on};
 use std::alloc::Global;
 
 /// The router, and all that it has done.
@@ -15,16 +15,23 @@ pub struct Router {
     session: Session,
     queues: Queues,
     /// The senders, by rising numbers.
-    senders: Vec<Sender>,
+    pub senders: Vec<Sender>,
+    /// How many packets the queues took.
+    accepted: u64,
+    /// The packets that the queues put out for later ones, in order.
+    pub evicted: Packets,
 }
 
 impl Router {
-    ghost use Rattle.std.specs.Prelude.{◌≡◌, ◌+◌, ◌^◌, ◌<◌, ◌≤◌, ◌==◌, ◌++◌, ◌∷◌, [], true, false, None, length, IfOk, IfErr, IfSome, IsOkUnless};
+    ghost use Rattle.std.specs.Prelude.{◌≡◌, ◌+◌, ◌^◌, ◌<◌, ◌≤◌, ◌==◌, ◌++◌, ◌∷◌, ◌⊎◌, [], true, false, None, length, IfOk, IfErr, OnOk, IfSome, IsOkUnless};
     ghost use Rattle.std.specs.List.{AllByRecursion, list_any};
+    ghost use Rattle.clk_packet.specs.declared.packet.Packet.{Packet};
     ghost use Rattle.clk_packet.specs.declared.fault.Fault.TheVariants.{Memory};
     ghost use Rattle.clk_sched.specs.Tree.{leaves_distinct};
+    ghost use Rattle.clk_sched.specs.Results.{emitted};
+    ghost use Rattle.clickpull.specs.Script.{most_lines, most_moment};
     ghost use Rattle.clickpull.specs.Meaning.{Setup, Event, offered, setup_of, CannotStart};
-    ghost use Rattle.clickpull.specs.Router.{HasCapacity, numbers_in, IsPlace, IsPlaceOf, IsSentFrom, IsReady, IsAt, Starts, LeadsOnByPull};
+    ghost use Rattle.clickpull.specs.Router.{HasCapacity, numbers_in, IsPlace, IsPlaceOf, IsSentFrom, IsReady, IsAt, Starts, Counts, LeadsOnByPull, LeadsOnByClosing, StopsDrain};
 
     /// The router over these parts before anything has happened.
     ///
@@ -50,6 +57,8 @@ impl Router {
             session,
             queues: Queues::new(alloc, queues)?,
             senders: senders_of(alloc, senders)?,
+            accepted: 0,
+            evicted: Packets::new(alloc),
         })
     }
 
@@ -62,21 +71,40 @@ impl Router {
         place_of(&self.senders, number)
     }
 
-    /// The sender at this place offers its next packet, of this length in bytes, to its queue.
-    pub fn send(&mut self, place: usize, length: u16) -> (Packet, Offered)
+    /// The sender at this place offers its next packet, of this length in bytes, to its queue. Fault 1 where memory is refused.
+    pub fn send(&mut self, place: usize, length: u16) -> Result<(Packet, Offered), Fault>
         requires ready { IsReady self.old }
         requires is_there { IsPlace self.old.senders.items place }
         requires has_length { 1 ≤ length }
-        ensures sender { IsSentFrom self.old.senders.items place result.0 }
-        ensures length { result.0.length ≡ length }
-        ensures leads { (setup : Setup) (events : _) → IsAt setup events self.old → IsAt setup (events ++ offered result.0 result.1 ∷ []) self.new }
+        ensures sent { IfOk result (λ r. IsSentFrom self.old.senders.items place r.0 × (r.0.length ≡ length)) }
+        ensures leads { IfOk result (λ r. (setup : Setup) (events : _) → IsAt setup events self.old → IsAt setup (events ++ offered r.0 r.1 ∷ []) self.new) }
+        ensures fault { IsOkUnless result Fault.Memory }
     {
         // What happened to the queue stays a history of it by this law, which does nothing.
         calls_are_history();
         let sender = &mut self.senders[place];
         let packet = sender.next_packet(length);
-        let queue = sender.queue;
-        (packet, self.queues.offer(queue, packet))
+        let outcome = self.queues.offer(sender.queue, packet);
+        sender.note(packet, outcome)?;
+        self.count(outcome)?;
+        Ok((packet, outcome))
+    }
+
+    /// Counts what became of a packet. Fault 1 where memory is refused.
+    fn count(&mut self, outcome: Offered) -> Result<(), Fault>
+        requires { self.old.accepted ≤ most_lines }
+        ensures counted { OnOk result ((packet : Packet) → Counts self.old packet outcome self.new) }
+        ensures fault { IsOkUnless result Fault.Memory }
+    {
+        match outcome {
+            Offered::Refused(_) => {}
+            Offered::Accepted => self.accepted += 1,
+            Offered::Evicted(front) => {
+                self.accepted += 1;
+                self.evicted.push(front)?;
+            }
+        }
+        Ok(())
     }
 
     /// Pulls the device once, at this moment in ticks or, where that is later, at the greatest so far. Fault 1 where memory is
@@ -89,5 +117,44 @@ impl Router {
         // What happened to the queues stays a history of each by this law, which does nothing.
         calls_are_history();
         self.session.pull(&mut self.queues, moment)
+    }
+
+    /// Pulls the device, one tick apart and the first time one tick after the greater of this moment and the greatest so far, until
+    /// all packets that are left in queues and heads came out. Answers how many visits were logged before.
+    ///
+    /// # Errors
+    ///
+    /// Fault 1 where memory is refused, and 17 where the pulls that a session gives to its closing were not enough.
+    pub fn drain(&mut self, alloc: Global, moment: u64) -> Result<usize, Fault>
+        requires ready { IsReady self.old }
+        requires moment { moment ≤ most_moment }
+        ensures start { IfOk result (λ start. start ≡ length self.old.session.log) }
+        ensures within { IfOk result (λ start. start ≤ length self.new.session.log) }
+        ensures leads { OnOk result ((setup : Setup) (events : _) → IsAt setup events self.old → LeadsOnByClosing setup self.new moment events) }
+        ensures fault { IfErr result (λ fault. (fault ≡ Memory) ⊎ StopsDrain self.old moment fault) }
+    {
+        // What happened to the queues stays a history of each by this law, which does nothing.
+        calls_are_history();
+        let logged = self.session.log().len();
+        let emitted = self.session.emitted(alloc)?.len() as u64;
+        let evicted = self.evicted.as_slice().len() as u64;
+        let left = self.accepted.saturating_sub(evicted).saturating_sub(emitted);
+        self.session.drain(&mut self.queues, left, moment)?;
+        Ok(logged)
+    }
+
+    /// Every visit so far, in order.
+    pub fn log(&self) -> &[Visit]
+        ensures { result.now ≡ self.now.session.log }
+    {
+        self.session.log()
+    }
+
+    /// The packets that came out at the device, in order. Fault 1 where memory is refused.
+    pub fn emitted(&self, alloc: Global) -> Result<Vec<Packet>, Fault>
+        ensures packets { IfOk result (λ packets. packets.items ≡ emitted self.now.session.log) }
+        ensures fault { IsOkUnless result Fault.Memory }
+    {
+        self.session.emitted(alloc)
     }
 }

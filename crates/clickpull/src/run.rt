@@ -106,7 +106,7 @@ pub fn run_builtin<R: Source, W: Sink>(
     ensures nothing { IfErr result (λ fault. fault ≢ Write → Keeps (W.Sink.taken writer.old) (W.Sink.taken writer.new)) }
 
     // Each fault has its cause.
-    ensures fault { IfErr result (Explains (sender_numbers builtin) (R.Source.remaining reader.old)) }
+    ensures fault { IfErr result (Explains builtin (R.Source.remaining reader.old)) }
     ensures read_failures { R.Source.failures reader.new ≡ read_failures result (R.Source.failures reader.old) }
     ensures write_failures { W.Sink.failures writer.new ≡ write_failures result (W.Sink.failures writer.old) }
 

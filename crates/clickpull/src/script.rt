@@ -28,11 +28,13 @@ pub enum Line {
     /// It isn't a line of a script.
     Malformed,
     Command(Command),
+    /// The closing drain, from this moment on in ticks, and then the report. Nothing follows it.
+    Drain { moment: u64 },
 }
 
 impl Line {
     ghost use Rattle.std.specs.Prelude.{◌≡◌, ◌∷◌, codes};
-    ghost use Rattle.clickpull.specs.Script.{fields, line_of, line_of_fields};
+    ghost use Rattle.clickpull.specs.Script.{fields, line_of, line_of_fields, only_moment};
 
     /// Reads a line, which is given without its end.
     pub fn read(text: &[u8]) -> Line
@@ -59,6 +61,9 @@ impl Line {
         if word == b"send".as_slice() {
             return Line::send(rest);
         }
+        if word == b"drain".as_slice() {
+            return Line::drain(rest);
+        }
         Line::Malformed
     }
 
@@ -66,14 +71,29 @@ impl Line {
     fn pull(text: &[u8]) -> Line
         ensures { result ≡ line_of_fields (codes "pull" ∷ fields text.now) }
     {
-        let Some((moment, rest)) = first_number(text, 0, MAX_MOMENT) else {
-            return Line::Malformed;
-        };
-        let (more, _) = first_field(rest);
-        if !more.is_empty() {
-            return Line::Malformed;
+        match Line::only_moment(text) {
+            Some(moment) => Line::Command(Command::Pull { moment }),
+            None => Line::Malformed,
         }
-        Line::Command(Command::Pull { moment })
+    }
+
+    /// The line `drain M`, of what follows its word.
+    fn drain(text: &[u8]) -> Line
+        ensures { result ≡ line_of_fields (codes "drain" ∷ fields text.now) }
+    {
+        match Line::only_moment(text) {
+            Some(moment) => Line::Drain { moment },
+            None => Line::Malformed,
+        }
+    }
+
+    /// The moment that stands alone in a text, if one does.
+    fn only_moment(text: &[u8]) -> Option<u64>
+        ensures { result ≡ only_moment (fields text.now) }
+    {
+        let (moment, rest) = first_number(text, 0, MAX_MOMENT)?;
+        let (more, _) = first_field(rest);
+        if more.is_empty() { Some(moment) } else { None }
     }
 
     /// The line `send S L`, of what follows its word.

@@ -1,24 +1,28 @@
 //! The senders of a router.
 
-ghost use Rattle.std.specs.Prelude.{◌≡◌, ◌≤◌, ◌+◌, ◌<◌, ◌^◌, ◌==◌, false, None, map, IfSome, IfOk, IsOkUnless};
+ghost use Rattle.std.specs.Prelude.{◌≡◌, ◌≤◌, ◌+◌, ◌<◌, ◌^◌, ◌==◌, false, None, map, IfSome, IfOk, OnOk, IsOkUnless};
 ghost use Rattle.std.specs.List.{list_any};
 ghost use Rattle.clk_packet.specs.declared.fault.Fault.TheVariants.{Memory};
 ghost use Rattle.clickpull.specs.Meaning.{AreRising};
-ghost use Rattle.clickpull.specs.Router.{sender_made, sent_one_more, number_of, IsPlaceOf};
+ghost use Rattle.clickpull.specs.Router.{sender_made, sent_one_more, noted, number_of, IsPlaceOf};
 
 use crate::setup::SenderSpec;
-use clk_packet::{Fault, Packet};
+use clk_packet::{Fault, Offered, Packet, Packets};
 use std::alloc::Global;
 
 /// A sender, and what it has sent.
 #[derive(Drop)]
 pub struct Sender {
     /// Its number.
-    number: u16,
+    pub number: u16,
     /// The number of the queue that it sends to.
     pub queue: u16,
     /// How many packets it has offered.
     sent: u32,
+    /// Those that its queue took.
+    pub accepted: Packets,
+    /// Those that its queue was too full to take.
+    pub refused: Packets,
 }
 
 impl Sender {
@@ -39,6 +43,17 @@ impl Sender {
             length,
         }
     }
+
+    /// Keeps what became of a packet that it offered. Fault 1 where memory is refused.
+    pub fn note(&mut self, packet: Packet, outcome: Offered) -> Result<(), Fault>
+        ensures kept { OnOk result (self.new ≡ noted packet outcome self.old) }
+        ensures fault { IsOkUnless result Fault.Memory }
+    {
+        match outcome {
+            Offered::Refused(_) => self.refused.push(packet),
+            Offered::Accepted | Offered::Evicted(_) => self.accepted.push(packet),
+        }
+    }
 }
 
 /// These senders, before they have sent anything. Fault 1 where memory is refused.
@@ -52,6 +67,8 @@ pub fn senders_of(alloc: Global, specs: &[SenderSpec]) -> Result<Vec<Sender>, Fa
             number: spec.number,
             queue: spec.queue,
             sent: 0,
+            accepted: Packets::new(alloc),
+            refused: Packets::new(alloc),
         })?;
     }
     Ok(senders)

@@ -7,6 +7,7 @@ mod fault;
 mod from_std;
 mod io;
 mod packet;
+mod packets;
 
 pub use failing::{FailingSink, FailingSource};
 pub use failures::Failures;
@@ -14,6 +15,7 @@ pub use fault::Fault;
 pub use from_std::{FromRead, ToWrite};
 pub use io::{Failed, Sink, Source};
 pub use packet::{Kind, Offered, Packet};
+pub use packets::Packets;
 
 #[cfg(test)]
 mod tests;

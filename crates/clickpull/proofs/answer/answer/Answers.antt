@@ -1,19 +1,56 @@
-use Rattle.std.proofs.Common.{◌+◌, arith, rules, refl, sym, ◌∙◌, ◌≡◌, length}
-use Rattle.std.proofs.lemmas.Bool.Decides.{nat_tests}
+use Rattle.std.proofs.Common.{◌+◌, ◌∙◌, sym, arith}
 use Rattle.std.proofs.lemmas.Result.{err_from_is_err_and}
 use Rattle.clickpull.specs.Meaning.{sender_numbers}
 use Rattle.clickpull.specs.Router.{setup_at}
-use Rattle.clickpull.proofs.RouterLemmas.{numbers-its}
-use Rattle.clickpull.proofs.AnswerLemmas.{HasAnswered-none, HasAnswered-line, Writes-answered, IsReady-answered, fault-later, first-fault, fault-none}
+use Rattle.clickpull.proofs.SenderLemmas.{numbers-its}
+use Rattle.clickpull.proofs.AnswerLemmas.{HasAnswered-line, IsReady-answered, IsAtDrain-read, Writes-drained, closing-refused, fault-open, first-fault}
 use Rattle.clickpull.proofs.answer.answer.Goals as goal
-
-pub loop-rest-init : goal.loop-rest-init
-loop-rest-init c = record { fault = refl; answered = HasAnswered-none _ _ _ _ c.requires.leads (search rules); bound = omega arith }
 
 pub answer_line-requires : goal.answer_line-requires
 answer_line-requires c =
     let h = c.loop-rest.invariant in
     record { ready = IsReady-answered _ _ _ _ _ _ h.answered c.requires.rising c.requires.wired h.bound }
+
+pub returns-in_err-moment : goal.returns-in_err-moment
+returns-in_err-moment c =
+    let h = c.loop-rest.invariant in
+    let numbers = numbers-its _ _ _ h.answered.leads in
+    let why = rw numbers at c.in_err-moment.ensures.exact in
+    let p = err_from_is_err_and c.from_residual.result c.from_residual.ensures.1 in
+    rw (p.1, p.2)
+    (first-fault (setup_at c.args.router.now) c.args.script.now c.loop-rest.rest.now c.first_line.result.1.now c.first_line.result.0.now (c.loop-rest.number + 1) c.in_err-moment.field-0.0 (omega arith) h.fault
+    c.first_line.ensures.line why)
+
+pub close-requires-clause-ready : goal.close-requires-clause-ready
+close-requires-clause-ready c =
+    let h = c.loop-rest.invariant in
+    let numbers = numbers-its _ _ _ h.answered.leads in
+    let read = rw numbers at c.in_ok-moment.ensures.exact in
+    let at = IsAtDrain-read (setup_at c.args.router.now) _ _ c.args.script.now c.loop-rest.rest.now c.first_line.result.1.now c.first_line.result.0.now c.loop-rest.number c.in-Some.moment _ _ h.answered (omega arith) h.fault
+    c.first_line.ensures.line read.0 (sym read.1 ∙ c.in-Some.is) read.2 (c.in_ok-only_blank_lines.ensures (sender_numbers (setup_at c.args.router.now)))
+    in
+    IsReady-answered _ _ _ _ _ _ at.answered c.requires.rising c.requires.wired h.bound
+
+pub returns-in_err-close : goal.returns-in_err-close
+returns-in_err-close c =
+    let h = c.loop-rest.invariant in
+    let numbers = numbers-its _ _ _ h.answered.leads in
+    let read = rw numbers at c.in_ok-moment.ensures.exact in
+    let at = IsAtDrain-read (setup_at c.args.router.now) _ _ c.args.script.now c.loop-rest.rest.now c.first_line.result.1.now c.first_line.result.0.now c.loop-rest.number c.in-Some.moment _ _ h.answered (omega arith) h.fault
+    c.first_line.ensures.line read.0 (sym read.1 ∙ c.in-Some.is) read.2 (c.in_ok-only_blank_lines.ensures (sender_numbers (setup_at c.args.router.now)))
+    in
+    let p = err_from_is_err_and c.from_residual-in_err-close.result c.from_residual-in_err-close.ensures.1 in
+    rw (p.1, p.2) (closing-refused _ _ _ _ _ _ _ _ _ c.in_err-close.field-0.0 at c.in_err-close.ensures)
+
+pub returns-in-Some : goal.returns-in-Some
+returns-in-Some c =
+    let h = c.loop-rest.invariant in
+    let numbers = numbers-its _ _ _ h.answered.leads in
+    let read = rw numbers at c.in_ok-moment.ensures.exact in
+    let at = IsAtDrain-read (setup_at c.args.router.now) _ _ c.args.script.now c.loop-rest.rest.now c.first_line.result.1.now c.first_line.result.0.now c.loop-rest.number c.in-Some.moment _ _ h.answered (omega arith) h.fault
+    c.first_line.ensures.line read.0 (sym read.1 ∙ c.in-Some.is) read.2 (c.in_ok-only_blank_lines.ensures (sender_numbers (setup_at c.args.router.now)))
+    in
+    (at.sound, Writes-drained _ _ _ _ _ _ _ _ _ _ _ at.answered at.drained c.in_ok-close.ensures)
 
 pub loop-rest-preserved : goal.loop-rest-preserved
 loop-rest-preserved c =
@@ -21,25 +58,10 @@ loop-rest-preserved c =
     let senders = sender_numbers (setup_at c.args.router.now) in
     let line = c.first_line.ensures.line in
     let numbers = numbers-its _ _ _ h.answered.leads in
-    let answers = rw numbers at c.in_ok-answer_line.ensures.exact in
+    let read = rw numbers at c.in_ok-moment.ensures.exact in
+    let none = sym read.1 ∙ c.in_default.is in
     record {
-      fault = sym (fault-later senders c.loop-rest.rest.now c.first_line.result.1.now c.first_line.result.0.now (c.loop-rest.number + 1) line answers.0) ∙ h.fault;
-      answered = HasAnswered-line _ _ _ _ c.loop-rest.rest.now c.first_line.result.1.now c.first_line.result.0.now _ _ _ h.answered line answers.1;
-      bound = c.in_ok-answer_line.ensures.within;
+      fault = sym (fault-open senders c.loop-rest.rest.now c.first_line.result.1.now c.first_line.result.0.now (c.loop-rest.number + 1) line read.0 none) ∙ h.fault;
+      answered = HasAnswered-line _ _ _ _ c.loop-rest.rest.now c.first_line.result.1.now c.first_line.result.0.now _ _ _ h.answered line none read.2;
+      bound = c.in_ok-moment.ensures.within;
     }
-
-pub returns-in_err-answer_line : goal.returns-in_err-answer_line
-returns-in_err-answer_line c =
-    let h = c.loop-rest.invariant in
-    let numbers = numbers-its _ _ _ h.answered.leads in
-    let why = rw numbers at c.in_err-answer_line.ensures.exact in
-    let p = err_from_is_err_and c.from_residual.result c.from_residual.ensures.1 in
-    rw (p.1, p.2)
-    (first-fault (sender_numbers (setup_at c.args.router.now)) c.args.script.now c.loop-rest.rest.now c.first_line.result.1.now c.first_line.result.0.now (c.loop-rest.number + 1) c.in_err-answer_line.field-0.0 (omega arith) h.fault
-    c.first_line.ensures.line why)
-
-pub returns : goal.returns
-returns c =
-    let h = c.loop-rest.invariant in
-    let none : length c.loop-rest.rest.now ≡ 0 = grind (arith, nat_tests) in
-    (fault-none (sender_numbers (setup_at c.args.router.now)) c.args.script.now c.loop-rest.rest.now (c.loop-rest.number + 1) (omega arith) h.fault none, Writes-answered _ _ _ c.loop-rest.rest.now _ _ h.answered none)

@@ -8,17 +8,18 @@ use Rattle.clickpull.proofs.PlaceLemmas.{known-at}
 use Rattle.clickpull.proofs.AnswerLemmas.{command-answered, same-number}
 use Rattle.clickpull.proofs.answer.carry_out.Goals as goal
 
-pub returns-in-Some : goal.returns-in-Some
-returns-in-Some c =
-    let packet = c.send-outcome.result.0 in
-    let outcome = c.send-outcome.result.1 in
+pub returns-in_ok-packet-in-Send : goal.returns-in_ok-packet-in-Send
+returns-in_ok-packet-in-Send c =
+    let packet = c.in_ok-packet-in-Send.packet in
+    let outcome = c.in_ok-packet-in-Send.outcome in
+    let sent = c.in_ok-packet-in-Send.ensures.sent in
     let senders = numbers_in c.args.router.now in
     let known = known-at c.args.router.now.senders.items c.in-Send.sender c.in-Some.place c.in-Some.ensures.found.here in
     let sound : command_fault senders (Send c.in-Send.sender c.in-Send.length) ≡ None = rw known refl in
-    let sender = same-number _ packet.sender c.in-Send.sender c.send-outcome.ensures.sender c.in-Some.ensures.found.here in
-    let theirs : command_of (offered packet outcome) ≡ c.args.command = ap (λ s. Send s packet.length) sender ∙ ap (Send c.in-Send.sender) c.send-outcome.ensures.length ∙ sym c.in-Send.is in
+    let sender = same-number _ packet.sender c.in-Send.sender sent.0 c.in-Some.ensures.found.here in
+    let theirs : command_of (offered packet outcome) ≡ c.args.command = ap (λ s. Send s packet.length) sender ∙ ap (Send c.in-Send.sender) sent.1 ∙ sym c.in-Send.is in
     command-answered c.push_offer.result _ _ _ _ senders c.args.command (ap (command_fault senders) c.in-Send.is ∙ sound)
-    (on_ok_weaker c.push_offer.result (λ line setup events at. record { event = offered packet outcome; theirs = theirs; line = line; leads = c.send-outcome.ensures.leads setup events at }) c.push_offer.ensures.line)
+    (on_ok_weaker c.push_offer.result (λ line setup events at. record { event = offered packet outcome; theirs = theirs; line = line; leads = c.in_ok-packet-in-Send.ensures.leads setup events at }) c.push_offer.ensures.line)
     c.push_offer.ensures.fault
 
 pub returns-in_ok-got-in-Pull : goal.returns-in_ok-got-in-Pull

@@ -1,0 +1,221 @@
+-- How a router closes.
+use Rattle.std.proofs.Common.{◌≡◌, ℕ, ◌+◌, ◌-◌, ◌<◌, ◌≤◌, ◌==◌, Bool, true, false, if◌then◌else◌, List, [], ◌∷◌, ◌++◌, length, drop, filter, map, reverse, max, fold, append-nil, append_assoc, Option, Some, None, MatchOption, Result, Ok, Err, MatchResult, OnOk, IsOkUnless, slice_get, ◌⊎◌, inl, inr, refl, sym, ap, ap₂, ◌∙◌, subst, arith}
+use Rattle.std.specs.List.{filter_map, flat_map, range_with_len, AllByRecursion}
+use Rattle.std.proofs.lemmas.List.{map-append}
+use Rattle.std.proofs.lemmas.List.Elements.{filter_map-append}
+use Rattle.std.proofs.Math.Seq.{drop-append_seam}
+use Rattle.std.proofs.lemmas.List.Concat.{flat_map-append}
+use Rattle.clk_packet.specs.declared.packet.Packet.{Packet}
+use Rattle.clk_packet.specs.declared.fault.Fault.{Fault}
+use Rattle.clk_packet.specs.declared.fault.Fault.TheVariants.{Memory, TooManyPulls}
+use Rattle.clk_sched.specs.declared.visit.Visit.{Visit}
+use Rattle.clk_ring.specs.QueueHistory.{QueueEvent}
+use Rattle.clk_ring.specs.Laws.{CallsAreHistory}
+use Rattle.clk_sched.specs.Turns.{UpToFirst, AsksInOrder}
+use Rattle.clk_sched.specs.Laws.Device.{IsDeviceTurn}
+use Rattle.clk_sched.specs.Log.{pulls, visits_of, moment_of, result_of, turn, HasOneMoment}
+use Rattle.clk_sched.specs.Run.{IsRun}
+use Rattle.clk_sched.specs.Places.{Answers}
+use Rattle.clk_sched.specs.Results.{emitted}
+use Rattle.clk_sched.specs.Bound.{closing_bound}
+use Rattle.clk_sched.specs.Session.{IsDrained, GivesAll, StopsShort as StopsSession, StopsAt, newly, latest_moment, counted_moment, tree_queue, given_in}
+use Rattle.clickpull.specs.declared.router.Router.{Router}
+use Rattle.clickpull.specs.declared.setup.SenderSpec.{SenderSpec}
+use Rattle.clickpull.specs.Report.{report_text}
+use Rattle.clickpull.specs.Totals.{account_of}
+use Rattle.clickpull.specs.Meaning.{Setup, sender_numbers, Event, pulled, moment_in, pull_in, accepted_in, evicted_in, visits_in, log_of, at_queue, history, account_after, CanHappen, pulls_from, closing_pulls, given_text, closing_text, left_after, DrainsShort}
+use Rattle.clickpull.specs.Router.{AreQueuesAt, sender_after, IsAt, visit_text, LeadsOnByClosing, Ends, StopsDrain}
+use Rattle.clickpull.proofs.Alike.{member-between, its-moment}
+use Rattle.clickpull.proofs.EventLemmas.{fold-more, pulls-log, pulls-add_none, pulls-history, latest-moment, CanHappen-pulls}
+use Rattle.clickpull.proofs.SenderLemmas.{senders-closed}
+use Rattle.clickpull.proofs.RouterLemmas.{its-history, StandAt, gives, queues-answered}
+
+-- the moment after which the closing of a router begins
+pub its-latest : (setup : Setup) (events : List Event) (router : Router) → IsAt setup events router → counted_moment router.session ≡ fold max 0 (filter_map moment_in events)
+its-latest setup events router at = ap (λ l. latest_moment (reverse (pulls l))) at.log ∙ latest-moment setup events at.can_happen
+
+-- A drain of the session leads on.
+module _ (calls : CallsAreHistory) (setup : Setup) (events : List Event) (old new : Router) (moment made given : ℕ) (at : IsAt setup events old)
+    (d : IsDrained old.session new.session (max (counted_moment old.session) moment) made given) where
+  abbrev pub start : ℕ
+  start = max (fold max 0 (filter_map moment_in events)) moment + 1
+
+  abbrev pub joined : List Visit
+  joined = flat_map (λ pull. pull) d.more
+
+  log : new.session.log ≡ log_of events ++ joined
+  log = d.log ∙ ap (λ l. l ++ joined) at.log
+
+  pub IsAt-closed : Answers gives (tree_queue old.session.tree) old.queues (newly old.session new.session) new.queues → new.senders ≡ old.senders → new.accepted ≡ old.accepted → new.evicted ≡ old.evicted
+      → IsAt setup (events ++ closing_pulls moment events d.more) new
+  IsAt-closed answers senders accepted evicted =
+      record {
+        can_happen =
+            CanHappen-pulls setup events start d.more at.can_happen (omega arith) (subst (IsRun setup.tree) log (subst (λ t. IsRun t new.session.log) (d.tree ∙ at.tree) d.run))
+            (ap pulls (sym log) ∙ d.pulls_are ∙ ap (λ l. pulls l ++ d.more) at.log) (d.moments ∙ ap₂ range_with_len (ap (λ n. max n moment + 1) (its-latest setup events old at)) (sym d.made_are))
+            (λ q. its-history (history setup q (events ++ closing_pulls moment events d.more)) (slice_get setup.queues q) (slice_get new.queues.rings.items q) (queues q));
+        senders = ap (λ ss. ss.items) senders ∙ at.senders ∙ senders-closed events start d.more setup.senders;
+        queues = queues;
+        count = answered.count;
+        tree = d.tree ∙ at.tree;
+        log = log ∙ sym (flat_map-append visits_in events (closing_pulls moment events d.more) ∙ ap (λ l. log_of events ++ l) (pulls-log start d.more));
+        accepted = accepted ∙ at.accepted ∙ ap length (sym (pulls-add_none accepted_in (λ n visits. refl) events start d.more));
+        evicted = evicted ∙ at.evicted ∙ sym (pulls-add_none evicted_in (λ n visits. refl) events start d.more);
+      }
+    where
+      answered : StandAt setup (λ q. history setup q events ++ at_queue setup q (pulled moment joined)) new.queues.rings.items
+      answered =
+          queues-answered calls setup moment joined old.queues new.queues (λ q. history setup q events) (record { each = at.queues; count = at.count })
+          (subst (λ l. Answers gives (tree_queue setup.tree) old.queues l new.queues) (ap (drop (length old.session.log)) d.log ∙ drop-append_seam old.session.log joined)
+          (subst (λ t. Answers gives (tree_queue t) old.queues (newly old.session new.session) new.queues) at.tree answers))
+
+      queues : (q : ℕ) → AreQueuesAt (history setup q (events ++ closing_pulls moment events d.more)) (slice_get setup.queues q) (slice_get new.queues.rings.items q)
+      queues q =
+          subst (λ l. AreQueuesAt l (slice_get setup.queues q) (slice_get new.queues.rings.items q))
+          (sym (flat_map-append (at_queue setup q) events (closing_pulls moment events d.more) ∙ ap (λ l. history setup q events ++ l) (pulls-history setup q moment start d.more))) (answered.each q)
+
+-- how many packets are left, as the router counts them
+pub its-left : (setup : Setup) (events : List Event) (router : Router) → IsAt setup events router → router.accepted - length router.evicted - length (emitted router.session.log) ≡ left_after events
+its-left setup events router at =
+    ap (λ n. n - length router.evicted - length (emitted router.session.log)) at.accepted
+    ∙ ap (λ (l : List Packet). length (filter_map accepted_in events) - length l - length (emitted router.session.log)) at.evicted
+    ∙ ap (λ l. length (filter_map accepted_in events) - length (filter_map evicted_in events) - length (emitted l)) at.log
+
+pub closes-all : CallsAreHistory → (setup : Setup) (events : List Event) (old new : Router) (moment made left : ℕ) → IsAt setup events old → left ≡ old.accepted - length old.evicted - length (emitted old.session.log)
+    → GivesAll old.session new.session (max (counted_moment old.session) moment) made left → Answers gives (tree_queue old.session.tree) old.queues (newly old.session new.session) new.queues
+    → new.senders ≡ old.senders → new.accepted ≡ old.accepted → new.evicted ≡ old.evicted → LeadsOnByClosing setup new moment events
+closes-all calls setup events old new moment made left at is all answers senders accepted evicted =
+    record {
+      closed = closing_pulls moment events all.drained.more;
+      closes = record { closing = all.drained.more; are = refl; all = all.drained.given_are ∙ is ∙ its-left setup events old at; stops = all.stops };
+      leads = IsAt-closed calls setup events old new moment made left at all.drained answers senders accepted evicted;
+    }
+
+pub stops-short : CallsAreHistory → (setup : Setup) (events : List Event) (old new : Router) (moment made left : ℕ) → IsAt setup events old → left ≡ old.accepted - length old.evicted - length (emitted old.session.log)
+    → made ≡ closing_bound old.session.tree left → StopsSession old.session new.session (max (counted_moment old.session) moment) made left
+    → Answers gives (tree_queue old.session.tree) old.queues (newly old.session new.session) new.queues → new.senders ≡ old.senders → new.accepted ≡ old.accepted → new.evicted ≡ old.evicted
+    → DrainsShort setup moment made events
+stops-short calls setup events old new moment made left at is bound short answers senders accepted evicted =
+    record {
+      closing = short.drained.more;
+      can_happen = (IsAt-closed calls setup events old new moment made short.given at short.drained answers senders accepted evicted).can_happen;
+      made_are = short.drained.made_are;
+      bound = bound ∙ ap₂ closing_bound at.tree (is ∙ its-left setup events old at);
+      fewer = let l = is ∙ its-left setup events old at in let g = short.drained.given_are in let f = short.fewer in omega (arith, l, g, f);
+    }
+
+-- why the drain of a session stopped is why the router's did
+pub stops-at : CallsAreHistory → (old new : Router) (moment left : ℕ) (fault : Fault) → left ≡ old.accepted - length old.evicted - length (emitted old.session.log)
+    → StopsAt old.session new.session (max (counted_moment old.session) moment) left fault → Answers gives (tree_queue old.session.tree) old.queues (newly old.session new.session) new.queues
+    → new.senders ≡ old.senders → new.accepted ≡ old.accepted → new.evicted ≡ old.evicted → (fault ≡ Memory) ⊎ StopsDrain old moment fault
+stops-at calls old new moment left Memory is stops answers senders accepted evicted = inl refl
+stops-at calls old new moment left (TooManyPulls made) is stops answers senders accepted evicted =
+    inr (λ setup events at. stops-short calls setup events old new moment made left at is stops.0 stops.1 answers senders accepted evicted)
+stops-at calls old new moment left fault is stops answers senders accepted evicted = absurd stops
+
+-- what the device's visits of a pull write, if they are one
+abbrev written : Visit → List ℕ
+written v = if v.passed then given_text v.moment v.got else []
+
+device-lines : (visits : List Visit) → flat_map visit_text visits ≡ flat_map written (visits_of 0 visits)
+device-lines [] = refl
+device-lines (v ∷ visits) = by_test (v.node == 0) refl (device-lines visits)
+  where
+    by_test : (b : Bool) → (v.node == 0) ≡ b → flat_map visit_text visits ≡ flat_map written (visits_of 0 visits) → flat_map visit_text (v ∷ visits) ≡ flat_map written (visits_of 0 (v ∷ visits))
+    by_test true e rest = rw e (ap (λ l. written v ++ l) rest)
+    by_test false e rest = rw e rest
+
+one-line : (moment : ℕ) (visits : List Visit) → UpToFirst (0 ∷ []) visits → AllByRecursion (λ (v : Visit). v.moment ≡ moment) visits → flat_map written visits ≡ given_text moment (result_of visits)
+one-line moment [] device at = absurd device
+one-line moment (v ∷ []) device at = append-nil (written v) ∙ by_passed v.passed
+  where
+    by_passed : (b : Bool) → (if b then given_text v.moment v.got else []) ≡ given_text moment (if b then v.got else None)
+    by_passed true = ap (λ m. given_text m v.got) at.0
+    by_passed false = refl
+one-line moment (v ∷ w ∷ visits) device at = absurd (by_got v.got device.1)
+  where
+    by_got : (o : Option Packet) → MatchOption o (UpToFirst [] (w ∷ visits)) (λ p. w ∷ visits ≡ []) → ⊥
+    by_got None h = h
+    by_got (Some p) h = omega (arith, ap length h)
+
+all-filtered : {X : Type 0} (P : X → Type 0) (f : X → Bool) (xs : List X) → AllByRecursion P xs → AllByRecursion P (filter f xs)
+all-filtered P f [] h = tt
+all-filtered P f (x ∷ xs) h = by_test (f x) refl (all-filtered P f xs h.1)
+  where
+    by_test : (b : Bool) → f x ≡ b → AllByRecursion P (filter f xs) → AllByRecursion P (filter f (x ∷ xs))
+    by_test true e rest = rw e (h.0, rest)
+    by_test false e rest = rw e rest
+
+-- what the visits of closing pulls write is what the pulls write
+pub closing-lines : (setup : Setup) (done : List Event) (t : ℕ) (more : List (List Visit)) → CanHappen setup (done ++ pulls_from t more) → fold max 0 (filter_map moment_in done) ≤ t
+    → flat_map visit_text (flat_map (λ pull. pull) more) ≡ flat_map closing_text (pulls_from t more)
+closing-lines setup done t [] can below = refl
+closing-lines setup done t (pull ∷ more) can below =
+    flat_map-append visit_text pull (flat_map (λ p. p) more)
+    ∙ ap₂ (λ a b. a ++ b)
+    (device-lines pull ∙ one-line t (visits_of 0 pull) device.in_order (subst (λ m. AllByRecursion (λ (v : Visit). v.moment ≡ m) (visits_of 0 pull)) at (all-filtered _ (λ (v : Visit). v.node == 0) pull its_moment)))
+    (closing-lines setup (done ++ pulled t pull ∷ []) (t + 1) more (rw append_assoc can) later)
+  where
+    turns : pulls (log_of (done ++ pulls_from t (pull ∷ more))) ≡ filter_map pull_in done ++ pull ∷ filter_map pull_in (pulls_from (t + 1) more)
+    turns = can.pull_by_pull ∙ filter_map-append pull_in done (pulls_from t (pull ∷ more))
+
+    device : AsksInOrder (0 ∷ []) (visits_of 0 pull)
+    device =
+        member-between IsDeviceTurn (map (turn 0) (filter_map pull_in done)) (turn 0 pull) (map (turn 0) (filter_map pull_in (pulls_from (t + 1) more)))
+        (subst (AllByRecursion IsDeviceTurn) (ap (map (turn 0)) turns ∙ map-append (turn 0) (filter_map pull_in done) (pull ∷ filter_map pull_in (pulls_from (t + 1) more))) can.run.device)
+
+    its_moment : HasOneMoment pull
+    its_moment = member-between HasOneMoment (filter_map pull_in done) pull (filter_map pull_in (pulls_from (t + 1) more)) (subst (AllByRecursion HasOneMoment) turns can.run.shape.one_moment)
+
+    at : moment_of pull ≡ t
+    at = let e = its-moment setup done t pull (pulls_from (t + 1) more) can in omega (arith, e, below)
+
+    later : fold max 0 (filter_map moment_in (done ++ pulled t pull ∷ [])) ≤ t + 1
+    later = let e = ap (fold max 0) (filter_map-append moment_in done (pulled t pull ∷ [])) ∙ fold-more 0 (filter_map moment_in done) t in omega (arith, e, below)
+
+-- the accounts of a router's senders
+accounts-its : (events : List Event) (specs : List SenderSpec) → map (account_of (filter_map evicted_in events) (emitted (log_of events))) (map (sender_after events) specs) ≡ map (account_after events) (map (λ (s : SenderSpec). s.number) specs)
+accounts-its events [] = refl
+accounts-its events (spec ∷ specs) = ap (λ l. account_after events spec.number ∷ l) (accounts-its events specs)
+
+pub report-its : (setup : Setup) (events : List Event) (router : Router) (packets : List Packet) → IsAt setup events router → packets ≡ emitted router.session.log
+    → map (account_of router.evicted packets) router.senders.items ≡ map (account_after events) (sender_numbers setup)
+report-its setup events router packets at is =
+    ap₂ (λ (l m : List Packet). map (account_of l m) router.senders.items) at.evicted (is ∙ ap emitted at.log) ∙ ap (map (account_of (filter_map evicted_in events) (emitted (log_of events)))) at.senders
+    ∙ accounts-its events setup.senders
+
+-- A router that was closed and wrote what its visits say and the report has written the ending.
+pub Ends-closed : (setup : Setup) (events : List Event) (old new : Router) (moment start : ℕ) (before middle after : List ℕ) (packets : List Packet) → IsAt setup events old → LeadsOnByClosing setup new moment events
+    → start ≡ length old.session.log → packets ≡ emitted new.session.log → middle ≡ before ++ flat_map visit_text (drop start new.session.log)
+    → after ≡ middle ++ report_text (map (account_of new.evicted packets) new.senders.items) → Ends setup new moment before after events
+Ends-closed setup events old new moment start before middle after packets at closing first is given report =
+    record {
+      closed = closing.closed;
+      closes = closing.closes;
+      lines =
+          report ∙ ap₂ (λ a b. a ++ report_text b) (given ∙ ap (λ l. before ++ l) lines) (report-its setup (events ++ closing.closed) new packets closing.leads is)
+          ∙ append_assoc before (flat_map closing_text closing.closed) _;
+      leads = closing.leads;
+    }
+  where
+    more : List (List Visit)
+    more = closing.closes.closing
+
+    t : ℕ
+    t = max (fold max 0 (filter_map moment_in events)) moment + 1
+
+    visits : drop start new.session.log ≡ log_of closing.closed
+    visits =
+        ap (λ n. drop n new.session.log) (first ∙ ap length at.log) ∙ ap (drop (length (log_of events))) (closing.leads.log ∙ flat_map-append visits_in events closing.closed)
+        ∙ drop-append_seam (log_of events) (log_of closing.closed)
+
+    lines : flat_map visit_text (drop start new.session.log) ≡ flat_map closing_text closing.closed
+    lines =
+        ap (flat_map visit_text) (visits ∙ ap log_of closing.closes.are ∙ pulls-log t more)
+        ∙ closing-lines setup events t more (subst (λ l. CanHappen setup (events ++ l)) closing.closes.are closing.leads.can_happen) (omega arith)
+        ∙ ap (flat_map closing_text) (sym closing.closes.are)
+
+-- what followed where the last step was made, or memory was refused
+pub ended : (r : Result (Unit {0}) Fault) (Line Done : Type 0) (Other : Fault → Type 0) → OnOk r Line → IsOkUnless r Memory → (Line → Done) → MatchResult r (λ done. Done) (λ fault. (fault ≡ Memory) ⊎ Other fault)
+ended (Ok x) Line Done Other line memory step = step line
+ended (Err fault) Line Done Other line memory step = inl memory

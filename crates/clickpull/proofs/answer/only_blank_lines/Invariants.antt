@@ -1,0 +1,14 @@
+use Rattle.std.proofs.Common.{◌≡◌, ◌+◌, ◌≤◌, ℕ, List, true, length}
+use Rattle.clickpull.specs.Script.{most_lines}
+use Rattle.clickpull.proofs.AnswerLemmas.{fault_from}
+use Rattle.clickpull.proofs.answer.only_blank_lines.Given as goal
+
+-- the first fault is in what is left
+abbrev pub invariant-loop-rest : goal.invariant-loop-rest
+invariant-loop-rest l = record {
+  fault : (senders : List ℕ) → fault_from senders true (l.number + 1) l.rest ≡ fault_from senders true (l.drain + 1) l.text;
+  bound : l.number ≤ most_lines;
+}
+
+abbrev pub decreases-loop-rest : goal.decreases-loop-rest
+decreases-loop-rest l = length l.rest
