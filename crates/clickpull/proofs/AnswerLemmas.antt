@@ -1,7 +1,6 @@
 -- How the answer to a script goes on by one line.
 use Rattle.std.proofs.Common.{◌≡◌, ℕ, ◌+◌, ◌≤◌, ◌||◌, List, [], ◌∷◌, ◌++◌, length, map, max, fold, Option, Some, None, Result, Ok, Err, MatchOption, MatchResult, OnOk, IsOkUnless, ◌⊎◌, inl, inr, nat_lt, Bool, true, false, refl, sym, ap, subst, ◌∙◌, append_assoc, length-append, arith}
 use Rattle.std.specs.List.{flat_map, filter_map, cons_option, AllByRecursion}
-use Rattle.std.specs.Bool.{⊤}
 use Rattle.std.specs.Str.Lines.{lines}
 use Rattle.std.proofs.lemmas.Bool.Decides.{nat_tests}
 use Rattle.std.proofs.lemmas.List.{append-nil, map-append}

@@ -1,5 +1,5 @@
 -- How a router closes.
-use Rattle.std.proofs.Common.{◌≡◌, ℕ, ◌+◌, ◌-◌, ◌<◌, ◌≤◌, ◌==◌, Bool, true, false, if◌then◌else◌, List, [], ◌∷◌, ◌++◌, length, drop, filter, map, reverse, max, fold, append-nil, append_assoc, Option, Some, None, MatchOption, Result, Ok, Err, MatchResult, OnOk, IsOkUnless, slice_get, ◌⊎◌, inl, inr, refl, sym, ap, ap₂, ◌∙◌, subst, arith}
+use Rattle.std.proofs.Common.{◌≡◌, ℕ, ◌+◌, ◌-◌, ◌≤◌, ◌==◌, Bool, true, false, if◌then◌else◌, List, [], ◌∷◌, ◌++◌, length, drop, filter, map, reverse, max, fold, append-nil, append_assoc, Option, Some, None, MatchOption, Result, Ok, Err, MatchResult, OnOk, IsOkUnless, slice_get, ◌⊎◌, inl, inr, refl, sym, ap, ap₂, ◌∙◌, subst, arith}
 use Rattle.std.specs.List.{filter_map, flat_map, range_with_len, AllByRecursion}
 use Rattle.std.proofs.lemmas.List.{map-append}
 use Rattle.std.proofs.lemmas.List.Elements.{filter_map-append}
@@ -9,7 +9,6 @@ use Rattle.clk_packet.specs.declared.packet.Packet.{Packet}
 use Rattle.clk_packet.specs.declared.fault.Fault.{Fault}
 use Rattle.clk_packet.specs.declared.fault.Fault.TheVariants.{Memory, TooManyPulls}
 use Rattle.clk_sched.specs.declared.visit.Visit.{Visit}
-use Rattle.clk_ring.specs.QueueHistory.{QueueEvent}
 use Rattle.clk_ring.specs.Laws.{CallsAreHistory}
 use Rattle.clk_sched.specs.Turns.{UpToFirst, AsksInOrder}
 use Rattle.clk_sched.specs.Laws.Device.{IsDeviceTurn}
@@ -18,7 +17,7 @@ use Rattle.clk_sched.specs.Run.{IsRun}
 use Rattle.clk_sched.specs.Places.{Answers}
 use Rattle.clk_sched.specs.Results.{emitted}
 use Rattle.clk_sched.specs.Bound.{closing_bound}
-use Rattle.clk_sched.specs.Session.{IsDrained, GivesAll, StopsShort as StopsSession, StopsAt, newly, latest_moment, counted_moment, tree_queue, given_in}
+use Rattle.clk_sched.specs.Session.{IsDrained, GivesAll, StopsShort as StopsSession, StopsAt, newly, latest_moment, counted_moment, tree_queue}
 use Rattle.clickpull.specs.declared.router.Router.{Router}
 use Rattle.clickpull.specs.declared.setup.SenderSpec.{SenderSpec}
 use Rattle.clickpull.specs.Report.{report_text}

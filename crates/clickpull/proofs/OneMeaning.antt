@@ -1,11 +1,11 @@
 -- A script has at most one meaning: what its commands make happen follows, one after another.
-use Rattle.std.proofs.Common.{◌≡◌, ℕ, ◌+◌, ◌≤◌, ◌==◌, ◌&&◌, ◌||◌, suc, is_some, Bool, true, false, List, [], ◌∷◌, ◌++◌, length, map, max, fold, if◌then◌else◌, Option, Some, None, IsSome, IfSome, MatchOption, slice_get, refl, sym, ap, ap₂, ◌∙◌, subst, zero-add, arith}
+use Rattle.std.proofs.Common.{◌≡◌, ℕ, ◌+◌, ◌≤◌, ◌==◌, ◌&&◌, ◌||◌, is_some, Bool, true, false, List, [], ◌∷◌, ◌++◌, length, map, max, fold, if◌then◌else◌, Option, Some, None, IsSome, IfSome, MatchOption, slice_get, refl, sym, ap, ap₂, ◌∙◌, subst, zero-add, arith}
 use Rattle.std.specs.Bool.{⊤}
 use Rattle.std.specs.Option.{option_or}
 use Rattle.std.specs.List.{flat_map, filter_map, cons_option, range_with_len, AllByRecursion, list_any}
 use Rattle.std.proofs.lemmas.Bool.{false≢true}
 use Rattle.std.proofs.lemmas.Bool.Decides.{nat_tests}
-use Rattle.std.proofs.lemmas.List.{append_assoc, map-append}
+use Rattle.std.proofs.lemmas.List.{append_assoc}
 use Rattle.std.proofs.lemmas.List.Concat.{flat_map-append}
 use Rattle.std.proofs.lemmas.List.Elements.{filter_map-append}
 use Rattle.clk_packet.specs.declared.packet.Packet.{Packet}
@@ -14,7 +14,7 @@ use Rattle.clk_ring.specs.QueueHistory.{IsQueueHistory, offer_events, pull_event
 use Rattle.clk_ring.specs.Laws.{HistoriesLeaveNoChoice}
 use Rattle.clk_sched.specs.declared.visit.Visit.{Visit}
 use Rattle.clk_sched.specs.Tree.{queue_at, is_number}
-use Rattle.clk_sched.specs.Log.{visits_of, moment_of, result_of, counted}
+use Rattle.clk_sched.specs.Log.{visits_of, result_of}
 use Rattle.clk_sched.specs.Session.{given_in, LastGives}
 use Rattle.clk_sched.specs.Results.{asks_queue}
 use Rattle.clk_sched.specs.Choice.{answers_of, GoAlike, PullsLeaveNoChoice}

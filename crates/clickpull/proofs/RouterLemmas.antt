@@ -1,8 +1,8 @@
 -- How a router goes on by one event.
-use Rattle.std.proofs.Common.{◌≡◌, ℕ, ◌+◌, ◌<◌, ◌==◌, ◌&&◌, ◌||◌, zero, suc, Bool, true, false, List, [], ◌∷◌, ◌++◌, length, map, reverse, max, set, if◌then◌else◌, Option, Some, None, Result, Ok, Err, IfOk, OnOk, MatchOption, slice_get, refl, sym, ap, ap₂, ◌∙◌, subst, arith}
+use Rattle.std.proofs.Common.{◌≡◌, ℕ, ◌+◌, ◌==◌, ◌&&◌, suc, Bool, true, false, List, [], ◌∷◌, ◌++◌, length, map, reverse, max, set, if◌then◌else◌, Option, Some, None, Result, Ok, Err, IfOk, OnOk, MatchOption, slice_get, refl, sym, ap, ap₂, ◌∙◌, subst, arith}
 use Rattle.std.specs.Bool.{⊤}
 use Rattle.std.specs.Option.{option_map}
-use Rattle.std.specs.List.{AllByRecursion, filter_map, flat_map, cons_option}
+use Rattle.std.specs.List.{filter_map, cons_option}
 use Rattle.std.proofs.lemmas.List.{append_assoc, append-nil, length-append}
 use Rattle.std.proofs.lemmas.List.Concat.{flat_map-append}
 use Rattle.std.proofs.lemmas.List.Elements.{filter_map-append}
@@ -26,7 +26,7 @@ use Rattle.clickpull.specs.declared.setup.SenderSpec.{SenderSpec}
 use Rattle.clickpull.specs.declared.senders.Sender.{Sender}
 use Rattle.clickpull.specs.declared.queues.Queues.{Queues}
 use Rattle.clickpull.specs.declared.router.Router.{Router}
-use Rattle.clickpull.specs.Meaning.{Setup, setup_of, sender_numbers, Event, offered, pulled, numbers_of, accepted_in, evicted_in, visits_in, log_of, sends_to, at_queue, history, AreRising}
+use Rattle.clickpull.specs.Meaning.{Setup, setup_of, Event, offered, pulled, numbers_of, accepted_in, evicted_in, visits_in, log_of, sends_to, at_queue, history, AreRising}
 use Rattle.clickpull.specs.Router.{queue_made, queue_spec, sender_made, sender_spec, sent_one_more, noted, spec_number, numbers_in, OffersTo, PullsFrom, OffersAt, GivesAt, AreQueuesAt, IsAt, Starts, Counts, LeadsOnByPull}
 use Rattle.clickpull.proofs.EventLemmas.{CanHappen-offer, CanHappen-pull, log-pulled}
 use Rattle.clickpull.proofs.SenderLemmas.{senders-pulled, senders-sent, sends-its, numbers-its, IsSpecAt, spec-at}

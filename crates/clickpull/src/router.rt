@@ -138,7 +138,10 @@ impl Router {
         let logged = self.session.log().len();
         let emitted = self.session.emitted(alloc)?.len() as u64;
         let evicted = self.evicted.as_slice().len() as u64;
-        let left = self.accepted.saturating_sub(evicted).saturating_sub(emitted);
+        let left = self
+            .accepted
+            .saturating_sub(evicted)
+            .saturating_sub(emitted);
         self.session.drain(&mut self.queues, left, moment)?;
         Ok(logged)
     }

@@ -1,4 +1,4 @@
-use Rattle.std.proofs.Common.{◌≡◌, ◌++◌, ℕ, List, codes, decimal, ap, ap₂, ◌∙◌, arith}
+use Rattle.std.proofs.Common.{◌++◌, ℕ, List, codes, decimal, ap, ap₂, ◌∙◌, arith}
 use Rattle.clickpull.specs.declared.report.Total.{Total}
 use Rattle.clickpull.specs.Report.{packets_from, total_text}
 use Rattle.clickpull.specs.Totals.{total_of, both, words_text}

@@ -1,4 +1,4 @@
-use Rattle.std.proofs.Common.{◌≡◌, ◌<◌, ◌∙◌, ap, get_or, length, subst, arith}
+use Rattle.std.proofs.Common.{◌<◌, ◌∙◌, ap, get_or, length, subst, arith}
 use Rattle.clickpull.specs.Report.{packets_from}
 use Rattle.clickpull.specs.Totals.{total_of, account_of}
 use Rattle.clickpull.proofs.TotalLemmas.{total-at, report-more}

@@ -1,7 +1,7 @@
-use Rattle.std.proofs.Common.{◌≡◌, ◌+◌, ◌∙◌, ap, sym, subst, drop, length, get_or, set, arith}
+use Rattle.std.proofs.Common.{◌+◌, ◌∙◌, ap, sym, subst, drop, get_or, set, arith}
 use Rattle.std.proofs.lemmas.List.{drop_all}
 use Rattle.clickpull.specs.Totals.{with_packet}
-use Rattle.clickpull.proofs.TotalLemmas.{EachLacks, EachLacks-all, EachLacks-next, AreTotals-none, HasRoom, HasRoom-next}
+use Rattle.clickpull.proofs.TotalLemmas.{EachLacks, EachLacks-next, AreTotals-none, HasRoom-next}
 use Rattle.clickpull.proofs.report.totals_by_sender.Goals as goal
 
 pub add-requires-clause-packets : goal.add-requires-clause-packets

@@ -1,7 +1,7 @@
-use Rattle.std.proofs.Common.{arith, ◌≡◌, ◌<◌, ◌∙◌, ap, length, sym}
+use Rattle.std.proofs.Common.{arith, ◌≡◌, ◌∙◌, ap, length, sym}
 use Rattle.std.proofs.lemmas.Bool.Decides.{nat_tests}
 use Rattle.clickpull.specs.Script.{fields}
-use Rattle.clickpull.proofs.LineLemmas.{HaveBytes-fields, field_at-rest, moment-alone, moment-more}
+use Rattle.clickpull.proofs.LineLemmas.{HaveBytes-fields, field_at-rest, moment-alone}
 use Rattle.clickpull.proofs.script.Line.only_moment.Goals as goal
 
 pub returns-then-is_empty : goal.returns-then-is_empty
