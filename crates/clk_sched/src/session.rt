@@ -182,3 +182,6 @@ impl Session {
         held_heads(alloc, &self.nodes)
     }
 }
+
+#[cfg(test)]
+mod tests;
