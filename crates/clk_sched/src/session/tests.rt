@@ -1,6 +1,11 @@
 //! Worked rows of a session: a tree, the steps that are taken with it, and the text that they show.
 
+mod deficit;
 mod in_order;
+mod limits;
 mod queues;
 mod row;
+mod shaper;
+mod stride;
+mod text;
 mod trees;

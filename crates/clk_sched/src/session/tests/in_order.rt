@@ -2,38 +2,93 @@
 
 use super::row::Step::{Emitted, Pull, Send, Visits};
 use super::row::shown;
-use super::trees::prio_over_two;
+use super::trees::{prio_over_two, round_robin_over_three, round_robin_over_two};
 use std::test::Fail;
 
 #[test]
 fn the_first_input_goes_first(rt: HostRuntime) -> Result<(), Fail> {
     let alloc = rt.alloc();
     let steps = [
-        Send(0, 100),
-        Send(1, 50),
-        Pull(0),
-        Pull(0),
-        Pull(0),
+        Send(0, &[100]),
+        Send(1, &[50]),
+        Pull(&[0, 0, 0]),
         Emitted,
         Visits,
     ];
+    let expected = "pull 0: 0#0 100\n\
+        pull 0: 1#0 50\n\
+        pull 0: none\n\
+        emitted: 0#0 100 1#0 50\n\
+        0,1,0,1,0,0,100,1,0\n\
+        0,0,0,1,0,0,100,1,0\n\
+        1,1,0,1,,,,0,0\n\
+        1,1,1,1,1,0,50,1,0\n\
+        1,0,0,1,1,0,50,1,0\n\
+        2,1,0,1,,,,0,0\n\
+        2,1,1,1,,,,0,0\n\
+        2,0,0,1,,,,0,0\n";
     let text = shown(&rt, alloc, prio_over_two(alloc)?, 2, &steps)?;
-    assert_eq!(rt;
-        text.as_str(),
-        "\
-pull 0: 0#0 100
-pull 0: 1#0 50
-pull 0: none
-emitted: 0#0 100 1#0 50
-0,1,0,1,0,0,100,1,0
-0,0,0,1,0,0,100,1,0
-1,1,0,1,,,,0,0
-1,1,1,1,1,0,50,1,0
-1,0,0,1,1,0,50,1,0
-2,1,0,1,,,,0,0
-2,1,1,1,,,,0,0
-2,0,0,1,,,,0,0
-"
-    );
+    assert_eq!(rt; text.as_str(), expected);
+    Ok(())
+}
+
+#[test]
+fn inputs_take_turns(rt: HostRuntime) -> Result<(), Fail> {
+    let alloc = rt.alloc();
+    let steps = [
+        Send(0, &[10, 11]),
+        Send(2, &[12, 13]),
+        Pull(&[0, 0, 0, 0, 0]),
+        Emitted,
+        Visits,
+    ];
+    let expected = "pull 0: 0#0 10\n\
+        pull 0: 2#0 12\n\
+        pull 0: 0#1 11\n\
+        pull 0: 2#1 13\n\
+        pull 0: none\n\
+        emitted: 0#0 10 2#0 12 0#1 11 2#1 13\n\
+        0,1,0,1,0,0,10,1,0\n\
+        0,0,0,1,0,0,10,1,0\n\
+        1,1,1,1,,,,0,0\n\
+        1,1,2,1,2,0,12,1,0\n\
+        1,0,0,1,2,0,12,1,0\n\
+        2,1,0,1,0,1,11,1,0\n\
+        2,0,0,1,0,1,11,1,0\n\
+        3,1,1,1,,,,0,0\n\
+        3,1,2,1,2,1,13,1,0\n\
+        3,0,0,1,2,1,13,1,0\n\
+        4,1,0,1,,,,0,0\n\
+        4,1,1,1,,,,0,0\n\
+        4,1,2,1,,,,0,0\n\
+        4,0,0,1,,,,0,0\n";
+    let text = shown(&rt, alloc, round_robin_over_three(alloc)?, 3, &steps)?;
+    assert_eq!(rt; text.as_str(), expected);
+    Ok(())
+}
+
+#[test]
+fn a_pull_that_finds_nothing_leaves_the_beginning(rt: HostRuntime) -> Result<(), Fail> {
+    let alloc = rt.alloc();
+    let steps = [
+        Send(0, &[1]),
+        Pull(&[0, 0]),
+        Send(0, &[1]),
+        Send(1, &[1]),
+        Pull(&[0]),
+        Visits,
+    ];
+    let expected = "pull 0: 0#0 1\n\
+        pull 0: none\n\
+        pull 0: 1#0 1\n\
+        0,1,0,1,0,0,1,1,0\n\
+        0,0,0,1,0,0,1,1,0\n\
+        1,1,1,1,,,,0,0\n\
+        1,1,0,1,,,,0,0\n\
+        1,0,0,1,,,,0,0\n\
+        2,1,1,1,1,0,1,1,0\n\
+        2,0,0,1,1,0,1,1,0\n";
+    let text = shown(&rt, alloc, round_robin_over_two(alloc)?, 2, &steps)?;
+    assert_eq!(rt; text.as_str(), expected);
     Ok(())
 }

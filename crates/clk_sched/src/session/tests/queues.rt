@@ -30,13 +30,42 @@ impl Queues {
         Ok(Queues(queues))
     }
 
-    /// The next packet of a sender, of this length, goes to its queue.
-    pub fn send(&mut self, rt: &impl Abort, sender: u16, length: u16) -> Result<(), AllocError> {
+    /// Packets of a sender, with these lengths, go to its queue.
+    pub fn send(
+        &mut self,
+        rt: &impl Abort,
+        sender: u16,
+        lengths: &[u16],
+    ) -> Result<(), AllocError> {
         let queue = self.0.get_mut(usize::from(sender)).expect(rt, "a queue");
-        let number = queue.sent;
-        queue.sent = number.saturating_add(1);
+        for length in lengths {
+            queue.put(rt, sender, *length)?;
+        }
+        Ok(())
+    }
+
+    /// So many packets of a sender, with one length, go to its queue.
+    pub fn send_many(
+        &mut self,
+        rt: &impl Abort,
+        sender: u16,
+        length: u16,
+        count: u32,
+    ) -> Result<(), AllocError> {
+        let queue = self.0.get_mut(usize::from(sender)).expect(rt, "a queue");
+        for _ in 0..count {
+            queue.put(rt, sender, length)?;
+        }
+        Ok(())
+    }
+}
+
+impl Queue {
+    fn put(&mut self, rt: &impl Abort, sender: u16, length: u16) -> Result<(), AllocError> {
+        let number = self.sent;
+        self.sent = number.saturating_add(1);
         assert!(rt; length >= 1);
-        queue.packets.push_back(Packet {
+        self.packets.push_back(Packet {
             number,
             sender,
             length,

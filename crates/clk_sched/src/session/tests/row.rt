@@ -1,29 +1,41 @@
-//! What is done with a tree in a row, and how it is shown.
+//! What is done with a tree in a row.
 
 use super::queues::Queues;
+use super::text::{show_got, show_packets, show_visit};
 use crate::ask::Ask;
 use crate::session::Session;
 use crate::tree::Tree;
-use crate::visit::Visit;
 use clk_packet::{Fault, Packet};
 use std::alloc::{AllocError, Global};
 use std::process::Abort;
 
-/// A step of a row, which shows nothing or one line, but for `Visits`.
+/// A step of a row. Each shows a line but for the sends, and those of which something else is said.
 #[derive(Clone, Copy)]
-pub enum Step {
-    /// A packet of a sender, with its length, goes to the sender's queue.
-    Send(u16, u16),
-    /// A pull at a moment: what came out.
-    Pull(u64),
-    /// A drain of so many packets after a moment: how many pulls were made.
+pub enum Step<'a> {
+    /// Packets of a sender, with these lengths, go to the queue of the sender's number.
+    Send(u16, &'a [u16]),
+    /// Packets of a sender, with one length, go there, so many.
+    SendMany(u16, u16, u32),
+    /// Pulls at these moments: a line for each, with what came out.
+    Pull(&'a [u64]),
+    /// So many pulls at moment 0: a line for each whose packet isn't the one that its sender sent after the last that came out.
+    PullMany(u32),
+    /// A drain of so many packets after a moment: how many pulls were made, or the fault.
     Drain(u64, u64),
+    /// What is taken from a queue past the session.
+    Take(u16),
+    /// The closing bound where so many packets are left.
+    Bound(u64),
+    /// The counted moment.
+    Now,
     /// The packets that are held as heads.
     Heads,
     /// The packets that came out.
     Emitted,
-    /// Each visit, as a line of the visit CSV.
+    /// A line for each visit.
     Visits,
+    /// How many visits there are, and the last of them.
+    Last,
 }
 
 /// What the steps show over a tree and so many queues.
@@ -56,24 +68,49 @@ struct Row {
 impl Row {
     fn take(&mut self, rt: &impl Abort, alloc: Global, step: Step) -> Result<(), Fault> {
         match step {
-            Step::Send(sender, length) => Ok(self.queues.send(rt, sender, length)?),
-            Step::Pull(moment) => self.pull(rt, moment),
+            Step::Send(sender, lengths) => Ok(self.queues.send(rt, sender, lengths)?),
+            Step::SendMany(sender, length, count) => {
+                Ok(self.queues.send_many(rt, sender, length, count)?)
+            }
+            Step::Pull(moments) => self.pulls(rt, moments),
+            Step::PullMany(count) => self.pull_many(count),
             Step::Drain(left, moment) => self.drain(rt, left, moment),
+            Step::Take(queue) => Ok(self.take_from(queue)?),
+            Step::Bound(left) => Ok(self.bound(rt, left)?),
+            Step::Now => Ok(writeln!(self.text, "now: {}", self.session.now())?),
             Step::Heads => self.heads(alloc),
             Step::Emitted => self.emitted(alloc),
             Step::Visits => Ok(self.visits()?),
+            Step::Last => Ok(self.last()?),
         }
     }
 
-    fn pull(&mut self, rt: &impl Abort, moment: u64) -> Result<(), Fault> {
-        assert!(rt; moment < 1 << 44);
-        let got = self.session.pull(&mut self.queues, moment)?;
-        write!(self.text, "pull {moment}: ")?;
-        match got {
-            Some(packet) => show_packet(&mut self.text, packet)?,
-            None => self.text.push_str("none")?,
+    fn pulls(&mut self, rt: &impl Abort, moments: &[u64]) -> Result<(), Fault> {
+        for moment in moments {
+            let moment = *moment;
+            assert!(rt; moment < 1 << 44);
+            let got = self.session.pull(&mut self.queues, moment)?;
+            self.show_pull(moment, got)?;
         }
-        Ok(self.text.push_str("\n")?)
+        Ok(())
+    }
+
+    fn show_pull(&mut self, label: u64, got: Option<Packet>) -> Result<(), AllocError> {
+        write!(self.text, "pull {label}: ")?;
+        show_got(&mut self.text, got)?;
+        self.text.push_str("\n")
+    }
+
+    fn pull_many(&mut self, count: u32) -> Result<(), Fault> {
+        let mut before = None;
+        for pull in 0..count {
+            let got = self.session.pull(&mut self.queues, 0)?;
+            if !follows(before, got) {
+                self.show_pull(u64::from(pull), got)?;
+            }
+            before = got;
+        }
+        Ok(())
     }
 
     fn drain(&mut self, rt: &impl Abort, left: u64, moment: u64) -> Result<(), Fault> {
@@ -81,10 +118,22 @@ impl Row {
         let latest = self.session.now().max(moment);
         assert!(rt; latest < (1 << 43) - 1);
         match self.session.drain(&mut self.queues, left, moment) {
-            Ok(pulls) => writeln!(self.text, "drain: {pulls} pulls")?,
+            Ok(pulls) => writeln!(self.text, "drain: {pulls}")?,
             Err(fault) => writeln!(self.text, "drain: {fault}")?,
         }
         Ok(())
+    }
+
+    fn take_from(&mut self, queue: u16) -> Result<(), AllocError> {
+        let got = self.queues.ask(queue);
+        write!(self.text, "queue {queue}: ")?;
+        show_got(&mut self.text, got)?;
+        self.text.push_str("\n")
+    }
+
+    fn bound(&mut self, rt: &impl Abort, left: u64) -> Result<(), AllocError> {
+        assert!(rt; left <= 1_000_000);
+        writeln!(self.text, "bound: {}", self.session.bound(left))
     }
 
     fn heads(&mut self, alloc: Global) -> Result<(), Fault> {
@@ -105,40 +154,23 @@ impl Row {
         }
         Ok(())
     }
-}
 
-fn show_packet(text: &mut String, packet: Packet) -> Result<(), AllocError> {
-    let Packet {
-        number,
-        sender,
-        length,
-    } = packet;
-    write!(text, "{sender}#{number} {length}")
-}
-
-fn show_packets(text: &mut String, packets: &[Packet]) -> Result<(), AllocError> {
-    for packet in packets {
-        text.push_str(" ")?;
-        show_packet(text, *packet)?;
+    fn last(&mut self) -> Result<(), AllocError> {
+        let log = self.session.log();
+        writeln!(self.text, "visits: {}", log.len())?;
+        match log.last() {
+            Some(visit) => show_visit(&mut self.text, visit),
+            None => Ok(()),
+        }
     }
-    text.push_str("\n")
 }
 
-fn show_visit(text: &mut String, visit: &Visit) -> Result<(), AllocError> {
-    let fresh = u8::from(visit.fresh);
-    write!(
-        text,
-        "{},{},{},{fresh},",
-        visit.pull, visit.node, visit.input
-    )?;
-    match visit.got {
-        Some(packet) => write!(
-            text,
-            "{},{},{},",
-            packet.sender, packet.number, packet.length
-        )?,
-        None => text.push_str(",,,")?,
+// Whether a packet is the one that its sender sent after the one before.
+fn follows(before: Option<Packet>, got: Option<Packet>) -> bool {
+    match (before, got) {
+        (Some(before), Some(got)) => {
+            before.sender == got.sender && before.number.checked_add(1) == Some(got.number)
+        }
+        _ => false,
     }
-    let passed = u8::from(visit.passed);
-    writeln!(text, "{passed},{}", visit.moment)
 }
