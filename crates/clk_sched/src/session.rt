@@ -9,6 +9,8 @@ pub(crate) mod round_robin;
 pub(crate) mod shaper;
 pub(crate) mod state;
 pub(crate) mod stride;
+#[cfg(test)]
+mod tests;
 
 use crate::ask::Ask;
 use crate::session::nodes::Nodes;
@@ -182,6 +184,3 @@ impl Session {
         held_heads(alloc, &self.nodes)
     }
 }
-
-#[cfg(test)]
-mod tests;

@@ -1,13 +1,12 @@
 //! Inputs that are asked in order or in turn.
 
 use super::row::Step::{Emitted, Pull, Send, Visits};
-use super::row::shown;
+use super::row::assert_shows;
 use super::trees::{prio_over_two, round_robin_over_three, round_robin_over_two};
-use std::test::Fail;
 
 #[test]
-fn the_first_input_goes_first(rt: HostRuntime) -> Result<(), Fail> {
-    let alloc = rt.alloc();
+fn the_first_input_goes_first(rt: HostRuntime) {
+    let tree = prio_over_two(rt.alloc());
     let steps = [
         Send(0, &[100]),
         Send(1, &[50]),
@@ -27,14 +26,12 @@ fn the_first_input_goes_first(rt: HostRuntime) -> Result<(), Fail> {
         2,1,0,1,,,,0,0\n\
         2,1,1,1,,,,0,0\n\
         2,0,0,1,,,,0,0\n";
-    let text = shown(&rt, alloc, prio_over_two(alloc)?, 2, &steps)?;
-    assert_eq!(rt; text.as_str(), expected);
-    Ok(())
+    assert_shows(&rt, rt.alloc(), tree, &steps, expected);
 }
 
 #[test]
-fn inputs_take_turns(rt: HostRuntime) -> Result<(), Fail> {
-    let alloc = rt.alloc();
+fn inputs_take_turns(rt: HostRuntime) {
+    let tree = round_robin_over_three(rt.alloc());
     let steps = [
         Send(0, &[10, 11]),
         Send(2, &[12, 13]),
@@ -62,14 +59,12 @@ fn inputs_take_turns(rt: HostRuntime) -> Result<(), Fail> {
         4,1,1,1,,,,0,0\n\
         4,1,2,1,,,,0,0\n\
         4,0,0,1,,,,0,0\n";
-    let text = shown(&rt, alloc, round_robin_over_three(alloc)?, 3, &steps)?;
-    assert_eq!(rt; text.as_str(), expected);
-    Ok(())
+    assert_shows(&rt, rt.alloc(), tree, &steps, expected);
 }
 
 #[test]
-fn a_pull_that_finds_nothing_leaves_the_beginning(rt: HostRuntime) -> Result<(), Fail> {
-    let alloc = rt.alloc();
+fn a_pull_that_finds_nothing_leaves_the_beginning(rt: HostRuntime) {
+    let tree = round_robin_over_two(rt.alloc());
     let steps = [
         Send(0, &[1]),
         Pull(&[0, 0]),
@@ -88,7 +83,5 @@ fn a_pull_that_finds_nothing_leaves_the_beginning(rt: HostRuntime) -> Result<(),
         1,0,0,1,,,,0,0\n\
         2,1,1,1,1,0,1,1,0\n\
         2,0,0,1,1,0,1,1,0\n";
-    let text = shown(&rt, alloc, round_robin_over_two(alloc)?, 2, &steps)?;
-    assert_eq!(rt; text.as_str(), expected);
-    Ok(())
+    assert_shows(&rt, rt.alloc(), tree, &steps, expected);
 }

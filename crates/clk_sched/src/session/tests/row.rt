@@ -9,22 +9,25 @@ use clk_packet::{Fault, Packet};
 use std::alloc::{AllocError, Global};
 use std::process::Abort;
 
-/// A step of a row. Each shows a line but for the sends, and those of which something else is said.
+/// How many queues there are, from 0 on.
+const QUEUES: u16 = 250;
+
+/// A step of a row. It shows one line unless it says otherwise.
 #[derive(Clone, Copy)]
 pub enum Step<'a> {
-    /// Packets of a sender, with these lengths, go to the queue of the sender's number.
+    /// Packets of a sender, of these lengths, go to the queue of the sender's number. That shows nothing.
     Send(u16, &'a [u16]),
-    /// Packets of a sender, with one length, go there, so many.
+    /// The same of so many packets of one length: sender, length and how many.
     SendMany(u16, u16, u32),
-    /// Pulls at these moments: a line for each, with what came out.
+    /// A pull at each of these moments, each with its line: what came out.
     Pull(&'a [u64]),
-    /// So many pulls at moment 0: a line for each whose packet isn't the one that its sender sent after the last that came out.
+    /// So many pulls at moment 0, each with its line unless it gave the packet of the same sender next to that of the pull before.
     PullMany(u32),
-    /// A drain of so many packets after a moment: how many pulls were made, or the fault.
+    /// A drain of so many packets after a moment: how many pulls it made, or its fault.
     Drain(u64, u64),
-    /// What is taken from a queue past the session.
-    Take(u16),
-    /// The closing bound where so many packets are left.
+    /// A queue is asked past the session: what it gave.
+    Ask(u16),
+    /// The closing bound of so many packets.
     Bound(u64),
     /// The counted moment.
     Now,
@@ -34,28 +37,47 @@ pub enum Step<'a> {
     Emitted,
     /// A line for each visit.
     Visits,
-    /// How many visits there are, and the last of them.
+    /// How many visits there are, and the line of the last.
     Last,
 }
 
-/// What the steps show over a tree and so many queues.
-pub fn shown(
+/// Takes the steps over a tree, and fails unless they show what is expected.
+pub fn assert_shows(
     rt: &impl Abort,
     alloc: Global,
-    tree: Tree,
-    queues: u16,
+    tree: Result<Tree, Fault>,
+    steps: &[Step],
+    expected: &str,
+) {
+    let text = shown(rt, alloc, tree, steps).expect(rt, "ample memory");
+    assert_eq!(rt; text.as_str(), expected);
+}
+
+/// Fails unless there is no session of a tree, by this fault.
+pub fn assert_refused(rt: &impl Abort, alloc: Global, tree: Tree, expected: Fault) {
+    assert_eq!(rt; session(rt, alloc, tree).err(), Some(expected));
+}
+
+fn shown(
+    rt: &impl Abort,
+    alloc: Global,
+    tree: Result<Tree, Fault>,
     steps: &[Step],
 ) -> Result<String, Fault> {
-    assert!(rt; tree.leaves_distinct());
     let mut row = Row {
-        session: Session::new(alloc, tree)?,
-        queues: Queues::new(alloc, queues)?,
+        session: session(rt, alloc, tree?)?,
+        queues: Queues::new(alloc, QUEUES)?,
         text: String::new(alloc),
     };
     for step in steps {
         row.take(rt, alloc, *step)?;
     }
     Ok(row.text)
+}
+
+fn session(rt: &impl Abort, alloc: Global, tree: Tree) -> Result<Session, Fault> {
+    assert!(rt; tree.leaves_distinct());
+    Session::new(alloc, tree)
 }
 
 #[derive(Drop)]
@@ -75,7 +97,7 @@ impl Row {
             Step::Pull(moments) => self.pulls(rt, moments),
             Step::PullMany(count) => self.pull_many(count),
             Step::Drain(left, moment) => self.drain(rt, left, moment),
-            Step::Take(queue) => Ok(self.take_from(queue)?),
+            Step::Ask(queue) => Ok(self.ask(queue)?),
             Step::Bound(left) => Ok(self.bound(rt, left)?),
             Step::Now => Ok(writeln!(self.text, "now: {}", self.session.now())?),
             Step::Heads => self.heads(alloc),
@@ -124,7 +146,7 @@ impl Row {
         Ok(())
     }
 
-    fn take_from(&mut self, queue: u16) -> Result<(), AllocError> {
+    fn ask(&mut self, queue: u16) -> Result<(), AllocError> {
         let got = self.queues.ask(queue);
         write!(self.text, "queue {queue}: ")?;
         show_got(&mut self.text, got)?;
@@ -165,7 +187,7 @@ impl Row {
     }
 }
 
-// Whether a packet is the one that its sender sent after the one before.
+// Whether two pulls gave packets that are neighbours of one sender.
 fn follows(before: Option<Packet>, got: Option<Packet>) -> bool {
     match (before, got) {
         (Some(before), Some(got)) => {

@@ -23,8 +23,29 @@ pub fn round_robin_over_three(alloc: Global) -> Result<Tree, Fault> {
     Tree::round_robin(vec![in alloc; Tree::leaf(0), Tree::leaf(1), Tree::leaf(2)]?)
 }
 
-/// A DRRSched over a tree, with this quantum.
-pub fn drr_over(alloc: Global, quantum: u32, child: Tree) -> Result<Tree, Fault>
+/// A DRRSched over queue 0, with this quantum.
+pub fn drr_over_one(alloc: Global, quantum: u32) -> Result<Tree, Fault>
+    requires { (1 ≤ quantum) × (quantum ≤ most_quantum) }
+{
+    drr_over(alloc, quantum, Tree::leaf(0))
+}
+
+/// A DRRSched of quantum 500 over one of quantum 300 over queue 0.
+pub fn drr_over_drr(alloc: Global) -> Result<Tree, Fault> {
+    drr_over(alloc, 500, drr_over_one(alloc, 300)?)
+}
+
+/// A DRRSched of quantum 500 over a Shaper of rate 1 and burst 1 over queue 0.
+pub fn drr_over_shaper(alloc: Global) -> Result<Tree, Fault> {
+    drr_over(alloc, 500, Tree::shaper(alloc, 1, 1, Tree::leaf(0))?)
+}
+
+/// A DRRSched of quantum 5 over a PrioSched over queues 0 and 1.
+pub fn drr_over_prio(alloc: Global) -> Result<Tree, Fault> {
+    drr_over(alloc, 5, prio_over_two(alloc)?)
+}
+
+fn drr_over(alloc: Global, quantum: u32, child: Tree) -> Result<Tree, Fault>
     requires { (1 ≤ quantum) × (quantum ≤ most_quantum) }
 {
     Tree::drr(vec![in alloc; quantum]?, vec![in alloc; child]?)
