@@ -1,8 +1,8 @@
-//! The greatest tree, moments, packets that stay below a head, and drains that come to nothing.
+//! The greatest trees, moments, packets that stay below a head, and drains that come to nothing.
 
-use super::row::Step::{Ask, Drain, Heads, Now, Pull, Send, Visits};
+use super::row::Step::{Ask, Drain, Heads, Last, Now, Pull, Send, Visits};
 use super::row::{assert_refused, assert_shows};
-use super::trees::{drr_over_prio, wide};
+use super::trees::{drr_over_prio, prio_path, wide};
 use crate::tree::Tree;
 use clk_packet::Fault;
 
@@ -73,4 +73,15 @@ fn with_the_device_256_are_a_session(rt: HostRuntime) {
     assert_shows(&rt, rt.alloc(), tree, &steps, expected);
     let tree = wide(&rt, rt.alloc(), 251).expect(&rt, "a tree");
     assert_refused(&rt, rt.alloc(), tree, Fault::TooLarge);
+}
+
+// The visit of the device is the last.
+#[test]
+fn a_path_of_64_schedulers_is_pulled(rt: HostRuntime) {
+    let tree = prio_path(rt.alloc(), 64);
+    let steps = [Send(0, &[10]), Pull(&[0]), Last];
+    let expected = "pull 0: 0#0 10\n\
+        visits: 65\n\
+        0,0,0,1,0,0,10,1,0\n";
+    assert_shows(&rt, rt.alloc(), tree, &steps, expected);
 }

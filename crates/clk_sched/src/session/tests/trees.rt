@@ -90,6 +90,15 @@ pub fn wide(rt: &impl Abort, alloc: Global, queues: u16) -> Result<Tree, Fault> 
     ]?)
 }
 
+/// So many PrioScheds, one above another, over queue 0.
+pub fn prio_path(alloc: Global, count: u8) -> Result<Tree, Fault> {
+    let mut tree = Tree::leaf(0);
+    for _ in 0..count {
+        tree = Tree::prio(vec![in alloc; tree]?)?;
+    }
+    Ok(tree)
+}
+
 // A PrioSched over the queues from `first` to before `end`.
 fn prio_over(rt: &impl Abort, alloc: Global, first: u16, end: u16) -> Result<Tree, Fault> {
     let mut children = Vec::new(alloc);
