@@ -1,10 +1,11 @@
--- Events that cannot happen, each but for one thing.
-use Rattle.std.specs.Prelude.{List, [], ◌∷◌, Some, None}
+-- Events that cannot happen and closings that are none, each but for one thing.
+use Rattle.std.specs.Prelude.{ℕ, List, [], ◌∷◌, Option, Some, None}
 use Rattle.std.proofs.Common.{lit≤}
 use Rattle.clk_packet.specs.declared.packet.Packet.{Packet}
 use Rattle.clk_packet.specs.declared.packet.Kind.TheVariants.{TailDrop}
 use Rattle.clk_packet.specs.declared.packet.Offered.TheVariants.{Accepted, Refused}
 use Rattle.clk_packet.specs.Packets.{packet}
+use Rattle.clk_sched.specs.declared.visit.Visit.{Visit}
 use Rattle.clk_sched.specs.Tree.{scheduler, shaper, leaf, end}
 use Rattle.clk_sched.specs.Log.{asking}
 use Rattle.clickpull.specs.Meaning.{Setup, Event, offered, pulled}
@@ -54,3 +55,23 @@ never_sent = pulled 0 (asking 0 0 1 0 None ∷ asking 0 0 1 1 (Some p1_0) ∷ as
 -- the third packet at a queue of two is refused, by the name of another
 abbrev pub other_refused : List Event
 other_refused = offered p0_0 Accepted ∷ offered p0_1 Accepted ∷ offered (packet 0 2 100 (lit≤ tt) (lit≤ tt)) (Refused p0_1) ∷ []
+
+-- one packet is left
+abbrev pub one_left : List Event
+one_left = offered p1_0 Accepted ∷ []
+
+-- its closing from moment 4 on, in one pull at moment 5; and what is none: no pull, a pull a tick early, and a further pull
+abbrev finds : Option Packet → ℕ → ℕ → List Visit
+finds got k t = asking k t 1 0 None ∷ asking k t 1 1 got ∷ asking k t 0 0 got ∷ []
+
+abbrev pub closed_at_once : List Event
+closed_at_once = pulled 5 (finds (Some p1_0) 0 5) ∷ []
+
+abbrev pub closed_without_a_pull : List Event
+closed_without_a_pull = []
+
+abbrev pub closed_a_tick_early : List Event
+closed_a_tick_early = pulled 4 (finds (Some p1_0) 0 4) ∷ []
+
+abbrev pub closed_a_pull_late : List Event
+closed_a_pull_late = pulled 5 (finds (Some p1_0) 0 5) ∷ pulled 6 (finds None 1 6) ∷ []

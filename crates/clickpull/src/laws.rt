@@ -4,9 +4,9 @@ ghost use Rattle.std.specs.Prelude.{◌≡◌, [], ◌∷◌, Some, codes};
 ghost use Rattle.clk_packet.specs.declared.fault.Fault.TheVariants.{TooLarge};
 ghost use Rattle.clickpull.specs.Builtin.{builtin};
 ghost use Rattle.clickpull.specs.Bytes.{Takes, AppendsFront};
-ghost use Rattle.clickpull.specs.Meaning.{CanHappen, IsMeaning, Explains};
+ghost use Rattle.clickpull.specs.Meaning.{CanHappen, Closes, IsMeaning, Explains};
 ghost use Rattle.clickpull.specs.OneMeaning.{IsWired, HasAtMostOneMeaning};
-ghost use Rattle.clickpull.specs.Examples.{shaped, moment_not_counted, moment_ahead, second_first, number_left_out, refused_early, never_sent, other_refused};
+ghost use Rattle.clickpull.specs.Examples.{shaped, moment_not_counted, moment_ahead, second_first, number_left_out, refused_early, never_sent, other_refused, one_left, closed_at_once, closed_without_a_pull, closed_a_tick_early, closed_a_pull_late};
 
 use clk_ring::histories_leave_no_choice;
 use clk_sched::runs_leave_no_choice;
@@ -33,6 +33,14 @@ pub fn script_examples()
     ensures not_never_sent { ¬ (CanHappen builtin never_sent) }
     ensures not_other_refused { ¬ (CanHappen builtin other_refused) }
     ensures not_faulty { (text : _) → ¬ (IsMeaning builtin (codes "pull\n") text) }
+{}
+
+/// Which pulls close a script from moment 4 on where one packet is left.
+pub fn closing_examples()
+    ensures at_once { Closes 4 one_left closed_at_once }
+    ensures not_without_a_pull { ¬ (Closes 4 one_left closed_without_a_pull) }
+    ensures not_a_tick_early { ¬ (Closes 4 one_left closed_a_tick_early) }
+    ensures not_a_pull_late { ¬ (Closes 4 one_left closed_a_pull_late) }
 {}
 
 /// What the words of `run_builtin`'s contract don't let through: more bytes read than the limit, bytes written that are no

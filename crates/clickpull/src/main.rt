@@ -18,7 +18,9 @@ mod text;
 
 use clk_packet::{FromRead, ToWrite};
 pub use faults::fault_line;
-pub use laws::{script_examples, scripts_have_at_most_one_meaning, word_examples};
+pub use laws::{
+    closing_examples, script_examples, scripts_have_at_most_one_meaning, word_examples,
+};
 pub use run::{run_builtin, run_parts};
 pub use setup::{QueueSpec, SenderSpec};
 use std::io;
