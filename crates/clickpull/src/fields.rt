@@ -32,6 +32,7 @@ fn field_len(text: &[u8]) -> usize
 }
 
 /// The first field of a text, and what follows it. The field is empty where there is none.
+#[inline(always)]
 pub fn first_field(text: &[u8]) -> (&[u8], &[u8])
     ensures field { result.0.now ≡ field_at (fields text.now) 0 }
     ensures rest { fields result.1.now ≡ drop 1 (fields text.now) }
@@ -41,6 +42,7 @@ pub fn first_field(text: &[u8]) -> (&[u8], &[u8])
 }
 
 /// Where the first line of a text ends: at its line feed, or at the end of the text.
+#[inline(always)]
 fn line_len(text: &[u8]) -> usize
     ensures place { result ≡ position_or_len (λ byte. byte == 10) text.now }
     ensures within { result ≤ length text.now }
@@ -62,6 +64,7 @@ fn without_return(line: &[u8]) -> &[u8]
 }
 
 /// The first line of a text that isn't empty, without its end, and what follows it.
+#[inline(always)]
 pub fn first_line(text: &[u8]) -> (&[u8], &[u8])
     requires { 0 < length text.now }
     ensures line { lines text.now ≡ result.0.now ∷ lines result.1.now }
@@ -75,6 +78,7 @@ pub fn first_line(text: &[u8]) -> (&[u8], &[u8])
 }
 
 /// The number in the first field of a text, where it is one in this range, and what follows the field; None where it is none.
+#[inline(always)]
 pub fn first_number(text: &[u8], least: u64, most: u64) -> Option<(u64, &[u8])>
     requires { most < 2 ^ 60 }
     ensures { MatchOption result (number_in least most (field_at (fields text.now) 0) ≡ None)

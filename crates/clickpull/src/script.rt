@@ -37,6 +37,7 @@ impl Line {
     ghost use Rattle.clickpull.specs.Script.{fields, line_of, line_of_fields, only_moment};
 
     /// Reads a line, which is given without its end.
+    #[inline(always)]
     pub fn read(text: &[u8]) -> Line
         ensures { result ≡ line_of text.now }
     {
@@ -68,6 +69,7 @@ impl Line {
     }
 
     /// The line `pull M`, of what follows its word.
+    #[inline(always)]
     fn pull(text: &[u8]) -> Line
         ensures { result ≡ line_of_fields (codes "pull" ∷ fields text.now) }
     {
@@ -88,6 +90,7 @@ impl Line {
     }
 
     /// The moment that stands alone in a text, if one does.
+    #[inline(always)]
     fn only_moment(text: &[u8]) -> Option<u64>
         ensures { result ≡ only_moment (fields text.now) }
     {
@@ -97,6 +100,7 @@ impl Line {
     }
 
     /// The line `send S L`, of what follows its word.
+    #[inline(always)]
     fn send(text: &[u8]) -> Line
         ensures { result ≡ line_of_fields (codes "send" ∷ fields text.now) }
     {

@@ -20,6 +20,7 @@ pub fn push_offer(text: &mut Vec<u8>, packet: Packet, outcome: Offered) -> Resul
 }
 
 /// Adds the line of a pull at the moment that was handed in, in ticks. Fault 1 where memory is refused.
+#[inline(always)]
 pub fn push_pull(text: &mut Vec<u8>, moment: u64, got: Option<Packet>) -> Result<(), Fault>
     ensures line { OnOk result (text.new.items ≡ text.old.items
         ++ (codes "pull " ++ (decimal moment ++ (codes ": " ++ (result_text got ++ codes "\n"))))) }
