@@ -12,7 +12,7 @@ use Rattle.clickpull.specs.Fields.{field_at}
 use Rattle.clickpull.proofs.FieldLemmas.{fields-skip, fields-first, skipped}
 
 -- the bytes of a text up to its first blank, and what follows them
-abbrev field_of : List ℕ → List ℕ
+abbrev pub field_of : List ℕ → List ℕ
 field_of [] = []
 field_of (byte ∷ text) = cond (is_blank byte) [] (byte ∷ field_of text)
 
@@ -67,7 +67,7 @@ pub Reads-none : (text rest : List ℕ) → rest ≡ drop (prefix_len is_blank t
 Reads-none text rest e some = reads_from text rest (ap (prefix_len is_blank) e ∙ skipped text) some (fields-skip text ∙ ap fields (sym e))
 
 -- one digit more
-Reads-digit : (text : List ℕ) (number byte : ℕ) (after : List ℕ) → is_ascii_digit byte ≡ true → Reads text number (byte ∷ after) → Reads text (number * 10 + (byte - 48)) after
+pub Reads-digit : (text : List ℕ) (number byte : ℕ) (after : List ℕ) → is_ascii_digit byte ≡ true → Reads text number (byte ∷ after) → Reads text (number * 10 + (byte - 48)) after
 Reads-digit text number byte after e h =
     let low : 48 ≤ byte = grind (arith, nat_tests) in
     let high : byte ≤ 57 = grind (arith, nat_tests) in
@@ -107,3 +107,39 @@ number-too_large least most text number [] some digit more h = absurd (omega ari
 number-too_large least most text number (byte ∷ after) some digit more h =
     let value = (Reads-digit text number byte after digit h).value in
     too_large least most (field_at (fields text) 0) (omega (arith, more_digits (number * 10 + (byte - 48)) (field_of after)))
+
+-- what is left holds no more of the field: it is at its end, or at a blank
+pub field_of-none : (rest : List ℕ) → length rest ≡ 0 → field_of rest ≡ []
+field_of-none [] none = refl
+field_of-none (byte ∷ rest) none = absurd (omega arith)
+
+pub field_of-blank : (byte : ℕ) (rest : List ℕ) → is_blank byte ≡ true → field_of (byte ∷ rest) ≡ []
+field_of-blank byte rest blank = rw blank refl
+
+after_field-end : (rest : List ℕ) → field_of rest ≡ [] → after_field rest ≡ rest
+after_field-end [] e = refl
+after_field-end (byte ∷ rest) e = by_test (is_blank byte) refl
+  where
+    by_test : (b : Bool) → is_blank byte ≡ b → after_field (byte ∷ rest) ≡ byte ∷ rest
+    by_test true f = rw f refl
+    by_test false f = absurd (omega (arith, ap length (rw f at e)))
+
+-- a number that was read to its end
+pub number-read : (least most : ℕ) (text : List ℕ) (number : ℕ) (rest : List ℕ) → Reads text number rest → field_of rest ≡ [] → least ≤ number → number ≤ most
+    → (number_in least most (field_at (fields text) 0) ≡ Some number) × (fields rest ≡ drop 1 (fields text))
+number-read least most text number rest h none low high = (is, sym (ap fields (after_field-end rest none)) ∙ h.later)
+  where
+    value : digits_value 10 (field_at (fields text) 0) ≡ number
+    value = sym h.value ∙ ap (digits_value_after 10 number) none
+
+    digits : all_ascii_digits (field_at (fields text) 0) ≡ true
+    digits = sym h.digits ∙ ap all_ascii_digits none
+
+    above : nat_le least number ≡ true
+    above = grind (arith, nat_tests)
+
+    below : nat_le number most ≡ true
+    below = grind (arith, nat_tests)
+
+    is : number_in least most (field_at (fields text) 0) ≡ Some number
+    is = rw (value, digits, h.some, above, below) refl

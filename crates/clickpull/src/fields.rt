@@ -89,25 +89,23 @@ pub fn first_number(text: &[u8], least: u64, most: u64) -> Option<(u64, &[u8])>
         return None;
     }
     let mut number = 0;
-    let mut rest = field;
-    while let [byte, after @ ..] = rest {
+    let mut len = 0;
+    for byte in field {
         if !byte.is_ascii_digit() {
             if !is_blank(*byte) {
                 return None;
             }
-            if number < least {
-                return None;
-            }
-            return Some((number, rest));
+            break;
         }
         number = number * 10 + u64::from(*byte - b'0');
         if number > most {
             return None;
         }
-        rest = after;
+        len += 1;
     }
     if number < least {
         return None;
     }
+    let (_, rest) = field.split_at(len);
     Some((number, rest))
 }

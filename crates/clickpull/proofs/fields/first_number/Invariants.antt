@@ -1,9 +1,6 @@
-use Rattle.std.proofs.Common.{◌≤◌, length}
+use Rattle.std.proofs.Common.{◌≡◌, ◌≤◌, drop}
 use Rattle.clickpull.proofs.NumberLemmas.{Reads}
 use Rattle.clickpull.proofs.fields.first_number.Given as goal
 
-abbrev pub invariant-loop-rest : goal.invariant-loop-rest
-invariant-loop-rest l = record { reads : Reads l.text l.number l.rest; small : l.number ≤ l.most }
-
-abbrev pub decreases-loop-rest : goal.decreases-loop-rest
-decreases-loop-rest l = length l.rest
+abbrev pub invariant-loop-byte : goal.invariant-loop-byte
+invariant-loop-byte l = record { reads : Reads l.text l.number (drop l.byte-index l.field); small : l.number ≤ l.most; len : l.len ≡ l.byte-index }
