@@ -1,9 +1,16 @@
 //! What scripts write, and what they are refused for.
 
+mod closing;
+mod deficit;
 mod failures;
 mod fault_lines;
+mod in_order;
 mod limits;
-mod parts;
+mod queues;
+mod row;
+mod shaper;
+mod stride;
+mod trees;
 
 use crate::run_builtin;
 use clk_packet::{FailingSink, FailingSource, Fault};
@@ -81,7 +88,7 @@ fn spaces_zeros_and_line_ends_may_vary(rt: HostRuntime) -> Result<(), Fail> {
 }
 
 /// Scripts whose first line is no command.
-const MALFORMED: [&[u8]; 24] = [
+const MALFORMED: [&[u8]; 27] = [
     b"pull 1099511627776\n",
     b"send 0 0\n",
     b"send 0 65536\n",
@@ -92,7 +99,10 @@ const MALFORMED: [&[u8]; 24] = [
     b"pull 1 2\n",
     b"push 0\n",
     b"PULL 0\n",
-    b"drain 0\n",
+    b"drain\n",
+    b"drain 1 2\n",
+    b"drain 1099511627776\n",
+    b"drain -1\n",
     b"send 0\n",
     b"send 0 1 1\n",
     // 2^64, and ten times 2^128.
@@ -112,8 +122,16 @@ const MALFORMED: [&[u8]; 24] = [
 ];
 
 /// Other scripts, and why each is refused.
-const REFUSED: [(&[u8], Fault); 3] = [
+const REFUSED: [(&[u8], Fault); 7] = [
     (b"send 0 10\npull\n", Fault::BadScript { line: 2 }),
+    // After a drain no line may have a field.
+    (b"drain 0\npull 0\n", Fault::BadScript { line: 2 }),
+    (b"drain 0\ndrain 0\n", Fault::BadScript { line: 2 }),
+    (b"drain 0\nsend 7 10\n", Fault::BadScript { line: 2 }),
+    (
+        b"send 0 10\ndrain 0\n\n \t\r\nx",
+        Fault::BadScript { line: 5 },
+    ),
     (b"send 7 10\n", Fault::UnknownSender { sender: 7 }),
     // The first line that is wrong decides.
     (b"send 7 10\npull\n", Fault::UnknownSender { sender: 7 }),

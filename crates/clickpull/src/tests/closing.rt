@@ -1,0 +1,64 @@
+//! The last line of a script, which closes the router.
+
+use super::row::{assert_over_one, assert_over_two};
+use super::trees::{prio_over_one, prio_over_two};
+use clk_sched::Tree;
+
+#[test]
+fn a_report_has_each_sender(rt: HostRuntime) {
+    let tree = prio_over_two(rt.alloc());
+    let script = "drain 5\n";
+    let expected = "sender 0: sent 0 0, accepted 0 0, refused 0 0, evicted 0 0, emitted 0 0\n\
+        sender 1: sent 0 0, accepted 0 0, refused 0 0, evicted 0 0, emitted 0 0\n";
+    assert_over_two(&rt, rt.alloc(), tree, script, expected);
+}
+
+#[test]
+fn blank_lines_may_come_after_a_drain(rt: HostRuntime) {
+    let tree = prio_over_one(rt.alloc());
+    let script = "drain 0\n\n \t \r\n\t";
+    let expected = "sender 0: sent 0 0, accepted 0 0, refused 0 0, evicted 0 0, emitted 0 0\n";
+    assert_over_one(&rt, rt.alloc(), tree, script, expected);
+}
+
+#[test]
+fn a_drain_may_vary_as_other_lines_do(rt: HostRuntime) {
+    let tree = prio_over_one(rt.alloc());
+    let script = "send 0 10\r\n\t drain \t 0000001099511627775 ";
+    let expected = "0#0 10 accepted\n\
+        pull 1099511627776: 0#0 10\n\
+        sender 0: sent 1 10, accepted 1 10, refused 0 0, evicted 0 0, emitted 1 10\n";
+    assert_over_one(&rt, rt.alloc(), tree, script, expected);
+}
+
+// The earlier moment of the second pull changes nothing.
+#[test]
+fn a_closing_starts_after_the_greatest_moment_so_far(rt: HostRuntime) {
+    let tree = Ok(Tree::leaf(0));
+    let script = "send 0 10\nsend 0 20\nsend 0 30\nsend 0 40\npull 7\npull 2\ndrain 3\n";
+    let expected = "0#0 10 accepted\n\
+        0#1 20 accepted\n\
+        0#2 30 accepted\n\
+        0#3 40 accepted\n\
+        pull 7: 0#0 10\n\
+        pull 2: 0#1 20\n\
+        pull 8: 0#2 30\n\
+        pull 9: 0#3 40\n\
+        sender 0: sent 4 100, accepted 4 100, refused 0 0, evicted 0 0, emitted 4 100\n";
+    assert_over_one(&rt, rt.alloc(), tree, script, expected);
+}
+
+#[test]
+fn a_closing_starts_after_its_own_moment_where_that_is_later(rt: HostRuntime) {
+    let tree = prio_over_two(rt.alloc());
+    let script = "send 1 65535\nsend 0 20\nsend 1 30\npull 7\ndrain 9\n";
+    let expected = "1#0 65535 accepted\n\
+        0#0 20 accepted\n\
+        1#1 30 accepted\n\
+        pull 7: 0#0 20\n\
+        pull 10: 1#0 65535\n\
+        pull 11: 1#1 30\n\
+        sender 0: sent 1 20, accepted 1 20, refused 0 0, evicted 0 0, emitted 1 20\n\
+        sender 1: sent 2 65565, accepted 2 65565, refused 0 0, evicted 0 0, emitted 2 65565\n";
+    assert_over_two(&rt, rt.alloc(), tree, script, expected);
+}
