@@ -1,7 +1,9 @@
 //! The last line of a script, which closes the router.
 
-use super::row::{assert_over_one, assert_over_two};
-use super::trees::{prio_over_one, prio_over_two};
+use super::row::{FIRST_TO_0, assert_over_one, assert_over_two, assert_refused, assert_writes};
+use super::trees::{drr_over_one, prio_over_one, prio_over_two};
+use crate::{QueueSpec, SenderSpec};
+use clk_packet::{Fault, Kind};
 use clk_sched::Tree;
 
 #[test]
@@ -61,4 +63,38 @@ fn a_closing_starts_after_its_own_moment_where_that_is_later(rt: HostRuntime) {
         sender 0: sent 1 20, accepted 1 20, refused 0 0, evicted 0 0, emitted 1 20\n\
         sender 1: sent 2 65565, accepted 2 65565, refused 0 0, evicted 0 0, emitted 2 65565\n";
     assert_over_two(&rt, rt.alloc(), tree, script, expected);
+}
+
+#[test]
+fn a_report_goes_by_the_numbers_of_senders(rt: HostRuntime) {
+    let tree = Ok(Tree::leaf(0));
+    let queues = [QueueSpec {
+        kind: Kind::TailDrop,
+        capacity: 2,
+    }];
+    let senders = [
+        FIRST_TO_0,
+        SenderSpec {
+            number: 65_535,
+            queue: 0,
+        },
+    ];
+    let script = "send 65535 10\nsend 0 20\nsend 65535 30\nsend 65535 40\ndrain 0\n";
+    let expected = "65535#0 10 accepted\n\
+        0#0 20 accepted\n\
+        65535#1 30 refused\n\
+        65535#2 40 refused\n\
+        pull 1: 65535#0 10\n\
+        pull 2: 0#0 20\n\
+        sender 0: sent 1 20, accepted 1 20, refused 0 0, evicted 0 0, emitted 1 20\n\
+        sender 65535: sent 3 80, accepted 1 10, refused 2 70, evicted 0 0, emitted 1 10\n";
+    assert_writes(&rt, rt.alloc(), tree, &queues, &senders, script, expected);
+}
+
+// Queue 1 isn't in the tree. One packet is given 266 pulls: 133 for quantum 500, at each of two levels.
+#[test]
+fn a_packet_that_cannot_come_out_stops_a_closing(rt: HostRuntime) {
+    let tree = drr_over_one(rt.alloc(), 500);
+    let expected = Fault::TooManyPulls { pulls: 266 };
+    assert_refused(&rt, rt.alloc(), tree, "send 1 10\ndrain 0\n", expected);
 }

@@ -1,8 +1,12 @@
 //! A reader or a writer that fails in mid-stream.
 
+use super::row::{FIRST_TO_0, run_within};
+use super::trees::prio_over_one;
 use super::{AMPLE, answer_within};
-use crate::run_builtin;
-use clk_packet::{Failed, FailingSink, FailingSource, Failures, Fault, Sink, Source};
+use crate::{QueueSpec, run_builtin};
+use clk_packet::{Failed, FailingSink, FailingSource, Failures, Fault, Kind, Sink, Source};
+use std::alloc::Global;
+use std::process::Abort;
 use std::test::Fail;
 
 const SCRIPT: &[u8] = b"send 0 100\nsend 1 50\npull 0\npull 0\npull 0\n";
@@ -126,4 +130,37 @@ fn a_failing_writer_is_told(rt: HostRuntime) -> Result<(), Fail> {
         assert_eq!(rt; written.as_slice(), &TEXT[..room]);
     }
     Ok(())
+}
+
+const CLOSED: &str = "send 0 10\nsend 0 20\npull 0\ndrain 0\n";
+
+/// What that script writes over a queue of one packet.
+const REPORTED: &[u8] = b"0#0 10 accepted\n0#1 20 refused\npull 0: 0#0 10\n\
+    sender 0: sent 2 30, accepted 1 10, refused 1 20, evicted 0 0, emitted 1 10\n";
+
+// Fails unless a writer that fails once it has taken `room` bytes of it has this front.
+fn assert_cut_off(rt: &impl Abort, alloc: Global, room: usize, front: &[u8]) {
+    let queues = [QueueSpec {
+        kind: Kind::TailDrop,
+        capacity: 1,
+    }];
+    let senders = [FIRST_TO_0];
+    let tree = prio_over_one(alloc);
+    let run = run_within(rt, alloc, tree, &queues, &senders, CLOSED, room);
+    let (outcome, written) = run.expect(rt, "ample memory");
+    assert_eq!(rt; outcome, Err(Fault::Write), "after {room} bytes");
+    assert_eq!(rt; written.as_slice(), front);
+}
+
+#[test]
+fn a_report_may_be_cut_off(rt: HostRuntime) {
+    for room in 0..REPORTED.len() {
+        assert_cut_off(&rt, rt.alloc(), room, &REPORTED[..room]);
+    }
+}
+
+#[test]
+fn a_report_may_be_cut_off_after_its_first_word(rt: HostRuntime) {
+    let front = b"0#0 10 accepted\n0#1 20 refused\npull 0: 0#0 10\nsender ";
+    assert_cut_off(&rt, rt.alloc(), 53, front);
 }

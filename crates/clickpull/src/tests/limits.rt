@@ -1,7 +1,10 @@
-//! The longest scripts. None of them writes anything.
+//! The longest scripts, and the largest trees.
 
+use super::row::{assert_over_one, assert_refused};
+use super::trees::wide;
 use super::{AMPLE, answer_within};
 use clk_packet::Fault;
+use std::alloc::{AllocError, Global};
 use std::process::Abort;
 use std::test::Fail;
 
@@ -11,7 +14,7 @@ const LINES: usize = 1_000_000;
 /// How many bytes a script may have.
 const BYTES: usize = 33_554_432;
 
-// How a run of such a script ends.
+// How a run of a script that writes nothing ends.
 fn outcome_of(rt: &(impl Abort + AllocGlobal), script: Vec<u8>) -> Result<Result<(), Fault>, Fail> {
     let (outcome, written) = answer_within(rt.alloc(), script, usize::MAX, AMPLE)?;
     assert!(rt; written.is_empty());
@@ -45,4 +48,62 @@ fn a_script_may_not_have_more_than_32_mebibytes(rt: HostRuntime) -> Result<(), F
     let script = vec![in rt.alloc(); b' '; BYTES + 1]?;
     assert_eq!(rt; outcome_of(&rt, script)?, Err(Fault::TooLarge));
     Ok(())
+}
+
+/// What a drain writes where nothing has happened.
+const REPORT: &[u8] = b"sender 0: sent 0 0, accepted 0 0, refused 0 0, evicted 0 0, emitted 0 0\n\
+    sender 1: sent 0 0, accepted 0 0, refused 0 0, evicted 0 0, emitted 0 0\n";
+
+// Fails unless a run of a drain between so many blank lines ends so, with this text written.
+fn assert_closes(
+    rt: &impl Abort,
+    alloc: Global,
+    before: usize,
+    after: usize,
+    outcome: Result<(), Fault>,
+    text: &[u8],
+) {
+    let run = close_between(alloc, before, after).expect(rt, "ample memory");
+    assert_eq!(rt; run.0, outcome);
+    assert_eq!(rt; run.1.as_slice(), text);
+}
+
+// How a run of a drain between so many blank lines ends, and what it wrote.
+fn close_between(
+    alloc: Global,
+    before: usize,
+    after: usize,
+) -> Result<(Result<(), Fault>, Vec<u8>), AllocError> {
+    let mut script = vec![in alloc; b'\n'; before]?;
+    script.extend_from_slice(b"drain 0\n")?;
+    script.extend_from_slice(&vec![in alloc; b'\n'; after]?)?;
+    answer_within(alloc, script, usize::MAX, AMPLE)
+}
+
+#[test]
+fn the_last_of_a_million_lines_may_be_a_drain(rt: HostRuntime) {
+    assert_closes(&rt, rt.alloc(), LINES - 1, 0, Ok(()), REPORT);
+}
+
+#[test]
+fn a_million_lines_may_be_a_drain_and_blanks(rt: HostRuntime) {
+    assert_closes(&rt, rt.alloc(), 0, LINES - 1, Ok(()), REPORT);
+}
+
+#[test]
+fn blank_lines_after_a_drain_are_counted(rt: HostRuntime) {
+    assert_closes(&rt, rt.alloc(), 0, LINES, Err(Fault::TooLarge), b"");
+}
+
+// The device, five schedulers and 250 queues are 256.
+#[test]
+fn a_tree_may_have_256_nodes_and_queues(rt: HostRuntime) {
+    let tree = wide(&rt, rt.alloc(), 250);
+    assert_over_one(&rt, rt.alloc(), tree, "send 0 1\n", "0#0 1 accepted\n");
+}
+
+#[test]
+fn a_tree_may_not_have_a_queue_more(rt: HostRuntime) {
+    let tree = wide(&rt, rt.alloc(), 251);
+    assert_refused(&rt, rt.alloc(), tree, "send 0 1\n", Fault::TooLarge);
 }

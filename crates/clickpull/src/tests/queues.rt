@@ -69,6 +69,21 @@ fn a_sender_may_put_out_another_s_packet(rt: HostRuntime) {
 }
 
 #[test]
+fn a_packet_that_was_put_out_is_not_waited_for(rt: HostRuntime) {
+    let tree = Ok(Tree::leaf(0));
+    let queues = [ONE_WITH_FRONT_DROP];
+    let senders = [FIRST_TO_0, SECOND_TO_0];
+    let script = "send 0 100\nsend 0 50\nsend 1 60\ndrain 4\n";
+    let expected = "0#0 100 accepted\n\
+        0#1 50 accepted evicted 0#0\n\
+        1#0 60 accepted evicted 0#1\n\
+        pull 5: 1#0 60\n\
+        sender 0: sent 2 150, accepted 2 150, refused 0 0, evicted 2 150, emitted 0 0\n\
+        sender 1: sent 1 60, accepted 1 60, refused 0 0, evicted 0 0, emitted 1 60\n";
+    assert_writes(&rt, rt.alloc(), tree, &queues, &senders, script, expected);
+}
+
+#[test]
 fn a_lower_input_goes_first(rt: HostRuntime) {
     let tree = prio_over_two(rt.alloc());
     let queues = [TWO_WITH_TAIL_DROP, TWO_WITH_TAIL_DROP];

@@ -101,7 +101,7 @@ pub fn assert_writes(
     assert_eq!(rt; written.as_slice(), expected.as_bytes());
 }
 
-/// Fails unless a script over a tree of one queue is refused by this fault, with nothing written.
+/// Fails unless a script over a tree and two queues, with a sender to each, ends by this fault, with nothing written.
 pub fn assert_refused(
     rt: &impl Abort,
     alloc: Global,
@@ -109,8 +109,8 @@ pub fn assert_refused(
     script: &str,
     expected: Fault,
 ) {
-    let queues = [QUEUE];
-    let senders = [FIRST_TO_0];
+    let queues = [QUEUE, QUEUE];
+    let senders = [FIRST_TO_0, SECOND_TO_1];
     let run = run_within(rt, alloc, tree, &queues, &senders, script, AMPLE);
     let (outcome, written) = run.expect(rt, "ample memory");
     assert_eq!(rt; outcome, Err(expected));
