@@ -1,7 +1,6 @@
 -- How the answer to a script goes on by one line.
 use Rattle.std.proofs.Common.{◌≡◌, ℕ, ◌+◌, ◌≤◌, ◌||◌, List, [], ◌∷◌, ◌++◌, length, map, max, fold, Option, Some, None, Result, Ok, Err, MatchOption, MatchResult, OnOk, IsOkUnless, ◌⊎◌, inl, inr, nat_lt, Bool, true, false, refl, sym, ap, subst, ◌∙◌, append_assoc, length-append, arith}
 use Rattle.std.specs.List.{flat_map, filter_map, cons_option, AllByRecursion}
-use Rattle.std.specs.Str.Lines.{lines}
 use Rattle.std.proofs.lemmas.Bool.Decides.{nat_tests}
 use Rattle.std.proofs.lemmas.List.{append-nil, map-append}
 use Rattle.std.proofs.lemmas.List.Concat.{flat_map-append}
@@ -13,7 +12,7 @@ use Rattle.clickpull.specs.declared.script.Line.{Line}
 use Rattle.clickpull.specs.declared.script.Line.TheVariants as line
 use Rattle.clickpull.specs.declared.setup.SenderSpec.{SenderSpec}
 use Rattle.clickpull.specs.declared.senders.Sender.{Sender}
-use Rattle.clickpull.specs.Script.{line_of, lines_of, command_in, commands_of, drain_in, is_drain, closing_moment, command_fault, line_fault, fault_at, first_fault, script_fault, most_bytes, most_lines, most_moment}
+use Rattle.clickpull.specs.Script.{lines_of, command_in, commands_of, drain_in, is_drain, closing_moment, command_fault, line_fault, fault_at, first_fault, script_fault, most_bytes, most_lines, most_moment}
 use Rattle.clickpull.specs.Meaning.{Setup, sender_numbers, Event, offered, pulled, command_of, number_from, moment_in, accepted_in, event_text, closing_text, ending_text, CanHappen, Writes, StopsShort, AreRising}
 use Rattle.clickpull.specs.Router.{SendsWithin, IsNumber, sender_after, IsAt, CanSend, IsReady, IsReadable, AnswersCommand, AnswersLine, AnswersDrain, StopsDrain, StopsScript}
 use Rattle.clickpull.proofs.SenderLemmas.{numbers-its}
@@ -33,25 +32,25 @@ pub HasAnswered-none : (setup : Setup) (router : Router) (script text : List ℕ
 HasAnswered-none setup router script text at none = record { events = []; theirs = refl; not_closed = refl; few = omega arith; lines = none; leads = at }
 
 -- the commands of what is left, by its first line
-commands_on : (rest after line : List ℕ) (o : Option Command) → lines rest ≡ line ∷ lines after → command_in (line_of line) ≡ o → commands_of rest ≡ cons_option o [] ++ commands_of after
-commands_on rest after line None e f = rw (e, f) refl
-commands_on rest after line (Some command) e f = rw (e, f) refl
+commands_on : (rest after : List ℕ) (l : Line) (o : Option Command) → lines_of rest ≡ l ∷ lines_of after → command_in l ≡ o → commands_of rest ≡ cons_option o [] ++ commands_of after
+commands_on rest after l None e f = rw (e, f) refl
+commands_on rest after l (Some command) e f = rw (e, f) refl
 
 -- a line that is no drain leaves the closing to what follows
-closing_on : (rest after line : List ℕ) → lines rest ≡ line ∷ lines after → drain_in (line_of line) ≡ None → closing_moment rest ≡ closing_moment after
-closing_on rest after line e f = rw (e, f) refl
+closing_on : (rest after : List ℕ) (l : Line) → lines_of rest ≡ l ∷ lines_of after → drain_in l ≡ None → closing_moment rest ≡ closing_moment after
+closing_on rest after l e f = rw (e, f) refl
 
-pub HasAnswered-line : (setup : Setup) (old new : Router) (script rest after line : List ℕ) (number : ℕ) (before text : List ℕ) → HasAnswered setup old script rest number before → lines rest ≡ line ∷ lines after → drain_in (line_of line) ≡ None
-    → AnswersLine old new before text (command_in (line_of line)) → HasAnswered setup new script after (number + 1) text
-HasAnswered-line setup old new script rest after line number before text h e undrained answers = by_command (command_in (line_of line)) refl answers
+pub HasAnswered-line : (setup : Setup) (old new : Router) (script rest after : List ℕ) (l : Line) (number : ℕ) (before text : List ℕ) → HasAnswered setup old script rest number before → lines_of rest ≡ l ∷ lines_of after → drain_in l ≡ None
+    → AnswersLine old new before text (command_in l) → HasAnswered setup new script after (number + 1) text
+HasAnswered-line setup old new script rest after l number before text h e undrained answers = by_command (command_in l) refl answers
   where
-    by_command : (o : Option Command) → command_in (line_of line) ≡ o → AnswersLine old new before text o → HasAnswered setup new script after (number + 1) text
+    by_command : (o : Option Command) → command_in l ≡ o → AnswersLine old new before text o → HasAnswered setup new script after (number + 1) text
     by_command None f same =
         let few = h.few in
         record {
           events = h.events;
-          theirs = ap (λ l. map command_of h.events ++ l) (sym (commands_on rest after line None e f)) ∙ h.theirs;
-          not_closed = sym (closing_on rest after line e undrained) ∙ h.not_closed;
+          theirs = ap (λ l. map command_of h.events ++ l) (sym (commands_on rest after l None e f)) ∙ h.theirs;
+          not_closed = sym (closing_on rest after l e undrained) ∙ h.not_closed;
           few = omega arith;
           lines = same.1 ∙ h.lines;
           leads = subst (λ (r : Router). IsAt setup h.events r) (sym same.0) h.leads;
@@ -63,8 +62,8 @@ HasAnswered-line setup old new script rest after line number before text h e und
           events = h.events ++ more.event ∷ [];
           theirs =
               ap (λ l. l ++ commands_of after) (map-append command_of h.events (more.event ∷ []) ∙ ap (λ c. map command_of h.events ++ c ∷ []) more.theirs)
-              ∙ append_assoc (map command_of h.events) (command ∷ []) (commands_of after) ∙ ap (λ l. map command_of h.events ++ l) (sym (commands_on rest after line (Some command) e f)) ∙ h.theirs;
-          not_closed = sym (closing_on rest after line e undrained) ∙ h.not_closed;
+              ∙ append_assoc (map command_of h.events) (command ∷ []) (commands_of after) ∙ ap (λ l. map command_of h.events ++ l) (sym (commands_on rest after l (Some command) e f)) ∙ h.theirs;
+          not_closed = sym (closing_on rest after l e undrained) ∙ h.not_closed;
           few = omega (arith, length-append h.events (more.event ∷ []));
           lines =
               more.line ∙ ap (λ l. l ++ event_text more.event) h.lines ∙ ap (λ l. flat_map event_text h.events ++ l) (sym (append-nil (event_text more.event)))
@@ -107,14 +106,14 @@ blank-commands senders n (l ∷ ls) e = by_fault (fault_at senders true n l) ref
     by_fault (Some fault) f rest = let no = rw f at e in absurd (cc)
 
 -- what is left of a script begins with a drain, and goes on with blank lines
-pub record IsDrained (script rest after line : List ℕ) (moment : ℕ) : Type 0 where
-  pub first : lines rest ≡ line ∷ lines after
-  pub drains : drain_in (line_of line) ≡ Some moment
+pub record IsDrained (script rest after : List ℕ) (l : Line) (moment : ℕ) : Type 0 where
+  pub first : lines_of rest ≡ l ∷ lines_of after
+  pub drains : drain_in l ≡ Some moment
   pub blank : filter_map command_in (lines_of after) ≡ []
 
-pub IsDrained-blank : (senders script rest after line : List ℕ) (n moment : ℕ) → lines rest ≡ line ∷ lines after → drain_in (line_of line) ≡ Some moment → first_fault senders true n (lines_of after) ≡ None
-    → IsDrained script rest after line moment
-IsDrained-blank senders script rest after line n moment e f blank = record { first = e; drains = f; blank = blank-commands senders n (lines_of after) blank }
+pub IsDrained-blank : (senders script rest after : List ℕ) (l : Line) (n moment : ℕ) → lines_of rest ≡ l ∷ lines_of after → drain_in l ≡ Some moment → first_fault senders true n (lines_of after) ≡ None
+    → IsDrained script rest after l moment
+IsDrained-blank senders script rest after l n moment e f blank = record { first = e; drains = f; blank = blank-commands senders n (lines_of after) blank }
 
 no-command : (l : Line) (moment : ℕ) → drain_in l ≡ Some moment → command_in l ≡ None
 no-command line.Blank moment e = refl
@@ -135,24 +134,24 @@ is-no_drain (line.Command command) e = refl
 is-no_drain (line.Drain m) e = absurd (cc)
 
 -- the commands of a script that ends in a drain, and its closing moment
-drained-commands : (setup : Setup) (router : Router) (script rest after line : List ℕ) (number moment : ℕ) (text : List ℕ) → IsDrained script rest after line moment
+drained-commands : (setup : Setup) (router : Router) (script rest after : List ℕ) (l : Line) (number moment : ℕ) (text : List ℕ) → IsDrained script rest after l moment
     → (h : HasAnswered setup router script rest number text) → map command_of h.events ≡ commands_of script
-drained-commands setup router script rest after line number moment text d h =
+drained-commands setup router script rest after l number moment text d h =
     sym (append-nil (map command_of h.events))
-    ∙ ap (λ l. map command_of h.events ++ l) (sym (commands_on rest after line None d.first (no-command (line_of line) moment d.drains) ∙ d.blank)) ∙ h.theirs
+    ∙ ap (λ l. map command_of h.events ++ l) (sym (commands_on rest after l None d.first (no-command l moment d.drains) ∙ d.blank)) ∙ h.theirs
 
-drained-moment : (script rest after line : List ℕ) (moment : ℕ) → IsDrained script rest after line moment → closing_moment rest ≡ Some moment
-drained-moment script rest after line moment d = rw (d.first, d.drains) refl
+drained-moment : (script rest after : List ℕ) (l : Line) (moment : ℕ) → IsDrained script rest after l moment → closing_moment rest ≡ Some moment
+drained-moment script rest after l moment d = rw (d.first, d.drains) refl
 
 -- a script that ends with a drain
-pub Writes-drained : (setup : Setup) (old new : Router) (script rest after line : List ℕ) (number moment : ℕ) (before text : List ℕ) → HasAnswered setup old script rest number before → IsDrained script rest after line moment
+pub Writes-drained : (setup : Setup) (old new : Router) (script rest after : List ℕ) (l : Line) (number moment : ℕ) (before text : List ℕ) → HasAnswered setup old script rest number before → IsDrained script rest after l moment
     → AnswersDrain old new moment before text → Writes setup (commands_of script) (closing_moment script) text
-Writes-drained setup old new script rest after line number moment before text h d answers =
+Writes-drained setup old new script rest after l number moment before text h d answers =
     let ends = answers setup h.events h.leads in
-    subst (λ drain. Writes setup (commands_of script) drain text) (sym (drained-moment script rest after line moment d) ∙ h.not_closed)
+    subst (λ drain. Writes setup (commands_of script) drain text) (sym (drained-moment script rest after l moment d) ∙ h.not_closed)
     (record {
       events = h.events;
-      theirs = drained-commands setup old script rest after line number moment before d h;
+      theirs = drained-commands setup old script rest after l number moment before d h;
       closed = ends.closed;
       closes = ends.closes;
       can_happen = ends.leads.can_happen;
@@ -160,32 +159,32 @@ Writes-drained setup old new script rest after line number moment before text h 
     })
 
 -- and one whose drain stops short
-pub StopsScript-drained : (setup : Setup) (old : Router) (script rest after line : List ℕ) (number moment : ℕ) (before : List ℕ) (fault : Fault) → HasAnswered setup old script rest number before
-    → IsDrained script rest after line moment → script_fault (sender_numbers setup) script ≡ None → StopsDrain old moment fault → StopsScript setup script fault
-StopsScript-drained setup old script rest after line number moment before (TooManyPulls made) h d sound short =
+pub StopsScript-drained : (setup : Setup) (old : Router) (script rest after : List ℕ) (l : Line) (number moment : ℕ) (before : List ℕ) (fault : Fault) → HasAnswered setup old script rest number before
+    → IsDrained script rest after l moment → script_fault (sender_numbers setup) script ≡ None → StopsDrain old moment fault → StopsScript setup script fault
+StopsScript-drained setup old script rest after l number moment before (TooManyPulls made) h d sound short =
     let stops : StopsShort setup (commands_of script) made moment = record {
       events = h.events;
-      theirs = drained-commands setup old script rest after line number moment before d h;
+      theirs = drained-commands setup old script rest after l number moment before d h;
       short = short setup h.events h.leads;
     } in
-    record { sound = sound; short = subst (λ drain. MatchOption drain ⊥ (StopsShort setup (commands_of script) made)) (sym (drained-moment script rest after line moment d) ∙ h.not_closed) stops }
-StopsScript-drained setup old script rest after line number moment before fault h d sound short = absurd short
+    record { sound = sound; short = subst (λ drain. MatchOption drain ⊥ (StopsShort setup (commands_of script) made)) (sym (drained-moment script rest after l moment d) ∙ h.not_closed) stops }
+StopsScript-drained setup old script rest after l number moment before fault h d sound short = absurd short
 
 -- the first fault of the lines of a text from the n-th on
 abbrev pub fault_from : List ℕ → Bool → ℕ → List ℕ → Option Fault
 fault_from senders drained n text = first_fault senders drained n (lines_of text)
 
-pub fault-later : (senders rest after line : List ℕ) (drained : Bool) (n : ℕ) → lines rest ≡ line ∷ lines after → fault_at senders drained n (line_of line) ≡ None
-    → fault_from senders drained n rest ≡ fault_from senders (drained || is_drain (line_of line)) (n + 1) after
-fault-later senders rest after line drained n e f = rw (e, f) refl
+pub fault-later : (senders rest after : List ℕ) (l : Line) (drained : Bool) (n : ℕ) → lines_of rest ≡ l ∷ lines_of after → fault_at senders drained n l ≡ None
+    → fault_from senders drained n rest ≡ fault_from senders (drained || is_drain l) (n + 1) after
+fault-later senders rest after l drained n e f = rw (e, f) refl
 
-pub fault-open : (senders rest after line : List ℕ) (n : ℕ) → lines rest ≡ line ∷ lines after → fault_at senders false n (line_of line) ≡ None → drain_in (line_of line) ≡ None
+pub fault-open : (senders rest after : List ℕ) (l : Line) (n : ℕ) → lines_of rest ≡ l ∷ lines_of after → fault_at senders false n l ≡ None → drain_in l ≡ None
     → fault_from senders false n rest ≡ fault_from senders false (n + 1) after
-fault-open senders rest after line n e f undrained = fault-later senders rest after line false n e f ∙ ap (λ b. fault_from senders b (n + 1) after) (is-no_drain (line_of line) undrained)
+fault-open senders rest after l n e f undrained = fault-later senders rest after l false n e f ∙ ap (λ b. fault_from senders b (n + 1) after) (is-no_drain l undrained)
 
-pub fault-drained : (senders rest after line : List ℕ) (n moment : ℕ) → lines rest ≡ line ∷ lines after → fault_at senders false n (line_of line) ≡ None → drain_in (line_of line) ≡ Some moment
+pub fault-drained : (senders rest after : List ℕ) (l : Line) (n moment : ℕ) → lines_of rest ≡ l ∷ lines_of after → fault_at senders false n l ≡ None → drain_in l ≡ Some moment
     → fault_from senders false n rest ≡ fault_from senders true (n + 1) after
-fault-drained senders rest after line n moment e f drains = fault-later senders rest after line false n e f ∙ ap (λ b. fault_from senders b (n + 1) after) (is-drain (line_of line) moment drains)
+fault-drained senders rest after l n moment e f drains = fault-later senders rest after l false n e f ∙ ap (λ b. fault_from senders b (n + 1) after) (is-drain l moment drains)
 
 fault-of_lines : (senders script : List ℕ) → length script ≤ most_bytes → script_fault senders script ≡ fault_from senders false 1 script
 fault-of_lines senders script small = let no : nat_lt most_bytes (length script) ≡ false = grind (arith, nat_tests) in rw no refl
@@ -200,15 +199,15 @@ fault-none senders script (byte ∷ rest) n small e none = absurd (omega arith)
 fault-none senders script [] n small e none = fault-of_lines senders script small ∙ sym e
 
 -- the first line that has a fault decides
-fault-here : (senders rest after line : List ℕ) (drained : Bool) (n : ℕ) (fault : Fault) → lines rest ≡ line ∷ lines after → fault_at senders drained n (line_of line) ≡ Some fault → fault_from senders drained n rest ≡ Some fault
-fault-here senders rest after line drained n fault f is = rw (f, is) refl
+fault-here : (senders rest after : List ℕ) (l : Line) (drained : Bool) (n : ℕ) (fault : Fault) → lines_of rest ≡ l ∷ lines_of after → fault_at senders drained n l ≡ Some fault → fault_from senders drained n rest ≡ Some fault
+fault-here senders rest after l drained n fault f is = rw (f, is) refl
 
-pub first-fault : (setup : Setup) (script rest after line : List ℕ) (n : ℕ) (fault : Fault) → length script ≤ most_bytes → fault_from (sender_numbers setup) false n rest ≡ fault_from (sender_numbers setup) false 1 script
-    → lines rest ≡ line ∷ lines after → (fault ≡ Memory) ⊎ (fault_at (sender_numbers setup) false n (line_of line) ≡ Some fault)
+pub first-fault : (setup : Setup) (script rest after : List ℕ) (l : Line) (n : ℕ) (fault : Fault) → length script ≤ most_bytes → fault_from (sender_numbers setup) false n rest ≡ fault_from (sender_numbers setup) false 1 script
+    → lines_of rest ≡ l ∷ lines_of after → (fault ≡ Memory) ⊎ (fault_at (sender_numbers setup) false n l ≡ Some fault)
     → (fault ≡ Memory) ⊎ (script_fault (sender_numbers setup) script ≡ Some fault) ⊎ StopsScript setup script fault
-first-fault setup script rest after line n fault small e f (inl memory) = inl memory
-first-fault setup script rest after line n fault small e f (inr is) =
-    inr (inl (fault-whole (sender_numbers setup) script rest false n (Some fault) small e (fault-here (sender_numbers setup) rest after line false n fault f is)))
+first-fault setup script rest after l n fault small e f (inl memory) = inl memory
+first-fault setup script rest after l n fault small e f (inr is) =
+    inr (inl (fault-whole (sender_numbers setup) script rest false n (Some fault) small e (fault-here (sender_numbers setup) rest after l false n fault f is)))
 
 -- a command that was carried out, or for which there was no memory
 pub command-answered : (r : Result (Unit {0}) Fault) (old new : Router) (before after senders : List ℕ) (command : Command) → command_fault senders command ≡ None
@@ -264,32 +263,32 @@ IsReady-answered setup router script rest n text h rising wired bound =
     }
 
 -- a drain changes nothing by itself
-HasAnswered-drain : (setup : Setup) (old new : Router) (script rest line : List ℕ) (number moment : ℕ) (before text : List ℕ) → HasAnswered setup old script rest number before → drain_in (line_of line) ≡ Some moment
-    → AnswersLine old new before text (command_in (line_of line)) → HasAnswered setup new script rest number text
-HasAnswered-drain setup old new script rest line number moment before text h drains answers =
-    let same = rw (no-command (line_of line) moment drains) at answers in
+HasAnswered-drain : (setup : Setup) (old new : Router) (script rest : List ℕ) (l : Line) (number moment : ℕ) (before text : List ℕ) → HasAnswered setup old script rest number before → drain_in l ≡ Some moment
+    → AnswersLine old new before text (command_in l) → HasAnswered setup new script rest number text
+HasAnswered-drain setup old new script rest l number moment before text h drains answers =
+    let same = rw (no-command l moment drains) at answers in
     record { events = h.events; theirs = h.theirs; not_closed = h.not_closed; few = h.few; lines = same.1 ∙ h.lines; leads = subst (λ (r : Router). IsAt setup h.events r) (sym same.0) h.leads }
 
 -- Nothing is wrong with a script, all lines up to a drain are answered, and the lines after it are blank.
-pub record IsAtDrain (setup : Setup) (router : Router) (script rest after line : List ℕ) (number moment : ℕ) (text : List ℕ) : Type 0 where
+pub record IsAtDrain (setup : Setup) (router : Router) (script rest after : List ℕ) (l : Line) (number moment : ℕ) (text : List ℕ) : Type 0 where
   pub answered : HasAnswered setup router script rest number text
-  pub drained : IsDrained script rest after line moment
+  pub drained : IsDrained script rest after l moment
   pub sound : script_fault (sender_numbers setup) script ≡ None
 
-pub IsAtDrain-read : (setup : Setup) (old new : Router) (script rest after line : List ℕ) (number moment : ℕ) (before text : List ℕ) → HasAnswered setup old script rest number before → length script ≤ most_bytes
-    → fault_from (sender_numbers setup) false (number + 1) rest ≡ fault_from (sender_numbers setup) false 1 script → lines rest ≡ line ∷ lines after
-    → fault_at (sender_numbers setup) false (number + 1) (line_of line) ≡ None → drain_in (line_of line) ≡ Some moment → AnswersLine old new before text (command_in (line_of line))
-    → first_fault (sender_numbers setup) true (number + 1 + 1) (lines_of after) ≡ None → IsAtDrain setup new script rest after line number moment text
-IsAtDrain-read setup old new script rest after line number moment before text h small whole e sound drains answers blank =
+pub IsAtDrain-read : (setup : Setup) (old new : Router) (script rest after : List ℕ) (l : Line) (number moment : ℕ) (before text : List ℕ) → HasAnswered setup old script rest number before → length script ≤ most_bytes
+    → fault_from (sender_numbers setup) false (number + 1) rest ≡ fault_from (sender_numbers setup) false 1 script → lines_of rest ≡ l ∷ lines_of after
+    → fault_at (sender_numbers setup) false (number + 1) l ≡ None → drain_in l ≡ Some moment → AnswersLine old new before text (command_in l)
+    → first_fault (sender_numbers setup) true (number + 1 + 1) (lines_of after) ≡ None → IsAtDrain setup new script rest after l number moment text
+IsAtDrain-read setup old new script rest after l number moment before text h small whole e sound drains answers blank =
     record {
-      answered = HasAnswered-drain setup old new script rest line number moment before text h drains answers;
-      drained = IsDrained-blank (sender_numbers setup) script rest after line (number + 1 + 1) moment e drains blank;
-      sound = fault-whole (sender_numbers setup) script rest false (number + 1) None small whole (fault-drained (sender_numbers setup) rest after line (number + 1) moment e sound drains ∙ blank);
+      answered = HasAnswered-drain setup old new script rest l number moment before text h drains answers;
+      drained = IsDrained-blank (sender_numbers setup) script rest after l (number + 1 + 1) moment e drains blank;
+      sound = fault-whole (sender_numbers setup) script rest false (number + 1) None small whole (fault-drained (sender_numbers setup) rest after l (number + 1) moment e sound drains ∙ blank);
     }
 
 -- a refusal of the closing
-pub closing-refused : (setup : Setup) (router : Router) (script rest after line : List ℕ) (number moment : ℕ) (text : List ℕ) (fault : Fault) → IsAtDrain setup router script rest after line number moment text
+pub closing-refused : (setup : Setup) (router : Router) (script rest after : List ℕ) (l : Line) (number moment : ℕ) (text : List ℕ) (fault : Fault) → IsAtDrain setup router script rest after l number moment text
     → (fault ≡ Memory) ⊎ StopsDrain router moment fault → (fault ≡ Memory) ⊎ (script_fault (sender_numbers setup) script ≡ Some fault) ⊎ StopsScript setup script fault
-closing-refused setup router script rest after line number moment text fault at (inl memory) = inl memory
-closing-refused setup router script rest after line number moment text fault at (inr short) =
-    inr (inr (StopsScript-drained setup router script rest after line number moment text fault at.answered at.drained at.sound short))
+closing-refused setup router script rest after l number moment text fault at (inl memory) = inl memory
+closing-refused setup router script rest after l number moment text fault at (inr short) =
+    inr (inr (StopsScript-drained setup router script rest after l number moment text fault at.answered at.drained at.sound short))

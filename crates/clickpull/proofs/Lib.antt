@@ -2,6 +2,7 @@
 pub mod FieldLemmas
 pub mod NumberLemmas
 pub mod LineLemmas
+pub mod PlainLines
 pub mod Alike
 pub mod EventLemmas
 pub mod SenderLemmas

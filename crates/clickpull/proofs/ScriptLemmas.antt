@@ -1,6 +1,5 @@
 -- What a script with no fault is, and what faults a script may have.
-use Rattle.std.proofs.Common.{◌≡◌, ℕ, ◌+◌, ◌≤◌, ◌&&◌, ◌||◌, ◌==◌, Bool, true, false, cond, nat_lt, nat_le, List, [], ◌∷◌, length, map, codes, if◌then◌else◌, Option, Some, None, refl, sym, subst, IfSome, arith}
-use Rattle.std.specs.Bool.{⊤}
+use Rattle.std.proofs.Common.{◌≡◌, ℕ, ◌+◌, ◌≤◌, ◌&&◌, ◌||◌, ◌==◌, Bool, true, false, cond, nat_lt, nat_le, List, [], ◌∷◌, length, map, codes, if◌then◌else◌, Option, Some, None, refl, ap, subst, IfSome, arith}
 use Rattle.std.specs.List.{filter_map, AllByRecursion, list_any}
 use Rattle.std.specs.Str.{all_ascii_digits, bytes_eq}
 use Rattle.std.specs.Str.Parse.{digits_value}
@@ -12,15 +11,8 @@ use Rattle.clickpull.specs.declared.script.Command.{Command}
 use Rattle.clickpull.specs.declared.script.Command.TheVariants.{Send, Pull}
 use Rattle.clickpull.specs.declared.script.Line.{Line}
 use Rattle.clickpull.specs.declared.script.Line.TheVariants as line
-use Rattle.clickpull.specs.Script.{most_bytes, has_bytes, number_in, send_of, pull_of, drain_of, sender_and_length, only_moment, line_of_fields, line_of, fields, line_fault, fault_at, is_drain, first_fault, script_fault, command_in, commands_of, most_lines, most_moment}
-use Rattle.clickpull.specs.Router.{IsReadable, IsSound}
-
--- the numbers of a line's command are those of a script
-abbrev pub IsReadableLine : Line → Type 0
-IsReadableLine line.Blank = ⊤
-IsReadableLine line.Malformed = ⊤
-IsReadableLine (line.Command command) = IsReadable command
-IsReadableLine (line.Drain moment) = moment ≤ most_moment
+use Rattle.clickpull.specs.Script.{most_bytes, has_bytes, number_in, send_of, pull_of, drain_of, sender_and_length, only_moment, line_of_fields, line_of, fields, line_fault, fault_at, is_drain, first_fault, lines_of, script_fault, command_in, commands_of, drain_in, most_lines, most_moment}
+use Rattle.clickpull.specs.Router.{IsReadable, IsReadableLine, IsSound}
 
 -- a test that answers with its number
 tested : (v n : ℕ) (a b : Bool) → cond (a && nat_le 1 v && b) (Some v) None ≡ Some n → 1 ≤ n
@@ -76,9 +68,22 @@ reads_fields (word ∷ arguments) = by_word (bytes_eq word (codes "send")) (byte
     by_word false false true = drains_arguments (only_moment arguments) (moment-most arguments (only_moment arguments) refl)
     by_word false false false = tt
 
--- what is read of a line is readable
-pub readable-line : (text : List ℕ) (l : Line) → l ≡ line_of text → IsReadableLine l
-readable-line text l is = subst IsReadableLine (sym is) (reads_fields (fields text))
+-- a first line is readable
+pub readable-first : (script : List ℕ) (l : Line) (more : List Line) → lines_of script ≡ l ∷ more → IsReadableLine l
+readable-first script l more e = by_texts (lines script) e
+  where
+    by_texts : (texts : List (List ℕ)) → map line_of texts ≡ l ∷ more → IsReadableLine l
+    by_texts [] f = absurd (omega (arith, ap length f))
+    by_texts (text ∷ texts) f =
+        let first : line_of text ≡ l = cc in
+        subst IsReadableLine first (reads_fields (fields text))
+
+-- the moment of a drain that was read
+pub readable-drain : (l : Line) (moment : ℕ) → IsReadableLine l → drain_in l ≡ Some moment → moment ≤ most_moment
+readable-drain line.Blank moment h e = absurd (cc e)
+readable-drain line.Malformed moment h e = absurd (cc e)
+readable-drain (line.Command command) moment h e = absurd (cc e)
+readable-drain (line.Drain m) moment h e = let same : m ≡ moment = cc in subst (λ n. n ≤ most_moment) same h
 
 readable-in : (l : Line) → IsReadableLine l → IfSome (command_in l) IsReadable
 readable-in line.Blank h = tt

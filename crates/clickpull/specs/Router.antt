@@ -12,6 +12,8 @@ use Rattle.clk_ring.specs.Laws.{LeadsTo}
 use Rattle.clk_sched.specs.declared.visit.Visit.{Visit}
 use Rattle.clickpull.specs.declared.script.Command.{Command}
 use Rattle.clickpull.specs.declared.script.Command.TheVariants.{Send, Pull}
+use Rattle.clickpull.specs.declared.script.Line.{Line}
+use Rattle.clickpull.specs.declared.script.Line.TheVariants as line
 use Rattle.clickpull.specs.declared.setup.QueueSpec.{QueueSpec}
 use Rattle.clickpull.specs.declared.setup.SenderSpec.{SenderSpec}
 use Rattle.clickpull.specs.declared.senders.Sender.{Sender}
@@ -226,6 +228,13 @@ visit_text v = if v.node == 0 then (if v.passed then given_text v.moment v.got e
 abbrev pub IsReadable : Command → Type 0
 IsReadable (Send sender length) = 1 ≤ length
 IsReadable (Pull moment) = moment ≤ most_moment
+
+-- the numbers of a line are those of a script
+abbrev pub IsReadableLine : Line → Type 0
+IsReadableLine line.Blank = ⊤
+IsReadableLine line.Malformed = ⊤
+IsReadableLine (line.Command command) = IsReadable command
+IsReadableLine (line.Drain moment) = moment ≤ most_moment
 
 -- a command that these senders can carry out
 abbrev pub IsSound : List ℕ → Command → Type 0

@@ -2,12 +2,11 @@
 
 ghost use Rattle.std.specs.Prelude.{◌≡◌, ◌≤◌, ◌+◌, ◌⊎◌, true, false, None, Some, [], MatchResult, OnOk};
 ghost use Rattle.clk_packet.specs.declared.fault.Fault.TheVariants.{Memory};
-ghost use Rattle.clickpull.specs.Script.{line_of, lines_of, command_in, drain_in, command_fault, fault_at, first_fault, script_fault, commands_of, closing_moment, most_lines};
+ghost use Rattle.clickpull.specs.Script.{lines_of, command_in, drain_in, command_fault, fault_at, first_fault, script_fault, commands_of, closing_moment, most_lines};
 ghost use Rattle.clickpull.specs.Meaning.{Writes, sender_numbers};
-ghost use Rattle.clickpull.specs.Router.{IsReadable, numbers_in, setup_at, IsReady, CanRun, AnswersCommand, AnswersLine, StopsScript};
+ghost use Rattle.clickpull.specs.Router.{IsReadable, IsReadableLine, numbers_in, setup_at, IsReady, CanRun, AnswersCommand, AnswersLine, StopsScript};
 
 use crate::closing::close;
-use crate::fields::first_line;
 use crate::router::Router;
 use crate::script::{Command, Line, MAX_BYTES, MAX_LINES};
 use crate::text::{push_offer, push_pull};
@@ -36,7 +35,7 @@ pub fn answer(alloc: Global, router: &mut Router, script: &[u8]) -> Result<Vec<u
     let mut number = 0;
     let mut rest = script;
     while !rest.is_empty() {
-        let (line, after) = first_line(rest);
+        let (line, after) = Line::next(rest);
         number += 1;
         if let Some(moment) = answer_line(router, number, line, &mut text)? {
             only_blank_lines(number, after)?;
@@ -54,21 +53,22 @@ pub fn answer(alloc: Global, router: &mut Router, script: &[u8]) -> Result<Vec<u
 fn answer_line(
     router: &mut Router,
     number: u32,
-    line: &[u8],
+    line: Line,
     text: &mut Vec<u8>,
 ) -> Result<Option<u64>, Fault>
     requires ready { IsReady router.old }
+    requires readable { IsReadableLine line }
     ensures exact { MatchResult result
-        (λ drain. (fault_at (numbers_in router.old) false number (line_of line.now) ≡ None)
-        × (drain ≡ drain_in (line_of line.now))
-        × AnswersLine router.old router.new text.old.items text.new.items (command_in (line_of line.now)))
-        (λ fault. (fault ≡ Memory) ⊎ (fault_at (numbers_in router.old) false number (line_of line.now) ≡ Some fault)) }
+        (λ drain. (fault_at (numbers_in router.old) false number line ≡ None)
+        × (drain ≡ drain_in line)
+        × AnswersLine router.old router.new text.old.items text.new.items (command_in line))
+        (λ fault. (fault ≡ Memory) ⊎ (fault_at (numbers_in router.old) false number line ≡ Some fault)) }
     ensures within { OnOk result (number ≤ most_lines) }
 {
     if number > MAX_LINES {
         return Err(Fault::TooLarge);
     }
-    match Line::read(line) {
+    match line {
         Line::Blank => Ok(None),
         Line::Malformed => Err(Fault::BadScript { line: number }),
         Line::Drain { moment } => Ok(Some(moment)),
@@ -114,7 +114,7 @@ fn only_blank_lines(drain: u32, text: &[u8]) -> Result<(), Fault>
     let mut number = drain;
     let mut rest = text;
     while !rest.is_empty() {
-        let (line, after) = first_line(rest);
+        let (line, after) = Line::next(rest);
         number += 1;
         blank_line(number, line)?;
         rest = after;
@@ -123,16 +123,16 @@ fn only_blank_lines(drain: u32, text: &[u8]) -> Result<(), Fault>
 }
 
 /// Whether the line of this number, which comes after a drain, has no fields.
-fn blank_line(number: u32, line: &[u8]) -> Result<(), Fault>
+fn blank_line(number: u32, line: Line) -> Result<(), Fault>
     ensures fault { (senders : _) → MatchResult result
-        (λ blank. fault_at senders true number (line_of line.now) ≡ None)
-        (λ fault. fault_at senders true number (line_of line.now) ≡ Some fault) }
+        (λ blank. fault_at senders true number line ≡ None)
+        (λ fault. fault_at senders true number line ≡ Some fault) }
     ensures within { OnOk result (number ≤ most_lines) }
 {
     if number > MAX_LINES {
         return Err(Fault::TooLarge);
     }
-    match Line::read(line) {
+    match line {
         Line::Blank => Ok(()),
         _ => Err(Fault::BadScript { line: number }),
     }

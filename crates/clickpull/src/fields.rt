@@ -1,10 +1,10 @@
 //! Lines, fields and numbers in the bytes of a script.
 
-ghost use Rattle.std.specs.Prelude.{◌≡◌, ℕ, ◌<◌, ◌≤◌, ◌==◌, ◌^◌, ◌∷◌, length, drop, not, None, Some, MatchOption};
+ghost use Rattle.std.specs.Prelude.{◌≡◌, ℕ, ◌<◌, ◌≤◌, ◌==◌, ◌^◌, ◌∷◌, length, drop, not, None, Some, MatchOption, IfSome};
 ghost use Rattle.std.specs.List.{position_or_len, prefix_len};
 ghost use Rattle.std.specs.Str.Lines.{lines, strip_carriage_return};
 ghost use Rattle.clickpull.specs.Script.{is_blank, fields, number_in};
-ghost use Rattle.clickpull.specs.Fields.{field_at};
+ghost use Rattle.clickpull.specs.Fields.{field_at, BeginsWithNumber};
 
 use memchr::memchr;
 
@@ -32,7 +32,6 @@ fn field_len(text: &[u8]) -> usize
 }
 
 /// The first field of a text, and what follows it. The field is empty where there is none.
-#[inline(always)]
 pub fn first_field(text: &[u8]) -> (&[u8], &[u8])
     ensures field { result.0.now ≡ field_at (fields text.now) 0 }
     ensures rest { fields result.1.now ≡ drop 1 (fields text.now) }
@@ -42,7 +41,6 @@ pub fn first_field(text: &[u8]) -> (&[u8], &[u8])
 }
 
 /// Where the first line of a text ends: at its line feed, or at the end of the text.
-#[inline(always)]
 fn line_len(text: &[u8]) -> usize
     ensures place { result ≡ position_or_len (λ byte. byte == 10) text.now }
     ensures within { result ≤ length text.now }
@@ -64,7 +62,6 @@ fn without_return(line: &[u8]) -> &[u8]
 }
 
 /// The first line of a text that isn't empty, without its end, and what follows it.
-#[inline(always)]
 pub fn first_line(text: &[u8]) -> (&[u8], &[u8])
     requires { 0 < length text.now }
     ensures line { lines text.now ≡ result.0.now ∷ lines result.1.now }
@@ -78,7 +75,6 @@ pub fn first_line(text: &[u8]) -> (&[u8], &[u8])
 }
 
 /// The number in the first field of a text, where it is one in this range, and what follows the field; None where it is none.
-#[inline(always)]
 pub fn first_number(text: &[u8], least: u64, most: u64) -> Option<(u64, &[u8])>
     requires { most < 2 ^ 60 }
     ensures { MatchOption result (number_in least most (field_at (fields text.now) 0) ≡ None)
@@ -108,4 +104,30 @@ pub fn first_number(text: &[u8], least: u64, most: u64) -> Option<(u64, &[u8])>
     }
     let (_, rest) = field.split_at(len);
     Some((number, rest))
+}
+
+/// The number in this range whose digits a text begins with, where this byte comes right after them, and what follows the byte. None
+/// where the text doesn't begin so.
+#[inline(always)]
+pub fn number_before(text: &[u8], end: u8, least: u64, most: u64) -> Option<(u64, &[u8])>
+    requires { most < 2 ^ 60 }
+    ensures { IfSome result (λ r. BeginsWithNumber text.now end least most r.0 r.1.now) }
+{
+    let mut number = 0;
+    let mut len = 0;
+    for byte in text {
+        if !byte.is_ascii_digit() {
+            if *byte != end || len == 0 || number < least {
+                return None;
+            }
+            let (_, rest) = text.split_at(len + 1);
+            return Some((number, rest));
+        }
+        number = number * 10 + u64::from(*byte - b'0');
+        if number > most {
+            return None;
+        }
+        len += 1;
+    }
+    None
 }

@@ -1,6 +1,6 @@
 //! The lines of a script.
 
-use crate::fields::{first_field, first_number};
+use crate::fields::{first_field, first_line, first_number, number_before};
 
 /// How many bytes a script may have.
 pub const MAX_BYTES: usize = 33_554_432;
@@ -33,23 +33,57 @@ pub enum Line {
 }
 
 impl Line {
-    ghost use Rattle.std.specs.Prelude.{◌≡◌, ◌∷◌, codes};
-    ghost use Rattle.clickpull.specs.Script.{fields, line_of, line_of_fields, only_moment};
+    ghost use Rattle.std.specs.Prelude.{◌≡◌, ◌<◌, ◌∷◌, ◌++◌, codes, length, IfSome};
+    ghost use Rattle.clickpull.specs.Script.{fields, line_of, lines_of, line_of_fields, only_moment};
 
-    /// Reads a line, which is given without its end.
+    /// Reads the first line of a text that isn't empty, and gives what follows it.
     #[inline(always)]
-    pub fn read(text: &[u8]) -> Line
-        ensures { result ≡ line_of text.now }
+    pub fn next(text: &[u8]) -> (Line, &[u8])
+        requires { 0 < length text.now }
+        ensures line { lines_of text.now ≡ result.0 ∷ lines_of result.1.now }
+        ensures rest { length result.1.now < length text.now }
     {
-        match text {
-            [b'p', b'u', b'l', b'l', b' ', rest @ ..] => Line::pull(rest),
-            [b's', b'e', b'n', b'd', b' ', rest @ ..] => Line::send(rest),
-            _ => Line::read_any(text),
+        // Most lines are as they are written without need: with one space, no zeros in front, and a line feed.
+        if let [b'p', b'u', b'l', b'l', b' ', rest @ ..] = text {
+            if let Some((line, rest)) = Line::plain_pull(rest) {
+                return (line, rest);
+            }
         }
+        if let [b's', b'e', b'n', b'd', b' ', rest @ ..] = text {
+            if let Some((line, rest)) = Line::plain_send(rest) {
+                return (line, rest);
+            }
+        }
+        let (line, rest) = first_line(text);
+        (Line::read(line), rest)
     }
 
-    /// Reads any line.
-    fn read_any(text: &[u8]) -> Line
+    /// The line `pull M` of what follows its word and a space, where a line feed is all else that it has, and what follows it.
+    #[inline(always)]
+    fn plain_pull(text: &[u8]) -> Option<(Line, &[u8])>
+        ensures { IfSome result (λ r. (lines_of (codes "pull " ++ text.now) ≡ r.0 ∷ lines_of r.1.now) × (length r.1.now < length text.now)) }
+    {
+        let (moment, rest) = number_before(text, b'\n', 0, MAX_MOMENT)?;
+        Some((Line::Command(Command::Pull { moment }), rest))
+    }
+
+    /// The line `send S L` of what follows its word and a space, where one space and a line feed are all else that it has, and what
+    /// follows it.
+    #[inline(always)]
+    fn plain_send(text: &[u8]) -> Option<(Line, &[u8])>
+        ensures { IfSome result (λ r. (lines_of (codes "send " ++ text.now) ≡ r.0 ∷ lines_of r.1.now) × (length r.1.now < length text.now)) }
+    {
+        let (sender, rest) = number_before(text, b' ', 0, 65_535)?;
+        let (length, rest) = number_before(rest, b'\n', 1, 65_535)?;
+        let line = Line::Command(Command::Send {
+            sender: sender as u16,
+            length: length as u16,
+        });
+        Some((line, rest))
+    }
+
+    /// Reads a line, which is given without its end.
+    fn read(text: &[u8]) -> Line
         ensures { result ≡ line_of text.now }
     {
         let (word, rest) = first_field(text);
@@ -69,7 +103,6 @@ impl Line {
     }
 
     /// The line `pull M`, of what follows its word.
-    #[inline(always)]
     fn pull(text: &[u8]) -> Line
         ensures { result ≡ line_of_fields (codes "pull" ∷ fields text.now) }
     {
@@ -90,7 +123,6 @@ impl Line {
     }
 
     /// The moment that stands alone in a text, if one does.
-    #[inline(always)]
     fn only_moment(text: &[u8]) -> Option<u64>
         ensures { result ≡ only_moment (fields text.now) }
     {
@@ -100,7 +132,6 @@ impl Line {
     }
 
     /// The line `send S L`, of what follows its word.
-    #[inline(always)]
     fn send(text: &[u8]) -> Line
         ensures { result ≡ line_of_fields (codes "send" ∷ fields text.now) }
     {

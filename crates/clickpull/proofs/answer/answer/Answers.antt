@@ -2,6 +2,7 @@ use Rattle.std.proofs.Common.{◌+◌, ◌∙◌, sym, arith}
 use Rattle.std.proofs.lemmas.Result.{err_from_is_err_and}
 use Rattle.clickpull.specs.Meaning.{sender_numbers}
 use Rattle.clickpull.specs.Router.{setup_at}
+use Rattle.clickpull.proofs.ScriptLemmas.{readable-first, readable-drain}
 use Rattle.clickpull.proofs.SenderLemmas.{numbers-its}
 use Rattle.clickpull.proofs.AnswerLemmas.{HasAnswered-line, IsReady-answered, IsAtDrain-read, Writes-drained, closing-refused, fault-open, first-fault}
 use Rattle.clickpull.proofs.answer.answer.Goals as goal
@@ -9,7 +10,10 @@ use Rattle.clickpull.proofs.answer.answer.Goals as goal
 pub answer_line-requires : goal.answer_line-requires
 answer_line-requires c =
     let h = c.loop-rest.invariant in
-    record { ready = IsReady-answered _ _ _ _ _ _ h.answered c.requires.rising c.requires.wired h.bound }
+    record {
+      ready = IsReady-answered _ _ _ _ _ _ h.answered c.requires.rising c.requires.wired h.bound;
+      readable = readable-first c.loop-rest.rest.now c.next-line.result.0 _ c.next-line.ensures.line;
+    }
 
 pub returns-in_err-moment : goal.returns-in_err-moment
 returns-in_err-moment c =
@@ -18,16 +22,16 @@ returns-in_err-moment c =
     let why = rw numbers at c.in_err-moment.ensures.exact in
     let p = err_from_is_err_and c.from_residual.result c.from_residual.ensures.1 in
     rw (p.1, p.2)
-    (first-fault (setup_at c.args.router.now) c.args.script.now c.loop-rest.rest.now c.first_line.result.1.now c.first_line.result.0.now (c.loop-rest.number + 1) c.in_err-moment.field-0.0 (omega arith) h.fault
-    c.first_line.ensures.line why)
+    (first-fault (setup_at c.args.router.now) c.args.script.now c.loop-rest.rest.now c.next-line.result.1.now c.next-line.result.0 (c.loop-rest.number + 1) c.in_err-moment.field-0.0 (omega arith) h.fault
+    c.next-line.ensures.line why)
 
 pub close-requires-clause-ready : goal.close-requires-clause-ready
 close-requires-clause-ready c =
     let h = c.loop-rest.invariant in
     let numbers = numbers-its _ _ _ h.answered.leads in
     let read = rw numbers at c.in_ok-moment.ensures.exact in
-    let at = IsAtDrain-read (setup_at c.args.router.now) _ _ c.args.script.now c.loop-rest.rest.now c.first_line.result.1.now c.first_line.result.0.now c.loop-rest.number c.in-Some.moment _ _ h.answered (omega arith) h.fault
-    c.first_line.ensures.line read.0 (sym read.1 ∙ c.in-Some.is) read.2 (c.in_ok-only_blank_lines.ensures (sender_numbers (setup_at c.args.router.now)))
+    let at = IsAtDrain-read (setup_at c.args.router.now) _ _ c.args.script.now c.loop-rest.rest.now c.next-line.result.1.now c.next-line.result.0 c.loop-rest.number c.in-Some.moment _ _ h.answered (omega arith) h.fault
+    c.next-line.ensures.line read.0 (sym read.1 ∙ c.in-Some.is) read.2 (c.in_ok-only_blank_lines.ensures (sender_numbers (setup_at c.args.router.now)))
     in
     IsReady-answered _ _ _ _ _ _ at.answered c.requires.rising c.requires.wired h.bound
 
@@ -36,8 +40,8 @@ returns-in_err-close c =
     let h = c.loop-rest.invariant in
     let numbers = numbers-its _ _ _ h.answered.leads in
     let read = rw numbers at c.in_ok-moment.ensures.exact in
-    let at = IsAtDrain-read (setup_at c.args.router.now) _ _ c.args.script.now c.loop-rest.rest.now c.first_line.result.1.now c.first_line.result.0.now c.loop-rest.number c.in-Some.moment _ _ h.answered (omega arith) h.fault
-    c.first_line.ensures.line read.0 (sym read.1 ∙ c.in-Some.is) read.2 (c.in_ok-only_blank_lines.ensures (sender_numbers (setup_at c.args.router.now)))
+    let at = IsAtDrain-read (setup_at c.args.router.now) _ _ c.args.script.now c.loop-rest.rest.now c.next-line.result.1.now c.next-line.result.0 c.loop-rest.number c.in-Some.moment _ _ h.answered (omega arith) h.fault
+    c.next-line.ensures.line read.0 (sym read.1 ∙ c.in-Some.is) read.2 (c.in_ok-only_blank_lines.ensures (sender_numbers (setup_at c.args.router.now)))
     in
     let p = err_from_is_err_and c.from_residual-in_err-close.result c.from_residual-in_err-close.ensures.1 in
     rw (p.1, p.2) (closing-refused _ _ _ _ _ _ _ _ _ c.in_err-close.field-0.0 at c.in_err-close.ensures)
@@ -47,8 +51,8 @@ returns-in-Some c =
     let h = c.loop-rest.invariant in
     let numbers = numbers-its _ _ _ h.answered.leads in
     let read = rw numbers at c.in_ok-moment.ensures.exact in
-    let at = IsAtDrain-read (setup_at c.args.router.now) _ _ c.args.script.now c.loop-rest.rest.now c.first_line.result.1.now c.first_line.result.0.now c.loop-rest.number c.in-Some.moment _ _ h.answered (omega arith) h.fault
-    c.first_line.ensures.line read.0 (sym read.1 ∙ c.in-Some.is) read.2 (c.in_ok-only_blank_lines.ensures (sender_numbers (setup_at c.args.router.now)))
+    let at = IsAtDrain-read (setup_at c.args.router.now) _ _ c.args.script.now c.loop-rest.rest.now c.next-line.result.1.now c.next-line.result.0 c.loop-rest.number c.in-Some.moment _ _ h.answered (omega arith) h.fault
+    c.next-line.ensures.line read.0 (sym read.1 ∙ c.in-Some.is) read.2 (c.in_ok-only_blank_lines.ensures (sender_numbers (setup_at c.args.router.now)))
     in
     (at.sound, Writes-drained _ _ _ _ _ _ _ _ _ _ _ at.answered at.drained c.in_ok-close.ensures)
 
@@ -56,12 +60,16 @@ pub loop-rest-preserved : goal.loop-rest-preserved
 loop-rest-preserved c =
     let h = c.loop-rest.invariant in
     let senders = sender_numbers (setup_at c.args.router.now) in
-    let line = c.first_line.ensures.line in
+    let line = c.next-line.ensures.line in
     let numbers = numbers-its _ _ _ h.answered.leads in
     let read = rw numbers at c.in_ok-moment.ensures.exact in
     let none = sym read.1 ∙ c.in_default.is in
     record {
-      fault = sym (fault-open senders c.loop-rest.rest.now c.first_line.result.1.now c.first_line.result.0.now (c.loop-rest.number + 1) line read.0 none) ∙ h.fault;
-      answered = HasAnswered-line _ _ _ _ c.loop-rest.rest.now c.first_line.result.1.now c.first_line.result.0.now _ _ _ h.answered line none read.2;
+      fault = sym (fault-open senders c.loop-rest.rest.now c.next-line.result.1.now c.next-line.result.0 (c.loop-rest.number + 1) line read.0 none) ∙ h.fault;
+      answered = HasAnswered-line _ _ _ _ c.loop-rest.rest.now c.next-line.result.1.now c.next-line.result.0 _ _ _ h.answered line none read.2;
       bound = c.in_ok-moment.ensures.within;
     }
+
+pub close-requires-clause-moment : goal.close-requires-clause-moment
+close-requires-clause-moment c =
+    readable-drain c.next-line.result.0 c.in-Some.moment (readable-first c.loop-rest.rest.now c.next-line.result.0 _ c.next-line.ensures.line) (sym c.in_ok-moment.ensures.exact.1 ∙ c.in-Some.is)

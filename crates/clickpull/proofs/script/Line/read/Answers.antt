@@ -3,7 +3,7 @@ use Rattle.std.proofs.lemmas.Bool.Decides.{nat_tests}
 use Rattle.std.proofs.lemmas.Slice.Eq.{bytes_eq-Decides}
 use Rattle.clickpull.specs.Script.{fields}
 use Rattle.clickpull.proofs.LineLemmas.{HaveBytes-fields, line-none, line-word}
-use Rattle.clickpull.proofs.script.Line.read_any.Goals as goal
+use Rattle.clickpull.proofs.script.Line.read.Goals as goal
 
 pub returns-then-is_empty : goal.returns-then-is_empty
 returns-then-is_empty c =
