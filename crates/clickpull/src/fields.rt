@@ -8,6 +8,9 @@ ghost use Rattle.clickpull.specs.Fields.{field_at, BeginsWithNumber};
 
 use memchr::memchr;
 
+/// The code of the digit 0.
+const ZERO: u64 = 48;
+
 /// Whether a byte parts fields.
 fn is_blank(byte: u8) -> bool
     ensures { result ≡ is_blank byte }
@@ -116,14 +119,16 @@ pub fn number_before(text: &[u8], end: u8, least: u64, most: u64) -> Option<(u64
     let mut number = 0;
     let mut len = 0;
     for byte in text {
-        if !byte.is_ascii_digit() {
+        // What isn't from 0 to 9 is no digit: a byte below '0' wraps round to a large number.
+        let digit = u64::from(*byte).wrapping_sub(ZERO);
+        if digit > 9 {
             if *byte != end || len == 0 || number < least {
                 return None;
             }
             let (_, rest) = text.split_at(len + 1);
             return Some((number, rest));
         }
-        number = number * 10 + u64::from(*byte - b'0');
+        number = number * 10 + digit;
         if number > most {
             return None;
         }

@@ -80,6 +80,13 @@ pub fn place_of(senders: &[Sender], number: u16) -> Option<usize>
     ensures found { IfSome result (IsPlaceOf senders.now number) }
     ensures missing { result ≡ None → list_any (λ s. s == number) (map number_of senders.now) ≡ false }
 {
+    // Numbers without gaps are places.
+    let place = usize::from(number);
+    if let Some(sender) = senders.get(place) {
+        if sender.number == number {
+            return Some(place);
+        }
+    }
     senders
         .binary_search_by_key(&number, |sender| sender.number)
         .ok()

@@ -26,8 +26,8 @@ pub fn push_pull(text: &mut Vec<u8>, moment: u64, got: Option<Packet>) -> Result
         ++ (codes "pull " ++ (decimal moment ++ (codes ": " ++ (result_text got ++ codes "\n"))))) }
     ensures fault { IsOkUnless result Fault.Memory }
 {
-    let mut line = [0; 128];
-    let end = put(&mut line, b"\n", 128);
+    let mut line = [0; 96];
+    let end = put(&mut line, b"\n", 96);
     let end = put_result(&mut line, got, end);
     let end = put(&mut line, b": ", end);
     let end = put_number(&mut line, moment, end);

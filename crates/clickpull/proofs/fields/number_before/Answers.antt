@@ -1,12 +1,13 @@
-use Rattle.std.proofs.Common.{arith, ◌≡◌, ◌<◌, ◌≤◌, ◌+◌, ◌∷◌, ◌∙◌, ap, sym, subst, drop, slice_index_or}
+use Rattle.std.proofs.Common.{arith, true, ◌≡◌, ◌<◌, ◌≤◌, ◌+◌, ◌-◌, ◌%◌, ◌∷◌, ◌∙◌, ap, sym, subst, drop, slice_index_or}
+use Rattle.std.specs.Char.{is_ascii_digit}
 use Rattle.std.proofs.lemmas.Bool.Decides.{nat_tests}
 use Rattle.std.proofs.lemmas.List.{drop_more}
 use Rattle.clickpull.specs.Fields.{BeginsWithNumber}
 use Rattle.clickpull.proofs.PlainLines.{HasRead, HasRead-more, BeginsWithNumber-read}
 use Rattle.clickpull.proofs.fields.number_before.Goals as goal
 
-pub returns-then-not-is_ascii_digit : goal.returns-then-not-is_ascii_digit
-returns-then-not-is_ascii_digit c =
+pub returns-then-digit-gt9 : goal.returns-then-digit-gt9
+returns-then-digit-gt9 c =
     let text = c.args.text.now in
     let i = c.loop-byte.byte-index in
     let byte = slice_index_or text i 0 in
@@ -28,10 +29,15 @@ loop-byte-preserved c =
     let next : drop i text ≡ byte ∷ drop (i + 1) text = drop_more text i 0 c.loop-byte-test.true in
     let len = c.loop-byte.invariant.len in
     let small = c.if-number-most.false in
+    let code = c.from-digit.ensures in
+    let few = c.if-digit-gt9.false in
+    let low : 48 ≤ byte = omega (arith, code, few) in
+    let high : byte ≤ 57 = omega (arith, code, few) in
+    let digit : (c.from-digit.result + 18446744073709551568) % 18446744073709551616 ≡ byte - 48 = omega (arith, code, few) in
+    let is_digit : is_ascii_digit byte ≡ true = grind (arith, nat_tests) in
     record {
-      read = rw c.from.ensures
-          (HasRead-more text c.loop-byte.number byte (drop (i + 1) text) c.loop-byte.len (sym c.is_ascii_digit.ensures.value ∙ c.if-not-is_ascii_digit.false)
-          (subst (λ r. HasRead text c.loop-byte.number r c.loop-byte.len) next c.loop-byte.invariant.read));
+      read = rw digit
+          (HasRead-more text c.loop-byte.number byte (drop (i + 1) text) c.loop-byte.len is_digit (subst (λ r. HasRead text c.loop-byte.number r c.loop-byte.len) next c.loop-byte.invariant.read));
       small = omega (arith, small);
       len = omega (arith, len);
     }

@@ -4,9 +4,14 @@ use Rattle.clickpull.specs.declared.senders.Sender.{Sender}
 use Rattle.clickpull.proofs.PlaceLemmas.{IsSearched, searched}
 use Rattle.clickpull.proofs.senders.place_of.Goals as goal
 
-pub returns : goal.returns
-returns c =
+pub returns-clause-found : goal.returns-clause-found
+returns-clause-found c =
     let facts = c.binary_search_by_key.ensures in
     let by_key = facts.position (λ (s : Sender). s.number) (answers_always _ _ _ (λ f a r g called. search rules)) in
-    let is = subst (λ o. IsSearched c.args.senders.now c.args.number o) (sym c.ok.ensures.value) (searched c.args.senders.now c.args.number c.requires.rising _ facts.bound by_key) in
-    record { found = is.found; missing = is.missing }
+    (subst (λ o. IsSearched c.args.senders.now c.args.number o) (sym c.ok.ensures.value) (searched c.args.senders.now c.args.number c.requires.rising _ facts.bound by_key)).found
+
+pub returns-clause-missing : goal.returns-clause-missing
+returns-clause-missing c =
+    let facts = c.binary_search_by_key.ensures in
+    let by_key = facts.position (λ (s : Sender). s.number) (answers_always _ _ _ (λ f a r g called. search rules)) in
+    (subst (λ o. IsSearched c.args.senders.now c.args.number o) (sym c.ok.ensures.value) (searched c.args.senders.now c.args.number c.requires.rising _ facts.bound by_key)).missing
