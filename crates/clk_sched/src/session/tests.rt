@@ -3,6 +3,7 @@
 mod deficit;
 mod in_order;
 mod limits;
+mod memory;
 mod queues;
 mod row;
 mod shaper;

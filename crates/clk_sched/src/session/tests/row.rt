@@ -75,7 +75,8 @@ fn shown(
     Ok(row.text)
 }
 
-fn session(rt: &impl Abort, alloc: Global, tree: Tree) -> Result<Session, Fault> {
+/// A session of a tree.
+pub fn session(rt: &impl Abort, alloc: Global, tree: Tree) -> Result<Session, Fault> {
     assert!(rt; tree.leaves_distinct());
     Session::new(alloc, tree)
 }

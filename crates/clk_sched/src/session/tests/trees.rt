@@ -79,6 +79,33 @@ pub fn stride_over_deficit(alloc: Global) -> Result<Tree, Fault> {
     Tree::stride(vec![in alloc; 1, 1]?, vec![in alloc; Tree::leaf(1), held]?)
 }
 
+/// A DRRSched of quantum 100 over a StrideSched over queues 0 to 8, with a ticket each, and queues 9 to 12. Neither has room in
+/// itself for what it holds of so many inputs.
+pub fn drr_over_stride(alloc: Global) -> Result<Tree, Fault> {
+    let nine = vec![in alloc;
+        Tree::leaf(0),
+        Tree::leaf(1),
+        Tree::leaf(2),
+        Tree::leaf(3),
+        Tree::leaf(4),
+        Tree::leaf(5),
+        Tree::leaf(6),
+        Tree::leaf(7),
+        Tree::leaf(8),
+    ]?;
+    let shared = Tree::stride(vec![in alloc; 1, 1, 1, 1, 1, 1, 1, 1, 1]?, nine)?;
+    Tree::drr(
+        vec![in alloc; 100, 100, 100, 100, 100]?,
+        vec![in alloc;
+            shared,
+            Tree::leaf(9),
+            Tree::leaf(10),
+            Tree::leaf(11),
+            Tree::leaf(12),
+        ]?,
+    )
+}
+
 /// A PrioSched over four, of which three are over 64 queues each, and the last over those that are left. With the device that is
 /// six more nodes than queues.
 pub fn wide(rt: &impl Abort, alloc: Global, queues: u16) -> Result<Tree, Fault> {
