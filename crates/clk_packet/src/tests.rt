@@ -1,4 +1,6 @@
-use crate::{Failed, FailingSink, FailingSource, FromRead, Sink, Source, ToWrite};
+use crate::{
+    Failed, FailingSink, FailingSource, Fault, FromRead, Packet, Packets, Sink, Source, ToWrite,
+};
 use std::io::{self, ErrorKind, Read, Write};
 use std::test::Fail;
 
@@ -125,4 +127,23 @@ fn a_failing_sink_takes_what_fits(rt: HostRuntime) -> Result<(), Fail> {
     assert_eq!(rt; put(&mut sink, b"d"), Err(Failed));
     assert_eq!(rt; sink.taken(), &b"abc"[..]);
     Ok(())
+}
+
+#[test]
+fn packets_are_kept_in_order(rt: HostRuntime) {
+    let first = Packet {
+        number: 0,
+        sender: 7,
+        length: 10,
+    };
+    let second = Packet {
+        number: 1,
+        sender: 7,
+        length: 20,
+    };
+    let mut packets = Packets::from(Vec::new(rt.alloc()));
+    assert_eq!(rt; packets.push(first), Ok::<(), Fault>(()));
+    assert_eq!(rt; packets.push(second), Ok::<(), Fault>(()));
+    assert_eq!(rt; packets.as_slice(), [first, second].as_slice());
+    assert_eq!(rt; packets.into_vec().as_slice(), [first, second].as_slice());
 }
