@@ -20,7 +20,7 @@ pub enum State {
 }
 
 impl State {
-    ghost use Rattle.std.specs.Prelude.{◌≡◌, true, length, IfSome, slice_get};
+    ghost use Rattle.std.specs.Prelude.{◌≡◌, ◌↔◌, true, length, IfSome, slice_get};
     ghost use Rattle.clk_sched.specs.declared.session.state.State.TheVariants.{Prio};
     ghost use Rattle.clk_sched.specs.Places.{edges_of, Answers, queue_asked};
     ghost use Rattle.clk_sched.specs.Holds.OfClass.{Fits};
@@ -28,7 +28,7 @@ impl State {
 
     /// Whether it is that of a PrioSched, which holds nothing.
     pub fn is_prio(&self) -> bool
-        ensures { result ≡ true → self.now ≡ Prio }
+        ensures { result ≡ true ↔ self.now ≡ Prio }
     {
         match self {
             State::Prio => true,
