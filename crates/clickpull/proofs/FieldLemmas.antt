@@ -6,7 +6,8 @@ use Rattle.std.proofs.lemmas.List.Sums.{fails_before_first, position_or_len_is}
 use Rattle.std.specs.Str.Lines.{lines, lines_of_parts, strip_carriage_return}
 use Rattle.std.proofs.lemmas.Bool.Decides.{nat_tests}
 use Rattle.memchr.specs.Find.{IsFirstByte, is_byte}
-use Rattle.clickpull.specs.Script.{is_blank, has_bytes, fields}
+use Rattle.clk_packet.specs.Numbers.{has_bytes}
+use Rattle.clickpull.specs.Script.{is_blank, fields}
 use Rattle.clickpull.specs.Fields.{field_at}
 
 -- blanks at the front change no field

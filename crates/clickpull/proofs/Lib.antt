@@ -12,6 +12,5 @@ pub mod ClosingLemmas
 pub mod PlaceLemmas
 pub mod AnswerLemmas
 pub mod OneMeaning
-pub mod BytesLemmas
 pub mod ScriptLemmas
 pub mod RefusalLemmas

@@ -5,7 +5,8 @@ use Rattle.std.proofs.lemmas.Bool.{false≢true}
 use Rattle.clickpull.specs.declared.script.Line.TheVariants as line
 use Rattle.clk_packet.specs.Limits.{most_sender, most_length}
 use Rattle.clickpull.specs.declared.script.Command.TheVariants.{Send}
-use Rattle.clickpull.specs.Script.{is_blank, has_bytes, fields, number_in, only_moment, line_of_fields, most_moment}
+use Rattle.clk_packet.specs.Numbers.{has_bytes, number_in}
+use Rattle.clickpull.specs.Script.{is_blank, fields, only_moment, line_of_fields, most_moment}
 use Rattle.clickpull.specs.Fields.{field_at}
 
 pub record HaveBytes (all : List (List ℕ)) : Type 0 where

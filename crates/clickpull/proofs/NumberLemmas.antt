@@ -1,5 +1,5 @@
 -- A number that is read digit by digit.
-use Rattle.std.proofs.Common.{◌≡◌, ℕ, ◌+◌, ◌*◌, ◌-◌, ◌<◌, ◌≤◌, ◌&&◌, Bool, true, false, cond, nat_le, List, [], ◌∷◌, length, take, drop, slice_index_or, Some, None, refl, sym, ap, ◌∙◌, add_comm, add-one, arith}
+use Rattle.std.proofs.Common.{◌≡◌, ℕ, ◌+◌, ◌*◌, ◌-◌, ◌<◌, ◌≤◌, Bool, true, false, cond, nat_le, List, [], ◌∷◌, length, take, drop, slice_index_or, Some, None, refl, sym, ap, ◌∙◌, add_comm, add-one, arith}
 use Rattle.std.specs.List.{position_or_len, prefix_len}
 use Rattle.std.specs.Char.{is_ascii_digit, digit_value}
 use Rattle.std.specs.Str.{all_ascii_digits}
@@ -7,7 +7,9 @@ use Rattle.std.specs.Str.Parse.{digits_value, digits_value_after}
 use Rattle.std.proofs.lemmas.Bool.Decides.{nat_tests}
 use Rattle.std.proofs.lemmas.List.{nil_from_length}
 use Rattle.std.proofs.lemmas.Str.{digit_value_digit}
-use Rattle.clickpull.specs.Script.{is_blank, has_bytes, fields, number_in}
+use Rattle.clk_packet.specs.Numbers.{has_bytes, number_in}
+use Rattle.clk_packet.proofs.NumberLemmas.{more_digits, too_large}
+use Rattle.clickpull.specs.Script.{is_blank, fields}
 use Rattle.clickpull.specs.Fields.{field_at}
 use Rattle.clickpull.proofs.FieldLemmas.{fields-skip, fields-first, skipped}
 
@@ -82,19 +84,6 @@ Reads-digit text number byte after e h =
       later = ap fields (sym later) ∙ h.later;
       some = h.some;
     }
-
-more_digits : (number : ℕ) (digits : List ℕ) → number ≤ digits_value_after 10 number digits
-more_digits number [] = omega arith
-more_digits number (d ∷ digits) = omega (arith, more_digits (number * 10 + digit_value d) digits)
-
-too_large : (least most : ℕ) (digits : List ℕ) → most < digits_value 10 digits → number_in least most digits ≡ None
-too_large least most digits more =
-    let no : nat_le (digits_value 10 digits) most ≡ false = grind (arith, nat_tests) in
-    rw no (by_test (all_ascii_digits digits && has_bytes digits && nat_le least (digits_value 10 digits)) (digits_value 10 digits))
-  where
-    by_test : (b : Bool) (n : ℕ) → cond (b && false) (Some n) None ≡ None
-    by_test true n = refl
-    by_test false n = refl
 
 -- a text with no field
 pub number-missing : (least most : ℕ) (text rest : List ℕ) → rest ≡ drop (prefix_len is_blank text) text → length rest ≡ 0 → number_in least most (field_at (fields text) 0) ≡ None

@@ -11,7 +11,8 @@ use Rattle.std.proofs.lemmas.Str.{digit_value_digit}
 use Rattle.clk_packet.specs.Limits.{most_sender, most_length}
 use Rattle.clickpull.specs.declared.script.Command.TheVariants.{Send, Pull}
 use Rattle.clickpull.specs.declared.script.Line.TheVariants as line
-use Rattle.clickpull.specs.Script.{is_blank, has_bytes, fields, number_in, line_of_fields, line_of, lines_of, most_moment}
+use Rattle.clk_packet.specs.Numbers.{has_bytes, number_in}
+use Rattle.clickpull.specs.Script.{is_blank, fields, line_of_fields, line_of, lines_of, most_moment}
 use Rattle.clickpull.specs.Fields.{BeginsWithNumber}
 
 -- the digits that were read of a text so far

@@ -11,7 +11,7 @@ use Rattle.clickpull.specs.declared.script.Command.TheVariants.{Send, Pull}
 use Rattle.clickpull.specs.declared.script.Line.{Line}
 use Rattle.clickpull.specs.declared.script.Line.TheVariants as line
 use Rattle.clickpull.specs.Script.{most_lines, command_fault, line_fault, fault_at, is_drain, first_fault, lines_of, script_fault, commands_of, closing_moment, most_bytes}
-use Rattle.clickpull.specs.Bytes.{read_failures, write_failures}
+use Rattle.clk_packet.specs.Bytes.{read_failures, write_failures}
 use Rattle.clk_sched.specs.Tree.{queue, prio}
 use Rattle.clk_sched.specs.Built.{built}
 use Rattle.clickpull.specs.Meaning.{Setup, Writes, IsMeaning, CannotClose, Explains, sender_numbers}
@@ -104,8 +104,8 @@ of_script senders script = by_test (nat_lt most_bytes (length script)) refl
 -- what a refusal of the script's first bytes says
 pub record IsRefusal (setup : Setup) (known : Option (List ℕ)) (fault : Fault) : Type 0 where
   pub explains : Explains setup known fault
-  pub reads : (n : ℕ) → read_failures (Err fault) n ≡ n
-  pub writes : (n : ℕ) → write_failures (Err fault) n ≡ n
+  pub reads : (n : ℕ) → read_failures {T = Unit {0}} (Err fault) n ≡ n
+  pub writes : (n : ℕ) → write_failures {T = Unit {0}} (Err fault) n ≡ n
   pub not_write : fault ≢ Write
 
 named : (senders : List ℕ) (known : Option (List ℕ)) (bytes : List ℕ) (fault : Fault) → IfSome known (λ all. bytes ≡ take (most_bytes + 1) all) → script_fault senders bytes ≡ Some fault

@@ -11,7 +11,8 @@ use Rattle.clickpull.specs.declared.script.Command.{Command}
 use Rattle.clickpull.specs.declared.script.Command.TheVariants.{Send, Pull}
 use Rattle.clickpull.specs.declared.script.Line.{Line}
 use Rattle.clickpull.specs.declared.script.Line.TheVariants as line
-use Rattle.clickpull.specs.Script.{most_bytes, has_bytes, number_in, send_of, pull_of, drain_of, sender_and_length, only_moment, line_of_fields, line_of, fields, line_fault, fault_at, is_drain, first_fault, lines_of, script_fault, command_in, commands_of, drain_in, most_lines, most_moment}
+use Rattle.clk_packet.specs.Numbers.{has_bytes, number_in}
+use Rattle.clickpull.specs.Script.{most_bytes, send_of, pull_of, drain_of, sender_and_length, only_moment, line_of_fields, line_of, fields, line_fault, fault_at, is_drain, first_fault, lines_of, script_fault, command_in, commands_of, drain_in, most_lines, most_moment}
 use Rattle.clickpull.specs.Router.{IsReadable, IsReadableLine, IsSound}
 
 -- a test that answers with its number

@@ -1,6 +1,6 @@
 -- The fields of a line by their places, and numbers at the front of a text.
 use Rattle.std.specs.Prelude.{◌≡◌, ℕ, List, [], ◌∷◌, ◌++◌, Some, unwrap_or, slice_get}
-use Rattle.clickpull.specs.Script.{number_in}
+use Rattle.clk_packet.specs.Numbers.{number_in}
 
 -- the field at a place, or no bytes where there is none
 abbrev pub field_at : List (List ℕ) → ℕ → List ℕ

@@ -5,7 +5,6 @@ pub mod Meaning
 pub mod Builtin
 pub mod Fields
 pub mod Router
-pub mod Bytes
 pub mod Totals
 pub mod OneMeaning
 pub mod Examples

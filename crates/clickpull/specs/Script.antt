@@ -1,11 +1,11 @@
 -- The lines of a script, and what is wrong with it (this project's own format).
-use Rattle.std.specs.Prelude.{ℕ, ◌+◌, ◌-◌, ◌^◌, List, [], ◌∷◌, length, map, filter, Bool, true, false, ◌==◌, ◌&&◌, ◌||◌, nat_lt, nat_le, if◌then◌else◌, Option, Some, None, codes, slice_get}
+use Rattle.std.specs.Prelude.{ℕ, ◌+◌, ◌-◌, ◌^◌, List, [], ◌∷◌, length, map, filter, Bool, true, false, ◌==◌, ◌||◌, nat_lt, if◌then◌else◌, Option, Some, None, codes, slice_get}
 use Rattle.std.specs.Option.{option_or}
 use Rattle.std.specs.List.{slice_split, filter_map, list_any}
-use Rattle.std.specs.Str.{all_ascii_digits, bytes_eq}
-use Rattle.std.specs.Str.Parse.{digits_value}
+use Rattle.std.specs.Str.{bytes_eq}
 use Rattle.std.specs.Str.Lines.{lines}
 use Rattle.clk_packet.specs.Limits.{most_sender, most_length}
+use Rattle.clk_packet.specs.Numbers.{has_bytes, number_in}
 use Rattle.clk_packet.specs.declared.fault.Fault.{Fault}
 use Rattle.clk_packet.specs.declared.fault.Fault.TheVariants.{TooLarge, BadScript, UnknownSender}
 use Rattle.clickpull.specs.declared.script.Command.{Command}
@@ -27,19 +27,9 @@ most_moment = 2 ^ 40 - 1
 abbrev pub is_blank : ℕ → Bool
 is_blank byte = (byte == 32) || (byte == 9)
 
-abbrev pub has_bytes : List ℕ → Bool
-has_bytes [] = false
-has_bytes (byte ∷ bytes) = true
-
 -- the parts between blanks, without the empty ones
 abbrev pub fields : List ℕ → List (List ℕ)
 fields text = filter has_bytes (slice_split is_blank text)
-
--- the value of digits, where they are some and it is in this range
-abbrev pub number_in : ℕ → ℕ → List ℕ → Option ℕ
-number_in least most digits =
-    if all_ascii_digits digits && has_bytes digits && nat_le least (digits_value 10 digits) && nat_le (digits_value 10 digits) most
-    then Some (digits_value 10 digits) else None
 
 -- what follows the word `send` or another, where it is numbers in range
 abbrev pub send_of : Option ℕ → Option ℕ → Line

@@ -2,11 +2,10 @@
 
 ghost use Rattle.std.specs.Prelude.{◌++◌, codes, decimal};
 ghost use Rattle.std.specs.List.{flat_map};
+ghost use Rattle.clk_packet.specs.Bytes.{Wrote};
 ghost use Rattle.clk_packet.specs.Fault.{fields_of, fault_text};
-ghost use Rattle.clickpull.specs.Bytes.{Wrote};
 
-use crate::bytes::write_all;
-use clk_packet::{Fault, Sink};
+use clk_packet::{Fault, Sink, write_all};
 use itoa::Buffer;
 
 /// Writes the line of a fault: `fault`, its number, its name and its fields. Takes no memory; where the sink fails, it

@@ -3,7 +3,8 @@
 ghost use Rattle.std.specs.Prelude.{◌≡◌, ℕ, ◌<◌, ◌≤◌, ◌==◌, ◌^◌, ◌∷◌, length, drop, not, None, Some, MatchOption, IfSome};
 ghost use Rattle.std.specs.List.{position_or_len, prefix_len};
 ghost use Rattle.std.specs.Str.Lines.{lines, strip_carriage_return};
-ghost use Rattle.clickpull.specs.Script.{is_blank, fields, number_in};
+ghost use Rattle.clk_packet.specs.Numbers.{number_in};
+ghost use Rattle.clickpull.specs.Script.{is_blank, fields};
 ghost use Rattle.clickpull.specs.Fields.{field_at, BeginsWithNumber};
 
 use memchr::memchr;

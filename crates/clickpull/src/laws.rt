@@ -1,9 +1,9 @@
 //! What the definitions of scripts say: each law is a function that does nothing and whose contract is the law.
 
 ghost use Rattle.std.specs.Prelude.{◌≡◌, [], ◌∷◌, Some, codes};
+ghost use Rattle.clk_packet.specs.Bytes.{Takes, AppendsFront};
 ghost use Rattle.clk_packet.specs.declared.fault.Fault.TheVariants.{TooLarge};
 ghost use Rattle.clickpull.specs.Builtin.{builtin};
-ghost use Rattle.clickpull.specs.Bytes.{Takes, AppendsFront};
 ghost use Rattle.clickpull.specs.Meaning.{CanHappen, Closes, IsMeaning, Explains};
 ghost use Rattle.clickpull.specs.OneMeaning.{IsWired, HasAtMostOneMeaning};
 ghost use Rattle.clickpull.specs.Examples.{shaped, moment_not_counted, moment_ahead, second_first, number_left_out, refused_early, never_sent, other_refused, one_left, closed_at_once, closed_without_a_pull, closed_a_tick_early, closed_a_pull_late};

@@ -2,7 +2,6 @@
 #![tactic(auto)]
 
 mod answer;
-mod bytes;
 mod closing;
 mod faults;
 mod fields;

@@ -3,20 +3,19 @@
 ghost use Rattle.std.specs.Prelude.{◌≡◌, ◌≢◌, ◌+◌, true, map, length, IfSome, IfOk, IfErr, OnOk, IsErrOf, IsOkUnless};
 ghost use Rattle.std.specs.List.{AllByRecursion};
 ghost use Rattle.std.specs.Io.KnownBytes.{Appends, Keeps};
+ghost use Rattle.clk_packet.specs.Bytes.{Takes, AppendsFront, read_failures, write_failures};
 ghost use Rattle.clk_packet.specs.declared.fault.Fault.TheVariants.{Memory, Write};
 ghost use Rattle.clk_sched.specs.Tree.{leaves_distinct};
-ghost use Rattle.clickpull.specs.Bytes.{Takes, AppendsFront, read_failures, write_failures};
 ghost use Rattle.clickpull.specs.Script.{most_bytes};
 ghost use Rattle.clickpull.specs.Meaning.{IsMeaning, Explains, ExplainsOver, sender_numbers, setup_of, AreRising};
 ghost use Rattle.clickpull.specs.Builtin.{builtin};
 ghost use Rattle.clickpull.specs.Router.{HasCapacity, spec_number, SendsWithin};
 
 use crate::answer::answer;
-use crate::bytes::{read_up_to, write_all};
 use crate::router::Router;
 use crate::script::MAX_BYTES;
 use crate::setup::{QueueSpec, SenderSpec};
-use clk_packet::{Fault, Kind, Sink, Source};
+use clk_packet::{Fault, Kind, Sink, Source, read_up_to, write_all};
 use clk_sched::Tree;
 use std::alloc::Global;
 

@@ -1,6 +1,8 @@
 -- What the crates' contracts say of packets, faults and bytes.
+pub mod Bytes
 pub mod Failing
 pub mod Fault
 pub mod Io
 pub mod Limits
+pub mod Numbers
 pub mod Packets

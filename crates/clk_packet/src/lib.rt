@@ -1,19 +1,23 @@
 //! What every crate of the pull half of a router speaks of: packets, faults, and where bytes come from and go.
 #![tactic(auto)]
 
+mod bytes;
 mod failing;
 mod failures;
 mod fault;
 mod from_std;
 mod io;
+mod number;
 mod packet;
 mod packets;
 
+pub use bytes::{read_up_to, write_all};
 pub use failing::{FailingSink, FailingSource};
 pub use failures::Failures;
 pub use fault::Fault;
 pub use from_std::{FromRead, ToWrite};
 pub use io::{Failed, Sink, Source};
+pub use number::number_in;
 pub use packet::{Kind, Offered, Packet};
 pub use packets::Packets;
 

@@ -1,3 +1,5 @@
+mod texts;
+
 use crate::{
     Failed, FailingSink, FailingSource, Fault, FromRead, Packet, Packets, Sink, Source, ToWrite,
 };

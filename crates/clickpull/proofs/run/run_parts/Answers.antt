@@ -1,7 +1,7 @@
 use Rattle.std.proofs.Common.{◌∙◌, sym, inr}
 use Rattle.std.specs.Io.KnownBytes.{Appends}
 use Rattle.std.proofs.lemmas.Result.{err_from_is_err_and, on_ok_weaker, IfErr-at_err}
-use Rattle.clickpull.specs.Bytes.{AppendsFront}
+use Rattle.clk_packet.specs.Bytes.{AppendsFront}
 use Rattle.clickpull.specs.Meaning.{setup_of}
 use Rattle.clickpull.proofs.RefusalLemmas.{IsRefusal-script, meaning-known}
 use Rattle.clickpull.proofs.run.run_parts.Goals as goal

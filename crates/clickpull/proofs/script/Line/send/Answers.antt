@@ -1,7 +1,8 @@
 use Rattle.std.proofs.Common.{arith, ◌≡◌, ◌∙◌, ap, length, sym}
 use Rattle.std.proofs.lemmas.Bool.Decides.{nat_tests}
 use Rattle.clk_packet.specs.Limits.{most_length}
-use Rattle.clickpull.specs.Script.{fields, number_in}
+use Rattle.clk_packet.specs.Numbers.{number_in}
+use Rattle.clickpull.specs.Script.{fields}
 use Rattle.clickpull.proofs.LineLemmas.{HaveBytes-fields, field_at-rest, line-send}
 use Rattle.clickpull.proofs.script.Line.send.Goals as goal
 

@@ -28,10 +28,10 @@ pub record Wrote (old new : Option (List ℕ)) (before after : ℕ) (result : Re
   pub fails : OnErr result (after ≡ before + 1)
 
 -- how often the reader and the writer have failed, once a call has ended in a result
-abbrev pub read_failures : Result (Unit {0}) Fault → ℕ → ℕ
+abbrev pub read_failures : {T : Type 0} → Result T Fault → ℕ → ℕ
 read_failures (Err Read) failures = failures + 1
 read_failures result failures = failures
 
-abbrev pub write_failures : Result (Unit {0}) Fault → ℕ → ℕ
+abbrev pub write_failures : {T : Type 0} → Result T Fault → ℕ → ℕ
 write_failures (Err Write) failures = failures + 1
 write_failures result failures = failures

@@ -1,6 +1,6 @@
 use Rattle.std.proofs.Common.{◌≡◌, length}
-use Rattle.clickpull.proofs.BytesLemmas.{HasWritten}
-use Rattle.clickpull.proofs.bytes.write_all.Given as goal
+use Rattle.clk_packet.proofs.BytesLemmas.{HasWritten}
+use Rattle.clk_packet.proofs.bytes.write_all.Given as goal
 
 abbrev pub invariant-loop-rest : goal.invariant-loop-rest
 invariant-loop-rest g l = record {

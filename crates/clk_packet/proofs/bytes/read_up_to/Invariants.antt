@@ -1,6 +1,6 @@
 use Rattle.std.proofs.Common.{◌≡◌, ◌≤◌, ◌-◌, length, vec_len}
 use Rattle.std.specs.Io.KnownBytes.{Consumes}
-use Rattle.clickpull.proofs.bytes.read_up_to.Given as goal
+use Rattle.clk_packet.proofs.bytes.read_up_to.Given as goal
 
 abbrev pub invariant-loop-chunk : goal.invariant-loop-chunk
 invariant-loop-chunk g l = record {

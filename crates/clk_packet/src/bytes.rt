@@ -1,9 +1,10 @@
 //! Whole texts from a source and to a sink.
 
 ghost use Rattle.std.specs.Prelude.{◌≡◌, take, IfSome, IfOk};
-ghost use Rattle.clickpull.specs.Bytes.{Takes, FailsToRead, Wrote};
+ghost use Rattle.clk_packet.specs.Bytes.{Takes, FailsToRead, Wrote};
 
-use clk_packet::{Fault, Sink, Source};
+use crate::fault::Fault;
+use crate::io::{Sink, Source};
 use std::alloc::Global;
 
 /// How many bytes are read at a time.

@@ -1,6 +1,6 @@
 use Rattle.std.proofs.Common.{refl, ◌∙◌}
-use Rattle.clickpull.proofs.BytesLemmas.{HasWritten-more, HasWritten-none}
-use Rattle.clickpull.proofs.bytes.write_all.Goals as goal
+use Rattle.clk_packet.proofs.BytesLemmas.{HasWritten-more, HasWritten-none}
+use Rattle.clk_packet.proofs.bytes.write_all.Goals as goal
 
 pub loop-rest-init : goal.loop-rest-init
 loop-rest-init g c = record { front = HasWritten-none _ _; failures = refl }

@@ -5,7 +5,7 @@ use Rattle.std.proofs.lemmas.List.Concat.{flat_map-append}
 use Rattle.std.specs.List.{flat_map}
 use Rattle.std.specs.Io.KnownBytes.{Appends}
 use Rattle.clk_packet.specs.declared.fault.Fault.{Fault}
-use Rattle.clickpull.specs.Bytes.{Wrote}
+use Rattle.clk_packet.specs.Bytes.{Wrote}
 
 -- a front of the text was written, and the rest is left
 pub record HasWritten (old new : Option (List ℕ)) (text rest : List ℕ) : Type 0 where

@@ -1,0 +1,14 @@
+-- Numbers in texts (this project's own format).
+use Rattle.std.specs.Prelude.{ℕ, List, [], ◌∷◌, Bool, true, false, ◌&&◌, nat_le, if◌then◌else◌, Option, Some, None}
+use Rattle.std.specs.Str.{all_ascii_digits}
+use Rattle.std.specs.Str.Parse.{digits_value}
+
+abbrev pub has_bytes : List ℕ → Bool
+has_bytes [] = false
+has_bytes (byte ∷ bytes) = true
+
+-- The value of digits, where they are some and it is in this range. Any number of zeros may lead it, and a sign is no digit.
+abbrev pub number_in : ℕ → ℕ → List ℕ → Option ℕ
+number_in least most digits =
+    if all_ascii_digits digits && has_bytes digits && nat_le least (digits_value 10 digits) && nat_le (digits_value 10 digits) most
+    then Some (digits_value 10 digits) else None
