@@ -3,6 +3,8 @@ pub mod Bytes
 pub mod Failing
 pub mod Fault
 pub mod Io
+pub mod Lengths
 pub mod Limits
 pub mod Numbers
 pub mod Packets
+pub mod Trace

@@ -7,9 +7,11 @@ mod failures;
 mod fault;
 mod from_std;
 mod io;
+mod lengths;
 mod number;
 mod packet;
 mod packets;
+mod traces;
 
 pub use bytes::{read_up_to, write_all};
 pub use failing::{FailingSink, FailingSource};
@@ -20,6 +22,7 @@ pub use io::{Failed, Sink, Source};
 pub use number::number_in;
 pub use packet::{Kind, Offered, Packet};
 pub use packets::Packets;
+pub use traces::Traces;
 
 #[cfg(test)]
 mod tests;

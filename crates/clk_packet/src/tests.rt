@@ -1,4 +1,5 @@
 mod texts;
+mod traces;
 
 use crate::{
     Failed, FailingSink, FailingSource, Fault, FromRead, Packet, Packets, Sink, Source, ToWrite,

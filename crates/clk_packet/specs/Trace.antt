@@ -1,0 +1,86 @@
+-- Traces: what a text of records says, and what is wrong with it (this project's own format, in records as the crate csv reads them).
+use Rattle.std.specs.Prelude.{ℕ, ◌+◌, List, [], ◌∷◌, length, map, ◌==◌, nat_lt, if◌then◌else◌, Option, Some, None, IfSome, ⊤, ◌≡◌, slice_get, unwrap_or}
+use Rattle.std.specs.Option.{option_or}
+use Rattle.std.specs.List.{filter_map}
+use Rattle.csv.specs.Reading.{default_config, records, strip_bom}
+use Rattle.clk_packet.specs.Limits.{most_sender, most_length}
+use Rattle.clk_packet.specs.Numbers.{number_in}
+use Rattle.clk_packet.specs.declared.packet.Packet.{Packet}
+use Rattle.clk_packet.specs.declared.fault.Fault.{Fault}
+use Rattle.clk_packet.specs.declared.fault.Fault.TheVariants.{Memory, Read, TooLarge, BadTrace}
+
+-- how many bytes and records a trace may have
+abbrev pub most_trace_bytes : ℕ
+most_trace_bytes = 33554432
+
+abbrev pub most_records : ℕ
+most_records = 1000000
+
+-- The records of a text, each a list of fields: lines of fields between commas, as the crate csv reads them without a header row. A
+-- byte order mark at the front and empty lines are none.
+abbrev pub records_of : List ℕ → List (List (List ℕ))
+records_of text = records default_config (strip_bom text)
+
+abbrev pub pair_of : Option ℕ → Option ℕ → Option (ℕ × ℕ)
+pair_of None size = None
+pair_of (Some sender) None = None
+pair_of (Some sender) (Some size) = Some (sender, size)
+
+-- what a record says: two fields, a sender's number and the length of its next packet in bytes
+abbrev pub pair_in : List (List ℕ) → Option (ℕ × ℕ)
+pair_in (sender ∷ size ∷ []) = pair_of (number_in 0 most_sender sender) (number_in 1 most_length size)
+pair_in fields = None
+
+abbrev pub bad_unless : ℕ → Option (ℕ × ℕ) → Option Fault
+bad_unless row None = Some (BadTrace row)
+bad_unless row (Some pair) = None
+
+-- what is wrong with the record of a number: it is one too many, whatever it holds, or it says nothing
+abbrev pub record_fault : ℕ → List (List ℕ) → Option Fault
+record_fault row fields = if nat_lt most_records row then Some TooLarge else bad_unless row (pair_in fields)
+
+-- what is wrong with the first of some records that has something wrong, where they are counted from a number on
+abbrev pub first_fault : ℕ → List (List (List ℕ)) → Option Fault
+first_fault row [] = None
+first_fault row (fields ∷ more) = option_or (record_fault row fields) (first_fault (row + 1) more)
+
+-- What is wrong with a trace: it has too many bytes, or else what is wrong with the first record that has something wrong.
+abbrev pub trace_fault : List ℕ → Option Fault
+trace_fault text = if nat_lt most_trace_bytes (length text) then Some TooLarge else first_fault 1 (records_of text)
+
+-- the senders and lengths that a trace tells, in order
+abbrev pub pairs_of : List ℕ → List (ℕ × ℕ)
+pairs_of text = filter_map pair_in (records_of text)
+
+-- What a sender sends by some pairs, where its packets are counted from a number on: its own number, the packet's number and its
+-- length, for each pair of that sender in order.
+abbrev pub sent_from : ℕ → ℕ → List (ℕ × ℕ) → List (ℕ × ℕ × ℕ)
+sent_from sender number [] = []
+sent_from sender number (pair ∷ more) =
+    if pair.0 == sender then (sender, number, pair.1) ∷ sent_from sender (number + 1) more else sent_from sender number more
+
+-- what a sender sends by some pairs: its packets are counted from 0
+abbrev pub sent : ℕ → List (ℕ × ℕ) → List (ℕ × ℕ × ℕ)
+sent sender pairs = sent_from sender 0 pairs
+
+-- the packets that a sender sends, where traces are seen as lists of packets by the sender's number
+abbrev pub sent_by : List (List Packet) → ℕ → List Packet
+sent_by traces sender = unwrap_or (slice_get traces sender) []
+
+-- packets by sender, number and length
+abbrev pub shown : List Packet → List (ℕ × ℕ × ℕ)
+shown packets = map (λ p. (p.sender, p.number, p.length)) packets
+
+-- how many packets all senders send together
+abbrev pub packets_in : List (List Packet) → ℕ
+packets_in [] = 0
+packets_in (packets ∷ more) = length packets + packets_in more
+
+-- Why reading a trace is refused with a fault: memory may run out at any growth, the reader may fail, and otherwise it is what is
+-- wrong with the trace, where its bytes are known.
+abbrev pub ExplainsTrace : Option (List ℕ) → Fault → Type 0
+ExplainsTrace trace Memory = ⊤
+ExplainsTrace trace Read = ⊤
+ExplainsTrace trace TooLarge = IfSome trace (λ text. trace_fault text ≡ Some TooLarge)
+ExplainsTrace trace (BadTrace row) = IfSome trace (λ text. trace_fault text ≡ Some (BadTrace row))
+ExplainsTrace trace fault = ⊥

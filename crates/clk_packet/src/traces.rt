@@ -1,0 +1,130 @@
+//! Traces: what each sender sends, in order.
+
+mod records;
+
+use crate::bytes::read_up_to;
+use crate::fault::Fault;
+use crate::io::Source;
+use crate::lengths::{Length, Lengths};
+use crate::packet::Packet;
+use records::read_text;
+use std::alloc::Global;
+use std::marker::Model;
+
+/// How many bytes a trace may have.
+const MAX_BYTES: usize = 33_554_432;
+
+/// What each sender sends, in order. Contracts see the lists of packets by the number of their sender, from 0; a sender past the last
+/// list sends none.
+#[derive(Drop)]
+pub struct Traces {
+    senders: Vec<Lengths>,
+}
+
+impl Model for Traces {
+    ghost use Rattle.std.specs.Prelude.{List, ◌≤◌};
+    ghost use Rattle.clk_packet.specs.declared.packet.Packet.{Packet};
+    ghost use Rattle.clk_packet.specs.Trace.{packets_in, most_records};
+    ghost use Rattle.clk_packet.specs.Lengths.{packets_by};
+
+    ghost Value = { List (List Packet) };
+
+    ghost view = { λ traces. packets_by 0 traces.senders.items };
+
+    ghost invariant = { λ traces. packets_in (packets_by 0 traces.senders.items) ≤ most_records };
+}
+
+impl Traces {
+    ghost use Rattle.std.specs.Prelude.{◌≡◌, ◌≤◌, ◌<◌, ◌+◌, [], length, slice_get, None, IfSome, IfOk, IfErr, OnOk, IsOkUnless};
+    ghost use Rattle.clk_packet.specs.declared.fault.Fault.TheVariants.{Memory};
+    ghost use Rattle.clk_packet.specs.Bytes.{Takes, read_failures};
+    ghost use Rattle.clk_packet.specs.Lengths.{IsAdded};
+    ghost use Rattle.clk_packet.specs.Trace.{ExplainsTrace, most_records, most_trace_bytes, packets_in, pairs_of, sent, sent_by, shown, trace_fault};
+
+    /// Reads a trace to its end: a record for each packet, with its sender's number, from 0 to 65,535, and its length in bytes, from 1
+    /// to 65,535. A sender's packets are counted from 0. Records are lines of fields between commas, as `csv` reads them without a
+    /// header row. A trace has at most 1,000,000 records and 33,554,432 bytes.
+    ///
+    /// # Errors
+    ///
+    /// In this order: 1 at any refused growth of memory; 19 where the reader fails; 18 for a trace of more than 33,554,432 bytes; then
+    /// by records, counted from 1, 18 at record 1,000,001 and 14 for one that isn't two such numbers.
+    pub fn read_csv<R: Source>(alloc: Global, reader: &mut R) -> Result<Traces, Fault>
+        ensures sound { OnOk result (IfSome (R.Source.remaining reader.old) (λ text. trace_fault text ≡ None)) }
+        ensures sent { IfOk result (λ traces. IfSome (R.Source.remaining reader.old) (λ text. (s : _) → shown (sent_by traces s) ≡ sent s (pairs_of text))) }
+        ensures within { IfOk result (λ traces. packets_in traces ≤ most_records) }
+
+        // Each fault has its cause.
+        ensures fault { IfErr result (ExplainsTrace (R.Source.remaining reader.old)) }
+        ensures failures { R.Source.failures reader.new ≡ read_failures result (R.Source.failures reader.old) }
+
+        // The reader is read to one byte past the limit at most.
+        ensures limit { Takes (most_trace_bytes + 1) (R.Source.remaining reader.old) (R.Source.remaining reader.new) }
+    {
+        let text = read_up_to(alloc, reader, MAX_BYTES + 1)?;
+        read_text(alloc, &text)
+    }
+
+    /// How many packets a sender sends, at most 1,000,000 as all senders together. Takes the same time whatever the trace.
+    pub fn count(&self, sender: u16) -> u32
+        ensures count { result ≡ length (sent_by self.now sender) }
+        ensures within { packets_in self.now ≤ most_records }
+    {
+        match self.senders.get(usize::from(sender)) {
+            Some(lengths) => lengths.len() as u32,
+            None => 0,
+        }
+    }
+
+    /// The packet of this number, from 0, that a sender sends. None where it sends no more than so many. Takes the same time whatever
+    /// the trace.
+    pub fn sent(&self, sender: u16, number: u32) -> Option<Packet>
+        ensures packet { result ≡ slice_get (sent_by self.now sender) number }
+        ensures sender { IfSome result (λ packet. packet.sender ≡ sender) }
+        ensures number { IfSome result (λ packet. packet.number ≡ number) }
+    {
+        let lengths = self.senders.get(usize::from(sender))?;
+        let length = lengths.get(number as usize)?;
+        Some(Packet {
+            number,
+            sender,
+            length: length.bytes,
+        })
+    }
+
+    /// Nothing is sent. Takes no memory.
+    fn new(alloc: Global) -> Traces
+        ensures { result ≡ [] }
+    {
+        Traces {
+            senders: Vec::new(alloc),
+        }
+    }
+
+    /// Adds the next packet of a sender. Fault 1 where memory is refused.
+    fn add(&mut self, alloc: Global, sender: u16, length: Length) -> Result<(), Fault>
+        requires room { packets_in self.old < most_records }
+        ensures added { OnOk result (IsAdded self.old sender length.bytes self.new) }
+        ensures fault { IsOkUnless result Fault.Memory }
+    {
+        let place = usize::from(sender);
+        widen(alloc, &mut self.senders, place)?;
+        self.senders[place].push(length)
+    }
+}
+
+ghost use Rattle.std.specs.Prelude.{◌<◌, length, OnOk, IsOkUnless};
+ghost use Rattle.clk_packet.specs.declared.fault.Fault.TheVariants.{Memory};
+ghost use Rattle.clk_packet.specs.Lengths.{IsWider};
+
+/// Adds rows without lengths to a table until it has a row at this place. Fault 1 where memory is refused.
+fn widen(alloc: Global, senders: &mut Vec<Lengths>, place: usize) -> Result<(), Fault>
+    ensures there { OnOk result (place < length senders.new.items) }
+    ensures same { IsWider senders.old.items senders.new.items }
+    ensures fault { IsOkUnless result Fault.Memory }
+{
+    while senders.len() <= place {
+        senders.push(Lengths::new(alloc))?;
+    }
+    Ok(())
+}

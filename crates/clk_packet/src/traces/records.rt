@@ -1,0 +1,77 @@
+//! The records of a trace.
+
+ghost use Rattle.std.specs.Prelude.{◌≡◌, None, Some, MatchOption, MatchResult, ◌⊎◌, ◌≤◌};
+ghost use Rattle.csv.specs.Records.{fields_of};
+ghost use Rattle.clk_packet.specs.declared.fault.Fault.TheVariants.{Memory};
+ghost use Rattle.clk_packet.specs.Trace.{most_records, packets_in, pair_in, pairs_of, record_fault, sent, sent_by, shown, trace_fault};
+
+use crate::fault::Fault;
+use crate::lengths::Length;
+use crate::number::number_in;
+use crate::traces::{MAX_BYTES, Traces};
+use csv::{ByteRecord, ReaderBuilder};
+use std::alloc::Global;
+
+/// How many records a trace may have.
+const MAX_RECORDS: u32 = 1_000_000;
+
+/// Reads the text of a trace. Fault 1 where memory is refused, and otherwise what is wrong with the text.
+pub fn read_text(alloc: Global, text: &[u8]) -> Result<Traces, Fault>
+    ensures { MatchResult result
+        (λ traces. (trace_fault text.now ≡ None) × ((s : _) → shown (sent_by traces s) ≡ sent s (pairs_of text.now)) × (packets_in traces ≤ most_records))
+        (λ fault. (fault ≡ Memory) ⊎ (trace_fault text.now ≡ Some fault)) }
+{
+    if text.len() > MAX_BYTES {
+        return Err(Fault::TooLarge);
+    }
+    let mut reader = ReaderBuilder::new()
+        .has_headers(false)
+        .flexible(true)
+        .from_reader(alloc, text);
+    let mut fields = ByteRecord::new(alloc);
+    let mut traces = Traces::new(alloc);
+    for row in 1..MAX_RECORDS + 2 {
+        // Over bytes in memory, a read fails for want of memory alone.
+        let Ok(found) = reader.read_byte_record(&mut fields) else {
+            return Err(Fault::Memory);
+        };
+        if !found {
+            return Ok(traces);
+        }
+        let (sender, length) = read_record(row, &fields)?;
+        traces.add(alloc, sender, length)?;
+    }
+    unreachable!()
+}
+
+/// The sender and the length that the record of this number says, or what is wrong with it.
+fn read_record(row: u32, fields: &ByteRecord) -> Result<(u16, Length), Fault>
+    ensures { MatchResult result
+        (λ pair. (record_fault row (fields_of fields.now) ≡ None) × (pair_in (fields_of fields.now) ≡ Some (pair.0, pair.1.bytes)))
+        (λ fault. record_fault row (fields_of fields.now) ≡ Some fault) }
+{
+    if row > MAX_RECORDS {
+        return Err(Fault::TooLarge);
+    }
+    match pair_in(fields) {
+        Some(pair) => Ok(pair),
+        None => Err(Fault::BadTrace { row }),
+    }
+}
+
+/// The sender and the length that a record says, if it says them.
+fn pair_in(fields: &ByteRecord) -> Option<(u16, Length)>
+    ensures { MatchOption result (pair_in (fields_of fields.now) ≡ None) (λ pair. pair_in (fields_of fields.now) ≡ Some (pair.0, pair.1.bytes)) }
+{
+    if fields.len() != 2 {
+        return None;
+    }
+    let sender = number_in(fields.get(0)?, 0, 65_535)?;
+    let length = number_in(fields.get(1)?, 1, 65_535)?;
+    Some((
+        sender as u16,
+        Length {
+            bytes: length as u16,
+        },
+    ))
+}
