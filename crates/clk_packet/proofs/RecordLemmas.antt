@@ -45,29 +45,29 @@ step-between st.InComment c = either (c == 10) (st.StartRecord, act.Skip) (st.In
 step-between st.AfterCr c = either (c == 10) (st.StartRecord, act.Skip) (start_record default_config c) (goes_on st.StartRecord act.Skip refl) (start_record-between c)
 
 -- what is left after a record: less than before it, where that was between records
-pub record Takes (s : State) (text : List ℕ) (p : Read) : Type 0 where
+pub record Shortens (s : State) (text : List ℕ) (p : Read) : Type 0 where
   pub between : ends_at_end p.1 ≡ false
   pub most : length p.2 ≤ length text
   pub less : ends_at_end s ≡ false → length p.2 < length text
 
-pub next-takes : (s : State) (fields : List (List ℕ)) (field text : List ℕ) (p : Read) → next_record default_config s fields field text ≡ Some p → Takes s text p
+pub next-shortens : (s : State) (fields : List (List ℕ)) (field text : List ℕ) (p : Read) → next_record default_config s fields field text ≡ Some p → Shortens s text p
 unfolding next_record
-next-takes s fields field [] p e = by_test (ends_at_end s) refl
+next-shortens s fields field [] p e = by_test (ends_at_end s) refl
   where
-    by_test : (b : Bool) → ends_at_end s ≡ b → Takes s [] p
+    by_test : (b : Bool) → ends_at_end s ≡ b → Shortens s [] p
     by_test true f =
         let same : (fields ++ (field ∷ []), st.StartRecord, []) ≡ p = cc (rw f at e) in
-        subst (λ (q : Read). Takes s [] q) same (record { between = refl; most = omega arith; less = λ between. absurd (cc (sym f ∙ between)) })
+        subst (λ (q : Read). Shortens s [] q) same (record { between = refl; most = omega arith; less = λ between. absurd (cc (sym f ∙ between)) })
     by_test false f = absurd (cc (rw f at e))
-next-takes s fields field (c ∷ text) p e =
-    by_test (is_end (step default_config s c).1) refl (next-takes (step default_config s c).0 (fields_after (step default_config s c).1 fields field) (field_after (step default_config s c).1 c field) text p)
+next-shortens s fields field (c ∷ text) p e =
+    by_test (is_end (step default_config s c).1) refl (next-shortens (step default_config s c).0 (fields_after (step default_config s c).1 fields field) (field_after (step default_config s c).1 c field) text p)
   where
     by_test : (b : Bool) → is_end (step default_config s c).1 ≡ b
-        → (next_record default_config (step default_config s c).0 (fields_after (step default_config s c).1 fields field) (field_after (step default_config s c).1 c field) text ≡ Some p → Takes (step default_config s c).0 text p)
-        → Takes s (c ∷ text) p
+        → (next_record default_config (step default_config s c).0 (fields_after (step default_config s c).1 fields field) (field_after (step default_config s c).1 c field) text ≡ Some p → Shortens (step default_config s c).0 text p)
+        → Shortens s (c ∷ text) p
     by_test true f later =
         let same : (fields_after (step default_config s c).1 fields field, (step default_config s c).0, text) ≡ p = cc (rw f at e) in
-        subst (λ (q : Read). Takes s (c ∷ text) q) same (record { between = (step-between s c).ended f; most = omega arith; less = λ _. omega arith })
+        subst (λ (q : Read). Shortens s (c ∷ text) q) same (record { between = (step-between s c).ended f; most = omega arith; less = λ _. omega arith })
     by_test false f later =
         let rest = later (rw f at e) in
         let most = rest.most in

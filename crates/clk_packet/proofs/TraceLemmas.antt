@@ -15,7 +15,7 @@ use Rattle.clk_packet.specs.Trace.{ExplainsTrace, bad_unless, first_fault, most_
 use Rattle.clk_packet.specs.declared.fault.Fault.{Fault}
 use Rattle.clk_packet.specs.declared.fault.Fault.TheVariants.{Memory, TooLarge, BadTrace}
 use Rattle.clk_packet.specs.declared.packet.Packet.{Packet}
-use Rattle.clk_packet.proofs.RecordLemmas.{next-takes, records-end, records-more}
+use Rattle.clk_packet.proofs.RecordLemmas.{next-shortens, records-end, records-more}
 
 -- These traces were read of a text up to the record of a number, and in this state these bytes are left.
 pub record Stands (text : List ℕ) (row : ℕ) (s : State) (left : Option (List ℕ)) (traces : List (List Packet)) : Type 0 where
@@ -87,8 +87,8 @@ Stands-more text row s t left after fields pair traces new h goes sound says add
         → Stands text (row + 1) goes.read.1 (Some goes.read.2) new
     by_fuel zero enough fault sent_is = absurd (omega arith)
     by_fuel (suc fuel) enough fault sent_is =
-        let takes = next-takes s [] [] h.rest goes.read goes.is in
-        let less = takes.less h.between in
+        let shorter = next-shortens s [] [] h.rest goes.read goes.is in
+        let less = shorter.less h.between in
         let few = h.few in
         let total = added.total in
         let later = records_from default_config fuel goes.read.1 goes.read.2 in
@@ -98,7 +98,7 @@ Stands-more text row s t left after fields pair traces new h goes sound says add
           left_is = refl;
           fuel = fuel;
           enough = omega (arith, less, enough);
-          between = takes.between;
+          between = shorter.between;
           fault = fault ∙ ap (first_fault row) split ∙ rw sound refl;
           sent_is = λ sender. sent_is sender ∙ ap (λ rs. shown (sent_by traces sender) ++ sent_from sender (length (sent_by traces sender)) (filter_map pair_in rs)) split
               ∙ rw says (sent-goes_on sender (sent_by traces sender) (sent_by new sender) pair (filter_map pair_in later) (added.each sender));

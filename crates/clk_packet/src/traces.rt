@@ -7,12 +7,9 @@ use crate::fault::Fault;
 use crate::io::Source;
 use crate::lengths::{Length, Lengths};
 use crate::packet::Packet;
-use records::read_text;
+use records::{MAX_BYTES, read_text};
 use std::alloc::Global;
 use std::marker::Model;
-
-/// How many bytes a trace may have.
-const MAX_BYTES: usize = 33_554_432;
 
 /// What each sender sends, in order. Contracts see the lists of packets by the number of their sender, from 0; a sender past the last
 /// list sends none.
@@ -65,7 +62,7 @@ impl Traces {
         read_text(alloc, &text)
     }
 
-    /// How many packets a sender sends, at most 1,000,000 as all senders together. Takes the same time whatever the trace.
+    /// How many packets a sender sends; all senders together send at most 1,000,000. Takes the same time whatever the trace.
     pub fn count(&self, sender: u16) -> u32
         ensures count { result ≡ length (sent_by self.now sender) }
         ensures within { packets_in self.now ≤ most_records }

@@ -8,9 +8,12 @@ ghost use Rattle.clk_packet.specs.Trace.{most_records, packets_in, pair_in, pair
 use crate::fault::Fault;
 use crate::lengths::Length;
 use crate::number::number_in;
-use crate::traces::{MAX_BYTES, Traces};
+use crate::traces::Traces;
 use csv::{ByteRecord, ReaderBuilder};
 use std::alloc::Global;
+
+/// How many bytes a trace may have.
+pub const MAX_BYTES: usize = 33_554_432;
 
 /// How many records a trace may have.
 const MAX_RECORDS: u32 = 1_000_000;
