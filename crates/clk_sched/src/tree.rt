@@ -74,7 +74,7 @@ impl Model for Tree {
 }
 
 impl Tree {
-    ghost use Rattle.std.specs.Prelude.{◌≢◌, Err, [], ◌∷◌};
+    ghost use Rattle.std.specs.Prelude.{◌⊎◌, Err, [], ◌∷◌};
     ghost use Rattle.clk_packet.specs.declared.fault.Fault.TheVariants.{Memory};
     ghost use Rattle.std.specs.List.{AllByRecursion};
     ghost use Rattle.clk_sched.specs.Tree.{HasArguments};
@@ -151,7 +151,7 @@ impl Tree {
     pub fn shaper(alloc: Global, rate: u32, burst: u32, child: Tree) -> Result<Tree, Fault>
         requires rate { (1 ≤ rate) × (rate ≤ most_rate) }
         requires burst { (1 ≤ burst) × (burst ≤ most_burst) }
-        ensures { result ≢ Err Memory → result ≡ built (shaper rate burst) (child ∷ []) }
+        ensures { (result ≡ Err Memory) ⊎ (result ≡ built (shaper rate burst) (child ∷ [])) }
     {
         let mut children = Vec::new(alloc);
         children.push(child)?;
