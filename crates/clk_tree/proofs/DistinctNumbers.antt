@@ -1,0 +1,109 @@
+-- Lists in which no number stands twice.
+use Rattle.std.proofs.Common.{◌≡◌, ◌⊎◌, ℕ, ◌≤◌, ◌<◌, ◌==◌, ◌||◌, Bool, true, false, not, List, [], ◌∷◌, ◌++◌, length, Option, Some, None, inl, inr, refl, sym, ap, ◌∙◌, subst, eq-eqb, eqb-true, ne_eqb}
+use Rattle.std.specs.Bool.{⊤}
+use Rattle.std.specs.List.{AllByRecursion, list_any, filter_map, cons_option, IsDistinct}
+use Rattle.std.proofs.lemmas.Bool.{or_right, and_parts, and_from, not-true, not_from_false, false_from_ne_true, false≢true, both_ways}
+use Rattle.std.proofs.lemmas.Map.Steps.{length-le_from_distinct_below}
+use Rattle.clk_sched.specs.Tree.{stands_in, are_distinct}
+
+abbrev pub In : ℕ → List ℕ → Type 0
+In x [] = ⊥
+In x (y ∷ ys) = (y ≡ x) ⊎ In x ys
+
+abbrev pub Distinct : List ℕ → Type 0
+Distinct [] = ⊤
+Distinct (x ∷ xs) = (In x xs → ⊥) × Distinct xs
+
+pub in-all : (P : ℕ → Type 0) (x : ℕ) (xs : List ℕ) → AllByRecursion P xs → In x xs → P x
+in-all P x [] all m = absurd m
+in-all P x (y ∷ ys) all (inl e) = subst P e all.0
+in-all P x (y ∷ ys) all (inr m) = in-all P x ys all.1 m
+
+-- the test of distinct numbers says so
+in-stands : (x : ℕ) (xs : List ℕ) → In x xs → stands_in x xs ≡ true
+in-stands x [] m = absurd m
+in-stands x (y ∷ ys) (inl e) = ap (λ b. b || stands_in x ys) (eq-eqb y x e)
+in-stands x (y ∷ ys) (inr m) = or_right (y == x) (stands_in x ys) (in-stands x ys m)
+
+stands-in : (x : ℕ) (xs : List ℕ) → stands_in x xs ≡ true → In x xs
+stands-in x [] s = absurd (false≢true s)
+stands-in x (y ∷ ys) s = by_test (y == x) refl (stands-in x ys) s
+  where
+    by_test : (b : Bool) → (y == x) ≡ b → (stands_in x ys ≡ true → In x ys) → (b || stands_in x ys) ≡ true → In x (y ∷ ys)
+    by_test true e later t = inl (eqb-true y x e)
+    by_test false e later t = inr (later t)
+
+pub test-distinct : (xs : List ℕ) → are_distinct xs ≡ true → Distinct xs
+test-distinct [] t = tt
+test-distinct (x ∷ xs) t =
+    let parts = and_parts (not (stands_in x xs)) (are_distinct xs) t in
+    (λ m. both_ways (stands_in x xs) (not-true (stands_in x xs) parts.0) (in-stands x xs m), test-distinct xs parts.1)
+
+pub distinct-test : (xs : List ℕ) → Distinct xs → are_distinct xs ≡ true
+distinct-test [] d = refl
+distinct-test (x ∷ xs) d =
+    and_from (not (stands_in x xs)) (are_distinct xs) (not_from_false (stands_in x xs) (false_from_ne_true (stands_in x xs) (λ s. d.0 (stands-in x xs s)))) (distinct-test xs d.1)
+
+-- two lists in a row
+pub in-append : (x : ℕ) (xs ys : List ℕ) → In x (xs ++ ys) → In x xs ⊎ In x ys
+in-append x [] ys m = inr m
+in-append x (z ∷ xs) ys (inl e) = inl (inl e)
+in-append x (z ∷ xs) ys (inr m) = elim (in-append x xs ys m) [
+  | inl a ↦ inl (inr a)
+  | inr b ↦ inr b
+]
+
+pub distinct-append : (xs ys : List ℕ) → Distinct xs → Distinct ys → ((x : ℕ) → In x xs → In x ys → ⊥) → Distinct (xs ++ ys)
+distinct-append [] ys d e apart = e
+distinct-append (x ∷ xs) ys d e apart = (λ m. by_part (in-append x xs ys m), distinct-append xs ys d.1 e (λ y m. apart y (inr m)))
+  where
+    by_part : In x xs ⊎ In x ys → ⊥
+    by_part (inl m) = d.0 m
+    by_part (inr m) = apart x (inl refl) m
+
+-- what a function gives of distinct numbers is distinct where it gives no two of them the same
+pub record ComesFrom (f : ℕ → Option ℕ) (y : ℕ) (xs : List ℕ) : Type 0 where
+  pub from : ℕ
+  pub among : In from xs
+  pub gives : f from ≡ Some y
+
+mapped-from : (f : ℕ → Option ℕ) (y : ℕ) (xs : List ℕ) → In y (filter_map f xs) → ComesFrom f y xs
+mapped-from f y [] m = absurd m
+mapped-from f y (x ∷ xs) m = by_option (f x) refl (λ k. later (mapped-from f y xs k)) m
+  where
+    later : ComesFrom f y xs → ComesFrom f y (x ∷ xs)
+    later r = record { from = r.from; among = inr r.among; gives = r.gives }
+
+    by_option : (o : Option ℕ) → f x ≡ o → (In y (filter_map f xs) → ComesFrom f y (x ∷ xs)) → In y (cons_option o (filter_map f xs)) → ComesFrom f y (x ∷ xs)
+    by_option None e rest k = rest k
+    by_option (Some z) e rest (inl same) = record { from = x; among = inl refl; gives = e ∙ ap Some same }
+    by_option (Some z) e rest (inr k) = rest k
+
+pub distinct-mapped : (f : ℕ → Option ℕ) (xs : List ℕ) → ((a b y : ℕ) → f a ≡ Some y → f b ≡ Some y → a ≡ b) → Distinct xs → Distinct (filter_map f xs)
+distinct-mapped f [] one d = tt
+distinct-mapped f (x ∷ xs) one d = by_option (f x) refl (distinct-mapped f xs one d.1)
+  where
+    by_option : (o : Option ℕ) → f x ≡ o → Distinct (filter_map f xs) → Distinct (cons_option o (filter_map f xs))
+    by_option None e rest = rest
+    by_option (Some y) e rest = (λ m. let r = mapped-from f y xs m in d.0 (subst (λ a. In a xs) (one r.from x y r.gives e) r.among), rest)
+
+-- distinct numbers below another are at most as many
+any-in : (x : ℕ) (xs : List ℕ) → list_any (λ y. x == y) xs ≡ true → In x xs
+any-in x [] t = absurd (false≢true t)
+any-in x (y ∷ ys) t = by_test (x == y) refl (any-in x ys) t
+  where
+    by_test : (b : Bool) → (x == y) ≡ b → (list_any (λ y. x == y) ys ≡ true → In x ys) → (b || list_any (λ y. x == y) ys) ≡ true → In x (y ∷ ys)
+    by_test true e later k = inl (sym (eqb-true x y e))
+    by_test false e later k = inr (later k)
+
+differ-all : (x : ℕ) (xs : List ℕ) → (In x xs → ⊥) → AllByRecursion (λ y. (x == y) ≡ false) xs
+differ-all x [] none = tt
+differ-all x (y ∷ ys) none = (ne_eqb x y (λ e. none (inl (sym e))), differ-all x ys (λ m. none (inr m)))
+
+keys-distinct : (xs : List ℕ) → Distinct xs → IsDistinct (λ x y. x == y) xs
+unfolding IsDistinct
+keys-distinct [] d = tt
+keys-distinct (x ∷ xs) d = (differ-all x xs d.0, keys-distinct xs d.1)
+
+pub distinct-below : (n : ℕ) (xs : List ℕ) → Distinct xs → ((x : ℕ) → In x xs → x < n) → length xs ≤ n
+distinct-below n xs d below = length-le_from_distinct_below xs n (keys-distinct xs d) (λ x t. below x (any-in x xs t))

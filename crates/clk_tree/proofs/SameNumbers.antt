@@ -1,0 +1,12 @@
+-- Whether two numbers are the same, as a test and as a fact.
+use Rattle.std.proofs.Common.{◌≡◌, ◌≢◌, ℕ, ◌==◌, true, false, arith}
+use Rattle.std.proofs.lemmas.Bool.Decides.{nat_tests}
+
+pub equal_by : (m n : ℕ) → (m == n) ≡ true → m ≡ n
+equal_by m n e = grind (arith, nat_tests)
+
+pub differs : (m n : ℕ) → m ≢ n → (m == n) ≡ false
+differs m n d = grind (arith, nat_tests)
+
+pub same : (m : ℕ) → (m == m) ≡ true
+same m = grind (arith, nat_tests)

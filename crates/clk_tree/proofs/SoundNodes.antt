@@ -1,0 +1,126 @@
+-- The elements of a plan and those that the checks see stand at the same places.
+use Rattle.std.proofs.Common.{◌≡◌, ℕ, ◌+◌, zero, suc, true, false, ◌||◌, if◌then◌else◌, List, [], ◌∷◌, Option, Some, None, slice_get, option_map, refl, ap, ◌∙◌, arith}
+use Rattle.std.specs.List.{cons_option}
+use Rattle.clk_tree.specs.declared.class.Role.{Role}
+use Rattle.clk_tree.specs.declared.class.Role.TheVariants as role
+use Rattle.clk_tree.specs.declared.node.Node.{Node}
+use Rattle.clk_tree.specs.declared.node.Link.{Link}
+use Rattle.clk_tree.specs.Classes.{Class, sender, queue, prio, round_robin, drr, stride, shaper, device, role_of}
+use Rattle.clk_tree.specs.Source.{Element}
+use Rattle.clk_tree.specs.Declarations.{class_of}
+use Rattle.clk_tree.specs.Ports.{role_at, is_queue, is_device, has_device}
+use Rattle.clk_tree.specs.Faults.{node, nodes_of}
+use Rattle.clk_tree.specs.Plan.{Planned, Known, all_known, planned_at, planned_from, sources_of}
+use Rattle.clk_tree.specs.PlanTree as tree
+use Rattle.clk_tree.specs.PlanTree.{device_sources}
+use Rattle.clk_tree.proofs.SoundChecks.{at-more}
+use Rattle.clk_tree.proofs.SoundClasses.{HasLimits, class-limits}
+
+-- at place j of a plan stands an element of this role, which is the i-th of all
+pub record IsPlanned (plan : List Planned) (count : ℕ) (links : List Link) (i j : ℕ) (r : Role) : Type 0 where
+  pub element : Planned
+  pub at : slice_get plan j ≡ Some element
+  pub role : role_of element.class ≡ r
+  pub sources : element.sources ≡ sources_of count links i r
+  pub limits : HasLimits element.class
+
+abbrev pub known_as : Element → Class → Known
+known_as e class = record { name = e.name.letters; class = class }
+
+first-planned : (plan : List Planned) (count : ℕ) (links : List Link) (i : ℕ) (k : Known) (r : Role) → role_of k.class ≡ r → HasLimits k.class
+    → IsPlanned (planned_at count links i k ∷ plan) count links (i + 0) 0 r
+first-planned plan count links i k r is limits = record {
+  element = planned_at count links i k;
+  at = refl;
+  role = is;
+  sources = let place : i ≡ i + 0 = omega arith in ap (sources_of count links i) is ∙ ap (λ n. sources_of count links n r) place;
+  limits = limits;
+}
+
+later-planned : (first : Planned) (plan : List Planned) (count : ℕ) (links : List Link) (i j : ℕ) (r : Role) → IsPlanned plan count links (i + 1 + j) j r
+    → IsPlanned (first ∷ plan) count links (i + suc j) (suc j) r
+later-planned first plan count links i j r h = record {
+  element = h.element;
+  at = h.at;
+  role = h.role;
+  sources = h.sources ∙ ap (λ n. sources_of count links n r) (at-more i j);
+  limits = h.limits;
+}
+
+pub planned-at : (count : ℕ) (links : List Link) (elements : List Element) (i j : ℕ) (r : Role) → role_at (nodes_of elements) j ≡ Some r
+    → IsPlanned (planned_from count links i (all_known elements)) count links (i + j) j r
+planned-at count links [] i j r at = absurd (cc)
+planned-at count links (e ∷ elements) i j r at =
+    by_case (class_of e) (class-limits e) j at (λ m. planned-at count links elements i m r) (λ m. planned-at count links elements (i + 1) m r)
+  where
+    by_case : (o : Option Class) → ((class : Class) → o ≡ Some class → HasLimits class) → (j : ℕ)
+        → role_at (cons_option (option_map (node e.name.place) o) (nodes_of elements)) j ≡ Some r
+        → ((m : ℕ) → role_at (nodes_of elements) m ≡ Some r → IsPlanned (planned_from count links i (all_known elements)) count links (i + m) m r)
+        → ((m : ℕ) → role_at (nodes_of elements) m ≡ Some r → IsPlanned (planned_from count links (i + 1) (all_known elements)) count links (i + 1 + m) m r)
+        → IsPlanned (planned_from count links i (cons_option (option_map (known_as e) o) (all_known elements))) count links (i + j) j r
+    by_case None limits j at here later = here j at
+    by_case (Some class) limits zero at here later =
+        let is : role_of class ≡ r = cc in
+        first-planned (planned_from count links (i + 1) (all_known elements)) count links i (known_as e class) r is (limits class refl)
+    by_case (Some class) limits (suc j) at here later =
+        later-planned (planned_at count links i (known_as e class)) (planned_from count links (i + 1) (all_known elements)) count links i j r (later j at)
+
+-- the first device of a plan, and what is connected to it
+pub record IsDevice (nodes : List Node) (plan : List Planned) (count : ℕ) (links : List Link) (i : ℕ) : Type 0 where
+  pub place : ℕ
+  pub at : role_at nodes place ≡ Some role.Device
+  pub sources : device_sources plan ≡ sources_of count links (i + place) role.Device
+
+next-device : (e : Element) (class : Class) (nodes : List Node) (plan : List Planned) (count : ℕ) (links : List Link) (i : ℕ) → tree.is_device class ≡ false
+    → IsDevice nodes plan count links (i + 1) → IsDevice (node e.name.place class ∷ nodes) (planned_at count links i (known_as e class) ∷ plan) count links i
+next-device e class nodes plan count links i other h = record {
+  place = suc h.place;
+  at = h.at;
+  sources = ap (λ b. if b then sources_of count links i (role_of class) else device_sources plan) other ∙ h.sources ∙ ap (λ n. sources_of count links n role.Device) (at-more i h.place);
+}
+
+first-device : (e : Element) (class : Class) (nodes : List Node) (plan : List Planned) (count : ℕ) (links : List Link) (i : ℕ)
+    → (is_device (Some (role_of class)) || has_device nodes) ≡ true → (has_device nodes ≡ true → IsDevice nodes plan count links (i + 1))
+    → IsDevice (node e.name.place class ∷ nodes) (planned_at count links i (known_as e class) ∷ plan) count links i
+first-device e (device word) nodes plan count links i has later = record {
+  place = 0;
+  at = refl;
+  sources = let place : i ≡ i + 0 = omega arith in ap (λ n. sources_of count links n role.Device) place;
+}
+first-device e (sender n) nodes plan count links i has later = next-device e (sender n) nodes plan count links i refl (later has)
+first-device e (queue kind capacity) nodes plan count links i has later = next-device e (queue kind capacity) nodes plan count links i refl (later has)
+first-device e prio nodes plan count links i has later = next-device e prio nodes plan count links i refl (later has)
+first-device e round_robin nodes plan count links i has later = next-device e round_robin nodes plan count links i refl (later has)
+first-device e (drr []) nodes plan count links i has later = next-device e (drr []) nodes plan count links i refl (later has)
+first-device e (drr (q ∷ [])) nodes plan count links i has later = next-device e (drr (q ∷ [])) nodes plan count links i refl (later has)
+first-device e (drr (q ∷ r ∷ more)) nodes plan count links i has later = next-device e (drr (q ∷ r ∷ more)) nodes plan count links i refl (later has)
+first-device e (stride tickets) nodes plan count links i has later = next-device e (stride tickets) nodes plan count links i refl (later has)
+first-device e (shaper rate burst) nodes plan count links i has later = next-device e (shaper rate burst) nodes plan count links i refl (later has)
+
+pub device-at : (count : ℕ) (links : List Link) (elements : List Element) (i : ℕ) → has_device (nodes_of elements) ≡ true
+    → IsDevice (nodes_of elements) (planned_from count links i (all_known elements)) count links i
+device-at count links [] i has = absurd (cc)
+device-at count links (e ∷ elements) i has = by_case (class_of e) has (device-at count links elements i) (device-at count links elements (i + 1))
+  where
+    by_case : (o : Option Class) → has_device (cons_option (option_map (node e.name.place) o) (nodes_of elements)) ≡ true
+        → (has_device (nodes_of elements) ≡ true → IsDevice (nodes_of elements) (planned_from count links i (all_known elements)) count links i)
+        → (has_device (nodes_of elements) ≡ true → IsDevice (nodes_of elements) (planned_from count links (i + 1) (all_known elements)) count links (i + 1))
+        → IsDevice (cons_option (option_map (node e.name.place) o) (nodes_of elements)) (planned_from count links i (cons_option (option_map (known_as e) o) (all_known elements))) count links i
+    by_case None has here later = here has
+    by_case (Some class) has here later = first-device e class (nodes_of elements) (planned_from count links (i + 1) (all_known elements)) count links i has later
+
+-- what a role says of a class
+pub queue-class : (class : Class) → tree.is_queue class ≡ is_queue (Some (role_of class))
+queue-class (sender n) = refl
+queue-class (queue kind capacity) = refl
+queue-class prio = refl
+queue-class round_robin = refl
+queue-class (drr []) = refl
+queue-class (drr (q ∷ [])) = refl
+queue-class (drr (q ∷ r ∷ more)) = refl
+queue-class (stride tickets) = refl
+queue-class (shaper rate burst) = refl
+queue-class (device word) = refl
+
+pub queue-planned : (plan : List Planned) (count : ℕ) (links : List Link) (i j : ℕ) → IsPlanned plan count links i j role.Queue → tree.is_queue_at (slice_get plan j) ≡ true
+queue-planned plan count links i j h = ap tree.is_queue_at h.at ∙ queue-class h.element.class ∙ ap (λ r. is_queue (Some r)) h.role

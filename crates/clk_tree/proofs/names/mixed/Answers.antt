@@ -1,0 +1,16 @@
+use Rattle.std.proofs.Common.{◌∙◌, refl, sym, ap}
+use Rattle.std.proofs.lemmas.List.{drop_more, drop_all}
+use Rattle.clk_tree.specs.Naming.{mixed, mixed_from}
+use Rattle.clk_tree.proofs.names.mixed.Goals as goal
+
+pub loop-byte-init : goal.loop-byte-init
+unfolding mixed
+loop-byte-init c = refl
+
+pub loop-byte-preserved : goal.loop-byte-preserved
+loop-byte-preserved c =
+    rw c.from.ensures
+    (ap (mixed_from c.loop-byte.number) (sym (drop_more c.args.name.now c.loop-byte.byte-index 0 c.loop-byte-test.true)) ∙ c.loop-byte.invariant)
+
+pub returns : goal.returns
+returns c = sym (ap (mixed_from c.loop-byte.number) (drop_all c.loop-byte.byte-index c.args.name.now c.loop-byte-test.false)) ∙ c.loop-byte.invariant

@@ -1,0 +1,10 @@
+use Rattle.std.proofs.Common.{◌≡◌, length, drop}
+use Rattle.clk_tree.specs.Used.{is_used, size}
+use Rattle.clk_tree.proofs.PortLemmas.{HasSeen}
+use Rattle.clk_tree.proofs.ports.port_twice.Given as goal
+
+abbrev pub invariant-loop-link : goal.invariant-loop-link
+invariant-loop-link l = record {
+  size : size l.inputs ≡ length l.nodes;
+  seen : HasSeen l.nodes l.links (drop l.link-index l.links) l.outputs.items (is_used l.inputs);
+}

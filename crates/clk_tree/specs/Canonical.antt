@@ -1,0 +1,69 @@
+-- The canonical text of a plan (this project's own choice).
+use Rattle.std.specs.Prelude.{ℕ, ◌+◌, List, [], ◌∷◌, ◌++◌, map, Option, Some, None, codes, decimal, slice_get}
+use Rattle.std.specs.List.{flat_map}
+use Rattle.clk_packet.specs.declared.packet.Kind.{Kind}
+use Rattle.clk_packet.specs.declared.packet.Kind.TheVariants.{TailDrop, FrontDrop}
+use Rattle.clk_tree.specs.Classes.{Class, sender, queue, prio, round_robin, drr, stride, shaper, device}
+use Rattle.clk_tree.specs.Plan.{Planned}
+
+abbrev pub queue_text : Kind → List ℕ
+queue_text TailDrop = codes "Queue"
+queue_text FrontDrop = codes "FrontDropQueue"
+
+-- the name of a class
+abbrev pub class_text : Class → List ℕ
+class_text (sender n) = codes "Sender"
+class_text (queue kind capacity) = queue_text kind
+class_text prio = codes "PrioSched"
+class_text round_robin = codes "RoundRobinSched"
+class_text (drr quanta) = codes "DRRSched"
+class_text (stride tickets) = codes "StrideSched"
+class_text (shaper rate burst) = codes "Shaper"
+class_text (device word) = codes "ToDevice"
+
+-- its arguments, all of them
+abbrev pub arguments_of : Class → List (List ℕ)
+arguments_of (sender n) = decimal n ∷ []
+arguments_of (queue kind capacity) = decimal capacity ∷ []
+arguments_of prio = []
+arguments_of round_robin = []
+arguments_of (drr quanta) = map decimal quanta
+arguments_of (stride tickets) = map decimal tickets
+arguments_of (shaper rate burst) = decimal rate ∷ decimal burst ∷ []
+arguments_of (device word) = word ∷ []
+
+-- `(WORD, WORD, ..)`, or nothing where there are none
+abbrev pub arguments_text : List (List ℕ) → List ℕ
+arguments_text [] = []
+arguments_text (word ∷ more) = codes "(" ++ (word ++ (flat_map (λ w. codes ", " ++ w) more ++ codes ")"))
+
+-- `NAME :: CLASS(WORD, ..);`
+abbrev pub element_text : Planned → List ℕ
+element_text e = e.name ++ (codes " :: " ++ (class_text e.class ++ (arguments_text (arguments_of e.class) ++ codes ";\n")))
+
+abbrev pub name_of : Option Planned → List ℕ
+name_of None = []
+name_of (Some e) = e.name
+
+-- `NAME [0] -> [INPUT] NAME;`
+abbrev pub connection_text : List Planned → ℕ → ℕ → List ℕ → List ℕ
+connection_text plan source input name =
+    name_of (slice_get plan source) ++ (codes " [0] -> [" ++ (decimal input ++ (codes "] " ++ (name ++ codes ";\n"))))
+
+-- the connections to the inputs of an element, from this one on
+abbrev pub inputs_text : List Planned → List ℕ → ℕ → List ℕ → List ℕ
+inputs_text plan name input [] = []
+inputs_text plan name input (s ∷ more) = connection_text plan s input name ++ inputs_text plan name (input + 1) more
+
+-- the connections to an element of a class: those of a queue are all to its input 0
+abbrev pub class_inputs_text : List Planned → List ℕ → List ℕ → Class → List ℕ
+class_inputs_text plan name sources (queue kind capacity) = flat_map (λ s. connection_text plan s 0 name) sources
+class_inputs_text plan name sources class = inputs_text plan name 0 sources
+
+abbrev pub connections_text : List Planned → Planned → List ℕ
+connections_text plan e = class_inputs_text plan e.name e.sources e.class
+
+-- A line for each element in order of declaration, then a line for each connection in order of the element that it leads to, the input,
+-- and the element that it comes from.
+abbrev pub canonical_text : List Planned → List ℕ
+canonical_text plan = flat_map element_text plan ++ flat_map (connections_text plan) plan

@@ -1,0 +1,23 @@
+-- What a tree text says, its faults, and the plan that it denotes.
+pub mod Limits
+pub mod Tokens
+pub mod Diagram
+pub mod Grammar
+pub mod Classes
+pub mod Source
+pub mod Declarations
+pub mod Ports
+pub mod Size
+pub mod Within
+pub mod Faults
+pub mod Naming
+pub mod Reading
+pub mod Plan
+pub mod Kept
+pub mod PlanTree
+pub mod Canonical
+pub mod Checks
+pub mod Used
+pub mod Laws
+pub mod Lex
+pub mod Parse

@@ -1,0 +1,95 @@
+-- The tree, the queues and the senders of a plan (node and leaf numbers as this project chose them).
+use Rattle.std.specs.Prelude.{◌≡◌, ◌≤◌, ◌⊎◌, ℕ, ◌+◌, List, [], ◌∷◌, length, take, replicate, Bool, true, false, if◌then◌else◌, Option, Some, None, MatchOption, ⊤, Result, zero, suc, slice_get}
+use Rattle.std.specs.List.{AllByRecursion}
+use Rattle.clk_packet.specs.declared.fault.Fault.{Fault}
+use Rattle.clk_sched.specs.Tree as tree
+use Rattle.clk_sched.specs.Tree.{Row, end, leaf, node, Tree, root, HasArguments}
+use Rattle.clk_sched.specs.Built.{built}
+use Rattle.clk_sched.specs.Limits.{most_inputs}
+use Rattle.clk_tree.specs.Classes.{Class, queue, prio, round_robin, drr, stride, shaper, device}
+use Rattle.clk_tree.specs.Plan.{Planned}
+
+abbrev pub is_queue : Class → Bool
+is_queue (queue kind capacity) = true
+is_queue class = false
+
+abbrev pub is_device : Class → Bool
+is_device (device word) = true
+is_device class = false
+
+-- how many queues there are
+abbrev pub queue_count : List Planned → ℕ
+queue_count [] = 0
+queue_count (e ∷ more) = if is_queue e.class then queue_count more + 1 else queue_count more
+
+-- The number of the queue that stands at a place: queues are numbered from 0 in order of declaration.
+abbrev pub number_if : ℕ → Option Planned → Option ℕ
+number_if n None = None
+number_if n (Some e) = if is_queue e.class then Some n else None
+
+abbrev pub queue_number : List Planned → ℕ → Option ℕ
+queue_number plan i = number_if (queue_count (take i plan)) (slice_get plan i)
+
+-- A scheduler over so many inputs: one quantum is for each of them.
+abbrev pub drr_over : List ℕ → ℕ → tree.Class
+drr_over (quantum ∷ []) inputs = tree.drr (replicate inputs quantum)
+drr_over quanta inputs = tree.drr quanta
+
+abbrev pub scheduler_over : Class → ℕ → Option tree.Class
+scheduler_over prio inputs = Some tree.prio
+scheduler_over round_robin inputs = Some tree.round_robin
+scheduler_over (drr quanta) inputs = Some (drr_over quanta inputs)
+scheduler_over (stride tickets) inputs = Some (tree.stride tickets)
+scheduler_over (shaper rate burst) inputs = Some (tree.shaper rate burst)
+scheduler_over class inputs = None
+
+-- an element is a scheduler of this class over its inputs
+abbrev pub IsNode : tree.Class → Option Planned → Type 0
+IsNode class None = ⊥
+IsNode class (Some e) = scheduler_over e.class (length e.sources) ≡ Some class
+
+abbrev pub sources_at : Option Planned → List ℕ
+sources_at None = []
+sources_at (Some e) = e.sources
+
+-- This row stands at inputs to which these elements are connected, one after another: each is a queue, by its number, or a scheduler over
+-- its own inputs.
+abbrev pub IsRowOf : List Planned → List ℕ → Row → Type 0
+IsRowOf plan [] end = ⊤
+IsRowOf plan (s ∷ more) (leaf q row) = (queue_number plan s ≡ Some q) × IsRowOf plan more row
+IsRowOf plan (s ∷ more) (node class inputs row) =
+    IsNode class (slice_get plan s) × IsRowOf plan (sources_at (slice_get plan s)) inputs × IsRowOf plan more row
+IsRowOf plan sources row = ⊥
+
+-- what is connected to the device
+abbrev pub device_sources : List Planned → List ℕ
+device_sources [] = []
+device_sources (e ∷ more) = if is_device e.class then e.sources else device_sources more
+
+-- the tree of a plan stands at the input of its device
+abbrev pub IsTreeOf : List Planned → Tree → Type 0
+IsTreeOf plan t = IsRowOf plan (device_sources plan) (root t)
+
+-- Whether a class can be a scheduler over so many inputs: there is one at least, they are within the limit, and its arguments fit them.
+abbrev pub FitsInputs : ℕ → Option tree.Class → Type 0
+FitsInputs inputs None = ⊥
+FitsInputs inputs (Some class) = HasArguments class inputs
+
+pub record IsOver (class : Class) (inputs : ℕ) : Type 0 where
+  pub some : 1 ≤ inputs
+  pub within : inputs ≤ most_inputs
+  pub fits : FitsInputs inputs (scheduler_over class inputs)
+
+-- what the constructor of a class makes of these trees
+abbrev pub IsBuilt : Class → List Tree → Result Tree Fault → Type 0
+IsBuilt class children result = MatchOption (scheduler_over class (length children)) ⊥ (λ over. result ≡ built over children)
+
+abbrev pub is_queue_at : Option Planned → Bool
+is_queue_at None = false
+is_queue_at (Some e) = is_queue e.class
+
+-- An element is a queue, or a scheduler over such elements with no more than so many schedulers on a path down, itself among them.
+abbrev pub IsScheduled : List Planned → ℕ → ℕ → Type 0
+IsScheduled plan zero s = is_queue_at (slice_get plan s) ≡ true
+IsScheduled plan (suc levels) s =
+    (is_queue_at (slice_get plan s) ≡ true) ⊎ MatchOption (slice_get plan s) ⊥ (λ e. IsOver e.class (length e.sources) × AllByRecursion (IsScheduled plan levels) e.sources)

@@ -1,0 +1,75 @@
+//! The checks of elements and connections, in order.
+
+ghost use Rattle.std.specs.Prelude.{◌≡◌, ◌≤◌, ◌⊎◌, length, Some, None, OnOk, IfErr};
+ghost use Rattle.std.specs.List.{AllByRecursion};
+ghost use Rattle.clk_packet.specs.declared.fault.Fault.TheVariants.{Memory};
+ghost use Rattle.clk_tree.specs.Limits.{most_bytes};
+ghost use Rattle.clk_tree.specs.Within.{IsLinkWithin, HasPorts};
+ghost use Rattle.clk_tree.specs.Faults.{port_fault, shape_fault, nodes_fault};
+ghost use Rattle.clk_tree.specs.Checks.{IsTabled};
+
+use crate::node::{Link, Node};
+use crate::ports::{bad_port, port_missing, port_twice, wrong_kind};
+use crate::shape::{has_device, many_devices, not_a_tree, too_large};
+use crate::tables::Graph;
+use clk_packet::Fault;
+use std::alloc::Global;
+
+/// Whether ports are connected as they should be. Faults 7 to 10 where they aren't, the first in this order, and fault 1 where memory is
+/// refused.
+fn check_ports(alloc: Global, graph: &Graph) -> Result<(), Fault>
+    requires { IsTabled graph.now }
+    ensures good { OnOk result (port_fault graph.now.nodes.now graph.now.links.now ≡ None) }
+    ensures fault { IfErr result (λ fault. (fault ≡ Fault.Memory) ⊎ (port_fault graph.now.nodes.now graph.now.links.now ≡ Some fault)) }
+{
+    if let Some(offset) = bad_port(graph.nodes, graph.links) {
+        return Err(Fault::BadPort { offset });
+    }
+    if let Some(offset) = port_twice(alloc, graph.nodes, graph.links)? {
+        return Err(Fault::PortTwice { offset });
+    }
+    if let Some(offset) = port_missing(graph) {
+        return Err(Fault::PortMissing { offset });
+    }
+    if let Some(offset) = wrong_kind(graph.nodes, graph.links) {
+        return Err(Fault::WrongKind { offset });
+    }
+    Ok(())
+}
+
+/// Whether all lead to one device, and not too many. Faults 11 to 13 and 18 where they don't, the first in this order, and fault 1 where
+/// memory is refused.
+fn check_shape(alloc: Global, graph: &Graph) -> Result<(), Fault>
+    requires { IsTabled graph.now }
+    ensures good { OnOk result (shape_fault graph.now.nodes.now graph.now.links.now ≡ None) }
+    ensures fault { IfErr result (λ fault. (fault ≡ Fault.Memory) ⊎ (shape_fault graph.now.nodes.now graph.now.links.now ≡ Some fault)) }
+{
+    if !has_device(graph.nodes) {
+        return Err(Fault::NoDevice);
+    }
+    if let Some(offset) = many_devices(graph.nodes) {
+        return Err(Fault::ManyDevices { offset });
+    }
+    if let Some(offset) = not_a_tree(alloc, graph)? {
+        return Err(Fault::NotATree { offset });
+    }
+    if too_large(graph) {
+        return Err(Fault::TooLarge);
+    }
+    Ok(())
+}
+
+/// Whether elements and connections make up a tree. Faults 7 to 13 and 18 where they don't, the first in this order, and fault 1 where
+/// memory is refused.
+pub fn check_nodes(alloc: Global, nodes: &[Node], links: &[Link]) -> Result<(), Fault>
+    requires few_nodes { length nodes.now ≤ most_bytes }
+    requires few_links { length links.now ≤ most_bytes }
+    requires within { AllByRecursion (IsLinkWithin nodes.now) links.now }
+    requires ports { AllByRecursion HasPorts links.now }
+    ensures good { OnOk result (nodes_fault nodes.now links.now ≡ None) }
+    ensures fault { IfErr result (λ fault. (fault ≡ Fault.Memory) ⊎ (nodes_fault nodes.now links.now ≡ Some fault)) }
+{
+    let graph = Graph::new(alloc, nodes, links)?;
+    check_ports(alloc, &graph)?;
+    check_shape(alloc, &graph)
+}

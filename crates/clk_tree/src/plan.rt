@@ -1,0 +1,5 @@
+//! The plan that a text denotes.
+
+mod element;
+mod tree;
+mod wiring;

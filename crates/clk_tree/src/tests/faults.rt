@@ -1,0 +1,96 @@
+//! Texts with a fault, and its line.
+
+use super::row::assert_answers;
+
+/// A text of each fault, and those in which more than one place could be told.
+const FAULTS: [(&str, &str); 13] = [
+    ("d :: ToDevice(x); /* cut", "fault 2: BadText 18"),
+    ("q :: Que;", "fault 3: UnknownClass 5"),
+    ("q :: Queue(0);", "fault 4: BadArgument 5"),
+    ("q :: Queue; q :: Queue;", "fault 5: NameTwice 12"),
+    ("a -> b;", "fault 6: UnknownName 0"),
+    (
+        "d :: ToDevice(x); q :: Queue; q [1] -> d;",
+        "fault 7: BadPort 30",
+    ),
+    (
+        "s :: Sender(0); q :: Queue; p :: PrioSched; d :: ToDevice(x); s -> q -> p -> d; q -> p;",
+        "fault 8: PortTwice 80",
+    ),
+    (
+        "s :: Sender(0); q :: Queue; p :: PrioSched; d :: ToDevice(x); s -> q -> [1] p -> d;",
+        "fault 9: PortMissing 28",
+    ),
+    (
+        "s :: Sender(0); d :: ToDevice(x); s -> d;",
+        "fault 10: WrongKind 34",
+    ),
+    ("", "fault 11: NoDevice"),
+    (
+        "a, b :: ToDevice(x); p, q :: Queue; p -> a; q -> b;",
+        "fault 12: ManyDevices 3",
+    ),
+    (
+        "r :: RoundRobinSched; q :: Queue; d :: ToDevice(x); q -> d; r -> r;",
+        "fault 13: NotATree 0",
+    ),
+    (
+        "s :: Sender(0); q :: Queue; d :: ToDevice(x); s -> q -> d; s -> q;",
+        "fault 8: PortTwice 59",
+    ),
+];
+
+/// Texts that break the grammar.
+const BAD_TEXTS: [(&str, &str); 14] = [
+    ("q :: Queue(", "fault 2: BadText 11"),
+    ("q :: Queue; ->", "fault 2: BadText 12"),
+    ("q : Queue;", "fault 2: BadText 2"),
+    ("q :", "fault 2: BadText 2"),
+    ("9q :: Queue;", "fault 2: BadText 0"),
+    ("a [x] -> b;", "fault 2: BadText 3"),
+    ("q :: Queue(5,);", "fault 2: BadText 13"),
+    ("q :: /* x", "fault 2: BadText 5"),
+    ("/*/", "fault 2: BadText 0"),
+    ("q ::: Queue;", "fault 2: BadText 4"),
+    ("a -> b [2]", "fault 2: BadText 10"),
+    ("a -> b [2] ;", "fault 2: BadText 11"),
+    ("q :: 9Queue;", "fault 2: BadText 5"),
+    ("?", "fault 2: BadText 0"),
+];
+
+/// Which of several faults is told.
+const ORDERS: [(&str, &str); 9] = [
+    ("a [70000] -> b", "fault 6: UnknownName 0"),
+    ("q :: Queue;", "fault 9: PortMissing 0"),
+    (
+        "s :: Sender(0); q :: Queue; x :: DRRSched(1, 2); d :: ToDevice(l); s -> q -> x -> d;",
+        "fault 9: PortMissing 28",
+    ),
+    ("x :: DRRSched(1, 0);", "fault 4: BadArgument 5"),
+    ("s, t :: Sender(0);", "fault 4: BadArgument 8"),
+    (
+        "s :: Sender(0); t :: Sender(00);",
+        "fault 4: BadArgument 21",
+    ),
+    ("s :: StrideSched;", "fault 4: BadArgument 5"),
+    (
+        "q :: Queue(18446744073709551616);",
+        "fault 4: BadArgument 5",
+    ),
+    ("q :: Que; q :: Queue;", "fault 5: NameTwice 10"),
+];
+
+#[test]
+fn each_fault_has_its_line(rt: HostRuntime) {
+    assert_answers(&rt, rt.alloc(), &FAULTS);
+}
+
+#[test]
+fn texts_that_break_the_grammar(rt: HostRuntime) {
+    assert_answers(&rt, rt.alloc(), &BAD_TEXTS);
+}
+
+#[test]
+fn the_first_fault_in_order_is_told(rt: HostRuntime) {
+    assert_answers(&rt, rt.alloc(), &ORDERS);
+}
