@@ -341,7 +341,7 @@ denoted-fits text plan d t is =
     (plan-fits (elements_of text d.faultless.statements) (wires_of text d.faultless.statements) d.faultless.sound t (subst (λ p. IsTreeOf p t) d.is is))
 
 -- which is no larger than a session may be
-nodes-known : (elements : List Element) → length (nodes_of elements) ≡ length (all_known elements)
+pub nodes-known : (elements : List Element) → length (nodes_of elements) ≡ length (all_known elements)
 nodes-known [] = refl
 nodes-known (e ∷ more) = by_class (class_of e) (nodes-known more)
   where

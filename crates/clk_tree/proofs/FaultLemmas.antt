@@ -1,5 +1,5 @@
 -- What the parts of a text's reading find makes up what is wrong with it.
-use Rattle.std.proofs.Common.{◌≡◌, ◌⊎◌, ◌≤◌, ℕ, List, length, false, nat_lt, if◌then◌else◌, Some, None, Result, Ok, Err, IfErr, option_map, inl, inr, sym, ap, ap₂, subst, ◌∙◌, arith}
+use Rattle.std.proofs.Common.{◌≡◌, ◌⊎◌, ◌≤◌, ℕ, List, length, false, nat_lt, if◌then◌else◌, Some, None, Result, Ok, Err, IfErr, OnOk, option_map, inl, inr, sym, ap, ap₂, subst, ◌∙◌, arith}
 use Rattle.std.proofs.lemmas.Bool.Decides.{nat_tests}
 use Rattle.std.specs.Option.{option_or}
 use Rattle.std.specs.List.{flat_map}
@@ -15,7 +15,9 @@ use Rattle.clk_tree.specs.Diagram.{start, wrong_from}
 use Rattle.clk_tree.specs.Grammar.{Statement, IsText}
 use Rattle.clk_tree.specs.Source.{Declared, declared_in, connected_in, elements, wires}
 use Rattle.clk_tree.specs.Faults.{offset_of, bad_text, text_fault, nodes_of, links_of, naming_fault, nodes_fault, fault_of}
-use Rattle.clk_tree.specs.Reading.{HasStatementFault, HasFault}
+use Rattle.clk_tree.specs.Plan.{Planned, all_known, planned_from, plan_of, Denotes}
+use Rattle.clk_tree.proofs.DistinctPlans.{nodes-known}
+use Rattle.clk_tree.specs.Reading.{HasFault, HasStatementFault, IsFaultless, IsNamedText, elements_of, wires_of}
 
 not-less : (m n : ℕ) → n ≤ m → nat_lt m n ≡ false
 not-less m n l = grind (arith, nat_tests)
@@ -25,16 +27,6 @@ pub right-text : (text : List ℕ) (tokens : List Token) → length text ≤ mos
 right-text text tokens few are right =
     ap (λ b. if b then Some TooLarge else option_map BadText (bad_text text)) (not-less most_bytes (length text) few)
     ∙ ap (λ o. option_map BadText (option_map (offset_of (length text)) o)) (ap (wrong_from start) (sym are) ∙ right)
-
--- What is known of a text whose names are right: these statements, and their nodes and links.
-pub record IsNamedText (text : List ℕ) (tokens : List Token) (declared : List Declared) (connections : List Connection) (nodes : List Node) (links : List Link) : Type 0 where
-  pub few : length text ≤ most_bytes
-  pub are : tokens ≡ tokens_of text
-  pub right : wrong_from start tokens ≡ None
-  pub read : (statements : List Statement) × IsText tokens statements × (declared ≡ flat_map declared_in statements) × (connections ≡ flat_map connected_in statements)
-  pub named : naming_fault (elements text declared) (wires text connections) ≡ None
-  pub nodes_are : nodes ≡ nodes_of (elements text declared)
-  pub links_are : links ≡ links_of (elements text declared) (wires text connections)
 
 statement-fault : (text : List ℕ) (tokens : List Token) (declared : List Declared) (connections : List Connection) (nodes : List Node) (links : List Link) (fault : Fault)
     → IsNamedText text tokens declared connections nodes links → nodes_fault nodes links ≡ Some fault → HasStatementFault text fault
@@ -54,3 +46,29 @@ pub checked-fault : {T : Type 0} (text : List ℕ) (tokens : List Token) (declar
 checked-fault text tokens declared connections nodes links (Ok x) h found = _
 checked-fault text tokens declared connections nodes links (Err fault) h (inl refused) = inl refused
 checked-fault text tokens declared connections nodes links (Err fault) h (inr is) = inr (inr (statement-fault text tokens declared connections nodes links fault h is))
+
+abbrev faultless-by : (text : List ℕ) (tokens : List Token) (declared : List Declared) (connections : List Connection) (nodes : List Node) (links : List Link)
+    → IsNamedText text tokens declared connections nodes links → nodes_fault nodes links ≡ None → IsFaultless text
+faultless-by text tokens declared connections nodes links h none = record {
+  short_and_right = right-text text tokens h.few h.are h.right;
+  statements = h.read.0;
+  is_text = subst (λ ts. IsText ts h.read.0) h.are h.read.1;
+  sound = ap₂ (λ d c. fault_of (elements text d) (wires text c)) (sym h.read.2) (sym h.read.3)
+      ∙ ap (λ o. option_or o (nodes_fault (nodes_of (elements text declared)) (links_of (elements text declared) (wires text connections)))) h.named
+      ∙ ap₂ nodes_fault (sym h.nodes_are) (sym h.links_are) ∙ none;
+}
+
+-- a text in which the checks of nodes find nothing has no fault
+pub checked-faultless : {T : Type 0} (text : List ℕ) (tokens : List Token) (declared : List Declared) (connections : List Connection) (nodes : List Node) (links : List Link) (result : Result T Fault)
+    → IsNamedText text tokens declared connections nodes links → OnOk result (nodes_fault nodes links ≡ None) → OnOk result (IsFaultless text)
+checked-faultless text tokens declared connections nodes links (Ok x) h none = faultless-by text tokens declared connections nodes links h none
+checked-faultless text tokens declared connections nodes links (Err fault) h none = _
+
+-- and the elements that are made of it are the plan that it denotes
+pub denotes-by : (text : List ℕ) (tokens : List Token) (declared : List Declared) (connections : List Connection) (nodes : List Node) (links : List Link) (plan : List Planned)
+    → IsNamedText text tokens declared connections nodes links → nodes_fault nodes links ≡ None → plan ≡ planned_from (length nodes) links 0 (all_known (elements text declared)) → Denotes text plan
+denotes-by text tokens declared connections nodes links plan h none is = record {
+  faultless = faultless-by text tokens declared connections nodes links h none;
+  is = is ∙ ap₂ (λ n ls. planned_from n ls 0 (all_known (elements text declared))) (ap length h.nodes_are ∙ nodes-known (elements text declared)) h.links_are
+      ∙ ap₂ (λ d c. plan_of (elements text d) (wires text c)) h.read.2 h.read.3;
+}

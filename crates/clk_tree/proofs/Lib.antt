@@ -6,6 +6,7 @@ pub mod ListLemmas
 pub mod SameNumbers
 pub mod WiringLemmas
 pub mod TreeLemmas
+pub mod BuildLemmas
 pub mod UnknownLemmas
 pub mod JudgeLemmas
 pub mod WidthLemmas

@@ -1,13 +1,20 @@
 //! What a text says as a whole.
 
-ghost use Rattle.std.specs.Prelude.{◌≡◌, ◌⊎◌, IfErr, OnOk};
+ghost use Rattle.std.specs.Prelude.{◌≡◌, ◌⊎◌, ◌≤◌, map, length, IfOk, IfErr, OnOk};
+ghost use Rattle.std.specs.List.{AllByRecursion};
 ghost use Rattle.clk_packet.specs.declared.fault.Fault.TheVariants.{Memory};
-ghost use Rattle.clk_tree.specs.Reading.{IsFaultless, HasFault};
+ghost use Rattle.clk_tree.specs.Limits.{most_bytes};
+ghost use Rattle.clk_tree.specs.Tokens.{tokens_of};
+ghost use Rattle.clk_tree.specs.Source.{kept};
+ghost use Rattle.clk_tree.specs.Naming.{class_in, is_class};
+ghost use Rattle.clk_tree.specs.Within.{IsDeclaredWithin, IsLinkWithin, HasPorts, words_in};
+ghost use Rattle.clk_tree.specs.Reading.{IsFaultless, IsNamedText, HasFault};
 
 use crate::checks::check_nodes;
 use crate::lexer::tokens_of;
-use crate::naming::name_all;
+use crate::naming::{Named, name_all};
 use crate::parser::statements_of;
+use crate::statements::Statements;
 use clk_packet::Fault;
 use std::alloc::Global;
 
@@ -25,11 +32,27 @@ pub fn check(alloc: Global, text: &[u8]) -> Result<(), Fault>
     ensures faultless { OnOk result (IsFaultless text.now) }
     ensures fault { IfErr result (λ fault. (fault ≡ Memory) ⊎ HasFault text.now fault) }
 {
+    let (_, named) = named_text(alloc, text)?;
+    check_nodes(alloc, &named.nodes, &named.links)
+}
+
+/// What a text declares and connects, by name. Fault 1 where memory is refused; else 18 for a text that is too long, 2, and then 5, 3, 4 and 6.
+pub fn named_text(alloc: Global, text: &[u8]) -> Result<(Statements, Named), Fault>
+    ensures named { IfOk result (λ r. IsNamedText text.now (tokens_of text.now) (map kept r.0.declarations.items) r.0.connections.items r.1.nodes.items r.1.links.items) }
+    ensures classes { IfOk result (λ r. map (class_in text.now) (map kept r.0.declarations.items) ≡ map is_class r.1.classes.items) }
+    ensures within { IfOk result (λ r. AllByRecursion (IsDeclaredWithin (length text.now)) (map kept r.0.declarations.items)) }
+    ensures words { IfOk result (λ r. words_in (map kept r.0.declarations.items) ≤ most_bytes) }
+    ensures few_nodes { IfOk result (λ r. length r.1.nodes.items ≤ most_bytes) }
+    ensures few_links { IfOk result (λ r. length r.1.links.items ≤ most_bytes) }
+    ensures links { IfOk result (λ r. AllByRecursion (IsLinkWithin r.1.nodes.items) r.1.links.items) }
+    ensures ports { IfOk result (λ r. AllByRecursion HasPorts r.1.links.items) }
+    ensures fault { IfErr result (λ fault. (fault ≡ Memory) ⊎ HasFault text.now fault) }
+{
     if text.len() > MAX_BYTES {
         return Err(Fault::TooLarge);
     }
     let tokens = tokens_of(alloc, text)?;
     let statements = statements_of(alloc, &tokens, text.len() as u32)?;
     let named = name_all(alloc, text, &statements)?;
-    check_nodes(alloc, &named.nodes, &named.links)
+    Ok((statements, named))
 }

@@ -1,67 +1,15 @@
-use Rattle.std.proofs.Common.{length, map, subst, sym, ap, ◌∙◌, ◌≤◌, arith}
-use Rattle.std.specs.List.{AllByRecursion}
-use Rattle.clk_tree.specs.Limits.{most_bytes}
+use Rattle.std.proofs.Common.{map, sym, subst}
 use Rattle.clk_tree.specs.Tokens.{tokens_of}
-use Rattle.clk_tree.specs.Grammar.{IsText}
-use Rattle.clk_tree.specs.Source.{kept, elements}
-use Rattle.clk_tree.specs.Within.{IsNamed, HasNumbers, HasPorts, words_in}
-use Rattle.clk_tree.proofs.StatementLemmas.{named-all, words-few, ports-digits}
-use Rattle.clk_tree.proofs.NumberTokens.{tokens-digits}
-use Rattle.clk_tree.proofs.StatementLemmas.{tokens-few}
+use Rattle.clk_tree.specs.Source.{kept}
+use Rattle.clk_tree.specs.Reading.{IsNamedText}
 use Rattle.clk_tree.proofs.FaultLemmas.{checked-fault}
-use Rattle.clk_tree.proofs.TextLengths.{connections-few, elements-few, links-small, links-length}
 use Rattle.clk_tree.proofs.reading.check.Goals as goal
-
-pub name_all-requires-clause-named : goal.name_all-requires-clause-named
-name_all-requires-clause-named c = let r = c.in_ok-statements.ensures.read in subst (AllByRecursion IsNamed) (sym r.2) (named-all r.0)
-
-pub name_all-requires-clause-numbers : goal.name_all-requires-clause-numbers
-name_all-requires-clause-numbers c =
-    let r = c.in_ok-statements.ensures.read in
-    let same = c.deref.ensures.value ∙ c.in_ok-tokens.ensures.tokens in
-    subst (AllByRecursion (HasNumbers c.args.text.now)) (sym r.3) (ports-digits c.args.text.now (tokens_of c.args.text.now) r.0 (tokens-digits c.args.text.now) (subst (λ ts. IsText ts r.0) same r.1))
-
-pub name_all-requires-clause-few : goal.name_all-requires-clause-few
-name_all-requires-clause-few c =
-    let r = c.in_ok-statements.ensures.read in
-    let few = words-few c.deref.result.now r.0 r.1 in let less = tokens-few c.args.text.now in
-    let same = ap length (c.deref.ensures.value ∙ c.in_ok-tokens.ensures.tokens) in
-    subst (λ d. words_in d ≤ most_bytes) (sym r.2) (omega (arith, few, less, same, c.if-text-gt-MAX_BYTES.false))
-
-pub check_nodes-requires-clause-few_nodes : goal.check_nodes-requires-clause-few_nodes
-check_nodes-requires-clause-few_nodes c =
-    let r = c.in_ok-statements.ensures.read in
-    let few = words-few c.deref.result.now r.0 r.1 in let less = tokens-few c.args.text.now in
-    let same = ap length (c.deref.ensures.value ∙ c.in_ok-tokens.ensures.tokens) in
-    let words = ap words_in r.2 in
-    let all = elements-few c.args.text.now (map kept c.in_ok-statements.statements.declarations.items) in
-    omega (arith, few, less, same, words, all, c.in_ok-named.ensures.count, ap length c.deref-2.ensures.value, c.if-text-gt-MAX_BYTES.false)
-
-pub check_nodes-requires-clause-few_links : goal.check_nodes-requires-clause-few_links
-check_nodes-requires-clause-few_links c =
-    let r = c.in_ok-statements.ensures.read in
-    let few = connections-few c.deref.result.now r.0 r.1 in let less = tokens-few c.args.text.now in
-    let same = ap length (c.deref.ensures.value ∙ c.in_ok-tokens.ensures.tokens) in
-    let connections = ap length r.3 in
-    let links = ap length (c.deref-3.ensures.value ∙ c.in_ok-named.ensures.links) ∙ links-length c.args.text.now (elements c.args.text.now (map kept c.in_ok-statements.statements.declarations.items)) c.in_ok-statements.statements.connections.items in
-    omega (arith, few, less, same, connections, links, c.if-text-gt-MAX_BYTES.false)
-
-pub check_nodes-requires-clause-ports : goal.check_nodes-requires-clause-ports
-check_nodes-requires-clause-ports c =
-    subst (AllByRecursion HasPorts) (sym (c.deref-3.ensures.value ∙ c.in_ok-named.ensures.links))
-    (links-small c.args.text.now (elements c.args.text.now (map kept c.in_ok-statements.statements.declarations.items)) c.in_ok-statements.statements.connections.items)
 
 pub returns-clause-fault : goal.returns-clause-fault
 returns-clause-fault c =
-    checked-fault c.args.text.now c.deref.result.now (map kept c.in_ok-statements.statements.declarations.items) c.in_ok-statements.statements.connections.items c.deref-2.result.now c.deref-3.result.now
-    c.check_nodes.result
-    (record {
-      few = c.if-text-gt-MAX_BYTES.false;
-      are = c.deref.ensures.value ∙ c.in_ok-tokens.ensures.tokens;
-      right = c.in_ok-statements.ensures.sound;
-      read = c.in_ok-statements.ensures.read;
-      named = c.in_ok-named.ensures.faultless;
-      nodes_are = c.deref-2.ensures.value ∙ c.in_ok-named.ensures.nodes;
-      links_are = c.deref-3.ensures.value ∙ c.in_ok-named.ensures.links;
-    })
+    checked-fault c.args.text.now (tokens_of c.args.text.now) (map kept c.in_ok-named.field-0-0.declarations.items) c.in_ok-named.field-0-0.connections.items
+    c.deref.result.now c.deref-2.result.now c.check_nodes.result
+    (subst (λ ns. IsNamedText c.args.text.now (tokens_of c.args.text.now) (map kept c.in_ok-named.field-0-0.declarations.items) c.in_ok-named.field-0-0.connections.items ns c.deref-2.result.now) (sym c.deref.ensures.value)
+    (subst (λ ls. IsNamedText c.args.text.now (tokens_of c.args.text.now) (map kept c.in_ok-named.field-0-0.declarations.items) c.in_ok-named.field-0-0.connections.items c.in_ok-named.named.nodes.items ls) (sym c.deref-2.ensures.value)
+    c.in_ok-named.ensures.named))
     c.check_nodes.ensures.fault
