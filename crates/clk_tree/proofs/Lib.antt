@@ -1,9 +1,7 @@
 -- What the code meets its contracts by.
-pub mod DigitLemmas
 pub mod ClassLemmas
 pub mod NameLemmas
 pub mod ListLemmas
-pub mod SameNumbers
 pub mod WiringLemmas
 pub mod TreeLemmas
 pub mod BuildLemmas
