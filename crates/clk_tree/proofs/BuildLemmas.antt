@@ -1,5 +1,5 @@
 -- Elements of a plan, one after another.
-use Rattle.std.proofs.Common.{◌≡◌, ◌≤◌, ◌<◌, ◌+◌, ℕ, suc, List, [], ◌∷◌, ◌++◌, length, map, drop, get_or, Option, Some, None, option_map, ◌^◌, refl, sym, ap, ap₂, subst, ◌∙◌, append_assoc, append-nil, length-append, add-one, drop-cons, arith}
+use Rattle.std.proofs.Common.{◌≡◌, ◌≤◌, ◌<◌, ◌+◌, ℕ, suc, List, [], ◌∷◌, ◌++◌, length, map, drop, get_or, Some, None, option_map, ◌^◌, refl, sym, ap, ap₂, subst, ◌∙◌, append_assoc, append-nil, length-append, add-one, drop-cons, arith}
 use Rattle.std.proofs.lemmas.List.{drop_all, map-append, length-map, length-drop}
 use Rattle.std.specs.List.{AllByRecursion, filter_map, cons_option}
 use Rattle.clk_tree.specs.declared.class.Class as declared

@@ -25,7 +25,7 @@ in-stands x [] m = absurd m
 in-stands x (y ∷ ys) (inl e) = ap (λ b. b || stands_in x ys) (eq-eqb y x e)
 in-stands x (y ∷ ys) (inr m) = or_right (y == x) (stands_in x ys) (in-stands x ys m)
 
-stands-in : (x : ℕ) (xs : List ℕ) → stands_in x xs ≡ true → In x xs
+pub stands-in : (x : ℕ) (xs : List ℕ) → stands_in x xs ≡ true → In x xs
 stands-in x [] s = absurd (false≢true s)
 stands-in x (y ∷ ys) s = by_test (y == x) refl (stands-in x ys) s
   where

@@ -2,7 +2,6 @@
 use Rattle.std.proofs.Common.{◌≡◌, ◌⊎◌, ◌≤◌, ℕ, List, length, false, nat_lt, if◌then◌else◌, Some, None, Result, Ok, Err, IfErr, OnOk, option_map, inl, inr, sym, ap, ap₂, subst, ◌∙◌, arith}
 use Rattle.std.proofs.lemmas.Bool.Decides.{nat_tests}
 use Rattle.std.specs.Option.{option_or}
-use Rattle.std.specs.List.{flat_map}
 use Rattle.clk_packet.specs.declared.fault.Fault.{Fault}
 use Rattle.clk_packet.specs.declared.fault.Fault.TheVariants.{Memory, BadText, TooLarge}
 use Rattle.clk_tree.specs.declared.node.Node.{Node}
@@ -12,12 +11,12 @@ use Rattle.clk_tree.specs.declared.token.Token.{Token}
 use Rattle.clk_tree.specs.Limits.{most_bytes}
 use Rattle.clk_tree.specs.Tokens.{tokens_of}
 use Rattle.clk_tree.specs.Diagram.{start, wrong_from}
-use Rattle.clk_tree.specs.Grammar.{Statement, IsText}
-use Rattle.clk_tree.specs.Source.{Declared, declared_in, connected_in, elements, wires}
-use Rattle.clk_tree.specs.Faults.{offset_of, bad_text, text_fault, nodes_of, links_of, naming_fault, nodes_fault, fault_of}
+use Rattle.clk_tree.specs.Grammar.{IsText}
+use Rattle.clk_tree.specs.Source.{Declared, elements, wires}
+use Rattle.clk_tree.specs.Faults.{offset_of, bad_text, text_fault, nodes_of, links_of, nodes_fault, fault_of}
 use Rattle.clk_tree.specs.Plan.{Planned, all_known, planned_from, plan_of, Denotes}
 use Rattle.clk_tree.proofs.DistinctPlans.{nodes-known}
-use Rattle.clk_tree.specs.Reading.{HasFault, HasStatementFault, IsFaultless, IsNamedText, elements_of, wires_of}
+use Rattle.clk_tree.specs.Reading.{HasFault, HasStatementFault, IsFaultless, IsNamedText}
 
 not-less : (m n : ℕ) → n ≤ m → nat_lt m n ≡ false
 not-less m n l = grind (arith, nat_tests)

@@ -18,7 +18,7 @@ use Rattle.clk_tree.specs.Naming.{class_in, is_class, node_at, has_number, may_s
 abbrev class_by : List ℕ → Token → List Token → Option Class
 class_by text k arguments = class_if (map (letters text) arguments) (class_named (letters text k))
 
-abbrev among : ℕ → List Element → Bool
+abbrev pub among : ℕ → List Element → Bool
 among n earlier = list_any (λ e. is_sender n (class_of e)) earlier
 
 -- the first of some names fails

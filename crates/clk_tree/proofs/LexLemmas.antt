@@ -15,7 +15,7 @@ first-rest [] d h = absurd (omega arith)
 first-rest (b ∷ l) d h = ap (λ r. b ∷ r) (sym (take_all (length (b ∷ l) - 1) l (omega arith)))
 
 -- the tokens after the bytes of a piece
-tokens-after : (place n : ℕ) (l : List ℕ) → tokens_from place n l ≡ tokens_from (place + n) 0 (drop n l)
+pub tokens-after : (place n : ℕ) (l : List ℕ) → tokens_from place n l ≡ tokens_from (place + n) 0 (drop n l)
 tokens-after place zero l = ap (λ p. tokens_from p 0 l) (omega arith)
 tokens-after place (suc n) [] = refl
 tokens-after place (suc n) (b ∷ l) = tokens-after (place + 1) n l ∙ ap (λ p. tokens_from p 0 (drop n l)) (omega arith)

@@ -69,7 +69,7 @@ hops-more {first} {from} {old = old} x e h = (
   hops-last first x.hops h.hop ∙ h.name,
 )
 
-bare-word : (t : Token) → is_word t.symbol ≡ true → bare t ≡ t
+pub bare-word : (t : Token) → is_word t.symbol ≡ true → bare t ≡ t
 bare-word t e = rw e refl
 
 bare-mark : (t : Token) (s : Symbol) → t.symbol ≡ s → is_word s ≡ false → bare t ≡ mark s

@@ -24,17 +24,19 @@ abbrev pub AreTo : ℕ → List ℕ → Type 0
 AreTo most numbers = AllByRecursion (λ n. (1 ≤ n) × (n ≤ most)) numbers
 
 abbrev pub HasLimits : Class → Type 0
+HasLimits (sender n) = n ≤ most_sender
+HasLimits (queue kind capacity) = (1 ≤ capacity) × (capacity ≤ most_capacity)
 HasLimits (drr quanta) = (1 ≤ length quanta) × AreTo most_quantum quanta
 HasLimits (stride tickets) = (1 ≤ length tickets) × AreTo most_tickets tickets
 HasLimits (shaper rate burst) = ((1 ≤ rate) × (rate ≤ most_rate)) × ((1 ≤ burst) × (burst ≤ most_burst))
 HasLimits class = ⊤
 
-number-limits : (most : ℕ) (digits : List ℕ) (n : ℕ) → number_in 1 most digits ≡ Some n → (1 ≤ n) × (n ≤ most)
-number-limits most digits n e =
-    by_tests (all_ascii_digits digits && has_bytes digits) (nat_le 1 (digits_value 10 digits)) (nat_le (digits_value 10 digits) most) (digits_value 10 digits) (leb-true 1 (digits_value 10 digits)) (leb-true (digits_value 10 digits) most) e
+number-limits : (least most : ℕ) (digits : List ℕ) (n : ℕ) → number_in least most digits ≡ Some n → (least ≤ n) × (n ≤ most)
+number-limits least most digits n e =
+    by_tests (all_ascii_digits digits && has_bytes digits) (nat_le least (digits_value 10 digits)) (nat_le (digits_value 10 digits) most) (digits_value 10 digits) (leb-true least (digits_value 10 digits)) (leb-true (digits_value 10 digits) most) e
   where
-    by_tests : (d a b : Bool) (v : ℕ) → (a ≡ true → 1 ≤ v) → (b ≡ true → v ≤ most) → (if (d && a) && b then Some v else None) ≡ Some n → (1 ≤ n) × (n ≤ most)
-    by_tests true true true v low high e = let same : v ≡ n = cc in subst (λ m. (1 ≤ m) × (m ≤ most)) same (low refl, high refl)
+    by_tests : (d a b : Bool) (v : ℕ) → (a ≡ true → least ≤ v) → (b ≡ true → v ≤ most) → (if (d && a) && b then Some v else None) ≡ Some n → (least ≤ n) × (n ≤ most)
+    by_tests true true true v low high e = let same : v ≡ n = cc in subst (λ m. (least ≤ m) × (m ≤ most)) same (low refl, high refl)
     by_tests true true false v low high e = absurd (cc)
     by_tests true false b v low high e = absurd (cc)
     by_tests false a b v low high e = absurd (cc)
@@ -46,7 +48,7 @@ pub record AreOf (most : ℕ) (words : List (List ℕ)) (numbers : List ℕ) : T
 
 numbers-limits : (most : ℕ) (words : List (List ℕ)) (numbers : List ℕ) → numbers_to most words ≡ Some numbers → AreOf most words numbers
 numbers-limits most [] numbers e = let same : [] ≡ numbers = cc in subst (AreOf most []) same (record { len = refl; each = tt })
-numbers-limits most (word ∷ words) numbers e = by_case (number_in 1 most word) (numbers_to most words) (number-limits most word) (numbers-limits most words) e
+numbers-limits most (word ∷ words) numbers e = by_case (number_in 1 most word) (numbers_to most words) (number-limits 1 most word) (numbers-limits most words) e
   where
     by_case : (first : Option ℕ) (later : Option (List ℕ)) → ((n : ℕ) → first ≡ Some n → (1 ≤ n) × (n ≤ most)) → ((ns : List ℕ) → later ≡ Some ns → AreOf most words ns)
         → and_then first later ≡ Some numbers → AreOf most (word ∷ words) numbers
@@ -70,9 +72,9 @@ numbered f most word words class has e = by_case (numbers_to most (word ∷ word
         let some : 1 ≤ length ns = omega arith in
         subst HasLimits same (has ns (some, of.each))
 
-free : (f : ℕ → Class) (number : Option ℕ) (class : Class) → ((n : ℕ) → HasLimits (f n)) → option_map f number ≡ Some class → HasLimits class
-free f None class has e = absurd (cc)
-free f (Some n) class has e = let same : f n ≡ class = cc in subst HasLimits same (has n)
+counted : (f : ℕ → Class) (number : Option ℕ) (class : Class) → ((n : ℕ) → number ≡ Some n → HasLimits (f n)) → option_map f number ≡ Some class → HasLimits class
+counted f None class has e = absurd (cc)
+counted f (Some n) class has e = let same : f n ≡ class = cc in subst HasLimits same (has n refl)
 
 one : (known class : Class) → HasLimits known → Some known ≡ Some class → HasLimits class
 one known class has e = let same : known ≡ class = cc in subst HasLimits same has
@@ -85,13 +87,13 @@ shaped (Some rate) (Some burst) class r b e = one (shaper rate burst) class (r r
 
 limits : (name : ClassName) (arguments : List (List ℕ)) (class : Class) → class_with name arguments ≡ Some class → HasLimits class
 limits named.Sender [] class e = absurd (cc)
-limits named.Sender (n ∷ []) class e = free sender (number_in 0 most_sender n) class (λ m. tt) e
+limits named.Sender (n ∷ []) class e = counted sender (number_in 0 most_sender n) class (λ m is. (number-limits 0 most_sender n m is).1) e
 limits named.Sender (n ∷ m ∷ more) class e = absurd (cc)
-limits named.Queue [] class e = one (queue TailDrop default_capacity) class tt e
-limits named.Queue (n ∷ []) class e = free (queue TailDrop) (number_in 1 most_capacity n) class (λ m. tt) e
+limits named.Queue [] class e = one (queue TailDrop default_capacity) class (omega arith, omega arith) e
+limits named.Queue (n ∷ []) class e = counted (queue TailDrop) (number_in 1 most_capacity n) class (number-limits 1 most_capacity n) e
 limits named.Queue (n ∷ m ∷ more) class e = absurd (cc)
-limits named.FrontDropQueue [] class e = one (queue FrontDrop default_capacity) class tt e
-limits named.FrontDropQueue (n ∷ []) class e = free (queue FrontDrop) (number_in 1 most_capacity n) class (λ m. tt) e
+limits named.FrontDropQueue [] class e = one (queue FrontDrop default_capacity) class (omega arith, omega arith) e
+limits named.FrontDropQueue (n ∷ []) class e = counted (queue FrontDrop) (number_in 1 most_capacity n) class (number-limits 1 most_capacity n) e
 limits named.FrontDropQueue (n ∷ m ∷ more) class e = absurd (cc)
 limits named.PrioSched [] class e = one prio class tt e
 limits named.PrioSched (n ∷ more) class e = absurd (cc)
@@ -102,8 +104,8 @@ limits named.DrrSched (word ∷ more) class e = numbered drr most_quantum word m
 limits named.StrideSched [] class e = absurd (cc)
 limits named.StrideSched (word ∷ more) class e = numbered stride most_tickets word more class (λ ns h. h) e
 limits named.Shaper [] class e = absurd (cc)
-limits named.Shaper (rate ∷ []) class e = shaped (number_in 1 most_rate rate) (number_in 1 most_burst rate) class (number-limits most_rate rate) (number-limits most_burst rate) e
-limits named.Shaper (rate ∷ burst ∷ []) class e = shaped (number_in 1 most_rate rate) (number_in 1 most_burst burst) class (number-limits most_rate rate) (number-limits most_burst burst) e
+limits named.Shaper (rate ∷ []) class e = shaped (number_in 1 most_rate rate) (number_in 1 most_burst rate) class (number-limits 1 most_rate rate) (number-limits 1 most_burst rate) e
+limits named.Shaper (rate ∷ burst ∷ []) class e = shaped (number_in 1 most_rate rate) (number_in 1 most_burst burst) class (number-limits 1 most_rate rate) (number-limits 1 most_burst burst) e
 limits named.Shaper (rate ∷ burst ∷ n ∷ more) class e = absurd (cc)
 limits named.ToDevice [] class e = absurd (cc)
 limits named.ToDevice (word ∷ []) class e = one (device word) class tt e

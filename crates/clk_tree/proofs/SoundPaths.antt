@@ -27,7 +27,7 @@ pub record AreSound (nodes : List Node) (links : List Link) : Type 0 where
   pub device : has_device nodes ≡ true
   pub once : port_twice nodes links ≡ None
 
-none-of : (fault : ℕ → Fault) (place : Option ℕ) → option_map fault place ≡ None → place ≡ None
+pub none-of : (fault : ℕ → Fault) (place : Option ℕ) → option_map fault place ≡ None → place ≡ None
 none-of fault None e = refl
 none-of fault (Some place) e = absurd (cc)
 

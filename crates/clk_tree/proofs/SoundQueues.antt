@@ -34,7 +34,7 @@ node-at count links (e ∷ elements) i j p at = by_case (class_of e) j at (λ m.
     by_case (Some class) zero at here later = ap (λ (q : Planned). Some (role_of q.class)) (same_Some (planned_at count links i (known_as e class)) p at)
     by_case (Some class) (suc j) at here later = later j at
 
-length-planned : (count : ℕ) (links : List Link) (i : ℕ) (ks : List Known) → length (planned_from count links i ks) ≡ length ks
+pub length-planned : (count : ℕ) (links : List Link) (i : ℕ) (ks : List Known) → length (planned_from count links i ks) ≡ length ks
 length-planned count links i [] = refl
 length-planned count links i (k ∷ ks) = ap suc (length-planned count links (i + 1) ks)
 
@@ -61,11 +61,11 @@ target-used (c ∷ links) s i e = by_test (c.from == s) e (target-used links s i
     by_test true e later = refl
     by_test false e later = later e
 
-number-is : (n : ℕ) (o : Option ℕ) → is_number n o ≡ true → o ≡ Some n
+pub number-is : (n : ℕ) (o : Option ℕ) → is_number n o ≡ true → o ≡ Some n
 number-is n None e = absurd (cc)
 number-is n (Some m) e = ap Some (eqb-true m n e)
 
-all-filter : (P : ℕ → Type 0) (p : ℕ → Bool) (xs : List ℕ) → ((x : ℕ) → p x ≡ true → P x) → AllByRecursion P (filter p xs)
+pub all-filter : (P : ℕ → Type 0) (p : ℕ → Bool) (xs : List ℕ) → ((x : ℕ) → p x ≡ true → P x) → AllByRecursion P (filter p xs)
 all-filter P p [] each = tt
 all-filter P p (x ∷ xs) each = by_test (p x) (each x) (all-filter P p xs each)
   where
@@ -81,7 +81,7 @@ source-role (Some role.Scheduler) e = absurd (cc)
 source-role (Some (role.SchedulerOf n)) e = absurd (cc)
 source-role (Some role.Device) e = absurd (cc)
 
-queue-role : (o : Option Role) → is_queue o ≡ true → o ≡ Some role.Queue
+pub queue-role : (o : Option Role) → is_queue o ≡ true → o ≡ Some role.Queue
 queue-role None e = absurd (cc)
 queue-role (Some role.Source) e = absurd (cc)
 queue-role (Some role.Queue) e = refl
@@ -151,7 +151,7 @@ queue-senders elements wires none i e at is =
     (λ s connected. sender-planned (plan_of elements wires) count links s s (plan.at s role.Source (source-of-queue (nodes_of elements) links s i sound role-there (number-is i (target s links) connected)))))
 
 -- where a number stands among those of a list
-stands-filter : (p : ℕ → Bool) (s a n : ℕ) → p s ≡ true → a ≤ s → s < a + n → stands_in s (filter p (range_with_len a n)) ≡ true
+pub stands-filter : (p : ℕ → Bool) (s a n : ℕ) → p s ≡ true → a ≤ s → s < a + n → stands_in s (filter p (range_with_len a n)) ≡ true
 stands-filter p s a zero is low high = absurd (omega arith)
 stands-filter p s a (suc n) is low high = elim (cases_eq a s) [
   | inl same ↦ by_here (p a) (ap p same ∙ is) (eq-eqb a s same)

@@ -15,6 +15,7 @@ pub mod Reading
 pub mod Plan
 pub mod Kept
 pub mod PlanTree
+pub mod PlanParts
 pub mod Canonical
 pub mod Checks
 pub mod Used

@@ -66,6 +66,10 @@ abbrev pub device_sources : List Planned → List ℕ
 device_sources [] = []
 device_sources (e ∷ more) = if is_device e.class then e.sources else device_sources more
 
+-- one element is connected to the device
+abbrev pub HasRoot : List Planned → Type 0
+HasRoot plan = (s : ℕ) × (device_sources plan ≡ s ∷ [])
+
 -- the tree of a plan stands at the input of its device
 abbrev pub IsTreeOf : List Planned → Tree → Type 0
 IsTreeOf plan t = IsRowOf plan (device_sources plan) (root t)

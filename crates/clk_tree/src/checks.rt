@@ -1,14 +1,10 @@
 //! The checks of elements and connections, in order.
 
-ghost use Rattle.std.specs.Prelude.{◌≡◌, ◌≤◌, ◌⊎◌, length, Some, None, OnOk, IfErr};
-ghost use Rattle.std.specs.List.{AllByRecursion};
+ghost use Rattle.std.specs.Prelude.{◌≡◌, ◌⊎◌, Some, None, OnOk, IfErr};
 ghost use Rattle.clk_packet.specs.declared.fault.Fault.TheVariants.{Memory};
-ghost use Rattle.clk_tree.specs.Limits.{most_bytes};
-ghost use Rattle.clk_tree.specs.Within.{IsLinkWithin, HasPorts};
 ghost use Rattle.clk_tree.specs.Faults.{port_fault, shape_fault, nodes_fault};
 ghost use Rattle.clk_tree.specs.Checks.{IsTabled};
 
-use crate::node::{Link, Node};
 use crate::ports::{bad_port, port_missing, port_twice, wrong_kind};
 use crate::shape::{has_device, many_devices, not_a_tree, too_large};
 use crate::tables::Graph;
@@ -61,15 +57,11 @@ fn check_shape(alloc: Global, graph: &Graph) -> Result<(), Fault>
 
 /// Whether elements and connections make up a tree. Faults 7 to 13 and 18 where they don't, the first in this order, and fault 1 where
 /// memory is refused.
-pub fn check_nodes(alloc: Global, nodes: &[Node], links: &[Link]) -> Result<(), Fault>
-    requires few_nodes { length nodes.now ≤ most_bytes }
-    requires few_links { length links.now ≤ most_bytes }
-    requires within { AllByRecursion (IsLinkWithin nodes.now) links.now }
-    requires ports { AllByRecursion HasPorts links.now }
-    ensures good { OnOk result (nodes_fault nodes.now links.now ≡ None) }
-    ensures fault { IfErr result (λ fault. (fault ≡ Fault.Memory) ⊎ (nodes_fault nodes.now links.now ≡ Some fault)) }
+pub fn check_graph(alloc: Global, graph: &Graph) -> Result<(), Fault>
+    requires { IsTabled graph.now }
+    ensures good { OnOk result (nodes_fault graph.now.nodes.now graph.now.links.now ≡ None) }
+    ensures fault { IfErr result (λ fault. (fault ≡ Fault.Memory) ⊎ (nodes_fault graph.now.nodes.now graph.now.links.now ≡ Some fault)) }
 {
-    let graph = Graph::new(alloc, nodes, links)?;
-    check_ports(alloc, &graph)?;
-    check_shape(alloc, &graph)
+    check_ports(alloc, graph)?;
+    check_shape(alloc, graph)
 }

@@ -24,7 +24,7 @@ pub use laws::{
     right_tokens_are_texts, texts_can_be_read, texts_have_one_reading,
     wrong_tokens_cannot_be_mended,
 };
-pub use reading::check;
+pub use plan::{Plan, QueueSpec, SenderSpec};
 
 #[cfg(test)]
 mod tests;

@@ -2,5 +2,170 @@
 
 mod build;
 mod element;
+mod parts;
+mod text;
 mod tree;
 mod wiring;
+
+ghost use Rattle.std.specs.Prelude.{◌≡◌, ◌⊎◌, ◌∷◌, [], map, IfOk, IfErr};
+ghost use Rattle.clk_packet.specs.declared.fault.Fault.TheVariants.{Memory};
+ghost use Rattle.clk_tree.specs.Reading.{HasFault};
+ghost use Rattle.clk_tree.specs.Plan.{Denotes};
+ghost use Rattle.clk_tree.specs.PlanTree.{HasRoot, device_sources};
+ghost use Rattle.clk_tree.specs.Kept.{planned};
+
+use crate::checks::check_graph;
+use crate::class::Class;
+use crate::plan::build::elements_of;
+use crate::plan::element::Element;
+use crate::plan::parts::{queues_of, senders_of};
+use crate::plan::text::canonical_text;
+use crate::plan::tree::tree_at;
+use crate::reading::named_text;
+use crate::tables::Graph;
+use clk_packet::Fault;
+use clk_sched::Tree;
+pub use parts::{QueueSpec, SenderSpec};
+use std::alloc::Global;
+use std::marker::Model;
+
+/// A tree of schedulers over queues with their senders, as a text in Click's language declares and connects it.
+#[derive(Drop)]
+pub struct Plan {
+    elements: Vec<Element>,
+    /// The element that is connected to the device, by its place among all.
+    top: u16,
+    queues: Vec<QueueSpec>,
+    senders: Vec<SenderSpec>,
+}
+
+impl Model for Plan {
+    ghost use Rattle.std.specs.Prelude.{List, map};
+    ghost use Rattle.clk_tree.specs.Plan.{Planned};
+    ghost use Rattle.clk_tree.specs.PlanParts.{queued, IsKept};
+    ghost use Rattle.clk_tree.specs.Kept.{planned};
+
+    ghost Value = { List Planned };
+
+    ghost view = { λ plan. map planned plan.elements.items };
+
+    ghost invariant = { λ plan. IsKept (map planned plan.elements.items) plan.top (map queued plan.queues.items) plan.senders.items };
+}
+
+impl Plan {
+    ghost use Rattle.std.specs.Prelude.{◌≡◌, ◌≤◌, ◌+◌, ◌⊎◌, true, map, length, IfOk, IfErr, IsOkUnless};
+    ghost use Rattle.std.specs.List.{AllByRecursion};
+    ghost use Rattle.clk_packet.specs.declared.fault.Fault.TheVariants.{Memory};
+    ghost use Rattle.clk_sched.specs.Tree.{root, leaves_distinct};
+    ghost use Rattle.clk_sched.specs.Session.{elements};
+    ghost use Rattle.clk_sched.specs.Limits.{most_elements};
+    ghost use Rattle.clk_tree.specs.Limits.{most_bytes};
+    ghost use Rattle.clk_tree.specs.Reading.{HasFault};
+    ghost use Rattle.clk_tree.specs.Plan.{Denotes};
+    ghost use Rattle.clk_tree.specs.PlanTree.{IsTreeOf};
+    ghost use Rattle.clk_tree.specs.PlanParts.{queued, number_of, senders_of, queues_of, AreRising, HasCapacity, SendsWithin};
+    ghost use Rattle.clk_tree.specs.Canonical.{canonical_text};
+
+    /// Reads a tree text: the plan that it denotes, where it keeps to the grammar of Click's language, and declares and connects a tree of
+    /// schedulers over queues with senders that ends at one device.
+    ///
+    /// # Errors
+    ///
+    /// Fault 1 where memory is refused; else 18 for a text of more than 1,048,576 bytes, 2 for one that breaks the grammar, and then 5, 3, 4,
+    /// 6, 7, 8, 9, 10, 11, 12, 13 and 18, the first in this order that the text has, at its first place.
+    pub fn read(alloc: Global, text: &[u8]) -> Result<Plan, Fault>
+        ensures denotes { IfOk result (Denotes text.now) }
+        ensures fault { IfErr result (λ fault. (fault ≡ Memory) ⊎ HasFault text.now fault) }
+    {
+        let elements = read_elements(alloc, text)?;
+        let top = top_of(&elements);
+        let senders = senders_of(alloc, &elements)?;
+        let queues = queues_of(alloc, &elements, &senders)?;
+        Ok(Plan {
+            elements,
+            top,
+            queues,
+            senders,
+        })
+    }
+
+    /// The canonical text of the plan: a line for each element in order of declaration, with all its arguments, and then a line for each
+    /// connection, in order of the element that it leads to, the input, and the element that it comes from.
+    ///
+    /// # Errors
+    ///
+    /// Fault 1 where memory is refused.
+    pub fn write(&self, alloc: Global) -> Result<Vec<u8>, Fault>
+        ensures text { IfOk result (λ text. text.items ≡ canonical_text self.now) }
+        // Where it is no longer than a text may be, it denotes this plan.
+        ensures again { IfOk result (λ text. length text.items ≤ most_bytes → Denotes text.items self.now) }
+        ensures fault { IsOkUnless result Memory }
+    {
+        canonical_text(alloc, &self.elements)
+    }
+
+    /// The tree of the plan. A leaf is a queue by its number: queues are numbered from 0 in order of declaration.
+    ///
+    /// # Errors
+    ///
+    /// Fault 1 where memory is refused.
+    pub fn tree(&self, alloc: Global) -> Result<Tree, Fault>
+        ensures tree { IfOk result (IsTreeOf self.now) }
+        ensures distinct { IfOk result (λ tree. leaves_distinct tree ≡ true) }
+        // A session takes it.
+        ensures fits { IfOk result (λ tree. 1 + elements (root tree) ≤ most_elements) }
+        ensures fault { IsOkUnless result Memory }
+    {
+        tree_at(alloc, &self.elements, self.top, 64)
+    }
+
+    /// The queues of the plan, by their numbers.
+    pub fn queues(&self) -> &[QueueSpec]
+        ensures queues { map queued result.now ≡ queues_of self.now }
+        ensures capacities { AllByRecursion HasCapacity (queues_of self.now) }
+    {
+        &self.queues
+    }
+
+    /// The senders of the plan, by rising number.
+    pub fn senders(&self) -> &[SenderSpec]
+        ensures senders { result.now ≡ senders_of self.now }
+        ensures rising { AreRising (map number_of result.now) }
+        ensures wired { AllByRecursion (SendsWithin (length (queues_of self.now))) result.now }
+    {
+        &self.senders
+    }
+}
+
+/// The elements of the plan that a text denotes. Faults as those of `Plan::read`.
+fn read_elements(alloc: Global, text: &[u8]) -> Result<Vec<Element>, Fault>
+    ensures denotes { IfOk result (λ elements. Denotes text.now (map planned elements.items)) }
+    ensures fault { IfErr result (λ fault. (fault ≡ Memory) ⊎ HasFault text.now fault) }
+{
+    let (statements, named) = named_text(alloc, text)?;
+    let graph = Graph::new(alloc, &named.nodes, &named.links)?;
+    match check_graph(alloc, &graph) {
+        Ok(()) => {}
+        Err(fault) => return Err(fault),
+    }
+    elements_of(
+        alloc,
+        text,
+        &statements.declarations,
+        &named.classes,
+        &graph,
+    )
+}
+
+/// The element that is connected to the first device, by its place among all.
+fn top_of(elements: &[Element]) -> u16
+    requires top { HasRoot (map planned elements.now) }
+    ensures { device_sources (map planned elements.now) ≡ result ∷ [] }
+{
+    for element in elements {
+        if let Class::ToDevice(_) = element.class {
+            return element.sources[0];
+        }
+    }
+    unreachable!()
+}

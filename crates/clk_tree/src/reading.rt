@@ -1,6 +1,6 @@
 //! What a text says as a whole.
 
-ghost use Rattle.std.specs.Prelude.{◌≡◌, ◌⊎◌, ◌≤◌, map, length, IfOk, IfErr, OnOk};
+ghost use Rattle.std.specs.Prelude.{◌≡◌, ◌⊎◌, ◌≤◌, map, length, IfOk, IfErr};
 ghost use Rattle.std.specs.List.{AllByRecursion};
 ghost use Rattle.clk_packet.specs.declared.fault.Fault.TheVariants.{Memory};
 ghost use Rattle.clk_tree.specs.Limits.{most_bytes};
@@ -8,9 +8,8 @@ ghost use Rattle.clk_tree.specs.Tokens.{tokens_of};
 ghost use Rattle.clk_tree.specs.Source.{kept};
 ghost use Rattle.clk_tree.specs.Naming.{class_in, is_class};
 ghost use Rattle.clk_tree.specs.Within.{IsDeclaredWithin, IsLinkWithin, HasPorts, words_in};
-ghost use Rattle.clk_tree.specs.Reading.{IsFaultless, IsNamedText, HasFault};
+ghost use Rattle.clk_tree.specs.Reading.{IsNamedText, HasFault};
 
-use crate::checks::check_nodes;
 use crate::lexer::tokens_of;
 use crate::naming::{Named, name_all};
 use crate::parser::statements_of;
@@ -20,21 +19,6 @@ use std::alloc::Global;
 
 /// How many bytes a text may have.
 const MAX_BYTES: usize = 1_048_576;
-
-/// Checks a tree text: whether it is statements of Click's language, and declares and connects a tree of schedulers over queues with
-/// senders, which ends at one device.
-///
-/// # Errors
-///
-/// Fault 1 where memory is refused; else 18 for a text of more than 1,048,576 bytes, 2 for one that breaks the grammar, and then 5, 3, 4, 6,
-/// 7, 8, 9, 10, 11, 12, 13 and 18, the first in this order that the text has, at its first place.
-pub fn check(alloc: Global, text: &[u8]) -> Result<(), Fault>
-    ensures faultless { OnOk result (IsFaultless text.now) }
-    ensures fault { IfErr result (λ fault. (fault ≡ Memory) ⊎ HasFault text.now fault) }
-{
-    let (_, named) = named_text(alloc, text)?;
-    check_nodes(alloc, &named.nodes, &named.links)
-}
 
 /// What a text declares and connects, by name. Fault 1 where memory is refused; else 18 for a text that is too long, 2, and then 5, 3, 4 and 6.
 pub fn named_text(alloc: Global, text: &[u8]) -> Result<(Statements, Named), Fault>

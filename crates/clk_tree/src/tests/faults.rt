@@ -41,7 +41,7 @@ const FAULTS: [(&str, &str); 13] = [
 ];
 
 /// Texts that break the grammar.
-const BAD_TEXTS: [(&str, &str); 14] = [
+const BAD_TEXTS: [(&str, &str); 24] = [
     ("q :: Queue(", "fault 2: BadText 11"),
     ("q :: Queue; ->", "fault 2: BadText 12"),
     ("q : Queue;", "fault 2: BadText 2"),
@@ -56,10 +56,22 @@ const BAD_TEXTS: [(&str, &str); 14] = [
     ("a -> b [2] ;", "fault 2: BadText 11"),
     ("q :: 9Queue;", "fault 2: BadText 5"),
     ("?", "fault 2: BadText 0"),
+    // A token that can't stand comes before an open comment, and blanks and comments count at the end.
+    ("; -> /* x", "fault 2: BadText 2"),
+    ("q :: // x", "fault 2: BadText 9"),
+    ("q :: ", "fault 2: BadText 5"),
+    // A comment separates tokens, and few bytes are blanks.
+    ("a/**/b", "fault 2: BadText 5"),
+    ("q:/**/:Queue;", "fault 2: BadText 1"),
+    ("q\x0B:: Queue;", "fault 2: BadText 1"),
+    ("q :: Queue;\0", "fault 2: BadText 11"),
+    ("a -> 9b", "fault 2: BadText 5"),
+    ("a [1x] -> b", "fault 2: BadText 3"),
+    ("a [] -> b", "fault 2: BadText 3"),
 ];
 
 /// Which of several faults is told.
-const ORDERS: [(&str, &str); 9] = [
+const ORDERS: [(&str, &str); 13] = [
     ("a [70000] -> b", "fault 6: UnknownName 0"),
     ("q :: Queue;", "fault 9: PortMissing 0"),
     (
@@ -78,6 +90,21 @@ const ORDERS: [(&str, &str); 9] = [
         "fault 4: BadArgument 5",
     ),
     ("q :: Que; q :: Queue;", "fault 5: NameTwice 10"),
+    (
+        "q :: Queue; d :: ToDevice(x); q [65536] -> d;",
+        "fault 7: BadPort 30",
+    ),
+    // A Sender has no input, and a ToDevice no output.
+    (
+        "s :: Sender(0); t :: Sender(1); q :: Queue; d :: ToDevice(x); q -> d; s -> t -> q;",
+        "fault 7: BadPort 75",
+    ),
+    (
+        "s :: Sender(0); d :: ToDevice(x); d -> s;",
+        "fault 7: BadPort 34",
+    ),
+    // A carriage return doesn't end a comment.
+    ("// x\r?", "fault 11: NoDevice"),
 ];
 
 #[test]

@@ -5,12 +5,25 @@ use std::alloc::{AllocError, Global};
 use std::process::Abort;
 use std::test::Fail;
 
-/// A scheduler over so many queues.
+/// A scheduler over so many queues, each with a sender.
 fn over_queues(alloc: Global, class: &str, count: u32) -> Result<String, AllocError> {
-    let mut text = format!(in alloc; "x :: {class}; d :: ToDevice(l); x -> d;")?;
+    let mut text = format!(in alloc; "x :: {class}; d :: ToDevice(link); x -> d;")?;
     for place in 0..count {
-        write!(text, "q{place} :: Queue; q{place} -> [{place}] x;")?;
+        write!(
+            text,
+            "s{place} :: Sender({place}); q{place} :: Queue; s{place} -> q{place} -> [{place}] x;"
+        )?;
     }
+    Ok(text)
+}
+
+/// A class with so many arguments.
+fn with_arguments(alloc: Global, class: &str, count: u32) -> Result<String, AllocError> {
+    let mut text = format!(in alloc; "{class}(1")?;
+    for argument in 1..count {
+        write!(text, ", {argument}")?;
+    }
+    text.push_str(")")?;
     Ok(text)
 }
 
@@ -37,21 +50,44 @@ fn elements(alloc: Global, count: u32) -> Result<String, AllocError> {
     Ok(text)
 }
 
+/// A class over 64 queues, and over 65.
+fn assert_inputs(
+    rt: &impl Abort,
+    alloc: Global,
+    class: &str,
+    most: &str,
+    more: &str,
+) -> Result<(), Fail> {
+    assert_answer(rt, alloc, over_queues(alloc, class, 64)?.as_bytes(), most);
+    assert_answer(rt, alloc, over_queues(alloc, class, 65)?.as_bytes(), more);
+    Ok(())
+}
+
 #[test]
 fn inputs_are_64_at_most(rt: HostRuntime) -> Result<(), Fail> {
     let alloc = rt.alloc();
-    assert_answer(
-        &rt,
-        alloc,
-        over_queues(alloc, "PrioSched", 64)?.as_bytes(),
-        "",
-    );
-    assert_answer(
-        &rt,
-        alloc,
-        over_queues(alloc, "PrioSched", 65)?.as_bytes(),
-        "fault 18: TooLarge",
-    );
+    for class in ["PrioSched", "RoundRobinSched", "DRRSched"] {
+        assert_inputs(&rt, alloc, class, "", "fault 18: TooLarge")?;
+    }
+    Ok(())
+}
+
+// An input that isn't connected is told before too many inputs.
+#[test]
+fn arguments_are_64_at_most(rt: HostRuntime) -> Result<(), Fail> {
+    let alloc = rt.alloc();
+    for class in ["DRRSched", "StrideSched"] {
+        let most = with_arguments(alloc, class, 64)?;
+        assert_answer(&rt, alloc, over_queues(alloc, &most, 64)?.as_bytes(), "");
+        let more = with_arguments(alloc, class, 65)?;
+        assert_inputs(
+            &rt,
+            alloc,
+            &more,
+            "fault 9: PortMissing 0",
+            "fault 18: TooLarge",
+        )?;
+    }
     Ok(())
 }
 

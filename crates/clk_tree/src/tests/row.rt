@@ -1,6 +1,6 @@
 //! A row: a text, and the line of its fault.
 
-use crate::check;
+use crate::Plan;
 use std::alloc::Global;
 use std::process::Abort;
 
@@ -13,8 +13,8 @@ pub fn assert_answers(rt: &impl Abort, alloc: Global, rows: &[(&str, &str)]) {
 
 /// A text is answered by this line.
 pub fn assert_answer(rt: &impl Abort, alloc: Global, text: &[u8], line: &str) {
-    match check(alloc, text) {
-        Ok(()) => assert_eq!(rt; "", line),
+    match Plan::read(alloc, text) {
+        Ok(_) => assert_eq!(rt; "", line),
         Err(fault) => {
             let told = format!(in alloc; "{fault}").expect(rt, "memory");
             assert_eq!(rt; told.as_str(), line);

@@ -1,13 +1,9 @@
 //! Texts without a fault.
 
 use super::row::assert_answers;
-use crate::check;
-use clk_packet::Fault;
-use std::alloc::Global;
-use std::process::Abort;
 
 /// A router of two senders, each with a queue, under a PrioSched.
-const TWO_QUEUES: &str = "s0 :: Sender(0); s1 :: Sender(1);
+pub const TWO_QUEUES: &str = "s0 :: Sender(0); s1 :: Sender(1);
 q0 :: Queue(2); q1 :: Queue(2);
 p :: PrioSched;
 out :: ToDevice(link);
@@ -41,23 +37,4 @@ const TEXTS: [(&str, &str); 7] = [
 #[test]
 fn texts_of_trees_have_no_fault(rt: HostRuntime) {
     assert_answers(&rt, rt.alloc(), &TEXTS);
-}
-
-// Each front of a text is answered, by a fault of a text or by none.
-fn assert_fronts(rt: &impl Abort, alloc: Global, text: &[u8]) {
-    for end in 0..text.len() + 1 {
-        let (front, _) = text.split_at(end);
-        match check(alloc, front) {
-            Ok(()) => {}
-            Err(fault) => {
-                let number = fault.number();
-                assert!(rt; number >= 2 && number <= 13);
-            }
-        }
-    }
-}
-
-#[test]
-fn fronts_of_a_text_are_answered(rt: HostRuntime) {
-    assert_fronts(&rt, rt.alloc(), TWO_QUEUES.as_bytes());
 }

@@ -8,7 +8,6 @@ use Rattle.clk_tree.specs.Within.{IsNamed, HasNumbers, HasPorts, words_in}
 use Rattle.clk_tree.proofs.StatementLemmas.{named-all, words-few, ports-digits}
 use Rattle.clk_tree.proofs.NumberTokens.{tokens-digits}
 use Rattle.clk_tree.proofs.StatementLemmas.{tokens-few}
-use Rattle.clk_tree.proofs.FaultLemmas.{checked-fault}
 use Rattle.clk_tree.proofs.TextLengths.{connections-few, elements-few, links-small, links-length}
 use Rattle.clk_tree.proofs.reading.named_text.Goals as goal
 

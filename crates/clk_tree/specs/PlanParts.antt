@@ -1,0 +1,90 @@
+-- The senders and the queues of a plan (their numbers as this project chose them).
+use Rattle.std.specs.Prelude.{◌≡◌, ℕ, ◌+◌, ◌<◌, ◌≤◌, List, [], ◌∷◌, map, filter, nat_lt, ◌==◌, if◌then◌else◌, Option, Some, None, ⊤}
+use Rattle.std.specs.List.{cons_option, AllByRecursion}
+use Rattle.clk_packet.specs.Limits.{most_capacity}
+use Rattle.clk_packet.specs.declared.packet.Kind.{Kind}
+use Rattle.clk_sched.specs.Tree.{stands_in}
+use Rattle.clk_tree.specs.declared.plan.parts.QueueSpec.{QueueSpec}
+use Rattle.clk_tree.specs.declared.plan.parts.SenderSpec.{SenderSpec}
+use Rattle.clk_tree.specs.Classes.{Class, sender, queue}
+use Rattle.clk_tree.specs.Plan.{Planned, Denotes}
+use Rattle.clk_tree.specs.PlanTree.{is_queue, device_sources}
+
+-- The number of the queue to which an element is connected: queues are numbered from 0 in order of declaration.
+abbrev pub queue_fed : List Planned → ℕ → ℕ
+queue_fed [] i = 0
+queue_fed (e ∷ more) i =
+    if is_queue e.class then (if stands_in i e.sources then 0 else queue_fed more i + 1) else queue_fed more i
+
+-- the sender that stands at a place
+abbrev pub sender_of : List Planned → ℕ → Class → Option SenderSpec
+sender_of plan i (sender n) = Some (record { number = n; queue = queue_fed plan i })
+sender_of plan i class = None
+
+-- the senders of a plan among the elements from a place on, in order of declaration
+abbrev pub senders_from : List Planned → ℕ → List Planned → List SenderSpec
+senders_from plan i [] = []
+senders_from plan i (e ∷ more) = cons_option (sender_of plan i e.class) (senders_from plan (i + 1) more)
+
+-- a sender before the first of a greater number
+abbrev pub placed : SenderSpec → List SenderSpec → List SenderSpec
+placed s [] = s ∷ []
+placed s (t ∷ more) = if nat_lt s.number t.number then s ∷ t ∷ more else t ∷ placed s more
+
+abbrev pub by_number : List SenderSpec → List SenderSpec
+by_number [] = []
+by_number (s ∷ more) = placed s (by_number more)
+
+-- the senders of a plan, by rising number
+abbrev pub senders_of : List Planned → List SenderSpec
+senders_of plan = by_number (senders_from plan 0 plan)
+
+abbrev pub number_of : SenderSpec → ℕ
+number_of s = s.number
+
+-- a queue of a plan: its kind, how many packets it holds at most, and the numbers of the senders that send to it
+pub record Queued : Type 0 where
+  pub kind : Kind
+  pub capacity : ℕ
+  pub senders : List ℕ
+
+abbrev pub queued : QueueSpec → Queued
+queued q = record { kind = q.kind; capacity = q.capacity; senders = q.senders.items }
+
+-- the senders among these that send to the queue of this number
+abbrev pub senders_to : List SenderSpec → ℕ → List ℕ
+senders_to senders q = map number_of (filter (λ (s : SenderSpec). s.queue == q) senders)
+
+abbrev pub queue_of : List SenderSpec → ℕ → Class → Option Queued
+queue_of senders q (queue kind capacity) = Some (record { kind = kind; capacity = capacity; senders = senders_to senders q })
+queue_of senders q class = None
+
+-- the queues among some elements, the first of which has this number
+abbrev pub queues_from : List SenderSpec → ℕ → List Planned → List Queued
+queues_from senders q [] = []
+queues_from senders q (e ∷ more) =
+    cons_option (queue_of senders q e.class) (queues_from senders (if is_queue e.class then q + 1 else q) more)
+
+-- the queues of a plan, by their numbers
+abbrev pub queues_of : List Planned → List Queued
+queues_of plan = queues_from (senders_of plan) 0 plan
+
+-- the numbers rise
+abbrev pub AreRising : List ℕ → Type 0
+AreRising [] = ⊤
+AreRising (n ∷ ns) = AllByRecursion (λ m. n < m) ns × AreRising ns
+
+-- a queue whose capacity is within the limits
+abbrev pub HasCapacity : Queued → Type 0
+HasCapacity q = (1 ≤ q.capacity) × (q.capacity ≤ most_capacity)
+
+-- a sender whose queue is one of so many
+abbrev pub SendsWithin : ℕ → SenderSpec → Type 0
+SendsWithin count s = s.queue < count
+
+-- What a plan keeps: some text denotes it, this element is connected to its device, and these are its queues and senders.
+pub record IsKept (plan : List Planned) (top : ℕ) (queues : List Queued) (senders : List SenderSpec) : Type 0 where
+  pub denoted : (text : List ℕ) × Denotes text plan
+  pub source : device_sources plan ≡ top ∷ []
+  pub queues_are : queues ≡ queues_of plan
+  pub senders_are : senders ≡ senders_of plan
