@@ -132,6 +132,36 @@ fn a_front_of_a_trace_is_one_or_has_a_bad_record(rt: HostRuntime) {
     }
 }
 
+/// Forty records of senders with small numbers, which take less time to read.
+const SMALL: &[u8] = b"0,1\n1,65535\n2,64\n3,1500\n4,9\n0,2\n0,3\n\"7\",\"8\"\n10,11\r\n12,13\n\
+    0,1\n1,65535\n2,64\n3,1500\n4,9\n0,2\n0,3\n\"7\",\"8\"\n10,11\r\n12,13\n\
+    0,1\n1,65535\n2,64\n3,1500\n4,9\n0,2\n0,3\n\"7\",\"8\"\n10,11\r\n12,13\n\
+    0,1\n1,65535\n2,64\n3,1500\n4,9\n0,2\n0,3\n\"7\",\"8\"\n10,11\r\n12,13";
+
+/// The bytes that are put in the place of each byte of a trace.
+const OTHERS: [u8; 8] = [b'x', b'9', b',', b'"', b'\n', b'\r', 200, 0];
+
+// A text in which the byte at a place is another.
+fn with_byte(alloc: Global, text: &[u8], place: usize, byte: u8) -> Result<Vec<u8>, AllocError> {
+    let mut altered = text.to_vec(alloc)?;
+    if let Some(old) = altered.get_mut(place) {
+        *old = byte;
+    }
+    Ok(altered)
+}
+
+#[test]
+fn a_trace_with_another_byte_is_one_or_has_a_bad_record(rt: HostRuntime) -> Result<(), Fail> {
+    for place in 0..SMALL.len() {
+        for byte in OTHERS {
+            let altered = with_byte(rt.alloc(), SMALL, place, byte)?;
+            let outcome = read(rt.alloc(), &altered);
+            assert!(rt; is_read_or_bad(outcome), "{byte} at {place}");
+        }
+    }
+    Ok(())
+}
+
 #[test]
 fn a_failing_reader_is_told(rt: HostRuntime) -> Result<(), Fail> {
     for limit in 0..=FORTY.len() {
