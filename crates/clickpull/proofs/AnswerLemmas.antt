@@ -10,11 +10,12 @@ use Rattle.clickpull.specs.declared.script.Command.{Command}
 use Rattle.clickpull.specs.declared.router.Router.{Router}
 use Rattle.clickpull.specs.declared.script.Line.{Line}
 use Rattle.clickpull.specs.declared.script.Line.TheVariants as line
-use Rattle.clickpull.specs.declared.setup.SenderSpec.{SenderSpec}
+use Rattle.clk_tree.specs.declared.plan.parts.SenderSpec.{SenderSpec}
+use Rattle.clk_tree.specs.PlanParts.{AreRising, SendsWithin}
 use Rattle.clickpull.specs.declared.senders.Sender.{Sender}
 use Rattle.clickpull.specs.Script.{lines_of, command_in, commands_of, drain_in, is_drain, closing_moment, command_fault, line_fault, fault_at, first_fault, script_fault, most_bytes, most_lines, most_moment}
-use Rattle.clickpull.specs.Meaning.{Setup, sender_numbers, Event, offered, pulled, command_of, number_from, moment_in, accepted_in, event_text, closing_text, ending_text, CanHappen, Writes, StopsShort, AreRising}
-use Rattle.clickpull.specs.Router.{SendsWithin, IsNumber, sender_after, IsAt, CanSend, IsReady, IsReadable, AnswersCommand, AnswersLine, AnswersDrain, StopsDrain, StopsScript}
+use Rattle.clickpull.specs.Meaning.{Setup, sender_numbers, Event, offered, pulled, command_of, number_from, moment_in, accepted_in, event_text, closing_text, ending_text, CanHappen, Writes, StopsShort}
+use Rattle.clickpull.specs.Router.{IsNumber, sender_after, IsAt, CanSend, IsReady, IsReadable, AnswersCommand, AnswersLine, AnswersDrain, StopsDrain, StopsScript}
 use Rattle.clickpull.proofs.SenderLemmas.{numbers-its}
 use Rattle.clickpull.proofs.ClosingLemmas.{its-latest}
 use Rattle.clickpull.proofs.ScriptLemmas.{readable-commands}

@@ -19,7 +19,8 @@ use Rattle.clk_sched.specs.Results.{emitted}
 use Rattle.clk_sched.specs.Bound.{closing_bound}
 use Rattle.clk_sched.specs.Session.{IsDrained, GivesAll, StopsShort as StopsSession, StopsAt, newly, latest_moment, counted_moment, tree_queue}
 use Rattle.clickpull.specs.declared.router.Router.{Router}
-use Rattle.clickpull.specs.declared.setup.SenderSpec.{SenderSpec}
+use Rattle.clk_tree.specs.declared.plan.parts.SenderSpec.{SenderSpec}
+use Rattle.clk_tree.specs.PlanParts.{number_of}
 use Rattle.clickpull.specs.Report.{report_text}
 use Rattle.clickpull.specs.Totals.{account_of}
 use Rattle.clickpull.specs.Meaning.{Setup, sender_numbers, Event, pulled, moment_in, pull_in, accepted_in, evicted_in, visits_in, log_of, at_queue, history, account_after, CanHappen, pulls_from, closing_pulls, given_text, closing_text, left_after, DrainsShort}
@@ -173,7 +174,7 @@ closing-lines setup done t (pull ∷ more) can below =
     later = let e = ap (fold max 0) (filter_map-append moment_in done (pulled t pull ∷ [])) ∙ fold-more 0 (filter_map moment_in done) t in omega (arith, e, below)
 
 -- the accounts of a router's senders
-accounts-its : (events : List Event) (specs : List SenderSpec) → map (account_of (filter_map evicted_in events) (emitted (log_of events))) (map (sender_after events) specs) ≡ map (account_after events) (map (λ (s : SenderSpec). s.number) specs)
+accounts-its : (events : List Event) (specs : List SenderSpec) → map (account_of (filter_map evicted_in events) (emitted (log_of events))) (map (sender_after events) specs) ≡ map (account_after events) (map number_of specs)
 accounts-its events [] = refl
 accounts-its events (spec ∷ specs) = ap (λ l. account_after events spec.number ∷ l) (accounts-its events specs)
 

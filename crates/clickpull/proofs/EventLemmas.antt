@@ -15,8 +15,7 @@ use Rattle.clk_sched.specs.Log.{pulls, moment_of, counted}
 use Rattle.clk_sched.specs.Run.{IsRun}
 use Rattle.clk_sched.specs.Results.{asks_queue}
 use Rattle.clk_sched.specs.Session.{latest_moment}
-use Rattle.clickpull.specs.declared.setup.QueueSpec.{QueueSpec}
-use Rattle.clickpull.specs.Meaning.{Setup, Event, offered, pulled, number_from, numbers_of, visits_in, pull_in, moment_in, log_of, at_queue, history, NamesItsOffer, CanHappen, pulls_from}
+use Rattle.clickpull.specs.Meaning.{Room, Setup, Event, offered, pulled, number_from, numbers_of, visits_in, pull_in, moment_in, log_of, at_queue, history, NamesItsOffer, CanHappen, pulls_from}
 
 -- the numbers from 0 on, and the next
 range-more : (n : ℕ) → range_with_len 0 (n + 1) ≡ range_with_len 0 n ++ n ∷ []
@@ -48,7 +47,7 @@ all-join P (x ∷ xs) ys h k = (h.0, all-join P xs ys h.1 k)
 
 -- an offer leads on
 pub CanHappen-offer : (setup : Setup) (events : List Event) (p : Packet) (outcome : Offered) → CanHappen setup events → p.number ≡ length (numbers_of p.sender events) → NamesOffer p outcome
-    → ((q : ℕ) → MatchOption (slice_get setup.queues q) ⊤ (λ (spec : QueueSpec). IsQueueHistory spec.kind spec.capacity (history setup q (events ++ offered p outcome ∷ []))))
+    → ((q : ℕ) → MatchOption (slice_get setup.queues q) ⊤ (λ (room : Room). IsQueueHistory room.kind room.capacity (history setup q (events ++ offered p outcome ∷ []))))
     → CanHappen setup (events ++ offered p outcome ∷ [])
 CanHappen-offer setup events p outcome can number names histories =
     let log = flat_map-append visits_in events (offered p outcome ∷ []) ∙ append-nil (log_of events) in
@@ -107,7 +106,7 @@ latest-moment setup events can =
 -- a pull of a session leads on
 pub CanHappen-pull : (setup : Setup) (events : List Event) (moment : ℕ) (visits : List Visit) → CanHappen setup events → IsRun setup.tree (log_of events ++ visits)
     → pulls (log_of events ++ visits) ≡ pulls (log_of events) ++ visits ∷ [] → moment_of visits ≡ max (latest_moment (reverse (pulls (log_of events)))) moment
-    → ((q : ℕ) → MatchOption (slice_get setup.queues q) ⊤ (λ (spec : QueueSpec). IsQueueHistory spec.kind spec.capacity (history setup q (events ++ pulled moment visits ∷ []))))
+    → ((q : ℕ) → MatchOption (slice_get setup.queues q) ⊤ (λ (room : Room). IsQueueHistory room.kind room.capacity (history setup q (events ++ pulled moment visits ∷ []))))
     → CanHappen setup (events ++ pulled moment visits ∷ [])
 CanHappen-pull setup events moment visits can run last at_moment histories =
     let log = log-pulled events moment visits in
@@ -171,7 +170,7 @@ counted-range before t (suc n) above =
 pub CanHappen-pulls : (setup : Setup) (events : List Event) (t : ℕ) (more : List (List Visit)) → CanHappen setup events → fold max 0 (filter_map moment_in events) ≤ t
     → IsRun setup.tree (log_of events ++ flat_map (λ pull. pull) more) → pulls (log_of events ++ flat_map (λ pull. pull) more) ≡ pulls (log_of events) ++ more
     → map moment_of more ≡ range_with_len t (length more)
-    → ((q : ℕ) → MatchOption (slice_get setup.queues q) ⊤ (λ (spec : QueueSpec). IsQueueHistory spec.kind spec.capacity (history setup q (events ++ pulls_from t more))))
+    → ((q : ℕ) → MatchOption (slice_get setup.queues q) ⊤ (λ (room : Room). IsQueueHistory room.kind room.capacity (history setup q (events ++ pulls_from t more))))
     → CanHappen setup (events ++ pulls_from t more)
 CanHappen-pulls setup events t more can above run last at_moments histories =
     record {

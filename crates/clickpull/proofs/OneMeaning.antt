@@ -18,12 +18,12 @@ use Rattle.clk_sched.specs.Log.{visits_of, result_of}
 use Rattle.clk_sched.specs.Session.{given_in, LastGives}
 use Rattle.clk_sched.specs.Results.{asks_queue}
 use Rattle.clk_sched.specs.Choice.{answers_of, GoAlike, PullsLeaveNoChoice}
-use Rattle.clickpull.specs.declared.setup.QueueSpec.{QueueSpec}
-use Rattle.clickpull.specs.declared.setup.SenderSpec.{SenderSpec}
-use Rattle.clickpull.specs.Meaning.{Setup, sender_numbers, Event, offered, pulled, command_of, number_from, numbers_of, pull_in, moment_in, log_of, sends_to, at_queue, history, NamesItsOffer, event_text, CanHappen, pulls_from, closing_pulls, closing_text, IsClosed, ending_text, Writes}
+use Rattle.clk_tree.specs.declared.plan.parts.SenderSpec.{SenderSpec}
+use Rattle.clk_tree.specs.PlanParts.{number_of}
+use Rattle.clickpull.specs.Meaning.{Room, Setup, sender_numbers, Event, offered, pulled, command_of, number_from, numbers_of, pull_in, moment_in, log_of, sends_to, at_queue, history, NamesItsOffer, event_text, CanHappen, pulls_from, closing_pulls, closing_text, IsClosed, ending_text, Writes}
 use Rattle.clickpull.specs.declared.script.Command.{Command}
 use Rattle.clickpull.specs.Script.{commands_of, closing_moment}
-use Rattle.clickpull.specs.Builtin.{builtin}
+use Rattle.clickpull.specs.Examples.{two_queues}
 use Rattle.clickpull.specs.Router.{IsSound}
 use Rattle.clickpull.specs.OneMeaning.{IsWired, HasAtMostOneMeaning}
 use Rattle.clickpull.proofs.Alike.{member-between, packet-same, pulls-alike, its-moment, number-at}
@@ -42,20 +42,20 @@ next-number s done p outcome more n e h =
 -- a known sender sends to a queue that is there
 record IsSentTo (setup : Setup) (s : ℕ) : Type 0 where
   queue : ℕ
-  spec : QueueSpec
+  room : Room
   sends : sends_to setup.senders s queue ≡ true
-  is_there : slice_get setup.queues queue ≡ Some spec
+  is_there : slice_get setup.queues queue ≡ Some room
 
-some-spec : (setup : Setup) (s q : ℕ) (o : Option QueueSpec) → slice_get setup.queues q ≡ o → IsSome o → sends_to setup.senders s q ≡ true → IsSentTo setup s
-some-spec setup s q None e h sends = absurd (false≢true h)
-some-spec setup s q (Some spec) e h sends = record { queue = q; spec = spec; sends = sends; is_there = e }
+some-room : (setup : Setup) (s q : ℕ) (o : Option Room) → slice_get setup.queues q ≡ o → IsSome o → sends_to setup.senders s q ≡ true → IsSentTo setup s
+some-room setup s q None e h sends = absurd (false≢true h)
+some-room setup s q (Some room) e h sends = record { queue = q; room = room; sends = sends; is_there = e }
 
 record SendsTo (setup : Setup) (senders : List SenderSpec) (s : ℕ) : Type 0 where
   queue : ℕ
   sends : sends_to senders s queue ≡ true
   is_there : IsSome (slice_get setup.queues queue)
 
-sends-somewhere : (setup : Setup) (senders : List SenderSpec) (s : ℕ) → list_any (λ n. n == s) (map (λ (x : SenderSpec). x.number) senders) ≡ true
+sends-somewhere : (setup : Setup) (senders : List SenderSpec) (s : ℕ) → list_any (λ n. n == s) (map number_of senders) ≡ true
     → AllByRecursion (λ (x : SenderSpec). IsSome (slice_get setup.queues x.queue)) senders → SendsTo setup senders s
 sends-somewhere setup [] s known h = absurd (false≢true known)
 sends-somewhere setup (x ∷ senders) s known h = by_number (x.number == s) refl known (λ k. sends-somewhere setup senders s k h.1)
@@ -67,8 +67,8 @@ sends-somewhere setup (x ∷ senders) s known h = by_number (x.number == s) refl
     or_true true = refl
     or_true false = refl
 
-    by_number : (b : Bool) → (x.number == s) ≡ b → (b || list_any (λ n. n == s) (map (λ (y : SenderSpec). y.number) senders)) ≡ true
-        → (list_any (λ n. n == s) (map (λ (y : SenderSpec). y.number) senders) ≡ true → SendsTo setup senders s) → SendsTo setup (x ∷ senders) s
+    by_number : (b : Bool) → (x.number == s) ≡ b → (b || list_any (λ n. n == s) (map number_of senders)) ≡ true
+        → (list_any (λ n. n == s) (map number_of senders) ≡ true → SendsTo setup senders s) → SendsTo setup (x ∷ senders) s
     by_number true e k rest = record { queue = x.queue; sends = rw (e, same) refl; is_there = h.0 }
     by_number false e k rest =
         let there = rest k in
@@ -77,29 +77,29 @@ sends-somewhere setup (x ∷ senders) s known h = by_number (x.number == s) refl
 sent-to : (setup : Setup) (s : ℕ) → IsWired setup → list_any (λ n. n == s) (sender_numbers setup) ≡ true → IsSentTo setup s
 sent-to setup s wired known =
     let there = sends-somewhere setup setup.senders s known wired.senders in
-    some-spec setup s there.queue (slice_get setup.queues there.queue) refl there.is_there there.sends
+    some-room setup s there.queue (slice_get setup.queues there.queue) refl there.is_there there.sends
 
 -- what happened to a queue, where an event stands between others
 history-between : (setup : Setup) (q : ℕ) (done : List Event) (e : Event) (more : List Event) → history setup q (done ++ e ∷ more) ≡ history setup q done ++ (at_queue setup q e ++ history setup q more)
 history-between setup q done e more = flat_map-append (at_queue setup q) done (e ∷ more)
 
-its-history : (setup : Setup) (q : ℕ) (spec : QueueSpec) (done : List Event) (e : Event) (more : List Event) → slice_get setup.queues q ≡ Some spec → CanHappen setup (done ++ e ∷ more)
-    → IsQueueHistory spec.kind spec.capacity (history setup q done ++ (at_queue setup q e ++ history setup q more))
-its-history setup q spec done e more is can =
-    subst (IsQueueHistory spec.kind spec.capacity) (history-between setup q done e more)
-    (subst (λ o. MatchOption o ⊤ (λ (x : QueueSpec). IsQueueHistory x.kind x.capacity (history setup q (done ++ e ∷ more)))) is (can.histories q))
+its-history : (setup : Setup) (q : ℕ) (room : Room) (done : List Event) (e : Event) (more : List Event) → slice_get setup.queues q ≡ Some room → CanHappen setup (done ++ e ∷ more)
+    → IsQueueHistory room.kind room.capacity (history setup q done ++ (at_queue setup q e ++ history setup q more))
+its-history setup q room done e more is can =
+    subst (IsQueueHistory room.kind room.capacity) (history-between setup q done e more)
+    (subst (λ o. MatchOption o ⊤ (λ (x : Room). IsQueueHistory x.kind x.capacity (history setup q (done ++ e ∷ more)))) is (can.histories q))
 
 -- an offer of the same packet ends the same way
 same-outcome : (setup : Setup) → IsWired setup → HistoriesLeaveNoChoice → (done : List Event) (p : Packet) (one other : Offered) (more rest : List Event)
     → list_any (λ n. n == p.sender) (sender_numbers setup) ≡ true → CanHappen setup (done ++ offered p one ∷ more) → CanHappen setup (done ++ offered p other ∷ rest) → one ≡ other
 same-outcome setup wired law done p one other more rest known a b =
     let to = sent-to setup p.sender wired known in
-    law.outcomes to.spec.kind to.spec.capacity (history setup to.queue done) p one other (history setup to.queue more) (history setup to.queue rest)
+    law.outcomes to.room.kind to.room.capacity (history setup to.queue done) p one other (history setup to.queue more) (history setup to.queue rest)
     (member-between NamesItsOffer done (offered p one) more a.refusals) (member-between NamesItsOffer done (offered p other) rest b.refusals)
-    (subst (λ es. IsQueueHistory to.spec.kind to.spec.capacity (history setup to.queue done ++ (es ++ history setup to.queue more))) (offers to one)
-    (its-history setup to.queue to.spec done (offered p one) more to.is_there a))
-    (subst (λ es. IsQueueHistory to.spec.kind to.spec.capacity (history setup to.queue done ++ (es ++ history setup to.queue rest))) (offers to other)
-    (its-history setup to.queue to.spec done (offered p other) rest to.is_there b))
+    (subst (λ es. IsQueueHistory to.room.kind to.room.capacity (history setup to.queue done ++ (es ++ history setup to.queue more))) (offers to one)
+    (its-history setup to.queue to.room done (offered p one) more to.is_there a))
+    (subst (λ es. IsQueueHistory to.room.kind to.room.capacity (history setup to.queue done ++ (es ++ history setup to.queue rest))) (offers to other)
+    (its-history setup to.queue to.room done (offered p other) rest to.is_there b))
   where
     offers : (to : IsSentTo setup p.sender) (outcome : Offered) → at_queue setup to.queue (offered p outcome) ≡ offer_events p outcome
     offers to outcome = rw to.sends refl
@@ -133,14 +133,14 @@ never-asked setup q wired is (v ∷ visits) = rw (asks v.fresh (queue_at setup.t
 -- a queue answers alike in two pulls after the same events
 queue-alike : (setup : Setup) → IsWired setup → HistoriesLeaveNoChoice → (done : List Event) (m k : ℕ) (v u : List Visit) (more rest : List Event) → CanHappen setup (done ++ pulled m v ∷ more)
     → CanHappen setup (done ++ pulled k u ∷ rest) → (q : ℕ) → GoAlike (answers_of setup.tree q v) (answers_of setup.tree q u)
-queue-alike setup wired law done m k v u more rest a b q = by_spec (slice_get setup.queues q) refl
+queue-alike setup wired law done m k v u more rest a b q = by_room (slice_get setup.queues q) refl
   where
-    by_spec : (o : Option QueueSpec) → slice_get setup.queues q ≡ o → GoAlike (answers_of setup.tree q v) (answers_of setup.tree q u)
-    by_spec None e = rw (never-asked setup q wired e v, never-asked setup q wired e u) (record { left = []; right = []; same = refl })
-    by_spec (Some spec) e =
-        pulls-alike law spec.kind spec.capacity (history setup q done) (answers_of setup.tree q v) (answers_of setup.tree q u) (history setup q more) (history setup q rest)
-        (subst (λ es. IsQueueHistory spec.kind spec.capacity (history setup q done ++ (es ++ history setup q more))) (pulled-events setup q m v) (its-history setup q spec done (pulled m v) more e a))
-        (subst (λ es. IsQueueHistory spec.kind spec.capacity (history setup q done ++ (es ++ history setup q rest))) (pulled-events setup q k u) (its-history setup q spec done (pulled k u) rest e b))
+    by_room : (o : Option Room) → slice_get setup.queues q ≡ o → GoAlike (answers_of setup.tree q v) (answers_of setup.tree q u)
+    by_room None e = rw (never-asked setup q wired e v, never-asked setup q wired e u) (record { left = []; right = []; same = refl })
+    by_room (Some room) e =
+        pulls-alike law room.kind room.capacity (history setup q done) (answers_of setup.tree q v) (answers_of setup.tree q u) (history setup q more) (history setup q rest)
+        (subst (λ es. IsQueueHistory room.kind room.capacity (history setup q done ++ (es ++ history setup q more))) (pulled-events setup q m v) (its-history setup q room done (pulled m v) more e a))
+        (subst (λ es. IsQueueHistory room.kind room.capacity (history setup q done ++ (es ++ history setup q rest))) (pulled-events setup q k u) (its-history setup q room done (pulled k u) rest e b))
 
 -- and so do two pulls
 same-visits : (setup : Setup) → IsWired setup → HistoriesLeaveNoChoice → PullsLeaveNoChoice setup.tree → (done : List Event) (m k : ℕ) (v u : List Visit) (more rest : List Event) → m ≡ k
@@ -247,11 +247,11 @@ pub has-one_meaning : (setup : Setup) → IsWired setup → HistoriesLeaveNoChoi
 has-one_meaning setup wired law runs script one other a b =
     same-writing setup wired law runs (commands_of script) (each-command-sound (sender_numbers setup) script a.sound) (closing_moment script) one other a.written b.written
 
--- the queues of the built-in router are there
-pub builtin-wired : IsWired builtin
-builtin-wired = record { senders = (refl, (refl, tt)); leaves = λ x input. is_there ((1 == x) && (0 == input)) ((1 == x) && (1 == input)) }
+-- the queues of the examples are there
+pub two_queues-wired : IsWired two_queues
+two_queues-wired = record { senders = (refl, (refl, tt)); leaves = λ x input. is_there ((1 == x) && (0 == input)) ((1 == x) && (1 == input)) }
   where
-    is_there : (b c : Bool) → IfSome (option_or (if b then Some 0 else (if c then Some 1 else None)) None) (λ q. IsSome (slice_get builtin.queues q))
+    is_there : (b c : Bool) → IfSome (option_or (if b then Some 0 else (if c then Some 1 else None)) None) (λ q. IsSome (slice_get two_queues.queues q))
     is_there true c = refl
     is_there false true = refl
     is_there false false = tt

@@ -8,51 +8,51 @@ use Rattle.std.proofs.lemmas.Cmp.{ranked}
 use Rattle.std.proofs.lemmas.List.Sorted.{IsNonDecreasingBy-from_default}
 use Rattle.std.proofs.lemmas.Option.{slice_get-get_or}
 use Rattle.std.proofs.lemmas.Bool.Decides.{nat_tests}
+use Rattle.clk_tree.specs.PlanParts.{AreRising}
 use Rattle.clickpull.specs.declared.senders.Sender.{Sender}
-use Rattle.clickpull.specs.Meaning.{AreRising}
-use Rattle.clickpull.specs.Router.{number_of, IsNumber, IsPlaceOf}
+use Rattle.clickpull.specs.Router.{sender_number, IsNumber, IsPlaceOf}
 
 -- a sender that isn't there
 abbrev nobody : Sender
 nobody = record { number = 0; queue = 0; sent = 0; accepted = []; refused = [] }
 
 abbrev number_at : List Sender → ℕ → ℕ
-number_at senders i = number_of (get_or senders i nobody)
+number_at senders i = sender_number (get_or senders i nobody)
 
-below-at : (n : ℕ) (senders : List Sender) (j : ℕ) → AllByRecursion (λ m. n < m) (map number_of senders) → j < length senders → n ≤ number_at senders j
+below-at : (n : ℕ) (senders : List Sender) (j : ℕ) → AllByRecursion (λ m. n < m) (map sender_number senders) → j < length senders → n ≤ number_at senders j
 below-at n [] j above within = absurd (omega arith)
 below-at n (s ∷ senders) zero above within = let first = above.0 in omega arith
 below-at n (s ∷ senders) (suc j) above within = below-at n senders j above.1 (omega arith)
 
-numbers-rise : (senders : List Sender) (i j : ℕ) → AreRising (map number_of senders) → i ≤ j → j < length senders → number_at senders i ≤ number_at senders j
+numbers-rise : (senders : List Sender) (i j : ℕ) → AreRising (map sender_number senders) → i ≤ j → j < length senders → number_at senders i ≤ number_at senders j
 numbers-rise [] i j rising le within = absurd (omega arith)
 numbers-rise (s ∷ senders) zero zero rising le within = omega arith
 numbers-rise (s ∷ senders) zero (suc j) rising le within = below-at s.number senders j rising.0 (omega arith)
 numbers-rise (s ∷ senders) (suc i) zero rising le within = absurd (omega arith)
 numbers-rise (s ∷ senders) (suc i) (suc j) rising le within = numbers-rise senders i j rising.1 (omega arith) (omega arith)
 
-none-has : (senders : List Sender) (n : ℕ) → ((k : ℕ) → k < length senders → number_at senders k ≢ n) → list_any (λ s. s == n) (map number_of senders) ≡ false
+none-has : (senders : List Sender) (n : ℕ) → ((k : ℕ) → k < length senders → number_at senders k ≢ n) → list_any (λ s. s == n) (map sender_number senders) ≡ false
 none-has [] n differ = refl
 none-has (s ∷ senders) n differ =
     let first = differ 0 (omega arith) in
     let other : (s.number == n) ≡ false = grind (arith, nat_tests) in
     rw other (none-has senders n (λ k within. differ (suc k) (omega arith)))
 
-pub known-at : (senders : List Sender) (n place : ℕ) → IsNumber n (slice_get senders place) → list_any (λ s. s == n) (map number_of senders) ≡ true
+pub known-at : (senders : List Sender) (n place : ℕ) → IsNumber n (slice_get senders place) → list_any (λ s. s == n) (map sender_number senders) ≡ true
 known-at [] n place is = absurd is
 known-at (s ∷ senders) n zero is = let same : (s.number == n) ≡ true = grind (arith, nat_tests) in rw same refl
 known-at (s ∷ senders) n (suc place) is = by_first (s.number == n) (known-at senders n place is)
   where
-    by_first : (b : Bool) → list_any (λ x. x == n) (map number_of senders) ≡ true → (b || list_any (λ x. x == n) (map number_of senders)) ≡ true
+    by_first : (b : Bool) → list_any (λ x. x == n) (map sender_number senders) ≡ true → (b || list_any (λ x. x == n) (map sender_number senders)) ≡ true
     by_first true e = refl
     by_first false e = e
 
 -- what a binary search says
 pub record IsSearched (senders : List Sender) (n : ℕ) (o : Option ℕ) : Type 0 where
   pub found : IfSome o (IsPlaceOf senders n)
-  pub missing : o ≡ None → list_any (λ s. s == n) (map number_of senders) ≡ false
+  pub missing : o ≡ None → list_any (λ s. s == n) (map sender_number senders) ≡ false
 
-module _ (senders : List Sender) (n : ℕ) (rising : AreRising (map number_of senders)) where
+module _ (senders : List Sender) (n : ℕ) (rising : AreRising (map sender_number senders)) where
   comparisons-rise : IsNonDecreasingBy (λ (s : Sender). ordering_index (nat_cmp s.number n)) senders
   comparisons-rise = IsNonDecreasingBy-from_default (λ (s : Sender). ordering_index (nat_cmp s.number n)) senders nobody (λ i j le within.
       let rise = numbers-rise senders i j rising le within in

@@ -1,5 +1,5 @@
 -- How a script's meaning and its faults follow from those of its first bytes.
-use Rattle.std.proofs.Common.{◌+◌, ◌≡◌, ◌≢◌, ℕ, ◌==◌, ◌||◌, Bool, true, false, nat_lt, List, [], ◌∷◌, length, take, Option, Some, None, Ok, Err, refl, sym, ap, subst, ◌∙◌, ◌⊎◌, inl, inr, IfSome, arith}
+use Rattle.std.proofs.Common.{◌+◌, ◌≡◌, ◌≢◌, ℕ, ◌==◌, ◌||◌, Bool, true, false, nat_lt, List, [], ◌∷◌, length, take, Option, Some, None, Err, refl, sym, ap, subst, ◌∙◌, ◌⊎◌, inl, inr, IfSome, arith}
 use Rattle.std.specs.Bool.{⊤}
 use Rattle.std.specs.List.{list_any}
 use Rattle.std.proofs.lemmas.Bool.Decides.{nat_tests}
@@ -12,11 +12,8 @@ use Rattle.clickpull.specs.declared.script.Line.{Line}
 use Rattle.clickpull.specs.declared.script.Line.TheVariants as line
 use Rattle.clickpull.specs.Script.{most_lines, command_fault, line_fault, fault_at, is_drain, first_fault, lines_of, script_fault, commands_of, closing_moment, most_bytes}
 use Rattle.clk_packet.specs.Bytes.{read_failures, write_failures}
-use Rattle.clk_sched.specs.Tree.{queue, prio}
-use Rattle.clk_sched.specs.Built.{built}
 use Rattle.clickpull.specs.Meaning.{Setup, Writes, IsMeaning, CannotClose, Explains, sender_numbers}
 use Rattle.clickpull.specs.Router.{StopsScript}
-use Rattle.clickpull.specs.Builtin.{builtin}
 
 -- one byte past the limit is enough to tell what is wrong
 fault-cut : (senders all : List ℕ) → script_fault senders (take (most_bytes + 1) all) ≡ script_fault senders all
@@ -145,8 +142,3 @@ refused-by setup known bytes fault is (inr (inr short)) = by_stop setup known by
 pub IsRefusal-script : (over setup : Setup) → over ≡ setup → (known : Option (List ℕ)) (bytes : List ℕ) (fault : Fault) → IfSome known (λ all. bytes ≡ take (most_bytes + 1) all)
     → Refuses over bytes fault → IsRefusal setup known fault
 IsRefusal-script over setup same known bytes fault is why = refused-by setup known bytes fault is (subst (λ (s : Setup). Refuses s bytes fault) same why)
-
--- the built-in tree as it is built
-pub tree-built : built prio (queue 0 ∷ queue 1 ∷ []) ≡ Ok builtin.tree
-unfolding built
-tree-built = refl

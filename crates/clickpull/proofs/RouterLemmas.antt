@@ -1,8 +1,8 @@
 -- How a router goes on by one event.
-use Rattle.std.proofs.Common.{◌≡◌, ℕ, ◌+◌, ◌==◌, ◌&&◌, suc, Bool, true, false, List, [], ◌∷◌, ◌++◌, length, map, reverse, max, set, if◌then◌else◌, Option, Some, None, Result, Ok, Err, IfOk, OnOk, MatchOption, slice_get, refl, sym, ap, ap₂, ◌∙◌, subst, arith}
+use Rattle.std.proofs.Common.{◌≡◌, ℕ, ◌+◌, ◌<◌, ◌==◌, ◌&&◌, zero, suc, Bool, true, false, List, [], ◌∷◌, ◌++◌, length, map, reverse, max, set, if◌then◌else◌, Option, Some, None, Result, Ok, Err, IfOk, OnOk, MatchOption, slice_get, get_or, refl, sym, ap, ap₂, ◌∙◌, subst, arith}
 use Rattle.std.specs.Bool.{⊤}
 use Rattle.std.specs.Option.{option_map}
-use Rattle.std.specs.List.{filter_map, cons_option}
+use Rattle.std.specs.List.{AllByRecursion, filter_map, cons_option}
 use Rattle.std.proofs.lemmas.List.{append_assoc, append-nil, length-append}
 use Rattle.std.proofs.lemmas.List.Concat.{flat_map-append}
 use Rattle.std.proofs.lemmas.List.Elements.{filter_map-append}
@@ -21,13 +21,14 @@ use Rattle.clk_sched.specs.Run.{IsRun}
 use Rattle.clk_sched.specs.Results.{asks_queue}
 use Rattle.clk_sched.specs.Places.{Answers, at_queue as at_asked}
 use Rattle.clk_sched.specs.Session.{IsPulledOnce, newly, latest_moment, tree_queue}
-use Rattle.clickpull.specs.declared.setup.QueueSpec.{QueueSpec}
-use Rattle.clickpull.specs.declared.setup.SenderSpec.{SenderSpec}
+use Rattle.clk_tree.specs.declared.plan.parts.QueueSpec.{QueueSpec}
+use Rattle.clk_tree.specs.declared.plan.parts.SenderSpec.{SenderSpec}
+use Rattle.clk_tree.specs.PlanParts.{Queued, queued, AreRising, HasCapacity, number_of}
 use Rattle.clickpull.specs.declared.senders.Sender.{Sender}
 use Rattle.clickpull.specs.declared.queues.Queues.{Queues}
 use Rattle.clickpull.specs.declared.router.Router.{Router}
-use Rattle.clickpull.specs.Meaning.{Setup, setup_of, Event, offered, pulled, numbers_of, accepted_in, evicted_in, visits_in, log_of, sends_to, at_queue, history, AreRising}
-use Rattle.clickpull.specs.Router.{queue_made, queue_spec, sender_made, sender_spec, sent_one_more, noted, spec_number, numbers_in, OffersTo, PullsFrom, OffersAt, GivesAt, AreQueuesAt, IsAt, Starts, Counts, LeadsOnByPull}
+use Rattle.clickpull.specs.Meaning.{Room, Setup, room_of, setup_of, Event, offered, pulled, numbers_of, accepted_in, evicted_in, visits_in, log_of, sends_to, at_queue, history}
+use Rattle.clickpull.specs.Router.{queue_made, queue_room, sender_made, sender_spec, sent_one_more, noted, numbers_in, OffersTo, PullsFrom, OffersAt, GivesAt, AreQueuesAt, IsAt, Starts, Counts, LeadsOnByPull}
 use Rattle.clickpull.proofs.EventLemmas.{CanHappen-offer, CanHappen-pull, log-pulled}
 use Rattle.clickpull.proofs.SenderLemmas.{senders-pulled, senders-sent, sends-its, numbers-its, IsSpecAt, spec-at}
 
@@ -57,31 +58,31 @@ names-at (Some old) None p outcome h = absurd h
 names-at (Some old) (Some new) p outcome h = names-offer old new p outcome h
 
 -- the queue at a place goes on by an offer, and by a pull
-at-offered : CallsAreHistory → (events : List QueueEvent) (spec : Option QueueSpec) (old new : Option Queue) (p : Packet) (outcome : Offered) → AreQueuesAt events spec old → OffersTo p outcome old new
-    → AreQueuesAt (events ++ offer_events p outcome) spec new
-at-offered calls events spec None new p outcome is h = absurd h
-at-offered calls events spec (Some old) None p outcome is h = absurd h
+at-offered : CallsAreHistory → (events : List QueueEvent) (room : Option Room) (old new : Option Queue) (p : Packet) (outcome : Offered) → AreQueuesAt events room old → OffersTo p outcome old new
+    → AreQueuesAt (events ++ offer_events p outcome) room new
+at-offered calls events room None new p outcome is h = absurd h
+at-offered calls events room (Some old) None p outcome is h = absurd h
 at-offered calls events None (Some old) (Some new) p outcome is h = absurd is
-at-offered calls events (Some spec) (Some old) (Some new) p outcome is h =
+at-offered calls events (Some room) (Some old) (Some new) p outcome is h =
     let keeps = offered-keeps old new p outcome h in
     record { leads = calls.offered events old new p outcome is.leads h; kind = keeps.0 ∙ is.kind; capacity = keeps.1 ∙ is.capacity }
 
-at-pulled : CallsAreHistory → (events : List QueueEvent) (spec : Option QueueSpec) (old new : Option Queue) (got : Option Packet) → AreQueuesAt events spec old → PullsFrom got old new
-    → AreQueuesAt (events ++ pull_event got ∷ []) spec new
+at-pulled : CallsAreHistory → (events : List QueueEvent) (room : Option Room) (old new : Option Queue) (got : Option Packet) → AreQueuesAt events room old → PullsFrom got old new
+    → AreQueuesAt (events ++ pull_event got ∷ []) room new
 at-pulled calls events None None None got is h = tt
 at-pulled calls events None None (Some new) got is h = absurd (subst (λ (o : Option Queue). MatchOption o ⊤ (λ q. ⊥)) (sym h.1) tt)
-at-pulled calls events (Some spec) None new got is h = absurd is
-at-pulled calls events spec (Some old) None got is h = absurd h
+at-pulled calls events (Some room) None new got is h = absurd is
+at-pulled calls events room (Some old) None got is h = absurd h
 at-pulled calls events None (Some old) (Some new) got is h = absurd is
-at-pulled calls events (Some spec) (Some old) (Some new) got is h =
+at-pulled calls events (Some room) (Some old) (Some new) got is h =
     let keeps = pulled-keeps old new got h in
     record { leads = calls.pulled events old new got is.leads h; kind = keeps.0 ∙ is.kind; capacity = keeps.1 ∙ is.capacity }
 
 -- what a queue has been through, as the setup says it
-pub its-history : (events : List QueueEvent) (spec : Option QueueSpec) (q : Option Queue) → AreQueuesAt events spec q → MatchOption spec ⊤ (λ (s : QueueSpec). IsQueueHistory s.kind s.capacity events)
+pub its-history : (events : List QueueEvent) (room : Option Room) (q : Option Queue) → AreQueuesAt events room q → MatchOption room ⊤ (λ (s : Room). IsQueueHistory s.kind s.capacity events)
 its-history events None q is = tt
-its-history events (Some spec) None is = absurd is
-its-history events (Some spec) (Some q) is = subst (λ k. IsQueueHistory k spec.capacity events) is.kind (subst (λ n. IsQueueHistory q.kind n events) is.capacity is.leads.whole)
+its-history events (Some room) None is = absurd is
+its-history events (Some room) (Some q) is = subst (λ k. IsQueueHistory k room.capacity events) is.kind (subst (λ n. IsQueueHistory q.kind n events) is.capacity is.leads.whole)
 
 -- these histories lead to these queues, which are those of a setup
 pub record StandAt (setup : Setup) (events : ℕ → List QueueEvent) (queues : List Queue) : Type 0 where
@@ -190,7 +191,7 @@ IsAt-sent calls setup events old mid new place s p outcome at rising here number
     its_number : p.sender ≡ theirs.spec.number
     its_number = sender ∙ ap (λ (t : Sender). t.number) theirs.is
 
-    its_rising : AreRising (map spec_number setup.senders)
+    its_rising : AreRising (map number_of setup.senders)
     its_rising = subst AreRising (numbers-its setup events old at) rising
 
     sends : (q : ℕ) → sends_to setup.senders p.sender q ≡ (s.queue == q)
@@ -256,31 +257,31 @@ IsAt-pulled calls setup events old new moment got at once answers senders accept
     queues q = subst (λ l. AreQueuesAt l (slice_get setup.queues q) (slice_get new.queues.rings.items q)) (sym (history-with setup q events (pulled moment visits))) (answered.each q)
 
 -- what was asked for is what was made
-specs-made : (specs : List QueueSpec) → map queue_spec (map queue_made specs) ≡ specs
-specs-made [] = refl
-specs-made (spec ∷ specs) = ap (λ l. spec ∷ l) (specs-made specs)
+rooms-made : (queues : List Queued) → map queue_room (map queue_made queues) ≡ map room_of queues
+rooms-made [] = refl
+rooms-made (q ∷ queues) = ap (λ l. room_of q ∷ l) (rooms-made queues)
 
 senders-made : (specs : List SenderSpec) → map sender_spec (map sender_made specs) ≡ specs
 senders-made [] = refl
 senders-made (spec ∷ specs) = ap (λ l. spec ∷ l) (senders-made specs)
 
-length-made : (specs : List QueueSpec) → length (map queue_made specs) ≡ length specs
+length-made : (queues : List Queued) → length (map queue_made queues) ≡ length (map room_of queues)
 length-made [] = refl
-length-made (spec ∷ specs) = ap suc (length-made specs)
+length-made (q ∷ queues) = ap suc (length-made queues)
 
 -- A router to which nothing has happened.
-pub Starts-made : CallsAreHistory → (tree : Tree) (queues : List QueueSpec) (senders : List SenderSpec) (router : Router) → IsRun tree [] → router.session.tree ≡ tree → router.session.log ≡ []
+pub Starts-made : CallsAreHistory → (tree : Tree) (queues : List Queued) (senders : List SenderSpec) (router : Router) → IsRun tree [] → router.session.tree ≡ tree → router.session.log ≡ []
     → router.queues.rings.items ≡ map queue_made queues → router.senders.items ≡ map sender_made senders → router.accepted ≡ 0 → router.evicted ≡ [] → Starts (setup_of tree queues senders) router
 Starts-made calls tree queues senders router run tree_is log_is queues_are senders_are accepted evicted =
     record {
       over =
           λ i. record {
             tree = tree_is i;
-            queues = (ap (map queue_spec) queues_are ∙ specs-made queues) i;
+            queues = (ap (map queue_room) queues_are ∙ rooms-made queues) i;
             senders = (ap (map sender_spec) senders_are ∙ senders-made senders) i;
           };
       leads = record {
-        can_happen = record { numbered = λ s. refl; run = run; pull_by_pull = refl; moments = refl; refusals = tt; histories = λ q. its-history [] (slice_get queues q) (slice_get router.queues.rings.items q) (each q) };
+        can_happen = record { numbered = λ s. refl; run = run; pull_by_pull = refl; moments = refl; refusals = tt; histories = λ q. its-history [] (slice_get (map room_of queues) q) (slice_get router.queues.rings.items q) (each q) };
         senders = senders_are;
         queues = each;
         count = ap length queues_are ∙ length-made queues;
@@ -291,12 +292,20 @@ Starts-made calls tree queues senders router run tree_is log_is queues_are sende
       };
     }
   where
-    first : (o : Option QueueSpec) → AreQueuesAt [] o (option_map queue_made o)
+    first : (o : Option Queued) → AreQueuesAt [] (option_map room_of o) (option_map queue_made o)
     first None = tt
-    first (Some spec) = record { leads = calls.made spec.kind spec.capacity; kind = refl; capacity = refl }
+    first (Some q) = record { leads = calls.made q.kind q.capacity; kind = refl; capacity = refl }
 
-    each : (q : ℕ) → AreQueuesAt [] (slice_get queues q) (slice_get router.queues.rings.items q)
-    each q = subst (AreQueuesAt [] (slice_get queues q)) (sym (ap (λ rings. slice_get rings q) queues_are ∙ slice_get-map queue_made queues q)) (first (slice_get queues q))
+    each : (q : ℕ) → AreQueuesAt [] (slice_get (map room_of queues) q) (slice_get router.queues.rings.items q)
+    each q =
+        subst (λ o. AreQueuesAt [] o (slice_get router.queues.rings.items q)) (sym (slice_get-map room_of queues q))
+        (subst (AreQueuesAt [] (option_map room_of (slice_get queues q))) (sym (ap (λ rings. slice_get rings q) queues_are ∙ slice_get-map queue_made queues q)) (first (slice_get queues q)))
+
+-- the capacity of one of some queues is within the limits
+pub capacity-at : (specs : List QueueSpec) (i : ℕ) (spec : QueueSpec) → AllByRecursion HasCapacity (map queued specs) → i < length specs → spec ≡ get_or specs i spec → HasCapacity (queued spec)
+capacity-at [] i spec all within is = absurd (omega arith)
+capacity-at (s ∷ specs) zero spec all within is = subst (λ (q : QueueSpec). HasCapacity (queued q)) (sym is) all.0
+capacity-at (s ∷ specs) (suc i) spec all within is = capacity-at specs i spec all.1 (omega arith) is
 
 -- what follows from two facts of a success
 pub both-ok : {T E : Type 0} {P R : T → Type 0} {Q : Type 0} (r : Result T E) → ((x : T) → P x → Q → R x) → IfOk r P → OnOk r Q → IfOk r R

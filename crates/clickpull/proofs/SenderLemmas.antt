@@ -8,12 +8,13 @@ use Rattle.clk_packet.specs.declared.packet.Packet.{Packet}
 use Rattle.clk_packet.specs.declared.packet.Offered.{Offered}
 use Rattle.clk_packet.specs.declared.packet.Offered.TheVariants.{Accepted, Refused, Evicted}
 use Rattle.clk_sched.specs.declared.visit.Visit.{Visit}
-use Rattle.clickpull.specs.declared.setup.SenderSpec.{SenderSpec}
+use Rattle.clk_tree.specs.declared.plan.parts.SenderSpec.{SenderSpec}
+use Rattle.clk_tree.specs.PlanParts.{AreRising, number_of}
 use Rattle.clickpull.specs.declared.senders.Sender.{Sender}
 use Rattle.clickpull.specs.declared.router.Router.{Router}
 use Rattle.clickpull.specs.Report.{packets_from}
-use Rattle.clickpull.specs.Meaning.{Setup, sender_numbers, Event, offered, pulled, number_from, numbers_of, accepted_in, refused_in, sends_to, AreRising, pulls_from}
-use Rattle.clickpull.specs.Router.{sent_one_more, noted, spec_number, number_of, numbers_in, sender_after, IsAt}
+use Rattle.clickpull.specs.Meaning.{Setup, sender_numbers, Event, offered, pulled, number_from, numbers_of, accepted_in, refused_in, sends_to, pulls_from}
+use Rattle.clickpull.specs.Router.{sent_one_more, noted, sender_number, numbers_in, sender_after, IsAt}
 use Rattle.clickpull.proofs.EventLemmas.{pulls-add_none}
 
 -- how many packets a sender has offered, with one of its own, of another, or with a pull
@@ -98,7 +99,7 @@ senders-closed events t more (spec ∷ specs) =
     (senders-closed events t more specs)
 
 -- senders of greater numbers are others
-senders-other : (events : List Event) (p : Packet) (outcome : Offered) (specs : List SenderSpec) → AllByRecursion (λ m. p.sender < m) (map spec_number specs)
+senders-other : (events : List Event) (p : Packet) (outcome : Offered) (specs : List SenderSpec) → AllByRecursion (λ m. p.sender < m) (map number_of specs)
     → map (sender_after events) specs ≡ map (sender_after (events ++ offered p outcome ∷ [])) specs
 senders-other events p outcome [] greater = refl
 senders-other events p outcome (spec ∷ specs) greater =
@@ -107,19 +108,19 @@ senders-other events p outcome (spec ∷ specs) greater =
     ap₂ (λ (s : Sender) ss. s ∷ ss) (sym (sender-other events p outcome spec other)) (senders-other events p outcome specs greater.1)
 
 -- what holds of each number holds of the one at a place
-at-place : (P : ℕ → Type 0) (specs : List SenderSpec) (i : ℕ) (spec : SenderSpec) → AllByRecursion P (map spec_number specs) → slice_get specs i ≡ Some spec → P spec.number
+at-place : (P : ℕ → Type 0) (specs : List SenderSpec) (i : ℕ) (spec : SenderSpec) → AllByRecursion P (map number_of specs) → slice_get specs i ≡ Some spec → P spec.number
 at-place P [] i spec all e = absurd (cc)
 at-place P (s ∷ specs) zero spec all e = let same : s ≡ spec = cc in subst (λ (t : SenderSpec). P t.number) same all.0
 at-place P (s ∷ specs) (suc i) spec all e = at-place P specs i spec all.1 e
 
 -- the senders after an offer of the one at a place
-pub senders-sent : (events : List Event) (p : Packet) (outcome : Offered) (specs : List SenderSpec) (i : ℕ) (spec : SenderSpec) → AreRising (map spec_number specs) → slice_get specs i ≡ Some spec
+pub senders-sent : (events : List Event) (p : Packet) (outcome : Offered) (specs : List SenderSpec) (i : ℕ) (spec : SenderSpec) → AreRising (map number_of specs) → slice_get specs i ≡ Some spec
     → p.sender ≡ spec.number → set (map (sender_after events) specs) i (noted p outcome (sent_one_more (sender_after events spec))) ≡ map (sender_after (events ++ offered p outcome ∷ [])) specs
 senders-sent events p outcome [] i spec rising e theirs = absurd (cc)
 senders-sent events p outcome (s ∷ specs) zero spec rising e theirs =
     let same : s ≡ spec = cc in
     let mine : (p.sender == spec.number) ≡ true = grind (arith, nat_tests) in
-    let greater : AllByRecursion (λ m. p.sender < m) (map spec_number specs) = subst (λ n. AllByRecursion (λ m. n < m) (map spec_number specs)) (ap (λ (t : SenderSpec). t.number) same ∙ sym theirs) rising.0 in
+    let greater : AllByRecursion (λ m. p.sender < m) (map number_of specs) = subst (λ n. AllByRecursion (λ m. n < m) (map number_of specs)) (ap (λ (t : SenderSpec). t.number) same ∙ sym theirs) rising.0 in
     ap₂ (λ (t : Sender) ss. t ∷ ss) (sym (sender-own events p outcome spec mine) ∙ ap (sender_after (events ++ offered p outcome ∷ [])) (sym same))
     (senders-other events p outcome specs greater)
 senders-sent events p outcome (s ∷ specs) (suc i) spec rising e theirs =
@@ -128,7 +129,7 @@ senders-sent events p outcome (s ∷ specs) (suc i) spec rising e theirs =
     ap₂ (λ (t : Sender) ss. t ∷ ss) (sym (sender-other events p outcome s other)) (senders-sent events p outcome specs i spec rising.1 e theirs)
 
 -- no sender of greater number sends for this one
-none-sends : (n q : ℕ) (specs : List SenderSpec) → AllByRecursion (λ m. n < m) (map spec_number specs) → sends_to specs n q ≡ false
+none-sends : (n q : ℕ) (specs : List SenderSpec) → AllByRecursion (λ m. n < m) (map number_of specs) → sends_to specs n q ≡ false
 none-sends n q [] greater = refl
 none-sends n q (s ∷ specs) greater =
     let above = greater.0 in
@@ -136,7 +137,7 @@ none-sends n q (s ∷ specs) greater =
     rw other (none-sends n q specs greater.1)
 
 -- a sender sends to its own queue alone
-pub sends-its : (q : ℕ) (specs : List SenderSpec) (i : ℕ) (spec : SenderSpec) → AreRising (map spec_number specs) → slice_get specs i ≡ Some spec → sends_to specs spec.number q ≡ (spec.queue == q)
+pub sends-its : (q : ℕ) (specs : List SenderSpec) (i : ℕ) (spec : SenderSpec) → AreRising (map number_of specs) → slice_get specs i ≡ Some spec → sends_to specs spec.number q ≡ (spec.queue == q)
 sends-its q [] i spec rising e = absurd (cc)
 sends-its q (s ∷ specs) zero spec rising e =
     let same : s ≡ spec = cc in
@@ -156,12 +157,12 @@ sends-its q (s ∷ specs) (suc i) spec rising e =
     rw other (sends-its q specs i spec rising.1 e)
 
 -- the numbers of a router's senders
-map-numbers : (events : List Event) (specs : List SenderSpec) → map number_of (map (sender_after events) specs) ≡ map spec_number specs
+map-numbers : (events : List Event) (specs : List SenderSpec) → map sender_number (map (sender_after events) specs) ≡ map number_of specs
 map-numbers events [] = refl
 map-numbers events (spec ∷ specs) = ap (λ l. spec.number ∷ l) (map-numbers events specs)
 
 pub numbers-its : (setup : Setup) (events : List Event) (router : Router) → IsAt setup events router → numbers_in router ≡ sender_numbers setup
-numbers-its setup events router at = ap (map number_of) at.senders ∙ map-numbers events setup.senders
+numbers-its setup events router at = ap (map sender_number) at.senders ∙ map-numbers events setup.senders
 
 -- the sender at a place, as the setup has it
 pub record IsSpecAt (events : List Event) (specs : List SenderSpec) (i : ℕ) (s : Sender) : Type 0 where

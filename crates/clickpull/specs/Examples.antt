@@ -6,7 +6,7 @@ use Rattle.clk_packet.specs.declared.packet.Kind.TheVariants.{TailDrop}
 use Rattle.clk_packet.specs.declared.packet.Offered.TheVariants.{Accepted, Refused}
 use Rattle.clk_packet.specs.Packets.{packet}
 use Rattle.clk_sched.specs.declared.visit.Visit.{Visit}
-use Rattle.clk_sched.specs.Tree.{scheduler, shaper, leaf, end}
+use Rattle.clk_sched.specs.Tree.{scheduler, prio, shaper, leaf, end}
 use Rattle.clk_sched.specs.Log.{asking}
 use Rattle.clickpull.specs.Meaning.{Setup, Event, offered, pulled}
 
@@ -18,6 +18,14 @@ p0_1 = packet 0 1 100 (lit≤ tt) (lit≤ tt)
 
 abbrev p1_0 : Packet
 p1_0 = packet 1 0 50 (lit≤ tt) (lit≤ tt)
+
+-- two queues of two packets below a PrioSched, each with a sender of its own
+abbrev pub two_queues : Setup
+two_queues = record {
+  tree = scheduler prio (leaf 0 (leaf 1 end));
+  queues = record { kind = TailDrop; capacity = 2 } ∷ record { kind = TailDrop; capacity = 2 } ∷ [];
+  senders = record { number = 0; queue = 0 } ∷ record { number = 1; queue = 1 } ∷ [];
+}
 
 -- a Queue of one packet below a Shaper of rate 1 and burst 1
 abbrev pub shaped : Setup
@@ -36,7 +44,7 @@ moment_not_counted =
 abbrev pub moment_ahead : List Event
 moment_ahead = pulled 3 (asking 0 4 1 0 None ∷ asking 0 4 0 0 None ∷ []) ∷ []
 
--- Over the built-in router: the second queue is asked first.
+-- Over `two_queues`: the second queue is asked first.
 abbrev pub second_first : List Event
 second_first = offered p1_0 Accepted ∷ pulled 0 (asking 0 0 1 1 (Some p1_0) ∷ asking 0 0 0 0 (Some p1_0) ∷ []) ∷ []
 

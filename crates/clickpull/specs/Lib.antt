@@ -2,7 +2,6 @@
 pub mod Script
 pub mod Report
 pub mod Meaning
-pub mod Builtin
 pub mod Fields
 pub mod Router
 pub mod Totals

@@ -2,37 +2,51 @@
 use Rattle.std.specs.Prelude.{◌≡◌, ℕ, ◌+◌, ◌-◌, ◌<◌, ◌⊎◌, List, [], ◌∷◌, ◌++◌, length, map, fold, max, ◌==◌, ◌&&◌, Bool, if◌then◌else◌, Option, Some, None, MatchOption, IfSome, ⊤, codes, decimal, slice_get}
 use Rattle.std.specs.List.{flat_map, filter_map, range_with_len, list_any, AllByRecursion}
 use Rattle.clk_packet.specs.declared.packet.Packet.{Packet}
+use Rattle.clk_packet.specs.declared.packet.Kind.{Kind}
 use Rattle.clk_packet.specs.declared.packet.Offered.{Offered}
 use Rattle.clk_packet.specs.declared.packet.Offered.TheVariants.{Accepted, Refused, Evicted}
 use Rattle.clk_packet.specs.declared.fault.Fault.{Fault}
 use Rattle.clk_packet.specs.declared.fault.Fault.TheVariants.{Memory, UnknownSender, BadScript, TooManyPulls, TooLarge, Read, Write}
-use Rattle.clickpull.specs.declared.setup.QueueSpec.{QueueSpec}
-use Rattle.clickpull.specs.declared.setup.SenderSpec.{SenderSpec}
 use Rattle.clickpull.specs.declared.script.Command.{Command}
 use Rattle.clickpull.specs.declared.script.Command.TheVariants.{Send, Pull}
 use Rattle.clk_sched.specs.declared.visit.Visit.{Visit}
 use Rattle.clk_ring.specs.QueueHistory.{QueueEvent, offer_events, pull_event, NamesOffer, IsQueueHistory}
-use Rattle.clk_sched.specs.Tree.{Tree, root}
-use Rattle.clk_sched.specs.Limits.{most_elements}
-use Rattle.clk_sched.specs.Session.{elements, given_in, LastGives}
+use Rattle.clk_sched.specs.Tree.{Tree}
+use Rattle.clk_sched.specs.Session.{given_in, LastGives}
 use Rattle.clk_sched.specs.Bound.{closing_bound}
 use Rattle.clk_sched.specs.Log.{visits_of, pulls, moment_of, counted, result_of}
 use Rattle.clk_sched.specs.Run.{IsRun}
 use Rattle.clk_sched.specs.Results.{asks_queue, emitted}
+use Rattle.clk_tree.specs.declared.plan.parts.SenderSpec.{SenderSpec}
+use Rattle.clk_tree.specs.Plan.{Planned}
+use Rattle.clk_tree.specs.PlanTree.{IsTreeOf}
+use Rattle.clk_tree.specs.PlanParts.{Queued, queues_of, senders_of, number_of}
 use Rattle.clickpull.specs.Script.{script_fault, commands_of, closing_moment}
 use Rattle.clickpull.specs.Report.{packets_from, Account, report_text}
+
+-- what a script needs to know of a queue: what becomes of a packet that arrives when it is full, and how many it holds at most
+pub record Room : Type 0 where
+  pub kind : Kind
+  pub capacity : ℕ
+
+abbrev pub room_of : Queued → Room
+room_of q = record { kind = q.kind; capacity = q.capacity }
 
 -- what a script runs over: a tree over queues, which senders send to
 pub record Setup : Type 0 where
   pub tree : Tree
-  pub queues : List QueueSpec
+  pub queues : List Room
   pub senders : List SenderSpec
 
-abbrev pub setup_of : Tree → List QueueSpec → List SenderSpec → Setup
-setup_of tree queues senders = record { tree = tree; queues = queues; senders = senders }
+abbrev pub setup_of : Tree → List Queued → List SenderSpec → Setup
+setup_of tree queues senders = record { tree = tree; queues = map room_of queues; senders = senders }
+
+-- the setup of a plan with its tree
+abbrev pub plan_setup : Tree → List Planned → Setup
+plan_setup tree plan = setup_of tree (queues_of plan) (senders_of plan)
 
 abbrev pub sender_numbers : Setup → List ℕ
-sender_numbers setup = map (λ (s : SenderSpec). s.number) setup.senders
+sender_numbers setup = map number_of setup.senders
 
 -- What a command made happen: a packet was offered, with this outcome; or the device was pulled, at the moment that was
 -- handed in, with these visits.
@@ -150,7 +164,7 @@ pub record CanHappen (setup : Setup) (events : List Event) : Type 0 where
   pub pull_by_pull : pulls (log_of events) ≡ filter_map pull_in events
   pub moments : map moment_of (filter_map pull_in events) ≡ counted 0 (filter_map moment_in events)
   pub refusals : AllByRecursion NamesItsOffer events
-  pub histories : (q : ℕ) → MatchOption (slice_get setup.queues q) ⊤ (λ spec. IsQueueHistory spec.kind spec.capacity (history setup q events))
+  pub histories : (q : ℕ) → MatchOption (slice_get setup.queues q) ⊤ (λ room. IsQueueHistory room.kind room.capacity (history setup q events))
 
 -- pulls one tick apart, the first at this moment
 abbrev pub pulls_from : ℕ → List (List Visit) → List Event
@@ -234,17 +248,12 @@ Explains setup script (UnknownSender sender) = IfSome script (λ bytes. script_f
 Explains setup script (TooManyPulls made) = IfSome script (λ bytes. CannotClose setup bytes made)
 Explains setup script fault = ⊥
 
--- the numbers rise
-abbrev pub AreRising : List ℕ → Type 0
-AreRising [] = ⊤
-AreRising (n ∷ ns) = AllByRecursion (λ m. n < m) ns × AreRising ns
+-- The text is the meaning of the script over a plan: it is its meaning over the setup that the plan is, with its tree.
+pub record MeansOver (plan : List Planned) (script text : List ℕ) : Type 0 where
+  pub tree : Tree
+  pub is : IsTreeOf plan tree
+  pub means : IsMeaning (plan_setup tree plan) script text
 
--- Why a router over a tree cannot be made: memory may run out, and the tree may be too large for a session.
-abbrev pub CannotStart : Tree → Fault → Type 0
-CannotStart tree Memory = ⊤
-CannotStart tree TooLarge = most_elements < 1 + elements (root tree)
-CannotStart tree fault = ⊥
-
--- Why running a script over a setup is refused with a fault: its tree is too large, or as above.
-abbrev pub ExplainsOver : Setup → Option (List ℕ) → Fault → Type 0
-ExplainsOver setup script fault = CannotStart setup.tree fault ⊎ Explains setup script fault
+-- Why running a script over a plan is refused with a fault: memory ran out, or as above over the setup that the plan is.
+abbrev pub ExplainsPlan : List Planned → Option (List ℕ) → Fault → Type 0
+ExplainsPlan plan script fault = (fault ≡ Memory) ⊎ ((tree : Tree) × IsTreeOf plan tree × Explains (plan_setup tree plan) script fault)

@@ -2,7 +2,7 @@
 use Rattle.std.specs.Prelude.{◌≡◌, ℕ, List, IsSome, IfSome, slice_get}
 use Rattle.std.specs.List.{AllByRecursion}
 use Rattle.clk_sched.specs.Tree.{queue_at}
-use Rattle.clickpull.specs.declared.setup.SenderSpec.{SenderSpec}
+use Rattle.clk_tree.specs.declared.plan.parts.SenderSpec.{SenderSpec}
 use Rattle.clickpull.specs.Meaning.{Setup, IsMeaning}
 
 -- Each sender of a setup sends to a queue that is there, and each queue of its tree is there.

@@ -3,7 +3,6 @@ use Rattle.std.specs.Prelude.{◌≡◌, ℕ, ◌+◌, ◌<◌, ◌≤◌, ◌^�
 use Rattle.std.specs.List.{list_any, filter_map, flat_map, cons_option, AllByRecursion}
 use Rattle.clk_packet.specs.declared.packet.Packet.{Packet}
 use Rattle.clk_packet.specs.declared.packet.Offered.{Offered}
-use Rattle.clk_packet.specs.Limits.{most_capacity}
 use Rattle.clk_packet.specs.declared.fault.Fault.{Fault}
 use Rattle.clk_packet.specs.declared.fault.Fault.TheVariants.{TooManyPulls}
 use Rattle.clk_ring.specs.Queue.{Queue, empty_queue, IsOffered, IsPulled}
@@ -14,33 +13,22 @@ use Rattle.clickpull.specs.declared.script.Command.{Command}
 use Rattle.clickpull.specs.declared.script.Command.TheVariants.{Send, Pull}
 use Rattle.clickpull.specs.declared.script.Line.{Line}
 use Rattle.clickpull.specs.declared.script.Line.TheVariants as line
-use Rattle.clickpull.specs.declared.setup.QueueSpec.{QueueSpec}
-use Rattle.clickpull.specs.declared.setup.SenderSpec.{SenderSpec}
+use Rattle.clk_tree.specs.declared.plan.parts.SenderSpec.{SenderSpec}
+use Rattle.clk_tree.specs.PlanParts.{Queued, AreRising, SendsWithin}
 use Rattle.clickpull.specs.declared.senders.Sender.{Sender}
 use Rattle.clickpull.specs.declared.router.Router.{Router}
 use Rattle.clk_sched.specs.Log.{visits_of, result_of}
 use Rattle.clk_sched.specs.Session.{counted_moment}
 use Rattle.clickpull.specs.Script.{most_lines, most_moment}
 use Rattle.clickpull.specs.Report.{packets_from}
-use Rattle.clickpull.specs.Meaning.{Setup, Event, offered, pulled, command_of, event_text, CanHappen, numbers_of, accepted_in, refused_in, evicted_in, history, log_of, AreRising, sender_numbers, given_text, closing_text, ending_text, Closes, DrainsShort, CannotClose}
-
--- a capacity within the limits
-abbrev pub HasCapacity : QueueSpec → Type 0
-HasCapacity spec = (1 ≤ spec.capacity) × (spec.capacity ≤ most_capacity)
-
-abbrev pub spec_number : SenderSpec → ℕ
-spec_number spec = spec.number
-
--- the queue of a sender is one of so many
-abbrev pub SendsWithin : ℕ → SenderSpec → Type 0
-SendsWithin count spec = spec.queue < count
+use Rattle.clickpull.specs.Meaning.{Room, Setup, Event, offered, pulled, command_of, event_text, CanHappen, numbers_of, accepted_in, refused_in, evicted_in, history, log_of, sender_numbers, given_text, closing_text, ending_text, Closes, DrainsShort, CannotClose}
 
 -- a queue and a sender as they are made, and what was asked for
-abbrev pub queue_made : QueueSpec → Queue
-queue_made spec = empty_queue spec.kind spec.capacity
+abbrev pub queue_made : Queued → Queue
+queue_made q = empty_queue q.kind q.capacity
 
-abbrev pub queue_spec : Queue → QueueSpec
-queue_spec q = record { kind = q.kind; capacity = q.capacity }
+abbrev pub queue_room : Queue → Room
+queue_room q = record { kind = q.kind; capacity = q.capacity }
 
 abbrev pub sender_made : SenderSpec → Sender
 sender_made spec = record { number = spec.number; queue = spec.queue; sent = 0; accepted = []; refused = [] }
@@ -61,11 +49,11 @@ noted p outcome s = record {
   refused = s.refused ++ cons_option (refused_in (offered p outcome)) [];
 }
 
-abbrev pub number_of : Sender → ℕ
-number_of s = s.number
+abbrev pub sender_number : Sender → ℕ
+sender_number s = s.number
 
 abbrev pub numbers_in : Router → List ℕ
-numbers_in router = map number_of router.senders.items
+numbers_in router = map sender_number router.senders.items
 
 abbrev pub IsNumber : ℕ → Option Sender → Type 0
 IsNumber number None = ⊥
@@ -111,16 +99,16 @@ pub record GivesAt (old : List Queue) (number : ℕ) (got : Option Packet) (new 
   pub only : ChangesOnly old number new
 
 -- These events lead to this queue, which is as it was asked for.
-pub record IsQueueAt (events : List QueueEvent) (spec : QueueSpec) (q : Queue) : Type 0 where
+pub record IsQueueAt (events : List QueueEvent) (room : Room) (q : Queue) : Type 0 where
   pub leads : LeadsTo events q
-  pub kind : q.kind ≡ spec.kind
-  pub capacity : q.capacity ≡ spec.capacity
+  pub kind : q.kind ≡ room.kind
+  pub capacity : q.capacity ≡ room.capacity
 
-abbrev pub AreQueuesAt : List QueueEvent → Option QueueSpec → Option Queue → Type 0
+abbrev pub AreQueuesAt : List QueueEvent → Option Room → Option Queue → Type 0
 AreQueuesAt events None None = ⊤
 AreQueuesAt events None (Some q) = ⊥
-AreQueuesAt events (Some spec) None = ⊥
-AreQueuesAt events (Some spec) (Some q) = IsQueueAt events spec q
+AreQueuesAt events (Some room) None = ⊥
+AreQueuesAt events (Some room) (Some q) = IsQueueAt events room q
 
 -- a sender after some events
 abbrev pub sender_after : List Event → SenderSpec → Sender
@@ -147,7 +135,7 @@ pub record IsAt (setup : Setup) (events : List Event) (router : Router) : Type 0
 abbrev pub setup_at : Router → Setup
 setup_at router = record {
   tree = router.session.tree;
-  queues = map queue_spec router.queues.rings.items;
+  queues = map queue_room router.queues.rings.items;
   senders = map sender_spec router.senders.items;
 }
 

@@ -2,9 +2,12 @@
 #![tactic(auto)]
 
 mod answer;
+mod builtin;
 mod closing;
+mod command;
 mod faults;
 mod fields;
+mod files;
 mod laws;
 mod queues;
 mod report;
@@ -12,29 +15,52 @@ mod router;
 mod run;
 mod script;
 mod senders;
-mod setup;
 mod text;
+mod words;
 
-use clk_packet::{FromRead, ToWrite};
+use clk_packet::{Fault, FromRead, Sink, ToWrite, write_all};
+pub use command::command;
 pub use faults::fault_line;
 pub use laws::{
     closing_examples, script_examples, scripts_have_at_most_one_meaning, word_examples,
 };
-pub use run::{run_builtin, run_parts};
-pub use setup::{QueueSpec, SenderSpec};
-use std::io;
+pub use run::run_script;
 use std::process::ExitCode;
+use std::rt::{Env, Runtime};
+use std::sync::Wait;
+use std::{env, io};
 
 fn main(rt: HostRuntime) -> ExitCode {
-    let mut reader = FromRead::new(rt.reader());
-    let mut writer = ToWrite::new(io::writer(&rt));
-    match run_builtin(rt.alloc(), &mut reader, &mut writer) {
-        Ok(()) => ExitCode::SUCCESS,
+    let mut errors = ToWrite::new(rt.stderr());
+    match run_words(&rt, &mut errors) {
+        Ok(status) => ExitCode::from(status),
         Err(fault) => {
-            let mut errors = ToWrite::new(rt.stderr());
             let _ = fault_line(fault, &mut errors);
             ExitCode::FAILURE
         }
+    }
+}
+
+/// Does what the words of the program ask for, and answers the status that it ends with.
+fn run_words<H: Runtime + AllocGlobal + Wait, E: Sink>(
+    rt: &H,
+    errors: &mut E,
+) -> Result<u8, Fault> {
+    let Some(words) = words_given(rt)? else {
+        write_all(errors, b"error: a word is not UTF-8\n")?;
+        return Ok(2);
+    };
+    let mut reader = FromRead::new(rt.reader());
+    let mut writer = ToWrite::new(io::writer(rt));
+    command(rt, rt, words, &mut reader, &mut writer, errors)
+}
+
+/// The words after the program's name, or None where a word isn't UTF-8. Fault 1 where memory is refused.
+fn words_given<H: Env + AllocGlobal>(rt: &H) -> Result<Option<Vec<String>>, Fault> {
+    match env::args(rt) {
+        Ok(words) => Ok(Some(words.skip(1).collect(rt.alloc())?)),
+        Err(error) if error.kind() == io::ErrorKind::OutOfMemory => Err(Fault::Memory),
+        Err(_) => Ok(None),
     }
 }
 

@@ -3,12 +3,13 @@
 ghost use Rattle.std.specs.Prelude.{◌≡◌, ◌≤◌, ◌<◌, length, map, nat_lt, IfOk, IsOkUnless};
 ghost use Rattle.std.specs.List.{AllByRecursion};
 ghost use Rattle.clk_packet.specs.declared.fault.Fault.TheVariants.{Memory};
-ghost use Rattle.clickpull.specs.Router.{HasCapacity, queue_made, OffersAt, GivesAt};
+ghost use Rattle.clk_tree.specs.PlanParts.{queued, HasCapacity};
+ghost use Rattle.clickpull.specs.Router.{queue_made, OffersAt, GivesAt};
 
-use crate::setup::QueueSpec;
 use clk_packet::{Fault, Offered, Packet};
 use clk_ring::Ring;
 use clk_sched::Ask;
+use clk_tree::QueueSpec;
 use std::alloc::Global;
 
 /// The queues, by number.
@@ -18,10 +19,10 @@ pub struct Queues {
 }
 
 impl Queues {
-    /// Empty queues of these kinds and capacities. Fault 1 where memory is refused.
+    /// Empty queues of the kinds and capacities of these. Fault 1 where memory is refused.
     pub fn new(alloc: Global, specs: &[QueueSpec]) -> Result<Queues, Fault>
-        requires capacities { AllByRecursion HasCapacity specs.now }
-        ensures made { IfOk result (λ queues. queues.rings.items ≡ map queue_made specs.now) }
+        requires capacities { AllByRecursion HasCapacity (map queued specs.now) }
+        ensures made { IfOk result (λ queues. queues.rings.items ≡ map queue_made (map queued specs.now)) }
         ensures fault { IsOkUnless result Fault.Memory }
     {
         let mut rings = Vec::new(alloc);

@@ -2,10 +2,10 @@
 
 use crate::queues::Queues;
 use crate::senders::{Sender, place_of, senders_of};
-use crate::setup::{QueueSpec, SenderSpec};
 use clk_packet::{Fault, Offered, Packet, Packets};
 use clk_ring::calls_are_history;
 use clk_sched::{Session, Tree, Visit, runs_go_on};
+use clk_tree::{QueueSpec, SenderSpec};
 use std::alloc::Global;
 
 /// The router, and all that it has done.
@@ -23,21 +23,20 @@ pub struct Router {
 }
 
 impl Router {
-    ghost use Rattle.std.specs.Prelude.{◌≡◌, ◌+◌, ◌^◌, ◌<◌, ◌≤◌, ◌==◌, ◌++◌, ◌∷◌, ◌⊎◌, [], true, false, None, length, IfOk, IfErr, OnOk, IfSome, IsOkUnless};
+    ghost use Rattle.std.specs.Prelude.{◌≡◌, ◌+◌, ◌^◌, ◌<◌, ◌≤◌, ◌==◌, ◌++◌, ◌∷◌, ◌⊎◌, [], true, false, None, map, length, IfOk, IfErr, OnOk, IfSome, IsOkUnless};
     ghost use Rattle.std.specs.List.{AllByRecursion, list_any};
     ghost use Rattle.clk_packet.specs.declared.packet.Packet.{Packet};
     ghost use Rattle.clk_packet.specs.declared.fault.Fault.TheVariants.{Memory};
-    ghost use Rattle.clk_sched.specs.Tree.{leaves_distinct};
+    ghost use Rattle.clk_sched.specs.Tree.{root, leaves_distinct};
+    ghost use Rattle.clk_sched.specs.Session.{elements};
+    ghost use Rattle.clk_sched.specs.Limits.{most_elements};
     ghost use Rattle.clk_sched.specs.Results.{emitted};
+    ghost use Rattle.clk_tree.specs.PlanParts.{queued, HasCapacity};
     ghost use Rattle.clickpull.specs.Script.{most_lines, most_moment};
-    ghost use Rattle.clickpull.specs.Meaning.{Setup, Event, offered, setup_of, CannotStart};
-    ghost use Rattle.clickpull.specs.Router.{HasCapacity, numbers_in, IsPlace, IsPlaceOf, IsSentFrom, IsReady, IsAt, Starts, Counts, LeadsOnByPull, LeadsOnByClosing, StopsDrain};
+    ghost use Rattle.clickpull.specs.Meaning.{Setup, Event, offered, setup_of};
+    ghost use Rattle.clickpull.specs.Router.{numbers_in, IsPlace, IsPlaceOf, IsSentFrom, IsReady, IsAt, Starts, Counts, LeadsOnByPull, LeadsOnByClosing, StopsDrain};
 
-    /// The router over these parts before anything has happened.
-    ///
-    /// # Errors
-    ///
-    /// Fault 1 where memory is refused, and fault 18 for a tree of more than 256 nodes and queues, the device counted.
+    /// The router over these parts before anything has happened. Fault 1 where memory is refused.
     pub fn new(
         alloc: Global,
         tree: Tree,
@@ -45,9 +44,10 @@ impl Router {
         senders: &[SenderSpec],
     ) -> Result<Router, Fault>
         requires distinct { leaves_distinct tree ≡ true }
-        requires capacities { AllByRecursion HasCapacity queues.now }
-        ensures made { IfOk result (Starts (setup_of tree queues.now senders.now)) }
-        ensures fault { IfErr result (CannotStart tree) }
+        requires fits { 1 + elements (root tree) ≤ most_elements }
+        requires capacities { AllByRecursion HasCapacity (map queued queues.now) }
+        ensures made { IfOk result (Starts (setup_of tree (map queued queues.now) senders.now)) }
+        ensures fault { IsOkUnless result Fault.Memory }
     {
         // The empty log is a run, and the queues lead on from here, by these laws, which do nothing.
         runs_go_on();

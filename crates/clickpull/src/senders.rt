@@ -3,11 +3,11 @@
 ghost use Rattle.std.specs.Prelude.{◌≡◌, ◌≤◌, ◌+◌, ◌<◌, ◌^◌, ◌==◌, false, None, map, IfSome, IfOk, OnOk, IsOkUnless};
 ghost use Rattle.std.specs.List.{list_any};
 ghost use Rattle.clk_packet.specs.declared.fault.Fault.TheVariants.{Memory};
-ghost use Rattle.clickpull.specs.Meaning.{AreRising};
-ghost use Rattle.clickpull.specs.Router.{sender_made, sent_one_more, noted, number_of, IsPlaceOf};
+ghost use Rattle.clk_tree.specs.PlanParts.{AreRising};
+ghost use Rattle.clickpull.specs.Router.{sender_made, sent_one_more, noted, sender_number, IsPlaceOf};
 
-use crate::setup::SenderSpec;
 use clk_packet::{Fault, Offered, Packet, Packets};
+use clk_tree::SenderSpec;
 use std::alloc::Global;
 
 /// A sender, and what it has sent.
@@ -76,9 +76,9 @@ pub fn senders_of(alloc: Global, specs: &[SenderSpec]) -> Result<Vec<Sender>, Fa
 
 /// The place of a sender among these, whose numbers rise, if it is one of them.
 pub fn place_of(senders: &[Sender], number: u16) -> Option<usize>
-    requires rising { AreRising (map number_of senders.now) }
+    requires rising { AreRising (map sender_number senders.now) }
     ensures found { IfSome result (IsPlaceOf senders.now number) }
-    ensures missing { result ≡ None → list_any (λ s. s == number) (map number_of senders.now) ≡ false }
+    ensures missing { result ≡ None → list_any (λ s. s == number) (map sender_number senders.now) ≡ false }
 {
     // Numbers without gaps are places.
     let place = usize::from(number);

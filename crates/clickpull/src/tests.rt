@@ -1,7 +1,9 @@
 //! What scripts write, and what they are refused for.
 
 mod closing;
+mod command;
 mod deficit;
+mod examples;
 mod failures;
 mod fault_lines;
 mod in_order;
@@ -12,31 +14,19 @@ mod shaper;
 mod stride;
 mod trees;
 
-use crate::run_builtin;
-use clk_packet::{FailingSink, FailingSource, Fault};
+use clk_packet::Fault;
+use row::run_within;
 use std::alloc::{AllocError, Global};
 use std::test::Fail;
+use trees::PRIO_OVER_ROOM_FOR_TWO;
 
 /// How many bytes a writer takes that isn't meant to fail.
 const AMPLE: usize = 4096;
 
-// How a run ends, and what it wrote, where the reader fails once it has given `limit` bytes, and the writer once it
-// has taken `room` bytes.
-fn answer_within(
-    alloc: Global,
-    script: Vec<u8>,
-    limit: usize,
-    room: usize,
-) -> Result<(Result<(), Fault>, Vec<u8>), AllocError> {
-    let mut reader = FailingSource::new(script, limit);
-    let mut writer = FailingSink::new(vec![in alloc; 0; room]?);
-    let outcome = run_builtin(alloc, &mut reader, &mut writer);
-    Ok((outcome, writer.taken().to_vec(alloc)?))
-}
-
-// The same where neither fails.
+// How a run of a script over two queues of two packets below a PrioSched ends, and what it wrote.
 fn answer(alloc: Global, script: &[u8]) -> Result<(Result<(), Fault>, Vec<u8>), AllocError> {
-    answer_within(alloc, script.to_vec(alloc)?, usize::MAX, AMPLE)
+    let script = script.to_vec(alloc)?;
+    run_within(alloc, PRIO_OVER_ROOM_FOR_TWO, script, usize::MAX, AMPLE)
 }
 
 /// Scripts, and what each writes.

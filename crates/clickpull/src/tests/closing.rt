@@ -1,42 +1,40 @@
 //! The last line of a script, which closes the router.
 
-use super::row::{FIRST_TO_0, assert_over_one, assert_over_two, assert_refused, assert_writes};
-use super::trees::{drr_over_one, prio_over_one, prio_over_two};
-use crate::{QueueSpec, SenderSpec};
-use clk_packet::{Fault, Kind};
-use clk_sched::Tree;
+use super::AMPLE;
+use super::row::assert_writes;
+use super::trees::{DRR_500_OVER_ONE, ONE, PRIO_OVER_ONE, PRIO_OVER_TWO, SHARED_BY_FIRST_AND_LAST};
+use crate::run::run_parts;
+use clk_packet::{FailingSink, FailingSource, Fault};
+use clk_tree::Plan;
+use std::test::Fail;
 
 #[test]
 fn a_report_has_each_sender(rt: HostRuntime) {
-    let tree = prio_over_two(rt.alloc());
     let script = "drain 5\n";
     let expected = "sender 0: sent 0 0, accepted 0 0, refused 0 0, evicted 0 0, emitted 0 0\n\
         sender 1: sent 0 0, accepted 0 0, refused 0 0, evicted 0 0, emitted 0 0\n";
-    assert_over_two(&rt, rt.alloc(), tree, script, expected);
+    assert_writes(&rt, rt.alloc(), PRIO_OVER_TWO, script, expected);
 }
 
 #[test]
 fn blank_lines_may_come_after_a_drain(rt: HostRuntime) {
-    let tree = prio_over_one(rt.alloc());
     let script = "drain 0\n\n \t \r\n\t";
     let expected = "sender 0: sent 0 0, accepted 0 0, refused 0 0, evicted 0 0, emitted 0 0\n";
-    assert_over_one(&rt, rt.alloc(), tree, script, expected);
+    assert_writes(&rt, rt.alloc(), PRIO_OVER_ONE, script, expected);
 }
 
 #[test]
 fn a_drain_may_vary_as_other_lines_do(rt: HostRuntime) {
-    let tree = prio_over_one(rt.alloc());
     let script = "send 0 10\r\n\t drain \t 0000001099511627775 ";
     let expected = "0#0 10 accepted\n\
         pull 1099511627776: 0#0 10\n\
         sender 0: sent 1 10, accepted 1 10, refused 0 0, evicted 0 0, emitted 1 10\n";
-    assert_over_one(&rt, rt.alloc(), tree, script, expected);
+    assert_writes(&rt, rt.alloc(), PRIO_OVER_ONE, script, expected);
 }
 
 // The earlier moment of the second pull changes nothing.
 #[test]
 fn a_closing_starts_after_the_greatest_moment_so_far(rt: HostRuntime) {
-    let tree = Ok(Tree::leaf(0));
     let script = "send 0 10\nsend 0 20\nsend 0 30\nsend 0 40\npull 7\npull 2\ndrain 3\n";
     let expected = "0#0 10 accepted\n\
         0#1 20 accepted\n\
@@ -47,12 +45,11 @@ fn a_closing_starts_after_the_greatest_moment_so_far(rt: HostRuntime) {
         pull 8: 0#2 30\n\
         pull 9: 0#3 40\n\
         sender 0: sent 4 100, accepted 4 100, refused 0 0, evicted 0 0, emitted 4 100\n";
-    assert_over_one(&rt, rt.alloc(), tree, script, expected);
+    assert_writes(&rt, rt.alloc(), ONE, script, expected);
 }
 
 #[test]
 fn a_closing_starts_after_its_own_moment_where_that_is_later(rt: HostRuntime) {
-    let tree = prio_over_two(rt.alloc());
     let script = "send 1 65535\nsend 0 20\nsend 1 30\npull 7\ndrain 9\n";
     let expected = "1#0 65535 accepted\n\
         0#0 20 accepted\n\
@@ -62,23 +59,11 @@ fn a_closing_starts_after_its_own_moment_where_that_is_later(rt: HostRuntime) {
         pull 11: 1#1 30\n\
         sender 0: sent 1 20, accepted 1 20, refused 0 0, evicted 0 0, emitted 1 20\n\
         sender 1: sent 2 65565, accepted 2 65565, refused 0 0, evicted 0 0, emitted 2 65565\n";
-    assert_over_two(&rt, rt.alloc(), tree, script, expected);
+    assert_writes(&rt, rt.alloc(), PRIO_OVER_TWO, script, expected);
 }
 
 #[test]
 fn a_report_goes_by_the_numbers_of_senders(rt: HostRuntime) {
-    let tree = Ok(Tree::leaf(0));
-    let queues = [QueueSpec {
-        kind: Kind::TailDrop,
-        capacity: 2,
-    }];
-    let senders = [
-        FIRST_TO_0,
-        SenderSpec {
-            number: 65_535,
-            queue: 0,
-        },
-    ];
     let script = "send 65535 10\nsend 0 20\nsend 65535 30\nsend 65535 40\ndrain 0\n";
     let expected = "65535#0 10 accepted\n\
         0#0 20 accepted\n\
@@ -88,13 +73,29 @@ fn a_report_goes_by_the_numbers_of_senders(rt: HostRuntime) {
         pull 2: 0#0 20\n\
         sender 0: sent 1 20, accepted 1 20, refused 0 0, evicted 0 0, emitted 1 20\n\
         sender 65535: sent 3 80, accepted 1 10, refused 2 70, evicted 0 0, emitted 1 10\n";
-    assert_writes(&rt, rt.alloc(), tree, &queues, &senders, script, expected);
+    assert_writes(&rt, rt.alloc(), SHARED_BY_FIRST_AND_LAST, script, expected);
 }
 
-// Queue 1 isn't in the tree. One packet is given 266 pulls: 133 for quantum 500, at each of two levels.
+// Queue 1 isn't in the tree, as it is in that of a plan. One packet is given 266 pulls: 133 for quantum 500, at each of two levels.
 #[test]
-fn a_packet_that_cannot_come_out_stops_a_closing(rt: HostRuntime) {
-    let tree = drr_over_one(rt.alloc(), 500);
-    let expected = Fault::TooManyPulls { pulls: 266 };
-    assert_refused(&rt, rt.alloc(), tree, "send 1 10\ndrain 0\n", expected);
+fn a_packet_that_cannot_come_out_stops_a_closing(rt: HostRuntime) -> Result<(), Fail> {
+    let alloc = rt.alloc();
+    let over_one = Plan::read(alloc, DRR_500_OVER_ONE.as_bytes()).expect(&rt, "a tree");
+    let over_two = Plan::read(alloc, PRIO_OVER_TWO.as_bytes()).expect(&rt, "a tree");
+    let tree = over_one.tree(alloc).expect(&rt, "ample memory");
+    let mut reader = FailingSource::new(b"send 1 10\ndrain 0\n".to_vec(alloc)?, usize::MAX);
+    let mut writer = FailingSink::new(vec![in alloc; 0; AMPLE]?);
+    assert_eq!(rt;
+        run_parts(
+            alloc,
+            &mut reader,
+            &mut writer,
+            tree,
+            over_two.queues(),
+            over_two.senders()
+        ),
+        Err(Fault::TooManyPulls { pulls: 266 })
+    );
+    assert!(rt; writer.taken().is_empty());
+    Ok(())
 }

@@ -1,11 +1,10 @@
 //! Inputs with quanta, and heads.
 
-use super::row::{assert_over_one, assert_over_two};
-use super::trees::{drr_over_drr, drr_over_one, drr_over_two};
+use super::row::assert_writes;
+use super::trees::{DRR_1_OVER_ONE, DRR_500_OVER_ONE, DRR_500_OVER_TWO, DRR_OVER_DRR};
 
 #[test]
 fn a_head_waits_for_its_deficit(rt: HostRuntime) {
-    let tree = drr_over_two(rt.alloc(), 500);
     let script = "send 0 600\nsend 1 200\nsend 1 200\npull 0\npull 0\npull 0\nsend 0 401\npull 0\n\
         pull 0\n";
     let expected = "0#0 600 accepted\n\
@@ -17,49 +16,45 @@ fn a_head_waits_for_its_deficit(rt: HostRuntime) {
         0#1 401 accepted\n\
         pull 0: none\n\
         pull 0: 0#1 401\n";
-    assert_over_two(&rt, rt.alloc(), tree, script, expected);
+    assert_writes(&rt, rt.alloc(), DRR_500_OVER_TWO, script, expected);
 }
 
 #[test]
 fn a_second_pull_covers_a_head(rt: HostRuntime) {
-    let tree = drr_over_one(rt.alloc(), 500);
     let script = "send 0 1000\npull 0\npull 0\n";
     let expected = "0#0 1000 accepted\n\
         pull 0: none\n\
         pull 0: 0#0 1000\n";
-    assert_over_one(&rt, rt.alloc(), tree, script, expected);
+    assert_writes(&rt, rt.alloc(), DRR_500_OVER_ONE, script, expected);
 }
 
 #[test]
 fn a_head_is_drained(rt: HostRuntime) {
-    let tree = drr_over_one(rt.alloc(), 500);
     let script = "send 0 1000\npull 0\ndrain 0\n";
     let expected = "0#0 1000 accepted\n\
         pull 0: none\n\
         pull 1: 0#0 1000\n\
         sender 0: sent 1 1000, accepted 1 1000, refused 0 0, evicted 0 0, emitted 1 1000\n";
-    assert_over_one(&rt, rt.alloc(), tree, script, expected);
+    assert_writes(&rt, rt.alloc(), DRR_500_OVER_ONE, script, expected);
 }
 
 #[test]
 fn a_deficit_above_a_deficit(rt: HostRuntime) {
-    let tree = drr_over_drr(rt.alloc());
     let script = "send 0 700\npull 0\npull 0\npull 0\npull 0\n";
     let expected = "0#0 700 accepted\n\
         pull 0: none\n\
         pull 0: none\n\
         pull 0: none\n\
         pull 0: 0#0 700\n";
-    assert_over_one(&rt, rt.alloc(), tree, script, expected);
+    assert_writes(&rt, rt.alloc(), DRR_OVER_DRR, script, expected);
 }
 
 // The packet comes out at the last of 65,535 pulls.
 #[test]
 fn a_drain_may_take_long(rt: HostRuntime) {
-    let tree = drr_over_one(rt.alloc(), 1);
     let script = "send 0 65535\ndrain 0\n";
     let expected = "0#0 65535 accepted\n\
         pull 65535: 0#0 65535\n\
         sender 0: sent 1 65535, accepted 1 65535, refused 0 0, evicted 0 0, emitted 1 65535\n";
-    assert_over_one(&rt, rt.alloc(), tree, script, expected);
+    assert_writes(&rt, rt.alloc(), DRR_1_OVER_ONE, script, expected);
 }

@@ -1,10 +1,11 @@
 //! A reader or a writer that fails in mid-stream.
 
-use super::row::{FIRST_TO_0, run_within};
-use super::trees::prio_over_one;
-use super::{AMPLE, answer_within};
-use crate::{QueueSpec, run_builtin};
-use clk_packet::{Failed, FailingSink, FailingSource, Failures, Fault, Kind, Sink, Source};
+use super::AMPLE;
+use super::row::run_within;
+use super::trees::{PRIO_OVER_ROOM_FOR_ONE, PRIO_OVER_ROOM_FOR_TWO};
+use crate::run_script;
+use clk_packet::{Failed, FailingSink, FailingSource, Failures, Fault, Sink, Source};
+use clk_tree::Plan;
 use std::alloc::Global;
 use std::process::Abort;
 use std::test::Fail;
@@ -19,7 +20,13 @@ const TEXT: &[u8] =
 fn a_failing_reader_is_told(rt: HostRuntime) -> Result<(), Fail> {
     for limit in 0..=SCRIPT.len() {
         let script = SCRIPT.to_vec(rt.alloc())?;
-        let (outcome, written) = answer_within(rt.alloc(), script, limit, TEXT.len())?;
+        let (outcome, written) = run_within(
+            rt.alloc(),
+            PRIO_OVER_ROOM_FOR_TWO,
+            script,
+            limit,
+            TEXT.len(),
+        )?;
         assert_eq!(rt; outcome, Err(Fault::Read), "after {limit} bytes");
         assert!(rt; written.is_empty(), "after {limit} bytes");
     }
@@ -63,8 +70,9 @@ fn a_read_that_failed_is_not_made_again(rt: HostRuntime) -> Result<(), Fail> {
         failures: Failures::none(),
     };
     let mut writer = FailingSink::new(vec![in rt.alloc(); 0; AMPLE]?);
+    let plan = Plan::read(rt.alloc(), PRIO_OVER_ROOM_FOR_TWO.as_bytes()).expect(&rt, "a tree");
     assert_eq!(rt;
-        run_builtin(rt.alloc(), &mut reader, &mut writer),
+        run_script(rt.alloc(), &mut reader, &mut writer, &plan),
         Err(Fault::Read)
     );
     assert!(rt; writer.taken().is_empty());
@@ -108,8 +116,9 @@ fn a_write_that_failed_is_not_made_again(rt: HostRuntime) -> Result<(), Fail> {
         failed: false,
         failures: Failures::none(),
     };
+    let plan = Plan::read(rt.alloc(), PRIO_OVER_ROOM_FOR_TWO.as_bytes()).expect(&rt, "a tree");
     assert_eq!(rt;
-        run_builtin(rt.alloc(), &mut reader, &mut writer),
+        run_script(rt.alloc(), &mut reader, &mut writer, &plan),
         Err(Fault::Write)
     );
     assert!(rt; writer.text.taken().is_empty());
@@ -120,7 +129,13 @@ fn a_write_that_failed_is_not_made_again(rt: HostRuntime) -> Result<(), Fail> {
 fn a_failing_writer_is_told(rt: HostRuntime) -> Result<(), Fail> {
     for room in 0..=TEXT.len() {
         let script = SCRIPT.to_vec(rt.alloc())?;
-        let (outcome, written) = answer_within(rt.alloc(), script, usize::MAX, room)?;
+        let (outcome, written) = run_within(
+            rt.alloc(),
+            PRIO_OVER_ROOM_FOR_TWO,
+            script,
+            usize::MAX,
+            room,
+        )?;
         let expected = if room < TEXT.len() {
             Err(Fault::Write)
         } else {
@@ -132,7 +147,7 @@ fn a_failing_writer_is_told(rt: HostRuntime) -> Result<(), Fail> {
     Ok(())
 }
 
-const CLOSED: &str = "send 0 10\nsend 0 20\npull 0\ndrain 0\n";
+const CLOSED: &[u8] = b"send 0 10\nsend 0 20\npull 0\ndrain 0\n";
 
 /// What that script writes over a queue of one packet.
 const REPORTED: &[u8] = b"0#0 10 accepted\n0#1 20 refused\npull 0: 0#0 10\n\
@@ -140,13 +155,8 @@ const REPORTED: &[u8] = b"0#0 10 accepted\n0#1 20 refused\npull 0: 0#0 10\n\
 
 // Fails unless a writer that fails once it has taken `room` bytes of it has this front.
 fn assert_cut_off(rt: &impl Abort, alloc: Global, room: usize, front: &[u8]) {
-    let queues = [QueueSpec {
-        kind: Kind::TailDrop,
-        capacity: 1,
-    }];
-    let senders = [FIRST_TO_0];
-    let tree = prio_over_one(alloc);
-    let run = run_within(rt, alloc, tree, &queues, &senders, CLOSED, room);
+    let script = CLOSED.to_vec(alloc).expect(rt, "ample memory");
+    let run = run_within(alloc, PRIO_OVER_ROOM_FOR_ONE, script, usize::MAX, room);
     let (outcome, written) = run.expect(rt, "ample memory");
     assert_eq!(rt; outcome, Err(Fault::Write), "after {room} bytes");
     assert_eq!(rt; written.as_slice(), front);

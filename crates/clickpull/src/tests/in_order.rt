@@ -1,11 +1,10 @@
 //! Inputs that are asked in order.
 
-use super::row::{assert_over_three, assert_over_two};
-use super::trees::{round_robin_over_three, round_robin_over_two};
+use super::row::assert_writes;
+use super::trees::{ROUND_ROBIN_OVER_THREE, ROUND_ROBIN_OVER_TWO};
 
 #[test]
 fn three_queues_take_turns(rt: HostRuntime) {
-    let tree = round_robin_over_three(rt.alloc());
     let script =
         "send 0 10\nsend 0 11\nsend 2 12\nsend 2 13\npull 0\npull 0\npull 0\npull 0\npull 0\n";
     let expected = "0#0 10 accepted\n\
@@ -17,12 +16,11 @@ fn three_queues_take_turns(rt: HostRuntime) {
         pull 0: 0#1 11\n\
         pull 0: 2#1 13\n\
         pull 0: none\n";
-    assert_over_three(&rt, rt.alloc(), tree, script, expected);
+    assert_writes(&rt, rt.alloc(), ROUND_ROBIN_OVER_THREE, script, expected);
 }
 
 #[test]
 fn a_pull_that_finds_nothing_keeps_the_turn(rt: HostRuntime) {
-    let tree = round_robin_over_two(rt.alloc());
     let script = "send 0 1\npull 0\npull 0\nsend 0 1\nsend 1 1\npull 0\n";
     let expected = "0#0 1 accepted\n\
         pull 0: 0#0 1\n\
@@ -30,5 +28,5 @@ fn a_pull_that_finds_nothing_keeps_the_turn(rt: HostRuntime) {
         0#1 1 accepted\n\
         1#0 1 accepted\n\
         pull 0: 1#0 1\n";
-    assert_over_two(&rt, rt.alloc(), tree, script, expected);
+    assert_writes(&rt, rt.alloc(), ROUND_ROBIN_OVER_TWO, script, expected);
 }

@@ -1,8 +1,8 @@
 //! The longest scripts, and the largest trees.
 
-use super::row::{assert_over_one, assert_refused};
-use super::trees::wide;
-use super::{AMPLE, answer_within};
+use super::AMPLE;
+use super::row::{assert_refused, assert_writes, run_within};
+use super::trees::{PRIO_OVER_ROOM_FOR_TWO, wide};
 use clk_packet::Fault;
 use std::alloc::{AllocError, Global};
 use std::process::Abort;
@@ -16,7 +16,13 @@ const BYTES: usize = 33_554_432;
 
 // How a run of a script that writes nothing ends.
 fn outcome_of(rt: &(impl Abort + AllocGlobal), script: Vec<u8>) -> Result<Result<(), Fault>, Fail> {
-    let (outcome, written) = answer_within(rt.alloc(), script, usize::MAX, AMPLE)?;
+    let (outcome, written) = run_within(
+        rt.alloc(),
+        PRIO_OVER_ROOM_FOR_TWO,
+        script,
+        usize::MAX,
+        AMPLE,
+    )?;
     assert!(rt; written.is_empty());
     Ok(outcome)
 }
@@ -77,7 +83,7 @@ fn close_between(
     let mut script = vec![in alloc; b'\n'; before]?;
     script.extend_from_slice(b"drain 0\n")?;
     script.extend_from_slice(&vec![in alloc; b'\n'; after]?)?;
-    answer_within(alloc, script, usize::MAX, AMPLE)
+    run_within(alloc, PRIO_OVER_ROOM_FOR_TWO, script, usize::MAX, AMPLE)
 }
 
 #[test]
@@ -95,15 +101,25 @@ fn blank_lines_after_a_drain_are_counted(rt: HostRuntime) {
     assert_closes(&rt, rt.alloc(), 0, LINES, Err(Fault::TooLarge), b"");
 }
 
-// The device, five schedulers and 250 queues are 256.
+// The device, five schedulers, 249 queues and a sender are 256.
 #[test]
-fn a_tree_may_have_256_nodes_and_queues(rt: HostRuntime) {
-    let tree = wide(&rt, rt.alloc(), 250);
-    assert_over_one(&rt, rt.alloc(), tree, "send 0 1\n", "0#0 1 accepted\n");
+fn a_tree_may_have_256_elements(rt: HostRuntime) -> Result<(), Fail> {
+    let tree = wide(rt.alloc(), 249)?;
+    let script = "send 0 1\npull 0\n";
+    let expected = "0#0 1 accepted\npull 0: 0#0 1\n";
+    assert_writes(&rt, rt.alloc(), tree.as_str(), script, expected);
+    Ok(())
 }
 
 #[test]
-fn a_tree_may_not_have_a_queue_more(rt: HostRuntime) {
-    let tree = wide(&rt, rt.alloc(), 251);
-    assert_refused(&rt, rt.alloc(), tree, "send 0 1\n", Fault::TooLarge);
+fn a_tree_may_not_have_a_queue_more(rt: HostRuntime) -> Result<(), Fail> {
+    let tree = wide(rt.alloc(), 250)?;
+    assert_refused(
+        &rt,
+        rt.alloc(),
+        tree.as_str(),
+        "send 0 1\n",
+        Fault::TooLarge,
+    );
+    Ok(())
 }

@@ -1,13 +1,11 @@
 //! Token buckets.
 
-use super::row::assert_over_one;
-use super::trees::drr_over_shaper;
-use clk_sched::Tree;
+use super::row::assert_writes;
+use super::trees::{DRR_OVER_SHAPER, SHAPER_1_1, SHAPER_1_2, SHAPER_1_3, SHAPER_2_2, SHAPER_5_2};
 
 // The last pull names an earlier moment than the one before it, which then counts.
 #[test]
 fn a_burst_goes_first(rt: HostRuntime) {
-    let tree = Tree::shaper(rt.alloc(), 1, 2, Tree::leaf(0));
     let script =
         "send 0 10\nsend 0 10\nsend 0 10\nsend 0 10\npull 0\npull 0\npull 0\npull 1\npull 0\n\
         drain 0\n";
@@ -22,12 +20,11 @@ fn a_burst_goes_first(rt: HostRuntime) {
         pull 0: none\n\
         pull 2: 0#3 10\n\
         sender 0: sent 4 40, accepted 4 40, refused 0 0, evicted 0 0, emitted 4 40\n";
-    assert_over_one(&rt, rt.alloc(), tree, script, expected);
+    assert_writes(&rt, rt.alloc(), SHAPER_1_2, script, expected);
 }
 
 #[test]
 fn a_bucket_holds_no_more_than_a_burst(rt: HostRuntime) {
-    let tree = Tree::shaper(rt.alloc(), 5, 2, Tree::leaf(0));
     let script =
         "send 0 1\nsend 0 1\nsend 0 1\nsend 0 1\nsend 0 1\npull 0\npull 0\npull 0\npull 9\n\
         pull 9\npull 9\n";
@@ -42,22 +39,20 @@ fn a_bucket_holds_no_more_than_a_burst(rt: HostRuntime) {
         pull 9: 0#2 1\n\
         pull 9: 0#3 1\n\
         pull 9: none\n";
-    assert_over_one(&rt, rt.alloc(), tree, script, expected);
+    assert_writes(&rt, rt.alloc(), SHAPER_5_2, script, expected);
 }
 
 #[test]
 fn a_pull_that_finds_nothing_costs_nothing(rt: HostRuntime) {
-    let tree = Tree::shaper(rt.alloc(), 1, 1, Tree::leaf(0));
     let script = "pull 0\nsend 0 1\npull 0\n";
     let expected = "pull 0: none\n\
         0#0 1 accepted\n\
         pull 0: 0#0 1\n";
-    assert_over_one(&rt, rt.alloc(), tree, script, expected);
+    assert_writes(&rt, rt.alloc(), SHAPER_1_1, script, expected);
 }
 
 #[test]
 fn a_tick_gives_the_rate(rt: HostRuntime) {
-    let tree = Tree::shaper(rt.alloc(), 2, 2, Tree::leaf(0));
     let script =
         "send 0 1\nsend 0 1\nsend 0 1\nsend 0 1\nsend 0 1\npull 0\npull 0\npull 0\npull 1\n\
         pull 1\npull 1\n";
@@ -72,12 +67,11 @@ fn a_tick_gives_the_rate(rt: HostRuntime) {
         pull 1: 0#2 1\n\
         pull 1: 0#3 1\n\
         pull 1: none\n";
-    assert_over_one(&rt, rt.alloc(), tree, script, expected);
+    assert_writes(&rt, rt.alloc(), SHAPER_2_2, script, expected);
 }
 
 #[test]
 fn two_ticks_give_twice_the_rate(rt: HostRuntime) {
-    let tree = Tree::shaper(rt.alloc(), 1, 3, Tree::leaf(0));
     let script =
         "send 0 1\nsend 0 1\nsend 0 1\nsend 0 1\nsend 0 1\nsend 0 1\npull 0\npull 0\npull 0\n\
         pull 2\npull 2\npull 2\n";
@@ -93,13 +87,12 @@ fn two_ticks_give_twice_the_rate(rt: HostRuntime) {
         pull 2: 0#3 1\n\
         pull 2: 0#4 1\n\
         pull 2: none\n";
-    assert_over_one(&rt, rt.alloc(), tree, script, expected);
+    assert_writes(&rt, rt.alloc(), SHAPER_1_3, script, expected);
 }
 
 // The closing goes on beyond the moments that a script can name.
 #[test]
 fn a_late_moment_fills_nothing(rt: HostRuntime) {
-    let tree = Tree::shaper(rt.alloc(), 1, 1, Tree::leaf(0));
     let script = "send 0 10\nsend 0 10\nsend 0 10\npull 1099511627775\npull 0\ndrain 0\n";
     let expected = "0#0 10 accepted\n\
         0#1 10 accepted\n\
@@ -109,17 +102,16 @@ fn a_late_moment_fills_nothing(rt: HostRuntime) {
         pull 1099511627776: 0#1 10\n\
         pull 1099511627777: 0#2 10\n\
         sender 0: sent 3 30, accepted 3 30, refused 0 0, evicted 0 0, emitted 3 30\n";
-    assert_over_one(&rt, rt.alloc(), tree, script, expected);
+    assert_writes(&rt, rt.alloc(), SHAPER_1_1, script, expected);
 }
 
 #[test]
 fn a_shaper_stands_below_a_deficit(rt: HostRuntime) {
-    let tree = drr_over_shaper(rt.alloc());
     let script = "send 0 300\nsend 0 300\npull 0\npull 0\npull 1\n";
     let expected = "0#0 300 accepted\n\
         0#1 300 accepted\n\
         pull 0: 0#0 300\n\
         pull 0: none\n\
         pull 1: 0#1 300\n";
-    assert_over_one(&rt, rt.alloc(), tree, script, expected);
+    assert_writes(&rt, rt.alloc(), DRR_OVER_SHAPER, script, expected);
 }

@@ -1,11 +1,10 @@
 //! Inputs with tickets.
 
-use super::row::assert_over_two;
-use super::trees::{stride_over_deficit, stride_over_two};
+use super::row::assert_writes;
+use super::trees::{STRIDE_1_1, STRIDE_2_1, STRIDE_3_1, STRIDE_OVER_DEFICIT};
 
 #[test]
 fn tickets_give_turns(rt: HostRuntime) {
-    let tree = stride_over_two(rt.alloc(), 2, 1);
     let script =
         "send 0 10\nsend 0 10\nsend 0 10\nsend 0 10\nsend 1 20\nsend 1 20\npull 0\npull 0\n\
         pull 0\npull 0\npull 0\npull 0\n";
@@ -21,12 +20,11 @@ fn tickets_give_turns(rt: HostRuntime) {
         pull 0: 0#2 10\n\
         pull 0: 1#1 20\n\
         pull 0: 0#3 10\n";
-    assert_over_two(&rt, rt.alloc(), tree, script, expected);
+    assert_writes(&rt, rt.alloc(), STRIDE_2_1, script, expected);
 }
 
 #[test]
 fn an_idle_input_earns_nothing(rt: HostRuntime) {
-    let tree = stride_over_two(rt.alloc(), 2, 1);
     let script = "send 0 10\nsend 0 10\nsend 0 10\npull 0\npull 0\nsend 1 20\npull 0\npull 0\n";
     let expected = "0#0 10 accepted\n\
         0#1 10 accepted\n\
@@ -36,12 +34,11 @@ fn an_idle_input_earns_nothing(rt: HostRuntime) {
         1#0 20 accepted\n\
         pull 0: 1#0 20\n\
         pull 0: 0#2 10\n";
-    assert_over_two(&rt, rt.alloc(), tree, script, expected);
+    assert_writes(&rt, rt.alloc(), STRIDE_2_1, script, expected);
 }
 
 #[test]
 fn an_idle_input_gets_the_pass_of_the_winner(rt: HostRuntime) {
-    let tree = stride_over_two(rt.alloc(), 1, 1);
     let script =
         "send 0 1\nsend 0 1\nsend 0 1\nsend 0 1\nsend 0 1\npull 0\npull 0\npull 0\nsend 1 1\n\
         send 1 1\nsend 1 1\npull 0\npull 0\npull 0\npull 0\npull 0\n";
@@ -61,23 +58,21 @@ fn an_idle_input_gets_the_pass_of_the_winner(rt: HostRuntime) {
         pull 0: 1#1 1\n\
         pull 0: 0#4 1\n\
         pull 0: 1#2 1\n";
-    assert_over_two(&rt, rt.alloc(), tree, script, expected);
+    assert_writes(&rt, rt.alloc(), STRIDE_1_1, script, expected);
 }
 
 #[test]
 fn a_pull_that_finds_nothing_changes_no_pass(rt: HostRuntime) {
-    let tree = stride_over_two(rt.alloc(), 1, 1);
     let script = "pull 0\nsend 0 1\nsend 1 1\npull 0\n";
     let expected = "pull 0: none\n\
         0#0 1 accepted\n\
         1#0 1 accepted\n\
         pull 0: 0#0 1\n";
-    assert_over_two(&rt, rt.alloc(), tree, script, expected);
+    assert_writes(&rt, rt.alloc(), STRIDE_1_1, script, expected);
 }
 
 #[test]
 fn an_input_that_holds_a_head_back_is_idle(rt: HostRuntime) {
-    let tree = stride_over_deficit(rt.alloc());
     let script = "send 0 25\nsend 0 5\nsend 1 5\nsend 1 5\nsend 1 5\nsend 1 5\nsend 1 5\npull 0\n\
         pull 0\npull 0\npull 0\npull 0\npull 0\npull 0\n";
     let expected = "0#0 25 accepted\n\
@@ -94,12 +89,11 @@ fn an_input_that_holds_a_head_back_is_idle(rt: HostRuntime) {
         pull 0: 1#3 5\n\
         pull 0: 0#1 5\n\
         pull 0: 1#4 5\n";
-    assert_over_two(&rt, rt.alloc(), tree, script, expected);
+    assert_writes(&rt, rt.alloc(), STRIDE_OVER_DEFICIT, script, expected);
 }
 
 #[test]
 fn strides_are_rounded_down(rt: HostRuntime) {
-    let tree = stride_over_two(rt.alloc(), 3, 1);
     let script = "send 0 1\nsend 0 1\nsend 0 1\nsend 0 1\nsend 0 1\nsend 1 1\nsend 1 1\npull 0\n\
         pull 0\npull 0\npull 0\npull 0\npull 0\npull 0\n";
     let expected = "0#0 1 accepted\n\
@@ -116,5 +110,5 @@ fn strides_are_rounded_down(rt: HostRuntime) {
         pull 0: 0#3 1\n\
         pull 0: 1#1 1\n\
         pull 0: 0#4 1\n";
-    assert_over_two(&rt, rt.alloc(), tree, script, expected);
+    assert_writes(&rt, rt.alloc(), STRIDE_3_1, script, expected);
 }

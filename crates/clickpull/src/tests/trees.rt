@@ -1,100 +1,137 @@
 //! The trees of the rows.
 
-ghost use Rattle.std.specs.Prelude.{◌≤◌};
-ghost use Rattle.clk_sched.specs.Limits.{most_quantum, most_tickets};
+use std::alloc::{AllocError, Global};
 
-use clk_packet::Fault;
-use clk_sched::Tree;
-use std::alloc::Global;
-use std::process::Abort;
+/// A queue.
+pub const ONE: &str = "s0 :: Sender(0); q0 :: Queue; d :: ToDevice(link); s0 -> q0 -> d;";
 
-/// A PrioSched over queue 0.
-pub fn prio_over_one(alloc: Global) -> Result<Tree, Fault> {
-    Tree::prio(vec![in alloc; Tree::leaf(0)]?)
-}
+/// A PrioSched over a queue.
+pub const PRIO_OVER_ONE: &str = "s0 :: Sender(0); q0 :: Queue; x :: PrioSched; d :: ToDevice(link);
+s0 -> q0 -> [0] x; x -> d;";
 
-/// A PrioSched over queues 0 and 1.
-pub fn prio_over_two(alloc: Global) -> Result<Tree, Fault> {
-    Tree::prio(vec![in alloc; Tree::leaf(0), Tree::leaf(1)]?)
-}
+/// A PrioSched over two queues.
+pub const PRIO_OVER_TWO: &str =
+    "s0 :: Sender(0); q0 :: Queue; s1 :: Sender(1); q1 :: Queue; x :: PrioSched; d :: ToDevice(link);
+s0 -> q0 -> [0] x; s1 -> q1 -> [1] x; x -> d;";
 
-/// A RoundRobinSched over queues 0 and 1.
-pub fn round_robin_over_two(alloc: Global) -> Result<Tree, Fault> {
-    Tree::round_robin(vec![in alloc; Tree::leaf(0), Tree::leaf(1)]?)
-}
+/// A PrioSched over a queue of one packet.
+pub const PRIO_OVER_ROOM_FOR_ONE: &str =
+    "s0 :: Sender(0); q0 :: Queue(1); x :: PrioSched; d :: ToDevice(link);
+s0 -> q0 -> [0] x; x -> d;";
 
-/// A RoundRobinSched over queues 0, 1 and 2.
-pub fn round_robin_over_three(alloc: Global) -> Result<Tree, Fault> {
-    Tree::round_robin(vec![in alloc; Tree::leaf(0), Tree::leaf(1), Tree::leaf(2)]?)
-}
+/// A PrioSched over two queues of two packets.
+pub const PRIO_OVER_ROOM_FOR_TWO: &str = "s0 :: Sender(0); s1 :: Sender(1);
+q0 :: Queue(2); q1 :: Queue(2);
+p :: PrioSched;
+out :: ToDevice(link);
+s0 -> q0 -> p -> out;
+s1 -> q1 -> [1] p;";
 
-/// A DRRSched over queue 0, with this quantum.
-pub fn drr_over_one(alloc: Global, quantum: u32) -> Result<Tree, Fault>
-    requires { (1 ≤ quantum) × (quantum ≤ most_quantum) }
-{
-    drr_over(alloc, quantum, Tree::leaf(0))
-}
+/// A PrioSched over a FrontDropQueue of two packets.
+pub const PRIO_OVER_FRONT_DROP: &str =
+    "s0 :: Sender(0); q0 :: FrontDropQueue(2); x :: PrioSched; d :: ToDevice(link);
+s0 -> q0 -> [0] x; x -> d;";
 
-/// A DRRSched of quantum 500 over one of quantum 300 over queue 0.
-pub fn drr_over_drr(alloc: Global) -> Result<Tree, Fault> {
-    drr_over(alloc, 500, drr_over_one(alloc, 300)?)
-}
+/// A FrontDropQueue of one packet, to which two senders send.
+pub const SHARED_FRONT_DROP: &str =
+    "s :: Sender(0); t :: Sender(1); q :: FrontDropQueue(1); d :: ToDevice(link);
+s -> q -> d; t -> q;";
 
-/// A DRRSched of quantum 500 over a Shaper of rate 1 and burst 1 over queue 0.
-pub fn drr_over_shaper(alloc: Global) -> Result<Tree, Fault> {
-    drr_over(alloc, 500, Tree::shaper(alloc, 1, 1, Tree::leaf(0))?)
-}
+/// A queue of two packets, to which the senders of the least and the greatest number send.
+pub const SHARED_BY_FIRST_AND_LAST: &str =
+    "t :: Sender(65535); s :: Sender(0); q :: Queue(2); d :: ToDevice(link);
+t -> q -> d; s -> q;";
 
-fn drr_over(alloc: Global, quantum: u32, child: Tree) -> Result<Tree, Fault>
-    requires { (1 ≤ quantum) × (quantum ≤ most_quantum) }
-{
-    Tree::drr(vec![in alloc; quantum]?, vec![in alloc; child]?)
-}
+/// A RoundRobinSched over two queues.
+pub const ROUND_ROBIN_OVER_TWO: &str =
+    "s0 :: Sender(0); q0 :: Queue; s1 :: Sender(1); q1 :: Queue; x :: RoundRobinSched; d :: ToDevice(link);
+s0 -> q0 -> [0] x; s1 -> q1 -> [1] x; x -> d;";
 
-/// A DRRSched over queues 0 and 1, with this quantum for each.
-pub fn drr_over_two(alloc: Global, quantum: u32) -> Result<Tree, Fault>
-    requires { (1 ≤ quantum) × (quantum ≤ most_quantum) }
-{
-    Tree::drr(
-        vec![in alloc; quantum, quantum]?,
-        vec![in alloc; Tree::leaf(0), Tree::leaf(1)]?,
-    )
-}
+/// A RoundRobinSched over three queues.
+pub const ROUND_ROBIN_OVER_THREE: &str =
+    "s0 :: Sender(0); q0 :: Queue; s1 :: Sender(1); q1 :: Queue; s2 :: Sender(2); q2 :: Queue;
+x :: RoundRobinSched; d :: ToDevice(link);
+s0 -> q0 -> [0] x; s1 -> q1 -> [1] x; s2 -> q2 -> [2] x; x -> d;";
 
-/// A StrideSched over queues 0 and 1, with these tickets.
-pub fn stride_over_two(alloc: Global, first: u32, second: u32) -> Result<Tree, Fault>
-    requires first { (1 ≤ first) × (first ≤ most_tickets) }
-    requires second { (1 ≤ second) × (second ≤ most_tickets) }
-{
-    Tree::stride(
-        vec![in alloc; first, second]?,
-        vec![in alloc; Tree::leaf(0), Tree::leaf(1)]?,
-    )
-}
+/// A DRRSched of quantum 500 over a queue.
+pub const DRR_500_OVER_ONE: &str =
+    "s0 :: Sender(0); q0 :: Queue; x :: DRRSched(500); d :: ToDevice(link);
+s0 -> q0 -> [0] x; x -> d;";
+
+/// A DRRSched of quantum 1 over a queue.
+pub const DRR_1_OVER_ONE: &str =
+    "s0 :: Sender(0); q0 :: Queue; x :: DRRSched(1); d :: ToDevice(link);
+s0 -> q0 -> [0] x; x -> d;";
+
+/// A DRRSched over two queues, of quantum 500 for each.
+pub const DRR_500_OVER_TWO: &str =
+    "s0 :: Sender(0); q0 :: Queue; s1 :: Sender(1); q1 :: Queue; x :: DRRSched(500); d :: ToDevice(link);
+s0 -> q0 -> [0] x; s1 -> q1 -> [1] x; x -> d;";
+
+/// A DRRSched of quantum 500 over one of quantum 300 over a queue.
+pub const DRR_OVER_DRR: &str =
+    "s :: Sender(0); q :: Queue; y :: DRRSched(300); x :: DRRSched(500); d :: ToDevice(link);
+s -> q -> y -> x -> d;";
+
+/// A DRRSched of quantum 500 over a Shaper of rate 1 and burst 1 over a queue.
+pub const DRR_OVER_SHAPER: &str =
+    "s :: Sender(0); q :: Queue; x :: DRRSched(500); y :: Shaper(1, 1); d :: ToDevice(l);
+s -> q -> y -> x -> d;";
+
+/// A Shaper of rate 1 and burst 1 over a queue.
+pub const SHAPER_1_1: &str =
+    "s0 :: Sender(0); q0 :: Queue; x :: Shaper(1, 1); d :: ToDevice(link); s0 -> q0 -> [0] x; x -> d;";
+
+/// The same of burst 2.
+pub const SHAPER_1_2: &str =
+    "s0 :: Sender(0); q0 :: Queue; x :: Shaper(1, 2); d :: ToDevice(link); s0 -> q0 -> [0] x; x -> d;";
+
+/// The same of burst 3.
+pub const SHAPER_1_3: &str =
+    "s0 :: Sender(0); q0 :: Queue; x :: Shaper(1, 3); d :: ToDevice(link); s0 -> q0 -> [0] x; x -> d;";
+
+/// The same of rate 2 and burst 2.
+pub const SHAPER_2_2: &str =
+    "s0 :: Sender(0); q0 :: Queue; x :: Shaper(2, 2); d :: ToDevice(link); s0 -> q0 -> [0] x; x -> d;";
+
+/// The same of rate 5 and burst 2.
+pub const SHAPER_5_2: &str =
+    "s0 :: Sender(0); q0 :: Queue; x :: Shaper(5, 2); d :: ToDevice(link); s0 -> q0 -> [0] x; x -> d;";
+
+/// A StrideSched over two queues, with a ticket for each.
+pub const STRIDE_1_1: &str =
+    "s0 :: Sender(0); q0 :: Queue; s1 :: Sender(1); q1 :: Queue; x :: StrideSched(1, 1); d :: ToDevice(link);
+s0 -> q0 -> [0] x; s1 -> q1 -> [1] x; x -> d;";
+
+/// The same with two tickets for the first.
+pub const STRIDE_2_1: &str =
+    "s0 :: Sender(0); q0 :: Queue; s1 :: Sender(1); q1 :: Queue; x :: StrideSched(2, 1); d :: ToDevice(link);
+s0 -> q0 -> [0] x; s1 -> q1 -> [1] x; x -> d;";
+
+/// The same with three tickets for the first.
+pub const STRIDE_3_1: &str =
+    "s0 :: Sender(0); q0 :: Queue; s1 :: Sender(1); q1 :: Queue; x :: StrideSched(3, 1); d :: ToDevice(link);
+s0 -> q0 -> [0] x; s1 -> q1 -> [1] x; x -> d;";
 
 /// A StrideSched with a ticket for queue 1 and one for a DRRSched of quantum 10 over queue 0.
-pub fn stride_over_deficit(alloc: Global) -> Result<Tree, Fault> {
-    let held = drr_over(alloc, 10, Tree::leaf(0))?;
-    Tree::stride(vec![in alloc; 1, 1]?, vec![in alloc; Tree::leaf(1), held]?)
-}
+pub const STRIDE_OVER_DEFICIT: &str =
+    "s :: Sender(0); t :: Sender(1); q, r :: Queue; y :: DRRSched(10); x :: StrideSched(1, 1); d :: ToDevice(l);
+t -> r -> x -> d; s -> q -> y -> [1] x;";
 
-/// A PrioSched over four, of which three are over 64 queues each, and the last over those that are left. With the device that is
-/// six more nodes than queues.
-pub fn wide(rt: &impl Abort, alloc: Global, queues: u16) -> Result<Tree, Fault> {
-    Tree::prio(vec![in alloc;
-        prio_over(rt, alloc, 0, 64)?,
-        prio_over(rt, alloc, 64, 128)?,
-        prio_over(rt, alloc, 128, 192)?,
-        prio_over(rt, alloc, 192, queues)?,
-    ]?)
-}
-
-// A PrioSched over the queues from `first` to before `end`.
-fn prio_over(rt: &impl Abort, alloc: Global, first: u16, end: u16) -> Result<Tree, Fault> {
-    let mut children = Vec::new(alloc);
-    for queue in first..end {
-        children.push(Tree::leaf(queue))?;
+/// A PrioSched over four, over which so many queues are spread, with a sender to the first. With the device these are seven elements
+/// more than queues.
+pub fn wide(alloc: Global, queues: u32) -> Result<String, AllocError> {
+    let mut text = format!(in alloc;
+        "s :: Sender(0); x :: PrioSched; d :: ToDevice(link); x -> d;"
+    )?;
+    for place in 0..4 {
+        write!(text, "x{place} :: PrioSched; x{place} -> [{place}] x;")?;
     }
-    assert!(rt; !children.is_empty());
-    Tree::prio(children)
+    for queue in 0..queues {
+        let above = queue % 4;
+        let input = queue / 4;
+        write!(text, "q{queue} :: Queue; q{queue} -> [{input}] x{above};")?;
+    }
+    text.push_str("s -> q0;")?;
+    Ok(text)
 }

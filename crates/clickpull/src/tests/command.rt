@@ -1,0 +1,213 @@
+//! The program by its words, over memory in place of standard input, output and error, and over files of its own.
+
+use super::AMPLE;
+use crate::command;
+use clk_packet::{FailingSink, FailingSource, Fault};
+use std::process::Abort;
+use std::rt::Files;
+use std::sync::Wait;
+use std::test::Fail;
+use std::{fs, str};
+
+/// What words answer, and what they write to standard output and to standard error.
+#[derive(Drop)]
+struct Answered {
+    outcome: Result<u8, Fault>,
+    written: Vec<u8>,
+    told: Vec<u8>,
+}
+
+// What words, with a space between them, answer to the script on standard input, where standard output takes `room` bytes
+// and standard error `errors_room` before they fail.
+fn answer_within(
+    rt: &(impl Files + AllocGlobal + Wait),
+    words: &str,
+    room: usize,
+    errors_room: usize,
+) -> Result<Answered, Fault> {
+    let alloc = rt.alloc();
+    let mut list = Vec::new(alloc);
+    for word in words.split_ascii_whitespace() {
+        list.push(String::from_str(alloc, word)?)?;
+    }
+    let mut reader = FailingSource::new(SCRIPT.to_vec(alloc)?, usize::MAX);
+    let mut writer = FailingSink::new(vec![in alloc; 0; room]?);
+    let mut errors = FailingSink::new(vec![in alloc; 0; errors_room]?);
+    let outcome = command(rt, rt, list, &mut reader, &mut writer, &mut errors);
+    Ok(Answered {
+        outcome,
+        written: writer.taken().to_vec(alloc)?,
+        told: errors.taken().to_vec(alloc)?,
+    })
+}
+
+// Fails unless words answer this, write this to standard output, and say nothing else.
+fn assert_writes(
+    rt: &(impl Files + AllocGlobal + Wait + Abort),
+    words: &str,
+    outcome: Result<u8, Fault>,
+    expected: &[u8],
+) {
+    let answered = answer_within(rt, words, AMPLE, AMPLE).expect(rt, "ample memory");
+    assert_eq!(rt; answered.outcome, outcome, "at {words}");
+    assert_eq!(rt; answered.written.as_slice(), expected, "at {words}");
+    assert!(rt; answered.told.is_empty(), "at {words}");
+}
+
+fn has(text: &[u8], part: &str) -> bool {
+    match str::from_utf8(text) {
+        Ok(text) => text.contains(part),
+        Err(_) => false,
+    }
+}
+
+const SCRIPT: &[u8] = b"send 0 100\nsend 1 50\npull 0\npull 0\npull 0\n";
+
+/// What that script writes over the built-in tree.
+const LINES: &[u8] =
+    b"0#0 100 accepted\n1#0 50 accepted\npull 0: 0#0 100\npull 0: 1#0 50\npull 0: none\n";
+
+#[test]
+fn no_words_run_standard_input_over_the_built_in_tree(rt: HostRuntime) {
+    assert_writes(&rt, "", Ok(0), LINES);
+}
+
+/// Words that are refused, and a part of what is said of each.
+const REFUSED: [(&str, &str); 9] = [
+    ("frob", "unrecognized subcommand 'frob'"),
+    ("run a b", "unrecognized subcommand 'run'"),
+    ("check", "<TREE>"),
+    ("check a b", "unexpected argument 'b' found"),
+    ("check --quick a", "unexpected argument '--quick' found"),
+    ("script", "<TREE>"),
+    ("script a", "<SCRIPT>"),
+    ("script a b c", "Usage: clickpull script <TREE> <SCRIPT>"),
+    ("help frob", "unrecognized subcommand 'frob'"),
+];
+
+#[test]
+fn wrong_words_are_told_on_standard_error(rt: HostRuntime) -> Result<(), Fail> {
+    for (words, part) in REFUSED {
+        let answered = answer_within(&rt, words, AMPLE, AMPLE).expect(&rt, "ample memory");
+        assert_eq!(rt; answered.outcome, Ok(2), "at {words}");
+        assert!(rt; answered.written.is_empty(), "at {words}");
+        assert!(rt; answered.told.starts_with(b"error: "), "at {words}");
+        assert!(rt; has(&answered.told, part), "at {words}");
+    }
+    Ok(())
+}
+
+/// Words that ask for help or the version, and a part of what they get.
+const HELPED: [(&str, &str); 10] = [
+    ("--help", "Usage: clickpull [COMMAND]"),
+    ("-h", "clickpull script uplink.click morning.script"),
+    ("help", "Exit status:"),
+    ("--version", "clickpull 0.1.0\n"),
+    ("-V", "clickpull 0.1.0\n"),
+    ("help check", "Usage: clickpull check <TREE>"),
+    (
+        "check --help",
+        "clickpull check uplink.click > uplink.canonical.click",
+    ),
+    ("check -h", "Usage: clickpull check <TREE>"),
+    ("script --help", "Usage: clickpull script <TREE> <SCRIPT>"),
+    ("help script", "send S L"),
+];
+
+#[test]
+fn help_goes_to_standard_output(rt: HostRuntime) -> Result<(), Fail> {
+    for (words, part) in HELPED {
+        let answered = answer_within(&rt, words, AMPLE, AMPLE).expect(&rt, "ample memory");
+        assert_eq!(rt; answered.outcome, Ok(0), "at {words}");
+        assert!(rt; answered.told.is_empty(), "at {words}");
+        assert!(rt; has(&answered.written, part), "at {words}");
+    }
+    Ok(())
+}
+
+#[test]
+fn what_takes_the_text_may_fail(rt: HostRuntime) -> Result<(), Fail> {
+    for (words, room, errors_room) in [
+        ("frob", AMPLE, 7),
+        ("--version", 7, AMPLE),
+        ("", 7, AMPLE),
+    ] {
+        let answered = answer_within(&rt, words, room, errors_room).expect(&rt, "ample memory");
+        assert_eq!(rt; answered.outcome, Err(Fault::Write), "at {words}");
+        assert_eq!(rt;
+            answered.written.len() + answered.told.len(),
+            7,
+            "at {words}"
+        );
+    }
+    Ok(())
+}
+
+#[test]
+fn a_tree_is_checked(rt: HostRuntime) -> Result<(), Fail> {
+    let tree =
+        "s :: Sender(0); q :: Queue; sh :: Shaper(5); d :: ToDevice(eth0); s -> q -> sh /* 5 per tick */ -> d;";
+    let text = b"s :: Sender(0);\nq :: Queue(1000);\nsh :: Shaper(5, 5);\nd :: ToDevice(eth0);\n\
+        s [0] -> [0] q;\nq [0] -> [0] sh;\nsh [0] -> [0] d;\n";
+    fs::write(&rt, "checked.click", tree)?;
+    assert_writes(&rt, "check checked.click", Ok(0), text);
+    Ok(())
+}
+
+#[test]
+fn a_script_runs_over_a_tree(rt: HostRuntime) -> Result<(), Fail> {
+    let tree = "s :: Sender(3); q :: FrontDropQueue(1); d :: ToDevice(link); s -> q -> d;";
+    fs::write(&rt, "evicting.click", tree)?;
+    fs::write(&rt, "evicting.script", "send 3 10\nsend 3 20\npull 0\n")?;
+    assert_writes(
+        &rt,
+        "script evicting.click evicting.script",
+        Ok(0),
+        b"3#0 10 accepted\n3#1 20 accepted evicted 3#0\npull 0: 3#1 20\n",
+    );
+    Ok(())
+}
+
+#[test]
+fn a_file_that_is_not_there_cannot_be_read(rt: HostRuntime) -> Result<(), Fail> {
+    fs::write(
+        &rt,
+        "alone.click",
+        "q :: Queue; d :: ToDevice(link); s :: Sender(0); s -> q -> d;",
+    )?;
+    fs::create_dir(&rt, "folder")?;
+    assert_writes(&rt, "check missing.click", Err(Fault::Read), b"");
+    assert_writes(&rt, "check folder", Err(Fault::Read), b"");
+    assert_writes(
+        &rt,
+        "script missing.click missing.script",
+        Err(Fault::Read),
+        b"",
+    );
+    assert_writes(
+        &rt,
+        "script alone.click missing.script",
+        Err(Fault::Read),
+        b"",
+    );
+    assert_writes(&rt, "script alone.click folder", Err(Fault::Read), b"");
+    Ok(())
+}
+
+#[test]
+fn a_bad_tree_is_told_before_the_script_is_opened(rt: HostRuntime) -> Result<(), Fail> {
+    fs::write(&rt, "bad.click", "q :: Que;")?;
+    let fault = Fault::UnknownClass { offset: 5 };
+    assert_writes(&rt, "check bad.click", Err(fault), b"");
+    assert_writes(&rt, "script bad.click missing.script", Err(fault), b"");
+    Ok(())
+}
+
+#[test]
+fn a_tree_text_has_at_most_1048576_bytes(rt: HostRuntime) -> Result<(), Fail> {
+    for (blanks, fault) in [(1_048_576, Fault::NoDevice), (1_048_577, Fault::TooLarge)] {
+        fs::write(&rt, "long.click", vec![in rt.alloc(); b' '; blanks]?)?;
+        assert_writes(&rt, "check long.click", Err(fault), b"");
+    }
+    Ok(())
+}
