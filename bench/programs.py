@@ -1,0 +1,42 @@
+"""The programs that are measured: how they are built and run."""
+import os
+import re
+import shutil
+import subprocess
+import sys
+import time
+
+BENCH = os.path.dirname(os.path.realpath(__file__))
+CRATE = os.path.join(os.path.dirname(BENCH), "crates", "clickpull")
+
+
+def stop(why, status=1):
+    print(f"bench/run: {why}", file=sys.stderr)
+    sys.exit(status)
+
+
+def build_clickpull(room):
+    """Proves and builds the program by rt, and gives the path of the executable."""
+    # LLVM compiles it at -O3, whatever backend the environment names. rt then runs it, here on an empty script, and
+    # says which file it runs.
+    words = ["rt", "run", "--backend", "llvm"]
+    ran = subprocess.run(words, cwd=CRATE, stdin=subprocess.DEVNULL, capture_output=True, text=True)
+    found = re.search(r"^rt: running ([^;\n]+)", ran.stderr, re.M)
+    if ran.returncode or not found:
+        stop("rt run gave no program:\n" + ran.stderr[-2000:], 2)
+    # A copy, since a later build may replace the file while this runs.
+    return shutil.copy(os.path.join(CRATE, found[1]), os.path.join(room, "clickpull"))
+
+
+def run(program, script, output, words=()):
+    """Runs a program with these words and a script on standard input, and gives its time in seconds and its peak memory in KiB."""
+    open(output, "wb").close()
+    files = [(os.POSIX_SPAWN_OPEN, 0, script, os.O_RDONLY, 0), (os.POSIX_SPAWN_OPEN, 1, output, os.O_WRONLY, 0)]
+    start = time.perf_counter()
+    child = os.posix_spawn(program, [program, *words], {}, file_actions=files)
+    _, status, usage = os.wait4(child, 0)
+    seconds = time.perf_counter() - start
+    if status:
+        ended = f"signal {os.WTERMSIG(status)}" if os.WIFSIGNALED(status) else f"status {os.WEXITSTATUS(status)}"
+        stop(f"{os.path.basename(program)} ended with {ended} at {os.path.basename(script)}")
+    return seconds, usage.ru_maxrss
