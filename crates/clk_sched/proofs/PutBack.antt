@@ -1,5 +1,5 @@
 -- A node's own state, which is taken out while it has its turn, and put back.
-use Rattle.std.proofs.Common.{◌≡◌, ◌≢◌, ◌⊎◌, ℕ, zero, suc, ◌+◌, ◌<◌, ◌≤◌, List, [], ◌∷◌, length, drop, Bool, true, false, ◌==◌, slice_get, slice_set, Option, Some, None, MatchOption, inl, inr, refl, sym, ap, ap₂, ◌∙◌, subst, arith}
+use Rattle.std.proofs.Common.{◌≡◌, ◌≢◌, ◌⊎◌, ℕ, zero, suc, ◌+◌, ◌<◌, ◌≤◌, List, [], ◌∷◌, length, drop, Bool, true, false, ◌==◌, slice_get, slice_set, Option, Some, None, MatchOption, IfSome, inl, inr, refl, sym, ap, ap₂, ◌∙◌, subst, arith}
 use Rattle.std.proofs.lemmas.Option.{slice_get_within}
 use Rattle.std.proofs.lemmas.List.{length-set}
 use Rattle.std.proofs.lemmas.Bool.{false≢true}
@@ -7,6 +7,8 @@ use Rattle.std.proofs.lemmas.Bool.Decides.{nat_tests}
 use Rattle.clk_packet.specs.declared.packet.Packet.{Packet}
 use Rattle.clk_sched.specs.declared.session.inputs.Inputs.{Inputs}
 use Rattle.clk_sched.specs.declared.session.state.State.{State}
+use Rattle.clk_sched.specs.declared.session.state.State.TheVariants.{Shaper}
+use Rattle.clk_sched.specs.declared.session.shaper.Bucket.{Bucket}
 use Rattle.clk_sched.specs.declared.session.nodes.Nodes.{Nodes}
 use Rattle.clk_sched.specs.Tree.{Class, nodes, width}
 use Rattle.clk_sched.specs.Holds.OfClass.{Fits, Holds}
@@ -101,3 +103,11 @@ fit-set table states x s fit here =
         let is : s ≡ t = some-same s t (sym (set-here states x s within) ∙ sym (ap (slice_get (slice_set states x s)) at) ∙ f) in
         subst (λ z. Fits z (length p.each.items)) is (here p (subst (λ z. slice_get table z ≡ Some p) at e))
     by_place y p t e f false k = fit.each y p t e (sym (set-other states x y s (λ at. false≢true (sym k ∙ equal y x at))) ∙ f)
+
+-- the bucket of a table is that of a Shaper, which has an input
+pub shaper-fits : (table : List Inputs) (states : List State) (x : ℕ) (b : Bucket) → AllFit table states → slice_get states x ≡ Some (Shaper b) → IfSome (slice_get table x) (λ (p : Inputs). 1 ≤ length p.each.items)
+shaper-fits table states x b fit is = by_case (slice_get table x) refl
+  where
+    by_case : (o : Option Inputs) → slice_get table x ≡ o → IfSome o (λ (p : Inputs). 1 ≤ length p.each.items)
+    by_case None e = _
+    by_case (Some p) e = fit.each x p (Shaper b) e is

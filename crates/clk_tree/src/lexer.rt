@@ -32,7 +32,14 @@ fn is_blank(byte: u8) -> bool
 fn is_word_byte(byte: u8) -> bool
     ensures { result ≡ is_word_byte byte }
 {
-    matches!(byte, b'a'..=b'z' | b'A'..=b'Z' | b'0'..=b'9' | b'_')
+    // Most are small letters, which are known by two tests.
+    if byte >= b'a' {
+        return byte <= b'z';
+    }
+    if byte >= b'A' {
+        return byte <= b'Z' || byte == b'_';
+    }
+    byte >= b'0' && byte <= b'9'
 }
 
 /// Whether a text begins with this byte.

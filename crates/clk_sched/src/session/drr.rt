@@ -24,8 +24,8 @@ struct Served {
 /// The inputs of a DRRSched, and the cursor: the input whose turn it is.
 #[derive(Drop)]
 pub struct Deficits {
-    // Few inputs stay in the value.
-    row: SmallVec<Served, 4>,
+    // A row of several inputs isn't in the value, which is moved at each pull.
+    row: SmallVec<Served, 1>,
     cursor: u16,
     ghost few: { length row.items ≤ most_inputs },
     ghost cursor_within: { cursor < length row.items },
@@ -227,7 +227,7 @@ impl Deficits {
 }
 
 // An input for each quantum, before its first arrival.
-fn all_waiting(alloc: Global, quanta: &[u32]) -> Result<SmallVec<Served, 4>, AllocError>
+fn all_waiting(alloc: Global, quanta: &[u32]) -> Result<SmallVec<Served, 1>, AllocError>
     ensures { IfOk result (λ row. row.items ≡ map waiting quanta.now) }
 {
     let mut row = SmallVec::with_capacity(alloc, quanta.len())?;
@@ -238,7 +238,7 @@ fn all_waiting(alloc: Global, quanta: &[u32]) -> Result<SmallVec<Served, 4>, All
 }
 
 // Adds the quantum of an input to its deficit, as at each arrival.
-fn add_quantum(row: &mut SmallVec<Served, 4>, place: usize)
+fn add_quantum(row: &mut SmallVec<Served, 1>, place: usize)
     requires place { place < length row.old.items }
     requires fits { (s : Served) → slice_get row.old.items place ≡ Some s → s.deficit + s.quantum < 2 ^ 32 }
     ensures length { length row.new.items ≡ length row.old.items }

@@ -3,6 +3,7 @@
 use crate::ask::Ask;
 use crate::session::inputs::{Input, Inputs};
 use crate::session::prio::pull_prio;
+use crate::session::shaper::Bucket;
 use crate::session::state::State;
 use crate::session::stride::Rank;
 use crate::visit::Visit;
@@ -25,9 +26,10 @@ pub struct Nodes {
 }
 
 impl Nodes {
-    ghost use Rattle.std.specs.Prelude.{◌≡◌, ◌-◌, ◌<◌, ◌++◌, ◌∷◌, [], ◌+◌, ◌≤◌, length, IsSome, IfSome, true};
+    ghost use Rattle.std.specs.Prelude.{◌≡◌, ◌-◌, ◌<◌, ◌++◌, ◌∷◌, [], ◌+◌, ◌≤◌, length, IsSome, IfSome, Some, slice_get, true};
     ghost use Rattle.std.specs.List.{AllByRecursion, range_with_len};
     ghost use Rattle.clk_sched.specs.declared.visit.Visit.{Visit};
+    ghost use Rattle.clk_sched.specs.declared.session.state.State.TheVariants.{Shaper};
     ghost use Rattle.clk_sched.specs.Places.{edges_of, edges_at, edges_in, input_at, Answers, queue_asked};
     ghost use Rattle.clk_sched.specs.Pulling.{CanPull, Keeps, Pulls, Asks, AsksAll, added, now_of, asked_in_order, inputs_in};
     ghost use Rattle.clk_sched.specs.Log.{asking};
@@ -40,9 +42,11 @@ impl Nodes {
         ensures answers { Answers Q.gives (queue_asked self.old.inputs.items) q.old (added self.old self.new) q.new }
         ensures pulls { Pulls self.old self.new node result }
     {
-        // A PrioSched has nothing to take out.
-        if self.states[node as usize].is_prio() {
-            return pull_prio(self, q, node);
+        // A PrioSched has nothing to take out, and the bucket of a Shaper is copied.
+        match self.states[node as usize] {
+            State::Prio => return pull_prio(self, q, node),
+            State::Shaper(bucket) => return self.pull_shaper(q, node, bucket),
+            _ => {}
         }
         let mut state = replace(&mut self.states[node as usize], State::Prio);
         let got = state.pull(self, q, node);
@@ -50,8 +54,23 @@ impl Nodes {
         got
     }
 
+    /// Pulls a Shaper that holds this bucket, and keeps what it holds then.
+    #[cycle(pull)]
+    fn pull_shaper<Q: Ask>(&mut self, q: &mut Q, node: u16, mut bucket: Bucket) -> Option<Packet>
+        requires can_pull { CanPull self.old node (edges_of self.old.inputs.items node) }
+        requires holds { slice_get self.old.states.items node ≡ Some (Shaper bucket) }
+        ensures keeps { Keeps self.old self.new (edges_of self.old.inputs.items node) }
+        ensures answers { Answers Q.gives (queue_asked self.old.inputs.items) q.old (added self.old self.new) q.new }
+        ensures pulls { Pulls self.old self.new node result }
+    {
+        let got = bucket.pull(self, q, node);
+        self.states[node as usize] = State::Shaper(bucket);
+        got
+    }
+
     /// Asks inputs of a node in this order until one gives a packet, and answers its place in the order and the packet.
     #[cycle(pull)]
+    #[inline(never)]
     pub fn ask_in_order<Q: Ask>(
         &mut self,
         q: &mut Q,
@@ -100,6 +119,7 @@ impl Nodes {
 
     /// Asks what stands at an input of a node, and records the visit.
     #[cycle(pull)]
+    #[inline]
     fn look<Q: Ask>(&mut self, q: &mut Q, node: u16, input: u16) -> Option<Packet>
         requires can_pull { CanPull self.old node (edges_at self.old.inputs.items node input) }
         requires within { IsSome (input_at self.old.inputs.items node input) }

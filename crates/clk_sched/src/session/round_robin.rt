@@ -19,6 +19,7 @@ impl Beginning {
 
     /// Pulls a RoundRobinSched.
     #[cycle(pull)]
+    #[inline(never)]
     pub fn pull<Q: Ask>(&mut self, nodes: &mut Nodes, q: &mut Q, node: u16) -> Option<Packet>
         requires can_pull { CanPull nodes.old node (edges_of nodes.old.inputs.items node) }
         requires fits { IfSome (slice_get nodes.old.inputs.items node) (λ p. self.old.input < length p.each.items) }

@@ -35,8 +35,8 @@ impl Rank {
 /// pulls.
 #[derive(Drop)]
 pub struct Passes {
-    row: SmallVec<Rank, 8>,
-    strides: SmallVec<u32, 8>,
+    row: SmallVec<Rank, 2>,
+    strides: SmallVec<u32, 4>,
     ghost ranks: { All (IsRankOf (length strides.items)) row.items },
     ghost rising: { HasRisingPasses row.items } by { HasRisingPasses-prop row.items },
     ghost bounded: { All (λ stride. stride ≤ greatest_stride) strides.items },
@@ -100,6 +100,7 @@ impl Passes {
 
     /// Pulls a StrideSched.
     #[cycle(pull)]
+    #[inline(never)]
     pub fn pull<Q: Ask>(&mut self, nodes: &mut Nodes, q: &mut Q, node: u16) -> Option<Packet>
         requires can_pull { CanPull nodes.old node (edges_of nodes.old.inputs.items node) }
         requires fits { IfSome (slice_get nodes.old.inputs.items node) (λ p. FitsPasses (length p.each.items) self.old) }
@@ -122,7 +123,7 @@ impl Passes {
 mod tests;
 
 /// So many inputs, with a pass of 0 each.
-fn first_row(alloc: Global, inputs: u16) -> Result<SmallVec<Rank, 8>, AllocError>
+fn first_row(alloc: Global, inputs: u16) -> Result<SmallVec<Rank, 2>, AllocError>
     ensures { IfOk result (λ row. row.items ≡ map first_rank (range_with_len 0 inputs)) }
 {
     let mut row = SmallVec::new(alloc);
@@ -133,7 +134,7 @@ fn first_row(alloc: Global, inputs: u16) -> Result<SmallVec<Rank, 8>, AllocError
 }
 
 /// The stride of each input, by its tickets.
-fn strides_of(alloc: Global, tickets: &[u32]) -> Result<SmallVec<u32, 8>, AllocError>
+fn strides_of(alloc: Global, tickets: &[u32]) -> Result<SmallVec<u32, 4>, AllocError>
     requires { All (λ n. 1 ≤ n) tickets.now }
     ensures { IfOk result (λ strides. strides.items ≡ map stride_of tickets.now) }
 {

@@ -22,7 +22,7 @@ use Rattle.clk_sched.proofs.TurnRoundRobin.{round_robin-turn, parts, parts-order
 use Rattle.clk_sched.proofs.TurnStride.{stride-asks, stride-fits, stride-won, stride-none, stride-turn}
 use Rattle.clk_sched.proofs.TurnShaper.{Tells, IsTakenAt, shaper-asks, shaper-taken, shaper-none, shaper-turn, shaper-without}
 use Rattle.clk_sched.proofs.TurnOfClass.{drr-only, stride-only, shaper-only}
-use Rattle.clk_sched.proofs.PutBack.{pulls-put, set-here, set-other}
+use Rattle.clk_sched.proofs.PutBack.{pulls-put, set-here, set-other, fit-set, shaper-fits}
 use Rattle.clk_sched.proofs.Asking.{IsAsking, asks-front, apart-split, added-none, keeps-more, answers-then, asks-one, asking-first, asking-can, HasAsked, asking-given, asking-next, asking-all}
 use Rattle.clk_sched.proofs.Asked.{entry, rank_at, entry-input, input-is, edges-scheduler, queue-visited, asks-queue, asks-child}
 use Rattle.clk_sched.specs.Tree.{drr}
@@ -226,6 +226,41 @@ nodes::Nodes::pull-returns-clause-pulls g t c =
     (record { inputs = refl; log = refl; pull = refl; moment = refl; here = set-here a.states.items x c.replace-state.new.dest within; others = λ y d. set-other a.states.items x y c.replace-state.new.dest d }) state
     c.pull-got.ensures.turn
     (record { inputs = refl; log = refl; pull = refl; moment = refl; here = set-here turned.states.items x c.pull-got.new.self after_within; others = λ y d. set-other turned.states.items x y c.pull-got.new.self d })
+
+pub nodes::Nodes::pull_shaper-pull-got-requires : goal.nodes::Nodes::pull_shaper-pull-got-requires
+nodes::Nodes::pull_shaper-pull-got-requires g t c =
+    let a = c.args.self.now in
+    let fits = shaper-fits a.inputs.items a.states.items c.args.node c.args.bucket c.requires.can_pull.fit c.requires.holds in
+    let less = c.decreases in
+    λ κs le. (omega (arith, less), (search, (c.requires.can_pull, fits)))
+
+pub nodes::Nodes::pull_shaper-returns-clause-keeps : goal.nodes::Nodes::pull_shaper-returns-clause-keeps
+nodes::Nodes::pull_shaper-returns-clause-keeps g t c =
+    let table = c.args.self.now.inputs.items in
+    let turned = c.pull-got.new.nodes in
+    let k = c.pull-got.ensures.keeps in
+    record {
+      inputs = k.inputs;
+      pull = k.pull;
+      moment = k.moment;
+      fit = fit-set table turned.states.items c.args.node (Shaper c.pull-got.new.self) k.fit (λ p e. subst (λ o. IfSome o (λ q. 1 ≤ length q.each.items)) e c.pull-got.ensures.fits);
+      capacity = k.capacity;
+      grown = k.grown;
+      at_most = k.at_most;
+    }
+
+pub nodes::Nodes::pull_shaper-returns-clause-pulls : goal.nodes::Nodes::pull_shaper-returns-clause-pulls
+nodes::Nodes::pull_shaper-returns-clause-pulls g t c =
+    let a = c.args.self.now in
+    let x = c.args.node in
+    let before = Shaper c.args.bucket in
+    let now = Shaper c.pull-got.new.self in
+    let turned = c.pull-got.new.nodes in
+    let within : x < length turned.states.items = subst (λ n. x < n) (sym c.pull-got.ensures.keeps.fit.lengths) c.requires.can_pull.there in
+    pulls-put a a turned (record { inputs = turned.inputs; states = with_item turned.states x now; log = turned.log; pull = turned.pull; moment = turned.moment }) x before before now c.pull-got.result
+    (record { inputs = refl; log = refl; pull = refl; moment = refl; here = c.requires.holds; others = λ y d. refl }) c.requires.holds
+    (shaper-only a turned x before c.args.bucket now c.pull-got.result refl c.pull-got.ensures.turn)
+    (record { inputs = refl; log = refl; pull = refl; moment = refl; here = set-here turned.states.items x now within; others = λ y d. set-other turned.states.items x y now d })
 
 pub prio::pull_prio-ask_in_turn-requires : goal.prio::pull_prio-ask_in_turn-requires
 prio::pull_prio-ask_in_turn-requires g t c =

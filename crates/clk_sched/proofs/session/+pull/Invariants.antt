@@ -42,6 +42,9 @@ decreases-drr::Deficits::look g l = rank (length l.nodes.now.inputs.items) l.nod
 abbrev pub decreases-state::State::pull : goal.decreases-state::State::pull
 decreases-state::State::pull g l = rank (length l.nodes.now.inputs.items) l.node 5
 
+abbrev pub decreases-nodes::Nodes::pull_shaper : goal.decreases-nodes::Nodes::pull_shaper
+decreases-nodes::Nodes::pull_shaper g l = rank (length l.self.now.inputs.items) l.node 5
+
 abbrev pub decreases-nodes::Nodes::pull : goal.decreases-nodes::Nodes::pull
 decreases-nodes::Nodes::pull g l = rank (length l.self.now.inputs.items) l.node 6
 
