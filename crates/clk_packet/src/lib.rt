@@ -11,6 +11,7 @@ mod lengths;
 mod number;
 mod packet;
 mod packets;
+mod tally;
 mod traces;
 
 pub use bytes::{read_up_to, write_all};
@@ -22,6 +23,7 @@ pub use io::{Failed, Sink, Source};
 pub use number::number_in;
 pub use packet::{Kind, Offered, Packet};
 pub use packets::Packets;
+pub use tally::Tally;
 pub use traces::Traces;
 
 #[cfg(test)]

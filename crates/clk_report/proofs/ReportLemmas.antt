@@ -1,0 +1,80 @@
+-- Texts that are written part by part, and the lines of a report.
+use Rattle.std.proofs.Common.{◌≡◌, ℕ, ◌-◌, ◌≤◌, List, [], ◌∷◌, ◌++◌, length, take, drop, append_assoc, codes, decimal, get_or, Option, refl, sym, ap, ap₂, ◌∙◌, subst, arith}
+use Rattle.std.proofs.lemmas.List.{append-nil, drop_all, take_all, take-append-drop}
+use Rattle.std.proofs.lemmas.List.Concat.{flat_map-append}
+use Rattle.std.specs.List.{flat_map}
+use Rattle.std.specs.Io.KnownBytes.{Appends}
+use Rattle.clk_packet.specs.Bytes.{AppendsFront}
+use Rattle.clk_packet.specs.declared.packet.Packet.{Packet}
+use Rattle.clk_packet.specs.declared.tally.Tally.{Tally}
+use Rattle.clk_packet.proofs.BytesLemmas.{HasWritten, Appends-append}
+use Rattle.clk_report.specs.declared.total.Total.{Total}
+use Rattle.clk_report.specs.Report.{packets_from, tally_text, report_text, total_text}
+use Rattle.clk_report.specs.Totals.{total_of, line_text, words_text}
+use Rattle.clk_report.proofs.TotalLemmas.{both-of}
+
+-- one part more is written
+pub HasWritten-part : (old mid new : Option (List ℕ)) (text rest part after : List ℕ) → HasWritten old mid text rest → rest ≡ part ++ after → Appends mid new part → HasWritten old new text after
+HasWritten-part old mid new text rest part after h is more =
+    record {
+      front = h.front ++ part;
+      split = h.split ∙ ap (λ l. h.front ++ l) is ∙ sym (append_assoc h.front part after);
+      appends = Appends-append old mid new h.front part h.appends more;
+    }
+
+-- a front of the next part is written, and nothing after it
+pub HasWritten-cut : (old mid new : Option (List ℕ)) (text rest part after : List ℕ) → HasWritten old mid text rest → rest ≡ part ++ after → AppendsFront mid new part → AppendsFront old new text
+HasWritten-cut old mid new text rest part after h is cut = (
+  h.front ++ cut.0,
+  cut.1 ++ after,
+  h.split ∙ ap (λ l. h.front ++ l) (is ∙ ap (λ l. l ++ after) cut.2 ∙ append_assoc cut.0 cut.1 after) ∙ sym (append_assoc h.front cut.0 (cut.1 ++ after)),
+  Appends-append old mid new h.front cut.0 h.appends cut.3,
+)
+
+-- no part is left
+pub HasWritten-all : {X : Type 0} (f : X → List ℕ) (xs : List X) (old new : Option (List ℕ)) (text : List ℕ) → length xs ≡ 0 → HasWritten old new text (flat_map f xs) → Appends old new text
+HasWritten-all f [] old new text none h = subst (λ (t : List ℕ). Appends old new t) (sym (h.split ∙ append-nil h.front)) h.appends
+HasWritten-all f (x ∷ xs) old new text none h = absurd (omega (arith, none))
+
+-- a list in two parts
+pub flat_map-split : {X : Type 0} (f : X → List ℕ) (xs front back : List X) (n : ℕ) → front ≡ take n xs → back ≡ drop n xs → flat_map f xs ≡ flat_map f front ++ flat_map f back
+flat_map-split f xs front back n front-is back-is =
+    ap (flat_map f) (sym (take-append-drop n xs)) ∙ flat_map-append f (take n xs) (drop n xs) ∙ ap₂ (λ l m. flat_map f l ++ flat_map f m) (sym front-is) (sym back-is)
+
+-- the pieces of a line that is put together from its end
+pub line-joined : (a b c d e f g h p q r s t u v w x : List ℕ) → x ≡ a ++ w → w ≡ b ++ v → v ≡ c ++ u → u ≡ d ++ t → t ≡ e ++ s → s ≡ f ++ r → r ≡ g ++ q → q ≡ h ++ p
+    → x ≡ (a ++ (b ++ (c ++ (d ++ (e ++ (f ++ (g ++ h))))))) ++ p
+line-joined a b c d e f g h p q r s t u v w x x-is w-is v-is u-is t-is s-is r-is q-is =
+    x-is ∙ ap (λ l. a ++ l) (w-is ∙ ap (λ l. b ++ l) (v-is ∙ ap (λ l. c ++ l) (u-is ∙ ap (λ l. d ++ l) (t-is ∙ ap (λ l. e ++ l) (s-is ∙ ap (λ l. f ++ l) (r-is ∙ ap (λ l. g ++ l) q-is))))))
+    ∙ again
+  where
+    again : a ++ (b ++ (c ++ (d ++ (e ++ (f ++ (g ++ (h ++ p))))))) ≡ (a ++ (b ++ (c ++ (d ++ (e ++ (f ++ (g ++ h))))))) ++ p
+    again = simp append_assoc refl
+
+-- the line of a tally, told by the totals
+pub line-is : (emitted : List Packet) (tally : Tally) (came_out : Total) → came_out ≡ total_of (packets_from tally.sender emitted) → line_text came_out tally ≡ tally_text emitted tally
+line-is emitted tally came_out is =
+    ap (λ t. line_text t tally) is ∙ ap (λ t. line_with (words_text (codes ": sent") t)) (both-of tally.accepted tally.refused)
+    ∙ joined (codes "sender ") (decimal tally.sender) (codes ": sent") (total_text (tally.accepted ++ tally.refused)) (codes ", accepted") (total_text tally.accepted) (codes ", refused") (total_text tally.refused)
+    (codes ", evicted") (total_text tally.evicted) (codes ", emitted") (total_text (packets_from tally.sender emitted)) (codes "\n")
+  where
+    -- the line, where this tells what was sent
+    line_with : List ℕ → List ℕ
+    line_with sent =
+        codes "sender " ++ (decimal tally.sender ++ (sent ++ (words_text (codes ", accepted") (total_of tally.accepted) ++ (words_text (codes ", refused") (total_of tally.refused)
+        ++ (words_text (codes ", evicted") (total_of tally.evicted) ++ (words_text (codes ", emitted") (total_of (packets_from tally.sender emitted)) ++ codes "\n"))))))
+
+    joined : (a b c d e f g h i j k l m : List ℕ) → a ++ (b ++ ((c ++ d) ++ ((e ++ f) ++ ((g ++ h) ++ ((i ++ j) ++ ((k ++ l) ++ m)))))) ≡ a ++ (b ++ (c ++ (d ++ (e ++ (f ++ (g ++ (h ++ (i ++ (j ++ (k ++ (l ++ m)))))))))))
+    joined a b c d e f g h i j k l m = simp append_assoc refl
+
+-- the line of the first tally, before those of the others
+pub lines-first : (emitted : List Packet) (tallies : List Tally) (tally : Tally) (came_out : Total) → 1 ≤ length tallies → tally ≡ get_or tallies 0 tally → came_out ≡ total_of (packets_from tally.sender emitted)
+    → line_text came_out tally ++ report_text emitted (take (length tallies - 1) (drop 1 tallies)) ≡ report_text emitted tallies
+lines-first emitted [] tally came_out some is counted = absurd (omega (arith, some))
+lines-first emitted (first ∷ tallies) tally came_out some is counted =
+    ap (λ l. l ++ report_text emitted (take (length (first ∷ tallies) - 1) tallies)) (line-is emitted tally came_out counted ∙ ap (tally_text emitted) is)
+    ∙ ap (λ ts. tally_text emitted first ++ report_text emitted ts) (take_all (length (first ∷ tallies) - 1) tallies (omega arith))
+
+-- lines at the end of a buffer are all that stands from there on
+pub lines-alone : (emitted : List Packet) (part : List Tally) (from lines : List ℕ) (n : ℕ) → length lines ≤ n → from ≡ report_text emitted part ++ drop n lines → from ≡ report_text emitted part
+lines-alone emitted part from lines n full is = is ∙ ap (λ l. report_text emitted part ++ l) (drop_all n lines full) ∙ append-nil (report_text emitted part)

@@ -1,0 +1,39 @@
+use Rattle.std.proofs.Common.{refl, ap, ◌∙◌, ◌+◌, arith}
+use Rattle.std.proofs.lemmas.Result.{err_from_is_err_and}
+use Rattle.clk_report.specs.Report.{report_text, tally_text}
+use Rattle.clk_report.proofs.TotalLemmas.{AreTotals-zero}
+use Rattle.clk_report.proofs.ReportLemmas.{HasWritten-part, HasWritten-cut, flat_map-split, lines-alone}
+use Rattle.clk_report.proofs.senders.report.Goals as goal
+
+pub count_by_sender-requires : goal.count_by_sender-requires
+count_by_sender-requires g c = record { none = AreTotals-zero 65536 _ refl refl }
+
+pub returns-in_err-write_all : goal.returns-in_err-write_all
+returns-in_err-write_all g c =
+    let p = err_from_is_err_and c.from_residual.result c.from_residual.ensures.1 in
+    let emitted = c.args.emitted.now in
+    let part = c.split_at.result.0.now in
+    let after = c.split_at.result.1.now in
+    let is = c.split_at-in-loop-rest.ensures.back ∙ lines-alone emitted part _ c.loop-rest.lines 32768 (omega arith) (c.put_lines-start.ensures.piece emitted c.count_by_sender.ensures.totals) in
+    let split = flat_map-split (tally_text emitted) c.loop-rest.rest.now part after c.min.result c.split_at.ensures.front c.split_at.ensures.back in
+    let failed = rw is at c.in_err-write_all.ensures in
+    rw (p.1, p.2) (record {
+      whole = tt;
+      front = HasWritten-cut _ _ _ _ (report_text emitted c.loop-rest.rest.now) (report_text emitted part) (report_text emitted after) c.loop-rest.invariant.front split failed.front;
+      fault = failed.fault;
+      succeeds = tt;
+      fails = failed.fails ∙ ap (λ n. n + 1) c.loop-rest.invariant.failures;
+    })
+
+pub loop-rest-preserved : goal.loop-rest-preserved
+loop-rest-preserved g c =
+    let emitted = c.args.emitted.now in
+    let part = c.split_at.result.0.now in
+    let after = c.split_at.result.1.now in
+    let is = c.split_at-in-loop-rest.ensures.back ∙ lines-alone emitted part _ c.loop-rest.lines 32768 (omega arith) (c.put_lines-start.ensures.piece emitted c.count_by_sender.ensures.totals) in
+    let split = flat_map-split (tally_text emitted) c.loop-rest.rest.now part after c.min.result c.split_at.ensures.front c.split_at.ensures.back in
+    let wrote = rw is at c.in_ok-write_all.ensures in
+    record {
+      front = HasWritten-part _ _ _ _ (report_text emitted c.loop-rest.rest.now) (report_text emitted part) (report_text emitted after) c.loop-rest.invariant.front split wrote.whole;
+      failures = wrote.succeeds ∙ c.loop-rest.invariant.failures;
+    }

@@ -1,0 +1,32 @@
+-- Totals of packets, as the report counts them.
+use Rattle.std.specs.Prelude.{◌≡◌, ℕ, ◌+◌, ◌≤◌, List, ◌++◌, length, Some, slice_get, codes, decimal}
+use Rattle.clk_packet.specs.Limits.{most_sender}
+use Rattle.clk_packet.specs.declared.packet.Packet.{Packet}
+use Rattle.clk_packet.specs.declared.tally.Tally.{Tally}
+use Rattle.clk_report.specs.declared.total.Total.{Total}
+use Rattle.clk_report.specs.Report.{packets_from, bytes_of, numbers_text}
+
+abbrev pub total_of : List Packet → Total
+total_of packets = record { packets = length packets; bytes = bytes_of packets }
+
+-- a total with one packet more
+abbrev pub with_packet : Packet → Total → Total
+with_packet p total = record { packets = total.packets + 1; bytes = total.bytes + p.length }
+
+abbrev pub both : Total → Total → Total
+both one other = record { packets = one.packets + other.packets; bytes = one.bytes + other.bytes }
+
+-- at the number of each sender stands the total of its packets
+pub record AreTotals (packets : List Packet) (totals : List Total) : Type 0 where
+  pub count : length totals ≡ most_sender + 1
+  pub each : (s : ℕ) → s ≤ most_sender → slice_get totals s ≡ Some (total_of (packets_from s packets))
+
+abbrev pub words_text : List ℕ → Total → List ℕ
+words_text words total = words ++ numbers_text total.packets total.bytes
+
+-- the line of a tally, of whose sender so many packets came out at the device
+abbrev pub line_text : Total → Tally → List ℕ
+line_text came_out tally =
+    codes "sender " ++ (decimal tally.sender ++ (words_text (codes ": sent") (both (total_of tally.accepted) (total_of tally.refused))
+    ++ (words_text (codes ", accepted") (total_of tally.accepted) ++ (words_text (codes ", refused") (total_of tally.refused)
+    ++ (words_text (codes ", evicted") (total_of tally.evicted) ++ (words_text (codes ", emitted") came_out ++ codes "\n"))))))

@@ -1,0 +1,35 @@
+-- The visit CSV: a header line and a row for each visit of a log (this project's own columns, in rows as the crate csv writes them).
+use Rattle.std.specs.Prelude.{ℕ, List, [], ◌∷◌, ◌++◌, Bool, if◌then◌else◌, Option, Some, None, option_map, codes, decimal}
+use Rattle.std.specs.List.{flat_map}
+use Rattle.csv.specs.Writing.{default_writer, row_text}
+use Rattle.clk_packet.specs.declared.packet.Packet.{Packet}
+use Rattle.clk_sched.specs.declared.visit.Visit.{Visit}
+
+-- whether, as 0 or 1
+abbrev pub flag_text : Bool → List ℕ
+flag_text flag = if flag then codes "1" else codes "0"
+
+-- a number, and nothing where there is none
+abbrev pub number_or_none : Option ℕ → List ℕ
+number_or_none None = []
+number_or_none (Some n) = decimal n
+
+-- a field of the packet that was got
+abbrev pub got_text : (Packet → ℕ) → Option Packet → List ℕ
+got_text field got = number_or_none (option_map field got)
+
+-- the names of the columns
+abbrev pub header_text : List ℕ
+header_text = codes "pull,node,input,fresh,sender,number,length,passed,moment\n"
+
+-- what a visit shows in each column
+abbrev pub columns : Visit → List (List ℕ)
+columns v =
+    decimal v.pull ∷ decimal v.node ∷ decimal v.input ∷ flag_text v.fresh ∷ got_text (λ p. p.sender) v.got ∷ got_text (λ p. p.number) v.got
+    ∷ got_text (λ p. p.length) v.got ∷ flag_text v.passed ∷ decimal v.moment ∷ []
+
+abbrev pub rows_text : List Visit → List ℕ
+rows_text log = flat_map (λ v. row_text default_writer (columns v)) log
+
+abbrev pub visits_text : List Visit → List ℕ
+visits_text log = header_text ++ rows_text log

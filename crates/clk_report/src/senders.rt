@@ -1,0 +1,60 @@
+//! The report: what became of each sender's packets.
+
+ghost use Rattle.std.specs.Prelude.{◌≡◌, ◌+◌, ◌*◌, ◌≤◌, ◌++◌, List, drop, length};
+ghost use Rattle.clk_packet.specs.Bytes.{Wrote};
+ghost use Rattle.clk_packet.specs.declared.packet.Packet.{Packet};
+ghost use Rattle.clk_report.specs.Report.{report_text};
+ghost use Rattle.clk_report.specs.Totals.{AreTotals};
+
+use crate::line::{LINE, put_line};
+use crate::total::{SENDERS, Total, count_by_sender};
+use clk_packet::{Fault, Packet, Sink, Tally, write_all};
+
+/// How many lines are written at a time.
+const LINES: usize = 64;
+
+/// How many bytes they have at most.
+const ROOM: usize = LINES * LINE;
+
+/// Writes the report: a line for each tally, in order, where these packets came out at the device. `N B` stands for N packets whose
+/// lengths sum to B bytes, and sent is accepted and refused together:
+///
+/// `sender S: sent N B, accepted N B, refused N B, evicted N B, emitted N B`
+///
+/// Takes no memory, and time in proportion to the packets and the tallies.
+///
+/// # Errors
+///
+/// Fault 20 where the sink fails. It has taken a front of the report then.
+pub fn report<W: Sink>(tallies: &[Tally], emitted: &[Packet], writer: &mut W) -> Result<(), Fault>
+    ensures { Wrote (W.Sink.taken writer.old) (W.Sink.taken writer.new)
+        (W.Sink.failures writer.old) (W.Sink.failures writer.new) result (report_text emitted.now tallies.now) }
+{
+    let mut totals = [Total::NONE; SENDERS];
+    count_by_sender(&mut totals, emitted);
+    let mut lines = [0; ROOM];
+    let mut rest = tallies;
+    while !rest.is_empty() {
+        let (part, after) = rest.split_at(rest.len().min(LINES));
+        let start = put_lines(&mut lines, part, &totals, ROOM);
+        let (_, text) = lines.split_at(start);
+        write_all(writer, text)?;
+        rest = after;
+    }
+    Ok(())
+}
+
+/// Puts the lines of some tallies, where these are the totals of what came out by sender, before this place, and gives where they start.
+fn put_lines(lines: &mut [u8], tallies: &[Tally], totals: &[Total; SENDERS], end: usize) -> usize
+    requires room { 512 * length tallies.now ≤ end }
+    requires within { end ≤ length lines.old }
+    ensures piece { (emitted : List Packet) → AreTotals emitted totals.now → drop result lines.new ≡ report_text emitted tallies.now ++ drop end lines.old }
+    ensures near { end ≤ result + 512 * length tallies.now }
+    ensures before { result ≤ end }
+{
+    let [first, rest @ ..] = tallies else {
+        return end;
+    };
+    let end = put_lines(lines, rest, totals, end);
+    put_line(lines, first, totals[usize::from(first.sender)], end)
+}

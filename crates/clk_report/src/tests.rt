@@ -1,0 +1,27 @@
+//! The texts of worked rows, and writers that fail.
+
+mod logs;
+mod reports;
+mod rows;
+
+ghost use Rattle.std.specs.Prelude.{◌≡◌, ◌≤◌};
+
+use clk_packet::{FailingSink, Packet};
+use std::alloc::{AllocError, Global};
+
+// The packet of this number from this sender, of 1 to 65,535 bytes.
+fn packet(sender: u16, number: u32, length: u16) -> Packet
+    requires { 1 ≤ length }
+    ensures { result.sender ≡ sender }
+{
+    Packet {
+        number,
+        sender,
+        length,
+    }
+}
+
+// A sink that takes so many bytes.
+fn sink_of(alloc: Global, room: usize) -> Result<FailingSink, AllocError> {
+    Ok(FailingSink::new(vec![in alloc; 0; room]?))
+}

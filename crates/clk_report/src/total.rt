@@ -1,0 +1,70 @@
+//! Numbers of packets and of their bytes.
+
+ghost use Rattle.std.specs.Prelude.{[]};
+ghost use Rattle.clk_report.specs.Totals.{AreTotals};
+
+use clk_packet::Packet;
+
+/// How many senders there may be.
+pub const SENDERS: usize = 65_536;
+
+/// So many packets, and the sum of their lengths in bytes.
+#[derive(Clone, Copy)]
+pub struct Total {
+    pub packets: u64,
+    pub bytes: u128,
+}
+
+impl Total {
+    ghost use Rattle.std.specs.Prelude.{◌≡◌, ◌+◌, ◌<◌, ◌^◌};
+    ghost use Rattle.clk_report.specs.Totals.{total_of, with_packet, both};
+
+    /// Of no packets.
+    pub const NONE: Total = Total {
+        packets: 0,
+        bytes: 0,
+    };
+
+    /// With one packet more.
+    fn add(&mut self, packet: Packet)
+        requires packets { self.old.packets + 1 < 2 ^ 64 }
+        requires bytes { self.old.bytes + packet.length < 2 ^ 128 }
+        ensures { self.new ≡ with_packet packet self.old }
+    {
+        self.packets += 1;
+        self.bytes += u128::from(packet.length);
+    }
+
+    /// With those of another.
+    pub fn and(self, other: Total) -> Total
+        requires packets { self.packets + other.packets < 2 ^ 64 }
+        requires bytes { self.bytes + other.bytes < 2 ^ 128 }
+        ensures { result ≡ both self other }
+    {
+        Total {
+            packets: self.packets + other.packets,
+            bytes: self.bytes + other.bytes,
+        }
+    }
+
+    /// Of some packets.
+    pub fn of(packets: &[Packet]) -> Total
+        ensures { result ≡ total_of packets.now }
+    {
+        let mut total = Total::NONE;
+        for packet in packets {
+            total.add(*packet);
+        }
+        total
+    }
+}
+
+/// Counts packets by the numbers of their senders, in a table that has counted none.
+pub fn count_by_sender(totals: &mut [Total; SENDERS], packets: &[Packet])
+    requires none { AreTotals [] totals.old }
+    ensures totals { AreTotals packets.now totals.new }
+{
+    for packet in packets {
+        totals[usize::from(packet.sender)].add(*packet);
+    }
+}

@@ -1,0 +1,120 @@
+//! The visit CSV.
+
+ghost use Rattle.std.specs.Prelude.{◌≡◌, ◌++◌, ◌⊎◌, Some, false, decimal, IfOk, IfErr, OnOk, OnErr, IsOkUnless};
+ghost use Rattle.std.specs.Io.KnownBytes.{Appends};
+ghost use Rattle.csv.specs.Writing.{default_writer, fields_written, has_written, row_text, text_written, writer_setup};
+ghost use Rattle.clk_packet.specs.Bytes.{AppendsFront, write_failures};
+ghost use Rattle.clk_packet.specs.declared.fault.Fault.TheVariants.{Memory, Write};
+ghost use Rattle.clk_report.specs.VisitCsv.{columns, flag_text, number_or_none, rows_text, visits_text};
+
+use clk_packet::{Fault, Sink, write_all};
+use clk_sched::Visit;
+use csv::{Writer, WriterBuilder};
+use itoa::Buffer;
+use std::alloc::Global;
+
+/// The names of the columns.
+const HEADER: &[u8] = b"pull,node,input,fresh,sender,number,length,passed,moment\n";
+
+/// How many rows are written at a time.
+const ROWS: usize = 4096;
+
+/// Writes a log as CSV: a header line, and a row for each visit, in order. `fresh` and `passed` are 0 or 1; where nothing was got, the
+/// sender, the number and the length are empty.
+///
+/// # Errors
+///
+/// Fault 1 where memory is refused, and 20 where the sink fails. It has taken a front of the text then.
+pub fn visits_csv<W: Sink>(alloc: Global, log: &[Visit], writer: &mut W) -> Result<(), Fault>
+    ensures whole { OnOk result (Appends (W.Sink.taken writer.old) (W.Sink.taken writer.new) (visits_text log.now)) }
+    ensures front { OnErr result (AppendsFront (W.Sink.taken writer.old) (W.Sink.taken writer.new) (visits_text log.now)) }
+    ensures fault { IfErr result (λ e. (e ≡ Memory) ⊎ (e ≡ Write)) }
+    ensures failures { W.Sink.failures writer.new ≡ write_failures result (W.Sink.failures writer.old) }
+{
+    write_all(writer, HEADER)?;
+    let mut rest = log;
+    while !rest.is_empty() {
+        let (part, after) = rest.split_at(rest.len().min(ROWS));
+        let rows = rows_text(alloc, part)?;
+        write_all(writer, &rows)?;
+        rest = after;
+    }
+    Ok(())
+}
+
+/// The rows of some visits. Fault 1 where memory is refused.
+fn rows_text(alloc: Global, log: &[Visit]) -> Result<Vec<u8>, Fault>
+    ensures rows { IfOk result (λ rows. rows.items ≡ rows_text log.now) }
+    ensures fault { IsOkUnless result Fault.Memory }
+{
+    let mut rows = WriterBuilder::new().from_writer(Vec::new(alloc));
+    for visit in log {
+        write_visit(&mut rows, visit)?;
+    }
+    // Over bytes in memory, a write fails for want of memory alone.
+    match rows.into_inner() {
+        Ok(text) => Ok(text),
+        Err(_) => Err(Fault::Memory),
+    }
+}
+
+/// Writes the row of a visit. Fault 1 where memory is refused.
+fn write_visit(rows: &mut Writer<Vec<u8>>, visit: &Visit) -> Result<(), Fault>
+    requires setup { writer_setup rows.old ≡ default_writer }
+    requires fields { fields_written rows.old ≡ 0 }
+    requires wrote { has_written rows.old ≡ false }
+    ensures row { OnOk result (Appends (text_written (λ v. Some v.items) rows.old) (text_written (λ v. Some v.items) rows.new) (row_text default_writer (columns visit.now))) }
+    ensures setup { OnOk result (writer_setup rows.new ≡ default_writer) }
+    ensures fields { OnOk result (fields_written rows.new ≡ 0) }
+    ensures wrote { OnOk result (has_written rows.new ≡ false) }
+    ensures fault { IsOkUnless result Fault.Memory }
+{
+    let (mut pull, mut node, mut input) = (Buffer::new(), Buffer::new(), Buffer::new());
+    let (mut sender, mut number, mut length) = (Buffer::new(), Buffer::new(), Buffer::new());
+    let mut moment = Buffer::new();
+    let row = [
+        number_text(&mut pull, visit.pull),
+        number_text(&mut node, u64::from(visit.node)),
+        number_text(&mut input, u64::from(visit.input)),
+        flag_text(visit.fresh),
+        got_text(
+            &mut sender,
+            visit.got.map(|packet| u32::from(packet.sender)),
+        ),
+        got_text(&mut number, visit.got.map(|packet| packet.number)),
+        got_text(
+            &mut length,
+            visit.got.map(|packet| u32::from(packet.length)),
+        ),
+        flag_text(visit.passed),
+        number_text(&mut moment, visit.moment),
+    ];
+    match rows.write_fields(&row) {
+        Ok(()) => Ok(()),
+        Err(_) => Err(Fault::Memory),
+    }
+}
+
+/// A number, in a buffer of its own.
+fn number_text(buffer: &mut Buffer, number: u64) -> &[u8]
+    ensures { result.now ≡ decimal number }
+{
+    buffer.format(number).as_bytes()
+}
+
+/// A number, if there is one, and nothing else.
+fn got_text(buffer: &mut Buffer, number: Option<u32>) -> &[u8]
+    ensures { result.now ≡ number_or_none number }
+{
+    match number {
+        Some(number) => number_text(buffer, u64::from(number)),
+        None => b"",
+    }
+}
+
+/// Whether, as 0 or 1.
+fn flag_text(flag: bool) -> &'static [u8]
+    ensures { result.now ≡ flag_text flag }
+{
+    if flag { b"1" } else { b"0" }
+}
