@@ -1,0 +1,1 @@
+q :: Queue; d :: ToDevice(link); s :: Sender(0); s -> q -> d;

@@ -1,0 +1,1 @@
+s :: Sender(3); q :: FrontDropQueue(1); d :: ToDevice(link); s -> q -> d;
