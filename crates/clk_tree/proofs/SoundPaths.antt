@@ -11,7 +11,7 @@ use Rattle.clk_tree.specs.declared.class.Role.TheVariants as role
 use Rattle.clk_tree.specs.declared.node.Node.{Node}
 use Rattle.clk_tree.specs.declared.node.Link.{Link}
 use Rattle.clk_tree.specs.Ports.{role_at, is_source, is_queue, is_device, is_scheduler, has_output, uses_input, inputs_of, all_connected, next, follow, leads, bad_port, port_twice, port_missing, wrong_kind, has_device, many_devices, not_a_tree}
-use Rattle.clk_tree.specs.Size.{levels_from, some_too_large}
+use Rattle.clk_tree.specs.Size.{levels_from, some_too_large, too_large}
 use Rattle.clk_tree.specs.Faults.{port_fault, shape_fault, nodes_fault}
 use Rattle.clk_tree.specs.Plan.{source_at}
 use Rattle.clk_tree.proofs.FailureLemmas.{bad-port-first, wrong-kind-first}
@@ -31,11 +31,19 @@ pub none-of : (fault : ℕ → Fault) (place : Option ℕ) → option_map fault 
 none-of fault None e = refl
 none-of fault (Some place) e = absurd (cc)
 
-zeroth : (i : ℕ) → 0 + i ≡ i
-zeroth i = omega arith
+-- No check finds a fault.
+pub record AreFaultless (nodes : List Node) (links : List Link) : Type 0 where
+  pub ports : bad_port nodes links ≡ None
+  pub twice : port_twice nodes links ≡ None
+  pub missing : port_missing nodes links ≡ None
+  pub kinds : wrong_kind nodes links ≡ None
+  pub device : (if has_device nodes then None else Some NoDevice) ≡ None
+  pub devices : many_devices nodes ≡ None
+  pub tree : not_a_tree nodes links ≡ None
+  pub size : (if too_large nodes links then Some TooLarge else None) ≡ None
 
-pub are-sound : (nodes : List Node) (links : List Link) → nodes_fault nodes links ≡ None → AreSound nodes links
-are-sound nodes links e =
+pub each-check : (nodes : List Node) (links : List Link) → nodes_fault nodes links ≡ None → AreFaultless nodes links
+each-check nodes links e =
     let all = neither (port_fault nodes links) (shape_fault nodes links) e in
     let ports = neither (option_map BadPort (bad_port nodes links)) _ all.0 in
     let twice = neither (option_map PortTwice (port_twice nodes links)) _ ports.1 in
@@ -44,13 +52,30 @@ are-sound nodes links e =
     let many = neither (option_map ManyDevices (many_devices nodes)) _ devices.1 in
     let trees = neither (option_map NotATree (not_a_tree nodes links)) _ many.1 in
     record {
-      right = all-right nodes links (bad-port-first nodes links ∙ none-of BadPort (bad_port nodes links) ports.0) (wrong-kind-first nodes links ∙ none-of WrongKind (wrong_kind nodes links) missing.1);
-      onward = all-next nodes [] links (none-of PortTwice (port_twice nodes links) twice.0);
-      connected = λ i r at. subst (λ j. IsConnected links j r) (zeroth i) (connected-at links 0 nodes i r (none-of PortMissing (port_missing nodes links) missing.0) at);
-      ends = λ i r at is. subst (λ j. leads nodes links j ≡ true) (zeroth i) (leads-at nodes links 0 nodes i r (none-of NotATree (not_a_tree nodes links) trees.0) at is);
-      small = λ i r at. subst (λ j. IsSmall nodes links j r) (zeroth i) (small-at nodes links 0 nodes i r (no-size (nat_lt most_elements (length nodes)) (some_too_large 0 nodes nodes links) trees.1) at);
-      device = has (has_device nodes) devices.0;
-      once = none-of PortTwice (port_twice nodes links) twice.0;
+      ports = none-of BadPort (bad_port nodes links) ports.0;
+      twice = none-of PortTwice (port_twice nodes links) twice.0;
+      missing = none-of PortMissing (port_missing nodes links) missing.0;
+      kinds = none-of WrongKind (wrong_kind nodes links) missing.1;
+      device = devices.0;
+      devices = none-of ManyDevices (many_devices nodes) many.0;
+      tree = none-of NotATree (not_a_tree nodes links) trees.0;
+      size = trees.1;
+    }
+
+zeroth : (i : ℕ) → 0 + i ≡ i
+zeroth i = omega arith
+
+pub are-sound : (nodes : List Node) (links : List Link) → nodes_fault nodes links ≡ None → AreSound nodes links
+are-sound nodes links e =
+    let all = each-check nodes links e in
+    record {
+      right = all-right nodes links (bad-port-first nodes links ∙ all.ports) (wrong-kind-first nodes links ∙ all.kinds);
+      onward = all-next nodes [] links all.twice;
+      connected = λ i r at. subst (λ j. IsConnected links j r) (zeroth i) (connected-at links 0 nodes i r all.missing at);
+      ends = λ i r at is. subst (λ j. leads nodes links j ≡ true) (zeroth i) (leads-at nodes links 0 nodes i r all.tree at is);
+      small = λ i r at. subst (λ j. IsSmall nodes links j r) (zeroth i) (small-at nodes links 0 nodes i r (no-size (nat_lt most_elements (length nodes)) (some_too_large 0 nodes nodes links) all.size) at);
+      device = has (has_device nodes) all.device;
+      once = all.twice;
     }
   where
     has : (b : Bool) → (if b then None else Some NoDevice) ≡ None → b ≡ true

@@ -4,45 +4,13 @@ use Rattle.clk_packet.specs.declared.fault.Fault.TheVariants.{BadPort, PortTwice
 use Rattle.clk_tree.specs.declared.node.Node.{Node}
 use Rattle.clk_tree.specs.declared.node.Link.{Link}
 use Rattle.clk_tree.specs.Source.{Element, Wire}
-use Rattle.clk_tree.specs.Ports.{bad_port, port_twice, port_missing, wrong_kind, has_device, many_devices, not_a_tree}
-use Rattle.clk_tree.specs.Size.{too_large}
+use Rattle.clk_tree.specs.Ports.{bad_port, port_twice, port_missing, has_device, many_devices, not_a_tree}
 use Rattle.clk_tree.specs.Faults.{nodes_of, links_of, naming_fault, port_fault, shape_fault, nodes_fault, fault_of}
 use Rattle.clk_tree.proofs.SoundChecks.{neither}
-use Rattle.clk_tree.proofs.SoundPaths.{none-of}
+use Rattle.clk_tree.proofs.SoundPaths.{AreFaultless, each-check}
 use Rattle.clk_tree.proofs.SameWiring.{IsRewired, AreSameNodes}
 use Rattle.clk_tree.proofs.WiringAgainPorts.{both-none, links-right, none-twice, none-missing}
 use Rattle.clk_tree.proofs.WiringAgainShape.{same-device, one-device, is-tree, same-large}
-
--- No check finds a fault.
-record AreFaultless (nodes : List Node) (links : List Link) : Type 0 where
-  ports : bad_port nodes links ≡ None
-  twice : port_twice nodes links ≡ None
-  missing : port_missing nodes links ≡ None
-  kinds : wrong_kind nodes links ≡ None
-  device : (if has_device nodes then None else Some NoDevice) ≡ None
-  devices : many_devices nodes ≡ None
-  tree : not_a_tree nodes links ≡ None
-  size : (if too_large nodes links then Some TooLarge else None) ≡ None
-
-each-check : (nodes : List Node) (links : List Link) → nodes_fault nodes links ≡ None → AreFaultless nodes links
-each-check nodes links e =
-    let all = neither (port_fault nodes links) (shape_fault nodes links) e in
-    let ports = neither (option_map BadPort (bad_port nodes links)) _ all.0 in
-    let twice = neither (option_map PortTwice (port_twice nodes links)) _ ports.1 in
-    let missing = neither (option_map PortMissing (port_missing nodes links)) _ twice.1 in
-    let devices = neither (if has_device nodes then None else Some NoDevice) _ all.1 in
-    let many = neither (option_map ManyDevices (many_devices nodes)) _ devices.1 in
-    let trees = neither (option_map NotATree (not_a_tree nodes links)) _ many.1 in
-    record {
-      ports = none-of BadPort (bad_port nodes links) ports.0;
-      twice = none-of PortTwice (port_twice nodes links) twice.0;
-      missing = none-of PortMissing (port_missing nodes links) missing.0;
-      kinds = none-of WrongKind (wrong_kind nodes links) missing.1;
-      device = devices.0;
-      devices = none-of ManyDevices (many_devices nodes) many.0;
-      tree = none-of NotATree (not_a_tree nodes links) trees.0;
-      size = trees.1;
-    }
 
 every-check : (nodes : List Node) (links : List Link) → AreFaultless nodes links → nodes_fault nodes links ≡ None
 every-check nodes links all =
