@@ -1,5 +1,5 @@
 -- How the answer to a script goes on by one line.
-use Rattle.std.proofs.Common.{◌≡◌, ℕ, ◌+◌, ◌≤◌, ◌||◌, List, [], ◌∷◌, ◌++◌, length, map, max, fold, Option, Some, None, Result, Ok, Err, MatchOption, MatchResult, OnOk, IsOkUnless, ◌⊎◌, inl, inr, nat_lt, Bool, true, false, refl, sym, ap, subst, ◌∙◌, append_assoc, length-append, arith}
+use Rattle.std.proofs.Common.{◌≡◌, ℕ, ◌+◌, ◌≤◌, ◌||◌, List, [], ◌∷◌, ◌++◌, length, map, max, fold, Option, Some, None, Result, Ok, Err, MatchOption, MatchResult, OnOk, IsOkUnless, ◌⊎◌, inl, inr, nat_lt, Bool, true, false, refl, sym, ap, ap₂, subst, ◌∙◌, append_assoc, length-append, arith}
 use Rattle.std.specs.List.{flat_map, filter_map, cons_option, AllByRecursion}
 use Rattle.std.proofs.lemmas.Bool.Decides.{nat_tests}
 use Rattle.std.proofs.lemmas.List.{append-nil, map-append}
@@ -11,12 +11,15 @@ use Rattle.clickpull.specs.declared.router.Router.{Router}
 use Rattle.clickpull.specs.declared.script.Line.{Line}
 use Rattle.clickpull.specs.declared.script.Line.TheVariants as line
 use Rattle.clk_tree.specs.declared.plan.parts.SenderSpec.{SenderSpec}
+use Rattle.clk_packet.specs.declared.packet.Packet.{Packet}
+use Rattle.clk_packet.specs.declared.tally.Tally.{Tally}
+use Rattle.clk_report.specs.Report.{report_text}
+use Rattle.clk_sched.specs.Results.{emitted}
 use Rattle.clk_tree.specs.PlanParts.{AreRising, SendsWithin}
-use Rattle.clickpull.specs.declared.senders.Sender.{Sender}
 use Rattle.clickpull.specs.Script.{lines_of, command_in, commands_of, drain_in, is_drain, closing_moment, command_fault, line_fault, fault_at, first_fault, script_fault, most_bytes, most_lines, most_moment}
-use Rattle.clickpull.specs.Meaning.{Setup, sender_numbers, Event, offered, pulled, command_of, number_from, moment_in, accepted_in, event_text, closing_text, ending_text, CanHappen, Writes, StopsShort}
+use Rattle.clickpull.specs.Meaning.{Setup, sender_numbers, Event, offered, pulled, command_of, number_from, moment_in, accepted_in, evicted_in, event_text, closing_text, tally_after, log_of, CanHappen, WritesWith, StopsShort}
 use Rattle.clickpull.specs.Router.{IsNumber, sender_after, IsAt, CanSend, IsReady, IsReadable, AnswersCommand, AnswersLine, AnswersDrain, StopsDrain, StopsScript}
-use Rattle.clickpull.proofs.SenderLemmas.{numbers-its}
+use Rattle.clickpull.proofs.SenderLemmas.{numbers-its, alike-its}
 use Rattle.clickpull.proofs.ClosingLemmas.{its-latest}
 use Rattle.clickpull.proofs.ScriptLemmas.{readable-commands}
 
@@ -74,17 +77,20 @@ HasAnswered-line setup old new script rest after l number before text h e undrai
 
 -- a script that ends without a drain
 pub Writes-answered : (setup : Setup) (router : Router) (script rest : List ℕ) (number : ℕ) (text : List ℕ) → HasAnswered setup router script rest number text → length rest ≡ 0
-    → Writes setup (commands_of script) (closing_moment script) text
+    → WritesWith setup (commands_of script) (closing_moment script) (text ++ []) router.session.log
 Writes-answered setup router script (byte ∷ rest) number text h none = absurd (omega arith)
 Writes-answered setup router script [] number text h none =
-    subst (λ drain. Writes setup (commands_of script) drain text) h.not_closed
+    subst (λ drain. WritesWith setup (commands_of script) drain (text ++ []) router.session.log) h.not_closed
     (record {
-      events = h.events;
-      theirs = sym (append-nil (map command_of h.events)) ∙ h.theirs;
-      closed = [];
-      closes = refl;
-      can_happen = subst (CanHappen setup) (sym (append-nil h.events)) h.leads.can_happen;
-      lines = h.lines ∙ sym (append-nil (flat_map event_text h.events));
+      writes = record {
+        events = h.events;
+        theirs = sym (append-nil (map command_of h.events)) ∙ h.theirs;
+        closed = [];
+        closes = refl;
+        can_happen = subst (CanHappen setup) (sym (append-nil h.events)) h.leads.can_happen;
+        lines = ap (λ l. l ++ []) h.lines;
+      };
+      logged = h.leads.log ∙ ap log_of (sym (append-nil h.events));
     })
 
 -- lines that are all blank hold no commands
@@ -144,19 +150,31 @@ drained-commands setup router script rest after l number moment text d h =
 drained-moment : (script rest after : List ℕ) (l : Line) (moment : ℕ) → IsDrained script rest after l moment → closing_moment rest ≡ Some moment
 drained-moment script rest after l moment d = rw (d.first, d.drains) refl
 
+-- the report of a router, where these packets came out
+report-its : (setup : Setup) (events : List Event) (router : Router) (packets : List Packet) → IsAt setup events router → packets ≡ emitted router.session.log
+    → report_text packets router.tallies.items ≡ report_text (emitted (log_of events)) (map (tally_after events) (sender_numbers setup))
+report-its setup events router packets at is = ap₂ report_text (is ∙ ap emitted at.log) at.tallies
+
 -- a script that ends with a drain
-pub Writes-drained : (setup : Setup) (old new : Router) (script rest after : List ℕ) (l : Line) (number moment : ℕ) (before text : List ℕ) → HasAnswered setup old script rest number before → IsDrained script rest after l moment
-    → AnswersDrain old new moment before text → Writes setup (commands_of script) (closing_moment script) text
-Writes-drained setup old new script rest after l number moment before text h d answers =
+pub Writes-drained : (setup : Setup) (old new : Router) (script rest after : List ℕ) (l : Line) (number moment : ℕ) (before lines : List ℕ) (packets : List Packet) → HasAnswered setup old script rest number before
+    → IsDrained script rest after l moment → packets ≡ emitted new.session.log → AnswersDrain old new moment before lines
+    → WritesWith setup (commands_of script) (closing_moment script) (lines ++ report_text packets new.tallies.items) new.session.log
+Writes-drained setup old new script rest after l number moment before lines packets h d is answers =
     let ends = answers setup h.events h.leads in
-    subst (λ drain. Writes setup (commands_of script) drain text) (sym (drained-moment script rest after l moment d) ∙ h.not_closed)
+    let all = h.events ++ ends.closed in
+    subst (λ drain. WritesWith setup (commands_of script) drain (lines ++ report_text packets new.tallies.items) new.session.log) (sym (drained-moment script rest after l moment d) ∙ h.not_closed)
     (record {
-      events = h.events;
-      theirs = drained-commands setup old script rest after l number moment before d h;
-      closed = ends.closed;
-      closes = ends.closes;
-      can_happen = ends.leads.can_happen;
-      lines = ends.lines ∙ ap (λ l. l ++ (flat_map closing_text ends.closed ++ ending_text setup (Some moment) (h.events ++ ends.closed))) h.lines;
+      writes = record {
+        events = h.events;
+        theirs = drained-commands setup old script rest after l number moment before d h;
+        closed = ends.closed;
+        closes = ends.closes;
+        can_happen = ends.leads.can_happen;
+        lines =
+            ap₂ (λ a b. a ++ b) (ends.lines ∙ ap (λ l. l ++ flat_map closing_text ends.closed) h.lines) (report-its setup all new packets ends.leads is)
+            ∙ append_assoc (flat_map event_text h.events) (flat_map closing_text ends.closed) _;
+      };
+      logged = ends.leads.log;
     })
 
 -- and one whose drain stops short
@@ -217,8 +235,8 @@ pub command-answered : (r : Result (Unit {0}) Fault) (old new : Router) (before 
 command-answered (Ok x) old new before after senders command sound leads memory = (sound, leads)
 command-answered (Err fault) old new before after senders command sound leads memory = inl memory
 
--- two numbers of the sender at a place
-pub same-number : (o : Option Sender) (one other : ℕ) → IsNumber one o → IsNumber other o → one ≡ other
+-- two numbers of the tally at a place
+pub same-number : (o : Option Tally) (one other : ℕ) → IsNumber one o → IsNumber other o → one ≡ other
 same-number None one other h k = absurd h
 same-number (Some s) one other h k = sym h ∙ k
 
@@ -256,7 +274,9 @@ IsReady-answered setup router script rest n text h rising wired bound =
       can_send =
           subst (λ count. AllByRecursion (CanSend count) router.senders.items) (sym h.leads.count)
           (subst (AllByRecursion (CanSend (length setup.queues))) (sym h.leads.senders) (each-sends h.events n (length setup.queues) setup.senders wired h.few bound));
+      alike = alike-its setup h.events router h.leads;
       few = let accepted = h.leads.accepted in let some = length-filter_map-le accepted_in h.events in let few = h.few in omega (arith, accepted, some, few, bound);
+      few_put_out = let evicted = h.leads.evicted in let some = length-filter_map-le evicted_in h.events in let few = h.few in omega (arith, evicted, some, few, bound);
       moment =
           let at = its-latest setup h.events router h.leads in
           let most = readable-moments h.events 0 (omega arith) (all-front IsReadable (map command_of h.events) (commands_of rest) (subst (AllByRecursion IsReadable) (sym h.theirs) (readable-commands script))) in

@@ -1,5 +1,5 @@
 -- How a router closes.
-use Rattle.std.proofs.Common.{◌≡◌, ℕ, ◌+◌, ◌-◌, ◌≤◌, ◌==◌, Bool, true, false, if◌then◌else◌, List, [], ◌∷◌, ◌++◌, length, drop, filter, map, reverse, max, fold, append-nil, append_assoc, Option, Some, None, MatchOption, Result, Ok, Err, MatchResult, OnOk, IsOkUnless, slice_get, ◌⊎◌, inl, inr, refl, sym, ap, ap₂, ◌∙◌, subst, arith}
+use Rattle.std.proofs.Common.{◌≡◌, ℕ, ◌+◌, ◌-◌, ◌≤◌, ◌==◌, Bool, true, false, if◌then◌else◌, List, [], ◌∷◌, ◌++◌, length, drop, filter, map, reverse, max, fold, append-nil, append_assoc, Option, Some, None, MatchOption, slice_get, ◌⊎◌, inl, inr, refl, sym, ap, ap₂, ◌∙◌, subst, arith}
 use Rattle.std.specs.List.{filter_map, flat_map, range_with_len, AllByRecursion}
 use Rattle.std.proofs.lemmas.List.{map-append}
 use Rattle.std.proofs.lemmas.List.Elements.{filter_map-append}
@@ -19,15 +19,12 @@ use Rattle.clk_sched.specs.Results.{emitted}
 use Rattle.clk_sched.specs.Bound.{closing_bound}
 use Rattle.clk_sched.specs.Session.{IsDrained, GivesAll, StopsShort as StopsSession, StopsAt, newly, latest_moment, counted_moment, tree_queue}
 use Rattle.clickpull.specs.declared.router.Router.{Router}
-use Rattle.clk_tree.specs.declared.plan.parts.SenderSpec.{SenderSpec}
-use Rattle.clk_tree.specs.PlanParts.{number_of}
-use Rattle.clickpull.specs.Report.{report_text}
-use Rattle.clickpull.specs.Totals.{account_of}
-use Rattle.clickpull.specs.Meaning.{Setup, sender_numbers, Event, pulled, moment_in, pull_in, accepted_in, evicted_in, visits_in, log_of, at_queue, history, account_after, CanHappen, pulls_from, closing_pulls, given_text, closing_text, left_after, DrainsShort}
-use Rattle.clickpull.specs.Router.{AreQueuesAt, sender_after, IsAt, visit_text, LeadsOnByClosing, Ends, StopsDrain}
+use Rattle.clickpull.specs.Meaning.{Setup, sender_numbers, Event, pulled, moment_in, pull_in, accepted_in, evicted_in, visits_in, log_of, at_queue, history, CanHappen, pulls_from, closing_pulls, given_text, closing_text, left_after, DrainsShort}
+use Rattle.clickpull.specs.Router.{AreQueuesAt, IsAt, visit_text, LeadsOnByClosing, Ends, StopsDrain}
 use Rattle.clickpull.proofs.Alike.{member-between, its-moment}
 use Rattle.clickpull.proofs.EventLemmas.{fold-more, pulls-log, pulls-add_none, pulls-history, latest-moment, CanHappen-pulls}
 use Rattle.clickpull.proofs.SenderLemmas.{senders-closed}
+use Rattle.clickpull.proofs.TallyLemmas.{tallies-closed}
 use Rattle.clickpull.proofs.RouterLemmas.{its-history, StandAt, gives, queues-answered}
 
 -- the moment after which the closing of a router begins
@@ -46,21 +43,22 @@ module _ (calls : CallsAreHistory) (setup : Setup) (events : List Event) (old ne
   log : new.session.log ≡ log_of events ++ joined
   log = d.log ∙ ap (λ l. l ++ joined) at.log
 
-  pub IsAt-closed : Answers gives (tree_queue old.session.tree) old.queues (newly old.session new.session) new.queues → new.senders ≡ old.senders → new.accepted ≡ old.accepted → new.evicted ≡ old.evicted
+  pub IsAt-closed : Answers gives (tree_queue old.session.tree) old.queues (newly old.session new.session) new.queues → new.senders ≡ old.senders → new.tallies ≡ old.tallies → new.accepted ≡ old.accepted → new.evicted ≡ old.evicted
       → IsAt setup (events ++ closing_pulls moment events d.more) new
-  IsAt-closed answers senders accepted evicted =
+  IsAt-closed answers senders tallies accepted evicted =
       record {
         can_happen =
             CanHappen-pulls setup events start d.more at.can_happen (omega arith) (subst (IsRun setup.tree) log (subst (λ t. IsRun t new.session.log) (d.tree ∙ at.tree) d.run))
             (ap pulls (sym log) ∙ d.pulls_are ∙ ap (λ l. pulls l ++ d.more) at.log) (d.moments ∙ ap₂ range_with_len (ap (λ n. max n moment + 1) (its-latest setup events old at)) (sym d.made_are))
             (λ q. its-history (history setup q (events ++ closing_pulls moment events d.more)) (slice_get setup.queues q) (slice_get new.queues.rings.items q) (queues q));
         senders = ap (λ ss. ss.items) senders ∙ at.senders ∙ senders-closed events start d.more setup.senders;
+        tallies = ap (λ ts. ts.items) tallies ∙ at.tallies ∙ tallies-closed events start d.more (sender_numbers setup);
         queues = queues;
         count = answered.count;
         tree = d.tree ∙ at.tree;
         log = log ∙ sym (flat_map-append visits_in events (closing_pulls moment events d.more) ∙ ap (λ l. log_of events ++ l) (pulls-log start d.more));
         accepted = accepted ∙ at.accepted ∙ ap length (sym (pulls-add_none accepted_in (λ n visits. refl) events start d.more));
-        evicted = evicted ∙ at.evicted ∙ sym (pulls-add_none evicted_in (λ n visits. refl) events start d.more);
+        evicted = evicted ∙ at.evicted ∙ ap length (sym (pulls-add_none evicted_in (λ n visits. refl) events start d.more));
       }
     where
       answered : StandAt setup (λ q. history setup q events ++ at_queue setup q (pulled moment joined)) new.queues.rings.items
@@ -75,43 +73,43 @@ module _ (calls : CallsAreHistory) (setup : Setup) (events : List Event) (old ne
           (sym (flat_map-append (at_queue setup q) events (closing_pulls moment events d.more) ∙ ap (λ l. history setup q events ++ l) (pulls-history setup q moment start d.more))) (answered.each q)
 
 -- how many packets are left, as the router counts them
-pub its-left : (setup : Setup) (events : List Event) (router : Router) → IsAt setup events router → router.accepted - length router.evicted - length (emitted router.session.log) ≡ left_after events
+pub its-left : (setup : Setup) (events : List Event) (router : Router) → IsAt setup events router → router.accepted - router.evicted - length (emitted router.session.log) ≡ left_after events
 its-left setup events router at =
-    ap (λ n. n - length router.evicted - length (emitted router.session.log)) at.accepted
-    ∙ ap (λ (l : List Packet). length (filter_map accepted_in events) - length l - length (emitted router.session.log)) at.evicted
+    ap (λ n. n - router.evicted - length (emitted router.session.log)) at.accepted
+    ∙ ap (λ n. length (filter_map accepted_in events) - n - length (emitted router.session.log)) at.evicted
     ∙ ap (λ l. length (filter_map accepted_in events) - length (filter_map evicted_in events) - length (emitted l)) at.log
 
-pub closes-all : CallsAreHistory → (setup : Setup) (events : List Event) (old new : Router) (moment made left : ℕ) → IsAt setup events old → left ≡ old.accepted - length old.evicted - length (emitted old.session.log)
+pub closes-all : CallsAreHistory → (setup : Setup) (events : List Event) (old new : Router) (moment made left : ℕ) → IsAt setup events old → left ≡ old.accepted - old.evicted - length (emitted old.session.log)
     → GivesAll old.session new.session (max (counted_moment old.session) moment) made left → Answers gives (tree_queue old.session.tree) old.queues (newly old.session new.session) new.queues
-    → new.senders ≡ old.senders → new.accepted ≡ old.accepted → new.evicted ≡ old.evicted → LeadsOnByClosing setup new moment events
-closes-all calls setup events old new moment made left at is all answers senders accepted evicted =
+    → new.senders ≡ old.senders → new.tallies ≡ old.tallies → new.accepted ≡ old.accepted → new.evicted ≡ old.evicted → LeadsOnByClosing setup new moment events
+closes-all calls setup events old new moment made left at is all answers senders tallies accepted evicted =
     record {
       closed = closing_pulls moment events all.drained.more;
       closes = record { closing = all.drained.more; are = refl; all = all.drained.given_are ∙ is ∙ its-left setup events old at; stops = all.stops };
-      leads = IsAt-closed calls setup events old new moment made left at all.drained answers senders accepted evicted;
+      leads = IsAt-closed calls setup events old new moment made left at all.drained answers senders tallies accepted evicted;
     }
 
-pub stops-short : CallsAreHistory → (setup : Setup) (events : List Event) (old new : Router) (moment made left : ℕ) → IsAt setup events old → left ≡ old.accepted - length old.evicted - length (emitted old.session.log)
+pub stops-short : CallsAreHistory → (setup : Setup) (events : List Event) (old new : Router) (moment made left : ℕ) → IsAt setup events old → left ≡ old.accepted - old.evicted - length (emitted old.session.log)
     → made ≡ closing_bound old.session.tree left → StopsSession old.session new.session (max (counted_moment old.session) moment) made left
-    → Answers gives (tree_queue old.session.tree) old.queues (newly old.session new.session) new.queues → new.senders ≡ old.senders → new.accepted ≡ old.accepted → new.evicted ≡ old.evicted
+    → Answers gives (tree_queue old.session.tree) old.queues (newly old.session new.session) new.queues → new.senders ≡ old.senders → new.tallies ≡ old.tallies → new.accepted ≡ old.accepted → new.evicted ≡ old.evicted
     → DrainsShort setup moment made events
-stops-short calls setup events old new moment made left at is bound short answers senders accepted evicted =
+stops-short calls setup events old new moment made left at is bound short answers senders tallies accepted evicted =
     record {
       closing = short.drained.more;
-      can_happen = (IsAt-closed calls setup events old new moment made short.given at short.drained answers senders accepted evicted).can_happen;
+      can_happen = (IsAt-closed calls setup events old new moment made short.given at short.drained answers senders tallies accepted evicted).can_happen;
       made_are = short.drained.made_are;
       bound = bound ∙ ap₂ closing_bound at.tree (is ∙ its-left setup events old at);
       fewer = let l = is ∙ its-left setup events old at in let g = short.drained.given_are in let f = short.fewer in omega (arith, l, g, f);
     }
 
 -- why the drain of a session stopped is why the router's did
-pub stops-at : CallsAreHistory → (old new : Router) (moment left : ℕ) (fault : Fault) → left ≡ old.accepted - length old.evicted - length (emitted old.session.log)
+pub stops-at : CallsAreHistory → (old new : Router) (moment left : ℕ) (fault : Fault) → left ≡ old.accepted - old.evicted - length (emitted old.session.log)
     → StopsAt old.session new.session (max (counted_moment old.session) moment) left fault → Answers gives (tree_queue old.session.tree) old.queues (newly old.session new.session) new.queues
-    → new.senders ≡ old.senders → new.accepted ≡ old.accepted → new.evicted ≡ old.evicted → (fault ≡ Memory) ⊎ StopsDrain old moment fault
-stops-at calls old new moment left Memory is stops answers senders accepted evicted = inl refl
-stops-at calls old new moment left (TooManyPulls made) is stops answers senders accepted evicted =
-    inr (λ setup events at. stops-short calls setup events old new moment made left at is stops.0 stops.1 answers senders accepted evicted)
-stops-at calls old new moment left fault is stops answers senders accepted evicted = absurd stops
+    → new.senders ≡ old.senders → new.tallies ≡ old.tallies → new.accepted ≡ old.accepted → new.evicted ≡ old.evicted → (fault ≡ Memory) ⊎ StopsDrain old moment fault
+stops-at calls old new moment left Memory is stops answers senders tallies accepted evicted = inl refl
+stops-at calls old new moment left (TooManyPulls made) is stops answers senders tallies accepted evicted =
+    inr (λ setup events at. stops-short calls setup events old new moment made left at is stops.0 stops.1 answers senders tallies accepted evicted)
+stops-at calls old new moment left fault is stops answers senders tallies accepted evicted = absurd stops
 
 -- what the device's visits of a pull write, if they are one
 abbrev written : Visit → List ℕ
@@ -173,28 +171,14 @@ closing-lines setup done t (pull ∷ more) can below =
     later : fold max 0 (filter_map moment_in (done ++ pulled t pull ∷ [])) ≤ t + 1
     later = let e = ap (fold max 0) (filter_map-append moment_in done (pulled t pull ∷ [])) ∙ fold-more 0 (filter_map moment_in done) t in omega (arith, e, below)
 
--- the accounts of a router's senders
-accounts-its : (events : List Event) (specs : List SenderSpec) → map (account_of (filter_map evicted_in events) (emitted (log_of events))) (map (sender_after events) specs) ≡ map (account_after events) (map number_of specs)
-accounts-its events [] = refl
-accounts-its events (spec ∷ specs) = ap (λ l. account_after events spec.number ∷ l) (accounts-its events specs)
-
-pub report-its : (setup : Setup) (events : List Event) (router : Router) (packets : List Packet) → IsAt setup events router → packets ≡ emitted router.session.log
-    → map (account_of router.evicted packets) router.senders.items ≡ map (account_after events) (sender_numbers setup)
-report-its setup events router packets at is =
-    ap₂ (λ (l m : List Packet). map (account_of l m) router.senders.items) at.evicted (is ∙ ap emitted at.log) ∙ ap (map (account_of (filter_map evicted_in events) (emitted (log_of events)))) at.senders
-    ∙ accounts-its events setup.senders
-
--- A router that was closed and wrote what its visits say and the report has written the ending.
-pub Ends-closed : (setup : Setup) (events : List Event) (old new : Router) (moment start : ℕ) (before middle after : List ℕ) (packets : List Packet) → IsAt setup events old → LeadsOnByClosing setup new moment events
-    → start ≡ length old.session.log → packets ≡ emitted new.session.log → middle ≡ before ++ flat_map visit_text (drop start new.session.log)
-    → after ≡ middle ++ report_text (map (account_of new.evicted packets) new.senders.items) → Ends setup new moment before after events
-Ends-closed setup events old new moment start before middle after packets at closing first is given report =
+-- A router that was closed and wrote what its visits say.
+pub Ends-closed : (setup : Setup) (events : List Event) (old new : Router) (moment start : ℕ) (before after : List ℕ) → IsAt setup events old → LeadsOnByClosing setup new moment events
+    → start ≡ length old.session.log → after ≡ before ++ flat_map visit_text (drop start new.session.log) → Ends setup new moment before after events
+Ends-closed setup events old new moment start before after at closing first given =
     record {
       closed = closing.closed;
       closes = closing.closes;
-      lines =
-          report ∙ ap₂ (λ a b. a ++ report_text b) (given ∙ ap (λ l. before ++ l) lines) (report-its setup (events ++ closing.closed) new packets closing.leads is)
-          ∙ append_assoc before (flat_map closing_text closing.closed) _;
+      lines = given ∙ ap (λ l. before ++ l) lines;
       leads = closing.leads;
     }
   where
@@ -214,8 +198,3 @@ Ends-closed setup events old new moment start before middle after packets at clo
         ap (flat_map visit_text) (visits ∙ ap log_of closing.closes.are ∙ pulls-log t more)
         ∙ closing-lines setup events t more (subst (λ l. CanHappen setup (events ++ l)) closing.closes.are closing.leads.can_happen) (omega arith)
         ∙ ap (flat_map closing_text) (sym closing.closes.are)
-
--- what followed where the last step was made, or memory was refused
-pub ended : (r : Result (Unit {0}) Fault) (Line Done : Type 0) (Other : Fault → Type 0) → OnOk r Line → IsOkUnless r Memory → (Line → Done) → MatchResult r (λ done. Done) (λ fault. (fault ≡ Memory) ⊎ Other fault)
-ended (Ok x) Line Done Other line memory step = step line
-ended (Err fault) Line Done Other line memory step = inl memory

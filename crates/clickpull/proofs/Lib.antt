@@ -7,7 +7,7 @@ pub mod Alike
 pub mod EventLemmas
 pub mod SenderLemmas
 pub mod RouterLemmas
-pub mod TotalLemmas
+pub mod TallyLemmas
 pub mod ClosingLemmas
 pub mod PlaceLemmas
 pub mod AnswerLemmas

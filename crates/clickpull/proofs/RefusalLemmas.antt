@@ -6,13 +6,17 @@ use Rattle.std.proofs.lemmas.Bool.Decides.{nat_tests}
 use Rattle.std.proofs.lemmas.List.{take_all, length-take}
 use Rattle.clk_packet.specs.declared.fault.Fault.{Fault}
 use Rattle.clk_packet.specs.declared.fault.Fault.TheVariants.{Memory, UnknownSender, BadScript, TooManyPulls, TooLarge, Write}
+use Rattle.clk_sched.specs.declared.visit.Visit.{Visit}
+use Rattle.clk_sched.specs.Tree.{Tree}
+use Rattle.clk_tree.specs.Plan.{Planned}
+use Rattle.clk_tree.specs.PlanTree.{IsTreeOf}
 use Rattle.clickpull.specs.declared.script.Command.{Command}
 use Rattle.clickpull.specs.declared.script.Command.TheVariants.{Send, Pull}
 use Rattle.clickpull.specs.declared.script.Line.{Line}
 use Rattle.clickpull.specs.declared.script.Line.TheVariants as line
 use Rattle.clickpull.specs.Script.{most_lines, command_fault, line_fault, fault_at, is_drain, first_fault, lines_of, script_fault, commands_of, closing_moment, most_bytes}
 use Rattle.clk_packet.specs.Bytes.{read_failures, write_failures}
-use Rattle.clickpull.specs.Meaning.{Setup, Writes, IsMeaning, CannotClose, Explains, sender_numbers}
+use Rattle.clickpull.specs.Meaning.{Setup, plan_setup, WritesWith, IsMeaning, MeansWith, MeansOver, MeansOverWith, CannotClose, Explains, sender_numbers}
 use Rattle.clickpull.specs.Router.{StopsScript}
 
 -- one byte past the limit is enough to tell what is wrong
@@ -37,20 +41,38 @@ whole senders all e = by_test (nat_lt most_bytes (length all)) refl
     by_test false f = take_all 33554433 all (grind (arith, nat_tests))
 
 -- the meaning over a setup of a script whose first bytes were read
-pub meaning-known : (over setup : Setup) → over ≡ setup → (known : Option (List ℕ)) (bytes text : List ℕ) (P : List ℕ → Type 0) → IfSome known (λ all. bytes ≡ take (most_bytes + 1) all)
-    → script_fault (sender_numbers over) bytes ≡ None → Writes over (commands_of bytes) (closing_moment bytes) text → P text → IfSome known (λ script. (t : List ℕ) × IsMeaning setup script t × P t)
-meaning-known over setup same None bytes text P is e w p = tt
-meaning-known over setup same (Some all) bytes text P is e w p =
+pub meaning-known : (over setup : Setup) → over ≡ setup → (known : Option (List ℕ)) (bytes text : List ℕ) (log : List Visit) (P : List ℕ → Type 0) → IfSome known (λ all. bytes ≡ take (most_bytes + 1) all)
+    → script_fault (sender_numbers over) bytes ≡ None → WritesWith over (commands_of bytes) (closing_moment bytes) text log → P text → IfSome known (λ script. (t : List ℕ) × MeansWith setup script t log × P t)
+meaning-known over setup same None bytes text log P is e w p = tt
+meaning-known over setup same (Some all) bytes text log P is e w p =
     let here : script_fault (sender_numbers setup) bytes ≡ None = subst (λ (s : Setup). script_fault (sender_numbers s) bytes ≡ None) same e in
     let sound = rw is at here in
     let all_of_it : bytes ≡ all = is ∙ whole (sender_numbers setup) all sound in (
       text,
       record {
         sound = sym (fault-cut (sender_numbers setup) all) ∙ sound;
-        written = subst (λ (script : List ℕ). Writes setup (commands_of script) (closing_moment script) text) all_of_it (subst (λ (s : Setup). Writes s (commands_of bytes) (closing_moment bytes) text) same w);
+        written = subst (λ (script : List ℕ). WritesWith setup (commands_of script) (closing_moment script) text log) all_of_it (subst (λ (s : Setup). WritesWith s (commands_of bytes) (closing_moment bytes) text log) same w);
       },
       p,
     )
+
+-- what is known of a text and a log, of the text alone
+pub meaning-alone : (setup : Setup) (known : Option (List ℕ)) (log : List Visit) (P : List ℕ → Type 0) → IfSome known (λ script. (t : List ℕ) × MeansWith setup script t log × P t)
+    → IfSome known (λ script. (t : List ℕ) × IsMeaning setup script t × P t)
+meaning-alone setup None log P h = tt
+meaning-alone setup (Some script) log P h = (h.0, record { sound = h.1.sound; written = h.1.written.writes }, h.2)
+
+-- the meaning over a plan
+pub meaning-over : (plan : List Planned) (tree : Tree) (setup : Setup) → IsTreeOf plan tree → setup ≡ plan_setup tree plan → (known : Option (List ℕ)) (log : List Visit) (P : List ℕ → Type 0)
+    → IfSome known (λ script. (t : List ℕ) × MeansWith setup script t log × P t) → IfSome known (λ script. (t : List ℕ) × MeansOverWith plan script t log × P t)
+meaning-over plan tree setup is same None log P h = tt
+meaning-over plan tree setup is same (Some script) log P h = (h.0, record { tree = tree; is = is; means = subst (λ (s : Setup). MeansWith s script h.0 log) same h.1 }, h.2)
+
+pub meaning-over-alone : (plan : List Planned) (known : Option (List ℕ)) (log : List Visit) (P : List ℕ → Type 0) → IfSome known (λ script. (t : List ℕ) × MeansOverWith plan script t log × P t)
+    → IfSome known (λ script. (t : List ℕ) × MeansOver plan script t × P t)
+meaning-over-alone plan None log P h = tt
+meaning-over-alone plan (Some script) log P h =
+    (h.0, record { tree = h.1.tree; is = h.1.is; means = record { sound = h.1.means.sound; written = h.1.means.written.writes } }, h.2)
 
 -- the faults that a script may have
 abbrev IsOfScript : Fault → Type 0

@@ -27,9 +27,10 @@ use Rattle.clk_tree.specs.PlanParts.{Queued, queued, AreRising, HasCapacity, num
 use Rattle.clickpull.specs.declared.senders.Sender.{Sender}
 use Rattle.clickpull.specs.declared.queues.Queues.{Queues}
 use Rattle.clickpull.specs.declared.router.Router.{Router}
-use Rattle.clickpull.specs.Meaning.{Room, Setup, room_of, setup_of, Event, offered, pulled, numbers_of, accepted_in, evicted_in, visits_in, log_of, sends_to, at_queue, history}
-use Rattle.clickpull.specs.Router.{queue_made, queue_room, sender_made, sender_spec, sent_one_more, noted, numbers_in, OffersTo, PullsFrom, OffersAt, GivesAt, AreQueuesAt, IsAt, Starts, Counts, LeadsOnByPull}
+use Rattle.clickpull.specs.Meaning.{Room, Setup, sender_numbers, room_of, setup_of, Event, offered, pulled, numbers_of, accepted_in, evicted_in, tally_after, visits_in, log_of, sends_to, at_queue, history}
+use Rattle.clickpull.specs.Router.{queue_made, queue_room, sender_made, sender_spec, sent_one_more, tally_made, noted, numbers_in, OffersTo, PullsFrom, OffersAt, GivesAt, AreQueuesAt, IsAt, Starts, Counts, LeadsOnByPull}
 use Rattle.clickpull.proofs.EventLemmas.{CanHappen-offer, CanHappen-pull, log-pulled}
+use Rattle.clickpull.proofs.TallyLemmas.{tallies-offered, tallies-pulled}
 use Rattle.clickpull.proofs.SenderLemmas.{senders-pulled, senders-sent, sends-its, numbers-its, IsSpecAt, spec-at}
 
 -- what happened to a queue, and one event more
@@ -151,29 +152,36 @@ queues-answered calls setup moment (v ∷ visits) a b events at answers =
       count = rest.count;
     }
 
--- how many packets were accepted, and which were put out, with one event more
-accepted-more : (events : List Event) (e : Event) → length (filter_map accepted_in (events ++ e ∷ [])) ≡ length (filter_map accepted_in events) + length (cons_option (accepted_in e) [])
-accepted-more events e = ap length (filter_map-append accepted_in events (e ∷ [])) ∙ length-append (filter_map accepted_in events) (cons_option (accepted_in e) [])
+-- how many packets were accepted, or put out, with one event more
+count-more : (f : Event → Option Packet) (events : List Event) (e : Event) → length (filter_map f (events ++ e ∷ [])) ≡ length (filter_map f events) + length (cons_option (f e) [])
+count-more f events e = ap length (filter_map-append f events (e ∷ [])) ∙ length-append (filter_map f events) (cons_option (f e) [])
+
+count-pulled : (f : Event → Option Packet) (events : List Event) (moment : ℕ) (visits : List Visit) → f (pulled moment visits) ≡ None → length (filter_map f (events ++ pulled moment visits ∷ [])) ≡ length (filter_map f events)
+count-pulled f events moment visits none =
+    let more = count-more f events (pulled moment visits) in
+    let no : length (cons_option (f (pulled moment visits)) []) ≡ 0 = rw none refl in
+    omega (arith, more, no)
 
 -- An offer of the sender at a place leads on.
-pub IsAt-sent : CallsAreHistory → (setup : Setup) (events : List Event) (old mid new : Router) (place : ℕ) (s : Sender) (p : Packet) (outcome : Offered) → IsAt setup events old → AreRising (numbers_in old)
+pub IsAt-sent : CallsAreHistory → (setup : Setup) (events : List Event) (old mid new : Router) (place : ℕ) (s : Sender) (p : Packet) (outcome : Offered) → Counts mid p outcome new → IsAt setup events old → AreRising (numbers_in old)
     → slice_get old.senders.items place ≡ Some s → p.number ≡ s.sent → p.sender ≡ s.number → OffersAt old.queues.rings.items s.queue p outcome mid.queues.rings.items
-    → mid.senders.items ≡ set old.senders.items place (noted p outcome (sent_one_more s)) → mid.session ≡ old.session → mid.accepted ≡ old.accepted → mid.evicted ≡ old.evicted
-    → Counts mid p outcome new → IsAt setup (events ++ offered p outcome ∷ []) new
-IsAt-sent calls setup events old mid new place s p outcome at rising here number sender offered_at senders session accepted evicted counts =
+    → mid.senders.items ≡ set old.senders.items place (sent_one_more s) → mid.tallies.items ≡ map (noted p outcome) old.tallies.items → mid.session ≡ old.session → mid.accepted ≡ old.accepted
+    → mid.evicted ≡ old.evicted → IsAt setup (events ++ offered p outcome ∷ []) new
+IsAt-sent calls setup events old mid new place s p outcome counts at rising here number sender offered_at senders tallies session accepted evicted =
     record {
       can_happen =
           CanHappen-offer setup events p outcome at.can_happen (number ∙ ap (λ (t : Sender). t.sent) theirs.is ∙ ap (λ n. length (numbers_of n events)) (sym its_number))
           (names-at (slice_get old.queues.rings.items s.queue) (slice_get new.queues.rings.items s.queue) p outcome offer.here)
           (λ q. its-history (history setup q more) (slice_get setup.queues q) (slice_get new.queues.rings.items q) (queues q));
       senders =
-          ap (λ ss. ss.items) counts.senders ∙ senders ∙ ap₂ (λ ss (t : Sender). set ss place (noted p outcome (sent_one_more t))) at.senders theirs.is ∙ senders-sent events p outcome setup.senders place theirs.spec its_rising theirs.here its_number;
+          ap (λ ss. ss.items) counts.senders ∙ senders ∙ ap₂ (λ ss (t : Sender). set ss place (sent_one_more t)) at.senders theirs.is ∙ senders-sent events p outcome setup.senders place theirs.spec its_rising theirs.here its_number;
+      tallies = ap (λ ts. ts.items) counts.tallies ∙ tallies ∙ ap (map (noted p outcome)) at.tallies ∙ tallies-offered events p outcome (sender_numbers setup);
       queues = queues;
       count = offer.only.count ∙ at.count;
       tree = ap (λ t. t.tree) kept ∙ at.tree;
       log = ap (λ t. t.log) kept ∙ at.log ∙ sym (flat_map-append visits_in events (offered p outcome ∷ []) ∙ append-nil (log_of events));
-      accepted = counts.accepted ∙ ap (λ n. n + length (cons_option (accepted_in (offered p outcome)) [])) (accepted ∙ at.accepted) ∙ sym (accepted-more events (offered p outcome));
-      evicted = counts.evicted ∙ ap (λ l. l ++ cons_option (evicted_in (offered p outcome)) []) (evicted ∙ at.evicted) ∙ sym (filter_map-append evicted_in events (offered p outcome ∷ []));
+      accepted = counts.accepted ∙ ap (λ n. n + length (cons_option (accepted_in (offered p outcome)) [])) (accepted ∙ at.accepted) ∙ sym (count-more accepted_in events (offered p outcome));
+      evicted = counts.evicted ∙ ap (λ n. n + length (cons_option (evicted_in (offered p outcome)) [])) (evicted ∙ at.evicted) ∙ sym (count-more evicted_in events (offered p outcome));
     }
   where
     kept : new.session ≡ old.session
@@ -216,8 +224,8 @@ IsAt-sent calls setup events old mid new place s p outcome at rising here number
 -- A pull leads on.
 pub IsAt-pulled : CallsAreHistory → (setup : Setup) (events : List Event) (old new : Router) (moment : ℕ) (got : Option Packet) → IsAt setup events old
     → IsPulledOnce old.session new.session moment got → Answers gives (tree_queue old.session.tree) old.queues (newly old.session new.session) new.queues → new.senders ≡ old.senders
-    → new.accepted ≡ old.accepted → new.evicted ≡ old.evicted → LeadsOnByPull setup new moment got events
-IsAt-pulled calls setup events old new moment got at once answers senders accepted evicted =
+    → new.tallies ≡ old.tallies → new.accepted ≡ old.accepted → new.evicted ≡ old.evicted → LeadsOnByPull setup new moment got events
+IsAt-pulled calls setup events old new moment got at once answers senders tallies accepted evicted =
     record {
       visits = visits;
       result = sym once.result;
@@ -227,12 +235,13 @@ IsAt-pulled calls setup events old new moment got at once answers senders accept
             (ap pulls (sym log) ∙ once.last ∙ ap (λ l. pulls l ++ visits ∷ []) at.log) (once.at_moment ∙ ap (λ l. max_latest l) at.log)
             (λ q. its-history (history setup q more) (slice_get setup.queues q) (slice_get new.queues.rings.items q) (queues q));
         senders = ap (λ ss. ss.items) senders ∙ at.senders ∙ senders-pulled events moment visits setup.senders;
+        tallies = ap (λ ts. ts.items) tallies ∙ at.tallies ∙ tallies-pulled events moment visits (sender_numbers setup);
         queues = queues;
         count = answered.count;
         tree = once.tree ∙ at.tree;
         log = log ∙ sym (log-pulled events moment visits);
-        accepted = accepted ∙ at.accepted ∙ ap length (sym (filter_map-append accepted_in events (pulled moment visits ∷ []) ∙ append-nil (filter_map accepted_in events)));
-        evicted = evicted ∙ at.evicted ∙ sym (filter_map-append evicted_in events (pulled moment visits ∷ []) ∙ append-nil (filter_map evicted_in events));
+        accepted = accepted ∙ at.accepted ∙ sym (count-pulled accepted_in events moment visits refl);
+        evicted = evicted ∙ at.evicted ∙ sym (count-pulled evicted_in events moment visits refl);
       };
     }
   where
@@ -265,14 +274,19 @@ senders-made : (specs : List SenderSpec) → map sender_spec (map sender_made sp
 senders-made [] = refl
 senders-made (spec ∷ specs) = ap (λ l. spec ∷ l) (senders-made specs)
 
+tallies-made : (specs : List SenderSpec) → map tally_made specs ≡ map (tally_after []) (map number_of specs)
+tallies-made [] = refl
+tallies-made (spec ∷ specs) = ap (λ l. tally_made spec ∷ l) (tallies-made specs)
+
 length-made : (queues : List Queued) → length (map queue_made queues) ≡ length (map room_of queues)
 length-made [] = refl
 length-made (q ∷ queues) = ap suc (length-made queues)
 
 -- A router to which nothing has happened.
 pub Starts-made : CallsAreHistory → (tree : Tree) (queues : List Queued) (senders : List SenderSpec) (router : Router) → IsRun tree [] → router.session.tree ≡ tree → router.session.log ≡ []
-    → router.queues.rings.items ≡ map queue_made queues → router.senders.items ≡ map sender_made senders → router.accepted ≡ 0 → router.evicted ≡ [] → Starts (setup_of tree queues senders) router
-Starts-made calls tree queues senders router run tree_is log_is queues_are senders_are accepted evicted =
+    → router.queues.rings.items ≡ map queue_made queues → router.senders.items ≡ map sender_made senders → router.tallies.items ≡ map tally_made senders → router.accepted ≡ 0 → router.evicted ≡ 0
+    → Starts (setup_of tree queues senders) router
+Starts-made calls tree queues senders router run tree_is log_is queues_are senders_are tallies_are accepted evicted =
     record {
       over =
           λ i. record {
@@ -283,6 +297,7 @@ Starts-made calls tree queues senders router run tree_is log_is queues_are sende
       leads = record {
         can_happen = record { numbered = λ s. refl; run = run; pull_by_pull = refl; moments = refl; refusals = tt; histories = λ q. its-history [] (slice_get (map room_of queues) q) (slice_get router.queues.rings.items q) (each q) };
         senders = senders_are;
+        tallies = tallies_are ∙ tallies-made senders;
         queues = each;
         count = ap length queues_are ∙ length-made queues;
         tree = tree_is;

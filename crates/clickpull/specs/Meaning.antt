@@ -5,6 +5,7 @@ use Rattle.clk_packet.specs.declared.packet.Packet.{Packet}
 use Rattle.clk_packet.specs.declared.packet.Kind.{Kind}
 use Rattle.clk_packet.specs.declared.packet.Offered.{Offered}
 use Rattle.clk_packet.specs.declared.packet.Offered.TheVariants.{Accepted, Refused, Evicted}
+use Rattle.clk_packet.specs.declared.tally.Tally.{Tally}
 use Rattle.clk_packet.specs.declared.fault.Fault.{Fault}
 use Rattle.clk_packet.specs.declared.fault.Fault.TheVariants.{Memory, UnknownSender, BadScript, TooManyPulls, TooLarge, Read, Write}
 use Rattle.clickpull.specs.declared.script.Command.{Command}
@@ -22,7 +23,7 @@ use Rattle.clk_tree.specs.Plan.{Planned}
 use Rattle.clk_tree.specs.PlanTree.{IsTreeOf}
 use Rattle.clk_tree.specs.PlanParts.{Queued, queues_of, senders_of, number_of}
 use Rattle.clickpull.specs.Script.{script_fault, commands_of, closing_moment}
-use Rattle.clickpull.specs.Report.{packets_from, Account, report_text}
+use Rattle.clk_report.specs.Report.{packets_from, report_text}
 
 -- what a script needs to know of a queue: what becomes of a packet that arrives when it is full, and how many it holds at most
 pub record Room : Type 0 where
@@ -98,14 +99,13 @@ abbrev pub evicted_in : Event → Option Packet
 evicted_in (offered p (Evicted front)) = Some front
 evicted_in event = None
 
--- the account of a sender
-abbrev pub account_after : List Event → ℕ → Account
-account_after events s = record {
+-- what became of a sender's packets
+abbrev pub tally_after : List Event → ℕ → Tally
+tally_after events s = record {
   sender = s;
   accepted = packets_from s (filter_map accepted_in events);
   refused = packets_from s (filter_map refused_in events);
   evicted = packets_from s (filter_map evicted_in events);
-  emitted = packets_from s (emitted (log_of events));
 }
 
 -- how many packets are left in queues and heads: those accepted, less those put out, less those that came out
@@ -199,7 +199,7 @@ IsClosed (Some moment) events closed = Closes moment events closed
 
 abbrev pub ending_text : Setup → Option ℕ → List Event → List ℕ
 ending_text setup None events = []
-ending_text setup (Some moment) events = report_text (map (account_after events) (sender_numbers setup))
+ending_text setup (Some moment) events = report_text (emitted (log_of events)) (map (tally_after events) (sender_numbers setup))
 
 -- The commands, and the closing drain if there is one, write the text: it is the lines of some events that are the commands', of the
 -- closing pulls, and of the report. All these can happen one after another.
@@ -211,10 +211,20 @@ pub record Writes (setup : Setup) (commands : List Command) (drain : Option ℕ)
   pub can_happen : CanHappen setup (events ++ closed)
   pub lines : text ≡ flat_map event_text events ++ (flat_map closing_text closed ++ ending_text setup drain (events ++ closed))
 
+-- the same, and the log holds the visits of all its pulls, in order
+pub record WritesWith (setup : Setup) (commands : List Command) (drain : Option ℕ) (text : List ℕ) (log : List Visit) : Type 0 where
+  pub writes : Writes setup commands drain text
+  pub logged : log ≡ log_of (writes.events ++ writes.closed)
+
 -- The text is the meaning of the script over the setup: nothing is wrong with the script, and it writes the text.
 pub record IsMeaning (setup : Setup) (script text : List ℕ) : Type 0 where
   pub sound : script_fault (sender_numbers setup) script ≡ None
   pub written : Writes setup (commands_of script) (closing_moment script) text
+
+-- the same, with the log of the visits
+pub record MeansWith (setup : Setup) (script text : List ℕ) (log : List Visit) : Type 0 where
+  pub sound : script_fault (sender_numbers setup) script ≡ None
+  pub written : WritesWith setup (commands_of script) (closing_moment script) text log
 
 -- The closing drain after some events, from a moment on, stops short: it made this many pulls, which are all that it is given, and
 -- fewer packets came out than were left.
@@ -253,6 +263,12 @@ pub record MeansOver (plan : List Planned) (script text : List ℕ) : Type 0 whe
   pub tree : Tree
   pub is : IsTreeOf plan tree
   pub means : IsMeaning (plan_setup tree plan) script text
+
+-- the same, with the log of the visits
+pub record MeansOverWith (plan : List Planned) (script text : List ℕ) (log : List Visit) : Type 0 where
+  pub tree : Tree
+  pub is : IsTreeOf plan tree
+  pub means : MeansWith (plan_setup tree plan) script text log
 
 -- Why running a script over a plan is refused with a fault: memory ran out, or as above over the setup that the plan is.
 abbrev pub ExplainsPlan : List Planned → Option (List ℕ) → Fault → Type 0

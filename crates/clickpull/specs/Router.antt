@@ -3,6 +3,8 @@ use Rattle.std.specs.Prelude.{◌≡◌, ℕ, ◌+◌, ◌<◌, ◌≤◌, ◌^�
 use Rattle.std.specs.List.{list_any, filter_map, flat_map, cons_option, AllByRecursion}
 use Rattle.clk_packet.specs.declared.packet.Packet.{Packet}
 use Rattle.clk_packet.specs.declared.packet.Offered.{Offered}
+use Rattle.clk_packet.specs.declared.packet.Offered.TheVariants.{Accepted, Refused, Evicted}
+use Rattle.clk_packet.specs.declared.tally.Tally.{Tally}
 use Rattle.clk_packet.specs.declared.fault.Fault.{Fault}
 use Rattle.clk_packet.specs.declared.fault.Fault.TheVariants.{TooManyPulls}
 use Rattle.clk_ring.specs.Queue.{Queue, empty_queue, IsOffered, IsPulled}
@@ -17,11 +19,12 @@ use Rattle.clk_tree.specs.declared.plan.parts.SenderSpec.{SenderSpec}
 use Rattle.clk_tree.specs.PlanParts.{Queued, AreRising, SendsWithin}
 use Rattle.clickpull.specs.declared.senders.Sender.{Sender}
 use Rattle.clickpull.specs.declared.router.Router.{Router}
+use Rattle.clickpull.specs.declared.answer.Answer.{Answer}
 use Rattle.clk_sched.specs.Log.{visits_of, result_of}
 use Rattle.clk_sched.specs.Session.{counted_moment}
 use Rattle.clickpull.specs.Script.{most_lines, most_moment}
-use Rattle.clickpull.specs.Report.{packets_from}
-use Rattle.clickpull.specs.Meaning.{Room, Setup, Event, offered, pulled, command_of, event_text, CanHappen, numbers_of, accepted_in, refused_in, evicted_in, history, log_of, sender_numbers, given_text, closing_text, ending_text, Closes, DrainsShort, CannotClose}
+use Rattle.clk_report.specs.Report.{packets_from, report_text}
+use Rattle.clickpull.specs.Meaning.{Room, Setup, Event, offered, pulled, command_of, event_text, CanHappen, numbers_of, accepted_in, evicted_in, tally_after, history, log_of, sender_numbers, given_text, closing_text, Closes, DrainsShort, CannotClose}
 
 -- a queue and a sender as they are made, and what was asked for
 abbrev pub queue_made : Queued → Queue
@@ -31,46 +34,60 @@ abbrev pub queue_room : Queue → Room
 queue_room q = record { kind = q.kind; capacity = q.capacity }
 
 abbrev pub sender_made : SenderSpec → Sender
-sender_made spec = record { number = spec.number; queue = spec.queue; sent = 0; accepted = []; refused = [] }
+sender_made spec = record { number = spec.number; queue = spec.queue; sent = 0 }
 
 abbrev pub sender_spec : Sender → SenderSpec
 sender_spec s = record { number = s.number; queue = s.queue }
 
--- a sender once it has sent one packet more, and once it knows what became of one
+-- a sender once it has sent one packet more
 abbrev pub sent_one_more : Sender → Sender
-sent_one_more s = record { number = s.number; queue = s.queue; sent = s.sent + 1; accepted = s.accepted; refused = s.refused }
-
-abbrev pub noted : Packet → Offered → Sender → Sender
-noted p outcome s = record {
-  number = s.number;
-  queue = s.queue;
-  sent = s.sent;
-  accepted = s.accepted ++ cons_option (accepted_in (offered p outcome)) [];
-  refused = s.refused ++ cons_option (refused_in (offered p outcome)) [];
-}
+sent_one_more s = record { number = s.number; queue = s.queue; sent = s.sent + 1 }
 
 abbrev pub sender_number : Sender → ℕ
 sender_number s = s.number
 
+-- the tally of a sender that has sent nothing
+abbrev pub tally_made : SenderSpec → Tally
+tally_made spec = record { sender = spec.number; accepted = []; refused = []; evicted = [] }
+
+-- a tally once a packet, where it is its sender's, was accepted, refused, and put out
+abbrev pub taken_in : Packet → Tally → Tally
+taken_in p t = record { sender = t.sender; accepted = t.accepted ++ packets_from t.sender (p ∷ []); refused = t.refused; evicted = t.evicted }
+
+abbrev pub turned_away : Packet → Tally → Tally
+turned_away p t = record { sender = t.sender; accepted = t.accepted; refused = t.refused ++ packets_from t.sender (p ∷ []); evicted = t.evicted }
+
+abbrev pub put_out : Packet → Tally → Tally
+put_out p t = record { sender = t.sender; accepted = t.accepted; refused = t.refused; evicted = t.evicted ++ packets_from t.sender (p ∷ []) }
+
+-- a tally once a packet was offered, by its sender or another, with this outcome
+abbrev pub noted : Packet → Offered → Tally → Tally
+noted p Accepted t = taken_in p t
+noted p (Refused q) t = turned_away p t
+noted p (Evicted front) t = put_out front (taken_in p t)
+
+abbrev pub tally_sender : Tally → ℕ
+tally_sender t = t.sender
+
 abbrev pub numbers_in : Router → List ℕ
-numbers_in router = map sender_number router.senders.items
+numbers_in router = map tally_sender router.tallies.items
 
-abbrev pub IsNumber : ℕ → Option Sender → Type 0
+abbrev pub IsNumber : ℕ → Option Tally → Type 0
 IsNumber number None = ⊥
-IsNumber number (Some s) = s.number ≡ number
+IsNumber number (Some t) = t.sender ≡ number
 
--- a sender stands at this place
-abbrev pub IsPlace : List Sender → ℕ → Type 0
-IsPlace senders place = place < length senders
+-- a tally stands at this place
+abbrev pub IsPlace : List Tally → ℕ → Type 0
+IsPlace tallies place = place < length tallies
 
--- the sender of this number stands at this place
-pub record IsPlaceOf (senders : List Sender) (number place : ℕ) : Type 0 where
-  pub within : IsPlace senders place
-  pub here : IsNumber number (slice_get senders place)
+-- the tally of this sender stands at this place
+pub record IsPlaceOf (tallies : List Tally) (sender place : ℕ) : Type 0 where
+  pub within : IsPlace tallies place
+  pub here : IsNumber sender (slice_get tallies place)
 
--- a packet of the sender at this place
-abbrev pub IsSentFrom : List Sender → ℕ → Packet → Type 0
-IsSentFrom senders place p = IsNumber p.sender (slice_get senders place)
+-- a packet of the sender whose tally stands at this place
+abbrev pub IsSentFrom : List Tally → ℕ → Packet → Type 0
+IsSentFrom tallies place p = IsNumber p.sender (slice_get tallies place)
 
 -- what an offer makes of the queue at a place, and a pull
 abbrev pub OffersTo : Packet → Offered → Option Queue → Option Queue → Type 0
@@ -116,20 +133,19 @@ sender_after events spec = record {
   number = spec.number;
   queue = spec.queue;
   sent = length (numbers_of spec.number events);
-  accepted = packets_from spec.number (filter_map accepted_in events);
-  refused = packets_from spec.number (filter_map refused_in events);
 }
 
 -- The router is where these events lead over a setup.
 pub record IsAt (setup : Setup) (events : List Event) (router : Router) : Type 0 where
   pub can_happen : CanHappen setup events
   pub senders : router.senders.items ≡ map (sender_after events) setup.senders
+  pub tallies : router.tallies.items ≡ map (tally_after events) (sender_numbers setup)
   pub queues : (q : ℕ) → AreQueuesAt (history setup q events) (slice_get setup.queues q) (slice_get router.queues.rings.items q)
   pub count : length router.queues.rings.items ≡ length setup.queues
   pub tree : router.session.tree ≡ setup.tree
   pub log : router.session.log ≡ log_of events
   pub accepted : router.accepted ≡ length (filter_map accepted_in events)
-  pub evicted : router.evicted ≡ filter_map evicted_in events
+  pub evicted : router.evicted ≡ length (filter_map evicted_in events)
 
 -- the setup that a router is over
 abbrev pub setup_at : Router → Setup
@@ -154,20 +170,24 @@ pub record CanRun (router : Router) : Type 0 where
 abbrev pub CanSend : ℕ → Sender → Type 0
 CanSend count s = (s.queue < count) × (s.sent + 1 < 2 ^ 32)
 
--- A router's senders stand by rising numbers, and each can send. What was accepted and the counted moment are those of a script.
+-- A router's senders stand by rising numbers, as their tallies do, and each can send. What was accepted and put out, and the counted
+-- moment, are those of a script.
 pub record IsReady (router : Router) : Type 0 where
   pub rising : AreRising (numbers_in router)
+  pub alike : map sender_number router.senders.items ≡ numbers_in router
   pub can_send : AllByRecursion (CanSend (length router.queues.rings.items)) router.senders.items
   pub few : router.accepted ≤ most_lines
+  pub few_put_out : router.evicted ≤ most_lines
   pub moment : counted_moment router.session ≤ most_moment
 
 -- What became of a packet is counted, and nothing else of the router changes.
 pub record Counts (old : Router) (p : Packet) (outcome : Offered) (new : Router) : Type 0 where
   pub accepted : new.accepted ≡ old.accepted + length (cons_option (accepted_in (offered p outcome)) [])
-  pub evicted : new.evicted ≡ old.evicted ++ cons_option (evicted_in (offered p outcome)) []
+  pub evicted : new.evicted ≡ old.evicted + length (cons_option (evicted_in (offered p outcome)) [])
   pub session : new.session ≡ old.session
   pub queues : new.queues ≡ old.queues
   pub senders : new.senders ≡ old.senders
+  pub tallies : new.tallies ≡ old.tallies
 
 -- One more pull, at a moment that was handed in, led on from these events to this result.
 pub record LeadsOnByPull (setup : Setup) (new : Router) (moment : ℕ) (got : Option Packet) (events : List Event) : Type 0 where
@@ -188,16 +208,25 @@ pub record LeadsOnByClosing (setup : Setup) (new : Router) (moment : ℕ) (event
   pub closes : Closes moment events closed
   pub leads : IsAt setup (events ++ closed) new
 
--- the same, and it wrote its lines and the report
+-- the same, and it wrote its lines
 pub record Ends (setup : Setup) (new : Router) (moment : ℕ) (before after : List ℕ) (events : List Event) : Type 0 where
   pub closed : List Event
   pub closes : Closes moment events closed
-  pub lines : after ≡ before ++ (flat_map closing_text closed ++ ending_text setup (Some moment) (events ++ closed))
+  pub lines : after ≡ before ++ flat_map closing_text closed
   pub leads : IsAt setup (events ++ closed) new
 
 -- whatever events led to the router
 abbrev pub AnswersDrain : Router → Router → ℕ → List ℕ → List ℕ → Type 0
 AnswersDrain old new moment before after = (setup : Setup) (events : List Event) → IsAt setup events old → Ends setup new moment before after events
+
+-- the report of a router, where these packets came out at the device, if it was closed
+abbrev pub report_of : Router → Option (List Packet) → List ℕ
+report_of router None = []
+report_of router (Some emitted) = report_text emitted router.tallies.items
+
+-- all that an answer writes: its lines, and then the report
+abbrev pub answer_text : Router → Answer → List ℕ
+answer_text router answer = answer.lines.items ++ report_of router answer.emitted
 
 -- Why the closing drain of a router stops short: it made all the pulls that it is given. And why a script's does.
 abbrev pub StopsDrain : Router → ℕ → Fault → Type 0

@@ -3,48 +3,63 @@
 ghost use Rattle.std.specs.Prelude.{◌≡◌, ◌≤◌, ◌+◌, ◌⊎◌, true, false, None, Some, [], MatchResult, OnOk};
 ghost use Rattle.clk_packet.specs.declared.fault.Fault.TheVariants.{Memory};
 ghost use Rattle.clickpull.specs.Script.{lines_of, command_in, drain_in, command_fault, fault_at, first_fault, script_fault, commands_of, closing_moment, most_lines};
-ghost use Rattle.clickpull.specs.Meaning.{Writes, sender_numbers};
-ghost use Rattle.clickpull.specs.Router.{IsReadable, IsReadableLine, numbers_in, setup_at, IsReady, CanRun, AnswersCommand, AnswersLine, StopsScript};
+ghost use Rattle.clickpull.specs.Meaning.{WritesWith, sender_numbers};
+ghost use Rattle.clickpull.specs.Router.{IsReadable, IsReadableLine, numbers_in, setup_at, answer_text, IsReady, CanRun, AnswersCommand, AnswersLine, StopsScript};
 
 use crate::closing::close;
 use crate::router::Router;
 use crate::script::{Command, Line, MAX_BYTES, MAX_LINES};
 use crate::text::{push_offer, push_pull};
-use clk_packet::Fault;
+use clk_packet::{Fault, Packets};
 use std::alloc::Global;
 
-/// What a script writes over a router to which nothing has happened. Each line is carried out as it is read, but a drain once the
+/// What a script comes to.
+#[derive(Drop)]
+pub struct Answer {
+    /// The lines of its commands, and of its closing.
+    pub lines: Vec<u8>,
+    /// Where it closes, the packets that came out at the device, of which the report tells.
+    pub emitted: Option<Packets>,
+}
+
+/// What a script comes to over a router to which nothing has happened. Each line is carried out as it is read, but a drain once the
 /// lines after it are known to be empty.
 ///
 /// # Errors
 ///
 /// Fault 1 where memory is refused; 18 for more than 33,554,432 bytes; then the fault of the first line that has one; 17 where the
 /// drain stops short.
-pub fn answer(alloc: Global, router: &mut Router, script: &[u8]) -> Result<Vec<u8>, Fault>
+pub fn answer_script(alloc: Global, router: &mut Router, script: &[u8]) -> Result<Answer, Fault>
     requires { CanRun router.old }
     ensures { MatchResult result
-        (λ text. (script_fault (sender_numbers (setup_at router.old)) script.now ≡ None)
-        × Writes (setup_at router.old) (commands_of script.now) (closing_moment script.now) text.items)
+        (λ answer. (script_fault (sender_numbers (setup_at router.old)) script.now ≡ None)
+        × WritesWith (setup_at router.old) (commands_of script.now) (closing_moment script.now) (answer_text router.new answer) router.new.session.log)
         (λ fault. (fault ≡ Memory) ⊎ (script_fault (sender_numbers (setup_at router.old)) script.now ≡ Some fault)
         ⊎ StopsScript (setup_at router.old) script.now fault) }
 {
     if script.len() > MAX_BYTES {
         return Err(Fault::TooLarge);
     }
-    let mut text = Vec::new(alloc);
+    let mut lines = Vec::new(alloc);
     let mut number = 0;
     let mut rest = script;
     while !rest.is_empty() {
         let (line, after) = Line::next(rest);
         number += 1;
-        if let Some(moment) = answer_line(router, number, line, &mut text)? {
+        if let Some(moment) = answer_line(router, number, line, &mut lines)? {
             only_blank_lines(number, after)?;
-            close(alloc, router, moment, &mut text)?;
-            return Ok(text);
+            let emitted = close(alloc, router, moment, &mut lines)?;
+            return Ok(Answer {
+                lines,
+                emitted: Some(emitted),
+            });
         }
         rest = after;
     }
-    Ok(text)
+    Ok(Answer {
+        lines,
+        emitted: None,
+    })
 }
 
 /// Carries out the line of this number, counted from 1, unless it has a fault or memory is refused. Of a drain its moment is

@@ -1,23 +1,24 @@
-//! The closing of a script: its last pulls, and the report.
+//! The closing of a script: its last pulls.
 
 ghost use Rattle.std.specs.Prelude.{◌≡◌, ◌≤◌, ◌++◌, ◌⊎◌, MatchResult, OnOk, IsOkUnless};
 ghost use Rattle.std.specs.List.{flat_map};
 ghost use Rattle.clk_packet.specs.declared.fault.Fault.TheVariants.{Memory};
 ghost use Rattle.clk_sched.specs.declared.visit.Visit.{Visit};
+ghost use Rattle.clk_sched.specs.Results.{emitted};
 ghost use Rattle.clickpull.specs.Script.{most_moment};
 ghost use Rattle.clickpull.specs.Router.{IsReady, AnswersDrain, StopsDrain, visit_text};
 
-use crate::report::push_report;
 use crate::router::Router;
 use crate::text::push_pull;
-use clk_packet::Fault;
+use clk_packet::{Fault, Packets};
 use clk_sched::Visit;
 use std::alloc::Global;
 
 /// The node number of the device.
 const DEVICE: u16 = 0;
 
-/// Closes a router from this moment on, in ticks, and adds a line for each packet that comes out, and the report.
+/// Closes a router from this moment on, in ticks, adds a line for each packet that comes out, and answers all packets that came out at
+/// the device, in order.
 ///
 /// # Errors
 ///
@@ -27,17 +28,16 @@ pub fn close(
     router: &mut Router,
     moment: u64,
     text: &mut Vec<u8>,
-) -> Result<(), Fault>
+) -> Result<Packets, Fault>
     requires ready { IsReady router.old }
     requires moment { moment ≤ most_moment }
     ensures { MatchResult result
-        (λ done. AnswersDrain router.old router.new moment text.old.items text.new.items)
+        (λ came_out. (came_out ≡ emitted router.new.session.log) × AnswersDrain router.old router.new moment text.old.items text.new.items)
         (λ fault. (fault ≡ Memory) ⊎ StopsDrain router.old moment fault) }
 {
     let logged = router.drain(alloc, moment)?;
     push_given(text, &router.log()[logged..])?;
-    let emitted = router.emitted(alloc)?;
-    push_report(alloc, text, router, &emitted)
+    Ok(Packets::from(router.emitted(alloc)?))
 }
 
 /// Adds a line for each packet that came out by these visits. Fault 1 where memory is refused.

@@ -2,12 +2,12 @@
 
 ghost use Rattle.std.specs.Prelude.{◌≡◌, ◌≢◌, ◌+◌, ◌⊎◌, Ok, IfOk, IfErr};
 ghost use Rattle.std.specs.Io.KnownBytes.{Keeps};
-ghost use Rattle.clk_packet.specs.declared.fault.Fault.TheVariants.{Write};
+ghost use Rattle.clk_packet.specs.declared.fault.Fault.TheVariants.{Memory, Write};
 ghost use Rattle.clk_packet.specs.Bytes.{read_failures, write_failures};
 
 use crate::builtin;
-use crate::files::{open_file, read_plan};
-use crate::run::run_script;
+use crate::files::{open_file, read_plan, write_visits};
+use crate::run::{run_plan, run_script};
 use crate::words::{Asked, asked_by};
 use clap::Error;
 use clap::error::ErrorKind;
@@ -22,13 +22,14 @@ use std::sync::Wait;
 ///
 /// - No words: the script on `reader` runs over the built-in tree.
 /// - `check TREE`: the canonical text of the tree in the file TREE is written to `writer`.
-/// - `script TREE SCRIPT`: the script in the file SCRIPT runs over the tree in the file TREE, which is read and checked
-///   before SCRIPT is opened.
+/// - `script TREE SCRIPT [--visits FILE]`: the script in the file SCRIPT runs over the tree in the file TREE, which is read
+///   and checked before SCRIPT is opened. After the answer its visits are written to FILE, as CSV, where that is named.
 ///
 /// # Errors
 ///
-/// 1 where memory is refused; 19 where a file can't be opened, or it or `reader` can't be read; 20 where `writer` or
-/// `errors` fails; else those of the tree, and then those of the script.
+/// 1 where memory is refused, of the visits after the whole answer; 19 where a file can't be opened, or it or `reader` can't
+/// be read; 20 where `writer` or `errors` fails or, after the whole answer, FILE can't be made or written; else those of the
+/// tree, and then those of the script.
 pub fn command<H: Files + AllocGlobal, P: Wait, R: Source, W: Sink, E: Sink>(
     rt: &H,
     wait: &P,
@@ -42,10 +43,11 @@ pub fn command<H: Files + AllocGlobal, P: Wait, R: Source, W: Sink, E: Sink>(
     ensures done { result ≡ Ok 0 → errors.new ≡ errors.old }
     // Where the words are wrong, nothing is read or written but why.
     ensures refused { result ≡ Ok 2 → (reader.new ≡ reader.old) × (writer.new ≡ writer.old) }
-    // At a fault nothing is written, but where the fault is that a write failed.
-    ensures nothing { IfErr result (λ fault. fault ≢ Write → Keeps (W.Sink.taken writer.old) (W.Sink.taken writer.new)) }
-    // The fault is 20 exactly where `writer` or `errors` failed, and 19 where `reader` failed.
-    ensures write_failures { W.Sink.failures writer.new + E.Sink.failures errors.new ≡ write_failures result (W.Sink.failures writer.old + E.Sink.failures errors.old) }
+    // At a fault nothing is written, but where a write failed, or there was no memory for the visits.
+    ensures nothing { IfErr result (λ fault. fault ≢ Write → fault ≢ Memory → Keeps (W.Sink.taken writer.old) (W.Sink.taken writer.new)) }
+    // Where `writer` or `errors` failed the fault is 20, and 19 where `reader` failed.
+    ensures write_failures { (W.Sink.failures writer.new + E.Sink.failures errors.new ≡ W.Sink.failures writer.old + E.Sink.failures errors.old)
+        ⊎ (W.Sink.failures writer.new + E.Sink.failures errors.new ≡ write_failures result (W.Sink.failures writer.old + E.Sink.failures errors.old)) }
     ensures read_failures { (R.Source.failures reader.new ≡ R.Source.failures reader.old)
         ⊎ (R.Source.failures reader.new ≡ read_failures result (R.Source.failures reader.old)) }
 {
@@ -66,8 +68,9 @@ fn perform<H: Files + AllocGlobal, R: Source, W: Sink>(
     reader: &mut R,
     writer: &mut W,
 ) -> Result<(), Fault>
-    ensures nothing { IfErr result (λ fault. fault ≢ Write → Keeps (W.Sink.taken writer.old) (W.Sink.taken writer.new)) }
-    ensures write_failures { W.Sink.failures writer.new ≡ write_failures result (W.Sink.failures writer.old) }
+    ensures nothing { IfErr result (λ fault. fault ≢ Write → fault ≢ Memory → Keeps (W.Sink.taken writer.old) (W.Sink.taken writer.new)) }
+    ensures write_failures { (W.Sink.failures writer.new ≡ W.Sink.failures writer.old)
+        ⊎ (W.Sink.failures writer.new ≡ write_failures result (W.Sink.failures writer.old)) }
     ensures read_failures { (R.Source.failures reader.new ≡ R.Source.failures reader.old)
         ⊎ (R.Source.failures reader.new ≡ read_failures result (R.Source.failures reader.old)) }
 {
@@ -81,9 +84,17 @@ fn perform<H: Files + AllocGlobal, R: Source, W: Sink>(
             let text = read_plan(rt, alloc, tree)?.write(alloc)?;
             write_all(writer, &text)
         }
-        Asked::Script { tree, script } => {
+        Asked::Script {
+            tree,
+            script,
+            visits,
+        } => {
             let plan = read_plan(rt, alloc, tree)?;
-            run_script(alloc, &mut open_file(rt, script)?, writer, &plan)
+            let ran = run_plan(alloc, &mut open_file(rt, script)?, writer, &plan)?;
+            match visits {
+                Some(path) => write_visits(rt, alloc, path, ran.log()),
+                None => Ok(()),
+            }
         }
     }
 }

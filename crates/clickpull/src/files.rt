@@ -1,9 +1,11 @@
-//! What is read from files.
+//! What is read from files, and written to them.
 
-ghost use Rattle.std.specs.Prelude.{◌≢◌, IfErr, IsOkUnless};
-ghost use Rattle.clk_packet.specs.declared.fault.Fault.TheVariants.{Read, Write};
+ghost use Rattle.std.specs.Prelude.{◌≡◌, ◌≢◌, ◌⊎◌, IfErr, IsOkUnless};
+ghost use Rattle.clk_packet.specs.declared.fault.Fault.TheVariants.{Memory, Read, Write};
 
-use clk_packet::{Fault, FromRead, read_up_to};
+use clk_packet::{Fault, FromRead, ToWrite, read_up_to};
+use clk_report::visits_csv;
+use clk_sched::Visit;
 use clk_tree::Plan;
 use std::alloc::Global;
 use std::fs;
@@ -37,4 +39,18 @@ pub fn read_plan<H: Files>(rt: &H, alloc: Global, path: &str) -> Result<Plan, Fa
     let mut file = open_file(rt, path)?;
     let text = read_up_to(alloc, &mut file, MOST_TREE_BYTES + 1)?;
     Plan::read(alloc, &text)
+}
+
+/// Writes a log of visits to a file, as CSV. The file is made, or overwritten where it is there.
+///
+/// # Errors
+///
+/// Fault 1 where memory is refused, and 20 where the file can't be made or written. It may hold a front of the CSV then.
+pub fn write_visits<H: Files>(rt: &H, alloc: Global, path: &str, log: &[Visit]) -> Result<(), Fault>
+    ensures fault { IfErr result (λ fault. (fault ≡ Memory) ⊎ (fault ≡ Write)) }
+{
+    match fs::create(rt, path) {
+        Ok(file) => visits_csv(alloc, log, &mut ToWrite::new(file)),
+        Err(_) => Err(Fault::Write),
+    }
 }

@@ -10,11 +10,11 @@ mod fields;
 mod files;
 mod laws;
 mod queues;
-mod report;
 mod router;
 mod run;
 mod script;
 mod senders;
+mod tallies;
 mod text;
 mod words;
 

@@ -1,8 +1,9 @@
 //! The router that a script runs over: senders, queues, and a session of a tree over the queues.
 
 use crate::queues::Queues;
-use crate::senders::{Sender, place_of, senders_of};
-use clk_packet::{Fault, Offered, Packet, Packets};
+use crate::senders::{Sender, senders_of};
+use crate::tallies::{note, place_of, tallies_of};
+use clk_packet::{Fault, Offered, Packet, Tally};
 use clk_ring::calls_are_history;
 use clk_sched::{Session, Tree, Visit, runs_go_on};
 use clk_tree::{QueueSpec, SenderSpec};
@@ -15,11 +16,13 @@ pub struct Router {
     session: Session,
     queues: Queues,
     /// The senders, by rising numbers.
-    pub senders: Vec<Sender>,
+    senders: Vec<Sender>,
+    /// What became of the packets of each, at its place.
+    pub tallies: Vec<Tally>,
     /// How many packets the queues took.
     accepted: u64,
-    /// The packets that the queues put out for later ones, in order.
-    pub evicted: Packets,
+    /// How many of these they put out for later ones.
+    evicted: u64,
 }
 
 impl Router {
@@ -57,26 +60,27 @@ impl Router {
             session,
             queues: Queues::new(alloc, queues)?,
             senders: senders_of(alloc, senders)?,
+            tallies: tallies_of(alloc, senders)?,
             accepted: 0,
-            evicted: Packets::new(alloc),
+            evicted: 0,
         })
     }
 
     /// The place of the sender of this number, if it is there.
     pub fn place_of(&self, number: u16) -> Option<usize>
         requires ready { IsReady self.now }
-        ensures found { IfSome result (IsPlaceOf self.now.senders.items number) }
+        ensures found { IfSome result (IsPlaceOf self.now.tallies.items number) }
         ensures missing { result ≡ None → list_any (λ s. s == number) (numbers_in self.now) ≡ false }
     {
-        place_of(&self.senders, number)
+        place_of(&self.tallies, number)
     }
 
     /// The sender at this place offers its next packet, of this length in bytes, to its queue. Fault 1 where memory is refused.
     pub fn send(&mut self, place: usize, length: u16) -> Result<(Packet, Offered), Fault>
         requires ready { IsReady self.old }
-        requires is_there { IsPlace self.old.senders.items place }
+        requires is_there { IsPlace self.old.tallies.items place }
         requires has_length { 1 ≤ length }
-        ensures sent { IfOk result (λ r. IsSentFrom self.old.senders.items place r.0 × (r.0.length ≡ length)) }
+        ensures sent { IfOk result (λ r. IsSentFrom self.old.tallies.items place r.0 × (r.0.length ≡ length)) }
         ensures leads { IfOk result (λ r. (setup : Setup) (events : _) → IsAt setup events self.old → IsAt setup (events ++ offered r.0 r.1 ∷ []) self.new) }
         ensures fault { IsOkUnless result Fault.Memory }
     {
@@ -85,26 +89,25 @@ impl Router {
         let sender = &mut self.senders[place];
         let packet = sender.next_packet(length);
         let outcome = self.queues.offer(sender.queue, packet);
-        sender.note(packet, outcome)?;
-        self.count(outcome)?;
+        note(&mut self.tallies, place, packet, outcome)?;
+        self.count(outcome);
         Ok((packet, outcome))
     }
 
-    /// Counts what became of a packet. Fault 1 where memory is refused.
-    fn count(&mut self, outcome: Offered) -> Result<(), Fault>
-        requires { self.old.accepted ≤ most_lines }
-        ensures counted { OnOk result ((packet : Packet) → Counts self.old packet outcome self.new) }
-        ensures fault { IsOkUnless result Fault.Memory }
+    /// Counts what became of a packet.
+    fn count(&mut self, outcome: Offered)
+        requires accepted { self.old.accepted ≤ most_lines }
+        requires evicted { self.old.evicted ≤ most_lines }
+        ensures counted { (packet : Packet) → Counts self.old packet outcome self.new }
     {
         match outcome {
             Offered::Refused(_) => {}
             Offered::Accepted => self.accepted += 1,
-            Offered::Evicted(front) => {
+            Offered::Evicted(_) => {
                 self.accepted += 1;
-                self.evicted.push(front)?;
+                self.evicted += 1;
             }
         }
-        Ok(())
     }
 
     /// Pulls the device once, at this moment in ticks or, where that is later, at the greatest so far. Fault 1 where memory is
@@ -137,10 +140,9 @@ impl Router {
         calls_are_history();
         let logged = self.session.log().len();
         let emitted = self.session.emitted(alloc)?.len() as u64;
-        let evicted = self.evicted.as_slice().len() as u64;
         let left = self
             .accepted
-            .saturating_sub(evicted)
+            .saturating_sub(self.evicted)
             .saturating_sub(emitted);
         self.session.drain(&mut self.queues, left, moment)?;
         Ok(logged)

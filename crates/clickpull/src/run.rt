@@ -1,21 +1,23 @@
 //! One script, over a plan.
 
-ghost use Rattle.std.specs.Prelude.{◌≡◌, ◌≢◌, ◌≤◌, ◌+◌, true, map, length, IfSome, IfErr, OnOk, IsErrOf};
+ghost use Rattle.std.specs.Prelude.{◌≡◌, ◌≢◌, ◌≤◌, ◌+◌, ◌++◌, ◌∷◌, [], true, map, length, IfOk, IfSome, IfErr, OnOk, IsErrOf};
 ghost use Rattle.std.specs.List.{AllByRecursion};
 ghost use Rattle.std.specs.Io.KnownBytes.{Appends, Keeps};
-ghost use Rattle.clk_packet.specs.Bytes.{Takes, AppendsFront, read_failures, write_failures};
+ghost use Rattle.clk_packet.specs.Bytes.{Takes, AppendsFront, Wrote, read_failures, write_failures};
 ghost use Rattle.clk_packet.specs.declared.fault.Fault.TheVariants.{Write};
 ghost use Rattle.clk_sched.specs.Tree.{root, leaves_distinct};
 ghost use Rattle.clk_sched.specs.Session.{elements};
 ghost use Rattle.clk_sched.specs.Limits.{most_elements};
 ghost use Rattle.clk_tree.specs.PlanParts.{queued, number_of, AreRising, HasCapacity, SendsWithin};
 ghost use Rattle.clickpull.specs.Script.{most_bytes};
-ghost use Rattle.clickpull.specs.Meaning.{IsMeaning, Explains, setup_of, MeansOver, ExplainsPlan};
+ghost use Rattle.clickpull.specs.Meaning.{IsMeaning, MeansWith, Explains, setup_of, MeansOver, MeansOverWith, ExplainsPlan};
+ghost use Rattle.clickpull.specs.Router.{answer_text};
 
-use crate::answer::answer;
+use crate::answer::{Answer, answer_script};
 use crate::router::Router;
 use crate::script::MAX_BYTES;
 use clk_packet::{Fault, Sink, Source, read_up_to, write_all};
+use clk_report::report;
 use clk_sched::Tree;
 use clk_tree::{Plan, QueueSpec, SenderSpec};
 use std::alloc::Global;
@@ -48,6 +50,27 @@ pub fn run_script<R: Source, W: Sink>(
     // The reader is read to one byte past the limit at most.
     ensures limit { Takes (most_bytes + 1) (R.Source.remaining reader.old) (R.Source.remaining reader.new) }
 {
+    run_plan(alloc, reader, writer, plan)?;
+    Ok(())
+}
+
+/// The same, with the same faults. Answers the router over which it ran, with the log of all visits.
+pub fn run_plan<R: Source, W: Sink>(
+    alloc: Global,
+    reader: &mut R,
+    writer: &mut W,
+    plan: &Plan,
+) -> Result<Router, Fault>
+    ensures written { IfOk result (λ router. IfSome (R.Source.remaining reader.old) (λ script.
+        (text : _) × MeansOverWith plan.now script text router.session.log × Appends (W.Sink.taken writer.old) (W.Sink.taken writer.new) text)) }
+    ensures front { IsErrOf result Fault.Write → IfSome (R.Source.remaining reader.old) (λ script.
+        (text : _) × MeansOver plan.now script text × AppendsFront (W.Sink.taken writer.old) (W.Sink.taken writer.new) text) }
+    ensures nothing { IfErr result (λ fault. fault ≢ Write → Keeps (W.Sink.taken writer.old) (W.Sink.taken writer.new)) }
+    ensures fault { IfErr result (ExplainsPlan plan.now (R.Source.remaining reader.old)) }
+    ensures read_failures { R.Source.failures reader.new ≡ read_failures result (R.Source.failures reader.old) }
+    ensures write_failures { W.Sink.failures writer.new ≡ write_failures result (W.Sink.failures writer.old) }
+    ensures limit { Takes (most_bytes + 1) (R.Source.remaining reader.old) (R.Source.remaining reader.new) }
+{
     let tree = plan.tree(alloc)?;
     run_parts(alloc, reader, writer, tree, plan.queues(), plan.senders())
 }
@@ -60,14 +83,14 @@ pub fn run_parts<R: Source, W: Sink>(
     tree: Tree,
     queues: &[QueueSpec],
     senders: &[SenderSpec],
-) -> Result<(), Fault>
+) -> Result<Router, Fault>
     requires distinct { leaves_distinct tree ≡ true }
     requires fits { 1 + elements (root tree) ≤ most_elements }
     requires capacities { AllByRecursion HasCapacity (map queued queues.now) }
     requires rising { AreRising (map number_of senders.now) }
     requires wired { AllByRecursion (SendsWithin (length (map queued queues.now))) senders.now }
-    ensures written { OnOk result (IfSome (R.Source.remaining reader.old) (λ script.
-        (text : _) × IsMeaning (setup_of tree (map queued queues.now) senders.now) script text × Appends (W.Sink.taken writer.old) (W.Sink.taken writer.new) text)) }
+    ensures written { IfOk result (λ router. IfSome (R.Source.remaining reader.old) (λ script.
+        (text : _) × MeansWith (setup_of tree (map queued queues.now) senders.now) script text router.session.log × Appends (W.Sink.taken writer.old) (W.Sink.taken writer.new) text)) }
     ensures front { IsErrOf result Fault.Write → IfSome (R.Source.remaining reader.old) (λ script.
         (text : _) × IsMeaning (setup_of tree (map queued queues.now) senders.now) script text × AppendsFront (W.Sink.taken writer.old) (W.Sink.taken writer.new) text) }
     ensures nothing { IfErr result (λ fault. fault ≢ Write → Keeps (W.Sink.taken writer.old) (W.Sink.taken writer.new)) }
@@ -78,6 +101,19 @@ pub fn run_parts<R: Source, W: Sink>(
 {
     let mut router = Router::new(alloc, tree, queues, senders)?;
     let script = read_up_to(alloc, reader, MAX_BYTES + 1)?;
-    let text = answer(alloc, &mut router, &script)?;
-    write_all(writer, &text)
+    let answer = answer_script(alloc, &mut router, &script)?;
+    write_answer(&router, &answer, writer)?;
+    Ok(router)
+}
+
+/// Writes the lines of an answer, and the report of the router where it was closed.
+fn write_answer<W: Sink>(router: &Router, answer: &Answer, writer: &mut W) -> Result<(), Fault>
+    ensures { Wrote (W.Sink.taken writer.old) (W.Sink.taken writer.new)
+        (W.Sink.failures writer.old) (W.Sink.failures writer.new) result (answer_text router.now answer.now) }
+{
+    write_all(writer, &answer.lines)?;
+    match &answer.emitted {
+        Some(emitted) => report(&router.tallies, emitted.as_slice(), writer),
+        None => Ok(()),
+    }
 }

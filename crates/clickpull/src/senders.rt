@@ -1,31 +1,28 @@
 //! The senders of a router.
 
-ghost use Rattle.std.specs.Prelude.{◌≡◌, ◌≤◌, ◌+◌, ◌<◌, ◌^◌, ◌==◌, false, None, map, IfSome, IfOk, OnOk, IsOkUnless};
-ghost use Rattle.std.specs.List.{list_any};
+ghost use Rattle.std.specs.Prelude.{◌≡◌, map, IfOk, IsOkUnless};
 ghost use Rattle.clk_packet.specs.declared.fault.Fault.TheVariants.{Memory};
-ghost use Rattle.clk_tree.specs.PlanParts.{AreRising};
-ghost use Rattle.clickpull.specs.Router.{sender_made, sent_one_more, noted, sender_number, IsPlaceOf};
+ghost use Rattle.clickpull.specs.Router.{sender_made};
 
-use clk_packet::{Fault, Offered, Packet, Packets};
+use clk_packet::{Fault, Packet};
 use clk_tree::SenderSpec;
 use std::alloc::Global;
 
-/// A sender, and what it has sent.
-#[derive(Drop)]
+/// A sender, and how often it has sent.
+#[derive(Clone, Copy, Debug)]
 pub struct Sender {
     /// Its number.
-    pub number: u16,
+    number: u16,
     /// The number of the queue that it sends to.
     pub queue: u16,
     /// How many packets it has offered.
     sent: u32,
-    /// Those that its queue took.
-    pub accepted: Packets,
-    /// Those that its queue was too full to take.
-    pub refused: Packets,
 }
 
 impl Sender {
+    ghost use Rattle.std.specs.Prelude.{◌≡◌, ◌≤◌, ◌+◌, ◌<◌, ◌^◌};
+    ghost use Rattle.clickpull.specs.Router.{sent_one_more};
+
     /// Its next packet, of this length in bytes, which is counted.
     pub fn next_packet(&mut self, length: u16) -> Packet
         requires has_length { 1 ≤ length }
@@ -43,17 +40,6 @@ impl Sender {
             length,
         }
     }
-
-    /// Keeps what became of a packet that it offered. Fault 1 where memory is refused.
-    pub fn note(&mut self, packet: Packet, outcome: Offered) -> Result<(), Fault>
-        ensures kept { OnOk result (self.new ≡ noted packet outcome self.old) }
-        ensures fault { IsOkUnless result Fault.Memory }
-    {
-        match outcome {
-            Offered::Refused(_) => self.refused.push(packet),
-            Offered::Accepted | Offered::Evicted(_) => self.accepted.push(packet),
-        }
-    }
 }
 
 /// These senders, before they have sent anything. Fault 1 where memory is refused.
@@ -67,27 +53,7 @@ pub fn senders_of(alloc: Global, specs: &[SenderSpec]) -> Result<Vec<Sender>, Fa
             number: spec.number,
             queue: spec.queue,
             sent: 0,
-            accepted: Packets::new(alloc),
-            refused: Packets::new(alloc),
         })?;
     }
     Ok(senders)
-}
-
-/// The place of a sender among these, whose numbers rise, if it is one of them.
-pub fn place_of(senders: &[Sender], number: u16) -> Option<usize>
-    requires rising { AreRising (map sender_number senders.now) }
-    ensures found { IfSome result (IsPlaceOf senders.now number) }
-    ensures missing { result ≡ None → list_any (λ s. s == number) (map sender_number senders.now) ≡ false }
-{
-    // Numbers without gaps are places.
-    let place = usize::from(number);
-    if let Some(sender) = senders.get(place) {
-        if sender.number == number {
-            return Some(place);
-        }
-    }
-    senders
-        .binary_search_by_key(&number, |sender| sender.number)
-        .ok()
 }

@@ -13,6 +13,7 @@ mod row;
 mod shaper;
 mod stride;
 mod trees;
+mod visits;
 
 use clk_packet::Fault;
 use row::run_within;

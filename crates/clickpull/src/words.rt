@@ -19,6 +19,8 @@ pub enum Asked<'a> {
         tree: &'a str,
         /// The file of the script.
         script: &'a str,
+        /// The file that its visits are written to, if one is named.
+        visits: Option<&'a str>,
     },
 }
 
@@ -40,6 +42,7 @@ fn asked_of<'a>(matches: &ArgMatches<'a>) -> Asked<'a> {
         Some(("script", found)) => Asked::Script {
             tree: path_of(found, TREE),
             script: path_of(found, SCRIPT),
+            visits: found.get_str(VISITS),
         },
         _ => Asked::Builtin,
     }
@@ -53,6 +56,8 @@ fn path_of<'a>(matches: &ArgMatches<'a>, name: &str) -> &'a str {
 const TREE: &str = "TREE";
 
 const SCRIPT: &str = "SCRIPT";
+
+const VISITS: &str = "visits";
 
 const ABOUT: &str =
     "Runs scripts of sends and pulls through queues and pull schedulers, as a Click router's link pulls them";
@@ -110,16 +115,27 @@ Commands of a script:
   drain M   the link pulls from moment M on until every packet is out, and each sender is accounted for
 
 The tree is read and checked before the script is opened, and the whole script before anything is printed.
+With --visits FILE the log of its pulls is written to FILE after the answer, as CSV with a row for each visit
+that a scheduler or the link made. A file that is there is overwritten.
 
-Example:
-  clickpull script uplink.click morning.script";
+Examples:
+  clickpull script uplink.click morning.script
+  clickpull script --visits morning.csv uplink.click morning.script";
+
+const VISITS_MEANS: &str = "Writes the log of the visits to FILE, as CSV";
 
 fn script<'a>(alloc: Global) -> Result<Command<'a>, AllocError> {
     Command::new(alloc, "script")
         .about("Runs a script over a tree, and prints what becomes of each packet")
         .after_help(SCRIPT_MORE)
         .arg(file(alloc, TREE, TREE_MEANS))?
-        .arg(file(alloc, SCRIPT, SCRIPT_MEANS))
+        .arg(file(alloc, SCRIPT, SCRIPT_MEANS))?
+        .arg(
+            Arg::new(alloc, VISITS)
+                .long("visits")
+                .value_name("FILE")
+                .help(VISITS_MEANS),
+        )
 }
 
 /// A word that names a file.

@@ -85,17 +85,15 @@ fn a_packet_that_cannot_come_out_stops_a_closing(rt: HostRuntime) -> Result<(), 
     let tree = over_one.tree(alloc).expect(&rt, "ample memory");
     let mut reader = FailingSource::new(b"send 1 10\ndrain 0\n".to_vec(alloc)?, usize::MAX);
     let mut writer = FailingSink::new(vec![in alloc; 0; AMPLE]?);
-    assert_eq!(rt;
-        run_parts(
-            alloc,
-            &mut reader,
-            &mut writer,
-            tree,
-            over_two.queues(),
-            over_two.senders()
-        ),
-        Err(Fault::TooManyPulls { pulls: 266 })
+    let ended = run_parts(
+        alloc,
+        &mut reader,
+        &mut writer,
+        tree,
+        over_two.queues(),
+        over_two.senders(),
     );
+    assert_eq!(rt; ended.err(), Some(Fault::TooManyPulls { pulls: 266 }));
     assert!(rt; writer.taken().is_empty());
     Ok(())
 }

@@ -11,15 +11,15 @@ use std::{fs, str};
 
 /// What words answer, and what they write to standard output and to standard error.
 #[derive(Drop)]
-struct Answered {
-    outcome: Result<u8, Fault>,
-    written: Vec<u8>,
-    told: Vec<u8>,
+pub struct Answered {
+    pub outcome: Result<u8, Fault>,
+    pub written: Vec<u8>,
+    pub told: Vec<u8>,
 }
 
 // What words, with a space between them, answer to the script on standard input, where standard output takes `room` bytes
 // and standard error `errors_room` before they fail.
-fn answer_within(
+pub fn answer_within(
     rt: &(impl Files + AllocGlobal + Wait),
     words: &str,
     room: usize,
@@ -42,7 +42,7 @@ fn answer_within(
 }
 
 // Fails unless words answer this, write this to standard output, and say nothing else.
-fn assert_writes(
+pub fn assert_writes(
     rt: &(impl Files + AllocGlobal + Wait + Abort),
     words: &str,
     outcome: Result<u8, Fault>,
@@ -73,7 +73,7 @@ fn no_words_run_standard_input_over_the_built_in_tree(rt: HostRuntime) {
 }
 
 /// Words that are refused, and a part of what is said of each.
-const REFUSED: [(&str, &str); 9] = [
+const REFUSED: [(&str, &str); 11] = [
     ("frob", "unrecognized subcommand 'frob'"),
     ("run a b", "unrecognized subcommand 'run'"),
     ("check", "<TREE>"),
@@ -81,7 +81,12 @@ const REFUSED: [(&str, &str); 9] = [
     ("check --quick a", "unexpected argument '--quick' found"),
     ("script", "<TREE>"),
     ("script a", "<SCRIPT>"),
-    ("script a b c", "Usage: clickpull script <TREE> <SCRIPT>"),
+    (
+        "script a b c",
+        "Usage: clickpull script [OPTIONS] <TREE> <SCRIPT>",
+    ),
+    ("script a b --visits", "--visits <FILE>"),
+    ("check a --visits b", "unexpected argument '--visits' found"),
     ("help frob", "unrecognized subcommand 'frob'"),
 ];
 
@@ -110,7 +115,10 @@ const HELPED: [(&str, &str); 10] = [
         "clickpull check uplink.click > uplink.canonical.click",
     ),
     ("check -h", "Usage: clickpull check <TREE>"),
-    ("script --help", "Usage: clickpull script <TREE> <SCRIPT>"),
+    (
+        "script --help",
+        "Usage: clickpull script [OPTIONS] <TREE> <SCRIPT>",
+    ),
     ("help script", "send S L"),
 ];
 
@@ -199,6 +207,8 @@ fn a_bad_tree_is_told_before_the_script_is_opened(rt: HostRuntime) -> Result<(),
     fs::write(&rt, "bad.click", "q :: Que;")?;
     let fault = Fault::UnknownClass { offset: 5 };
     assert_writes(&rt, "check bad.click", Err(fault), b"");
+    fs::write(&rt, "empty.click", "")?;
+    assert_writes(&rt, "check empty.click", Err(Fault::NoDevice), b"");
     assert_writes(&rt, "script bad.click missing.script", Err(fault), b"");
     Ok(())
 }

@@ -1,6 +1,6 @@
 //! Inputs with quanta, and heads.
 
-use super::row::assert_writes;
+use super::row::{assert_visits, assert_writes};
 use super::trees::{DRR_1_OVER_ONE, DRR_500_OVER_ONE, DRR_500_OVER_TWO, DRR_OVER_DRR};
 
 #[test]
@@ -16,7 +16,21 @@ fn a_head_waits_for_its_deficit(rt: HostRuntime) {
         0#1 401 accepted\n\
         pull 0: none\n\
         pull 0: 0#1 401\n";
+    let visits = "0,1,0,1,0,0,600,0,0\n\
+        0,1,1,1,1,0,200,1,0\n\
+        0,0,0,1,1,0,200,1,0\n\
+        1,1,1,1,1,1,200,1,0\n\
+        1,0,0,1,1,1,200,1,0\n\
+        2,1,1,1,,,,0,0\n\
+        2,1,0,0,0,0,600,1,0\n\
+        2,0,0,1,0,0,600,1,0\n\
+        3,1,0,1,0,1,401,0,0\n\
+        3,1,1,1,,,,0,0\n\
+        3,0,0,1,,,,0,0\n\
+        4,1,0,0,0,1,401,1,0\n\
+        4,0,0,1,0,1,401,1,0\n";
     assert_writes(&rt, rt.alloc(), DRR_500_OVER_TWO, script, expected);
+    assert_visits(&rt, rt.alloc(), DRR_500_OVER_TWO, script, visits);
 }
 
 #[test]
@@ -25,7 +39,12 @@ fn a_second_pull_covers_a_head(rt: HostRuntime) {
     let expected = "0#0 1000 accepted\n\
         pull 0: none\n\
         pull 0: 0#0 1000\n";
+    let visits = "0,1,0,1,0,0,1000,0,0\n\
+        0,0,0,1,,,,0,0\n\
+        1,1,0,0,0,0,1000,1,0\n\
+        1,0,0,1,0,0,1000,1,0\n";
     assert_writes(&rt, rt.alloc(), DRR_500_OVER_ONE, script, expected);
+    assert_visits(&rt, rt.alloc(), DRR_500_OVER_ONE, script, visits);
 }
 
 #[test]
@@ -35,7 +54,12 @@ fn a_head_is_drained(rt: HostRuntime) {
         pull 0: none\n\
         pull 1: 0#0 1000\n\
         sender 0: sent 1 1000, accepted 1 1000, refused 0 0, evicted 0 0, emitted 1 1000\n";
+    let visits = "0,1,0,1,0,0,1000,0,0\n\
+        0,0,0,1,,,,0,0\n\
+        1,1,0,0,0,0,1000,1,1\n\
+        1,0,0,1,0,0,1000,1,1\n";
     assert_writes(&rt, rt.alloc(), DRR_500_OVER_ONE, script, expected);
+    assert_visits(&rt, rt.alloc(), DRR_500_OVER_ONE, script, visits);
 }
 
 #[test]
@@ -46,7 +70,19 @@ fn a_deficit_above_a_deficit(rt: HostRuntime) {
         pull 0: none\n\
         pull 0: none\n\
         pull 0: 0#0 700\n";
+    let visits = "0,2,0,1,0,0,700,0,0\n\
+        0,1,0,1,,,,0,0\n\
+        0,0,0,1,,,,0,0\n\
+        1,2,0,0,0,0,700,0,0\n\
+        1,1,0,1,,,,0,0\n\
+        1,0,0,1,,,,0,0\n\
+        2,2,0,0,0,0,700,1,0\n\
+        2,1,0,1,0,0,700,0,0\n\
+        2,0,0,1,,,,0,0\n\
+        3,1,0,0,0,0,700,1,0\n\
+        3,0,0,1,0,0,700,1,0\n";
     assert_writes(&rt, rt.alloc(), DRR_OVER_DRR, script, expected);
+    assert_visits(&rt, rt.alloc(), DRR_OVER_DRR, script, visits);
 }
 
 // The packet comes out at the last of 65,535 pulls.

@@ -1,6 +1,6 @@
 //! Inputs that are asked in order.
 
-use super::row::assert_writes;
+use super::row::{assert_visits, assert_writes};
 use super::trees::{ROUND_ROBIN_OVER_THREE, ROUND_ROBIN_OVER_TWO};
 
 #[test]
@@ -16,7 +16,22 @@ fn three_queues_take_turns(rt: HostRuntime) {
         pull 0: 0#1 11\n\
         pull 0: 2#1 13\n\
         pull 0: none\n";
+    let visits = "0,1,0,1,0,0,10,1,0\n\
+        0,0,0,1,0,0,10,1,0\n\
+        1,1,1,1,,,,0,0\n\
+        1,1,2,1,2,0,12,1,0\n\
+        1,0,0,1,2,0,12,1,0\n\
+        2,1,0,1,0,1,11,1,0\n\
+        2,0,0,1,0,1,11,1,0\n\
+        3,1,1,1,,,,0,0\n\
+        3,1,2,1,2,1,13,1,0\n\
+        3,0,0,1,2,1,13,1,0\n\
+        4,1,0,1,,,,0,0\n\
+        4,1,1,1,,,,0,0\n\
+        4,1,2,1,,,,0,0\n\
+        4,0,0,1,,,,0,0\n";
     assert_writes(&rt, rt.alloc(), ROUND_ROBIN_OVER_THREE, script, expected);
+    assert_visits(&rt, rt.alloc(), ROUND_ROBIN_OVER_THREE, script, visits);
 }
 
 #[test]
@@ -28,5 +43,13 @@ fn a_pull_that_finds_nothing_keeps_the_turn(rt: HostRuntime) {
         0#1 1 accepted\n\
         1#0 1 accepted\n\
         pull 0: 1#0 1\n";
+    let visits = "0,1,0,1,0,0,1,1,0\n\
+        0,0,0,1,0,0,1,1,0\n\
+        1,1,1,1,,,,0,0\n\
+        1,1,0,1,,,,0,0\n\
+        1,0,0,1,,,,0,0\n\
+        2,1,1,1,1,0,1,1,0\n\
+        2,0,0,1,1,0,1,1,0\n";
     assert_writes(&rt, rt.alloc(), ROUND_ROBIN_OVER_TWO, script, expected);
+    assert_visits(&rt, rt.alloc(), ROUND_ROBIN_OVER_TWO, script, visits);
 }

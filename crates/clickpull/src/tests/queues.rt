@@ -1,6 +1,6 @@
 //! Queues that are full, or that another has to wait for.
 
-use super::row::assert_writes;
+use super::row::{assert_visits, assert_writes};
 use super::trees::{
     PRIO_OVER_FRONT_DROP, PRIO_OVER_ROOM_FOR_ONE, PRIO_OVER_ROOM_FOR_TWO, SHARED_FRONT_DROP,
 };
@@ -12,7 +12,10 @@ fn a_full_queue_refuses_a_packet(rt: HostRuntime) {
         0#1 20 refused\n\
         pull 0: 0#0 10\n\
         sender 0: sent 2 30, accepted 1 10, refused 1 20, evicted 0 0, emitted 1 10\n";
+    let visits = "0,1,0,1,0,0,10,1,0\n\
+        0,0,0,1,0,0,10,1,0\n";
     assert_writes(&rt, rt.alloc(), PRIO_OVER_ROOM_FOR_ONE, script, expected);
+    assert_visits(&rt, rt.alloc(), PRIO_OVER_ROOM_FOR_ONE, script, visits);
 }
 
 #[test]
@@ -24,7 +27,14 @@ fn a_full_front_drop_queue_puts_its_front_out(rt: HostRuntime) {
         pull 0: 0#1 20\n\
         pull 0: 0#2 30\n\
         pull 0: none\n";
+    let visits = "0,1,0,1,0,1,20,1,0\n\
+        0,0,0,1,0,1,20,1,0\n\
+        1,1,0,1,0,2,30,1,0\n\
+        1,0,0,1,0,2,30,1,0\n\
+        2,1,0,1,,,,0,0\n\
+        2,0,0,1,,,,0,0\n";
     assert_writes(&rt, rt.alloc(), PRIO_OVER_FRONT_DROP, script, expected);
+    assert_visits(&rt, rt.alloc(), PRIO_OVER_FRONT_DROP, script, visits);
 }
 
 #[test]
@@ -35,7 +45,9 @@ fn a_sender_may_put_out_another_s_packet(rt: HostRuntime) {
         pull 0: 1#0 60\n\
         sender 0: sent 1 100, accepted 1 100, refused 0 0, evicted 1 100, emitted 0 0\n\
         sender 1: sent 1 60, accepted 1 60, refused 0 0, evicted 0 0, emitted 1 60\n";
+    let visits = "0,0,0,1,1,0,60,1,0\n";
     assert_writes(&rt, rt.alloc(), SHARED_FRONT_DROP, script, expected);
+    assert_visits(&rt, rt.alloc(), SHARED_FRONT_DROP, script, visits);
 }
 
 #[test]
@@ -58,5 +70,14 @@ fn a_lower_input_goes_first(rt: HostRuntime) {
         pull 0: 0#0 100\n\
         pull 0: 1#0 50\n\
         pull 0: none\n";
+    let visits = "0,1,0,1,0,0,100,1,0\n\
+        0,0,0,1,0,0,100,1,0\n\
+        1,1,0,1,,,,0,0\n\
+        1,1,1,1,1,0,50,1,0\n\
+        1,0,0,1,1,0,50,1,0\n\
+        2,1,0,1,,,,0,0\n\
+        2,1,1,1,,,,0,0\n\
+        2,0,0,1,,,,0,0\n";
     assert_writes(&rt, rt.alloc(), PRIO_OVER_ROOM_FOR_TWO, script, expected);
+    assert_visits(&rt, rt.alloc(), PRIO_OVER_ROOM_FOR_TWO, script, visits);
 }

@@ -1,8 +1,11 @@
 //! What is done with a script in a row.
 
 use super::AMPLE;
+use crate::run::run_plan;
 use crate::run_script;
 use clk_packet::{FailingSink, FailingSource, Fault};
+use clk_report::visits_csv;
+use clk_sched::Visit;
 use clk_tree::Plan;
 use std::alloc::{AllocError, Global};
 use std::process::Abort;
@@ -19,6 +22,31 @@ pub fn assert_refused(rt: &impl Abort, alloc: Global, tree: &str, script: &str, 
     let (outcome, written) = run(alloc, tree, script).expect(rt, "ample memory");
     assert_eq!(rt; outcome, Err(expected));
     assert!(rt; written.is_empty());
+}
+
+/// Fails unless the visits of a script over a tree are these rows as CSV.
+pub fn assert_visits(rt: &impl Abort, alloc: Global, tree: &str, script: &str, rows: &str) {
+    let written = csv_of(alloc, tree, script).expect(rt, "ample memory");
+    let header = "pull,node,input,fresh,sender,number,length,passed,moment\n";
+    let (first, rest) = written.split_at(written.len().min(header.len()));
+    assert_eq!(rt; first, header.as_bytes());
+    assert_eq!(rt; rest, rows.as_bytes());
+}
+
+fn csv_of(alloc: Global, tree: &str, script: &str) -> Result<Vec<u8>, Fault> {
+    let log = log_of(alloc, tree, script)?;
+    let mut sink = FailingSink::new(vec![in alloc; 0; AMPLE]?);
+    visits_csv(alloc, &log, &mut sink)?;
+    Ok(sink.taken().to_vec(alloc)?)
+}
+
+/// The visits that a script makes over a tree.
+pub fn log_of(alloc: Global, tree: &str, script: &str) -> Result<Vec<Visit>, Fault> {
+    let plan = Plan::read(alloc, tree.as_bytes())?;
+    let mut reader = FailingSource::new(script.as_bytes().to_vec(alloc)?, usize::MAX);
+    let mut writer = FailingSink::new(vec![in alloc; 0; AMPLE]?);
+    let ran = run_plan(alloc, &mut reader, &mut writer, &plan)?;
+    Ok(ran.log().to_vec(alloc)?)
 }
 
 /// How a run of a script over a tree ends, and what it wrote, where neither the reader nor the writer fails.

@@ -1,6 +1,6 @@
 //! Token buckets.
 
-use super::row::assert_writes;
+use super::row::{assert_visits, assert_writes};
 use super::trees::{DRR_OVER_SHAPER, SHAPER_1_1, SHAPER_1_2, SHAPER_1_3, SHAPER_2_2, SHAPER_5_2};
 
 // The last pull names an earlier moment than the one before it, which then counts.
@@ -20,7 +20,18 @@ fn a_burst_goes_first(rt: HostRuntime) {
         pull 0: none\n\
         pull 2: 0#3 10\n\
         sender 0: sent 4 40, accepted 4 40, refused 0 0, evicted 0 0, emitted 4 40\n";
+    let visits = "0,1,0,1,0,0,10,1,0\n\
+        0,0,0,1,0,0,10,1,0\n\
+        1,1,0,1,0,1,10,1,0\n\
+        1,0,0,1,0,1,10,1,0\n\
+        2,0,0,1,,,,0,0\n\
+        3,1,0,1,0,2,10,1,1\n\
+        3,0,0,1,0,2,10,1,1\n\
+        4,0,0,1,,,,0,1\n\
+        5,1,0,1,0,3,10,1,2\n\
+        5,0,0,1,0,3,10,1,2\n";
     assert_writes(&rt, rt.alloc(), SHAPER_1_2, script, expected);
+    assert_visits(&rt, rt.alloc(), SHAPER_1_2, script, visits);
 }
 
 #[test]
@@ -39,7 +50,18 @@ fn a_bucket_holds_no_more_than_a_burst(rt: HostRuntime) {
         pull 9: 0#2 1\n\
         pull 9: 0#3 1\n\
         pull 9: none\n";
+    let visits = "0,1,0,1,0,0,1,1,0\n\
+        0,0,0,1,0,0,1,1,0\n\
+        1,1,0,1,0,1,1,1,0\n\
+        1,0,0,1,0,1,1,1,0\n\
+        2,0,0,1,,,,0,0\n\
+        3,1,0,1,0,2,1,1,9\n\
+        3,0,0,1,0,2,1,1,9\n\
+        4,1,0,1,0,3,1,1,9\n\
+        4,0,0,1,0,3,1,1,9\n\
+        5,0,0,1,,,,0,9\n";
     assert_writes(&rt, rt.alloc(), SHAPER_5_2, script, expected);
+    assert_visits(&rt, rt.alloc(), SHAPER_5_2, script, visits);
 }
 
 #[test]
@@ -48,7 +70,12 @@ fn a_pull_that_finds_nothing_costs_nothing(rt: HostRuntime) {
     let expected = "pull 0: none\n\
         0#0 1 accepted\n\
         pull 0: 0#0 1\n";
+    let visits = "0,1,0,1,,,,0,0\n\
+        0,0,0,1,,,,0,0\n\
+        1,1,0,1,0,0,1,1,0\n\
+        1,0,0,1,0,0,1,1,0\n";
     assert_writes(&rt, rt.alloc(), SHAPER_1_1, script, expected);
+    assert_visits(&rt, rt.alloc(), SHAPER_1_1, script, visits);
 }
 
 #[test]
@@ -67,7 +94,18 @@ fn a_tick_gives_the_rate(rt: HostRuntime) {
         pull 1: 0#2 1\n\
         pull 1: 0#3 1\n\
         pull 1: none\n";
+    let visits = "0,1,0,1,0,0,1,1,0\n\
+        0,0,0,1,0,0,1,1,0\n\
+        1,1,0,1,0,1,1,1,0\n\
+        1,0,0,1,0,1,1,1,0\n\
+        2,0,0,1,,,,0,0\n\
+        3,1,0,1,0,2,1,1,1\n\
+        3,0,0,1,0,2,1,1,1\n\
+        4,1,0,1,0,3,1,1,1\n\
+        4,0,0,1,0,3,1,1,1\n\
+        5,0,0,1,,,,0,1\n";
     assert_writes(&rt, rt.alloc(), SHAPER_2_2, script, expected);
+    assert_visits(&rt, rt.alloc(), SHAPER_2_2, script, visits);
 }
 
 #[test]
@@ -87,7 +125,19 @@ fn two_ticks_give_twice_the_rate(rt: HostRuntime) {
         pull 2: 0#3 1\n\
         pull 2: 0#4 1\n\
         pull 2: none\n";
+    let visits = "0,1,0,1,0,0,1,1,0\n\
+        0,0,0,1,0,0,1,1,0\n\
+        1,1,0,1,0,1,1,1,0\n\
+        1,0,0,1,0,1,1,1,0\n\
+        2,1,0,1,0,2,1,1,0\n\
+        2,0,0,1,0,2,1,1,0\n\
+        3,1,0,1,0,3,1,1,2\n\
+        3,0,0,1,0,3,1,1,2\n\
+        4,1,0,1,0,4,1,1,2\n\
+        4,0,0,1,0,4,1,1,2\n\
+        5,0,0,1,,,,0,2\n";
     assert_writes(&rt, rt.alloc(), SHAPER_1_3, script, expected);
+    assert_visits(&rt, rt.alloc(), SHAPER_1_3, script, visits);
 }
 
 // The closing goes on beyond the moments that a script can name.
@@ -102,7 +152,15 @@ fn a_late_moment_fills_nothing(rt: HostRuntime) {
         pull 1099511627776: 0#1 10\n\
         pull 1099511627777: 0#2 10\n\
         sender 0: sent 3 30, accepted 3 30, refused 0 0, evicted 0 0, emitted 3 30\n";
+    let visits = "0,1,0,1,0,0,10,1,1099511627775\n\
+        0,0,0,1,0,0,10,1,1099511627775\n\
+        1,0,0,1,,,,0,1099511627775\n\
+        2,1,0,1,0,1,10,1,1099511627776\n\
+        2,0,0,1,0,1,10,1,1099511627776\n\
+        3,1,0,1,0,2,10,1,1099511627777\n\
+        3,0,0,1,0,2,10,1,1099511627777\n";
     assert_writes(&rt, rt.alloc(), SHAPER_1_1, script, expected);
+    assert_visits(&rt, rt.alloc(), SHAPER_1_1, script, visits);
 }
 
 #[test]
@@ -113,5 +171,14 @@ fn a_shaper_stands_below_a_deficit(rt: HostRuntime) {
         pull 0: 0#0 300\n\
         pull 0: none\n\
         pull 1: 0#1 300\n";
+    let visits = "0,2,0,1,0,0,300,1,0\n\
+        0,1,0,1,0,0,300,1,0\n\
+        0,0,0,1,0,0,300,1,0\n\
+        1,1,0,1,,,,0,0\n\
+        1,0,0,1,,,,0,0\n\
+        2,2,0,1,0,1,300,1,1\n\
+        2,1,0,1,0,1,300,1,1\n\
+        2,0,0,1,0,1,300,1,1\n";
     assert_writes(&rt, rt.alloc(), DRR_OVER_SHAPER, script, expected);
+    assert_visits(&rt, rt.alloc(), DRR_OVER_SHAPER, script, visits);
 }

@@ -1,6 +1,6 @@
 //! Inputs with tickets.
 
-use super::row::assert_writes;
+use super::row::{assert_visits, assert_writes};
 use super::trees::{STRIDE_1_1, STRIDE_2_1, STRIDE_3_1, STRIDE_OVER_DEFICIT};
 
 #[test]
@@ -20,7 +20,20 @@ fn tickets_give_turns(rt: HostRuntime) {
         pull 0: 0#2 10\n\
         pull 0: 1#1 20\n\
         pull 0: 0#3 10\n";
+    let visits = "0,1,0,1,0,0,10,1,0\n\
+        0,0,0,1,0,0,10,1,0\n\
+        1,1,1,1,1,0,20,1,0\n\
+        1,0,0,1,1,0,20,1,0\n\
+        2,1,0,1,0,1,10,1,0\n\
+        2,0,0,1,0,1,10,1,0\n\
+        3,1,0,1,0,2,10,1,0\n\
+        3,0,0,1,0,2,10,1,0\n\
+        4,1,1,1,1,1,20,1,0\n\
+        4,0,0,1,1,1,20,1,0\n\
+        5,1,0,1,0,3,10,1,0\n\
+        5,0,0,1,0,3,10,1,0\n";
     assert_writes(&rt, rt.alloc(), STRIDE_2_1, script, expected);
+    assert_visits(&rt, rt.alloc(), STRIDE_2_1, script, visits);
 }
 
 #[test]
@@ -34,7 +47,17 @@ fn an_idle_input_earns_nothing(rt: HostRuntime) {
         1#0 20 accepted\n\
         pull 0: 1#0 20\n\
         pull 0: 0#2 10\n";
+    let visits = "0,1,0,1,0,0,10,1,0\n\
+        0,0,0,1,0,0,10,1,0\n\
+        1,1,1,1,,,,0,0\n\
+        1,1,0,1,0,1,10,1,0\n\
+        1,0,0,1,0,1,10,1,0\n\
+        2,1,1,1,1,0,20,1,0\n\
+        2,0,0,1,1,0,20,1,0\n\
+        3,1,0,1,0,2,10,1,0\n\
+        3,0,0,1,0,2,10,1,0\n";
     assert_writes(&rt, rt.alloc(), STRIDE_2_1, script, expected);
+    assert_visits(&rt, rt.alloc(), STRIDE_2_1, script, visits);
 }
 
 #[test]
@@ -58,7 +81,26 @@ fn an_idle_input_gets_the_pass_of_the_winner(rt: HostRuntime) {
         pull 0: 1#1 1\n\
         pull 0: 0#4 1\n\
         pull 0: 1#2 1\n";
+    let visits = "0,1,0,1,0,0,1,1,0\n\
+        0,0,0,1,0,0,1,1,0\n\
+        1,1,1,1,,,,0,0\n\
+        1,1,0,1,0,1,1,1,0\n\
+        1,0,0,1,0,1,1,1,0\n\
+        2,1,1,1,,,,0,0\n\
+        2,1,0,1,0,2,1,1,0\n\
+        2,0,0,1,0,2,1,1,0\n\
+        3,1,1,1,1,0,1,1,0\n\
+        3,0,0,1,1,0,1,1,0\n\
+        4,1,0,1,0,3,1,1,0\n\
+        4,0,0,1,0,3,1,1,0\n\
+        5,1,1,1,1,1,1,1,0\n\
+        5,0,0,1,1,1,1,1,0\n\
+        6,1,0,1,0,4,1,1,0\n\
+        6,0,0,1,0,4,1,1,0\n\
+        7,1,1,1,1,2,1,1,0\n\
+        7,0,0,1,1,2,1,1,0\n";
     assert_writes(&rt, rt.alloc(), STRIDE_1_1, script, expected);
+    assert_visits(&rt, rt.alloc(), STRIDE_1_1, script, visits);
 }
 
 #[test]
@@ -68,7 +110,13 @@ fn a_pull_that_finds_nothing_changes_no_pass(rt: HostRuntime) {
         0#0 1 accepted\n\
         1#0 1 accepted\n\
         pull 0: 0#0 1\n";
+    let visits = "0,1,0,1,,,,0,0\n\
+        0,1,1,1,,,,0,0\n\
+        0,0,0,1,,,,0,0\n\
+        1,1,0,1,0,0,1,1,0\n\
+        1,0,0,1,0,0,1,1,0\n";
     assert_writes(&rt, rt.alloc(), STRIDE_1_1, script, expected);
+    assert_visits(&rt, rt.alloc(), STRIDE_1_1, script, visits);
 }
 
 #[test]
@@ -89,7 +137,28 @@ fn an_input_that_holds_a_head_back_is_idle(rt: HostRuntime) {
         pull 0: 1#3 5\n\
         pull 0: 0#1 5\n\
         pull 0: 1#4 5\n";
+    let visits = "0,1,0,1,1,0,5,1,0\n\
+        0,0,0,1,1,0,5,1,0\n\
+        1,2,0,1,0,0,25,0,0\n\
+        1,1,1,1,,,,0,0\n\
+        1,1,0,1,1,1,5,1,0\n\
+        1,0,0,1,1,1,5,1,0\n\
+        2,2,0,0,0,0,25,0,0\n\
+        2,1,1,1,,,,0,0\n\
+        2,1,0,1,1,2,5,1,0\n\
+        2,0,0,1,1,2,5,1,0\n\
+        3,2,0,0,0,0,25,1,0\n\
+        3,1,1,1,0,0,25,1,0\n\
+        3,0,0,1,0,0,25,1,0\n\
+        4,1,0,1,1,3,5,1,0\n\
+        4,0,0,1,1,3,5,1,0\n\
+        5,2,0,1,0,1,5,1,0\n\
+        5,1,1,1,0,1,5,1,0\n\
+        5,0,0,1,0,1,5,1,0\n\
+        6,1,0,1,1,4,5,1,0\n\
+        6,0,0,1,1,4,5,1,0\n";
     assert_writes(&rt, rt.alloc(), STRIDE_OVER_DEFICIT, script, expected);
+    assert_visits(&rt, rt.alloc(), STRIDE_OVER_DEFICIT, script, visits);
 }
 
 #[test]
@@ -110,5 +179,20 @@ fn strides_are_rounded_down(rt: HostRuntime) {
         pull 0: 0#3 1\n\
         pull 0: 1#1 1\n\
         pull 0: 0#4 1\n";
+    let visits = "0,1,0,1,0,0,1,1,0\n\
+        0,0,0,1,0,0,1,1,0\n\
+        1,1,1,1,1,0,1,1,0\n\
+        1,0,0,1,1,0,1,1,0\n\
+        2,1,0,1,0,1,1,1,0\n\
+        2,0,0,1,0,1,1,1,0\n\
+        3,1,0,1,0,2,1,1,0\n\
+        3,0,0,1,0,2,1,1,0\n\
+        4,1,0,1,0,3,1,1,0\n\
+        4,0,0,1,0,3,1,1,0\n\
+        5,1,1,1,1,1,1,1,0\n\
+        5,0,0,1,1,1,1,1,0\n\
+        6,1,0,1,0,4,1,1,0\n\
+        6,0,0,1,0,4,1,1,0\n";
     assert_writes(&rt, rt.alloc(), STRIDE_3_1, script, expected);
+    assert_visits(&rt, rt.alloc(), STRIDE_3_1, script, visits);
 }

@@ -2,8 +2,9 @@
 
 use super::rows::Step::{Pull, Send};
 use super::rows::assert_writes;
+use super::sink_of;
 use crate::visits_csv;
-use clk_packet::{Fault, ToWrite};
+use clk_packet::Fault;
 use clk_sched::{Tree, Visit};
 use std::alloc::Global;
 
@@ -185,7 +186,7 @@ fn a_deficit_stands_below_another(rt: HostRuntime) {
 
 // A log of more rows than are written at a time, and of more bytes than a writer of CSV holds.
 fn write_many(alloc: Global) -> Result<(), Fault> {
-    let mut sink = ToWrite::new(Vec::new(alloc));
+    let mut sink = sink_of(alloc, 200_000)?;
     let none = Visit::asking(0, 0, 0, 0, None);
     let log = vec![in alloc; none; 5000]?;
     visits_csv(alloc, &log, &mut sink)

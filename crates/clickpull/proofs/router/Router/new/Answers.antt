@@ -6,4 +6,4 @@ use Rattle.clickpull.proofs.router.Router.new.Goals as goal
 pub returns-clause-made : goal.returns-clause-made
 returns-clause-made c =
     let session = c.in_ok-session.ensures.made in
-    Starts-made c.calls_are_history.ensures c.args.tree (map queued c.args.queues.now) c.args.senders.now _ (c.runs_go_on.ensures c.args.tree).start session.0 session.1 c.in_ok-new.ensures.made c.in_ok-senders_of.ensures.made refl c.new-3.ensures
+    Starts-made c.calls_are_history.ensures c.args.tree (map queued c.args.queues.now) c.args.senders.now _ (c.runs_go_on.ensures c.args.tree).start session.0 session.1 c.in_ok-new.ensures.made c.in_ok-senders_of.ensures.made c.in_ok-tallies_of.ensures.made refl refl

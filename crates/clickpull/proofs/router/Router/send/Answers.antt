@@ -1,16 +1,27 @@
-use Rattle.std.proofs.Common.{◌≡◌, ◌∙◌, ap, set, slice_get, Some, refl}
-use Rattle.std.proofs.lemmas.Option.{slice_get_read}
-use Rattle.clickpull.specs.Router.{noted}
+use Rattle.std.proofs.Common.{ap, set, slice_get, refl, sym, subst}
+use Rattle.clickpull.specs.Router.{IsNumber}
+use Rattle.clickpull.proofs.SenderLemmas.{sender-at}
 use Rattle.clickpull.proofs.RouterLemmas.{IsAt-sent}
 use Rattle.clickpull.proofs.router.Router.send.Goals as goal
 
+pub note-requires-clause-here : goal.note-requires-clause-here
+note-requires-clause-here c =
+    let tallies = c.args.self.now.tallies.items in
+    let its = sender-at c.args.self.now.senders.items tallies c.args.place c.index_mut-sender.result.now c.requires.ready.alike c.requires.is_there c.index_mut-sender.ensures.value in
+    record { within = c.requires.is_there; here = subst (λ n. IsNumber n (slice_get tallies c.args.place)) (sym c.next_packet-packet.ensures.sender) its.number }
+
+pub returns-clause-sent : goal.returns-clause-sent
+returns-clause-sent c =
+    let tallies = c.args.self.now.tallies.items in
+    let its = sender-at c.args.self.now.senders.items tallies c.args.place c.index_mut-sender.result.now c.requires.ready.alike c.requires.is_there c.index_mut-sender.ensures.value in
+    (subst (λ n. IsNumber n (slice_get tallies c.args.place)) (sym c.next_packet-packet.ensures.sender) its.number, c.next_packet-packet.ensures.length)
+
 pub returns-clause-leads : goal.returns-clause-leads
 returns-clause-leads c =
-    let senders = c.args.self.now.senders.items in
+    let old = c.args.self.now in
     let sender = c.index_mut-sender.result.now in
     let packet = c.next_packet-packet.result in
-    let outcome = c.offer-outcome.result in
-    let here : slice_get senders c.args.place ≡ Some sender = slice_get_read senders _ c.args.place sender refl c.requires.is_there c.index_mut-sender.ensures.value in
-    let kept = ap (set senders c.args.place) (c.in_ok-note.ensures.kept ∙ ap (noted packet outcome) c.next_packet-packet.ensures.counted) in
-    λ setup events at. IsAt-sent c.calls_are_history.ensures setup events c.args.self.now _ _ c.args.place sender packet outcome at c.requires.ready.rising here c.next_packet-packet.ensures.number
-    c.next_packet-packet.ensures.sender (rw c.next_packet-packet.ensures.counted at c.offer-outcome.ensures) kept refl refl refl (c.in_ok-count.ensures.counted packet)
+    let its = sender-at old.senders.items old.tallies.items c.args.place sender c.requires.ready.alike c.requires.is_there c.index_mut-sender.ensures.value in
+    let sent = ap (set old.senders.items c.args.place) c.next_packet-packet.ensures.counted in
+    λ setup events at. IsAt-sent c.calls_are_history.ensures setup events old _ _ c.args.place sender packet c.offer-outcome.result (c.count.ensures.counted packet) at c.requires.ready.rising its.here c.next_packet-packet.ensures.number
+    c.next_packet-packet.ensures.sender (rw c.next_packet-packet.ensures.counted at c.offer-outcome.ensures) sent c.in_ok-note.ensures.kept refl refl refl

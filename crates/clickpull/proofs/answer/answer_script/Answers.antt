@@ -1,11 +1,12 @@
-use Rattle.std.proofs.Common.{◌+◌, ◌∙◌, sym, arith}
+use Rattle.std.proofs.Common.{◌≡◌, ◌+◌, ◌∙◌, length, sym, arith}
+use Rattle.std.proofs.lemmas.Bool.Decides.{nat_tests}
 use Rattle.std.proofs.lemmas.Result.{err_from_is_err_and}
 use Rattle.clickpull.specs.Meaning.{sender_numbers}
 use Rattle.clickpull.specs.Router.{setup_at}
 use Rattle.clickpull.proofs.ScriptLemmas.{readable-first, readable-drain}
 use Rattle.clickpull.proofs.SenderLemmas.{numbers-its}
-use Rattle.clickpull.proofs.AnswerLemmas.{HasAnswered-line, IsReady-answered, IsAtDrain-read, Writes-drained, closing-refused, fault-open, first-fault}
-use Rattle.clickpull.proofs.answer.answer.Goals as goal
+use Rattle.clickpull.proofs.AnswerLemmas.{HasAnswered-line, IsReady-answered, IsAtDrain-read, Writes-drained, closing-refused, Writes-answered, fault-open, fault-none, first-fault}
+use Rattle.clickpull.proofs.answer.answer_script.Goals as goal
 
 pub answer_line-requires : goal.answer_line-requires
 answer_line-requires c =
@@ -35,16 +36,16 @@ close-requires-clause-ready c =
     in
     IsReady-answered _ _ _ _ _ _ at.answered c.requires.rising c.requires.wired h.bound
 
-pub returns-in_err-close : goal.returns-in_err-close
-returns-in_err-close c =
+pub returns-in_err-emitted : goal.returns-in_err-emitted
+returns-in_err-emitted c =
     let h = c.loop-rest.invariant in
     let numbers = numbers-its _ _ _ h.answered.leads in
     let read = rw numbers at c.in_ok-moment.ensures.exact in
     let at = IsAtDrain-read (setup_at c.args.router.now) _ _ c.args.script.now c.loop-rest.rest.now c.next-line.result.1.now c.next-line.result.0 c.loop-rest.number c.in-Some.moment _ _ h.answered (omega arith) h.fault
     c.next-line.ensures.line read.0 (sym read.1 ∙ c.in-Some.is) read.2 (c.in_ok-only_blank_lines.ensures (sender_numbers (setup_at c.args.router.now)))
     in
-    let p = err_from_is_err_and c.from_residual-in_err-close.result c.from_residual-in_err-close.ensures.1 in
-    rw (p.1, p.2) (closing-refused _ _ _ _ _ _ _ _ _ c.in_err-close.field-0.0 at c.in_err-close.ensures)
+    let p = err_from_is_err_and c.from_residual-in_err-emitted.result c.from_residual-in_err-emitted.ensures.1 in
+    rw (p.1, p.2) (closing-refused _ _ _ _ _ _ _ _ _ c.in_err-emitted.field-0.0 at c.in_err-emitted.ensures)
 
 pub returns-in-Some : goal.returns-in-Some
 returns-in-Some c =
@@ -54,7 +55,7 @@ returns-in-Some c =
     let at = IsAtDrain-read (setup_at c.args.router.now) _ _ c.args.script.now c.loop-rest.rest.now c.next-line.result.1.now c.next-line.result.0 c.loop-rest.number c.in-Some.moment _ _ h.answered (omega arith) h.fault
     c.next-line.ensures.line read.0 (sym read.1 ∙ c.in-Some.is) read.2 (c.in_ok-only_blank_lines.ensures (sender_numbers (setup_at c.args.router.now)))
     in
-    (at.sound, Writes-drained _ _ _ _ _ _ _ _ _ _ _ at.answered at.drained c.in_ok-close.ensures)
+    (at.sound, Writes-drained _ _ _ _ _ _ _ _ _ _ _ _ at.answered at.drained c.in_ok-emitted.ensures.0 c.in_ok-emitted.ensures.1)
 
 pub loop-rest-preserved : goal.loop-rest-preserved
 loop-rest-preserved c =
@@ -73,3 +74,10 @@ loop-rest-preserved c =
 pub close-requires-clause-moment : goal.close-requires-clause-moment
 close-requires-clause-moment c =
     readable-drain c.next-line.result.0 c.in-Some.moment (readable-first c.loop-rest.rest.now c.next-line.result.0 _ c.next-line.ensures.line) (sym c.in_ok-moment.ensures.exact.1 ∙ c.in-Some.is)
+
+pub returns : goal.returns
+returns c =
+    let h = c.loop-rest.invariant in
+    let setup = setup_at c.args.router.now in
+    let over : length c.loop-rest.rest.now ≡ 0 = let empty = c.loop-rest-test.ensures in grind (arith, nat_tests) in
+    (fault-none (sender_numbers setup) c.args.script.now c.loop-rest.rest.now (c.loop-rest.number + 1) (omega arith) h.fault over, Writes-answered setup c.loop-rest.router c.args.script.now c.loop-rest.rest.now c.loop-rest.number c.loop-rest.lines.items h.answered over)

@@ -1,6 +1,0 @@
-use Rattle.std.proofs.Common.{drop}
-use Rattle.clickpull.proofs.TotalLemmas.{EachLacks}
-use Rattle.clickpull.proofs.report.totals_by_sender.Given as goal
-
-abbrev pub invariant-loop-packet : goal.invariant-loop-packet
-invariant-loop-packet l = EachLacks l.packets (drop l.packet-index l.packets) l.totals.items

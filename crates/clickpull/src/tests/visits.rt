@@ -1,0 +1,139 @@
+//! The visits of a script, in a file.
+
+use super::AMPLE;
+use super::command::{answer_within, assert_writes};
+use super::row::log_of;
+use clk_packet::{Fault, Packet};
+use clk_sched::Visit;
+use csv::{Reader, StringRecord};
+use std::fs;
+use std::test::Fail;
+
+const TREE: &str = "v, b :: Queue(3); s :: Sender(4); t :: Sender(70);
+p :: DRRSched(500, 700); h :: Shaper(1, 2); d :: ToDevice(link);
+s -> v -> [0] p; t -> b -> [1] p; p -> h -> d;";
+
+const SCRIPT: &str =
+    "send 4 600\nsend 70 65535\nsend 4 20\npull 0\npull 0\npull 3\npull 2\ndrain 7\n";
+
+// The packet that a row shows, if it shows one.
+fn packet_of(row: &StringRecord) -> Option<Packet> {
+    let length = row.get(6)?.parse().ok()?;
+    if length == 0 {
+        return None;
+    }
+    Some(Packet {
+        number: row.get(5)?.parse().ok()?,
+        sender: row.get(4)?.parse().ok()?,
+        length,
+    })
+}
+
+fn flag_of(field: &str) -> Option<bool> {
+    match field {
+        "0" => Some(false),
+        "1" => Some(true),
+        _ => None,
+    }
+}
+
+// The visit that a row shows, by the order of the columns.
+fn visit_of(row: &StringRecord) -> Option<Visit> {
+    let got = match row.get(4)? {
+        "" => None,
+        _ => Some(packet_of(row)?),
+    };
+    Some(Visit {
+        pull: row.get(0)?.parse().ok()?,
+        node: row.get(1)?.parse().ok()?,
+        input: row.get(2)?.parse().ok()?,
+        fresh: flag_of(row.get(3)?)?,
+        got,
+        passed: flag_of(row.get(7)?)?,
+        moment: row.get(8)?.parse().ok()?,
+    })
+}
+
+#[test]
+fn visits_are_read_back(rt: HostRuntime) -> Result<(), Fail> {
+    let alloc = rt.alloc();
+    fs::write(&rt, "read_back.click", TREE)?;
+    fs::write(&rt, "read_back.script", SCRIPT)?;
+    let words = "script read_back.click read_back.script --visits read_back.csv";
+    let answered = answer_within(&rt, words, AMPLE, AMPLE).expect(&rt, "ample memory");
+    assert_eq!(rt; answered.outcome, Ok(0));
+    let text = fs::read(&rt, "read_back.csv")?;
+    let mut rows = Reader::from_reader(alloc, text.as_slice());
+    let mut row = StringRecord::new(alloc);
+    let log = log_of(alloc, TREE, SCRIPT).expect(&rt, "ample memory");
+    assert!(rt; log.len() > 10);
+    for visit in &log {
+        assert!(rt; rows.read_record(&mut row).expect(&rt, "a row"));
+        assert_eq!(rt; visit_of(&row), Some(*visit));
+        assert_eq!(rt; row.len(), 9);
+    }
+    assert!(rt; !rows.read_record(&mut row).expect(&rt, "the end"));
+    Ok(())
+}
+
+#[test]
+fn visits_do_not_change_the_answer(rt: HostRuntime) -> Result<(), Fail> {
+    fs::write(
+        &rt,
+        "same.click",
+        "s :: Sender(3); q :: Queue; d :: ToDevice(link); s -> q -> d;",
+    )?;
+    fs::write(&rt, "same.script", "send 3 10\npull 5\npull 4\n")?;
+    let answer = b"3#0 10 accepted\npull 5: 3#0 10\npull 4: none\n";
+    assert_writes(&rt, "script same.click same.script", Ok(0), answer);
+    // What is there is overwritten.
+    fs::write(&rt, "same.csv", [b'x'; 4096])?;
+    assert_writes(
+        &rt,
+        "script --visits=same.csv same.click same.script",
+        Ok(0),
+        answer,
+    );
+    let text = fs::read(&rt, "same.csv")?;
+    let expected =
+        b"pull,node,input,fresh,sender,number,length,passed,moment\n0,0,0,1,3,0,10,1,5\n1,0,0,1,,,,0,5\n";
+    assert_eq!(rt; text.as_slice(), expected.as_slice());
+    Ok(())
+}
+
+#[test]
+fn a_visit_file_that_cannot_be_made_is_told_after_the_answer(rt: HostRuntime) -> Result<(), Fail> {
+    fs::write(
+        &rt,
+        "unmade.click",
+        "s :: Sender(3); q :: Queue; d :: ToDevice(link); s -> q -> d;",
+    )?;
+    fs::write(&rt, "unmade.script", "send 3 10\ndrain 0\n")?;
+    fs::create_dir(&rt, "unmade")?;
+    let answer = b"3#0 10 accepted\npull 1: 3#0 10\n\
+        sender 3: sent 1 10, accepted 1 10, refused 0 0, evicted 0 0, emitted 1 10\n";
+    for path in ["unmade", "missing/unmade.csv"] {
+        let words = format!(in rt.alloc(); "script unmade.click unmade.script --visits {path}")?;
+        assert_writes(&rt, &words, Err(Fault::Write), answer);
+    }
+    Ok(())
+}
+
+#[test]
+fn a_script_that_is_refused_makes_no_visit_file(rt: HostRuntime) -> Result<(), Fail> {
+    fs::write(
+        &rt,
+        "refused.click",
+        "s :: Sender(3); q :: Queue; d :: ToDevice(link); s -> q -> d;",
+    )?;
+    fs::write(&rt, "refused.script", "send 3 10\npush\n")?;
+    let fault = Fault::BadScript { line: 2 };
+    assert_writes(
+        &rt,
+        "script refused.click refused.script --visits refused.csv",
+        Err(fault),
+        b"",
+    );
+    assert!(rt; fs::read(&rt, "refused.csv").is_err());
+    Ok(())
+}
