@@ -2,8 +2,6 @@
 use Rattle.std.proofs.Common.{◌≡◌, ℕ, ◌<◌, ◌==◌, ◌&&◌, ◌||◌, not, nat_le, Bool, true, false, List, [], ◌∷◌, ◌++◌, map, length, Option, Some, None, suc, refl, sym, ap, ap₂, ◌∙◌, append_assoc, append-nil, length-append, arith}
 use Rattle.std.specs.Option.{option_or, option_map}
 use Rattle.std.specs.List.{list_any, cons_option}
-use Rattle.std.specs.BTreeMap.{is_at}
-use Rattle.std.specs.Ordering.{nat_cmp}
 use Rattle.std.proofs.lemmas.Bool.Decides.{nat_tests}
 use Rattle.std.proofs.lemmas.List.{map-append, length-map}
 use Rattle.clk_tree.specs.declared.class.Class as declared
@@ -13,7 +11,8 @@ use Rattle.clk_tree.specs.Classes.{Class, sender, queue, prio, round_robin, drr,
 use Rattle.clk_tree.specs.Source.{Declared, Element, letters, element, elements}
 use Rattle.clk_tree.specs.Declarations.{first_after, fails_at, class_if, class_of, is_sender, is_bad_after, bad_argument}
 use Rattle.clk_tree.specs.Faults.{node, nodes_of}
-use Rattle.clk_tree.specs.Naming.{class_in, is_class, node_at, has_number, may_stand, bad_at, Judges}
+use Rattle.clk_tree.specs.Numbers.{has_number}
+use Rattle.clk_tree.specs.Naming.{class_in, is_class, node_at, may_stand, bad_at, Judges}
 
 abbrev class_by : List ℕ → Token → List Token → Option Class
 class_by text k arguments = class_if (map (letters text) arguments) (class_named (letters text k))
@@ -138,12 +137,12 @@ may_stand-same f g (shaper rate burst) l same = refl
 may_stand-same f g (device word) l same = refl
 
 -- before the first declaration
-pub Judges-none : (text : List ℕ) (all : List Declared) (judged : Judged) → judged.classes.items ≡ [] → judged.nodes.items ≡ [] → judged.senders.keys ≡ [] → Judges text all all judged
+pub Judges-none : (text : List ℕ) (all : List Declared) (judged : Judged) → judged.classes.items ≡ [] → judged.nodes.items ≡ [] → ((n : ℕ) → has_number judged.senders n ≡ false) → Judges text all all judged
 Judges-none text all judged classes nodes senders =
     record {
       earlier = [];
       bad = refl;
-      taken = λ n. ap (list_any (λ k. is_at (nat_cmp n) k)) senders;
+      taken = senders;
       classes = ap (λ cs. map is_class cs ++ map (class_in text) all) (sym classes);
       nodes = ap (λ ns. ns ++ nodes_of (elements text all)) (sym nodes);
       count = omega (arith, ap length nodes);

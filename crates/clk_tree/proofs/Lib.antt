@@ -13,7 +13,9 @@ pub mod FailureLemmas
 pub mod TableLemmas
 pub mod LevelLemmas
 pub mod PathLemmas
+pub mod MarkLemmas
 pub mod UsedLemmas
+pub mod SlotLemmas
 pub mod PortLemmas
 pub mod CountLemmas
 pub mod LexLemmas

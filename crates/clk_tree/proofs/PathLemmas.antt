@@ -83,3 +83,32 @@ halfway-even nodes links left ends step twice within even double half =
       behind = half.behind;
       ahead = follow-composed nodes links half.long half.long step step twice within half.ahead half.ahead double;
     }
+
+-- where two steps lead no further than one, none does that are made of some
+pub many-still : (nodes : List Node) (links : List Link) (long left i : ℕ) → AllByRecursion (IsLinkWithin nodes) links → ((k : ℕ) → k < length nodes → follow links long (follow links long k) ≡ follow links long k)
+    → 0 < left → i < length nodes → follow links (left * long) i ≡ follow links long i
+many-still nodes links long zero i within still some inside = absurd (omega arith)
+many-still nodes links long (suc zero) i within still some inside =
+    let one : suc zero * long ≡ long = omega arith in
+    ap (λ n. follow links n i) one
+many-still nodes links long (suc (suc left)) i within still some inside =
+    let parts : suc (suc left) * long ≡ long + suc left * long = omega arith in
+    ap (λ n. follow links n i) parts ∙ follow-add links long (suc left * long) i
+    ∙ many-still nodes links long (suc left) (follow links long i) within still (omega arith) (follow-within nodes links long i within inside)
+    ∙ still i inside
+
+-- and then one more is all that are left
+pub halfway-still : (nodes : List Node) (links : List Link) (left : ℕ) (ends step twice table : List ℕ) → AllByRecursion (IsLinkWithin nodes) links → 0 < left
+    → IsComposed step step twice → twice ≡ step → IsComposed ends step table → IsHalfway (length nodes) links left ends step → IsFollowed (length nodes) links (length nodes) table
+halfway-still nodes links left ends step twice table within some double same further half =
+    let two = follow-composed nodes links half.long half.long step step twice within half.ahead half.ahead double in
+    let more = follow-composed nodes links half.made half.long ends step table within half.behind half.ahead further in
+    let still : (k : ℕ) → k < length nodes → follow links half.long (follow links half.long k) ≡ follow links half.long k =
+    λ k inside. sym (follow-add links half.long half.long k) ∙ sym (two.each k inside) ∙ ap (λ (t : List ℕ). get_or t k 0) same ∙ half.ahead.each k inside in
+    record {
+      len = more.len;
+      each = λ i inside.
+          let here = follow-within nodes links half.made i within inside in
+          more.each i inside ∙ follow-add links half.made half.long i ∙ sym (many-still nodes links half.long left (follow links half.made i) within still some here)
+          ∙ sym (follow-add links half.made (left * half.long) i) ∙ ap (λ n. follow links n i) half.all;
+    }

@@ -10,6 +10,7 @@ pub mod Ports
 pub mod Size
 pub mod Within
 pub mod Faults
+pub mod Numbers
 pub mod Naming
 pub mod Reading
 pub mod Plan

@@ -1,12 +1,12 @@
 -- The table of declared names, and what is known of a text while its declarations are gone over.
-use Rattle.std.specs.Prelude.{◌≡◌, ℕ, ◌+◌, ◌*◌, ◌%◌, ◌^◌, ◌<◌, List, [], ◌∷◌, ◌++◌, map, length, Bool, true, not, ◌&&◌, nat_le, if◌then◌else◌, Option, Some, None, ◌⊎◌}
+use Rattle.std.specs.Prelude.{◌≡◌, ℕ, ◌+◌, ◌*◌, ◌%◌, ◌^◌, ◌<◌, List, [], ◌∷◌, ◌++◌, map, length, take, drop, ◌-◌, get_or, Bool, true, not, ◌&&◌, nat_le, if◌then◌else◌, Option, Some, None, ◌⊎◌}
 use Rattle.std.specs.BTreeMap.{get_by}
-use Rattle.std.specs.BTreeSet.{BTreeSet, contains}
 use Rattle.std.specs.Cmp.Lexicographic.{slice_cmp}
 use Rattle.std.specs.List.{list_any}
 use Rattle.std.specs.Option.{option_or}
 use Rattle.std.specs.Ordering.{nat_cmp, ordering_then}
 use Rattle.std.specs.Str.{bytes_eq}
+use denote.Ref.{Bor}
 use Rattle.clk_packet.specs.declared.fault.Fault.{Fault}
 use Rattle.clk_packet.specs.declared.fault.Fault.TheVariants.{Memory}
 use Rattle.clk_tree.specs.declared.class.Class as declared
@@ -17,21 +17,40 @@ use Rattle.clk_tree.specs.declared.node.Link.{Link}
 use Rattle.clk_tree.specs.declared.node.Node.{Node}
 use Rattle.clk_tree.specs.declared.token.Token.{Token}
 use Rattle.clk_tree.specs.Classes.{Class, sender, class_named, class_view}
+use Rattle.clk_tree.specs.Numbers.{has_number}
 use Rattle.clk_tree.specs.Source.{Declared, Element, Wire, letters, elements}
 use Rattle.clk_tree.specs.Declarations.{first_after, fails_at, is_declared, name_twice, class_if, class_of, is_sender, is_bad_after, bad_argument, unknown_end}
 use Rattle.clk_tree.specs.Faults.{place_of, nodes_of}
 
--- a number of a name's bytes, by which a table sorts names before it looks at the bytes themselves
+-- a number of bytes that come after others of a number: each time it is multiplied by 2^64 by the golden ratio, which spreads names
 abbrev pub mixed_from : ℕ → List ℕ → ℕ
 mixed_from number [] = number
-mixed_from number (byte ∷ rest) = mixed_from ((number * 1000003 % 2 ^ 64 + byte) % 2 ^ 64) rest
+mixed_from number (byte ∷ rest) = mixed_from ((number * 11400714819323198485 % 2 ^ 64 + byte) % 2 ^ 64) rest
 
+-- a number of a name's bytes, or of those at the ends of a long one, by which a table sorts names before it looks at the bytes themselves
 unfoldable pub mixed : List ℕ → ℕ
-mixed name = mixed_from 0 name
+mixed name = if nat_le (length name) 32 then mixed_from 0 name else mixed_from (mixed_from 0 (take 16 name)) (drop (length name - 16) name)
+
+-- the slot that a name's number leads to
+abbrev pub slot_at : List (Option (Bor (List ℕ) × ℕ)) → List ℕ → Option (Bor (List ℕ) × ℕ)
+slot_at slots name = get_or slots (mixed name % length slots) None
+
+-- the place that a slot has for a name
+abbrev pub place_there : Option (Bor (List ℕ) × ℕ) → List ℕ → Option ℕ
+place_there None name = None
+place_there (Some known) name = if bytes_eq known.0.now name then Some known.1 else None
+
+-- the place that a table has for a name whose slot is another's
+abbrev pub place_else : Names → List ℕ → Option ℕ
+place_else names name = get_by (λ key. ordering_then (nat_cmp (mixed name) key.0) (slice_cmp nat_cmp name key.1.now)) names.more
 
 -- the place that a table has for a name
 abbrev pub place_in : Names → List ℕ → Option ℕ
-place_in names name = get_by (λ key. ordering_then (nat_cmp (mixed name) key.0) (slice_cmp nat_cmp name key.1.now)) names.places
+place_in names name = option_or (place_there (slot_at names.slots.items name) name) (place_else names name)
+
+-- a name whose slot is free isn't elsewhere
+abbrev pub IsSlotted : Names → Type 0
+IsSlotted names = (name : List ℕ) → slot_at names.slots.items name ≡ None → place_else names name ≡ None
 
 -- the place of a name among elements of which the latest stands first
 abbrev pub latest_place : List Element → List ℕ → Option ℕ
@@ -72,9 +91,6 @@ is_class class = Some (class_view class)
 -- an element that is declared by this name, as the checks of ports see it
 abbrev pub node_at : Role → Token → Node
 node_at role token = record { place = token.place; role = role }
-
-abbrev pub has_number : BTreeSet ℕ → ℕ → Bool
-has_number numbers n = contains nat_cmp numbers n
 
 -- whether so many elements may be of this class, after Senders of these numbers
 abbrev pub may_stand : (ℕ → Bool) → Class → ℕ → Bool

@@ -21,7 +21,7 @@ fn check_ports(alloc: Global, graph: &Graph) -> Result<(), Fault>
     if let Some(offset) = bad_port(graph.nodes, graph.links) {
         return Err(Fault::BadPort { offset });
     }
-    if let Some(offset) = port_twice(alloc, graph.nodes, graph.links)? {
+    if let Some(offset) = port_twice(alloc, graph)? {
         return Err(Fault::PortTwice { offset });
     }
     if let Some(offset) = port_missing(graph) {

@@ -220,7 +220,8 @@ pub fn tokens_of(alloc: Global, text: &[u8]) -> Result<Vec<Token>, Fault>
     ensures within { IfOk result (λ tokens. AreWithin (length text.now) tokens.items) }
     ensures fault { IsOkUnless result Memory }
 {
-    let mut tokens = Vec::new(alloc);
+    // Most tokens have two bytes and more, with the blanks between them.
+    let mut tokens = Vec::with_capacity(alloc, text.len() / 2)?;
     let mut unclosed = false;
     let mut place = 0;
     let mut left = text;

@@ -8,6 +8,7 @@ mod lexer;
 mod names;
 mod naming;
 mod node;
+mod numbers;
 mod parser;
 mod paths;
 mod plan;

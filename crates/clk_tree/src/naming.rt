@@ -9,17 +9,18 @@ ghost use Rattle.clk_tree.specs.Limits.{most_bytes};
 ghost use Rattle.clk_tree.specs.Source.{Declared, Element, Wire, letters, kept, elements_in, elements, word, port, wire, wires};
 ghost use Rattle.clk_tree.specs.Declarations.{name_twice, unknown_class, bad_argument, unknown_name, unknown_end, is_sender};
 ghost use Rattle.clk_tree.specs.Faults.{naming_fault, place_of, nodes_of, link_of, links_of};
-ghost use Rattle.clk_tree.specs.Naming.{Declares, IsTable, Judges, Stops, class_in, has_number, is_class, may_stand, node_at, unknown_ends, IsLinkBelow};
+ghost use Rattle.clk_tree.specs.Naming.{Declares, IsSlotted, IsTable, Judges, Stops, class_in, is_class, may_stand, node_at, unknown_ends, IsLinkBelow};
+ghost use Rattle.clk_tree.specs.Numbers.{has_number};
 ghost use Rattle.clk_tree.specs.Within.{IsWithin, AreWithin, IsDeclaredWithin, IsConnectedWithin, IsLinkWithin, IsNamed, IsNumber, HasNumbers, words_in};
 
 use crate::class::{Class, ClassName, Role, letters};
 use crate::names::Names;
 use crate::node::{Link, Node};
+use crate::numbers::Numbers;
 use crate::statements::{Connection, Declaration, Statements};
 use crate::token::Token;
 use clk_packet::{Fault, number_in};
 use std::alloc::Global;
-use std::collections::BTreeSet;
 
 /// The classes and nodes of the elements of a text, and its connections.
 #[derive(Drop)]
@@ -78,7 +79,7 @@ fn names_of<'a>(
     ensures { let all = elements text.now (map kept declarations.now) in
         MatchResult result (λ names. (name_twice all ≡ None) × IsTable all names) (Stops (option_map NameTwice (name_twice all))) }
 {
-    let mut names = Names::new(alloc);
+    let mut names = Names::new(alloc, declarations.len())?;
     for declaration in declarations {
         declare(&mut names, text, declaration)?;
     }
@@ -93,11 +94,13 @@ fn declare<'a>(
 ) -> Result<(), Fault>
     requires within { AreWithin (length text.now) declaration.now.names.items }
     requires few { names.old.count + length declaration.now.names.items < 2 ^ 32 }
+    requires slots { IsSlotted names.old }
+    ensures slots { OnOk result (IsSlotted names.new) }
     ensures counted { OnOk result (names.new.count ≡ names.old.count + length declaration.now.names.items) }
     ensures declared { (all more : List Element) → Declares all (elements_in text.now (kept declaration.now) ++ more) names.old
         → MatchResult result (λ _. Declares all more names.new) (Stops (option_map NameTwice (name_twice all))) }
 {
-    for name in &declaration.names {
+    for name in declaration.names.as_slice() {
         if !names.declare(letters(text, name))? {
             return Err(Fault::NameTwice { offset: name.place });
         }
@@ -132,7 +135,7 @@ struct Judged {
     classes: Vec<Class>,
     nodes: Vec<Node>,
     /// The numbers of the Senders.
-    senders: BTreeSet<u16>,
+    senders: Numbers,
 }
 
 /// Classes and nodes of all declarations. Fault 4 at the first whose arguments don't fit, and fault 1 where memory is refused.
@@ -149,9 +152,9 @@ fn judge_all(alloc: Global, text: &[u8], declarations: &[Declaration]) -> Result
         (Stops (option_map BadArgument (bad_argument all))) }
 {
     let mut judged = Judged {
-        classes: Vec::new(alloc),
-        nodes: Vec::new(alloc),
-        senders: BTreeSet::new(alloc),
+        classes: Vec::with_capacity(alloc, declarations.len())?,
+        nodes: Vec::with_capacity(alloc, declarations.len())?,
+        senders: Numbers::new(alloc)?,
     };
     for declaration in declarations {
         judged.judge(alloc, text, declaration)?;
@@ -175,7 +178,7 @@ impl Judged {
             Some(class) => class,
             None => return Err(bad),
         };
-        if !stands(&mut self.senders, &class, declaration.names.len())? {
+        if !stands(&mut self.senders, &class, declaration.names.len()) {
             return Err(bad);
         }
         push_nodes(&mut self.nodes, &declaration.names, class.role())?;
@@ -196,22 +199,19 @@ fn class_of(alloc: Global, text: &[u8], declaration: &Declaration) -> Result<Opt
     }
 }
 
-/// Whether so many elements may be of a class after Senders of these numbers. The number of a Sender is added. Fault 1 where memory is
-/// refused.
-fn stands(senders: &mut BTreeSet<u16>, class: &Class, names: usize) -> Result<bool, Fault>
-    ensures stands { IfOk result (λ may. may ≡ may_stand (has_number senders.old) (class_view class.now) names) }
-    ensures added { IfOk result (λ may. may ≡ true → (n : ℕ) → has_number senders.new n ≡ (is_sender n (Some (class_view class.now)) || has_number senders.old n)) }
-    ensures fault { IsOkUnless result Fault.Memory }
+/// Whether so many elements may be of a class after Senders of these numbers. The number of a Sender is added.
+fn stands(senders: &mut Numbers, class: &Class, names: usize) -> bool
+    ensures stands { result ≡ may_stand (has_number senders.old) (class_view class.now) names }
+    ensures added { result ≡ true → (n : ℕ) → has_number senders.new n ≡ (is_sender n (Some (class_view class.now)) || has_number senders.old n) }
 {
     match class {
         Class::Sender(number) => {
             if names > 1 {
-                return Ok(false);
+                return false;
             }
-            let is_new = senders.insert(*number)?;
-            Ok(is_new)
+            senders.insert(*number)
         }
-        _ => Ok(true),
+        _ => true,
     }
 }
 
@@ -244,7 +244,7 @@ fn links_of<'a>(
         × AllByRecursion (IsLinkBelow (length all)) links.items)
         (Stops (option_map UnknownName (unknown_name all (wires text.now connections.now)))) }
 {
-    let mut links = Vec::new(alloc);
+    let mut links = Vec::with_capacity(alloc, connections.len())?;
     for connection in connections {
         links.push(link_of(text, names, connection)?)?;
     }

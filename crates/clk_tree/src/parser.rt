@@ -16,6 +16,7 @@ ghost use Rattle.clk_tree.specs.Parse.{BeginsWith, IsPast, begins_word, goes_on,
 use crate::statements::{Connection, Declaration, Statements};
 use crate::token::{Symbol, Token};
 use clk_packet::Fault;
+use smallvec::SmallVec;
 use std::alloc::Global;
 
 /// The fault of a text of so many bytes whose tokens are wrong from these on.
@@ -180,11 +181,11 @@ fn names<'a>(
     first: Token,
     tokens: &'a [Token],
     end: u32,
-) -> Result<(Vec<Token>, &'a [Token]), Fault>
+) -> Result<(SmallVec<Token, 1>, &'a [Token]), Fault>
     ensures read { IfOk result (λ r. Listed IsName further_name first tokens.now r.0.items (mark Declares ∷ []) declares r.1.now) }
     ensures stop { IfErr result (Stops end further_name tokens.now) }
 {
-    let mut names = Vec::new(alloc);
+    let mut names = SmallVec::new(alloc);
     names.push(first)?;
     let mut left = tokens;
     while let [token, rest @ ..] = left {
@@ -207,11 +208,11 @@ fn words<'a>(
     first: Token,
     tokens: &'a [Token],
     end: u32,
-) -> Result<(Vec<Token>, &'a [Token]), Fault>
+) -> Result<(SmallVec<Token, 1>, &'a [Token]), Fault>
     ensures read { IfOk result (λ r. Listed IsWord argument first tokens.now r.0.items (mark CloseArguments ∷ []) closed r.1.now) }
     ensures stop { IfErr result (Stops end argument tokens.now) }
 {
-    let mut words = Vec::new(alloc);
+    let mut words = SmallVec::new(alloc);
     words.push(first)?;
     let mut left = tokens;
     while let [token, rest @ ..] = left {
@@ -233,14 +234,14 @@ fn argument_list<'a>(
     alloc: Global,
     tokens: &'a [Token],
     end: u32,
-) -> Result<(Vec<Token>, &'a [Token]), Fault>
+) -> Result<(SmallVec<Token, 1>, &'a [Token]), Fault>
     ensures sound { IfOk result (λ r. AllByRecursion IsWord r.0.items) }
     ensures read { IfOk result (λ r. Reads opened tokens.now (listed r.0.items ++ mark CloseArguments ∷ []) closed r.1.now) }
     ensures stop { IfErr result (Stops end opened tokens.now) }
 {
     if let [token, rest @ ..] = tokens {
         if token.symbol == Symbol::CloseArguments {
-            return Ok((Vec::new(alloc), rest));
+            return Ok((SmallVec::new(alloc), rest));
         }
         if is_word(token.symbol) {
             return words(alloc, *token, rest, end);
@@ -254,12 +255,12 @@ fn arguments<'a>(
     alloc: Global,
     tokens: &'a [Token],
     end: u32,
-) -> Result<(Vec<Token>, &'a [Token]), Fault>
+) -> Result<(SmallVec<Token, 1>, &'a [Token]), Fault>
     ensures read { IfOk result (λ r. ArgumentsRead tokens.now r.0.items r.1.now) }
     ensures stop { IfErr result (Stops end class tokens.now) }
 {
     let Some(rest) = past(Symbol::OpenArguments, tokens) else {
-        return Ok((Vec::new(alloc), tokens));
+        return Ok((SmallVec::new(alloc), tokens));
     };
     let (words, rest) = argument_list(alloc, rest, end)?;
     Ok((words, rest))
@@ -353,9 +354,11 @@ pub fn statements_of(alloc: Global, tokens: &[Token], end: u32) -> Result<Statem
         (λ fault. (fault ≡ Memory) ⊎ ((rest : List Token) × (wrong_from start tokens.now ≡ Some rest) × (fault ≡ BadText (offset_of end rest)))) }
     ensures sound { OnOk result (wrong_from start tokens.now ≡ None) }
 {
+    // Most declarations and most connections have several tokens.
+    let room = tokens.len() / 8;
     let mut statements = Statements {
-        declarations: Vec::new(alloc),
-        connections: Vec::new(alloc),
+        declarations: Vec::with_capacity(alloc, room)?,
+        connections: Vec::with_capacity(alloc, room)?,
     };
     let mut left = tokens;
     while !left.is_empty() {

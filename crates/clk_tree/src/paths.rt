@@ -58,10 +58,15 @@ pub fn ends_of(alloc: Global, graph: &Graph) -> Result<Vec<u32>, Fault>
     // One binary digit of the number of steps after another: a step is twice as long each time.
     let mut left = graph.nodes.len();
     while left > 0 {
+        let twice = composed(alloc, &step, &step)?;
+        if twice == step {
+            // All ways end within a step, so that those which are left are as one.
+            return composed(alloc, &ends, &step);
+        }
         if left % 2 == 1 {
             ends = composed(alloc, &ends, &step)?;
         }
-        step = composed(alloc, &step, &step)?;
+        step = twice;
         left /= 2;
     }
     Ok(ends)

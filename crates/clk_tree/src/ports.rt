@@ -85,15 +85,15 @@ fn mark_ports(
 
 /// Where a connection first uses an output, or a pull input, that an earlier one used, in bytes of the text. Fault 1 where memory is
 /// refused.
-pub fn port_twice(alloc: Global, nodes: &[Node], links: &[Link]) -> Result<Option<u32>, Fault>
-    requires { AllByRecursion (IsLinkWithin nodes.now) links.now }
-    ensures place { IfOk result (λ place. place ≡ port_twice nodes.now links.now) }
+pub fn port_twice(alloc: Global, graph: &Graph) -> Result<Option<u32>, Fault>
+    requires { IsTabled graph.now }
+    ensures place { IfOk result (λ place. place ≡ port_twice graph.now.nodes.now graph.now.links.now) }
     ensures fault { IsOkUnless result Fault.Memory }
 {
-    let mut outputs = vec![in alloc; false; nodes.len()]?;
-    let mut inputs = UsedInputs::new(alloc, nodes.len())?;
-    for link in links {
-        let place = mark_ports(&mut outputs, &mut inputs, nodes, *link)?;
+    let mut outputs = vec![in alloc; false; graph.nodes.len()]?;
+    let mut inputs = UsedInputs::new(alloc, graph)?;
+    for link in graph.links {
+        let place = mark_ports(&mut outputs, &mut inputs, graph.nodes, *link)?;
         if place.is_some() {
             return Ok(place);
         }

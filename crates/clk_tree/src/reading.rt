@@ -37,6 +37,7 @@ pub fn named_text(alloc: Global, text: &[u8]) -> Result<(Statements, Named), Fau
     }
     let tokens = tokens_of(alloc, text)?;
     let statements = statements_of(alloc, &tokens, text.len() as u32)?;
+    drop(tokens);
     let named = name_all(alloc, text, &statements)?;
     Ok((statements, named))
 }

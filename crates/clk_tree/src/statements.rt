@@ -1,13 +1,15 @@
 //! What the statements of a text declare and connect.
 
 use crate::token::Token;
+use smallvec::SmallVec;
 
-/// A declaration: names, of which there is one at least, their class, and its arguments.
+/// A declaration: names, of which there is one at least, their class, and its arguments. Most have one name and one argument
+/// at most, which stand in the value.
 #[derive(Drop)]
 pub struct Declaration {
-    pub names: Vec<Token>,
+    pub names: SmallVec<Token, 1>,
     pub class: Token,
-    pub arguments: Vec<Token>,
+    pub arguments: SmallVec<Token, 1>,
 }
 
 /// A connection of a chain: the names at its ends, and the ports where they are written.

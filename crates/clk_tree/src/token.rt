@@ -1,7 +1,7 @@
 //! Tokens of a tree text.
 
 /// What a token is.
-#[derive(Clone, Copy, Debug, PartialEq, Eq)]
+#[derive(Clone, Copy, Debug, Default, PartialEq, Eq)]
 pub enum Symbol {
     /// A word that doesn't begin with a digit.
     Name,
@@ -26,11 +26,12 @@ pub enum Symbol {
     /// `;`
     Semicolon,
     /// No token begins here.
+    #[default]
     Nothing,
 }
 
 /// A token of a text.
-#[derive(Clone, Copy, Debug, PartialEq, Eq)]
+#[derive(Clone, Copy, Debug, Default, PartialEq, Eq)]
 pub struct Token {
     pub symbol: Symbol,
     /// Where in the text it begins, in bytes.

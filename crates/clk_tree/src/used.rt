@@ -1,51 +1,53 @@
 //! The inputs that connections use, one after another.
 
-ghost use Rattle.std.specs.Prelude.{◌≡◌, ℕ, ◌<◌, ◌==◌, ◌&&◌, ◌||◌, not, length, get_or, slice_set, false, true, IfOk, OnOk, IsOkUnless};
-ghost use Rattle.std.specs.Int.{bit_at};
+ghost use Rattle.std.specs.Prelude.{◌≡◌, ℕ, ◌<◌, ◌==◌, ◌&&◌, ◌||◌, not, length, false, IfOk, OnOk, IsOkUnless};
 ghost use Rattle.clk_packet.specs.declared.fault.Fault.TheVariants.{Memory};
-ghost use Rattle.clk_tree.specs.Used.{is_marked, is_used, size};
+ghost use Rattle.clk_tree.specs.Checks.{IsTabled};
+ghost use Rattle.clk_tree.specs.Used.{is_used, size};
 
+use crate::tables::Graph;
 use clk_packet::Fault;
 use std::alloc::Global;
 use std::collections::BTreeSet;
 
-/// How many inputs of an element have a bit each.
-const BITS: u32 = 64;
-
-/// Inputs of so many elements.
+/// Elements with inputs of theirs. As many inputs of each element as connections lead to it have slots that no other has.
 #[derive(Drop)]
 pub struct UsedInputs {
-    /// A bit for each of the first inputs of each element.
-    first: Vec<u64>,
-    /// Elements with their further inputs, which a text has where it is wrong alone.
+    /// The slot for the first input of each element; those for its others follow.
+    starts: Vec<u32>,
+    slots: Vec<Option<(u32, u32)>>,
+    /// Those whose slot isn't there or is another's, which a text has where it is wrong alone.
     more: BTreeSet<(u32, u32)>,
 }
 
-/// Sets a bit of the number at a place, and says whether it wasn't set.
-fn mark(marks: &mut [u64], place: u32, bit: u32) -> bool
-    requires place { place < length marks.old }
-    requires bit { bit < 64 }
-    ensures added { result ≡ not (is_marked marks.old place bit) }
-    ensures marked { (i j : ℕ) → is_marked marks.new i j ≡ (((place == i) && (bit == j)) || is_marked marks.old i j) }
+/// How many connections lead to the elements before each element. Fault 1 where memory is refused.
+fn starts_of(alloc: Global, graph: &Graph) -> Result<Vec<u32>, Fault>
+    requires { IsTabled graph.now }
+    ensures count { IfOk result (λ starts. length starts.items ≡ length graph.now.nodes.now) }
+    ensures fault { IsOkUnless result Fault.Memory }
 {
-    let bits = marks[place as usize];
-    if (bits >> bit) & 1 == 1 {
-        return false;
+    let mut starts = Vec::with_capacity(alloc, graph.nodes.len())?;
+    let mut start: u32 = 0;
+    for place in 0..graph.nodes.len() {
+        starts.push(start)?;
+        start = start.saturating_add(graph.inputs(place as u32).count);
     }
-    marks[place as usize] = bits | (1 << bit);
-    true
+    Ok(starts)
 }
 
 impl UsedInputs {
-    /// No inputs, of so many elements. Fault 1 where memory is refused.
-    pub fn new(alloc: Global, count: usize) -> Result<UsedInputs, Fault>
-        ensures size { IfOk result (λ used. size used ≡ count) }
+    /// No inputs of these elements. Fault 1 where memory is refused.
+    pub fn new(alloc: Global, graph: &Graph) -> Result<UsedInputs, Fault>
+        requires { IsTabled graph.now }
+        ensures size { IfOk result (λ used. size used ≡ length graph.now.nodes.now) }
         ensures none { IfOk result (λ used. (i j : ℕ) → is_used used i j ≡ false) }
         ensures fault { IsOkUnless result Fault.Memory }
     {
-        let first = vec![in alloc; 0u64; count]?;
+        let starts = starts_of(alloc, graph)?;
+        let slots = vec![in alloc; None; graph.links.len()]?;
         Ok(UsedInputs {
-            first,
+            starts,
+            slots,
             more: BTreeSet::new(alloc),
         })
     }
@@ -58,9 +60,21 @@ impl UsedInputs {
         ensures size { size self.new ≡ size self.old }
         ensures fault { IsOkUnless result Fault.Memory }
     {
-        if input < BITS {
-            return Ok(mark(&mut self.first, place, input));
+        let slot = self.starts[place as usize] as usize + input as usize;
+        if slot >= self.slots.len() {
+            return Ok(self.more.insert((place, input))?);
         }
-        Ok(self.more.insert((place, input))?)
+        match self.slots[slot] {
+            None => {
+                self.slots[slot] = Some((place, input));
+                Ok(!self.more.contains(&(place, input)))
+            }
+            Some((element, used)) => {
+                if element == place && used == input {
+                    return Ok(false);
+                }
+                Ok(self.more.insert((place, input))?)
+            }
+        }
     }
 }

@@ -21,8 +21,8 @@ returns-then-not-branch-clause-declared c =
     let d = c.args.declaration.now in
     let i = c.loop-name.name-index in
     let none : Token = record { symbol = Name; place = 0; length = 0 } in
-    let items = c.deref-name-items.ensures.value in
-    let token = slice_index_or c.deref-name-items.result.now i none in
+    let items = c.as_slice-name-items.ensures in
+    let token = slice_index_or c.as_slice-name-items.result.now i none in
     let inside : i < length d.names.items = rw items at c.loop-name-test.true in
     let next : drop i d.names.items ≡ token ∷ drop (i + 1) d.names.items = drop_more d.names.items i none inside ∙ ap (λ xs. slice_index_or xs i none ∷ drop (i + 1) d.names.items) (sym items) in
     let one = element c.args.text.now d.class d.arguments.items in
@@ -36,8 +36,8 @@ loop-name-preserved c =
     let d = c.args.declaration.now in
     let i = c.loop-name.name-index in
     let none : Token = record { symbol = Name; place = 0; length = 0 } in
-    let items = c.deref-name-items.ensures.value in
-    let token = slice_index_or c.deref-name-items.result.now i none in
+    let items = c.as_slice-name-items.ensures in
+    let token = slice_index_or c.as_slice-name-items.result.now i none in
     let inside : i < length d.names.items = rw items at c.loop-name-test.true in
     let next : drop i d.names.items ≡ token ∷ drop (i + 1) d.names.items = drop_more d.names.items i none inside ∙ ap (λ xs. slice_index_or xs i none ∷ drop (i + 1) d.names.items) (sym items) in
     let one = element c.args.text.now d.class d.arguments.items in
@@ -46,6 +46,7 @@ loop-name-preserved c =
     let count = c.loop-name.invariant.count in
     record {
       count = omega (arith, counted, count);
+      slots = c.in_ok-declare.ensures.slots;
       within = (subst (AreWithin (length c.args.text.now)) next c.loop-name.invariant.within).1;
       declares = λ all more h.
           Declares-more all (map one (drop (i + 1) d.names.items) ++ more) c.loop-name.names c.declare.new.self (one token) fresh

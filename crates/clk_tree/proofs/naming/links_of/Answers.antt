@@ -16,7 +16,7 @@ nothing = record { from = record { symbol = Name; place = 0; length = 0 }; outpu
 pub loop-connection-init : goal.loop-connection-init
 loop-connection-init c =
     let ws = wires c.args.text.now c.args.connections.now in
-    record { within = c.requires.within; numbers = c.requires.numbers; links = λ all table. subst (λ made. Links all ws ws made) (sym c.new-links.ensures.items) (Links-none all ws) }
+    record { within = c.requires.within; numbers = c.requires.numbers; links = λ all table. subst (λ made. Links all ws ws made) (sym c.in_ok-links.ensures.items) (Links-none all ws) }
 
 pub returns-in_err-link_of : goal.returns-in_err-link_of
 returns-in_err-link_of c =
@@ -25,7 +25,7 @@ returns-in_err-link_of c =
     let i = c.loop-connection.connection-index in
     let one = slice_index_or cs i nothing in
     let next : drop i cs ≡ one ∷ drop (i + 1) cs = drop_more cs i nothing c.loop-connection-test.true in
-    let p = err_from_is_err_and c.from_residual.result c.from_residual.ensures.1 in
+    let p = err_from_is_err_and c.from_residual-in_err-link_of.result c.from_residual-in_err-link_of.ensures.1 in
     λ all table.
     rw (p.1, p.2)
     (inr (Links-stop UnknownName all (wires text cs) (wires text (drop (i + 1) cs)) c.loop-connection.links.items (wire text one) _ (c.in_err-link_of.ensures all table)

@@ -13,7 +13,7 @@ returns-in_err-declare c =
     let ds = c.args.declarations.now in
     let i = c.loop-declaration.declaration-index in
     let next = drop-item ds i c.declaration-item.result c.loop-declaration-test.true c.declaration-item.is in
-    let p = err_from_is_err_and c.from_residual.result c.from_residual.ensures.1 in
+    let p = err_from_is_err_and c.from_residual-in_err-declare.result c.from_residual-in_err-declare.ensures.1 in
     rw (p.1, p.2)
     (c.in_err-declare.ensures.declared (elements text (map kept ds)) (elements text (map kept (drop (i + 1) ds)))
     (subst (λ xs. Declares (elements text (map kept ds)) (elements text (map kept xs)) c.loop-declaration.names) next c.loop-declaration.invariant.declares))

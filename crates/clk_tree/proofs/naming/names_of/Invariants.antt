@@ -2,7 +2,7 @@ use Rattle.std.proofs.Common.{◌+◌, ◌≤◌, length, map, drop}
 use Rattle.std.specs.List.{AllByRecursion}
 use Rattle.clk_tree.specs.Limits.{most_bytes}
 use Rattle.clk_tree.specs.Source.{kept, elements}
-use Rattle.clk_tree.specs.Naming.{Declares}
+use Rattle.clk_tree.specs.Naming.{Declares, IsSlotted}
 use Rattle.clk_tree.specs.Within.{IsDeclaredWithin, words_in}
 use Rattle.clk_tree.proofs.naming.names_of.Given as goal
 
@@ -11,5 +11,6 @@ invariant-loop-declaration l =
     record {
       within : AllByRecursion (IsDeclaredWithin (length l.text)) (map kept (drop l.declaration-index l.declarations));
       few : l.names.count + words_in (map kept (drop l.declaration-index l.declarations)) ≤ most_bytes;
+      slots : IsSlotted l.names;
       declares : Declares (elements l.text (map kept l.declarations)) (elements l.text (map kept (drop l.declaration-index l.declarations))) l.names;
     }

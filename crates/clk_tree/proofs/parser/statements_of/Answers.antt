@@ -6,7 +6,7 @@ use Rattle.clk_tree.proofs.WithinLemmas.{declared-within, connected-within}
 use Rattle.clk_tree.proofs.parser.statements_of.Goals as goal
 
 pub loop-left-init : goal.loop-left-init
-loop-left-init c = none-read _ _ c.new.ensures.items c.new-2.ensures.items
+loop-left-init c = none-read _ _ c.in_ok-with_capacity.ensures.items c.in_ok-with_capacity-2.ensures.items
 
 pub loop-left-preserved : goal.loop-left-preserved
 loop-left-preserved c = more-read c.loop-left.invariant (search rules) c.in_ok-left.ensures.read

@@ -14,13 +14,13 @@ none-there (Some x) e = absurd (cc)
 
 pub loop-link-preserved : goal.loop-link-preserved
 loop-link-preserved c =
-    let nodes = c.args.nodes.now in
-    let links = c.args.links.now in
+    let nodes = c.args.graph.now.nodes.now in
+    let links = c.args.graph.now.links.now in
     let i = c.loop-link.link-index in
     let none : Link = record { from = 0; output = 0; input = 0; to = 0; from_place = 0; to_place = 0 } in
     let link = get_or links i none in
     let outputs = c.loop-link.outputs.items in
-    let inside = all-at (IsLinkWithin nodes) links i none c.loop-link-test.true c.requires in
+    let inside = all-at (IsLinkWithin nodes) links i none c.loop-link-test.true c.requires.within in
     let next : drop i links ≡ link ∷ drop (i + 1) links = drop_more links i none c.loop-link-test.true in
     let seen = subst (λ left. HasSeen nodes links left outputs (is_used c.loop-link.inputs)) next c.loop-link.invariant.seen in
     let quiet : c.in_ok-place.place ≡ None = none-there c.in_ok-place.place (sym c.is_some.ensures ∙ c.if-is_some.false) in
@@ -33,13 +33,13 @@ loop-link-preserved c =
 
 pub returns-then-is_some : goal.returns-then-is_some
 returns-then-is_some c =
-    let nodes = c.args.nodes.now in
-    let links = c.args.links.now in
+    let nodes = c.args.graph.now.nodes.now in
+    let links = c.args.graph.now.links.now in
     let i = c.loop-link.link-index in
     let none : Link = record { from = 0; output = 0; input = 0; to = 0; from_place = 0; to_place = 0 } in
     let link = get_or links i none in
     let outputs = c.loop-link.outputs.items in
-    let inside = all-at (IsLinkWithin nodes) links i none c.loop-link-test.true c.requires in
+    let inside = all-at (IsLinkWithin nodes) links i none c.loop-link-test.true c.requires.within in
     let next : drop i links ≡ link ∷ drop (i + 1) links = drop_more links i none c.loop-link-test.true in
     let seen = subst (λ left. HasSeen nodes links left outputs (is_used c.loop-link.inputs)) next c.loop-link.invariant.seen in
     record {

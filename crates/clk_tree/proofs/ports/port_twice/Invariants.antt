@@ -5,6 +5,6 @@ use Rattle.clk_tree.proofs.ports.port_twice.Given as goal
 
 abbrev pub invariant-loop-link : goal.invariant-loop-link
 invariant-loop-link l = record {
-  size : size l.inputs ≡ length l.nodes;
-  seen : HasSeen l.nodes l.links (drop l.link-index l.links) l.outputs.items (is_used l.inputs);
+  size : size l.inputs ≡ length l.graph.nodes.now;
+  seen : HasSeen l.graph.nodes.now l.graph.links.now (drop l.link-index l.graph.links.now) l.outputs.items (is_used l.inputs);
 }

@@ -1,5 +1,27 @@
+use Rattle.std.proofs.Common.{◌≡◌, ◌∙◌, Some, false, sym, arith}
+use Rattle.std.specs.Str.{bytes_eq}
+use Rattle.clk_tree.specs.Naming.{slot_at, place_else}
 use Rattle.clk_tree.proofs.MixedLemmas.{updates-name}
+use Rattle.clk_tree.proofs.SlotLemmas.{slot-read, else-found, else-slotted}
 use Rattle.clk_tree.proofs.names.Names.declare.Goals as goal
 
-pub returns-clause-placed : goal.returns-clause-placed
-returns-clause-placed c = updates-name c.args.self.now.places c.insert.new.self (c.mixed.result, c.args.name) _ c.mixed.ensures c.in_ok-earlier.ensures.updates
+pub returns-in_ok-earlier-in-Some-clause-placed : goal.returns-in_ok-earlier-in-Some-clause-placed
+returns-in_ok-earlier-in-Some-clause-placed c =
+    let names = c.args.self.now in
+    let name = c.args.name.now in
+    let taken : slot_at names.slots.items name ≡ Some (c.in-Some.known, c.in-Some.field-0-1) =
+    slot-read names.slots.items name c.mixed-number.result c.len.result c.index.result.now c.index.ensures c.mixed-number.ensures (c.len.ensures ∙ names.slots.ok.0) (let some = names.some in let len = c.len.ensures ∙ names.slots.ok.0 in omega (arith, some, len))
+    ∙ c.in-Some.is in
+    let unlike : bytes_eq c.in-Some.known.now name ≡ false = sym c.eq.ensures ∙ c.if-eq.false in
+    else-found names.slots.items (c.in-Some.known, c.in-Some.field-0-1) name names.count (place_else names) _ taken
+    (updates-name names.more c.insert.new.self (c.mixed-number.result, c.args.name) _ c.mixed-number.ensures c.in_ok-earlier-in-Some.ensures.updates) unlike
+
+pub returns-in_ok-earlier-in-Some-clause-slots : goal.returns-in_ok-earlier-in-Some-clause-slots
+returns-in_ok-earlier-in-Some-clause-slots c =
+    let names = c.args.self.now in
+    let name = c.args.name.now in
+    let taken : slot_at names.slots.items name ≡ Some (c.in-Some.known, c.in-Some.field-0-1) =
+    slot-read names.slots.items name c.mixed-number.result c.len.result c.index.result.now c.index.ensures c.mixed-number.ensures (c.len.ensures ∙ names.slots.ok.0) (let some = names.some in let len = c.len.ensures ∙ names.slots.ok.0 in omega (arith, some, len))
+    ∙ c.in-Some.is in
+    else-slotted names.slots.items (c.in-Some.known, c.in-Some.field-0-1) name names.count (place_else names) _ taken
+    (updates-name names.more c.insert.new.self (c.mixed-number.result, c.args.name) _ c.mixed-number.ensures c.in_ok-earlier-in-Some.ensures.updates) c.requires.slots

@@ -6,7 +6,8 @@ use Rattle.clk_tree.specs.declared.node.Node.{Node}
 use Rattle.clk_tree.specs.declared.token.Token.{Token}
 use Rattle.clk_tree.specs.Classes.{class_view}
 use Rattle.clk_tree.specs.Source.{kept}
-use Rattle.clk_tree.specs.Naming.{class_in, has_number, may_stand, node_at}
+use Rattle.clk_tree.specs.Numbers.{has_number}
+use Rattle.clk_tree.specs.Naming.{class_in, may_stand, node_at}
 use Rattle.clk_tree.proofs.JudgeLemmas.{Judges-missing, Judges-fails, Judges-more}
 use Rattle.clk_tree.proofs.WidthLemmas.{width-in}
 use Rattle.clk_tree.proofs.naming.Judged.judge.Goals as goal
@@ -21,12 +22,12 @@ returns-in-None c =
     let class : class_in c.args.text.now d ≡ None = sym c.in_ok-class.ensures.class ∙ ap (option_map class_view) c.in-None.is in
     λ all left h. inr (ap (option_map BadArgument) (Judges-missing c.args.text.now all left d c.args.self.now class c.requires.named h))
 
-pub returns-then-not-branch : goal.returns-then-not-branch
-returns-then-not-branch c =
+pub returns-then-not-stands : goal.returns-then-not-stands
+returns-then-not-stands c =
     let d = kept c.args.declaration.now in
     let class : class_in c.args.text.now d ≡ Some (class_view c.in-Some.class) = sym c.in_ok-class.ensures.class ∙ ap (option_map class_view) c.in-Some.is in
-    let len = c.len.ensures ∙ c.args.declaration.now.names.ok.0 in
-    let may = ap (λ l. may_stand (has_number c.args.self.now.senders) (class_view c.in-Some.class) l) (sym len) ∙ sym c.in_ok-stands.ensures.stands ∙ c.if-not-branch.true in
+    let len = c.len.ensures.value in
+    let may = ap (λ l. may_stand (has_number c.args.self.now.senders) (class_view c.in-Some.class) l) (sym len) ∙ sym c.stands.ensures.stands ∙ c.if-not-stands.true in
     λ all left h. inr (ap (option_map BadArgument) (Judges-fails c.args.text.now all left d c.args.self.now (class_view c.in-Some.class) class c.requires.named may h))
 
 pub role-requires : goal.role-requires
@@ -41,9 +42,9 @@ pub returns : goal.returns
 returns c =
     let d = kept c.args.declaration.now in
     let class : class_in c.args.text.now d ≡ Some (class_view c.in-Some.class) = sym c.in_ok-class.ensures.class ∙ ap (option_map class_view) c.in-Some.is in
-    let len = c.len.ensures ∙ c.args.declaration.now.names.ok.0 in
-    let stands = sym c.in_ok-stands.ensures.stands ∙ c.if-not-branch.false in
+    let len = c.len.ensures.value in
+    let stands = sym c.stands.ensures.stands ∙ c.if-not-stands.false in
     let may = ap (λ l. may_stand (has_number c.args.self.now.senders) (class_view c.in-Some.class) l) (sym len) ∙ stands in
-    let nodes = c.in_ok-push_nodes.ensures.nodes ∙ nodes-by c.args.self.now.nodes.items c.deref.ensures.value c.role.ensures in
+    let nodes = c.in_ok-push_nodes.ensures.nodes ∙ nodes-by c.args.self.now.nodes.items c.deref.ensures c.role.ensures in
     λ all left h.
-    Judges-more c.args.text.now all left d c.args.self.now _ c.in-Some.class class c.requires.named may (c.in_ok-stands.ensures.added c.if-not-branch.false) c.in_ok-push.ensures.items nodes h
+    Judges-more c.args.text.now all left d c.args.self.now _ c.in-Some.class class c.requires.named may (c.stands.ensures.added c.if-not-stands.false) c.in_ok-push.ensures.items nodes h
