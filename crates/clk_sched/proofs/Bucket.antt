@@ -1,10 +1,10 @@
 -- The bucket of a Shaper from turn to turn.
-use Rattle.std.proofs.Common.{◌≡◌, ℕ, ◌+◌, ◌-◌, ◌*◌, ◌≤◌, ◌<◌, ◌&&◌, min, nat_le, if◌then◌else◌, Bool, true, false, List, ◌∷◌, Option, None, is_some, refl, sym, ap, ◌∙◌, subst, mul-add, arith}
+use Rattle.std.proofs.Common.{◌≡◌, ℕ, ◌+◌, ◌-◌, ◌*◌, ◌≤◌, ◌<◌, ◌&&◌, min, nat_le, if◌then◌else◌, Bool, true, false, List, ◌∷◌, Option, None, is_some, refl, sym, ap, ap₂, ◌∙◌, subst, mul-add, arith}
 use Rattle.std.proofs.lemmas.Bool.Decides.{nat_tests}
 use Rattle.clk_sched.specs.declared.session.shaper.Bucket.{Bucket}
 use Rattle.clk_sched.specs.Turns.{Turn, giver}
 use Rattle.clk_sched.specs.Laws.Shaper.{has_room}
-use Rattle.clk_sched.specs.Holds.Shaper.{AreBefore, tokens_at, HoldsBucket}
+use Rattle.clk_sched.specs.Holds.Shaper.{AreBefore, tokens_at, HoldsBucket, IsTaken}
 
 -- room in all windows after one more is passed, in numbers: `fresh` were added since the filling before, and `more` since
 room-after : (since burst tokens fresh more : ℕ) (wide rest : Bool) → 1 ≤ burst → 1 ≤ tokens + fresh
@@ -107,3 +107,63 @@ bucket-none rate burst turns t b h none =
         → (if is_some g then nat_le (since + 2 + rate * t.moment) (burst + rate * moment) && has_room rate burst moment (since + 1) turns else has_room rate burst moment since turns)
         ≡ nat_le (since + 1) (b.tokens + rate * (moment - b.filled))
     by_giver g e moment since at = rw e at
+
+-- room in all windows is the same of a bucket that was filled since, in numbers
+room-filled : (since burst tokens fresh more : ℕ) → since + 1 ≤ burst + more → nat_le (since + 1) (tokens + (fresh + more)) ≡ nat_le (since + 1) (min (tokens + fresh) burst + more)
+room-filled since burst tokens fresh more covered = by_tokens (nat_le (since + 1) (tokens + (fresh + more))) refl
+  where
+    by_tokens : (c : Bool) → nat_le (since + 1) (tokens + (fresh + more)) ≡ c → nat_le (since + 1) (tokens + (fresh + more)) ≡ nat_le (since + 1) (min (tokens + fresh) burst + more)
+    by_tokens true f =
+        let enough : since + 1 ≤ tokens + (fresh + more) = grind (arith, nat_tests) in
+        let left : since + 1 ≤ min (tokens + fresh) burst + more = omega arith in
+        let told : nat_le (since + 1) (min (tokens + fresh) burst + more) ≡ true = grind (arith, nat_tests) in
+        f ∙ sym told
+    by_tokens false f =
+        let short : tokens + (fresh + more) < since + 1 = grind (arith, nat_tests) in
+        let left : min (tokens + fresh) burst + more < since + 1 = omega arith in
+        let told : nat_le (since + 1) (min (tokens + fresh) burst + more) ≡ false = grind (arith, nat_tests) in
+        f ∙ sym told
+
+-- a token that was taken is given back, after a turn that passed nothing
+pub bucket-back : (rate burst : ℕ) (turns : List Turn) (t : Turn) (b c d : Bucket) → HoldsBucket rate burst turns b → AreBefore t.moment turns → IsTaken b c t.moment → giver t.visits ≡ None
+    → d.rate ≡ c.rate → d.burst ≡ c.burst → d.filled ≡ c.filled → d.tokens ≡ min (c.tokens + 1) c.burst → HoldsBucket rate burst (t ∷ turns) d
+bucket-back rate burst turns t b c d h before taken none rate_is burst_is filled_is tokens_is =
+    record {
+      rate_is = rate_is ∙ taken.rate_is ∙ h.rate_is;
+      burst_is = burst_is ∙ taken.burst_is ∙ h.burst_is;
+      filled = λ moment all. subst (λ n. n ≤ moment) (sym filled_at) all.0;
+      room = λ moment since later covered. by_giver (giver t.visits) none moment since (subst (λ n. n ≤ moment) filled_at later) covered;
+    }
+  where
+    filled_at : d.filled ≡ t.moment
+    filled_at = filled_is ∙ taken.filled_is
+
+    start : b.filled ≤ t.moment
+    start = h.filled t.moment before
+
+    fresh : ℕ
+    fresh = rate * (t.moment - b.filled)
+
+    all_tokens : d.tokens ≡ min (b.tokens + fresh) burst
+    all_tokens =
+        let is : c.tokens + 1 ≡ min (b.tokens + fresh) burst = taken.tokens_is ∙ ap (λ n. min (b.tokens + n * (t.moment - b.filled)) b.burst) h.rate_is ∙ ap (λ n. min (b.tokens + fresh) n) h.burst_is in
+        let limit : c.burst ≡ burst = taken.burst_is ∙ h.burst_is in
+        tokens_is ∙ ap₂ (λ m n. min m n) is limit ∙ omega arith
+
+    by_giver : (g : Option ℕ) → g ≡ None → (moment since : ℕ) → t.moment ≤ moment → since + 1 ≤ burst + rate * (moment - d.filled)
+        → (if is_some g then nat_le (since + 2 + rate * t.moment) (burst + rate * moment) && has_room rate burst moment (since + 1) turns else has_room rate burst moment since turns)
+        ≡ nat_le (since + 1) (d.tokens + rate * (moment - d.filled))
+    by_giver g e moment since later covered =
+        rw e (h.room moment since (omega (arith, start, later)) wide ∙ ap (λ n. nat_le (since + 1) (b.tokens + n)) since_filled ∙ room-filled since burst b.tokens fresh more covered_now ∙ ap₂ (λ m n. nat_le (since + 1) (m + rate * (moment - n))) (sym all_tokens) (sym filled_at))
+      where
+        more : ℕ
+        more = rate * (moment - t.moment)
+
+        covered_now : since + 1 ≤ burst + more
+        covered_now = subst (λ n. since + 1 ≤ burst + rate * (moment - n)) filled_at covered
+
+        since_filled : rate * (moment - b.filled) ≡ fresh + more
+        since_filled = ap (λ n. rate * n) (let e : moment - b.filled ≡ (t.moment - b.filled) + (moment - t.moment) = omega (arith, start, later) in e) ∙ mul-add rate (t.moment - b.filled) (moment - t.moment)
+
+        wide : since + 1 ≤ burst + rate * (moment - b.filled)
+        wide = omega (arith, covered_now, since_filled)

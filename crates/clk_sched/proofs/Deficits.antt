@@ -1,12 +1,10 @@
 -- The row and the cursor of a DRRSched from visit to visit.
 use Rattle.std.proofs.Common.{◌≡◌, ◌≢◌, ℕ, zero, suc, ◌+◌, ◌-◌, ◌*◌, ◌%◌, ◌≤◌, ◌<◌, ◌==◌, nat_le, if◌then◌else◌, Bool, true, false, List, [], ◌∷◌, map, length, slice_get, slice_set, get_or, Option, Some, None, is_some, option_map, unwrap_or, refl, sym, ap, ap₂, ◌∙◌, subst, mul-add, zero-add, arith}
-use Rattle.std.specs.List.{refill, AllByRecursion}
+use Rattle.std.specs.List.{AllByRecursion}
 use Rattle.std.proofs.lemmas.Bool.{false≢true}
 use Rattle.std.proofs.lemmas.Bool.Decides.{nat_tests}
 use Rattle.std.proofs.lemmas.List.{length-set, length-map}
 use Rattle.std.proofs.lemmas.Option.{slice_get_read, slice_get-map}
-use Rattle.smallvec.specs.SmallVec.{SmallVec}
-use Rattle.smallvec.proofs.SmallVecLemmas.{items-with_items}
 use Rattle.clk_packet.specs.declared.packet.Packet.{Packet}
 use Rattle.clk_packet.specs.Limits.{most_length}
 use Rattle.clk_sched.specs.declared.session.drr.Served.{Served}
@@ -22,11 +20,6 @@ use Rattle.clk_sched.proofs.Numbers.{equal, differs}
 -- what is read at a place, as the code reads it
 pub row-read : (row lent : List Served) (i place : ℕ) (s : Served) → lent ≡ row → place ≡ i → i < length row → s ≡ get_or lent place s → slice_get row i ≡ Some s
 row-read row lent i place s same at within is = slice_get_read row (length row) i s refl within (is ∙ ap₂ (λ xs j. get_or xs j s) same at)
-
--- a row after a write, as the code writes it
-pub row-written : (v : SmallVec Served) (lent : List Served) (i place : ℕ) (s : Served) → lent ≡ v.items → place ≡ i
-    → refill (length v.items) v.items (slice_set lent place s) ≡ slice_set v.items i s
-row-written v lent i place s same at = items-with_items v (slice_set lent place s) (length-set lent place s ∙ ap length same) ∙ ap₂ (λ xs j. slice_set xs j s) same at
 
 read-same : (row : List Served) (i : ℕ) (y s : Served) → slice_get (slice_set row i y) i ≡ Some s → y ≡ s
 read-same [] i y s e = absurd (false≢true (ap is_some e))

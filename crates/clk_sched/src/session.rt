@@ -92,7 +92,8 @@ impl Session {
         let edges = self.nodes.inputs[DEVICE as usize].edges;
         self.nodes.log.reserve(edges)?;
         self.nodes.moment = self.nodes.moment.max(moment);
-        let got = self.nodes.pull(q, DEVICE);
+        // The device is no Shaper.
+        let got = self.nodes.pull_other(q, DEVICE);
         self.nodes.pull += 1;
         Ok(got)
     }

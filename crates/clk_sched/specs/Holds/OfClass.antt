@@ -1,7 +1,9 @@
 -- What each node holds from pull to pull, by its earlier turns.
-use Rattle.std.specs.Prelude.{◌≡◌, ℕ, ◌<◌, ◌≤◌, List, length, ⊤}
+use Rattle.std.specs.Prelude.{◌≡◌, ◌≢◌, ℕ, ◌<◌, ◌≤◌, List, length, ⊤}
 use Rattle.clk_sched.specs.declared.session.state.State.{State}
 use Rattle.clk_sched.specs.declared.session.state.State.TheVariants.{Prio, RoundRobin, Drr, Stride, Shaper}
+use Rattle.clk_sched.specs.declared.session.drr.Deficits.{Deficits}
+use Rattle.clk_sched.specs.declared.session.shaper.Bucket.{Bucket}
 use Rattle.clk_sched.specs.declared.session.stride.Passes.{Passes}
 use Rattle.clk_sched.specs.Tree.{Class, prio, round_robin, drr, stride, shaper}
 use Rattle.clk_sched.specs.Turns.{Turn, visits_before}
@@ -24,6 +26,29 @@ Fits (RoundRobin b) inputs = b.input < inputs
 Fits (Drr d) inputs = length d.row.items ≡ inputs
 Fits (Stride p) inputs = FitsPasses inputs p
 Fits (Shaper b) inputs = 1 ≤ inputs
+
+-- a state is that of a DRRSched
+abbrev pub IsDrr : State → Type 0
+IsDrr Prio = ⊥
+IsDrr (RoundRobin b) = ⊥
+IsDrr (Drr d) = ⊤
+IsDrr (Stride p) = ⊥
+IsDrr (Shaper b) = ⊥
+
+-- a state is that of a Shaper, or isn't
+abbrev pub IsShaper : State → Type 0
+IsShaper Prio = ⊥
+IsShaper (RoundRobin b) = ⊥
+IsShaper (Drr d) = ⊥
+IsShaper (Stride p) = ⊥
+IsShaper (Shaper b) = ⊤
+
+abbrev pub IsNoShaper : State → Type 0
+IsNoShaper s = (b : Bucket) → s ≢ Shaper b
+
+-- a state is that of neither a DRRSched nor a Shaper
+abbrev pub IsOther : State → Type 0
+IsOther s = IsNoShaper s × ((d : Deficits) → s ≢ Drr d)
 
 -- what a scheduler of a class with so many inputs holds after these turns, the latest first
 abbrev pub Holds : Class → ℕ → List Turn → State → Type 0

@@ -13,6 +13,13 @@ AreBefore moment turns = AllByRecursion (λ (t : Turn). t.moment ≤ moment) tur
 abbrev pub tokens_at : Bucket → ℕ → ℕ
 tokens_at b moment = min (b.tokens + b.rate * (moment - b.filled)) b.burst
 
+-- One was taken of the tokens at a moment.
+pub record IsTaken (old new : Bucket) (moment : ℕ) : Type 0 where
+  pub rate_is : new.rate ≡ old.rate
+  pub burst_is : new.burst ≡ old.burst
+  pub filled_is : new.filled ≡ moment
+  pub tokens_is : new.tokens + 1 ≡ tokens_at old moment
+
 -- What a Shaper's bucket holds after these turns, the latest first: from its last filling on it tells whether there is room, also
 -- for more packets that are passed at that moment.
 pub record HoldsBucket (rate burst : ℕ) (turns : List Turn) (b : Bucket) : Type 0 where

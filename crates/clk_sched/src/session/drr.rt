@@ -9,7 +9,6 @@ use crate::ask::Ask;
 use crate::session::nodes::Nodes;
 use crate::visit::Visit;
 use clk_packet::Packet;
-use smallvec::SmallVec;
 use std::alloc::{AllocError, Global};
 
 /// What is held of one input.
@@ -24,9 +23,8 @@ struct Served {
 /// The inputs of a DRRSched, and the cursor: the input whose turn it is.
 #[derive(Drop)]
 pub struct Deficits {
-    // A row of several inputs isn't in the value, which is moved at each pull.
-    row: SmallVec<Served, 1>,
     cursor: u16,
+    row: Vec<Served>,
     ghost few: { length row.items ≤ most_inputs },
     ghost cursor_within: { cursor < length row.items },
     ghost quanta_within: { AreQuantaWithin row.items },
@@ -46,36 +44,27 @@ impl Served {
         }
     }
 
-    // Whether the deficit covers what was got.
-    fn covers(self, got: Option<Packet>) -> bool
-        ensures { result ≡ covers self got }
+    // Takes what a visit got, and answers whether the deficit covers it. If not, a packet is held.
+    #[inline]
+    fn settle(&mut self, got: Option<Packet>) -> bool
+        ensures covers { result ≡ covers self.old got }
+        ensures after { self.new ≡ settled self.old got }
     {
         match got {
-            None => false,
-            Some(packet) => u32::from(packet.length) <= self.deficit,
-        }
-    }
-
-    // The same after a visit that got this.
-    fn settled(self, got: Option<Packet>) -> Served
-        ensures { result ≡ settled self got }
-    {
-        match got {
-            None => Served {
-                deficit: 0,
-                head: None,
-                ..self
-            },
+            None => {
+                self.deficit = 0;
+                self.head = None;
+                false
+            }
             Some(packet) => {
                 let length = u32::from(packet.length);
                 if length <= self.deficit {
-                    Served {
-                        deficit: self.deficit - length,
-                        head: None,
-                        ..self
-                    }
+                    self.deficit -= length;
+                    self.head = None;
+                    true
                 } else {
-                    Served { head: got, ..self }
+                    self.head = got;
+                    false
                 }
             }
         }
@@ -106,7 +95,7 @@ impl Deficits {
     {
         let mut row = all_waiting(alloc, quanta)?;
         add_quantum(&mut row, 0);
-        Ok(Deficits { row, cursor: 0 })
+        Ok(Deficits { cursor: 0, row })
     }
 
     /// The head held at the input whose turn it is.
@@ -138,9 +127,7 @@ impl Deficits {
         ensures length { length self.new.row.items ≡ length self.old.row.items }
         ensures moves { result ≡ false → self.new.cursor ≡ (self.old.cursor + 1) % length self.old.row.items }
     {
-        let served = self.at_cursor();
-        let passed = served.covers(got);
-        self.row[usize::from(self.cursor)] = served.settled(got);
+        let passed = self.row[usize::from(self.cursor)].settle(got);
         if !passed {
             self.move_on();
         }
@@ -149,6 +136,7 @@ impl Deficits {
 
     /// Pulls a DRRSched.
     #[cycle(pull)]
+    #[inline(never)]
     pub fn pull<Q: Ask>(&mut self, nodes: &mut Nodes, q: &mut Q, node: u16) -> Option<Packet>
         requires can_pull { CanPull nodes.old node (edges_of nodes.old.inputs.items node) }
         requires fits { IfSome (slice_get nodes.old.inputs.items node) (λ p. length self.old.row.items ≡ length p.each.items) }
@@ -227,10 +215,10 @@ impl Deficits {
 }
 
 // An input for each quantum, before its first arrival.
-fn all_waiting(alloc: Global, quanta: &[u32]) -> Result<SmallVec<Served, 1>, AllocError>
+fn all_waiting(alloc: Global, quanta: &[u32]) -> Result<Vec<Served>, AllocError>
     ensures { IfOk result (λ row. row.items ≡ map waiting quanta.now) }
 {
-    let mut row = SmallVec::with_capacity(alloc, quanta.len())?;
+    let mut row = Vec::with_capacity(alloc, quanta.len())?;
     for quantum in quanta {
         row.push(Served::waiting(*quantum))?;
     }
@@ -238,15 +226,12 @@ fn all_waiting(alloc: Global, quanta: &[u32]) -> Result<SmallVec<Served, 1>, All
 }
 
 // Adds the quantum of an input to its deficit, as at each arrival.
-fn add_quantum(row: &mut SmallVec<Served, 1>, place: usize)
+fn add_quantum(row: &mut Vec<Served>, place: usize)
     requires place { place < length row.old.items }
     requires fits { (s : Served) → slice_get row.old.items place ≡ Some s → s.deficit + s.quantum < 2 ^ 32 }
     ensures length { length row.new.items ≡ length row.old.items }
     ensures adds { (s : Served) → slice_get row.old.items place ≡ Some s → row.new.items ≡ slice_set row.old.items place (with_quantum s) }
 {
-    let served = row[place];
-    row[place] = Served {
-        deficit: served.deficit + served.quantum,
-        ..served
-    };
+    let served = &mut row[place];
+    served.deficit += served.quantum;
 }

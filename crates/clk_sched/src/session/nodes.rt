@@ -3,19 +3,18 @@
 use crate::ask::Ask;
 use crate::session::inputs::{Input, Inputs};
 use crate::session::prio::pull_prio;
-use crate::session::shaper::Bucket;
 use crate::session::state::State;
 use crate::session::stride::Rank;
 use crate::visit::Visit;
 use clk_packet::Packet;
-use std::mem::replace;
+use std::mem::{forget, replace};
 
 /// The nodes of a tree in a pull, with the log.
 #[derive(Drop)]
 pub struct Nodes {
     /// The inputs of each node.
     pub inputs: Vec<Inputs>,
-    /// What each node holds from pull to pull. While a node is pulled, `Prio` stands in its place.
+    /// What each node holds from pull to pull. While a node has its turn whose state is taken out, `Prio` stands in its place.
     pub states: Vec<State>,
     /// Every visit so far, in order.
     pub log: Vec<Visit>,
@@ -29,42 +28,103 @@ impl Nodes {
     ghost use Rattle.std.specs.Prelude.{◌≡◌, ◌-◌, ◌<◌, ◌++◌, ◌∷◌, [], ◌+◌, ◌≤◌, length, IsSome, IfSome, Some, slice_get, true};
     ghost use Rattle.std.specs.List.{AllByRecursion, range_with_len};
     ghost use Rattle.clk_sched.specs.declared.visit.Visit.{Visit};
-    ghost use Rattle.clk_sched.specs.declared.session.state.State.TheVariants.{Shaper};
     ghost use Rattle.clk_sched.specs.Places.{edges_of, edges_at, edges_in, input_at, Answers, queue_asked};
     ghost use Rattle.clk_sched.specs.Pulling.{CanPull, Keeps, Pulls, Asks, AsksAll, added, now_of, asked_in_order, inputs_in};
     ghost use Rattle.clk_sched.specs.Log.{asking};
+    ghost use Rattle.clk_sched.specs.Holds.OfClass.{IsDrr, IsShaper, IsNoShaper, IsOther};
 
     /// Pulls a node, and answers its result.
+    // What a Shaper takes stands in it, so that a chain of them is one call each.
     #[cycle(pull)]
+    #[inline(never)]
     pub fn pull<Q: Ask>(&mut self, q: &mut Q, node: u16) -> Option<Packet>
         requires can_pull { CanPull self.old node (edges_of self.old.inputs.items node) }
         ensures keeps { Keeps self.old self.new (edges_of self.old.inputs.items node) }
         ensures answers { Answers Q.gives (queue_asked self.old.inputs.items) q.old (added self.old self.new) q.new }
         ensures pulls { Pulls self.old self.new node result }
     {
-        // A PrioSched has nothing to take out, and the bucket of a Shaper is copied.
         match self.states[node as usize] {
-            State::Prio => return pull_prio(self, q, node),
-            State::Shaper(bucket) => return self.pull_shaper(q, node, bucket),
-            _ => {}
+            State::Shaper(_) => self.pull_shaper(q, node),
+            _ => self.pull_other(q, node),
         }
+    }
+
+    /// Pulls a node that is no Shaper, and answers its result.
+    #[cycle(pull)]
+    #[inline(never)]
+    pub fn pull_other<Q: Ask>(&mut self, q: &mut Q, node: u16) -> Option<Packet>
+        requires can_pull { CanPull self.old node (edges_of self.old.inputs.items node) }
+        requires no_shaper { IfSome (slice_get self.old.states.items node) IsNoShaper }
+        ensures keeps { Keeps self.old self.new (edges_of self.old.inputs.items node) }
+        ensures answers { Answers Q.gives (queue_asked self.old.inputs.items) q.old (added self.old self.new) q.new }
+        ensures pulls { Pulls self.old self.new node result }
+    {
+        match self.states[node as usize] {
+            State::Prio => pull_prio(self, q, node),
+            State::Drr(_) => self.pull_drr(q, node),
+            _ => self.pull_taken(q, node),
+        }
+    }
+
+    /// Pulls a Shaper, which asks for a packet with a token alone.
+    #[cycle(pull)]
+    #[inline]
+    fn pull_shaper<Q: Ask>(&mut self, q: &mut Q, node: u16) -> Option<Packet>
+        requires can_pull { CanPull self.old node (edges_of self.old.inputs.items node) }
+        requires holds { IfSome (slice_get self.old.states.items node) IsShaper }
+        ensures keeps { Keeps self.old self.new (edges_of self.old.inputs.items node) }
+        ensures answers { Answers Q.gives (queue_asked self.old.inputs.items) q.old (added self.old self.new) q.new }
+        ensures pulls { Pulls self.old self.new node result }
+    {
+        let moment = self.moment;
+        let State::Shaper(bucket) = &mut self.states[node as usize] else {
+            return None;
+        };
+        if !bucket.take(moment) {
+            return None;
+        }
+        let got = self.look(q, node, 0);
+        if got.is_some() {
+            return got;
+        }
+        if let State::Shaper(bucket) = &mut self.states[node as usize] {
+            bucket.give_back();
+        }
+        None
+    }
+
+    /// Pulls a node whose state is taken out, and put back then.
+    #[cycle(pull)]
+    #[inline(never)]
+    fn pull_taken<Q: Ask>(&mut self, q: &mut Q, node: u16) -> Option<Packet>
+        requires can_pull { CanPull self.old node (edges_of self.old.inputs.items node) }
+        requires other { IfSome (slice_get self.old.states.items node) IsOther }
+        ensures keeps { Keeps self.old self.new (edges_of self.old.inputs.items node) }
+        ensures answers { Answers Q.gives (queue_asked self.old.inputs.items) q.old (added self.old self.new) q.new }
+        ensures pulls { Pulls self.old self.new node result }
+    {
         let mut state = replace(&mut self.states[node as usize], State::Prio);
         let got = state.pull(self, q, node);
         self.states[node as usize] = state;
         got
     }
 
-    /// Pulls a Shaper that holds this bucket, and keeps what it holds then.
+    /// Pulls a DRRSched, whose row is taken out, and put back then.
     #[cycle(pull)]
-    fn pull_shaper<Q: Ask>(&mut self, q: &mut Q, node: u16, mut bucket: Bucket) -> Option<Packet>
+    #[inline]
+    fn pull_drr<Q: Ask>(&mut self, q: &mut Q, node: u16) -> Option<Packet>
         requires can_pull { CanPull self.old node (edges_of self.old.inputs.items node) }
-        requires holds { slice_get self.old.states.items node ≡ Some (Shaper bucket) }
+        requires holds { IfSome (slice_get self.old.states.items node) IsDrr }
         ensures keeps { Keeps self.old self.new (edges_of self.old.inputs.items node) }
         ensures answers { Answers Q.gives (queue_asked self.old.inputs.items) q.old (added self.old self.new) q.new }
         ensures pulls { Pulls self.old self.new node result }
     {
-        let got = bucket.pull(self, q, node);
-        self.states[node as usize] = State::Shaper(bucket);
+        let State::Drr(mut deficits) = replace(&mut self.states[node as usize], State::Prio) else {
+            return None;
+        };
+        let got = deficits.pull(self, q, node);
+        // A PrioSched stands there meanwhile, which holds nothing to let go of.
+        forget(replace(&mut self.states[node as usize], State::Drr(deficits)));
         got
     }
 
@@ -120,7 +180,7 @@ impl Nodes {
     /// Asks what stands at an input of a node, and records the visit.
     #[cycle(pull)]
     #[inline]
-    fn look<Q: Ask>(&mut self, q: &mut Q, node: u16, input: u16) -> Option<Packet>
+    pub fn look<Q: Ask>(&mut self, q: &mut Q, node: u16, input: u16) -> Option<Packet>
         requires can_pull { CanPull self.old node (edges_at self.old.inputs.items node input) }
         requires within { IsSome (input_at self.old.inputs.items node input) }
         ensures keeps { Keeps self.old self.new (edges_at self.old.inputs.items node input) }

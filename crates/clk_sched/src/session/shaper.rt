@@ -3,10 +3,6 @@
 ghost use Rattle.std.specs.Prelude.{◌≤◌, ◌<◌};
 ghost use Rattle.clk_sched.specs.Limits.{most_rate, most_burst, end_of_moments};
 
-use crate::ask::Ask;
-use crate::session::nodes::Nodes;
-use clk_packet::Packet;
-
 /// The bucket of a Shaper: it fills by `rate` tokens a tick, and holds `burst` at most.
 #[derive(Clone, Copy, Debug)]
 pub struct Bucket {
@@ -23,10 +19,10 @@ pub struct Bucket {
 }
 
 impl Bucket {
-    ghost use Rattle.std.specs.Prelude.{◌≡◌, ℕ, true, List, [], ◌∷◌, is_some, length, IfSome, slice_get};
+    ghost use Rattle.std.specs.Prelude.{◌≡◌, ℕ, nat_lt, List, [], ◌∷◌, None, MatchBool};
     ghost use Rattle.clk_sched.specs.Turns.{Turn, giver};
     ghost use Rattle.clk_sched.specs.Laws.Shaper.{has_room};
-    ghost use Rattle.clk_sched.specs.Holds.Shaper.{AreBefore, HoldsBucket, tokens_at};
+    ghost use Rattle.clk_sched.specs.Holds.Shaper.{AreBefore, HoldsBucket, IsTaken, tokens_at};
 
     /// A full bucket.
     pub fn new(rate: u32, burst: u32) -> Bucket
@@ -42,58 +38,39 @@ impl Bucket {
         }
     }
 
-    /// Whether there is a token at this moment, in ticks.
-    pub fn has_token(&self, moment: u64) -> bool
+    /// Takes one of the tokens at this moment, in ticks, for a packet that is to pass, and answers whether there was one.
+    #[inline]
+    pub fn take(&mut self, moment: u64) -> bool
         requires { moment < end_of_moments }
-        ensures { (rate burst : ℕ) (turns : List Turn) → HoldsBucket rate burst turns self.now → AreBefore moment turns → result ≡ has_room rate burst moment 0 turns }
+        ensures room { (rate burst : ℕ) (turns : List Turn) → HoldsBucket rate burst turns self.old → AreBefore moment turns → result ≡ has_room rate burst moment 0 turns }
+        ensures taken { MatchBool result (IsTaken self.old self.new moment) (self.new ≡ self.old) }
     {
-        self.tokens_at(moment) > 0
-    }
-
-    /// Takes a token, for a packet that is passed at this moment.
-    pub fn take(&mut self, moment: u64)
-        requires { moment < end_of_moments }
-        ensures { (rate burst : ℕ) (turns : List Turn) (t : Turn) → HoldsBucket rate burst turns self.old → AreBefore moment turns → has_room rate burst moment 0 turns ≡ true
-            → t.moment ≡ moment → is_some (giver t.visits) ≡ true → HoldsBucket rate burst (t ∷ turns) self.new }
-    {
-        self.tokens = self.tokens_at(moment).saturating_sub(1);
+        let tokens = self.tokens_at(moment);
+        if tokens == 0 {
+            return false;
+        }
+        self.tokens = tokens - 1;
         self.filled = moment;
+        true
     }
 
-    // The tokens at this moment: what doesn't fit is lost.
+    /// Gives the token back that was taken last, since no packet came.
+    pub fn give_back(&mut self)
+        ensures { (before : Bucket) (rate burst : ℕ) (turns : List Turn) (t : Turn) → IsTaken before self.old t.moment → HoldsBucket rate burst turns before → AreBefore t.moment turns
+            → giver t.visits ≡ None → HoldsBucket rate burst (t ∷ turns) self.new }
+    {
+        self.tokens = (self.tokens + 1).min(self.burst);
+    }
+
+    /// The tokens at this moment, in ticks: what doesn't fit is lost. With one at least there is room for a packet.
+    #[inline]
     fn tokens_at(&self, moment: u64) -> u32
         requires { moment < end_of_moments }
-        ensures { result ≡ tokens_at self.now moment }
+        ensures tokens { result ≡ tokens_at self.now moment }
+        ensures room { (rate burst : ℕ) (turns : List Turn) → HoldsBucket rate burst turns self.now → AreBefore moment turns → nat_lt 0 result ≡ has_room rate burst moment 0 turns }
     {
         let fresh = u64::from(self.rate) * moment.saturating_sub(self.filled);
         let tokens = (u64::from(self.tokens) + fresh).min(u64::from(self.burst));
         tokens as u32
-    }
-
-    ghost use Rattle.clk_sched.specs.Tree.{shaper};
-    ghost use Rattle.clk_sched.specs.Places.{edges_of, Answers, queue_asked};
-    ghost use Rattle.clk_sched.specs.Pulling.{CanPull, Keeps, TakesTurn, added};
-    ghost use Rattle.clk_sched.specs.declared.session.state.State.TheVariants.{Shaper};
-
-    /// Pulls a Shaper.
-    #[cycle(pull)]
-    pub fn pull<Q: Ask>(&mut self, nodes: &mut Nodes, q: &mut Q, node: u16) -> Option<Packet>
-        requires can_pull { CanPull nodes.old node (edges_of nodes.old.inputs.items node) }
-        requires fits { IfSome (slice_get nodes.old.inputs.items node) (λ p. 1 ≤ length p.each.items) }
-        ensures keeps { Keeps nodes.old nodes.new (edges_of nodes.old.inputs.items node) }
-        ensures fits { IfSome (slice_get nodes.old.inputs.items node) (λ p. 1 ≤ length p.each.items) }
-        ensures answers { Answers Q.gives (queue_asked nodes.old.inputs.items) q.old (added nodes.old nodes.new) q.new }
-        ensures turn { (rate burst : ℕ) → TakesTurn nodes.old nodes.new node (shaper rate burst) (Shaper self.old) (Shaper self.new) result }
-    {
-        if !self.has_token(nodes.moment) {
-            return None;
-        }
-        match nodes.ask_in_turn(q, node, 0, 1) {
-            Some((_, packet)) => {
-                self.take(nodes.moment);
-                Some(packet)
-            }
-            None => None,
-        }
     }
 }

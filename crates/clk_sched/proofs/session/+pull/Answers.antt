@@ -1,16 +1,20 @@
-use Rattle.std.proofs.Common.{◌≡◌, ◌+◌, ◌-◌, ◌%◌, ◌<◌, ◌≤◌, ◌∷◌, [], true, false, ◌++◌, length, Some, None, IsSome, IfSome, is_some, slice_get, slice_index, refl, sym, ap, ap₂, ◌∙◌, subst, mod-lt, mod-eq_of_lt, arith}
+use Rattle.std.proofs.Common.{MatchBool, ◌≡◌, ◌+◌, ◌-◌, ◌%◌, ◌<◌, ◌≤◌, ◌∷◌, [], true, false, ◌++◌, length, Some, None, IsSome, IfSome, is_some, slice_get, slice_index, refl, sym, ap, ap₂, ◌∙◌, subst, mod-lt, mod-eq_of_lt, arith}
 use Rattle.std.specs.List.{range_with_len}
 use Rattle.std.specs.Vec.{with_item}
 use Rattle.std.proofs.lemmas.Option.{slice_get-get_or}
 use Rattle.std.proofs.lemmas.List.{length-map, length-append}
 use Rattle.std.proofs.lemmas.List.FromFn.{length-range_with_len, get_or-range_with_len}
 use Rattle.clk_sched.specs.declared.session.stride.Rank.{Rank}
+use Rattle.clk_sched.specs.declared.session.nodes.Nodes.{Nodes}
+use Rattle.clk_sched.specs.declared.session.inputs.Inputs.{Inputs}
 use Rattle.clk_sched.specs.Log.{asking}
 use Rattle.clk_sched.proofs.Members.{of-all, in-slice}
 use Rattle.clk_sched.specs.declared.session.inputs.Input.TheVariants.{Queue, Scheduler}
-use Rattle.clk_sched.specs.Places.{input_at, Answers, queue_asked, edges_at, at_queue}
+use Rattle.clk_sched.specs.Places.{input_at, Answers, queue_asked, edges_of, edges_at, at_queue}
 use Rattle.clk_sched.specs.Pulling.{CanPull, AsksAll, added, now_of, asked_in_order, inputs_in}
 use Rattle.clk_sched.specs.Tree.{prio, shaper}
+use Rattle.clk_sched.specs.Holds.Shaper.{AreBefore, IsTaken}
+use Rattle.clk_sched.specs.Holds.OfClass.{Fits}
 use Rattle.clk_sched.specs.Pulling.{TakesTurn}
 use Rattle.clk_sched.specs.declared.session.state.State.TheVariants.{Prio, Drr, Stride, Shaper}
 use Rattle.clk_sched.proofs.InOrder.{IsWithin, packet_of, within-range}
@@ -20,9 +24,9 @@ use Rattle.clk_sched.proofs.Ordered.{can-order, order-there, keeps-order, IsOrde
 use Rattle.clk_sched.proofs.TurnPrio.{prio-turn}
 use Rattle.clk_sched.proofs.TurnRoundRobin.{round_robin-turn, parts, parts-order, can-first, can-second, there-both, asked-both, in_second, in_order-first, index-first, index-second, past, past-length}
 use Rattle.clk_sched.proofs.TurnStride.{stride-asks, stride-fits, stride-won, stride-none, stride-turn}
-use Rattle.clk_sched.proofs.TurnShaper.{Tells, IsTakenAt, shaper-asks, shaper-taken, shaper-none, shaper-turn, shaper-without}
+use Rattle.clk_sched.proofs.TurnShaper.{can-look, there-look, keeps-look, Tells, IsLeft, left-same, shaper-passes, shaper-vain, shaper-without}
 use Rattle.clk_sched.proofs.TurnOfClass.{drr-only, stride-only, shaper-only}
-use Rattle.clk_sched.proofs.PutBack.{pulls-put, set-here, set-other, fit-set, shaper-fits}
+use Rattle.clk_sched.proofs.PutBack.{with_state, is-put, pulls-put, pulls-placed, pulls-back, pulls-else, some-same, bucket-same, set-here, set-other, fit-set, can-put, keeps-from, keeps-put, drr-fits, shaper-fits}
 use Rattle.clk_sched.proofs.Asking.{IsAsking, asks-front, apart-split, added-none, keeps-more, answers-then, asks-one, asking-first, asking-can, HasAsked, asking-given, asking-next, asking-all}
 use Rattle.clk_sched.proofs.Asked.{entry, rank_at, entry-input, input-is, edges-scheduler, queue-visited, asks-queue, asks-child}
 use Rattle.clk_sched.specs.Tree.{drr}
@@ -212,8 +216,8 @@ nodes::Nodes::look-returns-clause-asks g t c =
     (c.push_reserved.ensures.items
     ∙ ap (λ v. c.ask-got.new.self.log.items ++ v ∷ []) (c.asking.ensures ∙ ap₂ (λ n m. asking n m c.args.node c.args.input c.ask-got.result) c.ask-got.ensures.keeps.pull c.ask-got.ensures.keeps.moment)) refl c.ask-got.ensures.asks
 
-pub nodes::Nodes::pull-returns-clause-pulls : goal.nodes::Nodes::pull-returns-clause-pulls
-nodes::Nodes::pull-returns-clause-pulls g t c =
+pub nodes::Nodes::pull_taken-returns-clause-pulls : goal.nodes::Nodes::pull_taken-returns-clause-pulls
+nodes::Nodes::pull_taken-returns-clause-pulls g t c =
     let a = c.args.self.now in
     let x = c.args.node in
     let within : x < length a.states.items = subst (λ n. x < n) (sym c.requires.can_pull.fit.lengths) c.requires.can_pull.there in
@@ -227,40 +231,178 @@ nodes::Nodes::pull-returns-clause-pulls g t c =
     c.pull-got.ensures.turn
     (record { inputs = refl; log = refl; pull = refl; moment = refl; here = set-here turned.states.items x c.pull-got.new.self after_within; others = λ y d. set-other turned.states.items x y c.pull-got.new.self d })
 
-pub nodes::Nodes::pull_shaper-pull-got-requires : goal.nodes::Nodes::pull_shaper-pull-got-requires
-nodes::Nodes::pull_shaper-pull-got-requires g t c =
-    let a = c.args.self.now in
-    let fits = shaper-fits a.inputs.items a.states.items c.args.node c.args.bucket c.requires.can_pull.fit c.requires.holds in
-    let less = c.decreases in
-    λ κs le. (omega (arith, less), (search, (c.requires.can_pull, fits)))
-
-pub nodes::Nodes::pull_shaper-returns-clause-keeps : goal.nodes::Nodes::pull_shaper-returns-clause-keeps
-nodes::Nodes::pull_shaper-returns-clause-keeps g t c =
-    let table = c.args.self.now.inputs.items in
-    let turned = c.pull-got.new.nodes in
-    let k = c.pull-got.ensures.keeps in
-    record {
-      inputs = k.inputs;
-      pull = k.pull;
-      moment = k.moment;
-      fit = fit-set table turned.states.items c.args.node (Shaper c.pull-got.new.self) k.fit (λ p e. subst (λ o. IfSome o (λ q. 1 ≤ length q.each.items)) e c.pull-got.ensures.fits);
-      capacity = k.capacity;
-      grown = k.grown;
-      at_most = k.at_most;
-    }
-
-pub nodes::Nodes::pull_shaper-returns-clause-pulls : goal.nodes::Nodes::pull_shaper-returns-clause-pulls
-nodes::Nodes::pull_shaper-returns-clause-pulls g t c =
+pub nodes::Nodes::pull_drr-pull-got-requires : goal.nodes::Nodes::pull_drr-pull-got-requires
+nodes::Nodes::pull_drr-pull-got-requires g t c =
     let a = c.args.self.now in
     let x = c.args.node in
-    let before = Shaper c.args.bucket in
-    let now = Shaper c.pull-got.new.self in
+    let k = c.requires.can_pull in
+    let within : x < length a.states.items = subst (λ n. x < n) (sym k.fit.lengths) k.there in
+    let state : slice_get a.states.items x ≡ Some (Drr c.in-Drr.deficits) = entry a.states.items x c.index_mut.result.now within c.index_mut.ensures.value ∙ ap Some (sym c.replace.ensures.value ∙ c.in-Drr.is) in
+    let fit = fit-set a.inputs.items a.states.items x c.replace.new.dest k.fit (λ p e. subst (λ s. Fits s (length p.each.items)) (sym c.replace.ensures.after) tt) in
+    let can : CanPull (record { inputs = a.inputs; states = with_item a.states x c.replace.new.dest; log = a.log; pull = a.pull; moment = a.moment }) x (edges_of a.inputs.items x) = record { wired = k.wired; fit = fit; there = k.there; room = k.room; moment = k.moment } in
+    let fits = drr-fits a.inputs.items a.states.items x c.in-Drr.deficits k.fit state in
+    let less = c.decreases in
+    λ κs le. (omega (arith, less), (search, (can, fits)))
+
+pub nodes::Nodes::pull_drr-returns : goal.nodes::Nodes::pull_drr-returns
+nodes::Nodes::pull_drr-returns g t c =
+    let a = c.args.self.now in
+    let x = c.args.node in
     let turned = c.pull-got.new.nodes in
-    let within : x < length turned.states.items = subst (λ n. x < n) (sym c.pull-got.ensures.keeps.fit.lengths) c.requires.can_pull.there in
-    pulls-put a a turned (record { inputs = turned.inputs; states = with_item turned.states x now; log = turned.log; pull = turned.pull; moment = turned.moment }) x before before now c.pull-got.result
-    (record { inputs = refl; log = refl; pull = refl; moment = refl; here = c.requires.holds; others = λ y d. refl }) c.requires.holds
-    (shaper-only a turned x before c.args.bucket now c.pull-got.result refl c.pull-got.ensures.turn)
-    (record { inputs = refl; log = refl; pull = refl; moment = refl; here = set-here turned.states.items x now within; others = λ y d. set-other turned.states.items x y now d })
+    let before = Drr c.in-Drr.deficits in
+    let now = Drr c.pull-got.new.self in
+    let k = c.pull-got.ensures.keeps in
+    let within : x < length a.states.items = subst (λ n. x < n) (sym c.requires.can_pull.fit.lengths) c.requires.can_pull.there in
+    let after_within : x < length turned.states.items = subst (λ n. x < n) (sym k.fit.lengths) c.requires.can_pull.there in
+    let state : slice_get a.states.items x ≡ Some before = entry a.states.items x c.index_mut.result.now within c.index_mut.ensures.value ∙ ap Some (sym c.replace.ensures.value ∙ c.in-Drr.is) in
+    let taken : Nodes = record { inputs = a.inputs; states = with_item a.states x c.replace.new.dest; log = a.log; pull = a.pull; moment = a.moment } in
+    record {
+      keeps = record {
+        inputs = k.inputs;
+        pull = k.pull;
+        moment = k.moment;
+        fit = fit-set a.inputs.items turned.states.items x c.replace-2.new.dest k.fit
+            (λ p e. subst (λ s. Fits s (length p.each.items)) (sym c.replace-2.ensures.after) (subst (λ o. IfSome o (λ q. length c.pull-got.new.self.row.items ≡ length q.each.items)) e c.pull-got.ensures.fits));
+        capacity = k.capacity;
+        grown = k.grown;
+        at_most = k.at_most;
+      };
+      answers = c.pull-got.ensures.answers;
+      pulls = pulls-put a taken turned (record { inputs = turned.inputs; states = with_item turned.states x c.replace-2.new.dest; log = turned.log; pull = turned.pull; moment = turned.moment }) x c.replace.new.dest before now
+          c.pull-got.result
+          (record { inputs = refl; log = refl; pull = refl; moment = refl; here = set-here a.states.items x c.replace.new.dest within; others = λ y d. set-other a.states.items x y c.replace.new.dest d }) state
+          (drr-only taken turned x before c.in-Drr.deficits now c.pull-got.result refl c.pull-got.ensures.turn)
+          (record { inputs = refl; log = refl; pull = refl; moment = refl; here = set-here turned.states.items x c.replace-2.new.dest after_within ∙ ap Some c.replace-2.ensures.after; others = λ y d. set-other turned.states.items x y c.replace-2.new.dest d });
+    }
+
+pub nodes::Nodes::pull_shaper-look-got-requires : goal.nodes::Nodes::pull_shaper-look-got-requires
+nodes::Nodes::pull_shaper-look-got-requires g t c =
+    let a = c.args.self.now in
+    let x = c.args.node in
+    let s = c.in-Shaper.bucket in
+    let z = c.take.new.self in
+    let k = c.requires.can_pull in
+    let within : x < length a.states.items = subst (λ n. x < n) (sym k.fit.lengths) k.there in
+    let state : slice_get a.states.items x ≡ Some (Shaper s) = entry a.states.items x c.index_mut.result.now within c.index_mut.ensures.value ∙ ap Some c.in-Shaper.is in
+    let some = shaper-fits a.inputs.items a.states.items x s k.fit state in
+    let fits : (p : Inputs) → slice_get a.inputs.items x ≡ Some p → 1 ≤ length p.each.items = λ p e. subst (λ o. IfSome o (λ q. 1 ≤ length q.each.items)) e some in
+    let can = can-look (with_state a x (Shaper c.take.new.self)) x (can-put a x (edges_of a.inputs.items x) (Shaper z) k fits) some in
+    let there = there-look a x k some in
+    let less = c.decreases in
+    λ κs le. (omega (arith, less), (search, (can, there)))
+
+pub nodes::Nodes::pull_shaper-returns-then-not-take-clause-pulls : goal.nodes::Nodes::pull_shaper-returns-then-not-take-clause-pulls
+nodes::Nodes::pull_shaper-returns-then-not-take-clause-pulls g t c =
+    let a = c.args.self.now in
+    let x = c.args.node in
+    let s = c.in-Shaper.bucket in
+    let z = c.take.new.self in
+    let k = c.requires.can_pull in
+    let within : x < length a.states.items = subst (λ n. x < n) (sym k.fit.lengths) k.there in
+    let state : slice_get a.states.items x ≡ Some (Shaper s) = entry a.states.items x c.index_mut.result.now within c.index_mut.ensures.value ∙ ap Some c.in-Shaper.is in
+    let some = shaper-fits a.inputs.items a.states.items x s k.fit state in
+    let tells : Tells s a.moment false = subst (Tells s a.moment) c.if-not-take.true c.take.ensures.room in
+    let same : z ≡ s = subst (λ b. MatchBool b (IsTaken s z a.moment) (z ≡ s)) c.if-not-take.true c.take.ensures.taken in
+    pulls-put a a a (with_state a x (Shaper z)) x (Shaper s) (Shaper s) (Shaper z) None (record { inputs = refl; log = refl; pull = refl; moment = refl; here = state; others = λ y d. refl }) state
+    (shaper-only a a x (Shaper s) s (Shaper z) None refl (λ rate burst. subst (λ w. TakesTurn a a x (shaper rate burst) (Shaper s) (Shaper w) None) (sym same) (shaper-without a x s rate burst k.there some tells)))
+    (is-put a x (Shaper z) within)
+
+pub nodes::Nodes::pull_shaper-returns-then-is_some-clause-keeps : goal.nodes::Nodes::pull_shaper-returns-then-is_some-clause-keeps
+nodes::Nodes::pull_shaper-returns-then-is_some-clause-keeps g t c =
+    let a = c.args.self.now in
+    let x = c.args.node in
+    let s = c.in-Shaper.bucket in
+    let z = c.take.new.self in
+    let k = c.requires.can_pull in
+    let within : x < length a.states.items = subst (λ n. x < n) (sym k.fit.lengths) k.there in
+    let state : slice_get a.states.items x ≡ Some (Shaper s) = entry a.states.items x c.index_mut.result.now within c.index_mut.ensures.value ∙ ap Some c.in-Shaper.is in
+    let some = shaper-fits a.inputs.items a.states.items x s k.fit state in
+    keeps-look a c.look-got.new.self x k some (keeps-from a c.look-got.new.self x _ (Shaper z) c.look-got.ensures.keeps)
+
+pub nodes::Nodes::pull_shaper-returns-then-is_some-clause-pulls : goal.nodes::Nodes::pull_shaper-returns-then-is_some-clause-pulls
+nodes::Nodes::pull_shaper-returns-then-is_some-clause-pulls g t c =
+    let a = c.args.self.now in
+    let x = c.args.node in
+    let s = c.in-Shaper.bucket in
+    let z = c.take.new.self in
+    let k = c.requires.can_pull in
+    let within : x < length a.states.items = subst (λ n. x < n) (sym k.fit.lengths) k.there in
+    let state : slice_get a.states.items x ≡ Some (Shaper s) = entry a.states.items x c.index_mut.result.now within c.index_mut.ensures.value ∙ ap Some c.in-Shaper.is in
+    let some = shaper-fits a.inputs.items a.states.items x s k.fit state in
+    let tells : Tells s a.moment true = subst (Tells s a.moment) c.if-not-take.false c.take.ensures.room in
+    let taken : IsTaken s z a.moment = subst (λ b. MatchBool b (IsTaken s z a.moment) (z ≡ s)) c.if-not-take.false c.take.ensures.taken in
+    let b = c.look-got.new.self in
+    let put = with_state a x (Shaper z) in
+    pulls-placed a put b x (Shaper s) (Shaper z) c.look-got.result (is-put a x (Shaper z) within) state
+    (shaper-only put b x (Shaper s) s (Shaper z) c.look-got.result refl (shaper-passes put b x s z c.look-got.result (sym c.is_some.ensures ∙ c.if-is_some.true) k.there some tells c.look-got.ensures.asks taken))
+
+pub nodes::Nodes::pull_shaper-returns-in-Shaper-index_mut-clause-keeps : goal.nodes::Nodes::pull_shaper-returns-in-Shaper-index_mut-clause-keeps
+nodes::Nodes::pull_shaper-returns-in-Shaper-index_mut-clause-keeps g t c =
+    let a = c.args.self.now in
+    let x = c.args.node in
+    let s = c.in-Shaper.bucket in
+    let z = c.take.new.self in
+    let k = c.requires.can_pull in
+    let within : x < length a.states.items = subst (λ n. x < n) (sym k.fit.lengths) k.there in
+    let state : slice_get a.states.items x ≡ Some (Shaper s) = entry a.states.items x c.index_mut.result.now within c.index_mut.ensures.value ∙ ap Some c.in-Shaper.is in
+    let some = shaper-fits a.inputs.items a.states.items x s k.fit state in
+    let fits : (p : Inputs) → slice_get a.inputs.items x ≡ Some p → 1 ≤ length p.each.items = λ p e. subst (λ o. IfSome o (λ q. 1 ≤ length q.each.items)) e some in
+    keeps-put a c.look-got.new.self x _ (Shaper c.give_back.new.self) (keeps-look a c.look-got.new.self x k some (keeps-from a c.look-got.new.self x _ (Shaper z) c.look-got.ensures.keeps)) fits
+
+pub nodes::Nodes::pull_shaper-returns-in-Shaper-index_mut-clause-pulls : goal.nodes::Nodes::pull_shaper-returns-in-Shaper-index_mut-clause-pulls
+nodes::Nodes::pull_shaper-returns-in-Shaper-index_mut-clause-pulls g t c =
+    let a = c.args.self.now in
+    let x = c.args.node in
+    let s = c.in-Shaper.bucket in
+    let z = c.take.new.self in
+    let k = c.requires.can_pull in
+    let within : x < length a.states.items = subst (λ n. x < n) (sym k.fit.lengths) k.there in
+    let state : slice_get a.states.items x ≡ Some (Shaper s) = entry a.states.items x c.index_mut.result.now within c.index_mut.ensures.value ∙ ap Some c.in-Shaper.is in
+    let some = shaper-fits a.inputs.items a.states.items x s k.fit state in
+    let tells : Tells s a.moment true = subst (Tells s a.moment) c.if-not-take.false c.take.ensures.room in
+    let taken : IsTaken s z a.moment = subst (λ b. MatchBool b (IsTaken s z a.moment) (z ≡ s)) c.if-not-take.false c.take.ensures.taken in
+    let b = c.look-got.new.self in
+    let put = with_state a x (Shaper z) in
+    let asked = c.look-got.ensures in
+    let none : is_some c.look-got.result ≡ false = sym c.is_some.ensures ∙ c.if-is_some.false in
+    let after_within : x < length b.states.items = subst (λ n. x < n) (sym asked.keeps.fit.lengths) k.there in
+    let kept = c.in-Shaper-index_mut.bucket in
+    let w = c.give_back.new.self in
+    let there : slice_get b.states.items x ≡ Some (Shaper kept) = entry b.states.items x c.index_mut-2.result.now after_within c.index_mut-2.ensures.value ∙ ap Some c.in-Shaper-index_mut.is in
+    let left : slice_get b.states.items x ≡ Some (Shaper z) → IsLeft s w a.moment = λ e rate burst turns t holds before at passed.
+    c.give_back.ensures s rate burst turns t (subst (IsTaken s kept) (sym at) (subst (λ y. IsTaken s y a.moment) (bucket-same z kept (some-same (Shaper z) (Shaper kept) (sym e ∙ there))) taken)) holds
+    (subst (λ n. AreBefore n turns) (sym at) before) passed
+    in
+    pulls-back a put b (with_state b x (Shaper w)) x (Shaper z) (Shaper s) (Shaper s) (Shaper w) None (is-put a x (Shaper z) within) state
+    (shaper-only put b x (Shaper s) s (Shaper s) None refl (shaper-vain put b x s s c.look-got.result none k.there some tells asked.asks (left-same s a.moment)))
+    (λ e. shaper-only put b x (Shaper s) s (Shaper w) None refl (shaper-vain put b x s w c.look-got.result none k.there some tells asked.asks (left e))) (is-put b x (Shaper w) after_within)
+
+pub nodes::Nodes::pull_shaper-returns-in_default-index_mut : goal.nodes::Nodes::pull_shaper-returns-in_default-index_mut
+nodes::Nodes::pull_shaper-returns-in_default-index_mut g t c =
+    let a = c.args.self.now in
+    let x = c.args.node in
+    let s = c.in-Shaper.bucket in
+    let z = c.take.new.self in
+    let k = c.requires.can_pull in
+    let within : x < length a.states.items = subst (λ n. x < n) (sym k.fit.lengths) k.there in
+    let state : slice_get a.states.items x ≡ Some (Shaper s) = entry a.states.items x c.index_mut.result.now within c.index_mut.ensures.value ∙ ap Some c.in-Shaper.is in
+    let some = shaper-fits a.inputs.items a.states.items x s k.fit state in
+    let tells : Tells s a.moment true = subst (Tells s a.moment) c.if-not-take.false c.take.ensures.room in
+    let taken : IsTaken s z a.moment = subst (λ b. MatchBool b (IsTaken s z a.moment) (z ≡ s)) c.if-not-take.false c.take.ensures.taken in
+    let b = c.look-got.new.self in
+    let put = with_state a x (Shaper z) in
+    let asked = c.look-got.ensures in
+    let none : is_some c.look-got.result ≡ false = sym c.is_some.ensures ∙ c.if-is_some.false in
+    let after_within : x < length b.states.items = subst (λ n. x < n) (sym asked.keeps.fit.lengths) k.there in
+    let w = c.index_mut-2.result.now in
+    let there : slice_get b.states.items x ≡ Some w = entry b.states.items x w after_within c.index_mut-2.ensures.value in
+    record {
+      keeps = keeps-put a b x _ w (keeps-look a b x k some (keeps-from a b x _ (Shaper z) asked.keeps)) (λ p e. asked.keeps.fit.each x p w e there);
+      answers = asked.answers;
+      pulls = pulls-else a put b _ x (Shaper z) (Shaper s) (Shaper s) None (is-put a x (Shaper z) within) state
+          (shaper-only put b x (Shaper s) s (Shaper s) None refl (shaper-vain put b x s s c.look-got.result none k.there some tells asked.asks (left-same s a.moment)))
+          (λ e. c.in_default-index_mut.not-Shaper z (some-same w (Shaper z) (sym there ∙ e)));
+    }
 
 pub prio::pull_prio-ask_in_turn-requires : goal.prio::pull_prio-ask_in_turn-requires
 prio::pull_prio-ask_in_turn-requires g t c =
@@ -341,7 +483,7 @@ drr::Deficits::pull-look-got-requires g t c =
     let x = c.args.node in
     let place = entry-there a.inputs.items x c.requires.can_pull.there in
     let long = of-entry (λ p. length c.args.self.now.row.items ≡ length p.each.items) (slice_get a.inputs.items x) place.0 place.1 c.requires.fits in
-    let count : c.len-end.result ≡ length c.args.self.now.row.items = c.len-end.ensures.value in
+    let count : c.len-end.result ≡ length c.args.self.now.row.items = c.len-end.ensures ∙ c.args.self.now.row.ok.0 in
     let l : c.loop.counter < length c.args.self.now.row.items = subst (λ n. c.loop.counter < n) count c.loop-test.true in
     let can = making-can g.Q.Ask.gives a c.loop.nodes c.args.q.now c.loop.q x c.args.self.now c.loop.self c.loop.counter place.0 c.requires.can_pull place.1 long c.loop.invariant l in
     let same = ap length c.loop.invariant.made.keeps.inputs in
@@ -352,7 +494,7 @@ pub drr::Deficits::pull-loop-preserved : goal.drr::Deficits::pull-loop-preserved
 drr::Deficits::pull-loop-preserved g t c =
     let a = c.args.nodes.now in
     let x = c.args.node in
-    let count : c.len-end.result ≡ length c.args.self.now.row.items = c.len-end.ensures.value in
+    let count : c.len-end.result ≡ length c.args.self.now.row.items = c.len-end.ensures ∙ c.args.self.now.row.ok.0 in
     let l : c.loop.counter < length c.args.self.now.row.items = subst (λ n. c.loop.counter < n) count c.loop-test.true in
     let look = c.look-got.ensures in
     let looked = has-looked g.Q.Ask.gives c.loop.nodes c.look-got.new.nodes c.loop.q c.look-got.new.q x c.loop.self c.look-got.new.self c.look-got.result.0 c.look-got.result.1 look.keeps look.answers look.length look.looks in
@@ -364,7 +506,7 @@ drr::Deficits::pull-returns-then-passed g t c =
     let x = c.args.node in
     let place = entry-there a.inputs.items x c.requires.can_pull.there in
     let long = of-entry (λ p. length c.args.self.now.row.items ≡ length p.each.items) (slice_get a.inputs.items x) place.0 place.1 c.requires.fits in
-    let count : c.len-end.result ≡ length c.args.self.now.row.items = c.len-end.ensures.value in
+    let count : c.len-end.result ≡ length c.args.self.now.row.items = c.len-end.ensures ∙ c.args.self.now.row.ok.0 in
     let l : c.loop.counter < length c.args.self.now.row.items = subst (λ n. c.loop.counter < n) count c.loop-test.true in
     let look = c.look-got.ensures in
     let looked = has-looked g.Q.Ask.gives c.loop.nodes c.look-got.new.nodes c.loop.q c.look-got.new.q x c.loop.self c.look-got.new.self c.look-got.result.0 c.look-got.result.1 look.keeps look.answers look.length look.looks in
@@ -382,7 +524,7 @@ drr::Deficits::pull-returns g t c =
     let x = c.args.node in
     let place = entry-there a.inputs.items x c.requires.can_pull.there in
     let long = of-entry (λ p. length c.args.self.now.row.items ≡ length p.each.items) (slice_get a.inputs.items x) place.0 place.1 c.requires.fits in
-    let count : c.len-end.result ≡ length c.args.self.now.row.items = c.len-end.ensures.value in
+    let count : c.len-end.result ≡ length c.args.self.now.row.items = c.len-end.ensures ∙ c.args.self.now.row.ok.0 in
     let all : c.loop.counter ≡ length c.args.self.now.row.items = let f = c.loop-test.false in let m = c.loop.auto.counter-end in omega (arith, count, f, m) in
     let ended = making-all g.Q.Ask.gives a c.loop.nodes c.args.q.now c.loop.q x c.args.self.now c.loop.self c.loop.counter c.loop.invariant all in
     record {
@@ -600,67 +742,9 @@ round_robin::Beginning::pull-returns-in-None g t c =
       turn = round_robin-turn a d x n first first p None place count low tt (subst (λ r. AsksAll a d x (parts first n) (asked_in_order (now_of a) x (parts first n) (in_second one r))) c.in-None.is all.asks) refl;
     }
 
-pub shaper::Bucket::pull-returns-then-not-has_token-clause-turn : goal.shaper::Bucket::pull-returns-then-not-has_token-clause-turn
-shaper::Bucket::pull-returns-then-not-has_token-clause-turn g t c =
-    λ rate burst. shaper-without c.args.nodes.now c.args.node c.args.self.now rate burst c.requires.can_pull.there c.requires.fits (subst (Tells c.args.self.now c.args.nodes.now.moment) c.if-not-has_token.true c.has_token.ensures)
-
-pub shaper::Bucket::pull-ask_in_turn-requires : goal.shaper::Bucket::pull-ask_in_turn-requires
-shaper::Bucket::pull-ask_in_turn-requires g t c =
-    let a = c.args.nodes.now in
-    let x = c.args.node in
-    let is : IsOrderAt a.inputs.items x (0 ∷ []) = shaper-asks a.inputs.items x true c.requires.fits in
-    let can = can-ask a x (0 ∷ []) c.requires.can_pull is in
-    let there = inputs-asked a.inputs.items x (0 ∷ []) c.requires.can_pull.there is in
-    let less = c.decreases in
-    λ κs le. (omega (arith, less), (search, (can, (there, omega arith))))
-
-pub shaper::Bucket::pull-returns-in-Some-clause-keeps : goal.shaper::Bucket::pull-returns-in-Some-clause-keeps
-shaper::Bucket::pull-returns-in-Some-clause-keeps g t c =
-    let a = c.args.nodes.now in
-    let x = c.args.node in
-    let is : IsOrderAt a.inputs.items x (0 ∷ []) = shaper-asks a.inputs.items x true c.requires.fits in
-    keeps-asked a c.ask_in_turn.new.self x (0 ∷ []) c.requires.can_pull is c.ask_in_turn.ensures.keeps
-
-pub shaper::Bucket::pull-returns-in-Some-clause-turn : goal.shaper::Bucket::pull-returns-in-Some-clause-turn
-shaper::Bucket::pull-returns-in-Some-clause-turn g t c =
-    let a = c.args.nodes.now in
-    let x = c.args.node in
-    let s = c.args.self.now in
-    let r = c.ask_in_turn.result in
-    let tells : Tells s a.moment true = subst (Tells s a.moment) c.if-not-has_token.false c.has_token.ensures in
-    let taken : IsTakenAt s c.take.new.self a.moment = subst (IsTakenAt s c.take.new.self) c.ask_in_turn.ensures.keeps.moment c.take.ensures in
-    λ rate burst.
-    subst (TakesTurn a c.ask_in_turn.new.self x (shaper rate burst) (Shaper s) (Shaper c.take.new.self)) (ap packet_of c.in-Some.is ∙ ap Some (sym c.in-Some.packet-is))
-    (shaper-turn a c.ask_in_turn.new.self x s c.take.new.self true r rate burst c.requires.can_pull.there c.requires.fits tells c.ask_in_turn.ensures.place c.ask_in_turn.ensures.asks
-    (shaper-taken a x r s c.take.new.self (ap is_some c.in-Some.is) c.ask_in_turn.ensures.place tells taken))
-
-pub shaper::Bucket::pull-returns-in-None-clause-keeps : goal.shaper::Bucket::pull-returns-in-None-clause-keeps
-shaper::Bucket::pull-returns-in-None-clause-keeps g t c =
-    let a = c.args.nodes.now in
-    let x = c.args.node in
-    let is : IsOrderAt a.inputs.items x (0 ∷ []) = shaper-asks a.inputs.items x true c.requires.fits in
-    keeps-asked a c.ask_in_turn.new.self x (0 ∷ []) c.requires.can_pull is c.ask_in_turn.ensures.keeps
-
-pub shaper::Bucket::pull-returns-in-None-clause-turn : goal.shaper::Bucket::pull-returns-in-None-clause-turn
-shaper::Bucket::pull-returns-in-None-clause-turn g t c =
-    let a = c.args.nodes.now in
-    let x = c.args.node in
-    let s = c.args.self.now in
-    λ rate burst.
-    shaper-turn a c.ask_in_turn.new.self x s s true None rate burst c.requires.can_pull.there c.requires.fits (subst (Tells s a.moment) c.if-not-has_token.false c.has_token.ensures) tt
-    (subst (λ r. AsksAll a c.ask_in_turn.new.self x (0 ∷ []) (asked_in_order (now_of a) x (0 ∷ []) r)) c.in-None.is c.ask_in_turn.ensures.asks) (shaper-none a x true s)
-
-pub state::State::pull-returns-in-Drr-clause-turn : goal.state::State::pull-returns-in-Drr-clause-turn
-state::State::pull-returns-in-Drr-clause-turn g t c =
-    drr-only c.args.nodes.now c.pull-in-Drr.new.nodes c.args.node c.args.self.now c.in-Drr.deficits (Drr c.pull-in-Drr.new.self) c.pull-in-Drr.result c.in-Drr.is c.pull-in-Drr.ensures.turn
-
 pub state::State::pull-returns-in-Stride-clause-turn : goal.state::State::pull-returns-in-Stride-clause-turn
 state::State::pull-returns-in-Stride-clause-turn g t c =
     stride-only c.args.nodes.now c.pull-in-Stride.new.nodes c.args.node c.args.self.now c.in-Stride.passes (Stride c.pull-in-Stride.new.self) c.pull-in-Stride.result c.in-Stride.is c.pull-in-Stride.ensures.turn
-
-pub state::State::pull-returns-in-Shaper-clause-turn : goal.state::State::pull-returns-in-Shaper-clause-turn
-state::State::pull-returns-in-Shaper-clause-turn g t c =
-    shaper-only c.args.nodes.now c.pull-in-Shaper.new.nodes c.args.node c.args.self.now c.in-Shaper.bucket (Shaper c.pull-in-Shaper.new.self) c.pull-in-Shaper.result c.in-Shaper.is c.pull-in-Shaper.ensures.turn
 
 pub stride::Passes::pull-ask_in_order-requires : goal.stride::Passes::pull-ask_in_order-requires
 stride::Passes::pull-ask_in_order-requires g t c =

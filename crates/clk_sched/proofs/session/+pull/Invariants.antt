@@ -7,7 +7,7 @@ use Rattle.clk_sched.proofs.session.+pull.Given as goal
 
 -- a node is pulled before those below it, and each step of its pull before the next
 abbrev rank : ℕ → ℕ → ℕ → ℕ
-rank size x step = 8 * (size - x) + step
+rank size x step = 9 * (size - x) + step
 
 abbrev pub decreases-nodes::Nodes::ask : goal.decreases-nodes::Nodes::ask
 decreases-nodes::Nodes::ask g l = rank (length l.self.now.inputs.items) l.node 0
@@ -33,9 +33,6 @@ decreases-drr::Deficits::pull g l = rank (length l.nodes.now.inputs.items) l.nod
 abbrev pub decreases-stride::Passes::pull : goal.decreases-stride::Passes::pull
 decreases-stride::Passes::pull g l = rank (length l.nodes.now.inputs.items) l.node 4
 
-abbrev pub decreases-shaper::Bucket::pull : goal.decreases-shaper::Bucket::pull
-decreases-shaper::Bucket::pull g l = rank (length l.nodes.now.inputs.items) l.node 4
-
 abbrev pub decreases-drr::Deficits::look : goal.decreases-drr::Deficits::look
 decreases-drr::Deficits::look g l = rank (length l.nodes.now.inputs.items) l.node 3
 
@@ -43,10 +40,19 @@ abbrev pub decreases-state::State::pull : goal.decreases-state::State::pull
 decreases-state::State::pull g l = rank (length l.nodes.now.inputs.items) l.node 5
 
 abbrev pub decreases-nodes::Nodes::pull_shaper : goal.decreases-nodes::Nodes::pull_shaper
-decreases-nodes::Nodes::pull_shaper g l = rank (length l.self.now.inputs.items) l.node 5
+decreases-nodes::Nodes::pull_shaper g l = rank (length l.self.now.inputs.items) l.node 6
+
+abbrev pub decreases-nodes::Nodes::pull_drr : goal.decreases-nodes::Nodes::pull_drr
+decreases-nodes::Nodes::pull_drr g l = rank (length l.self.now.inputs.items) l.node 6
+
+abbrev pub decreases-nodes::Nodes::pull_taken : goal.decreases-nodes::Nodes::pull_taken
+decreases-nodes::Nodes::pull_taken g l = rank (length l.self.now.inputs.items) l.node 6
 
 abbrev pub decreases-nodes::Nodes::pull : goal.decreases-nodes::Nodes::pull
-decreases-nodes::Nodes::pull g l = rank (length l.self.now.inputs.items) l.node 6
+decreases-nodes::Nodes::pull g l = rank (length l.self.now.inputs.items) l.node 8
+
+abbrev pub decreases-nodes::Nodes::pull_other : goal.decreases-nodes::Nodes::pull_other
+decreases-nodes::Nodes::pull_other g l = rank (length l.self.now.inputs.items) l.node 7
 
 abbrev pub invariant-nodes::Nodes::ask_in_order-loop-place : goal.invariant-nodes::Nodes::ask_in_order-loop-place
 invariant-nodes::Nodes::ask_in_order-loop-place g l = IsAsking g.Q.Ask.gives l.initial.self l.self l.initial.q l.q l.node (take l.place (inputs_in l.fn.order))
