@@ -1,0 +1,5 @@
+use Rattle.clk_ruled.proofs.Steps.{opens}
+use Rattle.clk_ruled.proofs.open.set_up.Goals as goal
+
+pub another-spare-requires-clause-rule : goal.another-spare-requires-clause-rule
+another-spare-requires-clause-rule g c = opens _ _ _ c.requires.blank

@@ -1,0 +1,26 @@
+-- The account of a shared queue: where each packet is that the queue took.
+use Rattle.std.specs.Prelude.{◌≡◌, ℕ, ◌≤◌, true, List, [], ◌++◌, length}
+use Rattle.std.specs.List.{flat_map}
+use Rattle.clk_packet.specs.declared.packet.Packet.{Packet}
+use Rattle.clk_packet.specs.declared.packet.Kind.{Kind}
+use Rattle.clk_packet.specs.declared.packet.Kind.TheVariants.{TailDrop}
+use Rattle.clk_ruled.specs.Lists.{of_sender, IsRising, IsIn, without, IsOnceEach, has_sender}
+
+-- A queue of this kind and capacity, shared by these senders, took the packets `accepted s` from each sender s, put out the
+-- packets `evicted s` for it, gave the packets `taken` to the puller and holds the packets `held`, from the front.
+pub record IsAccount (kind : Kind) (capacity : ℕ) (senders : List ℕ) (accepted evicted : ℕ → List Packet) (taken held : List Packet) : Type 0 where
+  -- what was taken from a sender and not put out was given to the puller, and then it is held
+  pub balances : (s : ℕ) → without (accepted s) (flat_map evicted senders) ≡ of_sender s taken ++ of_sender s held
+  -- what is held of a sender is what was taken from it last
+  pub is_last : (s : ℕ) → (before : List Packet) × (accepted s ≡ before ++ of_sender s held)
+  -- the numbers that were taken from a sender rise
+  pub rises : (s : ℕ) → IsRising (accepted s)
+  -- each packet that was put out had been taken from its sender, and it was put out once
+  pub was_taken : (p : Packet) → IsIn p (flat_map evicted senders) → IsIn p (accepted p.sender)
+  pub once : IsOnceEach (flat_map evicted senders)
+  -- what was given and what is held is of these senders, and no more is held than fits
+  pub gives_known : (p : Packet) → IsIn p taken → has_sender senders p.sender ≡ true
+  pub holds_known : (p : Packet) → IsIn p held → has_sender senders p.sender ≡ true
+  pub fits : length held ≤ capacity
+  -- a Queue puts nothing out
+  pub tail_drop : kind ≡ TailDrop → (s : ℕ) → evicted s ≡ []

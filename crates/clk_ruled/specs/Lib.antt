@@ -1,0 +1,6 @@
+-- What the contracts say of shared queues.
+pub mod Lists
+pub mod Account
+pub mod Rule
+pub mod Queue
+pub mod Parts

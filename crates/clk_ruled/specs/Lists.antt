@@ -1,0 +1,55 @@
+-- Lists of packets and of senders.
+use Rattle.std.specs.Prelude.{◌≡◌, ℕ, ◌+◌, ◌<◌, ◌⊎◌, ◌==◌, ◌&&◌, Bool, true, false, List, [], ◌∷◌, filter, not, ⊤, if◌then◌else◌}
+use Rattle.std.specs.List.{list_any}
+use Rattle.clk_packet.specs.declared.packet.Packet.{Packet}
+
+-- the packets of one sender, in order
+abbrev pub of_sender : ℕ → List Packet → List Packet
+of_sender s packets = filter (λ (p : Packet). p.sender == s) packets
+
+-- each packet of the list has a greater number than this
+abbrev pub AreAbove : ℕ → List Packet → Type 0
+AreAbove n [] = ⊤
+AreAbove n (p ∷ packets) = (n < p.number) × AreAbove n packets
+
+-- the numbers rise
+abbrev pub IsRising : List Packet → Type 0
+IsRising [] = ⊤
+IsRising (p ∷ packets) = AreAbove p.number packets × IsRising packets
+
+-- the packet stands in the list
+abbrev pub IsIn : Packet → List Packet → Type 0
+IsIn p [] = ⊥
+IsIn p (q ∷ packets) = (p ≡ q) ⊎ IsIn p packets
+
+-- One packet: the same sender, and the same number.
+abbrev pub is_packet : Packet → Packet → Bool
+is_packet p q = (p.sender == q.sender) && (p.number == q.number)
+
+-- whether the packet stands in the list
+abbrev pub has_packet : List Packet → Packet → Bool
+has_packet packets p = list_any (is_packet p) packets
+
+-- the packets of the first list that don't stand in the second
+abbrev pub without : List Packet → List Packet → List Packet
+without packets away = filter (λ p. not (has_packet away p)) packets
+
+-- no packet stands twice in the list
+abbrev pub IsOnceEach : List Packet → Type 0
+IsOnceEach [] = ⊤
+IsOnceEach (p ∷ packets) = (has_packet packets p ≡ false) × IsOnceEach packets
+
+-- whether the sender is named in the list
+abbrev pub has_sender : List ℕ → ℕ → Bool
+has_sender [] s = false
+has_sender (t ∷ senders) s = if t == s then true else has_sender senders s
+
+-- how many packets the sender may offer: none, where it isn't a sender of the queue
+abbrev pub room_of : List (ℕ × ℕ) → ℕ → ℕ
+room_of [] s = 0
+room_of (r ∷ rooms) s = if r.0 == s then r.1 else room_of rooms s
+
+-- how many packets may be offered in all
+abbrev pub rooms_in_all : List (ℕ × ℕ) → ℕ
+rooms_in_all [] = 0
+rooms_in_all (r ∷ rooms) = r.1 + rooms_in_all rooms

@@ -1,0 +1,48 @@
+-- What a seat and the tap keep: their lists are those of their view, and there is room for all that may come.
+use Rattle.std.specs.Prelude.{◌≡◌, ℕ, ◌≤◌, true, false, List, [], ◌∷◌, ◌++◌, length, map, ⊤}
+use Rattle.clk_packet.specs.declared.packet.Packet.{Packet}
+use Rattle.clk_packet.specs.declared.packet.Kind.TheVariants.{TailDrop, FrontDrop}
+use Rattle.clk_ruled.specs.declared.view.View.{View}
+use Rattle.clk_ruled.specs.Lists.{room_of, has_sender}
+use Rattle.clk_ruled.specs.Queue.{SeatLists, IsShared, SendersRise, empty_seat}
+use Rattle.clk_ruled.specs.Rule.{KnowsAfter, tap_view}
+use Rattle.atomic_table.specs.Seated.{TableId}
+use Rattle.clk_ruled.specs.declared.view.Setup.{Setup}
+
+pub record SeatFits (v : View) (sender room next : ℕ) (accepted refused evicted : List Packet) : Type 0 where
+  pub sits : v.sits ≡ true
+  pub own : v.sender ≡ sender
+  pub accepted_is : v.accepted ≡ accepted
+  pub evicted_is : v.evicted ≡ evicted
+  pub room_is : room_of v.setup.rooms sender ≡ room
+  pub some : 1 ≤ v.setup.capacity
+  pub within : next ≤ room
+  pub shares : IsShared sender next accepted refused
+  pub fewer : length evicted ≤ length accepted
+  pub tail_drop : v.setup.kind ≡ TailDrop → evicted ≡ []
+  pub front_drop : v.setup.kind ≡ FrontDrop → refused ≡ []
+
+-- what was taken is what the view says, and the books know of it
+pub record TapKeeps (v : View) (taken : List Packet) : Type 0 where
+  pub taps : v.taps ≡ true
+  pub taken_is : v.taken ≡ taken
+  pub some : 1 ≤ v.setup.capacity
+  pub knows : KnowsAfter v
+
+-- none of these senders has had a seat, and each may offer so many packets as is said
+abbrev pub AreFree : List ℕ → List (ℕ × ℕ) → Type 0
+AreFree given [] = ⊤
+AreFree given (r ∷ rest) = (has_sender given r.0 ≡ false) × AreFree given rest
+
+abbrev pub AreRoomed : List (ℕ × ℕ) → List (ℕ × ℕ) → Type 0
+AreRoomed rooms [] = ⊤
+AreRoomed rooms (r ∷ rest) = (room_of rooms r.0 ≡ r.1) × AreRoomed rooms rest
+
+-- A queue is being opened: all senders but the rest have their seats.
+pub record IsSeated (setup : Setup) (id : TableId) (v : View) (seats : List SeatLists) (rest : List (ℕ × ℕ)) : Type 0 where
+  pub view_is : v ≡ tap_view setup [] v.given []
+  pub some : 1 ≤ setup.capacity
+  pub free : AreFree v.given rest
+  pub roomed : AreRoomed setup.rooms rest
+  pub rises : SendersRise rest
+  pub seats_are : seats ++ map (empty_seat id setup) rest ≡ map (empty_seat id setup) setup.rooms

@@ -1,0 +1,122 @@
+-- A shared queue, its seats and its tap, as their callers see them.
+use Rattle.std.specs.Prelude.{◌≡◌, ℕ, ◌+◌, ◌<◌, Bool, List, [], ◌∷◌, ◌++◌, length, min, max, map, ⊤, suc, ◌⊎◌, Option, Some, None}
+use Rattle.atomic_table.specs.Seated.{TableId}
+use Rattle.clk_packet.specs.declared.packet.Packet.{Packet}
+use Rattle.clk_packet.specs.declared.packet.Kind.{Kind}
+use Rattle.clk_packet.specs.declared.packet.Kind.TheVariants.{TailDrop, FrontDrop}
+use Rattle.clk_packet.specs.declared.packet.Offered.{Offered}
+use Rattle.clk_packet.specs.declared.packet.Offered.TheVariants.{Accepted, Refused, Evicted}
+use Rattle.clk_ruled.specs.declared.view.Setup.{Setup}
+use Rattle.clk_ruled.specs.declared.view.Gathered.{Gathered}
+use Rattle.clk_ruled.specs.Lists.{rooms_in_all}
+
+-- which queue it is, its kind, how many packets it may hold, and how many places it has for them
+pub record Queue : Type 0 where
+  pub id : TableId
+  pub kind : Kind
+  pub capacity : ℕ
+  pub places : ℕ
+
+-- No more places are kept than packets can be offered.
+abbrev pub places_of : Setup → ℕ
+places_of setup = max 1 (min setup.capacity (rooms_in_all setup.rooms))
+
+abbrev pub queue_of : TableId → Setup → Queue
+queue_of id setup = record { id = id; kind = setup.kind; capacity = setup.capacity; places = places_of setup }
+
+-- A seat: the queue that it was opened with, its sender, how many packets it offered, and what became of them.
+pub record SeatLists : Type 0 where
+  pub id : TableId
+  pub setup : Setup
+  pub sender : ℕ
+  pub room : ℕ
+  pub next : ℕ
+  pub accepted : List Packet
+  pub refused : List Packet
+  pub evicted : List Packet
+
+-- The tap: the queue that it was opened with, what it pulled, and the lists of the seats that it gathered, the latest first.
+pub record TapLists : Type 0 where
+  pub id : TableId
+  pub setup : Setup
+  pub taken : List Packet
+  pub gathered : List Gathered
+
+-- the packets are this sender's, and have these numbers, one after another, from this one on
+abbrev pub AreNumbered : ℕ → ℕ → List Packet → Type 0
+AreNumbered s n [] = ⊤
+AreNumbered s n (p ∷ offered) = (p.sender ≡ s) × (p.number ≡ n) × AreNumbered s (suc n) offered
+
+-- Each of the packets stands in one of the two lists, in their order.
+abbrev pub IsDealt : List Packet → List Packet → List Packet → Type 0
+IsDealt [] accepted refused = (accepted ≡ []) × (refused ≡ [])
+IsDealt (p ∷ offered) accepted refused =
+    ((rest : List Packet) × (accepted ≡ p ∷ rest) × IsDealt offered rest refused) ⊎ ((rest : List Packet) × (refused ≡ p ∷ rest) × IsDealt offered accepted rest)
+
+-- Every packet that was offered, from number 0 on, is in one of accepted and refused, both in rising number.
+pub record IsShared (sender next : ℕ) (accepted refused : List Packet) : Type 0 where
+  pub offered : List Packet
+  pub count : length offered ≡ next
+  pub numbers : AreNumbered sender 0 offered
+  pub dealt : IsDealt offered accepted refused
+
+-- the seat is one of this queue's
+abbrev pub IsSeatOf : Queue → SeatLists → Type 0
+IsSeatOf queue seat = queue ≡ queue_of seat.id seat.setup
+
+abbrev pub IsTapOf : Queue → TapLists → Type 0
+IsTapOf queue tap = queue ≡ queue_of tap.id tap.setup
+
+-- the seat once a packet of its sender was taken, refused, or taken while another was put out
+abbrev pub accepting : SeatLists → Packet → SeatLists
+accepting s p = record { id = s.id; setup = s.setup; sender = s.sender; room = s.room; next = s.next + 1; accepted = s.accepted ++ p ∷ []; refused = s.refused; evicted = s.evicted }
+
+abbrev pub refusing : SeatLists → Packet → SeatLists
+refusing s p = record { id = s.id; setup = s.setup; sender = s.sender; room = s.room; next = s.next + 1; accepted = s.accepted; refused = s.refused ++ p ∷ []; evicted = s.evicted }
+
+abbrev pub evicting : SeatLists → Packet → Packet → SeatLists
+evicting s p front = record { id = s.id; setup = s.setup; sender = s.sender; room = s.room; next = s.next + 1; accepted = s.accepted ++ p ∷ []; refused = s.refused; evicted = s.evicted ++ front ∷ [] }
+
+-- What an offer leaves: one packet more was offered. Only a Queue refuses, and only a FrontDropQueue puts a packet out.
+abbrev pub IsOffered : SeatLists → Packet → Offered → SeatLists → Type 0
+IsOffered old p Accepted new = new ≡ accepting old p
+IsOffered old p (Refused q) new = (old.setup.kind ≡ TailDrop) × (q ≡ p) × (new ≡ refusing old p)
+IsOffered old p (Evicted front) new = (old.setup.kind ≡ FrontDrop) × (new ≡ evicting old p front)
+
+-- the tap once it pulled a packet
+abbrev pub taking : TapLists → Packet → TapLists
+taking t p = record { id = t.id; setup = t.setup; taken = t.taken ++ p ∷ []; gathered = t.gathered }
+
+-- What a pull leaves: its packet at the end of what was taken, or all as it was.
+abbrev pub IsPulled : TapLists → Option Packet → TapLists → Type 0
+IsPulled old None new = new ≡ old
+IsPulled old (Some p) new = new ≡ taking old p
+
+-- the seat of a sender before its first offer, and the tap before its first pull
+abbrev pub empty_seat : TableId → Setup → ℕ × ℕ → SeatLists
+empty_seat id setup r = record { id = id; setup = setup; sender = r.0; room = r.1; next = 0; accepted = []; refused = []; evicted = [] }
+
+abbrev pub empty_tap : TableId → Setup → TapLists
+empty_tap id setup = record { id = id; setup = setup; taken = []; gathered = [] }
+
+-- A queue was opened so: one seat for each sender, in order, and a tap, none of which has done anything.
+abbrev pub IsOpened : Setup → Queue → List SeatLists → TapLists → Type 0
+IsOpened setup queue seats tap = (queue ≡ queue_of queue.id setup) × (seats ≡ map (empty_seat queue.id setup) setup.rooms) × (tap ≡ empty_tap queue.id setup)
+
+-- the setup that this is opened with
+abbrev pub setup_of : Kind → ℕ → List (ℕ × ℕ) → Setup
+setup_of kind capacity rooms = record { kind = kind; capacity = capacity; rooms = rooms }
+
+-- the senders rise
+abbrev pub SendersAbove : ℕ → List (ℕ × ℕ) → Type 0
+SendersAbove s [] = ⊤
+SendersAbove s (r ∷ rooms) = (s < r.0) × SendersAbove s rooms
+
+abbrev pub SendersRise : List (ℕ × ℕ) → Type 0
+SendersRise [] = ⊤
+SendersRise (r ∷ rooms) = SendersAbove r.0 rooms × SendersRise rooms
+
+-- a closed seat: its lists, and whether the tap gathered them
+pub record ClosedLists : Type 0 where
+  pub lists : SeatLists
+  pub is_gathered : Bool

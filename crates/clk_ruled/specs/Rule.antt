@@ -1,0 +1,124 @@
+-- The rule of a shared queue: what holds between any two steps of those who use it.
+use Rattle.std.specs.Prelude.{◌≡◌, ℕ, ◌≤◌, ◌==◌, true, false, List, [], ◌∷◌, ◌++◌, length, map, ⊤, if◌then◌else◌}
+use mathlib.Core.Option.{Option, some, none}
+use lib.ListN.{get_elem?}
+use Rattle.clk_packet.specs.declared.packet.Packet.{Packet}
+use Rattle.clk_packet.specs.declared.packet.Kind.TheVariants.{TailDrop}
+use Rattle.clk_ruled.specs.declared.view.Setup.{Setup}
+use Rattle.clk_ruled.specs.declared.view.Gathered.{Gathered}
+use Rattle.clk_ruled.specs.declared.view.View.{View}
+use Rattle.clk_ruled.specs.Lists.{of_sender, IsRising, has_sender, room_of}
+
+-- A packet went out at the front: to the puller, or because a packet of this sender's seat was forced in.
+pub data Out : Type 0 where
+  to_puller : Packet → Out
+  put_out : ℕ → Packet → Out
+
+-- the packets that went out
+abbrev pub went_out : List Out → List Packet
+went_out [] = []
+went_out (to_puller p ∷ gone) = p ∷ went_out gone
+went_out (put_out e p ∷ gone) = p ∷ went_out gone
+
+-- those that the puller got
+abbrev pub taken_in : List Out → List Packet
+taken_in [] = []
+taken_in (to_puller p ∷ gone) = p ∷ taken_in gone
+taken_in (put_out e p ∷ gone) = taken_in gone
+
+-- those that were put out for one seat
+abbrev pub evicted_by : ℕ → List Out → List Packet
+evicted_by s [] = []
+evicted_by s (to_puller p ∷ gone) = evicted_by s gone
+evicted_by s (put_out e p ∷ gone) = if e == s then p ∷ evicted_by s gone else evicted_by s gone
+
+-- What happened to a queue: what it was opened with, the packets that it took and those that went out, in order, and which
+-- pass sits for each sender and which one is the tap's.
+pub record Books : Type 0 where
+  pub setup : Setup
+  pub all : List Packet
+  pub gone : List Out
+  pub seat : ℕ → Option ℕ
+  pub tap : ℕ
+
+abbrev pub senders_of : Setup → List ℕ
+senders_of setup = map (λ (r : ℕ × ℕ). r.0) setup.rooms
+
+-- The books are in order, where these packets are held.
+pub record IsSound (b : Books) (held : List Packet) : Type 0 where
+  pub order : b.all ≡ went_out b.gone ++ held
+  pub fits : length held ≤ b.setup.capacity
+  pub room : (s : ℕ) → length (of_sender s b.all) ≤ room_of b.setup.rooms s
+  pub rises : (s : ℕ) → IsRising (of_sender s b.all)
+  pub known : (s : ℕ) → has_sender (senders_of b.setup) s ≡ false → evicted_by s b.gone ≡ []
+  pub tail_drop : b.setup.kind ≡ TailDrop → (s : ℕ) → evicted_by s b.gone ≡ []
+
+-- the sender has had no seat
+pub record IsNew (b : Books) (s : ℕ) : Type 0 where
+  pub seat : b.seat s ≡ none
+  pub accepted : of_sender s b.all ≡ []
+  pub evicted : evicted_by s b.gone ≡ []
+
+-- the seat was gathered with these lists
+pub record IsGathered (b : Books) (given : List ℕ) (g : Gathered) : Type 0 where
+  pub had : has_sender given g.sender ≡ true
+  pub seat : b.seat g.sender ≡ none
+  pub accepted : g.accepted ≡ of_sender g.sender b.all
+  pub evicted : g.evicted ≡ evicted_by g.sender b.gone
+
+abbrev pub gathered_senders : List Gathered → List ℕ
+gathered_senders gathered = map (λ (g : Gathered). g.sender) gathered
+
+-- each seat of the list was gathered with these lists, and once
+abbrev pub AreGathered : Books → List ℕ → List Gathered → Type 0
+AreGathered b given [] = ⊤
+AreGathered b given (g ∷ gathered) = IsGathered b given g × (has_sender (gathered_senders gathered) g.sender ≡ false) × AreGathered b given gathered
+
+-- A seat's view is what the books say of its sender.
+pub record FitsSeat (b : Books) (pass : ℕ) (v : View) : Type 0 where
+  pub seat : b.seat v.sender ≡ some pass
+  pub setup : v.setup ≡ b.setup
+  pub accepted : v.accepted ≡ of_sender v.sender b.all
+  pub evicted : v.evicted ≡ evicted_by v.sender b.gone
+
+-- The tap's view is what the books say of the puller, of the senders that have had no seat, and of the seats that it gathered.
+pub record FitsTap (b : Books) (pass : ℕ) (v : View) : Type 0 where
+  pub tap : pass ≡ b.tap
+  pub setup : v.setup ≡ b.setup
+  pub taken : v.taken ≡ taken_in b.gone
+  pub fresh : (s : ℕ) → has_sender v.given s ≡ false → IsNew b s
+  pub gathered : AreGathered b v.given v.gathered
+
+abbrev pub Fits : Books → ℕ → View → Type 0
+Fits b pass v = (v.sits ≡ true → FitsSeat b pass v) × (v.taps ≡ true → FitsTap b pass v)
+
+-- What holds between any two steps: there are books in order, and each view is what they say.
+abbrev pub Keeps : List Packet → List View → Type 0
+Keeps held views = (b : Books) × IsSound b held × ((pass : ℕ) (v : View) → get_elem? views pass ≡ some v → Fits b pass v)
+
+-- what one of those who use the queue knows of the packets that it holds at a moment
+abbrev pub Knows : View → List Packet → Type 0
+Knows v held = (b : Books) × (pass : ℕ) × IsSound b held × Fits b pass v
+
+-- the views that there are
+abbrev pub no_setup : Setup
+no_setup = record { kind = TailDrop; capacity = 0; rooms = [] }
+
+abbrev pub spent_view : View
+spent_view = record { sits = false; taps = false; setup = no_setup; sender = 0; accepted = []; evicted = []; taken = []; given = []; gathered = [] }
+
+abbrev pub blank_view : View
+blank_view = record { sits = false; taps = true; setup = no_setup; sender = 0; accepted = []; evicted = []; taken = []; given = []; gathered = [] }
+
+abbrev pub seat_view : Setup → ℕ → List Packet → List Packet → View
+seat_view setup s accepted evicted = record { sits = true; taps = false; setup = setup; sender = s; accepted = accepted; evicted = evicted; taken = []; given = []; gathered = [] }
+
+abbrev pub tap_view : Setup → List Packet → List ℕ → List Gathered → View
+tap_view setup taken given gathered = record { sits = false; taps = true; setup = setup; sender = 0; accepted = []; evicted = []; taken = taken; given = given; gathered = gathered }
+
+abbrev pub gathered_seat : ℕ → List Packet → List Packet → Gathered
+gathered_seat s accepted evicted = record { sender = s; accepted = accepted; evicted = evicted }
+
+-- at one moment, at which this is its view, it knows so much
+abbrev pub KnowsAfter : View → Type 0
+KnowsAfter v = (held : List Packet) × Knows v held

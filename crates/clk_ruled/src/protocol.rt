@@ -1,0 +1,123 @@
+//! The rule of a shared queue, and the kinds of step that keep it.
+
+use crate::view::View;
+use clk_packet::Packet;
+use crossbeam_queue::protocol::{Join, Lesson, Outcome, Protocol, Split};
+use std::marker::{Brand, PhantomData};
+
+/// The account of a shared queue is kept.
+pub struct Account;
+
+impl Protocol<Packet, View> for Account {
+    ghost use Rattle.clk_ruled.specs.Rule.{Keeps, blank_view};
+
+    ghost holds = { Keeps };
+
+    ghost first = { blank_view };
+}
+
+// What a queue is opened with. A call at `Brand` picks it.
+pub trait Opening {
+    ghost use Rattle.clk_ruled.specs.declared.view.Setup.{Setup};
+
+    ghost setup: { Setup };
+}
+
+impl Opening for Brand {
+    ghost use Rattle.clk_ruled.specs.Rule.{no_setup};
+
+    ghost setup = { no_setup };
+}
+
+// The sender that a seat is given. A call at `Brand` picks it.
+pub trait Sending {
+    ghost use Rattle.std.specs.Prelude.{ℕ};
+
+    ghost sender: { ℕ };
+}
+
+impl Sending for Brand {
+    ghost sender = { 0 };
+}
+
+/// The queue is open: the tap's view tells what with.
+pub struct Open<O> {
+    opening: PhantomData<O>,
+}
+
+impl<O: Opening> Split<View> for Open<O> {
+    ghost use Rattle.std.specs.Prelude.{[]};
+    ghost use Rattle.clk_ruled.specs.Rule.{tap_view, spent_view};
+
+    ghost left = { λ v. tap_view O.setup [] [] [] };
+
+    ghost right = { λ v. spent_view };
+}
+
+/// A sender is given its seat.
+pub struct Seated<S> {
+    sending: PhantomData<S>,
+}
+
+impl<S: Sending> Split<View> for Seated<S> {
+    ghost use Rattle.std.specs.Prelude.{[], ◌∷◌};
+    ghost use Rattle.clk_ruled.specs.Rule.{tap_view, seat_view};
+
+    ghost left = { λ v. tap_view v.setup v.taken (S.sender ∷ v.given) v.gathered };
+
+    ghost right = { λ v. seat_view v.setup S.sender [] [] };
+}
+
+/// The queue takes a packet from a seat.
+pub struct Accept;
+
+impl Outcome<Packet, View> for Accept {
+    ghost use Rattle.std.specs.Prelude.{◌≡◌, [], ◌∷◌, ◌++◌};
+    ghost use Rattle.clk_ruled.specs.Rule.{seat_view};
+
+    ghost then = { λ v p w. w ≡ seat_view v.setup v.sender (v.accepted ++ p ∷ []) v.evicted };
+}
+
+impl Lesson<Packet, View> for Accept {
+    ghost use Rattle.clk_ruled.specs.Rule.{Knows};
+
+    ghost fact = { Knows };
+}
+
+/// The queue puts the packet at its front out for a seat.
+pub struct Evict;
+
+impl Outcome<Packet, View> for Evict {
+    ghost use Rattle.std.specs.Prelude.{◌≡◌, [], ◌∷◌, ◌++◌};
+    ghost use Rattle.clk_ruled.specs.Rule.{seat_view, KnowsAfter};
+
+    ghost then = { λ v p w. (w ≡ seat_view v.setup v.sender v.accepted (v.evicted ++ p ∷ [])) × KnowsAfter w };
+}
+
+/// The tap gets the packet at the front.
+pub struct Pull;
+
+impl Outcome<Packet, View> for Pull {
+    ghost use Rattle.std.specs.Prelude.{◌≡◌, [], ◌∷◌, ◌++◌};
+    ghost use Rattle.clk_ruled.specs.Rule.{tap_view, KnowsAfter};
+
+    ghost then = { λ v p w. (w ≡ tap_view v.setup (v.taken ++ p ∷ []) v.given v.gathered) × KnowsAfter w };
+}
+
+impl Lesson<Packet, View> for Pull {
+    ghost use Rattle.clk_ruled.specs.Rule.{Knows};
+
+    ghost fact = { Knows };
+}
+
+/// The tap takes over the lists of a closed seat, whose view is spent then.
+pub struct Gather;
+
+impl Join<View> for Gather {
+    ghost use Rattle.std.specs.Prelude.{◌∷◌};
+    ghost use Rattle.clk_ruled.specs.Rule.{tap_view, gathered_seat, spent_view};
+
+    ghost both = { λ v w. tap_view v.setup v.taken v.given (gathered_seat w.sender w.accepted w.evicted ∷ v.gathered) };
+
+    ghost spent = { spent_view };
+}

@@ -1,0 +1,243 @@
+//! What offers packets to a shared queue: one seat for each sender.
+
+ghost use Rattle.std.specs.Prelude.{◌≡◌, ◌≤◌, ◌<◌, ◌∷◌, ◌++◌, [], length, vec_capacity};
+
+use crate::protocol::{Accept, Evict};
+use crate::queue::RuledQueue;
+use crate::view::View;
+use clk_packet::{Fault, Kind, Offered, Packet};
+use crossbeam_queue::Pass;
+use std::alloc::Global;
+use std::marker::Model;
+use std::sync::Wait;
+
+/// The seat of one sender at a shared queue. It keeps what became of each packet that it offered, in lists whose room was
+/// reserved when the queue was opened.
+#[derive(Drop)]
+pub struct Seat {
+    pass: Pass<Packet, View>,
+    sender: u16,
+    room: u32,
+    next: u32,
+    accepted: Vec<Packet>,
+    refused: Vec<Packet>,
+    evicted: Vec<Packet>,
+}
+
+impl Model for Seat {
+    ghost use Rattle.std.specs.Prelude.{◌≡◌, ◌≤◌, [], vec_capacity};
+    ghost use Rattle.crossbeam_queue.specs.Passes.{view as known};
+    ghost use Rattle.clk_ruled.specs.Queue.{SeatLists};
+    ghost use Rattle.clk_ruled.specs.Parts.{SeatFits};
+
+    ghost Value = { SeatLists };
+
+    ghost view = { λ s. record { id = s.pass.table_id; setup = (known s.pass).setup; sender = s.sender; room = s.room; next = s.next; accepted = s.accepted.items; refused = s.refused.items; evicted = s.evicted.items } };
+
+    ghost invariant = { λ s. SeatFits (known s.pass) s.sender s.room s.next s.accepted.items s.refused.items s.evicted.items × (s.pass.me.1 ≡ []) × (s.room ≤ vec_capacity s.accepted) × (s.room ≤ vec_capacity s.refused) × (s.room ≤ vec_capacity s.evicted) };
+}
+
+impl Seat {
+    ghost use Rattle.std.specs.Prelude.{◌≡◌, ◌<◌, ◌≤◌, ◌∷◌, [], length, false, IfOk, IsOkUnless};
+    ghost use Rattle.crossbeam_queue.specs.Passes.{view as known};
+    ghost use Rattle.clk_packet.specs.declared.fault.Fault.TheVariants.{Memory};
+    ghost use Rattle.clk_ruled.specs.Lists.{room_of};
+    ghost use Rattle.clk_ruled.specs.Rule.{seat_view};
+    ghost use Rattle.clk_packet.specs.declared.packet.Offered.TheVariants.{Refused};
+    ghost use Rattle.clk_ruled.specs.Queue.{IsSeatOf, IsOffered, IsShared, empty_seat};
+
+    // The seat of a sender that may offer so many packets, before its first offer.
+    pub(crate) fn fresh(
+        alloc: Global,
+        pass: Pass<Packet, View>,
+        sender: u16,
+        room: u32,
+    ) -> Result<Seat, Fault>
+        requires pass { pass.me.1 ≡ [] }
+        requires seat { known pass ≡ seat_view (known pass).setup sender [] [] }
+        requires some { 1 ≤ (known pass).setup.capacity }
+        requires room { room_of (known pass).setup.rooms sender ≡ room }
+        ensures fresh { IfOk result (λ seat. seat ≡ empty_seat pass.table_id (known pass).setup (sender, room)) }
+        ensures fault { IsOkUnless result Fault.Memory }
+    {
+        Ok(Seat {
+            pass,
+            sender,
+            room,
+            next: 0,
+            accepted: Vec::with_capacity(alloc, room as usize)?,
+            refused: Vec::with_capacity(alloc, room as usize)?,
+            evicted: Vec::with_capacity(alloc, room as usize)?,
+        })
+    }
+
+    /// Offers the sender's next packet to the queue that the seat was opened with. A Queue that is full refuses it; a full
+    /// FrontDropQueue takes it and puts the packet at its front out, whoever's it is. Takes no memory.
+    pub fn offer(&mut self, queue: &RuledQueue, wait: &impl Wait, packet: Packet) -> Offered
+        requires together { IsSeatOf queue.now self.old }
+        requires own { packet.sender ≡ self.old.sender }
+        requires number { packet.number ≡ self.old.next }
+        requires room { self.old.next < self.old.room }
+        ensures offered { IsOffered self.old packet result self.new }
+        // A seat that is alone on its queue is refused only where the queue took so many packets from it as it may hold.
+        ensures lone { self.old.setup.rooms ≡ (self.old.sender, self.old.room) ∷ [] → result ≡ Refused packet → self.old.setup.capacity ≤ length self.new.accepted }
+    {
+        self.next += 1;
+        match queue.kind {
+            Kind::TailDrop => match queue
+                .line
+                .push_as::<Accept, _>(wait, &mut self.pass, packet)
+            {
+                Ok(()) => {
+                    note(&mut self.accepted, packet);
+                    Offered::Accepted
+                }
+                Err(packet) => {
+                    note(&mut self.refused, packet);
+                    Offered::Refused(packet)
+                }
+            },
+            Kind::FrontDrop => match queue
+                .line
+                .force_push_as::<Accept, Evict, _>(wait, &mut self.pass, packet)
+            {
+                None => {
+                    note(&mut self.accepted, packet);
+                    Offered::Accepted
+                }
+                Some(front) => {
+                    note(&mut self.accepted, packet);
+                    note(&mut self.evicted, front);
+                    Offered::Evicted(front)
+                }
+            },
+        }
+    }
+
+    /// Closes the seat, at any time: it offers nothing more, and its lists stay as they are. Takes no memory.
+    pub fn close(self) -> ClosedSeat
+        ensures { result ≡ record { lists = self; is_gathered = false } }
+    {
+        ClosedSeat {
+            seat: self,
+            gathered: false,
+        }
+    }
+
+    /// The sender's number.
+    pub fn sender(&self) -> u16
+        ensures { result ≡ self.now.sender }
+    {
+        self.sender
+    }
+
+    /// How many packets it offered: the number of its next packet.
+    pub fn next(&self) -> u32
+        ensures next { result ≡ self.now.next }
+        ensures within { result ≤ self.now.room }
+        ensures shares { IsShared self.now.sender result self.now.accepted self.now.refused }
+    {
+        self.next
+    }
+
+    /// How many packets it may offer.
+    pub fn room(&self) -> u32
+        ensures { result ≡ self.now.room }
+    {
+        self.room
+    }
+
+    /// The packets that the queue took, by rising number.
+    pub fn accepted(&self) -> &[Packet]
+        ensures { result.now ≡ self.now.accepted }
+    {
+        self.accepted.as_slice()
+    }
+
+    /// The packets that the queue refused, by rising number.
+    pub fn refused(&self) -> &[Packet]
+        ensures { result.now ≡ self.now.refused }
+    {
+        self.refused.as_slice()
+    }
+
+    /// The packets that the queue put out for this seat's, in order. They may be of any sender.
+    pub fn evicted(&self) -> &[Packet]
+        ensures { result.now ≡ self.now.evicted }
+    {
+        self.evicted.as_slice()
+    }
+}
+
+/// A seat that was closed. It keeps its lists.
+#[derive(Drop)]
+pub struct ClosedSeat {
+    seat: Seat,
+    gathered: bool,
+}
+
+impl Model for ClosedSeat {
+    ghost use Rattle.clk_ruled.specs.Queue.{ClosedLists};
+
+    ghost Value = { ClosedLists };
+
+    ghost view = { λ c. record { lists = c.seat; is_gathered = c.gathered } };
+}
+
+impl ClosedSeat {
+    ghost use Rattle.std.specs.Prelude.{◌≡◌, ◌≤◌};
+    ghost use Rattle.clk_ruled.specs.Queue.{IsShared};
+
+    /// The sender's number.
+    pub fn sender(&self) -> u16
+        ensures { result ≡ self.now.lists.sender }
+    {
+        self.seat.sender()
+    }
+
+    /// How many packets it offered: the number of its next packet.
+    pub fn next(&self) -> u32
+        ensures next { result ≡ self.now.lists.next }
+        ensures within { result ≤ self.now.lists.room }
+        ensures shares { IsShared self.now.lists.sender result self.now.lists.accepted self.now.lists.refused }
+    {
+        self.seat.next()
+    }
+
+    /// How many packets it may offer.
+    pub fn room(&self) -> u32
+        ensures { result ≡ self.now.lists.room }
+    {
+        self.seat.room()
+    }
+
+    /// The packets that the queue took, by rising number.
+    pub fn accepted(&self) -> &[Packet]
+        ensures { result.now ≡ self.now.lists.accepted }
+    {
+        self.seat.accepted()
+    }
+
+    /// The packets that the queue refused, by rising number.
+    pub fn refused(&self) -> &[Packet]
+        ensures { result.now ≡ self.now.lists.refused }
+    {
+        self.seat.refused()
+    }
+
+    /// The packets that the queue put out for this seat's, in order. They may be of any sender.
+    pub fn evicted(&self) -> &[Packet]
+        ensures { result.now ≡ self.now.lists.evicted }
+    {
+        self.seat.evicted()
+    }
+}
+
+// Adds a packet to a list that has room for it.
+pub(crate) fn note(list: &mut Vec<Packet>, packet: Packet)
+    requires { length list.old.items < vec_capacity list.old }
+    ensures items { list.new.items ≡ list.old.items ++ packet ∷ [] }
+    ensures capacity { vec_capacity list.old ≤ vec_capacity list.new }
+{
+    let _ = list.push(packet);
+}

@@ -1,0 +1,40 @@
+//! What is known of a shared queue by those who use it. It exists in proofs alone, and no value of it is made.
+
+use clk_packet::{Kind, Packet};
+use std::collections::LinkedList;
+
+/// What a queue was opened with: its kind, how many packets it may hold, and each sender with the number of packets that it
+/// may offer.
+pub struct Setup {
+    pub kind: Kind,
+    pub capacity: u64,
+    pub rooms: LinkedList<(u16, u32)>,
+}
+
+/// The lists of a closed seat that was gathered: what the queue took from its sender, and what it put out for it.
+pub struct Gathered {
+    pub sender: u16,
+    pub accepted: LinkedList<Packet>,
+    pub evicted: LinkedList<Packet>,
+}
+
+/// What a seat or the tap knows of its queue.
+pub struct View {
+    /// Whether it is a seat's.
+    pub sits: bool,
+    /// Whether it is the tap's.
+    pub taps: bool,
+    pub setup: Setup,
+    /// The seat's sender.
+    pub sender: u16,
+    /// What the queue took from the seat, in order.
+    pub accepted: LinkedList<Packet>,
+    /// What the queue put out for the seat, in order.
+    pub evicted: LinkedList<Packet>,
+    /// What the tap pulled, in order.
+    pub taken: LinkedList<Packet>,
+    /// The senders that were given a seat.
+    pub given: LinkedList<u16>,
+    /// The lists of the seats that the tap gathered.
+    pub gathered: LinkedList<Gathered>,
+}
