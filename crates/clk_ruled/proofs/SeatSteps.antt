@@ -34,7 +34,7 @@ one-known : (y : Bool) (n m : ℕ) (b : Bool) → 0 < (if y then n else m) → (
 one-known true n m b lt h = refl
 one-known false n m b lt h = h lt
 
-room-known : (rooms : List (ℕ × ℕ)) (s : ℕ) → 0 < room_of rooms s → has_sender (map (λ (r : ℕ × ℕ). r.0) rooms) s ≡ true
+pub room-known : (rooms : List (ℕ × ℕ)) (s : ℕ) → 0 < room_of rooms s → has_sender (map (λ (r : ℕ × ℕ). r.0) rooms) s ≡ true
 room-known [] s lt = absurd (omega arith)
 room-known (r ∷ rooms) s lt = one-known (r.0 == s) r.1 (room_of rooms s) (has_sender (map (λ (r : ℕ × ℕ). r.0) rooms) s) lt (room-known rooms s)
 

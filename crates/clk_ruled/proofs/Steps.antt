@@ -14,7 +14,7 @@ use Rattle.clk_ruled.specs.declared.view.Setup.{Setup}
 use Rattle.clk_ruled.specs.declared.view.Gathered.{Gathered}
 use Rattle.clk_ruled.specs.declared.view.View.{View}
 use Rattle.clk_ruled.specs.Lists.{of_sender, has_sender, IsRising, room_of}
-use Rattle.clk_ruled.specs.Rule.{Out, to_puller, put_out, went_out, taken_in, Books, senders_of, gathered_senders, IsSound, IsNew, AreGathered, FitsSeat, FitsTap, Fits, Keeps, Knows, KnowsAfter, no_setup, spent_view, blank_view, seat_view, tap_view, gathered_seat}
+use Rattle.clk_ruled.specs.Rule.{Out, to_puller, put_out, went_out, taken_in, Books, senders_of, gathered_senders, IsSound, IsNew, AreGathered, FitsSeat, FitsTap, Fits, Keeps, Knows, KnowsAfter, spent_view, retired_view, seat_view, tap_view, gathered_seat}
 use Rattle.clk_ruled.proofs.ListLemmas.{eq-true, ne-false, of-own, of-other, went-more, taken-more, evicted-own, evicted-other, evicted-pulled, has-more, has-not}
 use Rattle.clk_ruled.proofs.Changes.{All, all-set, all-snoc, IsSame, new-kept, gathered-kept, seat-kept, others-kept, apart, seatless-apart}
 
@@ -263,34 +263,11 @@ gathers pass v other w taps sits items views h at two at' =
       all-set Now (Fits c) (set views pass both) other spent_view now ((λ e. absurd (true≢false (sym e))), λ e. absurd (true≢false (sym e))) (λ j u away k. k away),
     )
 
--- A queue is opened.
-no-items : (items : List Packet) → length items ≤ 0 → items ≡ []
-no-items [] h = refl
-no-items (x ∷ items) h = absurd (omega arith)
-
-pub opens : (pass : ℕ) (v : View) (setup : Setup) → v ≡ blank_view → Forks Keeps pass v (tap_view setup [] [] []) spent_view
-opens pass v setup is items views h at =
-    let b : Books = h.0 in let f : FitsTap b pass v = (h.2 pass v at).1 (ap (λ (y : View). y.taps) is) in
-    let none_given : v.given ≡ [] = ap (λ (y : View). y.given) is in
-    let nothing : items ≡ [] = no-items items (subst (λ (y : Setup). length items ≤ y.capacity) (sym f.setup ∙ ap (λ (y : View). y.setup) is) h.1.fits) in
-    let c : Books = record { setup = setup; all = []; gone = []; seat = λ _. none; tap = pass } in
-    let left : View = tap_view setup [] [] [] in
-    let no_seat : (s : ℕ) → b.seat s ≡ none = λ s. (f.fresh s (ap (λ l. has_sender l s) none_given)).seat in
-    let tap : FitsTap c pass left = record { tap = refl; setup = refl; taken = refl; fresh = λ s _. record { seat = refl; accepted = refl; evicted = refl }; gathered = tt } in (
-      c,
-      record { order = sym nothing; fits = subst (λ (l : List Packet). length l ≤ setup.capacity) (sym nothing) (omega arith); room = λ s. omega arith; rises = λ s. tt; known = λ s _. refl; tail_drop = λ _ s. refl },
-      all-snoc (Fits c) (set views pass left) spent_view
-          (all-set (Fits b) (Fits c) views pass left h.2 ((λ e. absurd (true≢false (sym e))), λ _. tap)
-          (λ j u other g. ((λ sits. absurd (some-ne-none j (sym (g.0 sits).seat ∙ no_seat u.sender))), λ taps. absurd (other ((g.1 taps).tap ∙ sym f.tap)))))
-          ((λ e. absurd (true≢false (sym e))), λ e. absurd (true≢false (sym e))),
-    )
-
--- A queue is made, before it is opened.
-pub begins : Keeps [] (blank_view ∷ [])
-begins =
-    let c : Books = record { setup = no_setup; all = []; gone = []; seat = λ _. none; tap = 0 } in
-    let tap : FitsTap c 0 blank_view = record { tap = refl; setup = refl; taken = refl; fresh = λ s _. record { seat = refl; accepted = refl; evicted = refl }; gathered = tt } in (
-      c,
-      record { order = refl; fits = omega arith; room = λ s. omega arith; rises = λ s. tt; known = λ s _. refl; tail_drop = λ _ s. refl },
-      all-snoc (Fits c) [] blank_view (λ j u e. absurd (some-ne-none u (sym e))) ((λ e. absurd (true≢false (sym e))), λ _. tap),
+-- A closed seat keeps a pass that neither sits nor taps.
+pub retires : (pass : ℕ) (v : View) → Forks Keeps pass v v (retired_view v.setup)
+retires pass v items views h at =
+    let b : Books = h.0 in (
+      b,
+      h.1,
+      all-snoc (Fits b) (set views pass v) (retired_view v.setup) (all-set (Fits b) (Fits b) views pass v h.2 (h.2 pass v at) (λ j u other g. g)) ((λ e. absurd (true≢false (sym e))), λ e. absurd (true≢false (sym e))),
     )

@@ -4,3 +4,5 @@ pub mod Account
 pub mod Rule
 pub mod Queue
 pub mod Parts
+pub mod Keys
+pub mod Settle

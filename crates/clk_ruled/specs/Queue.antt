@@ -1,5 +1,5 @@
 -- A shared queue, its seats and its tap, as their callers see them.
-use Rattle.std.specs.Prelude.{◌≡◌, ℕ, ◌+◌, ◌<◌, Bool, List, [], ◌∷◌, ◌++◌, length, min, max, map, ⊤, suc, ◌⊎◌, Option, Some, None}
+use Rattle.std.specs.Prelude.{◌≡◌, ℕ, ◌+◌, ◌<◌, Bool, true, List, [], ◌∷◌, ◌++◌, length, min, max, map, ⊤, suc, ◌⊎◌, Option, Some, None}
 use Rattle.atomic_table.specs.Seated.{TableId}
 use Rattle.clk_packet.specs.declared.packet.Packet.{Packet}
 use Rattle.clk_packet.specs.declared.packet.Kind.{Kind}
@@ -8,7 +8,8 @@ use Rattle.clk_packet.specs.declared.packet.Offered.{Offered}
 use Rattle.clk_packet.specs.declared.packet.Offered.TheVariants.{Accepted, Refused, Evicted}
 use Rattle.clk_ruled.specs.declared.view.Setup.{Setup}
 use Rattle.clk_ruled.specs.declared.view.Gathered.{Gathered}
-use Rattle.clk_ruled.specs.Lists.{rooms_in_all}
+use Rattle.clk_ruled.specs.Lists.{rooms_in_all, IsIn, has_sender}
+use Rattle.clk_ruled.specs.Rule.{senders_of, gathered_senders, gathered_seat}
 
 -- which queue it is, its kind, how many packets it may hold, and how many places it has for them
 pub record Queue : Type 0 where
@@ -91,6 +92,27 @@ taking t p = record { id = t.id; setup = t.setup; taken = t.taken ++ p ∷ []; g
 abbrev pub IsPulled : TapLists → Option Packet → TapLists → Type 0
 IsPulled old None new = new ≡ old
 IsPulled old (Some p) new = new ≡ taking old p
+
+-- the tap once it gathered a seat with these lists
+abbrev pub gathering : TapLists → SeatLists → TapLists
+gathering t s = record { id = t.id; setup = t.setup; taken = t.taken; gathered = gathered_seat s.sender s.accepted s.evicted ∷ t.gathered }
+
+-- each of the packets is of one of the setup's senders
+abbrev pub AreOfSenders : Setup → List Packet → Type 0
+AreOfSenders setup packets = (p : Packet) → IsIn p packets → has_sender (senders_of setup) p.sender ≡ true
+
+-- The tap gathered the seat of each sender.
+abbrev pub AreAllGathered : TapLists → Type 0
+AreAllGathered t = (s : ℕ) → has_sender (senders_of t.setup) s ≡ true → has_sender (gathered_senders t.gathered) s ≡ true
+
+-- how many packets the queue took from these seats in all, and how many it put out for them
+abbrev pub accepted_in_all : List Gathered → ℕ
+accepted_in_all [] = 0
+accepted_in_all (g ∷ gathered) = length g.accepted + accepted_in_all gathered
+
+abbrev pub evicted_in_all : List Gathered → ℕ
+evicted_in_all [] = 0
+evicted_in_all (g ∷ gathered) = length g.evicted + evicted_in_all gathered
 
 -- the seat of a sender before its first offer, and the tap before its first pull
 abbrev pub empty_seat : TableId → Setup → ℕ × ℕ → SeatLists

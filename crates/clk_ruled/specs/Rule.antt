@@ -107,6 +107,9 @@ no_setup = record { kind = TailDrop; capacity = 0; rooms = [] }
 abbrev pub spent_view : View
 spent_view = record { sits = false; taps = false; setup = no_setup; sender = 0; accepted = []; evicted = []; taken = []; given = []; gathered = [] }
 
+abbrev pub retired_view : Setup → View
+retired_view setup = record { sits = false; taps = false; setup = setup; sender = 0; accepted = []; evicted = []; taken = []; given = []; gathered = [] }
+
 abbrev pub blank_view : View
 blank_view = record { sits = false; taps = true; setup = no_setup; sender = 0; accepted = []; evicted = []; taken = []; given = []; gathered = [] }
 

@@ -2,15 +2,19 @@
 //! for.
 #![tactic(auto)]
 
+mod closed;
 mod open;
 mod protocol;
 mod queue;
 mod seat;
+mod settling;
 mod tap;
 mod view;
 
+pub use closed::ClosedSeat;
 pub use open::Opened;
 pub use queue::RuledQueue;
-pub use seat::{ClosedSeat, Seat};
+pub use seat::Seat;
+pub use settling::{Settled, settle};
 pub use tap::Tap;
 pub use view::{Gathered, Setup, View};

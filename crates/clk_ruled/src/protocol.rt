@@ -110,6 +110,17 @@ impl Lesson<Packet, View> for Pull {
     ghost fact = { Knows };
 }
 
+/// A closed seat keeps a pass that neither sits nor taps, and still tells what the queue was opened with.
+pub struct Retire;
+
+impl Split<View> for Retire {
+    ghost use Rattle.clk_ruled.specs.Rule.{retired_view};
+
+    ghost left = { λ v. v };
+
+    ghost right = { λ v. retired_view v.setup };
+}
+
 /// The tap takes over the lists of a closed seat, whose view is spent then.
 pub struct Gather;
 

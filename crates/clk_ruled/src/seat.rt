@@ -2,6 +2,7 @@
 
 ghost use Rattle.std.specs.Prelude.{◌≡◌, ◌≤◌, ◌<◌, ◌∷◌, ◌++◌, [], length, vec_capacity};
 
+use crate::closed::ClosedSeat;
 use crate::protocol::{Accept, Evict};
 use crate::queue::RuledQueue;
 use crate::view::View;
@@ -119,7 +120,13 @@ impl Seat {
         ensures { result ≡ record { lists = self; is_gathered = false } }
     {
         ClosedSeat {
-            seat: self,
+            pass: self.pass,
+            sender: self.sender,
+            room: self.room,
+            next: self.next,
+            accepted: self.accepted,
+            refused: self.refused,
+            evicted: self.evicted,
             gathered: false,
         }
     }
@@ -166,70 +173,6 @@ impl Seat {
         ensures { result.now ≡ self.now.evicted }
     {
         self.evicted.as_slice()
-    }
-}
-
-/// A seat that was closed. It keeps its lists.
-#[derive(Drop)]
-pub struct ClosedSeat {
-    seat: Seat,
-    gathered: bool,
-}
-
-impl Model for ClosedSeat {
-    ghost use Rattle.clk_ruled.specs.Queue.{ClosedLists};
-
-    ghost Value = { ClosedLists };
-
-    ghost view = { λ c. record { lists = c.seat; is_gathered = c.gathered } };
-}
-
-impl ClosedSeat {
-    ghost use Rattle.std.specs.Prelude.{◌≡◌, ◌≤◌};
-    ghost use Rattle.clk_ruled.specs.Queue.{IsShared};
-
-    /// The sender's number.
-    pub fn sender(&self) -> u16
-        ensures { result ≡ self.now.lists.sender }
-    {
-        self.seat.sender()
-    }
-
-    /// How many packets it offered: the number of its next packet.
-    pub fn next(&self) -> u32
-        ensures next { result ≡ self.now.lists.next }
-        ensures within { result ≤ self.now.lists.room }
-        ensures shares { IsShared self.now.lists.sender result self.now.lists.accepted self.now.lists.refused }
-    {
-        self.seat.next()
-    }
-
-    /// How many packets it may offer.
-    pub fn room(&self) -> u32
-        ensures { result ≡ self.now.lists.room }
-    {
-        self.seat.room()
-    }
-
-    /// The packets that the queue took, by rising number.
-    pub fn accepted(&self) -> &[Packet]
-        ensures { result.now ≡ self.now.lists.accepted }
-    {
-        self.seat.accepted()
-    }
-
-    /// The packets that the queue refused, by rising number.
-    pub fn refused(&self) -> &[Packet]
-        ensures { result.now ≡ self.now.lists.refused }
-    {
-        self.seat.refused()
-    }
-
-    /// The packets that the queue put out for this seat's, in order. They may be of any sender.
-    pub fn evicted(&self) -> &[Packet]
-        ensures { result.now ≡ self.now.lists.evicted }
-    {
-        self.seat.evicted()
     }
 }
 

@@ -2,19 +2,22 @@
 
 ghost use Rattle.std.specs.Prelude.{◌≡◌, ◌≤◌, [], vec_capacity};
 
-use crate::protocol::Pull;
-use crate::queue::Line;
+use crate::closed::ClosedSeat;
+use crate::protocol::{Gather, Pull};
+use crate::queue::{Line, RuledQueue};
+use crate::seat::note;
 use crate::view::View;
 use clk_packet::{Fault, Packet};
 use crossbeam_queue::Pass;
 use std::alloc::Global;
 use std::marker::Model;
+use std::sync::Wait;
 
 /// The tap of a shared queue. It keeps the packets that it pulled, in a list whose room was reserved when the queue was opened.
 #[derive(Drop)]
 pub struct Tap {
     pass: Pass<Packet, View>,
-    taken: Vec<Packet>,
+    pub(crate) taken: Vec<Packet>,
 }
 
 impl Model for Tap {
@@ -32,11 +35,11 @@ impl Model for Tap {
 }
 
 impl Tap {
-    ghost use Rattle.std.specs.Prelude.{◌≡◌, ◌≤◌, true, [], IfOk, IsOkUnless};
+    ghost use Rattle.std.specs.Prelude.{◌≡◌, ℕ, ◌≤◌, ◌+◌, true, false, [], length, None, IfOk, IsOkUnless};
     ghost use Rattle.crossbeam_queue.specs.Passes.{view as known, IsPassOf};
     ghost use Rattle.clk_packet.specs.declared.fault.Fault.TheVariants.{Memory};
-    ghost use Rattle.clk_ruled.specs.Lists.{rooms_in_all};
-    ghost use Rattle.clk_ruled.specs.Queue.{empty_tap};
+    ghost use Rattle.clk_ruled.specs.Lists.{rooms_in_all, of_sender, IsRising};
+    ghost use Rattle.clk_ruled.specs.Queue.{IsTapOf, IsPulled, SendersRise, AreOfSenders, AreAllGathered, accepted_in_all, evicted_in_all, gathering, empty_tap};
 
     // The tap of a queue that is open, with room for so many packets.
     pub(crate) fn fresh(
@@ -47,6 +50,7 @@ impl Tap {
     ) -> Result<Tap, Fault>
         requires queue { IsPassOf line.now pass }
         requires taps { ((known pass).taps ≡ true) × ((known pass).taken ≡ []) × ((known pass).gathered ≡ []) × (1 ≤ (known pass).setup.capacity) }
+        requires rises { SendersRise (known pass).setup.rooms }
         requires room { rooms_in_all (known pass).setup.rooms ≤ room }
         ensures fresh { IfOk result (λ tap. tap ≡ empty_tap pass.table_id (known pass).setup) }
         ensures fault { IsOkUnless result Fault.Memory }
@@ -57,6 +61,42 @@ impl Tap {
             pass,
             taken: Vec::with_capacity(alloc, room)?,
         })
+    }
+
+    /// Pulls the packet at the front of the queue that the tap was opened with, or answers none where it found it empty. Takes
+    /// no memory.
+    pub fn pull(&mut self, queue: &RuledQueue, wait: &impl Wait) -> Option<Packet>
+        requires together { IsTapOf queue.now self.old }
+        ensures pulled { IsPulled self.old result self.new }
+        ensures rises { (s : ℕ) → IsRising (of_sender s self.new.taken) }
+        ensures known { AreOfSenders self.new.setup self.new.taken }
+        // With every seat gathered, the packets taken are never more than those accepted, less those evicted, and none comes only
+        // where they are as many.
+        ensures within { AreAllGathered self.new → length self.new.taken + evicted_in_all self.new.gathered ≤ accepted_in_all self.new.gathered }
+        ensures none { result ≡ None → AreAllGathered self.new → length self.new.taken + evicted_in_all self.new.gathered ≡ accepted_in_all self.new.gathered }
+    {
+        let pulled = queue.line.pop_as::<Pull, _>(wait, &mut self.pass);
+        if let Some(packet) = pulled {
+            note(&mut self.taken, packet);
+        }
+        pulled
+    }
+
+    /// Takes over the lists of a closed seat that was opened together with the tap. The seat's readers answer as before. A
+    /// second time changes nothing. Takes no memory.
+    pub fn gather(&mut self, queue: &RuledQueue, seat: &mut ClosedSeat)
+        requires together { IsTapOf queue.now self.old }
+        requires seat { (seat.old.lists.id ≡ self.old.id) × (seat.old.lists.setup ≡ self.old.setup) }
+        ensures seat { seat.new ≡ record { lists = seat.old.lists; is_gathered = true } }
+        ensures gathers { seat.old.is_gathered ≡ false → self.new ≡ gathering self.old seat.old.lists }
+        ensures again { seat.old.is_gathered ≡ true → self.new ≡ self.old }
+    {
+        if seat.gathered {
+            return;
+        }
+        let theirs = seat.give_up(&queue.line);
+        queue.line.absorb::<Gather>(&mut self.pass, theirs);
+        queue.line.learn_as::<Pull>(&mut self.pass);
     }
 
     /// The packets that it pulled, in order.

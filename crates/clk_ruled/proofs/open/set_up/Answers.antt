@@ -1,4 +1,4 @@
-use Rattle.clk_ruled.proofs.Steps.{opens}
+use Rattle.clk_ruled.proofs.Begins.{opens}
 use Rattle.clk_ruled.proofs.open.set_up.Goals as goal
 
 pub another-spare-requires-clause-rule : goal.another-spare-requires-clause-rule

@@ -4,7 +4,7 @@ use Rattle.clk_ruled.specs.declared.view.Setup.{Setup}
 use Rattle.clk_ruled.specs.declared.view.View.{View}
 use Rattle.clk_ruled.specs.Parts.{IsSeated}
 use Rattle.clk_ruled.specs.Queue.{setup_of}
-use Rattle.clk_ruled.proofs.Steps.{begins}
+use Rattle.clk_ruled.proofs.Begins.{begins}
 use Rattle.clk_ruled.proofs.Opening.{seated-first}
 use Rattle.clk_ruled.proofs.queue.RuledQueue.open.Goals as goal
 

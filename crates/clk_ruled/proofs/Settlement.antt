@@ -1,0 +1,126 @@
+-- What is known of a queue, once the tap has the lists of all its seats.
+use Rattle.std.proofs.Common.{◌≡◌, ℕ, ◌<◌, ◌≤◌, ◌==◌, Bool, true, false, List, [], ◌∷◌, ◌++◌, length, map, refl, sym, ap, ◌∙◌, subst, ⊎_elim, arith, if◌then◌else◌}
+use Rattle.std.proofs.lemmas.List.{append-nil, length-append, nil_from_length}
+use Rattle.std.specs.List.{flat_map}
+use Rattle.atomic_table.specs.Seated.{TableId}
+use Rattle.clk_packet.specs.declared.packet.Packet.{Packet}
+use Rattle.clk_ruled.specs.declared.settling.Settled.{Settled}
+use Rattle.clk_ruled.specs.declared.view.Gathered.{Gathered}
+use Rattle.clk_ruled.specs.declared.view.Setup.{Setup}
+use Rattle.clk_ruled.specs.declared.view.View.{View}
+use Rattle.clk_ruled.specs.Account.{IsAccount}
+use Rattle.clk_ruled.specs.Keys.{AreKeysOf, has_key}
+use Rattle.clk_ruled.specs.Lists.{of_sender, has_sender, without}
+use Rattle.clk_ruled.specs.Parts.{TapKeeps}
+use Rattle.clk_ruled.specs.Queue.{SeatLists, TapLists, ClosedLists, SendersRise}
+use Rattle.clk_ruled.specs.Rule.{Books, FitsTap, AreGathered, evicted_by, taken_in, senders_of}
+use Rattle.clk_ruled.specs.Settle.{lists_of, as_gathered, accepted_of, evicted_of, all_evicted, accepted_count, evicted_count, lost_count, IsAmong, AreTogether, HasEach, tally_by, tally_of, IsSettled, IsAccounted}
+use Rattle.clk_ruled.proofs.Account.{account, as-many, left-held, evicted_in}
+use Rattle.clk_ruled.proofs.Counts.{true-eq}
+use Rattle.clk_ruled.proofs.KeyLemmas.{key-packet}
+use Rattle.clk_ruled.proofs.Tally.{times_in_all, senders_named, of-times, named-length, counted, rise-apart, unroomed}
+
+-- what a tap keeps tells that its queue is accounted for
+pub accounted : (id : TableId) (v : View) (taken : List Packet) → TapKeeps v taken → IsAccounted (record { id = id; setup = v.setup; taken = taken; gathered = v.gathered })
+accounted id v taken k = let fits : FitsTap k.knows.1.0 k.knows.1.1 v = k.knows.1.3.1 k.taps in record {
+  held = k.knows.0;
+  books = k.knows.1.0;
+  given = v.given;
+  sound = k.knows.1.2;
+  setup = fits.setup;
+  rises = k.rises;
+  taken = sym k.taken_is ∙ fits.taken;
+  gathered = fits.gathered;
+}
+
+-- a seat's lists are what the books say of its sender
+record IsFit (b : Books) (l : SeatLists) : Type 0 where
+  accepted : l.accepted ≡ of_sender l.sender b.all
+  evicted : l.evicted ≡ evicted_by l.sender b.gone
+
+abbrev AreFit : Books → List SeatLists → Type 0
+AreFit b [] = Unit {0}
+AreFit b (l ∷ seats) = IsFit b l × AreFit b seats
+
+one-fit : (b : Books) (given : List ℕ) (l : SeatLists) (gathered : List Gathered) → AreGathered b given gathered → IsAmong (as_gathered l) gathered → IsFit b l
+one-fit b given l [] h among = absurd among
+one-fit b given l (g ∷ gathered) h among = ⊎_elim
+    (λ (e : as_gathered l ≡ g).
+    let both = subst (λ (x : Gathered). (x.accepted ≡ of_sender x.sender b.all) × (x.evicted ≡ evicted_by x.sender b.gone)) (sym e) (h.0.accepted, h.0.evicted) in record { accepted = both.0; evicted = both.1 })
+    (λ (more : IsAmong (as_gathered l) gathered). one-fit b given l gathered h.2 more)
+    among
+
+each-fit : (b : Books) (given : List ℕ) (tap : TapLists) (seats : List SeatLists) → AreGathered b given tap.gathered → HasEach tap seats → AreFit b seats
+each-fit b given tap [] h has = tt
+each-fit b given tap (l ∷ seats) h has = (one-fit b given l tap.gathered h has.0, each-fit b given tap seats h has.1)
+
+abbrev senders_at : List SeatLists → List ℕ
+senders_at seats = map (λ (l : SeatLists). l.sender) seats
+
+-- The list of a sender's seat is what the books say of the sender, where they say nothing of one that has no seat.
+one-list : (y has : Bool) (x rest all : List Packet) → (y ≡ true → x ≡ all) → ((has ≡ false → all ≡ []) → rest ≡ all) → ((if y then true else has) ≡ false → all ≡ []) → (if y then x else rest) ≡ all
+one-list true has x rest all here there none = here refl
+one-list false has x rest all here there none = there none
+
+accepted-fits : (b : Books) (s : ℕ) (seats : List SeatLists) → AreFit b seats → (has_sender (senders_at seats) s ≡ false → of_sender s b.all ≡ []) → accepted_of seats s ≡ of_sender s b.all
+accepted-fits b s [] fit none = sym (none refl)
+accepted-fits b s (l ∷ seats) fit none = one-list (l.sender == s) (has_sender (senders_at seats) s) l.accepted (accepted_of seats s) (of_sender s b.all)
+    (λ e. fit.0.accepted ∙ ap (λ t. of_sender t b.all) (true-eq l.sender s e)) (accepted-fits b s seats fit.1) none
+
+evicted-fits : (b : Books) (s : ℕ) (seats : List SeatLists) → AreFit b seats → (has_sender (senders_at seats) s ≡ false → evicted_by s b.gone ≡ []) → evicted_of seats s ≡ evicted_by s b.gone
+evicted-fits b s [] fit none = sym (none refl)
+evicted-fits b s (l ∷ seats) fit none = one-list (l.sender == s) (has_sender (senders_at seats) s) l.evicted (evicted_of seats s) (evicted_by s b.gone)
+    (λ e. fit.0.evicted ∙ ap (λ t. evicted_by t b.gone) (true-eq l.sender s e)) (evicted-fits b s seats fit.1) none
+
+-- all seats' lists together
+all-evicted-fit : (b : Books) (seats : List SeatLists) → AreFit b seats → all_evicted seats ≡ flat_map (λ s. evicted_by s b.gone) (senders_at seats)
+all-evicted-fit b [] fit = refl
+all-evicted-fit b (l ∷ seats) fit = λ i. fit.0.evicted i ++ all-evicted-fit b seats fit.1 i
+
+evicted-length : (seats : List SeatLists) → evicted_count seats ≡ length (all_evicted seats)
+evicted-length [] = refl
+evicted-length (l ∷ seats) = let rest = evicted-length seats in let both = length-append l.evicted (all_evicted seats) in omega (arith, rest, both)
+
+accepted-times : (b : Books) (seats : List SeatLists) → AreFit b seats → accepted_count seats ≡ times_in_all (senders_at seats) (senders_named b.all)
+accepted-times b [] fit = refl
+accepted-times b (l ∷ seats) fit = let here = ap length fit.0.accepted ∙ of-times l.sender b.all in let rest = accepted-times b seats fit.1 in omega (arith, here, rest)
+
+same-senders : (seats : List SeatLists) → map (λ (r : ℕ × ℕ). r.0) (map (λ (l : SeatLists). (l.sender, l.room)) seats) ≡ senders_at seats
+same-senders [] = refl
+same-senders (l ∷ seats) = ap (λ k. l.sender ∷ k) (same-senders seats)
+
+-- the tallies by the keys are those by the packets
+pub tallies-same : (packets : List Packet) (keys : List (ℕ × ℕ)) → AreKeysOf packets keys → (seats : List SeatLists) → map (tally_by (has_key keys)) seats ≡ map (tally_of packets) seats
+tallies-same packets keys same seats = ap (λ (f : Packet → Bool). map (tally_by f) seats) (λ i p. key-packet packets keys same p i)
+
+-- The tap has the lists of all seats, and so all is told.
+pub settles : (tap new : TapLists) (closed : List ClosedLists) (settled : Settled) → AreTogether tap closed → (new.setup ≡ tap.setup) × (new.taken ≡ tap.taken) → HasEach new (lists_of closed) → IsAccounted new
+    → settled.taken.items ≡ new.taken → settled.tallies.items ≡ map (tally_of (all_evicted (lists_of closed))) (lists_of closed)
+    → (0 < lost_count (lists_of closed) → tap.setup.capacity ≤ accepted_count (lists_of closed)) → IsSettled tap closed settled
+settles tap new closed settled together same has a taken tallies reached =
+    let b : Books = a.books in let seats : List SeatLists = lists_of closed in
+    let setup : b.setup ≡ tap.setup = sym a.setup ∙ same.0 in
+    let took : taken_in b.gone ≡ tap.taken = sym a.taken ∙ same.1 in
+    let rise : SendersRise b.setup.rooms = subst (λ (y : Setup). SendersRise y.rooms) a.setup a.rises in
+    let fit : AreFit b seats = each-fit b a.given new seats a.gathered has in
+    let senders : senders_of b.setup ≡ senders_at seats = ap (λ (y : Setup). senders_of y) setup ∙ ap (map (λ (r : ℕ × ℕ). r.0)) (sym together.senders) ∙ same-senders seats in
+    let unknown : (s : ℕ) → has_sender (senders_at seats) s ≡ false → has_sender (senders_of b.setup) s ≡ false = λ s e. ap (λ l. has_sender l s) senders ∙ e in
+    let none_came : (s : ℕ) → has_sender (senders_at seats) s ≡ false → of_sender s b.all ≡ [] = λ s e. nil_from_length (of_sender s b.all) (unroomed b.setup.rooms s (length (of_sender s b.all)) (a.sound.room s) (unknown s e)) in
+    let accepted : (s : ℕ) → of_sender s b.all ≡ accepted_of seats s = λ s. sym (accepted-fits b s seats fit (none_came s)) in
+    let evicted : (s : ℕ) → evicted_by s b.gone ≡ evicted_of seats s = λ s. sym (evicted-fits b s seats fit (λ e. a.sound.known s (unknown s e))) in
+    let out : evicted_in b ≡ all_evicted seats = ap (flat_map (λ s. evicted_by s b.gone)) senders ∙ sym (all-evicted-fit b seats fit) in
+    let whole = account b a.held a.sound rise in record {
+      taken = taken ∙ same.1;
+      tallies = tallies;
+      held = a.held;
+      account = subst (λ (x : Setup × (ℕ → List Packet) × (ℕ → List Packet) × List Packet). IsAccount x.0.kind x.0.capacity (senders_of x.0) x.1 x.2 x.3 a.held)
+          (λ i. (setup i, (λ s. accepted s i), (λ s. evicted s i), took i)) whole;
+      left = λ s. ((whole.is_last s).0, sym (accepted s) ∙ (whole.is_last s).1 ∙ ap (λ l. (whole.is_last s).0 ++ l) (sym (left-held b a.held a.sound rise s) ∙ (λ i. without (without (accepted s i) (out i)) (took i))));
+      all_taken = λ many s.
+          let apart = subst (λ (l : List ℕ). (t : ℕ) → has_sender l t ≡ false → length (of_sender t b.all) ≡ 0) (sym senders) (λ t e. ap length (none_came t e)) in
+          let came = accepted-times b seats fit ∙ ap (λ l. times_in_all l (senders_named b.all)) (sym senders) ∙ counted (senders_of b.setup) (senders_named b.all) (rise-apart b.setup.rooms rise) (λ t e. sym (of-times t b.all) ∙ apart t e) ∙ named-length b.all in
+          let gone = evicted-length seats ∙ ap length (sym out) in let mine = ap length took in
+          let held : a.held ≡ [] = as-many b a.held a.sound rise (omega (arith, many, came, gone, mine)) in
+          sym (λ i. without (accepted s i) (out i)) ∙ whole.balances s ∙ (λ i. of_sender s (took i) ++ of_sender s (held i)) ∙ append-nil (of_sender s tap.taken);
+      reached = reached;
+    }

@@ -1,0 +1,134 @@
+-- What the tap keeps as it pulls and gathers.
+use Rattle.std.proofs.Common.{◌≡◌, ℕ, ◌+◌, ◌<◌, ◌≤◌, ◌==◌, Bool, true, false, List, [], ◌∷◌, ◌++◌, length, refl, sym, ap, ◌∙◌, subst, ⊎_elim, inl, inr, arith}
+use Rattle.std.proofs.lemmas.List.{length-append}
+use Rattle.crossbeam_queue.specs.Fifo.{Held}
+use Rattle.clk_packet.specs.declared.packet.Packet.{Packet}
+use Rattle.clk_ruled.specs.declared.view.Setup.{Setup}
+use Rattle.clk_ruled.specs.declared.view.Gathered.{Gathered}
+use Rattle.clk_ruled.specs.declared.view.View.{View}
+use Rattle.clk_ruled.specs.Lists.{of_sender, has_sender, IsRising, IsIn, rooms_in_all}
+use Rattle.clk_ruled.specs.Queue.{SendersRise, AreOfSenders, accepted_in_all, evicted_in_all}
+use Rattle.clk_ruled.specs.Rule.{Out, to_puller, put_out, went_out, taken_in, Books, senders_of, gathered_senders, IsSound, AreGathered, FitsTap, Knows, KnowsAfter, tap_view}
+use Rattle.clk_ruled.specs.Parts.{TapKeeps}
+use Rattle.clk_ruled.proofs.ListLemmas.{eq-true}
+use Rattle.clk_ruled.proofs.SeatSteps.{room-known}
+use Rattle.clk_ruled.proofs.Tally.{one_more, times, times_in_all, AreApart, counted, senders_named, put_for, of-times, evicted-times, named-length, gone-length, unroomed, all-within}
+use Rattle.clk_ruled.proofs.TapLemmas.{rising-taken, fewer-taken}
+
+-- the tap after a pull
+pub keeps-pulled : (v w : View) (taken new : List Packet) (p : Packet) → TapKeeps v taken → (w ≡ tap_view v.setup (v.taken ++ p ∷ []) v.given v.gathered) × KnowsAfter w → new ≡ taken ++ p ∷ [] → TapKeeps w new
+keeps-pulled v w taken new p k is made =
+    let setup : w.setup ≡ v.setup = ap (λ (u : View). u.setup) is.0 in record {
+      taps = ap (λ (u : View). u.taps) is.0;
+      taken_is = ap (λ (u : View). u.taken) is.0 ∙ ap (λ l. l ++ p ∷ []) k.taken_is ∙ sym made;
+      some = subst (λ (y : Setup). 1 ≤ y.capacity) (sym setup) k.some;
+      rises = subst (λ (y : Setup). SendersRise y.rooms) (sym setup) k.rises;
+      knows = is.1;
+    }
+
+-- the tap where it found the queue empty
+pub keeps-still : (v w : View) (taken : List Packet) → TapKeeps v taken → w ≡ v → TapKeeps w taken
+keeps-still v w taken k is = subst (λ (u : View). TapKeeps u taken) (sym is) k
+
+-- what the books say that the tap knows of
+record TapKnows (v : View) (taken held : List Packet) : Type 0 where
+  books : Books
+  sound : IsSound books held
+  setup : v.setup ≡ books.setup
+  taken_is : taken ≡ taken_in books.gone
+  gathered : AreGathered books v.given v.gathered
+
+knows-held : (v : View) (taken held : List Packet) → TapKeeps v taken → Knows v held → TapKnows v taken held
+knows-held v taken held k knows = let fits : FitsTap knows.0 knows.1 v = knows.3.1 k.taps in
+    record { books = knows.0; sound = knows.2; setup = fits.setup; taken_is = sym k.taken_is ∙ fits.taken; gathered = fits.gathered }
+
+tap-knows : (v : View) (taken : List Packet) (k : TapKeeps v taken) → TapKnows v taken k.knows.0
+tap-knows v taken k = knows-held v taken k.knows.0 k k.knows.1
+
+-- What was taken is within all that came.
+pub taken-within : (v : View) (taken : List Packet) → TapKeeps v taken → length taken ≤ rooms_in_all v.setup.rooms
+taken-within v taken k =
+    let known = tap-knows v taken k in let b = known.books in
+    let all = all-within b.setup.rooms b.all (subst (λ (y : Setup). SendersRise y.rooms) known.setup k.rises) known.sound.room in
+    let few = fewer-taken b.gone k.knows.0 in let long = ap length known.sound.order in let mine = ap length known.taken_is in
+    let rooms : rooms_in_all v.setup.rooms ≡ rooms_in_all b.setup.rooms = ap (λ (y : Setup). rooms_in_all y.rooms) known.setup in omega (arith, all, few, long, mine, rooms)
+
+pub room-left : (v w : View) (taken : List Packet) (p : Packet) → TapKeeps v taken → (w ≡ tap_view v.setup (v.taken ++ p ∷ []) v.given v.gathered) × KnowsAfter w → length taken < rooms_in_all v.setup.rooms
+room-left v w taken p k is =
+    let within = taken-within w (taken ++ p ∷ []) (keeps-pulled v w taken (taken ++ p ∷ []) p k is refl) in
+    let long = length-append taken (p ∷ []) in
+    let rooms : rooms_in_all w.setup.rooms ≡ rooms_in_all v.setup.rooms = ap (λ (u : View). rooms_in_all u.setup.rooms) is.0 in omega (arith, within, long, rooms)
+
+-- Of each sender the numbers that were taken rise.
+pub taken-rises : (v : View) (taken : List Packet) → TapKeeps v taken → (s : ℕ) → IsRising (of_sender s taken)
+taken-rises v taken k s =
+    let known = tap-knows v taken k in subst (λ l. IsRising (of_sender s l)) (sym known.taken_is) (rising-taken s known.books.gone k.knows.0 (subst (λ l. IsRising (of_sender s l)) known.sound.order (known.sound.rises s)))
+
+-- Each packet that was taken is of one of the senders.
+pub in-all : (p : Packet) (gone : List Out) (held : List Packet) → IsIn p (taken_in gone) → IsIn p (went_out gone ++ held)
+in-all p [] held h = absurd h
+in-all p (to_puller q ∷ gone) held h = ⊎_elim (λ (e : p ≡ q). inl e) (λ (x : IsIn p (taken_in gone)). inr (in-all p gone held x)) h
+in-all p (put_out e q ∷ gone) held h = inr (in-all p gone held h)
+
+some-more : (b : Bool) (n : ℕ) → 0 < n → 0 < one_more b n
+some-more true n lt = omega arith
+some-more false n lt = lt
+
+in-named : (p : Packet) (packets : List Packet) → IsIn p packets → 0 < times p.sender (senders_named packets)
+in-named p [] h = absurd h
+in-named p (q ∷ packets) h = ⊎_elim
+    (λ (e : p ≡ q). subst (λ (b : Bool). 0 < one_more b (times p.sender (senders_named packets))) (sym (eq-true q.sender p.sender (ap (λ (x : Packet). x.sender) (sym e)))) (omega arith))
+    (λ (x : IsIn p packets). some-more (q.sender == p.sender) (times p.sender (senders_named packets)) (in-named p packets x))
+    h
+
+pub taken-known : (v : View) (taken : List Packet) → TapKeeps v taken → AreOfSenders v.setup taken
+taken-known v taken k p h =
+    let known = tap-knows v taken k in let b = known.books in
+    let came : IsIn p b.all = subst (IsIn p) (sym known.sound.order) (in-all p b.gone k.knows.0 (subst (IsIn p) known.taken_is h)) in
+    let some = in-named p b.all came in let count = of-times p.sender b.all in let room = known.sound.room p.sender in
+    subst (λ (y : Setup). has_sender (senders_of y) p.sender ≡ true) (sym known.setup) (room-known b.setup.rooms p.sender (omega (arith, some, count, room)))
+
+-- What the gathered seats' lists have in all.
+gathered-apart : (b : Books) (given : List ℕ) (gathered : List Gathered) → AreGathered b given gathered → AreApart (gathered_senders gathered)
+gathered-apart b given [] h = tt
+gathered-apart b given (g ∷ gathered) h = (h.1, gathered-apart b given gathered h.2)
+
+accepted-counted : (b : Books) (given : List ℕ) (gathered : List Gathered) → AreGathered b given gathered → accepted_in_all gathered ≡ times_in_all (gathered_senders gathered) (senders_named b.all)
+accepted-counted b given [] h = refl
+accepted-counted b given (g ∷ gathered) h =
+    let here = ap length h.0.accepted ∙ of-times g.sender b.all in let rest = accepted-counted b given gathered h.2 in omega (arith, here, rest)
+
+evicted-counted : (b : Books) (given : List ℕ) (gathered : List Gathered) → AreGathered b given gathered → evicted_in_all gathered ≡ times_in_all (gathered_senders gathered) (put_for b.gone)
+evicted-counted b given [] h = refl
+evicted-counted b given (g ∷ gathered) h =
+    let here = ap length h.0.evicted ∙ evicted-times g.sender b.gone in let rest = evicted-counted b given gathered h.2 in omega (arith, here, rest)
+
+-- the seat of each sender was gathered
+abbrev pub EachGathered : View → Type 0
+EachGathered v = (s : ℕ) → has_sender (senders_of v.setup) s ≡ true → has_sender (gathered_senders v.gathered) s ≡ true
+
+-- A sender whose seat wasn't gathered isn't one of the queue's, where all were gathered.
+unknown : (v : View) (s : ℕ) → EachGathered v → has_sender (gathered_senders v.gathered) s ≡ false → (b : Bool) → has_sender (senders_of v.setup) s ≡ b → b ≡ false
+unknown v s all e true is = sym (all s is) ∙ e
+unknown v s all e false is = refl
+
+-- Where all seats were gathered, what the queue took was put out, or taken, or is held.
+taken-balances : (v : View) (taken held : List Packet) → TapKnows v taken held → EachGathered v
+    → length taken + evicted_in_all v.gathered + length held ≡ accepted_in_all v.gathered
+taken-balances v taken held known all =
+    let b = known.books in let sound = known.sound in let senders : List ℕ = gathered_senders v.gathered in
+    let no_sender : (s : ℕ) → has_sender senders s ≡ false → has_sender (senders_of b.setup) s ≡ false = λ s e. ap (λ (y : Setup). has_sender (senders_of y) s) (sym known.setup) ∙ unknown v s all e (has_sender (senders_of v.setup) s) refl in
+    let apart = gathered-apart b v.given v.gathered known.gathered in
+    let came = counted senders (senders_named b.all) apart (λ s e. sym (of-times s b.all) ∙ unroomed b.setup.rooms s (length (of_sender s b.all)) (sound.room s) (no_sender s e)) in
+    let out = counted senders (put_for b.gone) apart (λ s e. sym (evicted-times s b.gone) ∙ ap length (sound.known s (no_sender s e))) in
+    let accepted = accepted-counted b v.given v.gathered known.gathered in
+    let evicted = evicted-counted b v.given v.gathered known.gathered in
+    let long = ap length sound.order ∙ length-append (went_out b.gone) held in
+    let named = named-length b.all in let gone = gone-length b.gone in
+    let mine = ap length known.taken_is in omega (arith, came, out, accepted, evicted, long, named, gone, mine)
+
+pub taken-fewer : (v : View) (taken : List Packet) → TapKeeps v taken → EachGathered v → length taken + evicted_in_all v.gathered ≤ accepted_in_all v.gathered
+taken-fewer v taken k all = let same = taken-balances v taken k.knows.0 (tap-knows v taken k) all in omega (arith, same)
+
+pub taken-all : (v : View) (taken : List Packet) → TapKeeps v taken → Held 0 (Knows v) → EachGathered v → length taken + evicted_in_all v.gathered ≡ accepted_in_all v.gathered
+taken-all v taken k held all = let same = taken-balances v taken held.0 (knows-held v taken held.0 k held.2) all in let none = held.1 in omega (arith, same, none)

@@ -1,0 +1,111 @@
+-- What became of all packets of a shared queue, once its seats are closed.
+use Rattle.std.specs.Prelude.{◌≡◌, ℕ, ◌+◌, ◌<◌, ◌≤◌, ◌==◌, ◌⊎◌, Bool, true, List, [], ◌∷◌, ◌++◌, length, map, filter, ⊤, if◌then◌else◌}
+use Rattle.std.specs.List.{flat_map}
+use Rattle.clk_packet.specs.declared.packet.Packet.{Packet}
+use Rattle.clk_packet.specs.declared.tally.Tally.{Tally}
+use Rattle.clk_packet.specs.declared.fault.Fault.{Fault}
+use Rattle.clk_packet.specs.declared.fault.Fault.TheVariants.{Memory, Unsettled}
+use Rattle.clk_ruled.specs.declared.view.Gathered.{Gathered}
+use Rattle.clk_ruled.specs.declared.settling.Settled.{Settled}
+use Rattle.clk_ruled.specs.Lists.{of_sender, has_packet, without}
+use Rattle.clk_ruled.specs.Queue.{SeatLists, TapLists, ClosedLists, SendersRise, accepted_in_all, evicted_in_all}
+use Rattle.clk_ruled.specs.Rule.{Books, IsSound, AreGathered, gathered_seat, senders_of, taken_in}
+use Rattle.clk_ruled.specs.Account.{IsAccount}
+
+-- the lists of closed seats
+abbrev pub lists_of : List ClosedLists → List SeatLists
+lists_of closed = map (λ (c : ClosedLists). c.lists) closed
+
+abbrev pub as_gathered : SeatLists → Gathered
+as_gathered l = gathered_seat l.sender l.accepted l.evicted
+
+-- a list of the seat of a sender: none, where the sender has no seat here
+abbrev pub of_seat : (SeatLists → List Packet) → List SeatLists → ℕ → List Packet
+of_seat list [] s = []
+of_seat list (l ∷ seats) s = if l.sender == s then list l else of_seat list seats s
+
+-- what the queue took from a sender, and what it put out for it
+abbrev pub accepted_of : List SeatLists → ℕ → List Packet
+accepted_of seats s = of_seat (λ l. l.accepted) seats s
+
+abbrev pub evicted_of : List SeatLists → ℕ → List Packet
+evicted_of seats s = of_seat (λ l. l.evicted) seats s
+
+-- the packets that were put out, for any of the seats
+abbrev pub all_evicted : List SeatLists → List Packet
+all_evicted seats = flat_map (λ (l : SeatLists). l.evicted) seats
+
+-- how many packets the queue took, and how many it put out
+abbrev pub accepted_count : List SeatLists → ℕ
+accepted_count seats = accepted_in_all (map as_gathered seats)
+
+abbrev pub evicted_count : List SeatLists → ℕ
+evicted_count seats = evicted_in_all (map as_gathered seats)
+
+-- how many packets were refused or put out
+abbrev pub lost_count : List SeatLists → ℕ
+lost_count [] = 0
+lost_count (l ∷ seats) = length l.refused + length l.evicted + lost_count seats
+
+-- the lists stand in the list
+abbrev pub IsAmong : Gathered → List Gathered → Type 0
+IsAmong g [] = ⊥
+IsAmong g (h ∷ gathered) = (g ≡ h) ⊎ IsAmong g gathered
+
+-- The seat was opened with the tap, and where it was gathered the tap has its lists.
+pub record IsOfTap (tap : TapLists) (c : ClosedLists) : Type 0 where
+  pub id : c.lists.id ≡ tap.id
+  pub setup : c.lists.setup ≡ tap.setup
+  pub had : c.is_gathered ≡ true → IsAmong (as_gathered c.lists) tap.gathered
+
+abbrev pub AreOfTap : TapLists → List ClosedLists → Type 0
+AreOfTap tap [] = ⊤
+AreOfTap tap (c ∷ closed) = IsOfTap tap c × AreOfTap tap closed
+
+-- The closed seats are all that the tap's queue was opened with, in order.
+pub record AreTogether (tap : TapLists) (closed : List ClosedLists) : Type 0 where
+  pub senders : map (λ (l : SeatLists). (l.sender, l.room)) (lists_of closed) ≡ tap.setup.rooms
+  pub each : AreOfTap tap closed
+
+-- the tally of a seat's sender, where the packets that pass the test were put out
+abbrev pub tally_by : (Packet → Bool) → SeatLists → Tally
+tally_by was_put_out l = record { sender = l.sender; accepted = l.accepted; refused = l.refused; evicted = filter was_put_out l.accepted }
+
+-- the same where these packets were put out
+abbrev pub tally_of : List Packet → SeatLists → Tally
+tally_of out l = tally_by (has_packet out) l
+
+-- What settling a queue tells.
+pub record IsSettled (tap : TapLists) (closed : List ClosedLists) (settled : Settled) : Type 0 where
+  pub taken : settled.taken.items ≡ tap.taken
+  pub tallies : settled.tallies.items ≡ map (tally_of (all_evicted (lists_of closed))) (lists_of closed)
+  -- there are packets that were held, with which the account is whole
+  pub held : List Packet
+  pub account : IsAccount tap.setup.kind tap.setup.capacity (senders_of tap.setup) (accepted_of (lists_of closed)) (evicted_of (lists_of closed)) tap.taken held
+  -- of a sender's packets that weren't put out those that weren't pulled are the last that the queue took
+  pub left : (s : ℕ) → (before : List Packet) × (accepted_of (lists_of closed) s ≡ before ++ without (without (accepted_of (lists_of closed) s) (all_evicted (lists_of closed))) tap.taken)
+  -- where all that weren't put out were pulled, they were pulled in their sender's order
+  pub all_taken : accepted_count (lists_of closed) ≡ evicted_count (lists_of closed) + length tap.taken → (s : ℕ) → without (accepted_of (lists_of closed) s) (all_evicted (lists_of closed)) ≡ of_sender s tap.taken
+  -- something was refused or put out only where the queue took so many packets as it may hold
+  pub reached : 0 < lost_count (lists_of closed) → tap.setup.capacity ≤ accepted_count (lists_of closed)
+
+-- Why a queue isn't settled.
+abbrev pub IsFaultOfSettle : TapLists → List ClosedLists → ℕ → Fault → Type 0
+IsFaultOfSettle tap closed index fault =
+    (fault ≡ Memory) ⊎ ((fault ≡ Unsettled index (accepted_count (lists_of closed)) tap.setup.capacity) × (0 < lost_count (lists_of closed)) × (accepted_count (lists_of closed) < tap.setup.capacity))
+
+-- What the tap knows of its queue at one moment.
+pub record IsAccounted (tap : TapLists) : Type 0 where
+  pub held : List Packet
+  pub books : Books
+  pub given : List ℕ
+  pub sound : IsSound books held
+  pub setup : tap.setup ≡ books.setup
+  pub rises : SendersRise tap.setup.rooms
+  pub taken : tap.taken ≡ taken_in books.gone
+  pub gathered : AreGathered books given tap.gathered
+
+-- the tap has the lists of each of these seats
+abbrev pub HasEach : TapLists → List SeatLists → Type 0
+HasEach tap [] = ⊤
+HasEach tap (l ∷ seats) = IsAmong (as_gathered l) tap.gathered × HasEach tap seats

@@ -1,0 +1,100 @@
+//! What a seat leaves at a shared queue once it is closed.
+
+use crate::protocol::Retire;
+use crate::queue::Line;
+use crate::view::View;
+use clk_packet::Packet;
+use crossbeam_queue::Pass;
+use std::marker::Model;
+use std::mem;
+
+/// A seat that was closed. It keeps its lists.
+#[derive(Drop)]
+pub struct ClosedSeat {
+    pub(crate) pass: Pass<Packet, View>,
+    pub(crate) sender: u16,
+    pub(crate) room: u32,
+    pub(crate) next: u32,
+    pub(crate) accepted: Vec<Packet>,
+    pub(crate) refused: Vec<Packet>,
+    pub(crate) evicted: Vec<Packet>,
+    pub(crate) gathered: bool,
+}
+
+impl Model for ClosedSeat {
+    ghost use Rattle.std.specs.Prelude.{◌≡◌, ◌≤◌, [], false};
+    ghost use Rattle.crossbeam_queue.specs.Passes.{view as known};
+    ghost use Rattle.clk_ruled.specs.Queue.{ClosedLists, IsShared};
+    ghost use Rattle.clk_ruled.specs.Parts.{SeatFits};
+
+    ghost Value = { ClosedLists };
+
+    ghost view = { λ c. record { lists = record { id = c.pass.table_id; setup = (known c.pass).setup; sender = c.sender; room = c.room; next = c.next; accepted = c.accepted.items; refused = c.refused.items; evicted = c.evicted.items }; is_gathered = c.gathered } };
+
+    ghost invariant = { λ c. (c.gathered ≡ false → SeatFits (known c.pass) c.sender c.room c.next c.accepted.items c.refused.items c.evicted.items) × (c.pass.me.1 ≡ []) × (c.next ≤ c.room) × IsShared c.sender c.next c.accepted.items c.refused.items };
+}
+
+impl ClosedSeat {
+    ghost use Rattle.std.specs.Prelude.{◌≡◌, ◌≤◌, true, false};
+    ghost use Rattle.crossbeam_queue.specs.Passes.{view as known, IsPassOf};
+    ghost use Rattle.clk_ruled.specs.Queue.{IsShared};
+    ghost use Rattle.clk_ruled.specs.Rule.{seat_view};
+
+    // Gives its pass away, to be gathered, and keeps one that neither sits nor taps.
+    pub(crate) fn give_up(&mut self, line: &Line) -> Pass<Packet, View>
+        requires queue { self.old.lists.id ≡ line.now.table.shared.table_id }
+        requires seat { self.old.is_gathered ≡ false }
+        ensures seat { self.new ≡ record { lists = self.old.lists; is_gathered = true } }
+        ensures queue { IsPassOf line.now result }
+        ensures sits { (known result).sits ≡ true }
+        ensures lists { ((known result).sender ≡ self.old.lists.sender) × ((known result).accepted ≡ self.old.lists.accepted) × ((known result).evicted ≡ self.old.lists.evicted) }
+    {
+        self.gathered = true;
+        let retired = line.another::<Retire>(&mut self.pass);
+        mem::replace(&mut self.pass, retired)
+    }
+
+    /// The sender's number.
+    pub fn sender(&self) -> u16
+        ensures { result ≡ self.now.lists.sender }
+    {
+        self.sender
+    }
+
+    /// How many packets it offered: the number of its next packet.
+    pub fn next(&self) -> u32
+        ensures next { result ≡ self.now.lists.next }
+        ensures within { result ≤ self.now.lists.room }
+        ensures shares { IsShared self.now.lists.sender result self.now.lists.accepted self.now.lists.refused }
+    {
+        self.next
+    }
+
+    /// How many packets it may offer.
+    pub fn room(&self) -> u32
+        ensures { result ≡ self.now.lists.room }
+    {
+        self.room
+    }
+
+    /// The packets that the queue took, by rising number.
+    pub fn accepted(&self) -> &[Packet]
+        ensures { result.now ≡ self.now.lists.accepted }
+    {
+        self.accepted.as_slice()
+    }
+
+    /// The packets that the queue refused, by rising number.
+    pub fn refused(&self) -> &[Packet]
+        ensures { result.now ≡ self.now.lists.refused }
+    {
+        self.refused.as_slice()
+    }
+
+    /// The packets that the queue put out for this seat's, in order. They may be of any sender.
+    pub fn evicted(&self) -> &[Packet]
+        ensures { result.now ≡ self.now.lists.evicted }
+    {
+        self.evicted.as_slice()
+    }
+}
