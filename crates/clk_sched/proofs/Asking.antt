@@ -1,7 +1,8 @@
 -- Inputs of a node that are asked one after another.
-use Rattle.std.proofs.Common.{◌≡◌, ◌≢◌, ℕ, suc, ◌+◌, ◌<◌, ◌≤◌, List, [], ◌∷◌, ◌++◌, length, take, drop, slice_get, slice_index, Option, Some, None, refl, sym, ap, ap₂, ◌∙◌, subst, append-nil, append_assoc, arith}
+use Rattle.std.proofs.Common.{◌≡◌, ◌≢◌, ℕ, suc, ◌+◌, ◌<◌, ◌≤◌, List, [], ◌∷◌, ◌++◌, length, take, drop, slice_get, slice_index, Option, Some, None, IsSome, refl, sym, ap, ap₂, ◌∙◌, subst, append-nil, append_assoc, arith}
 use Rattle.std.specs.List.{AllByRecursion}
 use Rattle.std.proofs.Math.Seq.{drop-append_seam, take-suc}
+use Rattle.std.proofs.lemmas.Option.{slice_get-get_or}
 use Rattle.std.proofs.lemmas.List.{map-append, take-append-drop, take_all}
 use Rattle.clk_packet.specs.declared.packet.Packet.{Packet}
 use Rattle.clk_sched.specs.declared.visit.Visit.{Visit}
@@ -9,9 +10,10 @@ use Rattle.clk_sched.specs.declared.session.nodes.Nodes.{Nodes}
 use Rattle.clk_sched.specs.declared.session.inputs.Inputs.{Inputs}
 use Rattle.clk_sched.specs.Log.{asking}
 use Rattle.clk_sched.specs.Holds.Shaper.{AreBefore}
-use Rattle.clk_sched.specs.Places.{StandsIn, AreWired, AllFit, edges_at, edges_in, Answers, at_queue, queue_asked}
+use Rattle.clk_sched.specs.Places.{StandsIn, AreWired, AllFit, edges_at, edges_in, input_at, Answers, at_queue, queue_asked}
 use Rattle.clk_sched.specs.Pulling.{Now, AreApart, CanPull, Keeps, Asks, AsksAll, IsGoing, IsPulling, IsUnasked, added, now_of, asked_in_vain, asked_in_order}
-use Rattle.clk_sched.proofs.Members.{In, of-all, to-all, all-append, all-split}
+use Rattle.clk_sched.specs.Turning.{HasAsked, HasAskedAll}
+use Rattle.clk_sched.proofs.Members.{In, of-all, to-all, all-append, all-split, in-slice}
 use Rattle.clk_sched.proofs.Apart.{all-map}
 
 -- what was logged, where the log is known
@@ -167,12 +169,6 @@ pub record IsAsking {S : Type 0} (gives : S → ℕ → Option Packet → S → 
 pub asking-first : {S : Type 0} (gives : S → ℕ → Option Packet → S → Type 0) (a : Nodes) (q : S) (x : ℕ) → AllFit a.inputs.items a.states.items → IsAsking gives a a q q x []
 asking-first gives a q x fit = record { keeps = keeps-none a fit; answers = subst (λ l. Answers gives (queue_asked a.inputs.items) q l q) (sym (added-none a)) refl; asks = asks-none a x }
 
--- one more of an order is asked
-pub record HasAsked {S : Type 0} (gives : S → ℕ → Option Packet → S → Type 0) (old new : Nodes) (before now : S) (x i : ℕ) (got : Option Packet) : Type 0 where
-  pub keeps : Keeps old new (edges_at old.inputs.items x i)
-  pub answers : Answers gives (queue_asked old.inputs.items) before (added old new) now
-  pub asks : AsksAll old new x (i ∷ []) (asking old.pull old.moment x i got ∷ [])
-
 edges-next : (table : List Inputs) (x : ℕ) (order : List ℕ) (i : ℕ) → edges_in table x (order ++ i ∷ []) ≡ edges_in table x order + edges_at table x i
 edges-next table x order i = let e = edges-append table x order (i ∷ []) in omega (arith, e)
 
@@ -207,10 +203,24 @@ asking-can gives a b p q x k order can h l =
     (can-go_on a b x (edges_in a.inputs.items x (take k order)) (edges_at a.inputs.items x i)
     (record { wired = can.wired; fit = can.fit; there = can.there; room = (let r = can.room in omega (arith, e, f, m)); moment = can.moment }) h.keeps)
 
-pub asking-next : {S : Type 0} (gives : S → ℕ → Option Packet → S → Type 0) (a b c : Nodes) (p q r : S) (x k : ℕ) (order : List ℕ) → k < length order → IsAsking gives a b p q x (take k order)
-    → HasAsked gives b c q r x (slice_index order k) None → IsAsking gives a c p r x (take (k + 1) order)
-asking-next gives a b c p q r x k order l h one =
-    let all = asking-then gives a b c p q r x (slice_index order k) (take k order) None h one in
+-- What the next place of an order names can be asked.
+pub asking-ready : {S : Type 0} (gives : S → ℕ → Option Packet → S → Type 0) (a b : Nodes) (p q : S) (x k i : ℕ) (order : List ℕ) → CanPull a x (edges_in a.inputs.items x order)
+    → AllByRecursion (λ j. IsSome (input_at a.inputs.items x j)) order → IsAsking gives a b p q x (take k order) → k < length order → i ≡ slice_index order k
+    → CanPull b x (edges_at b.inputs.items x i) × IsSome (input_at b.inputs.items x i)
+asking-ready gives a b p q x k i order can within h l same = (
+  subst (λ j. CanPull b x (edges_at b.inputs.items x j)) (sym same) (asking-can gives a b p q x k order can h l),
+  subst (λ table. IsSome (input_at table x i)) (sym h.keeps.inputs)
+      (subst (λ j. IsSome (input_at a.inputs.items x j)) (sym same) (of-all (λ j. IsSome (input_at a.inputs.items x j)) (slice_index order k) order within (in-slice order k (slice_index order k) (slice_get-get_or order k 0 l)))),
+)
+
+-- it was asked as the order names it, and gave this
+named : {S : Type 0} (gives : S → ℕ → Option Packet → S → Type 0) (b c : Nodes) (q r : S) (x i j : ℕ) (got given : Option Packet) → i ≡ j → got ≡ given → HasAsked gives b c q r x i got → HasAsked gives b c q r x j given
+named gives b c q r x i j got given same is one = subst (λ k. HasAsked gives b c q r x k given) same (subst (HasAsked gives b c q r x i) is one)
+
+pub asking-next : {S : Type 0} (gives : S → ℕ → Option Packet → S → Type 0) (a b c : Nodes) (p q r : S) (x k i : ℕ) (got : Option Packet) (order : List ℕ) → k < length order → IsAsking gives a b p q x (take k order)
+    → i ≡ slice_index order k → got ≡ None → HasAsked gives b c q r x i got → IsAsking gives a c p r x (take (k + 1) order)
+asking-next gives a b c p q r x k i got order l h same none one =
+    let all = asking-then gives a b c p q r x (slice_index order k) (take k order) None h (named gives b c q r x i (slice_index order k) got None same none one) in
     subst (IsAsking gives a c p r x) (sym (take-next order k l))
     (record {
       keeps = all.0;
@@ -218,16 +228,10 @@ asking-next gives a b c p q r x k order l h one =
       asks = subst (AsksAll a c x (take k order ++ slice_index order k ∷ [])) (sym (map-append (λ i. asking a.pull a.moment x i None) (take k order) (slice_index order k ∷ []))) all.2;
     })
 
--- what was asked in an order that ended
-pub record HasAskedAll {S : Type 0} (gives : S → ℕ → Option Packet → S → Type 0) (old new : Nodes) (before now : S) (x : ℕ) (order : List ℕ) (more : List Visit) : Type 0 where
-  pub keeps : Keeps old new (edges_in old.inputs.items x order)
-  pub answers : Answers gives (queue_asked old.inputs.items) before (added old new) now
-  pub asks : AsksAll old new x order more
-
-pub asking-given : {S : Type 0} (gives : S → ℕ → Option Packet → S → Type 0) (a b c : Nodes) (p q r : S) (x k : ℕ) (order : List ℕ) (packet : Packet) → k < length order → IsAsking gives a b p q x (take k order)
-    → HasAsked gives b c q r x (slice_index order k) (Some packet) → HasAskedAll gives a c p r x order (asked_in_order (now_of a) x order (Some (k, packet)))
-asking-given gives a b c p q r x k order packet l h one =
-    let all = asking-then gives a b c p q r x (slice_index order k) (take k order) (Some packet) h one in
+pub asking-given : {S : Type 0} (gives : S → ℕ → Option Packet → S → Type 0) (a b c : Nodes) (p q r : S) (x k i : ℕ) (got : Option Packet) (packet : Packet) (order : List ℕ) → k < length order → IsAsking gives a b p q x (take k order)
+    → i ≡ slice_index order k → got ≡ Some packet → HasAsked gives b c q r x i got → HasAskedAll gives a c p r x order (Some (k, packet))
+asking-given gives a b c p q r x k i got packet order l h same is one =
+    let all = asking-then gives a b c p q r x (slice_index order k) (take k order) (Some packet) h (named gives b c q r x i (slice_index order k) got (Some packet) same is one) in
     let whole : (take k order ++ slice_index order k ∷ []) ++ drop (k + 1) order ≡ order = ap (λ l. l ++ drop (k + 1) order) (sym (take-next order k l)) ∙ take-append-drop (k + 1) order in
     let edges = edges-append a.inputs.items x (take k order ++ slice_index order k ∷ []) (drop (k + 1) order) in
     let same = ap (edges_in a.inputs.items x) whole in
@@ -237,8 +241,13 @@ asking-given gives a b c p q r x k order packet l h one =
       asks = subst (λ l. AsksAll a c x l (asked_in_order (now_of a) x order (Some (k, packet)))) whole (asks-front a c x (take k order ++ slice_index order k ∷ []) (drop (k + 1) order) _ all.2);
     }
 
-pub asking-all : {S : Type 0} (gives : S → ℕ → Option Packet → S → Type 0) (a b : Nodes) (p q : S) (x k : ℕ) (order : List ℕ) → length order ≤ k → IsAsking gives a b p q x (take k order)
-    → HasAskedAll gives a b p q x order (asked_in_order (now_of a) x order None)
+pub asking-all : {S : Type 0} (gives : S → ℕ → Option Packet → S → Type 0) (a b : Nodes) (p q : S) (x k : ℕ) (order : List ℕ) → length order ≤ k → IsAsking gives a b p q x (take k order) → HasAskedAll gives a b p q x order None
 asking-all gives a b p q x k order l h =
     let r : IsAsking gives a b p q x order = subst (IsAsking gives a b p q x) (take_all k order l) h in
     record { keeps = r.keeps; answers = r.answers; asks = r.asks }
+
+-- what was asked in vain, as a part of what is asked
+pub asked-vain : {S : Type 0} (gives : S → ℕ → Option Packet → S → Type 0) (a b : Nodes) (p q : S) (x : ℕ) (order : List ℕ) (r : Option (ℕ × Packet)) → r ≡ None → HasAskedAll gives a b p q x order r → IsAsking gives a b p q x order
+asked-vain gives a b p q x order r none h =
+    let k : HasAskedAll gives a b p q x order None = subst (HasAskedAll gives a b p q x order) none h in
+    record { keeps = k.keeps; answers = k.answers; asks = k.asks }

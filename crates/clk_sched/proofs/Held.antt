@@ -1,5 +1,5 @@
 -- What the states of nodes hold as heads is what their visits say.
-use Rattle.std.proofs.Common.{◌≡◌, ℕ, zero, suc, ◌+◌, ◌<◌, ◌==◌, Bool, true, false, if◌then◌else◌, List, [], ◌∷◌, ◌++◌, length, map, reverse, take, get_or, Option, Some, None, MatchOption, slice_get, refl, sym, ap, ap₂, ◌∙◌, append_assoc, append-nil, arith}
+use Rattle.std.proofs.Common.{◌≡◌, ℕ, zero, suc, ◌+◌, ◌<◌, ◌==◌, List, [], ◌∷◌, ◌++◌, length, map, reverse, take, get_or, Option, Some, None, MatchOption, slice_get, refl, sym, ap, ap₂, ◌∙◌, append_assoc, append-nil, arith}
 use Rattle.std.specs.List.{flat_map, filter_map, cons_option, range_with_len}
 use Rattle.std.proofs.lemmas.List.{take_more, map-append, reverse-append}
 use Rattle.std.proofs.lemmas.List.Elements.{filter_map-append}
@@ -16,11 +16,11 @@ use Rattle.clk_sched.specs.Heads.{head_at}
 use Rattle.clk_sched.specs.Log.{visits_of, pulls, moment_of}
 use Rattle.clk_sched.specs.Laws.{manner}
 use Rattle.clk_sched.specs.Holds.OfClass.{Holds}
-use Rattle.clk_sched.specs.Results.{emitted, heads, Traced, traced, held_at, own_heads, traced_heads}
+use Rattle.clk_sched.specs.Results.{heads, Traced, traced, held_at, own_heads, traced_heads}
 use Rattle.clk_sched.specs.Run.{IsRun}
 use Rattle.clk_sched.specs.Pulling.{History, with_turn, EachHolds}
 use Rattle.clk_sched.specs.Session.{history_of, IsAfterRun}
-use Rattle.clk_sched.specs.Held.{emitted_by, heads_in, heads_of, heads_of_all}
+use Rattle.clk_sched.specs.Held.{heads_in, heads_of, heads_of_all}
 use Rattle.clk_sched.proofs.Blocks.{filter-flat_map}
 use Rattle.clk_sched.proofs.Pulled.{joined}
 
@@ -28,18 +28,6 @@ use Rattle.clk_sched.proofs.Pulled.{joined}
 pub filter_map-more : {X Y : Type 0} (h : X → Option Y) (xs : List X) (i : ℕ) (x : X) → i < length xs → x ≡ get_or xs i x → filter_map h (take (i + 1) xs) ≡ filter_map h (take i xs) ++ cons_option (h x) []
 filter_map-more h xs i x l e =
     ap (filter_map h) (take_more xs i x l ∙ ap (λ y. take i xs ++ y ∷ []) (sym e)) ∙ filter_map-append h (take i xs) (x ∷ [])
-
-pub emitted-each : (log : List Visit) → filter_map emitted_by log ≡ emitted log
-emitted-each [] = refl
-emitted-each (v ∷ log) = by_node (v.node == 0) (emitted-each log)
-  where
-    passed : Option Packet
-    passed = if v.passed then v.got else None
-
-    by_node : (b : Bool) → filter_map emitted_by log ≡ emitted log
-        → cons_option (if b then passed else None) (filter_map emitted_by log) ≡ filter_map (λ (w : Visit). if w.passed then w.got else None) (if b then v ∷ visits_of 0 log else visits_of 0 log)
-    by_node true rest = ap (cons_option passed) rest
-    by_node false rest = rest
 
 -- A history has all visits of a node.
 pub visits-history : (ps : List (List Visit)) (x : ℕ) → visits_before (history_of ps x) ≡ flat_map (λ p. reverse (visits_of x p)) ps

@@ -26,13 +26,15 @@ pub mod Asked
 pub mod QueuesAsked
 pub mod Edges
 pub mod InOrder
-pub mod PutBack
+pub mod Placed
 pub mod Ordered
 pub mod TurnPrio
 pub mod TurnRoundRobin
 pub mod TurnStride
 pub mod TurnShaper
 pub mod TurnOfClass
+pub mod Logged
+pub mod LooksDrr
 pub mod TurnDrr
 pub mod Orders
 pub mod Chosen

@@ -1,16 +1,21 @@
 -- What it takes to ask the inputs of a node in an order that names none twice.
-use Rattle.std.proofs.Common.{◌≡◌, ℕ, zero, suc, ◌+◌, ◌<◌, List, [], ◌∷◌, length, slice_get, Some, IsSome, MatchOption, refl, sym, ap, ◌∙◌, subst, arith}
+use Rattle.std.proofs.Common.{◌≡◌, ℕ, zero, suc, ◌+◌, ◌<◌, List, [], ◌∷◌, length, slice_get, Option, Some, IsSome, IfSome, MatchOption, refl, sym, ap, ◌∙◌, subst, arith}
 use Rattle.std.specs.List.{AllByRecursion}
 use Rattle.std.proofs.lemmas.Option.{slice_get-get_or}
+use Rattle.clk_packet.specs.declared.packet.Packet.{Packet}
 use Rattle.clk_sched.specs.declared.session.inputs.Input.TheVariants.{Queue}
 use Rattle.clk_sched.specs.declared.session.inputs.Inputs.{Inputs}
 use Rattle.clk_sched.specs.declared.session.nodes.Nodes.{Nodes}
-use Rattle.clk_sched.specs.Tree.{Row, end, leaf, node, nodes, width}
+use Rattle.clk_sched.specs.declared.session.state.State.{State}
+use Rattle.clk_sched.specs.Tree.{Class, Row, end, leaf, node, nodes, width}
 use Rattle.clk_sched.specs.Places.{inputs_of, StandsIn, edges_of, edges_in, input_at, option_input}
-use Rattle.clk_sched.specs.Pulling.{AreApart, CanPull, Keeps}
+use Rattle.clk_sched.specs.Holds.OfClass.{Fits}
+use Rattle.clk_sched.specs.Pulling.{AreApart, CanPull, Keeps, TakesTurn}
+use Rattle.clk_sched.specs.Turning.{HasAskedAll, HadTurn}
 use Rattle.clk_sched.proofs.Members.{all-weaker}
 use Rattle.clk_sched.proofs.Asking.{keeps-more}
 use Rattle.clk_sched.proofs.Edges.{edges-order}
+use Rattle.clk_sched.proofs.InOrder.{packet_of}
 use Rattle.clk_sched.proofs.Orders.{IsOrderOf}
 
 length-inputs : (next : ℕ) (row : Row) → length (inputs_of next row) ≡ width row
@@ -43,11 +48,11 @@ pub keeps-order : (a b : Nodes) (x : ℕ) (p : Inputs) (order : List ℕ) → Ca
     → Keeps a b (edges_in a.inputs.items x order) → Keeps a b (edges_of a.inputs.items x)
 keeps-order a b x p order can e apart h = keeps-more a b _ _ h (edges-order a.inputs.items x p order can.wired e apart)
 
--- the inputs of a node that is in the table
-pub inputs-there : (table : List Inputs) (x : ℕ) → x < length table → (p : Inputs) × (slice_get table x ≡ Some p)
-inputs-there [] x l = absurd (omega arith)
-inputs-there (p ∷ table) zero l = (p, refl)
-inputs-there (p ∷ table) (suc x) l = inputs-there table x (omega arith)
+-- what stands at a place of a list
+pub item-there : {X : Type 0} (xs : List X) (i : ℕ) → i < length xs → (x : X) × (slice_get xs i ≡ Some x)
+item-there [] i l = absurd (omega arith)
+item-there (x ∷ xs) zero l = (x, refl)
+item-there (x ∷ xs) (suc i) l = item-there xs i (omega arith)
 
 -- an order of some inputs of a node
 abbrev pub IsOrderAt : List Inputs → ℕ → List ℕ → Type 0
@@ -55,14 +60,20 @@ IsOrderAt table x order = (p : Inputs) → slice_get table x ≡ Some p → IsOr
 
 -- What it takes to ask in such an order, and what stays.
 pub can-ask : (a : Nodes) (x : ℕ) (order : List ℕ) → CanPull a x (edges_of a.inputs.items x) → IsOrderAt a.inputs.items x order → CanPull a x (edges_in a.inputs.items x order)
-can-ask a x order can is = let p = inputs-there a.inputs.items x can.there in can-order a x p.0 order can p.1 (is p.0 p.1).apart
+can-ask a x order can is = let p = item-there a.inputs.items x can.there in can-order a x p.0 order can p.1 (is p.0 p.1).apart
 
 pub inputs-asked : (table : List Inputs) (x : ℕ) (order : List ℕ) → x < length table → IsOrderAt table x order → AllByRecursion (λ i. IsSome (input_at table x i)) order
-inputs-asked table x order l is = let p = inputs-there table x l in order-there table x p.0 order p.1 (is p.0 p.1).within
+inputs-asked table x order l is = let p = item-there table x l in order-there table x p.0 order p.1 (is p.0 p.1).within
 
 pub keeps-asked : (a b : Nodes) (x : ℕ) (order : List ℕ) → CanPull a x (edges_of a.inputs.items x) → IsOrderAt a.inputs.items x order → Keeps a b (edges_in a.inputs.items x order) → Keeps a b (edges_of a.inputs.items x)
-keeps-asked a b x order can is h = let p = inputs-there a.inputs.items x can.there in keeps-order a b x p.0 order can p.1 (is p.0 p.1).apart h
+keeps-asked a b x order can is h = let p = item-there a.inputs.items x can.there in keeps-order a b x p.0 order can p.1 (is p.0 p.1).apart h
 
 -- the same as an order of the inputs of the row that stands there
 pub row-order : (table : List Inputs) (x : ℕ) (row : Row) (order : List ℕ) → x < length table → StandsIn table x row → IsOrderAt table x order → IsOrderOf (width row) order
-row-order table x row order l stands is = let p = inputs-there table x l in subst (λ n. IsOrderOf n order) (stands-width table x row p.0 stands p.1) (is p.0 p.1)
+row-order table x row order l stands is = let p = item-there table x l in subst (λ n. IsOrderOf n order) (stands-width table x row p.0 stands p.1) (is p.0 p.1)
+
+-- Inputs were asked in an order, and that was a node's turn.
+pub had-order : {S : Type 0} (gives : S → ℕ → Option Packet → S → Type 0) (a b : Nodes) (q r : S) (x : ℕ) (order : List ℕ) (o : Option (ℕ × Packet)) (before now : State) → CanPull a x (edges_of a.inputs.items x)
+    → IsOrderAt a.inputs.items x order → HasAskedAll gives a b q r x order o → IfSome (slice_get a.inputs.items x) (λ (p : Inputs). Fits now (length p.each.items)) → ((class : Class) → TakesTurn a b x class before now (packet_of o))
+    → HadTurn gives a b q r x before now (packet_of o)
+had-order gives a b q r x order o before now can is h fits turn = record { keeps = keeps-asked a b x order can is h.keeps; answers = h.answers; fits = fits; turn = turn }

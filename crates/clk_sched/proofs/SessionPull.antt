@@ -1,21 +1,24 @@
 -- One pull of a session: what its nodes did is the next pull of its run.
-use Rattle.std.proofs.Common.{◌≡◌, ℕ, suc, ◌+◌, ◌<◌, ◌≤◌, max, List, [], ◌∷◌, ◌++◌, length, map, reverse, filter, Bool, true, false, ◌==◌, if◌then◌else◌, Option, refl, sym, ap, ◌∙◌, subst, append-nil, append_assoc, arith}
-use Rattle.std.specs.List.{AllByRecursion}
-use Rattle.std.proofs.lemmas.List.{reverse-append, length-append}
+use Rattle.std.proofs.Common.{◌≡◌, ℕ, suc, ◌+◌, ◌<◌, ◌≤◌, max, List, [], ◌∷◌, ◌++◌, length, map, reverse, filter, Bool, true, false, ◌==◌, if◌then◌else◌, Option, Some, None, MatchOption, refl, sym, ap, ◌∙◌, subst, append-nil, append_assoc, arith}
+use Rattle.std.specs.List.{AllByRecursion, filter_map, cons_option}
+use Rattle.std.proofs.lemmas.List.{map-append, reverse-append, length-append}
+use Rattle.std.proofs.lemmas.List.Elements.{filter-append, filter_map-append}
 use Rattle.std.proofs.lemmas.List.FromFn.{length-map-range_with_len}
 use Rattle.clk_packet.specs.declared.packet.Packet.{Packet}
 use Rattle.clk_sched.specs.declared.visit.Visit.{Visit}
 use Rattle.clk_sched.specs.declared.session.nodes.Nodes.{Nodes}
 use Rattle.clk_sched.specs.Tree.{Tree, root, prio, nodes}
-use Rattle.clk_sched.specs.Turns.{Turn}
-use Rattle.clk_sched.specs.Log.{visits_of, in_pull, pulls, moment_of, result_of, NeverFalls}
+use Rattle.clk_sched.specs.Turns.{Turn, UpToFirst, AsksInOrder}
+use Rattle.clk_sched.specs.Log.{visits_of, in_pull, pulls, moment_of, result_of, turn, NeverFalls}
+use Rattle.clk_sched.specs.Laws.Device.{IsDeviceTurn}
+use Rattle.clk_sched.specs.Results.{emitted}
 use Rattle.clk_sched.specs.Run.{IsRun}
 use Rattle.clk_sched.specs.Step.{IsOnePullMore}
 use Rattle.clk_sched.specs.Holds.Shaper.{AreBefore}
 use Rattle.clk_sched.specs.Places.{StandsIn, AreWired, AllFit}
 use Rattle.clk_sched.specs.Pulling.{NodeHolds, Keeps, Pulls, HasPulled, added, now_of, after, with_turn}
 use Rattle.clk_sched.specs.Session.{Progress, IsLaidOut, IsAfterRun, IsPulledOnce, history_of, latest_moment, newly}
-use Rattle.clk_sched.proofs.Members.{all-weaker}
+use Rattle.clk_sched.proofs.Members.{all-weaker, all-split}
 use Rattle.clk_sched.proofs.Apart.{all-reverse}
 use Rattle.clk_sched.proofs.GoesOn.{goes-on}
 use Rattle.clk_sched.proofs.Asking.{added-is}
@@ -183,3 +186,32 @@ session-first tree n laid =
       pull = laid.pull ∙ ap (λ l. length (pulls l)) (sym laid.log);
       moment = laid.moment ∙ ap (λ l. latest_moment (reverse (pulls l))) (sym laid.log);
     }
+
+-- what a pull of the device gave is what came out by its one visit
+device-gives : (visits : List Visit) → AsksInOrder (0 ∷ []) visits → filter_map (λ (v : Visit). if v.passed then v.got else None) visits ≡ cons_option (result_of visits) []
+device-gives [] h = absurd h.in_order
+device-gives (v ∷ visits) h =
+    subst (λ more. filter_map (λ (w : Visit). if w.passed then w.got else None) (v ∷ more) ≡ cons_option (result_of (v ∷ more)) []) (sym (by_got v.got h.in_order.1)) refl
+  where
+    by_got : (o : Option Packet) → MatchOption o (UpToFirst [] visits) (λ _. visits ≡ []) → visits ≡ []
+    by_got None k = none visits k
+      where
+        none : (vs : List Visit) → UpToFirst [] vs → vs ≡ []
+        none [] k = refl
+        none (w ∷ vs) k = absurd k
+    by_got (Some p) k = k
+
+-- One pull more adds what it gave to what came out.
+pub emitted-once : (old new : Progress) (moment : ℕ) (got : Option Packet) → IsPulledOnce old new moment got → emitted new.log ≡ emitted old.log ++ cons_option got []
+emitted-once old new moment got once =
+    ap emitted once.log ∙ ap (filter_map gives) (filter-append (λ (v : Visit). v.node == 0) old.log pull) ∙ filter_map-append gives (visits_of 0 old.log) (visits_of 0 pull)
+    ∙ ap (λ l. emitted old.log ++ l) (device-gives (visits_of 0 pull) its.0 ∙ ap (λ o. cons_option o []) (sym once.result))
+  where
+    pull : List Visit
+    pull = newly old new
+
+    gives : Visit → Option Packet
+    gives v = if v.passed then v.got else None
+
+    its : AllByRecursion IsDeviceTurn (turn 0 pull ∷ [])
+    its = (all-split IsDeviceTurn (map (turn 0) (pulls old.log)) (turn 0 pull ∷ []) (subst (AllByRecursion IsDeviceTurn) (ap (map (turn 0)) once.last ∙ map-append (turn 0) (pulls old.log) (pull ∷ [])) once.run.device)).1

@@ -1,92 +1,32 @@
 -- The turn of a DRRSched, visit by visit.
-use Rattle.std.proofs.Common.{◌≡◌, ◌≢◌, ℕ, zero, suc, ◌+◌, ◌%◌, ◌<◌, ◌≤◌, Bool, true, false, not, if◌then◌else◌, List, [], ◌∷◌, ◌++◌, length, map, slice_get, Option, Some, None, IsSome, IfSome, is_some, MatchOption, MatchBool, inl, inr, refl, sym, ap, ◌∙◌, subst, append_assoc, arith}
-use Rattle.std.specs.Bool.{⊤}
+use Rattle.std.proofs.Common.{◌≡◌, ◌≢◌, ℕ, zero, suc, ◌+◌, ◌%◌, ◌<◌, Bool, true, false, if◌then◌else◌, List, [], ◌∷◌, ◌++◌, length, map, slice_get, Option, Some, None, IsSome, IfSome, MatchBool, inl, inr, refl, sym, ap, ◌∙◌, subst, arith}
 use Rattle.std.specs.List.{AllByRecursion}
-use Rattle.std.proofs.lemmas.Bool.{false≢true}
 use Rattle.std.proofs.lemmas.List.{map-append, length-append}
 use Rattle.clk_packet.specs.declared.packet.Packet.{Packet}
 use Rattle.clk_sched.specs.declared.visit.Visit.{Visit}
-use Rattle.clk_sched.specs.declared.session.inputs.Input.{Input}
-use Rattle.clk_sched.specs.declared.session.inputs.Input.TheVariants.{Queue, Scheduler}
 use Rattle.clk_sched.specs.declared.session.inputs.Inputs.{Inputs}
 use Rattle.clk_sched.specs.declared.session.drr.Deficits.{Deficits}
 use Rattle.clk_sched.specs.declared.session.nodes.Nodes.{Nodes}
 use Rattle.clk_sched.specs.declared.session.state.State.TheVariants.{Drr}
 use Rattle.clk_sched.specs.Tree.{drr, width}
 use Rattle.clk_sched.specs.Turns.{Turn, EachAfter, visits_before}
-use Rattle.clk_sched.specs.Heads.{head_at, is_covered, LooksAtHeads, EndAtPass}
+use Rattle.clk_sched.specs.Heads.{LooksAtHeads, EndAtPass}
 use Rattle.clk_sched.specs.Laws.Deficit.{next_input, deficit_covers}
 use Rattle.clk_sched.specs.Log.{visits_of, result_of}
 use Rattle.clk_sched.specs.Holds.Deficit.{HoldsDeficits}
-use Rattle.clk_sched.specs.Places.{AllFit, edges_of, edges_at, edges_in, option_edges_to, input_at, Answers, at_queue, queue_asked}
-use Rattle.clk_sched.specs.Pulling.{AreApart, input_of, CanPull, Keeps, Asks, AsksAll, GoesOnBy, IsPulling, IsUnasked, IsVisitAt, added, now_of, with_turn}
-use Rattle.clk_sched.specs.Looking.{looking, Logs, Settles, Looks}
+use Rattle.clk_sched.specs.Places.{AllFit, edges_of, edges_at, edges_in, input_at, Answers, queue_asked}
+use Rattle.clk_sched.specs.Pulling.{AreApart, input_of, CanPull, Keeps, AsksAll, GoesOnBy, IsUnasked, added, now_of, with_turn}
+use Rattle.clk_sched.specs.Looking.{Looks}
 use Rattle.clk_sched.specs.Pulling.{TakesTurn}
+use Rattle.clk_sched.specs.Turning.{HadTurn}
 use Rattle.clk_sched.proofs.Members.{In, to-all, all-append, all-weaker}
 use Rattle.clk_sched.proofs.Allowed.{onto, onto-append, each-join}
 use Rattle.clk_sched.proofs.Apart.{apart-map}
 use Rattle.clk_sched.proofs.Orders.{IsPlace, first-place, next-place, beyond-differs}
-use Rattle.clk_sched.proofs.Pulling.{pulling-first, pulling-looks, pulling-own}
-use Rattle.clk_sched.proofs.Asking.{added-is, added-none, added-then, keeps-then, keeps-none, can-go_on, answers-then, edges-append, asks-then, asks-none}
-use Rattle.clk_sched.proofs.Ordered.{stands-width, can-order, order-there, keeps-order}
-
--- a visit is logged after a pull below
-logged-whole : (a b c : Nodes) (m : ℕ) (v : Visit) → Keeps a b m → Logs b c v → c.log.items ≡ a.log.items ++ (added a b ++ v ∷ [])
-logged-whole a b c m v h l = l.items ∙ ap (λ k. k ++ v ∷ []) h.grown ∙ append_assoc a.log.items (added a b) (v ∷ [])
-
-pub added-logged : (a b c : Nodes) (m : ℕ) (v : Visit) → Keeps a b m → Logs b c v → added a c ≡ added a b ++ v ∷ []
-added-logged a b c m v h l = added-is a c (added a b ++ v ∷ []) (logged-whole a b c m v h l)
-
-pub keeps-logged : (a b c : Nodes) (m : ℕ) (v : Visit) → Keeps a b m → Logs b c v → Keeps a c (m + 1)
-keeps-logged a b c m v h l =
-    record {
-      inputs = l.inputs ∙ h.inputs;
-      pull = l.pull ∙ h.pull;
-      moment = l.moment ∙ h.moment;
-      fit = subst (λ s. AllFit a.inputs.items s) (sym l.states) h.fit;
-      capacity = l.capacity ∙ h.capacity;
-      grown = logged-whole a b c m v h l ∙ ap (λ k. a.log.items ++ k) (sym (added-logged a b c m v h l));
-      at_most = let i = h.at_most in let e = l.more in omega (arith, e);
-    }
-
--- each input has an edge
-pub edge-there : (table : List Inputs) (x i : ℕ) → IsSome (input_at table x i) → 1 ≤ edges_at table x i
-edge-there table x i h = by_input (input_at table x i) h
-  where
-    by_input : (o : Option Input) → IsSome o → 1 ≤ option_edges_to table o
-    by_input None k = absurd (false≢true k)
-    by_input (Some (Queue q)) k = omega arith
-    by_input (Some (Scheduler m)) k = omega arith
-
--- A node looked at one of its inputs, where a head is held or none is.
-pub asks-fresh : (a b c : Nodes) (m x : ℕ) (v : Visit) → Keeps a b m → Logs b c v → IsVisitAt (now_of a) x v → v.fresh ≡ true → Asks a b x v.input v.got → AsksAll a c x (v.input ∷ []) (v ∷ [])
-asks-fresh a b c m x v h l at fresh f row history visits own going unasked apart =
-    let r = f row history visits own going unasked.0 v at refl fresh refl in
-    record {
-      pulling =
-          subst (λ k. IsPulling (now_of a) history x row c.states.items (visits ++ k) (own ++ v ∷ [])) (sym (added-logged a b c m v h l))
-          (subst (λ s. IsPulling (now_of a) history x row s (visits ++ (added a b ++ v ∷ [])) (own ++ v ∷ [])) (sym l.states) r.0);
-      outside = λ y k. ap (λ s. slice_get s y) l.states ∙ r.1 y k;
-    }
-
-pub asks-held : (a c : Nodes) (x : ℕ) (v : Visit) → Logs a c v → IsVisitAt (now_of a) x v → v.fresh ≡ false → AsksAll a c x (v.input ∷ []) (v ∷ [])
-asks-held a c x v l at fresh row history visits own going unasked apart =
-    let r = pulling-looks (now_of a) history x row a.states.items visits own going.pulling v at fresh in
-    record {
-      pulling =
-          subst (λ k. IsPulling (now_of a) history x row c.states.items (visits ++ k) (own ++ v ∷ [])) (sym (added-is a c (v ∷ []) l.items))
-          (subst (λ s. IsPulling (now_of a) history x row s (visits ++ v ∷ []) (own ++ v ∷ [])) (sym l.states) r);
-      outside = λ y k. ap (λ s. slice_get s y) l.states;
-    }
-
-pub answers-held : {S : Type 0} (gives : S → ℕ → Option Packet → S → Type 0) (table : List Inputs) (a c : Nodes) (q : S) (v : Visit) → Logs a c v → v.fresh ≡ false
-    → Answers gives (queue_asked table) q (added a c) q
-answers-held gives table a c q v l fresh =
-    subst (λ k. Answers gives (queue_asked table) q k q) (sym (added-is a c (v ∷ []) l.items))
-    (subst (λ o. at_queue gives o v.got q (λ s. s ≡ q)) (sym none) refl)
-  where
-    none : queue_asked table v ≡ None
-    none = rw fresh refl
+use Rattle.clk_sched.proofs.Pulling.{pulling-first, pulling-own}
+use Rattle.clk_sched.proofs.Asking.{added-none, added-then, keeps-then, keeps-none, can-go_on, answers-then, edges-append, asks-then, asks-none}
+use Rattle.clk_sched.proofs.Ordered.{item-there, stands-width, can-order, order-there, keeps-order}
+use Rattle.clk_sched.proofs.TurnOfClass.{drr-alone}
 
 -- What a DRRSched did at the input whose turn it was.
 pub record HasLooked {S : Type 0} (gives : S → ℕ → Option Packet → S → Type 0) (old new : Nodes) (before now : S) (x : ℕ) (mid last : Deficits) (v : Visit) : Type 0 where
@@ -215,16 +155,32 @@ making-new gives a b p q x first mid count h l i e =
     s : ℕ
     s = first.cursor
 
+-- a row of the inputs of a node
+abbrev pub RowFits : List Inputs → ℕ → Deficits → Type 0
+RowFits table x d = IfSome (slice_get table x) (λ (p : Inputs). length d.row.items ≡ length p.each.items)
+
+record HasRow (table : List Inputs) (x : ℕ) (d : Deficits) : Type 0 where
+  inputs : Inputs
+  place : slice_get table x ≡ Some inputs
+  long : length d.row.items ≡ length inputs.each.items
+
+row-there : (table : List Inputs) (x : ℕ) (d : Deficits) → x < length table → RowFits table x d → HasRow table x d
+row-there table x d l fits =
+    let p = item-there table x l in record { inputs = p.0; place = p.1; long = subst (λ o. IfSome o (λ (y : Inputs). length d.row.items ≡ length y.each.items)) p.1 fits }
+
 -- room for a look at the next input
-pub making-can : {S : Type 0} (gives : S → ℕ → Option Packet → S → Type 0) (a b : Nodes) (p q : S) (x : ℕ) (first mid : Deficits) (count : ℕ) (inputs : Inputs) → CanPull a x (edges_of a.inputs.items x)
-    → slice_get a.inputs.items x ≡ Some inputs → length first.row.items ≡ length inputs.each.items → IsMaking gives a b p q x first mid count → count < length first.row.items
+pub making-can : {S : Type 0} (gives : S → ℕ → Option Packet → S → Type 0) (a b : Nodes) (p q : S) (x : ℕ) (first mid : Deficits) (count : ℕ) → CanPull a x (edges_of a.inputs.items x) → RowFits a.inputs.items x first
+    → IsMaking gives a b p q x first mid count → count < length first.row.items
     → CanPull b x (edges_at b.inputs.items x mid.cursor) × IsSome (input_at b.inputs.items x mid.cursor)
-making-can gives a b p q x first mid count inputs can e long h l = (
+making-can gives a b p q x first mid count can fits h l = (
   subst (λ t. CanPull b x (edges_at t x mid.cursor)) (sym h.made.keeps.inputs)
-      (can-go_on a b x (edges_in a.inputs.items x (map input_of h.own)) (edges_at a.inputs.items x mid.cursor) (subst (CanPull a x) (edges-next a.inputs.items x h.own at) (can-order a x inputs (map input_of (h.own ++ at ∷ [])) can e apart)) h.made.keeps),
-  subst (λ t. IsSome (input_at t x mid.cursor)) (sym h.made.keeps.inputs) (order-there a.inputs.items x inputs (mid.cursor ∷ []) e (subst (λ n. mid.cursor < n) long h.next.within, tt)).0,
+      (can-go_on a b x (edges_in a.inputs.items x (map input_of h.own)) (edges_at a.inputs.items x mid.cursor) (subst (CanPull a x) (edges-next a.inputs.items x h.own at) (can-order a x here.inputs (map input_of (h.own ++ at ∷ [])) can here.place apart)) h.made.keeps),
+  subst (λ t. IsSome (input_at t x mid.cursor)) (sym h.made.keeps.inputs) (order-there a.inputs.items x here.inputs (mid.cursor ∷ []) here.place (subst (λ n. mid.cursor < n) here.long h.next.within, tt)).0,
 )
   where
+    here : HasRow a.inputs.items x first
+    here = row-there a.inputs.items x first can.there fits
+
     at : Visit
     at = record { pull = 0; moment = 0; got = None; node = x; input = mid.cursor; fresh = true; passed = false }
 
@@ -302,10 +258,6 @@ making-all gives a b p q x first last count h all =
       result = sym (result-none h.own h.vain);
     }
 
-pub ended-keeps : {S : Type 0} (gives : S → ℕ → Option Packet → S → Type 0) (a b : Nodes) (p q : S) (x : ℕ) (first last : Deficits) (got : Option Packet) (inputs : Inputs) → CanPull a x (edges_of a.inputs.items x)
-    → slice_get a.inputs.items x ≡ Some inputs → HasEnded gives a b p q x first last got → Keeps a b (edges_of a.inputs.items x)
-ended-keeps gives a b p q x first last got inputs can e h = keeps-order a b x inputs (map input_of h.own) can e (inputs-apart h.own h.made.apart) h.made.keeps
-
 -- the visits before, once the turn is one of them
 turn-before : (moment : ℕ) (own : List Visit) (turns : List Turn) → onto own (visits_before turns) ≡ visits_before (with_turn moment own turns)
 turn-before moment [] turns = refl
@@ -350,59 +302,14 @@ drr-turn gives a b p q x first last got inputs e long h quanta row history ready
     own_is : visits_of x (added a b) ≡ h.own
     own_is = pulling-own (now_of a) history x row b.states.items (added a b) h.own goes.pulling
 
--- a head that is held is looked at
-pub looks-held : (a c : Nodes) (x : ℕ) (d later : Deficits) (p : Packet) (got : Option Packet) (passed : Bool) → got ≡ Some p
-    → ((quanta : List ℕ) (inputs : ℕ) (before : List Visit) → HoldsDeficits quanta inputs before d → got ≡ head_at (next_input inputs before) before) → Logs a c (looking a x d.cursor got false passed) → Settles d later got passed
-    → Looks a c x d later got passed
-looks-held a c x d later p got passed some is logs settles =
+-- It had its turn.
+pub had-ended : {S : Type 0} (gives : S → ℕ → Option Packet → S → Type 0) (a b : Nodes) (p q : S) (x : ℕ) (first last : Deficits) (got : Option Packet) → CanPull a x (edges_of a.inputs.items x) → RowFits a.inputs.items x first
+    → HasEnded gives a b p q x first last got → HadTurn gives a b p q x (Drr first) (Drr last) got
+had-ended gives a b p q x first last got can fits h =
+    let here : HasRow a.inputs.items x first = row-there a.inputs.items x first can.there fits in
     record {
-      visit = looking a x d.cursor got false passed;
-      input = refl;
-      gets = refl;
-      passes = refl;
-      asks = asks-held a c x (looking a x d.cursor got false passed) logs (record { number = refl; moment = refl; node = refl }) refl;
-      lawful = λ quanta inputs earlier held.
-          let there : head_at d.cursor earlier ≡ Some p = ap (λ i. head_at i earlier) held.cursor_is ∙ sym (is quanta inputs earlier held) ∙ some in
-          record {
-            in_turn = held.cursor_is;
-            fresh = sym (ap (λ o. not (is_some o)) there);
-            looks = subst (λ o. MatchOption o ⊤ (λ r. got ≡ Some r)) (sym there) some;
-            passes = settles.covered quanta inputs earlier held ∙ ap (λ i. is_covered (deficit_covers quanta earlier i) got) (sym held.cursor_is);
-          };
-      holds = λ quanta inputs earlier held. settles.holds quanta inputs earlier (looking a x d.cursor got false passed) held held.cursor_is refl refl;
+      keeps = keeps-order a b x here.inputs (map input_of h.own) can here.place (inputs-apart h.own h.made.apart) h.made.keeps;
+      answers = h.made.answers;
+      fits = subst (λ n. IfSome (slice_get a.inputs.items x) (λ (y : Inputs). n ≡ length y.each.items)) (sym h.made.length_is) fits;
+      turn = drr-alone a b x first (Drr last) got (drr-turn gives a b p q x first last got here.inputs here.place here.long h);
     }
-
--- an input without a head is asked
-pub looks-fresh : (a b c : Nodes) (m x : ℕ) (d later : Deficits) (head got : Option Packet) (passed : Bool) → head ≡ None
-    → ((quanta : List ℕ) (inputs : ℕ) (before : List Visit) → HoldsDeficits quanta inputs before d → head ≡ head_at (next_input inputs before) before) → Keeps a b m → Asks a b x d.cursor got
-    → Logs b c (looking b x d.cursor got true passed) → Settles d later got passed → Looks a c x d later got passed
-looks-fresh a b c m x d later head got passed empty is keeps asked logs settles =
-    record {
-      visit = looking b x d.cursor got true passed;
-      input = refl;
-      gets = refl;
-      passes = refl;
-      asks = asks-fresh a b c m x (looking b x d.cursor got true passed) keeps logs (record { number = keeps.pull; moment = keeps.moment; node = refl }) refl asked;
-      lawful = λ quanta inputs earlier held.
-          let there : head_at d.cursor earlier ≡ None = ap (λ i. head_at i earlier) held.cursor_is ∙ sym (is quanta inputs earlier held) ∙ empty in
-          record {
-            in_turn = held.cursor_is;
-            fresh = sym (ap (λ o. not (is_some o)) there);
-            looks = subst (λ o. MatchOption o ⊤ (λ r. got ≡ Some r)) (sym there) tt;
-            passes = settles.covered quanta inputs earlier held ∙ ap (λ i. is_covered (deficit_covers quanta earlier i) got) (sym held.cursor_is);
-          };
-      holds = λ quanta inputs earlier held. settles.holds quanta inputs earlier (looking b x d.cursor got true passed) held held.cursor_is refl refl;
-    }
-
--- the entry of a node in a table
-pub entry-there : (table : List Inputs) (x : ℕ) → x < length table → (p : Inputs) × (slice_get table x ≡ Some p)
-entry-there [] x l = absurd (omega arith)
-entry-there (p ∷ table) zero l = (p, refl)
-entry-there (p ∷ table) (suc x) l = entry-there table x (omega arith)
-
--- what holds of an entry that may be there holds of the one that is
-pub of-entry : (P : Inputs → Type 0) (o : Option Inputs) (p : Inputs) → o ≡ Some p → IfSome o P → P p
-of-entry P o p e h = subst (λ k. IfSome k P) e h
-
-pub to-entry : (P : Inputs → Type 0) (o : Option Inputs) (p : Inputs) → o ≡ Some p → P p → IfSome o P
-to-entry P o p e h = subst (λ k. IfSome k P) (sym e) h

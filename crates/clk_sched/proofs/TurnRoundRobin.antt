@@ -1,12 +1,16 @@
 -- The turn of a RoundRobinSched.
-use Rattle.std.proofs.Common.{◌≡◌, ℕ, zero, suc, ◌+◌, ◌-◌, ◌*◌, ◌%◌, ◌<◌, ◌≤◌, List, [], ◌∷◌, ◌++◌, length, map, slice_get, slice_index, Option, Some, None, IsSome, refl, sym, ap, ap₂, ◌∙◌, subst, mod-eq_of_lt, arith}
+use Rattle.std.proofs.Common.{◌≡◌, ℕ, zero, suc, ◌+◌, ◌-◌, ◌*◌, ◌%◌, ◌<◌, ◌≤◌, List, [], ◌∷◌, ◌++◌, length, map, get_or, slice_get, slice_index, Option, Some, None, IsSome, IfSome, refl, sym, ap, ap₂, ◌∙◌, subst, mod-lt, mod-eq_of_lt, arith}
 use Rattle.std.specs.List.{AllByRecursion, range_with_len}
+use Rattle.std.specs.Vec.{vec_len}
+use Rattle.std.proofs.lemmas.List.{length-append}
+use Rattle.std.proofs.lemmas.List.FromFn.{length-range_with_len, get_or-range_with_len}
 use Rattle.std.proofs.lemmas.Nat.{mod-mul-add}
 use Rattle.clk_packet.specs.declared.packet.Packet.{Packet}
 use Rattle.clk_sched.specs.declared.visit.Visit.{Visit}
 use Rattle.clk_sched.specs.declared.session.inputs.Inputs.{Inputs}
 use Rattle.clk_sched.specs.declared.session.nodes.Nodes.{Nodes}
 use Rattle.clk_sched.specs.declared.session.state.State.TheVariants.{RoundRobin}
+use Rattle.clk_sched.specs.declared.session.round_robin.Beginning.{Beginning}
 use Rattle.clk_sched.specs.Tree.{round_robin, width}
 use Rattle.clk_sched.specs.Log.{asking}
 use Rattle.clk_sched.specs.Turns.{Turn, AsksInOrder, giver}
@@ -14,11 +18,14 @@ use Rattle.clk_sched.specs.Laws.RoundRobin.{beginning, round_robin_order}
 use Rattle.clk_sched.specs.Places.{edges_of, edges_in, input_at, Answers, queue_asked}
 use Rattle.clk_sched.specs.Pulling.{Now, CanPull, Keeps, AsksAll, now_of, after, with_turn, added, asked_in_vain, asked_in_order}
 use Rattle.clk_sched.specs.Pulling.{TakesTurn}
+use Rattle.clk_sched.specs.Turning.{HasAskedAll, HadTurn}
 use Rattle.clk_sched.proofs.Members.{all-weaker, all-split}
-use Rattle.clk_sched.proofs.Asking.{IsAsking, HasAskedAll, keeps-then, added-then, answers-then, asks-then, edges-append, vain-in, same-now, apart-split, can-go_on}
+use Rattle.clk_sched.proofs.Asking.{IsAsking, keeps-then, keeps-more, added-then, answers-then, asks-then, asks-front, asked-vain, edges-append, vain-in, same-now, apart-split, can-go_on}
+use Rattle.clk_sched.proofs.Asked.{entry}
 use Rattle.clk_sched.proofs.Orders.{IsOrderOf, IsBeyond, around, round_robin-order}
 use Rattle.clk_sched.proofs.InOrder.{IsWithin, HasTurnedBy, packet_of, turned-in-order, after-own, with_turn-given, giver_at, in_order-giver}
-use Rattle.clk_sched.proofs.Ordered.{stands-width, can-order, order-there}
+use Rattle.clk_sched.proofs.Ordered.{stands-width, can-order, order-there, keeps-order}
+use Rattle.clk_sched.proofs.TurnOfClass.{round_robin-alone}
 
 -- numbers around so many, before they wrap and after
 before-wrap : (n s j m : ℕ) → s + j + m ≤ n → map (λ k. (s + k) % n) (range_with_len j m) ≡ range_with_len (s + j) m
@@ -151,28 +158,61 @@ parts-order n first l =
     subst (IsOrderOf n) (order-parts n first l)
     (record { within = all-weaker (IsBeyond n first 0) (λ i. i < n) (map (λ k. (first + k) % n) (range_with_len 0 n)) (λ i b. b.place.within) all.0; apart = all.1 })
 
+-- The inputs of a node, and the one at which it begins.
+pub record Begins (table : List Inputs) (x n first : ℕ) : Type 0 where
+  pub inputs : Inputs
+  pub place : slice_get table x ≡ Some inputs
+  pub count : n ≡ length inputs.each.items
+  pub low : first < n
+  pub few : n ≤ 64
+
+pub begins : (a : Nodes) (x n : ℕ) (b : Beginning) (p : Inputs) → CanPull a x (edges_of a.inputs.items x) → p ≡ get_or a.inputs.items x p → n ≡ vec_len p.each
+    → IfSome (slice_get a.inputs.items x) (λ (q : Inputs). b.input < length q.each.items) → Begins a.inputs.items x n b.input
+begins a x n b p can e all fits =
+    let place : slice_get a.inputs.items x ≡ Some p = entry a.inputs.items x p can.there e in
+    let count : n ≡ length p.each.items = all ∙ p.each.ok.0 in
+    let few = (can.wired x p place).few in
+    record {
+      inputs = p;
+      place = place;
+      count = count;
+      low = subst (λ m. b.input < m) (sym count) (subst (λ o. IfSome o (λ (q : Inputs). b.input < length q.each.items)) place fits);
+      few = omega (arith, few, count);
+    }
+
 -- what is wanted for asking the first part, and after that the second
-pub can-first : (a : Nodes) (x n first : ℕ) (p : Inputs) → CanPull a x (edges_of a.inputs.items x) → slice_get a.inputs.items x ≡ Some p → first < n → CanPull a x (edges_in a.inputs.items x (range_with_len first (n - first)))
-can-first a x n first p can e l = can-order a x p (range_with_len first (n - first)) can e (apart-split (range_with_len first (n - first)) (range_with_len 0 first) (parts-order n first l).apart).0
+abbrev pub MayAsk : Nodes → ℕ → ℕ → ℕ → Type 0
+MayAsk a x first count = CanPull a x (edges_in a.inputs.items x (range_with_len first count)) × AllByRecursion (λ i. IsSome (input_at a.inputs.items x i)) (range_with_len first count) × (first + count ≤ 64)
 
-pub there-both : (table : List Inputs) (x n first : ℕ) (p : Inputs) → slice_get table x ≡ Some p → n ≡ length p.each.items → first < n
+there-both : (table : List Inputs) (x n first : ℕ) → Begins table x n first
     → AllByRecursion (λ i. IsSome (input_at table x i)) (range_with_len first (n - first)) × AllByRecursion (λ i. IsSome (input_at table x i)) (range_with_len 0 first)
-there-both table x n first p e all l =
+there-both table x n first h =
     all-split (λ i. IsSome (input_at table x i)) (range_with_len first (n - first)) (range_with_len 0 first)
-    (order-there table x p (parts first n) e (subst (λ k. AllByRecursion (λ i. i < k) (parts first n)) all (parts-order n first l).within))
+    (order-there table x h.inputs (parts first n) h.place (subst (λ k. AllByRecursion (λ i. i < k) (parts first n)) h.count (parts-order n first h.low).within))
 
-pub can-second : (a b : Nodes) (x n first : ℕ) (p : Inputs) → CanPull a x (edges_of a.inputs.items x) → slice_get a.inputs.items x ≡ Some p → first < n → Keeps a b (edges_in a.inputs.items x (range_with_len first (n - first)))
-    → CanPull b x (edges_in b.inputs.items x (range_with_len 0 first))
-can-second a b x n first p can e l h =
-    let both = can-order a x p (parts first n) can e (parts-order n first l).apart in
+pub may-first : (a : Nodes) (x n first : ℕ) → Begins a.inputs.items x n first → CanPull a x (edges_of a.inputs.items x) → MayAsk a x first (n - first)
+may-first a x n first h can = let low = h.low in let few = h.few in (
+  can-order a x h.inputs (range_with_len first (n - first)) can h.place (apart-split (range_with_len first (n - first)) (range_with_len 0 first) (parts-order n first h.low).apart).0,
+  (there-both a.inputs.items x n first h).0,
+  omega (arith, low, few),
+)
+
+pub may-second : (a b : Nodes) (x n first : ℕ) → Begins a.inputs.items x n first → CanPull a x (edges_of a.inputs.items x) → Keeps a b (edges_in a.inputs.items x (range_with_len first (n - first))) → MayAsk b x 0 first
+may-second a b x n first h can kept =
+    let both = can-order a x h.inputs (parts first n) can h.place (parts-order n first h.low).apart in
     let edges = edges-append a.inputs.items x (range_with_len first (n - first)) (range_with_len 0 first) in
-    subst (λ t. CanPull b x (edges_in t x (range_with_len 0 first))) (sym h.inputs)
-    (can-go_on a b x (edges_in a.inputs.items x (range_with_len first (n - first))) (edges_in a.inputs.items x (range_with_len 0 first))
-    (record { wired = both.wired; fit = both.fit; there = both.there; room = let r = both.room in omega (arith, edges); moment = both.moment }) h)
+    let low = h.low in
+    let few = h.few in (
+      subst (λ t. CanPull b x (edges_in t x (range_with_len 0 first))) (sym kept.inputs)
+          (can-go_on a b x (edges_in a.inputs.items x (range_with_len first (n - first))) (edges_in a.inputs.items x (range_with_len 0 first))
+          (record { wired = both.wired; fit = both.fit; there = both.there; room = let r = both.room in omega (arith, edges); moment = both.moment }) kept),
+      subst (λ t. AllByRecursion (λ i. IsSome (input_at t x i)) (range_with_len 0 first)) (sym kept.inputs) (there-both a.inputs.items x n first h).1,
+      omega (arith, low, few),
+    )
 
 -- An order was asked in vain, and then another.
-pub asked-both : {S : Type 0} (gives : S → ℕ → Option Packet → S → Type 0) (a b c : Nodes) (q s t : S) (x : ℕ) (one other : List ℕ) (r : Option (ℕ × Packet)) → IsAsking gives a b q s x one
-    → HasAskedAll gives b c s t x other (asked_in_order (now_of b) x other r) → HasAskedAll gives a c q t x (one ++ other) (asked_in_order (now_of a) x (one ++ other) (in_second one r))
+asked-both : {S : Type 0} (gives : S → ℕ → Option Packet → S → Type 0) (a b c : Nodes) (q s t : S) (x : ℕ) (one other : List ℕ) (r : Option (ℕ × Packet)) → IsAsking gives a b q s x one → HasAskedAll gives b c s t x other r
+    → HasAskedAll gives a c q t x (one ++ other) (in_second one r)
 asked-both gives a b c q s t x one other r h k =
     let second : Keeps b c (edges_in a.inputs.items x other) = subst (λ table. Keeps b c (edges_in table x other)) h.keeps.inputs k.keeps in
     let edges = edges-append a.inputs.items x one other in
@@ -184,3 +224,88 @@ asked-both gives a b c q s t x one other r h k =
           (asks-then a b c _ _ x one other (asked_in_vain (now_of a) x one) (asked_in_order (now_of a) x other r) h.keeps second (vain-in (now_of a) x one) h.asks
           (subst (λ now. AsksAll b c x other (asked_in_order now x other r)) (same-now a b _ h.keeps) k.asks));
     }
+
+-- Both parts were asked, up to a place, and that was its turn.
+had-both : {S : Type 0} (gives : S → ℕ → Option Packet → S → Type 0) (a b : Nodes) (q r : S) (x n first next : ℕ) (o : Option (ℕ × Packet)) → Begins a.inputs.items x n first → CanPull a x (edges_of a.inputs.items x)
+    → HasAskedAll gives a b q r x (parts first n) o → IsWithin (parts first n) o → next ≡ begins_next n first (giver_at (parts first n) o) → next < n
+    → HadTurn gives a b q r x (RoundRobin (record { input = first })) (RoundRobin (record { input = next })) (packet_of o)
+had-both gives a b q r x n first next o h can asked within is lower =
+    record {
+      keeps = keeps-order a b x h.inputs (parts first n) can h.place (parts-order n first h.low).apart asked.keeps;
+      answers = asked.answers;
+      fits = subst (λ k. IfSome k (λ (p : Inputs). next < length p.each.items)) (sym h.place) (subst (λ m. next < m) h.count lower);
+      turn = round_robin-alone a b x (record { input = first }) (RoundRobin (record { input = next })) (packet_of o) (round_robin-turn a b x n first next h.inputs o h.place h.count h.low within asked.asks is);
+    }
+
+-- The first part gave a packet.
+pub had-first : {S : Type 0} (gives : S → ℕ → Option Packet → S → Type 0) (a b : Nodes) (q r : S) (x n first k : ℕ) (p : Packet) (o : Option (ℕ × Packet)) → Begins a.inputs.items x n first → CanPull a x (edges_of a.inputs.items x)
+    → o ≡ Some (k, p) → IfSome o (λ g. g.0 < n - first) → HasAskedAll gives a b q r x (range_with_len first (n - first)) o
+    → HadTurn gives a b q r x (RoundRobin (record { input = first })) (RoundRobin (record { input = (first + k + 1) % n })) (Some p)
+had-first gives a b q r x n first k p o h can is place given =
+    let low = h.low in
+    had-both gives a b q r x n first ((first + k + 1) % n) (Some (k, p)) h can
+    (record {
+      keeps = keeps-more a b _ _ asked.keeps (omega (arith, edges));
+      answers = asked.answers;
+      asks = subst (AsksAll a b x (parts first n)) (in_order-first (now_of a) x one other k p inside) (asks-front a b x one other (asked_in_order (now_of a) x one (Some (k, p))) asked.asks);
+    })
+    (omega (arith, inside, length-append one other)) (ap (λ i. (i + 1) % n) (sym input)) (mod-lt (first + k + 1) (omega (arith, low)))
+  where
+    one : List ℕ
+    one = range_with_len first (n - first)
+
+    other : List ℕ
+    other = range_with_len 0 first
+
+    asked : HasAskedAll gives a b q r x one (Some (k, p))
+    asked = subst (HasAskedAll gives a b q r x one) is given
+
+    within : k < n - first
+    within = subst (λ g. IfSome g (λ v. v.0 < n - first)) is place
+
+    inside : k < length one
+    inside = subst (λ m. k < m) (sym (length-range_with_len first (n - first))) within
+
+    edges : edges_in a.inputs.items x (one ++ other) ≡ edges_in a.inputs.items x one + edges_in a.inputs.items x other
+    edges = edges-append a.inputs.items x one other
+
+    input : slice_index (parts first n) k ≡ first + k
+    input = index-first one other k inside ∙ get_or-range_with_len first (n - first) k 0 within
+
+-- The first part gave none, and the second a packet.
+pub had-second : {S : Type 0} (gives : S → ℕ → Option Packet → S → Type 0) (a b c : Nodes) (q r s : S) (x n first k : ℕ) (p : Packet) (o u : Option (ℕ × Packet)) → Begins a.inputs.items x n first → CanPull a x (edges_of a.inputs.items x)
+    → o ≡ None → HasAskedAll gives a b q r x (range_with_len first (n - first)) o → u ≡ Some (k, p) → IfSome u (λ g. g.0 < first) → HasAskedAll gives b c r s x (range_with_len 0 first) u
+    → HadTurn gives a c q s x (RoundRobin (record { input = first })) (RoundRobin (record { input = k + 1 })) (Some p)
+had-second gives a b c q r s x n first k p o u h can none vain is place given =
+    let low = h.low in
+    had-both gives a c q s x n first (k + 1) (Some (past one k, p)) h can
+    (asked-both gives a b c q r s x one other (Some (k, p)) (asked-vain gives a b q r x one o none vain) (subst (HasAskedAll gives b c r s x other) is given))
+    (omega (arith, within, past-length one k, length-append one other, length-range_with_len 0 first)) (sym (mod-eq_of_lt (omega (arith, within, low))) ∙ ap (λ i. (i + 1) % n) (sym input)) (omega (arith, within, low))
+  where
+    one : List ℕ
+    one = range_with_len first (n - first)
+
+    other : List ℕ
+    other = range_with_len 0 first
+
+    within : k < first
+    within = subst (λ g. IfSome g (λ v. v.0 < first)) is place
+
+    input : slice_index (parts first n) (past one k) ≡ k
+    input = index-second one other k ∙ get_or-range_with_len 0 first k 0 within ∙ omega arith
+
+-- Neither part gave one.
+pub had-none : {S : Type 0} (gives : S → ℕ → Option Packet → S → Type 0) (a b c : Nodes) (q r s : S) (x n first : ℕ) (o u : Option (ℕ × Packet)) → Begins a.inputs.items x n first → CanPull a x (edges_of a.inputs.items x) → o ≡ None
+    → HasAskedAll gives a b q r x (range_with_len first (n - first)) o → u ≡ None → HasAskedAll gives b c r s x (range_with_len 0 first) u
+    → HadTurn gives a c q s x (RoundRobin (record { input = first })) (RoundRobin (record { input = first })) None
+had-none gives a b c q r s x n first o u h can none vain neither given =
+    let one = range_with_len first (n - first) in
+    let other = range_with_len 0 first in
+    had-both gives a c q s x n first first None h can (asked-both gives a b c q r s x one other None (asked-vain gives a b q r x one o none vain) (subst (HasAskedAll gives b c r s x other) neither given)) tt refl h.low
+
+-- The place at which a part gave a packet names one of 64 inputs.
+pub few-first : (table : List Inputs) (x n first k : ℕ) (p : Packet) (o : Option (ℕ × Packet)) → Begins table x n first → o ≡ Some (k, p) → IfSome o (λ g. g.0 < n - first) → first + k < 64
+few-first table x n first k p o h is place = let within : k < n - first = subst (λ g. IfSome g (λ v. v.0 < n - first)) is place in let few = h.few in let low = h.low in omega (arith, within, few, low)
+
+pub few-second : (table : List Inputs) (x n first k : ℕ) (p : Packet) (o : Option (ℕ × Packet)) → Begins table x n first → o ≡ Some (k, p) → IfSome o (λ g. g.0 < first) → k < 64
+few-second table x n first k p o h is place = let within : k < first = subst (λ g. IfSome g (λ v. v.0 < first)) is place in let few = h.few in let low = h.low in omega (arith, within, few, low)

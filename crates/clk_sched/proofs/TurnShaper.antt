@@ -1,21 +1,28 @@
 -- The turn of a Shaper.
-use Rattle.std.proofs.Common.{◌≡◌, ℕ, ◌<◌, ◌≤◌, ◌-◌, Bool, true, false, if◌then◌else◌, List, [], ◌∷◌, length, slice_get, Option, Some, None, IfSome, IsSome, is_some, refl, sym, ap, ◌∙◌, subst, arith}
+use Rattle.std.proofs.Common.{◌≡◌, ◌≢◌, ℕ, ◌+◌, ◌<◌, ◌≤◌, ◌-◌, Bool, true, false, if◌then◌else◌, List, [], ◌∷◌, ◌++◌, length, drop, slice_get, Option, Some, None, IfSome, IsSome, is_some, MatchBool, refl, sym, ap, ◌∙◌, subst, arith}
+use Rattle.std.specs.Vec.{vec_len, vec_capacity}
 use Rattle.std.proofs.lemmas.Bool.{false≢true}
+use Rattle.std.proofs.lemmas.Option.{slice_get_within}
 use Rattle.clk_packet.specs.declared.packet.Packet.{Packet}
 use Rattle.clk_sched.specs.declared.visit.Visit.{Visit}
 use Rattle.clk_sched.specs.declared.session.inputs.Inputs.{Inputs}
 use Rattle.clk_sched.specs.declared.session.nodes.Nodes.{Nodes}
+use Rattle.clk_sched.specs.declared.session.state.State.{State}
 use Rattle.clk_sched.specs.declared.session.state.State.TheVariants.{Shaper}
 use Rattle.clk_sched.specs.declared.session.shaper.Bucket.{Bucket}
-use Rattle.clk_sched.specs.Tree.{shaper}
+use Rattle.clk_sched.specs.Tree.{Class, shaper}
 use Rattle.clk_sched.specs.Turns.{Turn, AsksInOrder, giver}
 use Rattle.clk_sched.specs.Laws.Shaper.{has_room}
 use Rattle.clk_sched.specs.Log.{asking}
-use Rattle.clk_sched.specs.Holds.Shaper.{AreBefore, HoldsBucket, IsTaken, tokens_at}
-use Rattle.clk_sched.specs.Pulling.{AsksAll, now_of, as_turn, with_turn, asked_in_order}
-use Rattle.clk_sched.specs.Places.{edges_of, edges_at, input_at}
+use Rattle.clk_sched.specs.Holds.Shaper.{AreBefore, HoldsBucket, IsTaken, IsGivenBack, Tells, tokens_at}
+use Rattle.clk_sched.specs.Pulling.{AsksAll, added, now_of, as_turn, with_turn, asked_in_order}
+use Rattle.clk_sched.specs.Places.{edges_of, edges_at, input_at, Answers, queue_asked}
 use Rattle.clk_sched.specs.Pulling.{CanPull, Keeps, TakesTurn}
-use Rattle.clk_sched.proofs.Asking.{asks-none, keeps-more}
+use Rattle.clk_sched.specs.Turning.{with_state, HasAsked, WasPulled}
+use Rattle.clk_sched.specs.Tokens.{TakesToken, GivesBack}
+use Rattle.clk_sched.proofs.Asking.{asks-none, added-none, keeps-none, keeps-more}
+use Rattle.clk_sched.proofs.Placed.{IsPutIn, fit-set, bucket-same, some-same, is-put, still-put, pulls-put, pulls-later, fits-there, fits-each, can-put, keeps-from, keeps-put, state-there}
+use Rattle.clk_sched.proofs.TurnOfClass.{shaper-alone}
 use Rattle.clk_sched.proofs.Bucket.{bucket-none, bucket-taken}
 use Rattle.clk_sched.proofs.InOrder.{IsWithin, packet_of, HasTurnedBy, turned-in-order, in_order-giver, with_turn-given, after-own}
 use Rattle.clk_sched.proofs.Ordered.{IsOrderAt, can-ask, inputs-asked, keeps-asked, row-order}
@@ -49,10 +56,6 @@ there-look a x can some = (inputs-asked a.inputs.items x (0 ∷ []) can.there (s
 
 pub keeps-look : (a b : Nodes) (x : ℕ) → CanPull a x (edges_of a.inputs.items x) → HasInput a.inputs.items x → Keeps a b (edges_at a.inputs.items x 0) → Keeps a b (edges_of a.inputs.items x)
 keeps-look a b x can some h = keeps-asked a b x (0 ∷ []) can (shaper-asks a.inputs.items x true some) (keeps-more a b _ _ h (omega arith))
-
--- whether there is a token is whether there is room at the moment
-abbrev pub Tells : Bucket → ℕ → Bool → Type 0
-Tells s moment token = (rate burst : ℕ) (turns : List Turn) → HoldsBucket rate burst turns s → AreBefore moment turns → token ≡ has_room rate burst moment 0 turns
 
 -- what is held after a pull that passed a packet
 abbrev pub IsTakenAt : Bucket → Bucket → ℕ → Type 0
@@ -124,3 +127,133 @@ shaper-vain a b x s z (Some p) e there some tells asked left rate burst = absurd
 shaper-vain a b x s z None e there some tells asked left rate burst =
     shaper-turn a b x s z true None rate burst there some tells tt asked
     (λ rate burst turns holds before. left rate burst turns (as_turn a.moment (asked_in_order (now_of a) x (0 ∷ []) None)) holds before refl (in_order-giver (now_of a) x (0 ∷ []) None tt))
+
+-- A node holds the bucket of a Shaper.
+shaper-input : (a : Nodes) (x : ℕ) (s : Bucket) → CanPull a x (edges_of a.inputs.items x) → slice_get a.states.items x ≡ Some (Shaper s) → HasInput a.inputs.items x
+shaper-input a x s can state = fits-there a.inputs.items a.states.items x (Shaper s) can.fit state
+
+-- It may ask, once the token is taken.
+pub shaper-may : (a t : Nodes) (x : ℕ) (token : Bool) → CanPull a x (edges_of a.inputs.items x) → TakesToken a t x token → CanPull t x (edges_at t.inputs.items x 0) × IsSome (input_at t.inputs.items x 0)
+shaper-may a t x token can k =
+    let some = shaper-input a x k.bucket can k.held in
+    subst (λ (n : Nodes). CanPull n x (edges_at n.inputs.items x 0) × IsSome (input_at n.inputs.items x 0)) (sym k.is)
+    (can-look (with_state a x (Shaper k.left)) x (can-put a x (edges_of a.inputs.items x) (Shaper k.left) can (fits-each a.inputs.items x (Shaper k.left) some)) some, there-look a x can some)
+
+-- There was no token.
+pub shaper-refused : {S : Type 0} (gives : S → ℕ → Option Packet → S → Type 0) (a t : Nodes) (q : S) (x : ℕ) (token : Bool) → CanPull a x (edges_of a.inputs.items x) → TakesToken a t x token → token ≡ false → WasPulled gives a t q q x None
+shaper-refused gives a t q x token can k without =
+    subst (λ (n : Nodes). WasPulled gives a n q q x None) (sym k.is)
+    (record {
+      keeps = keeps-put a a x (edges_of a.inputs.items x) (Shaper k.left) (keeps-more a a 0 (edges_of a.inputs.items x) (keeps-none a can.fit) (omega arith)) (fits-each a.inputs.items x (Shaper k.left) some);
+      answers = subst (λ l. Answers gives (queue_asked a.inputs.items) q l q) (sym (added-none a)) refl;
+      pulls = pulls-put a a a (with_state a x (Shaper k.left)) x (Shaper k.bucket) (Shaper k.bucket) (Shaper k.left) None (still-put a x (Shaper k.bucket) k.held) k.held
+          (shaper-alone a a x k.bucket (Shaper k.left) None
+          (λ rate burst. subst (λ w. TakesTurn a a x (shaper rate burst) (Shaper k.bucket) (Shaper w) None) (sym same) (shaper-without a x k.bucket rate burst can.there some (subst (Tells k.bucket a.moment) without k.tells))))
+          (is-put a x (Shaper k.left) (state-there a x (edges_of a.inputs.items x) can));
+    })
+  where
+    some : HasInput a.inputs.items x
+    some = shaper-input a x k.bucket can k.held
+
+    same : k.left ≡ k.bucket
+    same = subst (λ b. MatchBool b (IsTaken k.bucket k.left a.moment) (k.left ≡ k.bucket)) without k.taken
+
+-- Its input was asked, with a token.
+record Spends {S : Type 0} (gives : S → ℕ → Option Packet → S → Type 0) (a b : Nodes) (q r : S) (x : ℕ) (s z : Bucket) (got : Option Packet) : Type 0 where
+  can : CanPull a x (edges_of a.inputs.items x)
+  held : slice_get a.states.items x ≡ Some (Shaper s)
+  tells : Tells s a.moment true
+  taken : IsTaken s z a.moment
+  asked : HasAsked gives (with_state a x (Shaper z)) b q r x 0 got
+
+spends : {S : Type 0} (gives : S → ℕ → Option Packet → S → Type 0) (a t b : Nodes) (q r : S) (x : ℕ) (token : Bool) (got : Option Packet) → CanPull a x (edges_of a.inputs.items x) → (k : TakesToken a t x token) → token ≡ true
+    → HasAsked gives t b q r x 0 got → Spends gives a b q r x k.bucket k.left got
+spends gives a t b q r x token got can k with_one asked =
+    record {
+      can = can;
+      held = k.held;
+      tells = subst (Tells k.bucket a.moment) with_one k.tells;
+      taken = subst (λ b. MatchBool b (IsTaken k.bucket k.left a.moment) (k.left ≡ k.bucket)) with_one k.taken;
+      asked = subst (λ (n : Nodes). HasAsked gives n b q r x 0 got) k.is asked;
+    }
+
+spent-keeps : {S : Type 0} (gives : S → ℕ → Option Packet → S → Type 0) (a b : Nodes) (q r : S) (x : ℕ) (s z : Bucket) (got : Option Packet) → Spends gives a b q r x s z got → Keeps a b (edges_of a.inputs.items x)
+spent-keeps gives a b q r x s z got h = keeps-look a b x h.can (shaper-input a x s h.can h.held) (keeps-from a b x (edges_at a.inputs.items x 0) (Shaper z) h.asked.keeps)
+
+-- It gave a packet.
+spent-passed : {S : Type 0} (gives : S → ℕ → Option Packet → S → Type 0) (a b : Nodes) (q r : S) (x : ℕ) (s z : Bucket) (got : Option Packet) → Spends gives a b q r x s z got → is_some got ≡ true → WasPulled gives a b q r x got
+spent-passed gives a b q r x s z got h given =
+    let turn : (class : Class) → TakesTurn (with_state a x (Shaper z)) b x class (Shaper s) (Shaper z) got =
+    shaper-alone (with_state a x (Shaper z)) b x s (Shaper z) got (shaper-passes (with_state a x (Shaper z)) b x s z got given h.can.there (shaper-input a x s h.can h.held) h.tells h.asked.asks h.taken)
+    in
+    record {
+      keeps = spent-keeps gives a b q r x s z got h;
+      answers = h.asked.answers;
+      pulls = pulls-later a (with_state a x (Shaper z)) b b x (Shaper z) (Shaper s) (Shaper z) got (is-put a x (Shaper z) (state-there a x (edges_of a.inputs.items x) h.can)) h.held turn (λ there. (Shaper z, turn, still-put b x (Shaper z) there));
+    }
+
+pub shaper-passed : {S : Type 0} (gives : S → ℕ → Option Packet → S → Type 0) (a t b : Nodes) (q r : S) (x : ℕ) (token : Bool) (got : Option Packet) → CanPull a x (edges_of a.inputs.items x) → TakesToken a t x token → token ≡ true
+    → HasAsked gives t b q r x 0 got → is_some got ≡ true → WasPulled gives a b q r x got
+shaper-passed gives a t b q r x token got can k with_one asked given = spent-passed gives a b q r x k.bucket k.left got (spends gives a t b q r x token got can k with_one asked) given
+
+-- It gave none, and the token was given back.
+spent-back : {S : Type 0} (gives : S → ℕ → Option Packet → S → Type 0) (a b c : Nodes) (q r : S) (x : ℕ) (s z : Bucket) (got : Option Packet) → Spends gives a b q r x s z got → is_some got ≡ false → GivesBack b c x → WasPulled gives a c q r x None
+spent-back gives a b c q r x s z got h none back =
+    record {
+      keeps = record {
+        inputs = ap (λ v. v.items) back.inputs ∙ kept.inputs;
+        pull = back.pull ∙ kept.pull;
+        moment = back.moment ∙ kept.moment;
+        fit = back.fits a.inputs.items kept.fit;
+        capacity = ap vec_capacity back.log ∙ kept.capacity;
+        grown = ap (λ v. v.items) back.log ∙ kept.grown ∙ ap (λ l. a.log.items ++ l) (sym more);
+        at_most = subst (λ v. vec_len v ≤ vec_len a.log + edges_of a.inputs.items x) (sym back.log) kept.at_most;
+      };
+      answers = subst (λ l. Answers gives (queue_asked a.inputs.items) q l r) (sym more) h.asked.answers;
+      pulls = pulls-later a put b c x (Shaper z) (Shaper s) (Shaper s) None (is-put a x (Shaper z) (state-there a x (edges_of a.inputs.items x) h.can)) h.held (turn s (left-same s a.moment))
+          (λ there. let g = back.given z there in (
+            Shaper g.0,
+            turn g.0 (λ rate burst turns t holds before at passed. g.2 s rate burst turns t (subst (IsTaken s z) (sym at) h.taken) holds (subst (λ n. AreBefore n turns) (sym at) before) passed),
+            subst (λ (n : Nodes). IsPutIn b n x (Shaper g.0)) (sym g.1) (is-put b x (Shaper g.0) (slice_get_within b.states.items x (Shaper z) there)),
+          ));
+    }
+  where
+    put : Nodes
+    put = with_state a x (Shaper z)
+
+    kept : Keeps a b (edges_of a.inputs.items x)
+    kept = spent-keeps gives a b q r x s z got h
+
+    more : added a c ≡ added a b
+    more = ap (λ v. drop (length a.log.items) v.items) back.log
+
+    turn : (w : Bucket) → IsLeft s w a.moment → (class : Class) → TakesTurn put b x class (Shaper s) (Shaper w) None
+    turn w left = shaper-alone put b x s (Shaper w) None (shaper-vain put b x s w got none h.can.there (shaper-input a x s h.can h.held) h.tells h.asked.asks left)
+
+pub shaper-returned : {S : Type 0} (gives : S → ℕ → Option Packet → S → Type 0) (a t b c : Nodes) (q r : S) (x : ℕ) (token : Bool) (got : Option Packet) → CanPull a x (edges_of a.inputs.items x) → TakesToken a t x token → token ≡ true
+    → HasAsked gives t b q r x 0 got → is_some got ≡ false → GivesBack b c x → WasPulled gives a c q r x None
+shaper-returned gives a t b c q r x token got can k with_one asked none back = spent-back gives a b c q r x k.bucket k.left got (spends gives a t b q r x token got can k with_one asked) none back
+
+-- A bucket that stands in its place is given its token back, and nothing else is changed.
+pub given-back : (a : Nodes) (x : ℕ) (s z : Bucket) → slice_get a.states.items x ≡ Some (Shaper s) → IsGivenBack s z → GivesBack a (with_state a x (Shaper z)) x
+given-back a x s z state back =
+    record {
+      inputs = refl;
+      log = refl;
+      pull = refl;
+      moment = refl;
+      fits = λ table fit. fit-set table a.states.items x (Shaper z) fit (λ p e. fit.each x p (Shaper s) e state);
+      given = λ b e. (z, refl, subst (λ y. IsGivenBack y z) (bucket-same s b (some-same (Shaper s) (Shaper b) (sym state ∙ e))) back);
+    }
+
+-- Nothing is given back where no bucket stands.
+pub none-given : (a : Nodes) (x : ℕ) (w : State) → slice_get a.states.items x ≡ Some w → ((b : Bucket) → w ≢ Shaper b) → GivesBack a (with_state a x w) x
+none-given a x w state other =
+    record {
+      inputs = refl;
+      log = refl;
+      pull = refl;
+      moment = refl;
+      fits = λ table fit. fit-set table a.states.items x w fit (λ p e. fit.each x p w e state);
+      given = λ b e. absurd (other b (some-same w (Shaper b) (sym state ∙ e)));
+    }

@@ -1,5 +1,7 @@
 -- The turn of a StrideSched.
-use Rattle.std.proofs.Common.{◌≡◌, ℕ, suc, ◌+◌, ◌<◌, List, [], ◌∷◌, length, map, take, slice_get, slice_index, Option, Some, None, IfSome, sym, ap, ap₂, ◌∙◌, subst, arith}
+use Rattle.std.proofs.Common.{◌≡◌, ℕ, suc, ◌+◌, ◌<◌, List, [], ◌∷◌, length, map, take, slice_get, slice_index, Option, Some, None, IsSome, IfSome, sym, ap, ap₂, ◌∙◌, subst, arith}
+use Rattle.std.specs.List.{AllByRecursion}
+use Rattle.std.proofs.lemmas.List.{length-map}
 use Rattle.std.proofs.lemmas.Option.{slice_get-get_or}
 use Rattle.clk_packet.specs.declared.packet.Packet.{Packet}
 use Rattle.clk_sched.specs.declared.visit.Visit.{Visit}
@@ -12,12 +14,14 @@ use Rattle.clk_sched.specs.Tree.{stride}
 use Rattle.clk_sched.specs.Turns.{Turn, AsksInOrder, giver}
 use Rattle.clk_sched.specs.Holds.OfClass.{FitsPasses}
 use Rattle.clk_sched.specs.Holds.Stride.{HoldsPasses}
-use Rattle.clk_sched.specs.Pulling.{Now, AsksAll, now_of, as_turn, with_turn, inputs_in, asked_in_order}
-use Rattle.clk_sched.specs.Pulling.{TakesTurn}
+use Rattle.clk_sched.specs.Places.{edges_of, edges_in, input_at}
+use Rattle.clk_sched.specs.Pulling.{Now, CanPull, AsksAll, TakesTurn, now_of, as_turn, with_turn, inputs_in, asked_in_order}
+use Rattle.clk_sched.specs.Turning.{HasAskedAll, HadTurn}
 use Rattle.clk_sched.proofs.Orders.{IsOrderOf, stride-order}
 use Rattle.clk_sched.proofs.StridePasses.{order-is, passes-none}
 use Rattle.clk_sched.proofs.InOrder.{IsWithin, packet_of, HasTurnedBy, turned-in-order, in_order-giver, walked-inputs, with_turn-given, after-own}
-use Rattle.clk_sched.proofs.Ordered.{IsOrderAt, row-order}
+use Rattle.clk_sched.proofs.Ordered.{IsOrderAt, row-order, can-ask, inputs-asked, had-order}
+use Rattle.clk_sched.proofs.TurnOfClass.{stride-alone}
 
 -- passes that fit the inputs of a node, if it is in the table
 abbrev pub FitsAt : List Inputs → ℕ → Passes → Type 0
@@ -87,3 +91,37 @@ stride-turn a b x s z order r tickets there fits is within asked follows row his
     by : HasTurnedBy a b history x (stride tickets) row own (packet_of r)
     by = turned-in-order a b history x (stride tickets) row order r ready within asked (row-order a.inputs.items x row order there ready.stands (stride-asks a.inputs.items x s order fits is))
         (λ h. subst (λ l. AsksInOrder l own) (is ∙ order-is tickets (history x) s holds) h)
+
+-- what is wanted for asking the inputs of its row
+pub stride-may : (a : Nodes) (x : ℕ) (s : Passes) (row : List Rank) → CanPull a x (edges_of a.inputs.items x) → FitsAt a.inputs.items x s → row ≡ s.row.items
+    → CanPull a x (edges_in a.inputs.items x (inputs_in row)) × AllByRecursion (λ i. IsSome (input_at a.inputs.items x i)) (inputs_in row)
+stride-may a x s row can fits e =
+    let is : IsOrderAt a.inputs.items x (inputs_in row) = stride-asks a.inputs.items x s (inputs_in row) fits (ap inputs_in e) in (can-ask a x (inputs_in row) can is, inputs-asked a.inputs.items x (inputs_in row) can.there is)
+
+-- The input at a place of the row gave a packet.
+pub had-won : {S : Type 0} (gives : S → ℕ → Option Packet → S → Type 0) (a b : Nodes) (q r : S) (x place : ℕ) (packet : Packet) (s z : Passes) (row : List Rank) (o : Option (ℕ × Packet)) → CanPull a x (edges_of a.inputs.items x)
+    → FitsAt a.inputs.items x s → row ≡ s.row.items → o ≡ Some (place, packet) → IfSome o (λ k. k.0 < length row) → HasAskedAll gives a b q r x (inputs_in row) o → IsWonAt s z place
+    → HadTurn gives a b q r x (Stride s) (Stride z) (Some packet)
+had-won gives a b q r x place packet s z row o can fits e is within asked won =
+    had-order gives a b q r x order (Some (place, packet)) (Stride s) (Stride z) can (stride-asks a.inputs.items x s order fits (ap inputs_in e)) given
+    (stride-fits a.inputs.items (now_of a) x place a.moment packet order s z fits (ap inputs_in e) below won)
+    (stride-alone a b x s (Stride z) (Some packet)
+    (λ tickets. stride-turn a b x s z order (Some (place, packet)) tickets can.there fits (ap inputs_in e) below given.asks (stride-won a x place packet order s z (ap inputs_in e) below won)))
+  where
+    order : List ℕ
+    order = inputs_in row
+
+    given : HasAskedAll gives a b q r x order (Some (place, packet))
+    given = subst (HasAskedAll gives a b q r x order) is asked
+
+    below : place < length order
+    below = subst (λ n. place < n) (sym (length-map row (λ (k : Rank). k.input))) (subst (λ k. IfSome k (λ g. g.0 < length row)) is within)
+
+-- None of them gave one.
+pub had-lost : {S : Type 0} (gives : S → ℕ → Option Packet → S → Type 0) (a b : Nodes) (q r : S) (x : ℕ) (s : Passes) (row : List Rank) (o : Option (ℕ × Packet)) → CanPull a x (edges_of a.inputs.items x) → FitsAt a.inputs.items x s
+    → row ≡ s.row.items → o ≡ None → HasAskedAll gives a b q r x (inputs_in row) o → HadTurn gives a b q r x (Stride s) (Stride s) None
+had-lost gives a b q r x s row o can fits e is asked =
+    let order = inputs_in row in
+    let given : HasAskedAll gives a b q r x order None = subst (HasAskedAll gives a b q r x order) is asked in
+    had-order gives a b q r x order None (Stride s) (Stride s) can (stride-asks a.inputs.items x s order fits (ap inputs_in e)) given fits
+    (stride-alone a b x s (Stride s) None (λ tickets. stride-turn a b x s s order None tickets can.there fits (ap inputs_in e) tt given.asks (stride-none a x order s)))

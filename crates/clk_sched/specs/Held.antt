@@ -1,15 +1,10 @@
--- What came out by a visit, and what the states of nodes hold as heads.
-use Rattle.std.specs.Prelude.{◌==◌, List, [], Option, None, if◌then◌else◌}
+-- What the states of nodes hold as heads.
+use Rattle.std.specs.Prelude.{List, []}
 use Rattle.std.specs.List.{filter_map, flat_map}
 use Rattle.clk_packet.specs.declared.packet.Packet.{Packet}
-use Rattle.clk_sched.specs.declared.visit.Visit.{Visit}
 use Rattle.clk_sched.specs.declared.session.drr.Served.{Served}
 use Rattle.clk_sched.specs.declared.session.state.State.{State}
 use Rattle.clk_sched.specs.declared.session.state.State.TheVariants.{Prio, RoundRobin, Drr, Stride, Shaper}
-
--- the packet that came out at the device by a visit, if one did
-abbrev pub emitted_by : Visit → Option Packet
-emitted_by v = if v.node == 0 then (if v.passed then v.got else None) else None
 
 -- the heads of inputs, in order
 abbrev pub heads_in : List Served → List Packet

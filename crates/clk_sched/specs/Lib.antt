@@ -14,6 +14,8 @@ pub mod Ranks
 pub mod Holds
 pub mod Places
 pub mod Pulling
+pub mod Turning
+pub mod Tokens
 pub mod Looking
 pub mod Session
 pub mod LaidOut

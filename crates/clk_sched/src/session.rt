@@ -14,7 +14,7 @@ mod tests;
 
 use crate::ask::Ask;
 use crate::session::nodes::Nodes;
-use crate::session::results::{emitted, held_heads};
+use crate::session::results::{add, held_heads};
 use crate::tree::Tree;
 use crate::visit::Visit;
 use clk_packet::{Fault, Packet};
@@ -29,6 +29,8 @@ const DEVICE: u16 = 0;
 pub struct Session {
     tree: Tree,
     nodes: Nodes,
+    // The packets that came out at the device, so that nobody has to look for them in the log.
+    emitted: Vec<Packet>,
 }
 
 impl Model for Session {
@@ -36,6 +38,7 @@ impl Model for Session {
     ghost use Rattle.clk_sched.specs.Limits.{end_of_moments};
     ghost use Rattle.clk_sched.specs.Tree.{leaves_distinct};
     ghost use Rattle.clk_sched.specs.Session.{Progress, IsAfterRun};
+    ghost use Rattle.clk_sched.specs.Results.{emitted as came_out};
     ghost use Rattle.std.specs.Coded.{codes};
     ghost use Rattle.clk_sched.specs.Stored.{tree_code};
 
@@ -45,7 +48,7 @@ impl Model for Session {
 
     ghost view = { λ s. record { tree = s.tree; log = s.nodes.log.items } };
 
-    ghost invariant = { λ s. IsAfterRun s.tree s.nodes × (s.nodes.moment < end_of_moments) × (leaves_distinct s.tree ≡ true) };
+    ghost invariant = { λ s. IsAfterRun s.tree s.nodes × (s.nodes.moment < end_of_moments) × (leaves_distinct s.tree ≡ true) × (s.emitted.items ≡ came_out s.nodes.log.items) };
 }
 
 impl Session {
@@ -72,7 +75,11 @@ impl Session {
         ensures refused { IfErr result (λ fault. IsRefused tree fault) }
     {
         let nodes = tree.lay_out(alloc)?;
-        Ok(Session { tree, nodes })
+        Ok(Session {
+            tree,
+            nodes,
+            emitted: Vec::new(alloc),
+        })
     }
 
     /// Pulls the device once, at this moment in ticks, below 2^44, or, where that is later, at the greatest so far, and answers its
@@ -91,10 +98,11 @@ impl Session {
     {
         let edges = self.nodes.inputs[DEVICE as usize].edges;
         self.nodes.log.reserve(edges)?;
+        self.emitted.reserve(1)?;
         self.nodes.moment = self.nodes.moment.max(moment);
-        // The device is no Shaper.
-        let got = self.nodes.pull_other(q, DEVICE);
+        let got = self.nodes.pull(q, DEVICE);
         self.nodes.pull += 1;
+        add(&mut self.emitted, got);
         Ok(got)
     }
 
@@ -170,7 +178,9 @@ impl Session {
         ensures packets { IfOk result (λ packets. packets.items ≡ emitted self.now.log) }
         ensures fault { IsOkUnless result Fault.Memory }
     {
-        emitted(alloc, self.nodes.log.as_slice())
+        // That these came out is known where a field is read.
+        let _ = &self.nodes;
+        Ok(self.emitted.as_slice().to_vec(alloc)?)
     }
 
     /// The packets held as heads, by node and then by input.

@@ -1,9 +1,7 @@
 -- What each node holds from pull to pull, by its earlier turns.
-use Rattle.std.specs.Prelude.{◌≡◌, ◌≢◌, ℕ, ◌<◌, ◌≤◌, List, length, ⊤}
+use Rattle.std.specs.Prelude.{◌≡◌, ℕ, ◌<◌, ◌≤◌, List, length, ⊤}
 use Rattle.clk_sched.specs.declared.session.state.State.{State}
 use Rattle.clk_sched.specs.declared.session.state.State.TheVariants.{Prio, RoundRobin, Drr, Stride, Shaper}
-use Rattle.clk_sched.specs.declared.session.drr.Deficits.{Deficits}
-use Rattle.clk_sched.specs.declared.session.shaper.Bucket.{Bucket}
 use Rattle.clk_sched.specs.declared.session.stride.Passes.{Passes}
 use Rattle.clk_sched.specs.Tree.{Class, prio, round_robin, drr, stride, shaper}
 use Rattle.clk_sched.specs.Turns.{Turn, visits_before}
@@ -27,6 +25,22 @@ Fits (Drr d) inputs = length d.row.items ≡ inputs
 Fits (Stride p) inputs = FitsPasses inputs p
 Fits (Shaper b) inputs = 1 ≤ inputs
 
+-- a state is that of a PrioSched
+abbrev pub IsPrio : State → Type 0
+IsPrio Prio = ⊤
+IsPrio (RoundRobin b) = ⊥
+IsPrio (Drr d) = ⊥
+IsPrio (Stride p) = ⊥
+IsPrio (Shaper b) = ⊥
+
+-- a state is that of a RoundRobinSched
+abbrev pub IsRoundRobin : State → Type 0
+IsRoundRobin Prio = ⊥
+IsRoundRobin (RoundRobin b) = ⊤
+IsRoundRobin (Drr d) = ⊥
+IsRoundRobin (Stride p) = ⊥
+IsRoundRobin (Shaper b) = ⊥
+
 -- a state is that of a DRRSched
 abbrev pub IsDrr : State → Type 0
 IsDrr Prio = ⊥
@@ -35,20 +49,21 @@ IsDrr (Drr d) = ⊤
 IsDrr (Stride p) = ⊥
 IsDrr (Shaper b) = ⊥
 
--- a state is that of a Shaper, or isn't
+-- a state is that of a StrideSched
+abbrev pub IsStride : State → Type 0
+IsStride Prio = ⊥
+IsStride (RoundRobin b) = ⊥
+IsStride (Drr d) = ⊥
+IsStride (Stride p) = ⊤
+IsStride (Shaper b) = ⊥
+
+-- a state is that of a Shaper
 abbrev pub IsShaper : State → Type 0
 IsShaper Prio = ⊥
 IsShaper (RoundRobin b) = ⊥
 IsShaper (Drr d) = ⊥
 IsShaper (Stride p) = ⊥
 IsShaper (Shaper b) = ⊤
-
-abbrev pub IsNoShaper : State → Type 0
-IsNoShaper s = (b : Bucket) → s ≢ Shaper b
-
--- a state is that of neither a DRRSched nor a Shaper
-abbrev pub IsOther : State → Type 0
-IsOther s = IsNoShaper s × ((d : Deficits) → s ≢ Drr d)
 
 -- what a scheduler of a class with so many inputs holds after these turns, the latest first
 abbrev pub Holds : Class → ℕ → List Turn → State → Type 0

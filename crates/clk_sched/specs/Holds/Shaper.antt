@@ -1,8 +1,8 @@
 -- What a Shaper's bucket tells of the turns before it.
-use Rattle.std.specs.Prelude.{◌≡◌, ℕ, ◌+◌, ◌-◌, ◌*◌, ◌≤◌, min, nat_le, List}
+use Rattle.std.specs.Prelude.{◌≡◌, ℕ, ◌+◌, ◌-◌, ◌*◌, ◌≤◌, min, nat_le, Bool, List, ◌∷◌, None}
 use Rattle.std.specs.List.{AllByRecursion}
 use Rattle.clk_sched.specs.declared.session.shaper.Bucket.{Bucket}
-use Rattle.clk_sched.specs.Turns.{Turn}
+use Rattle.clk_sched.specs.Turns.{Turn, giver}
 use Rattle.clk_sched.specs.Laws.Shaper.{has_room}
 
 -- none of these turns was after a moment
@@ -28,3 +28,13 @@ pub record HoldsBucket (rate burst : ℕ) (turns : List Turn) (b : Bucket) : Typ
   pub filled : (moment : ℕ) → AreBefore moment turns → b.filled ≤ moment
   pub room : (moment since : ℕ) → b.filled ≤ moment → since + 1 ≤ burst + rate * (moment - b.filled)
       → has_room rate burst moment since turns ≡ nat_le (since + 1) (b.tokens + rate * (moment - b.filled))
+
+-- Whether there is a token at a moment is whether there is room.
+abbrev pub Tells : Bucket → ℕ → Bool → Type 0
+Tells b moment token = (rate burst : ℕ) (turns : List Turn) → HoldsBucket rate burst turns b → AreBefore moment turns → token ≡ has_room rate burst moment 0 turns
+
+-- A token was given back that was taken in a turn which passed nothing.
+abbrev pub IsGivenBack : Bucket → Bucket → Type 0
+IsGivenBack old new =
+    (before : Bucket) (rate burst : ℕ) (turns : List Turn) (t : Turn) → IsTaken before old t.moment → HoldsBucket rate burst turns before → AreBefore t.moment turns → giver t.visits ≡ None
+    → HoldsBucket rate burst (t ∷ turns) new

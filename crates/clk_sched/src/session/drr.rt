@@ -7,6 +7,7 @@ ghost use Rattle.clk_sched.specs.declared.session.drr.Served.{Served};
 
 use crate::ask::Ask;
 use crate::session::nodes::Nodes;
+use crate::session::state::State;
 use crate::visit::Visit;
 use clk_packet::Packet;
 use std::alloc::{AllocError, Global};
@@ -81,9 +82,10 @@ impl Deficits {
     ghost use Rattle.clk_sched.specs.Holds.Deficit.{HoldsDeficits};
     ghost use Rattle.clk_sched.specs.Held.{heads_in};
     ghost use Rattle.std.specs.Vec.{vec_len, vec_capacity};
-    ghost use Rattle.clk_sched.specs.Tree.{drr};
     ghost use Rattle.clk_sched.specs.Places.{edges_of, edges_at, input_at, Answers, queue_asked};
-    ghost use Rattle.clk_sched.specs.Pulling.{CanPull, Keeps, TakesTurn, added};
+    ghost use Rattle.clk_sched.specs.Pulling.{CanPull, Keeps, added};
+    ghost use Rattle.clk_sched.specs.Turning.{WasPulled, HadTurn};
+    ghost use Rattle.clk_sched.specs.Holds.OfClass.{IsDrr};
     ghost use Rattle.clk_sched.specs.Looking.{looking, Logs, Settles, Looks};
     ghost use Rattle.clk_sched.specs.declared.session.state.State.TheVariants.{Drr};
 
@@ -137,13 +139,25 @@ impl Deficits {
     /// Pulls a DRRSched.
     #[cycle(pull)]
     #[inline(never)]
-    pub fn pull<Q: Ask>(&mut self, nodes: &mut Nodes, q: &mut Q, node: u16) -> Option<Packet>
+    pub fn pull<Q: Ask>(nodes: &mut Nodes, q: &mut Q, node: u16) -> Option<Packet>
+        requires can_pull { CanPull nodes.old node (edges_of nodes.old.inputs.items node) }
+        requires holds { IfSome (slice_get nodes.old.states.items node) IsDrr }
+        ensures { WasPulled Q.gives nodes.old nodes.new q.old q.new node result }
+    {
+        let State::Drr(mut deficits) = nodes.take(node) else {
+            unreachable!()
+        };
+        let got = deficits.turn(nodes, q, node);
+        nodes.put(node, State::Drr(deficits));
+        got
+    }
+
+    // The turn of a DRRSched.
+    #[cycle(pull)]
+    fn turn<Q: Ask>(&mut self, nodes: &mut Nodes, q: &mut Q, node: u16) -> Option<Packet>
         requires can_pull { CanPull nodes.old node (edges_of nodes.old.inputs.items node) }
         requires fits { IfSome (slice_get nodes.old.inputs.items node) (λ p. length self.old.row.items ≡ length p.each.items) }
-        ensures keeps { Keeps nodes.old nodes.new (edges_of nodes.old.inputs.items node) }
-        ensures fits { IfSome (slice_get nodes.old.inputs.items node) (λ p. length self.new.row.items ≡ length p.each.items) }
-        ensures answers { Answers Q.gives (queue_asked nodes.old.inputs.items) q.old (added nodes.old nodes.new) q.new }
-        ensures turn { (quanta : List ℕ) → TakesTurn nodes.old nodes.new node (drr quanta) (Drr self.old) (Drr self.new) result }
+        ensures { HadTurn Q.gives nodes.old nodes.new q.old q.new node (Drr self.old) (Drr self.new) result }
     {
         for _ in 0..self.row.len() {
             let (got, passed) = self.look(nodes, q, node);

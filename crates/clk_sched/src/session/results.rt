@@ -1,43 +1,25 @@
 //! What came out of a session, and what it holds back.
 
-ghost use Rattle.std.specs.Prelude.{◌≡◌, IfOk, IsOkUnless};
+ghost use Rattle.std.specs.Prelude.{◌≡◌, ◌<◌, ◌++◌, [], IfOk, IsOkUnless};
+ghost use Rattle.std.specs.List.{cons_option};
+ghost use Rattle.std.specs.Vec.{vec_len, vec_capacity};
 ghost use Rattle.clk_sched.specs.Tree.{Tree};
-ghost use Rattle.clk_sched.specs.Results.{emitted, heads};
+ghost use Rattle.clk_sched.specs.Results.{heads};
 ghost use Rattle.clk_sched.specs.Session.{IsAfterRun};
-ghost use Rattle.clk_sched.specs.Held.{emitted_by};
 
 use crate::session::nodes::Nodes;
 use crate::session::state::State;
-use crate::visit::Visit;
 use clk_packet::{Fault, Packet};
 use std::alloc::Global;
 
-/// The packets that came out at the device, in order.
-///
-/// # Errors
-///
-/// Fault 1.
-pub fn emitted(alloc: Global, log: &[Visit]) -> Result<Vec<Packet>, Fault>
-    ensures packets { IfOk result (λ packets. packets.items ≡ emitted log.now) }
-    ensures fault { IsOkUnless result Fault.Memory }
+/// Adds what a pull gave to what came out, where there is room for it.
+#[inline]
+pub fn add(emitted: &mut Vec<Packet>, got: Option<Packet>)
+    requires { vec_len emitted.old < vec_capacity emitted.old }
+    ensures { emitted.new.items ≡ emitted.old.items ++ cons_option got [] }
 {
-    let mut packets = Vec::new(alloc);
-    for visit in log {
-        if let Some(packet) = emitted_by(visit) {
-            packets.push(packet)?;
-        }
-    }
-    Ok(packets)
-}
-
-// The packet that came out by a visit, if it is one of the device that passed.
-fn emitted_by(visit: &Visit) -> Option<Packet>
-    ensures { result ≡ emitted_by visit.now }
-{
-    if visit.node == 0 && visit.passed {
-        visit.got
-    } else {
-        None
+    if let Some(packet) = got {
+        emitted.push_reserved(packet);
     }
 }
 

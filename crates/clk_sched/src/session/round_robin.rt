@@ -2,6 +2,7 @@
 
 use crate::ask::Ask;
 use crate::session::nodes::Nodes;
+use crate::session::state::State;
 use clk_packet::Packet;
 
 /// The input at which the next pull begins.
@@ -12,21 +13,34 @@ pub struct Beginning {
 
 impl Beginning {
     ghost use Rattle.std.specs.Prelude.{◌<◌, length, IfSome, slice_get};
-    ghost use Rattle.clk_sched.specs.Tree.{round_robin};
-    ghost use Rattle.clk_sched.specs.Places.{edges_of, Answers, queue_asked};
-    ghost use Rattle.clk_sched.specs.Pulling.{CanPull, Keeps, TakesTurn, added};
+    ghost use Rattle.clk_sched.specs.Places.{edges_of};
+    ghost use Rattle.clk_sched.specs.Pulling.{CanPull};
+    ghost use Rattle.clk_sched.specs.Turning.{WasPulled, HadTurn};
+    ghost use Rattle.clk_sched.specs.Holds.OfClass.{IsRoundRobin};
     ghost use Rattle.clk_sched.specs.declared.session.state.State.TheVariants.{RoundRobin};
 
     /// Pulls a RoundRobinSched.
     #[cycle(pull)]
     #[inline(never)]
-    pub fn pull<Q: Ask>(&mut self, nodes: &mut Nodes, q: &mut Q, node: u16) -> Option<Packet>
+    pub fn pull<Q: Ask>(nodes: &mut Nodes, q: &mut Q, node: u16) -> Option<Packet>
+        requires can_pull { CanPull nodes.old node (edges_of nodes.old.inputs.items node) }
+        requires holds { IfSome (slice_get nodes.old.states.items node) IsRoundRobin }
+        ensures { WasPulled Q.gives nodes.old nodes.new q.old q.new node result }
+    {
+        let State::RoundRobin(mut beginning) = nodes.take(node) else {
+            unreachable!()
+        };
+        let got = beginning.turn(nodes, q, node);
+        nodes.put(node, State::RoundRobin(beginning));
+        got
+    }
+
+    // The turn of a RoundRobinSched.
+    #[cycle(pull)]
+    fn turn<Q: Ask>(&mut self, nodes: &mut Nodes, q: &mut Q, node: u16) -> Option<Packet>
         requires can_pull { CanPull nodes.old node (edges_of nodes.old.inputs.items node) }
         requires fits { IfSome (slice_get nodes.old.inputs.items node) (λ p. self.old.input < length p.each.items) }
-        ensures keeps { Keeps nodes.old nodes.new (edges_of nodes.old.inputs.items node) }
-        ensures fits { IfSome (slice_get nodes.old.inputs.items node) (λ p. self.new.input < length p.each.items) }
-        ensures answers { Answers Q.gives (queue_asked nodes.old.inputs.items) q.old (added nodes.old nodes.new) q.new }
-        ensures turn { TakesTurn nodes.old nodes.new node round_robin (RoundRobin self.old) (RoundRobin self.new) result }
+        ensures { HadTurn Q.gives nodes.old nodes.new q.old q.new node (RoundRobin self.old) (RoundRobin self.new) result }
     {
         let inputs = nodes.inputs[node as usize].each.len() as u16;
         let first = self.input;

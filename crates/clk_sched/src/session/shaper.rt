@@ -3,6 +3,11 @@
 ghost use Rattle.std.specs.Prelude.{◌≤◌, ◌<◌};
 ghost use Rattle.clk_sched.specs.Limits.{most_rate, most_burst, end_of_moments};
 
+use crate::ask::Ask;
+use crate::session::nodes::Nodes;
+use crate::session::state::State;
+use clk_packet::Packet;
+
 /// The bucket of a Shaper: it fills by `rate` tokens a tick, and holds `burst` at most.
 #[derive(Clone, Copy, Debug)]
 pub struct Bucket {
@@ -22,7 +27,7 @@ impl Bucket {
     ghost use Rattle.std.specs.Prelude.{◌≡◌, ℕ, nat_lt, List, [], ◌∷◌, None, MatchBool};
     ghost use Rattle.clk_sched.specs.Turns.{Turn, giver};
     ghost use Rattle.clk_sched.specs.Laws.Shaper.{has_room};
-    ghost use Rattle.clk_sched.specs.Holds.Shaper.{AreBefore, HoldsBucket, IsTaken, tokens_at};
+    ghost use Rattle.clk_sched.specs.Holds.Shaper.{AreBefore, HoldsBucket, IsTaken, IsGivenBack, tokens_at};
 
     /// A full bucket.
     pub fn new(rate: u32, burst: u32) -> Bucket
@@ -56,8 +61,7 @@ impl Bucket {
 
     /// Gives the token back that was taken last, since no packet came.
     pub fn give_back(&mut self)
-        ensures { (before : Bucket) (rate burst : ℕ) (turns : List Turn) (t : Turn) → IsTaken before self.old t.moment → HoldsBucket rate burst turns before → AreBefore t.moment turns
-            → giver t.visits ≡ None → HoldsBucket rate burst (t ∷ turns) self.new }
+        ensures { IsGivenBack self.old self.new }
     {
         self.tokens = (self.tokens + 1).min(self.burst);
     }
@@ -72,5 +76,58 @@ impl Bucket {
         let fresh = u64::from(self.rate) * moment.saturating_sub(self.filled);
         let tokens = (u64::from(self.tokens) + fresh).min(u64::from(self.burst));
         tokens as u32
+    }
+
+    ghost use Rattle.std.specs.Prelude.{length, slice_get, IfSome};
+    ghost use Rattle.clk_sched.specs.Holds.OfClass.{IsShaper};
+    ghost use Rattle.clk_sched.specs.Places.{edges_of};
+    ghost use Rattle.clk_sched.specs.Pulling.{CanPull};
+    ghost use Rattle.clk_sched.specs.Turning.{WasPulled};
+    ghost use Rattle.clk_sched.specs.Tokens.{TakesToken, GivesBack};
+
+    /// Pulls a Shaper, which asks for a packet with a token alone.
+    // Its bucket stays in its place: nothing of it is needed while the input is asked.
+    #[cycle(pull)]
+    #[inline]
+    pub fn pull<Q: Ask>(nodes: &mut Nodes, q: &mut Q, node: u16) -> Option<Packet>
+        requires can_pull { CanPull nodes.old node (edges_of nodes.old.inputs.items node) }
+        requires holds { IfSome (slice_get nodes.old.states.items node) IsShaper }
+        ensures { WasPulled Q.gives nodes.old nodes.new q.old q.new node result }
+    {
+        if !Bucket::take_at(nodes, node) {
+            return None;
+        }
+        let got = nodes.look(q, node, 0);
+        if got.is_some() {
+            return got;
+        }
+        Bucket::give_back_at(nodes, node);
+        None
+    }
+
+    // Takes a token out of the bucket of a Shaper, and answers whether there was one.
+    #[inline]
+    fn take_at(nodes: &mut Nodes, node: u16) -> bool
+        requires there { node < length nodes.old.states.items }
+        requires holds { IfSome (slice_get nodes.old.states.items node) IsShaper }
+        requires moment { nodes.old.moment < end_of_moments }
+        ensures { TakesToken nodes.old nodes.new node result }
+    {
+        let moment = nodes.moment;
+        match &mut nodes.states[node as usize] {
+            State::Shaper(bucket) => bucket.take(moment),
+            _ => false,
+        }
+    }
+
+    // Gives the token back that was taken last from the bucket of a Shaper.
+    #[inline]
+    fn give_back_at(nodes: &mut Nodes, node: u16)
+        requires { node < length nodes.old.states.items }
+        ensures { GivesBack nodes.old nodes.new node }
+    {
+        if let State::Shaper(bucket) = &mut nodes.states[node as usize] {
+            bucket.give_back();
+        }
     }
 }

@@ -8,6 +8,7 @@ ghost use Rattle.clk_sched.specs.Ranks.{greatest_stride, IsRankOf, HasRisingPass
 
 use crate::ask::Ask;
 use crate::session::nodes::Nodes;
+use crate::session::state::State;
 use clk_packet::Packet;
 use smallvec::SmallVec;
 use std::alloc::{AllocError, Global};
@@ -92,22 +93,34 @@ impl Passes {
         take_least(row);
     }
 
-    ghost use Rattle.clk_sched.specs.Tree.{stride};
-    ghost use Rattle.clk_sched.specs.Places.{edges_of, Answers, queue_asked};
-    ghost use Rattle.clk_sched.specs.Pulling.{CanPull, Keeps, TakesTurn, added};
+    ghost use Rattle.clk_sched.specs.Places.{edges_of};
+    ghost use Rattle.clk_sched.specs.Pulling.{CanPull};
+    ghost use Rattle.clk_sched.specs.Turning.{WasPulled, HadTurn};
     ghost use Rattle.clk_sched.specs.declared.session.state.State.TheVariants.{Stride};
-    ghost use Rattle.clk_sched.specs.Holds.OfClass.{FitsPasses};
+    ghost use Rattle.clk_sched.specs.Holds.OfClass.{FitsPasses, IsStride};
 
     /// Pulls a StrideSched.
     #[cycle(pull)]
     #[inline(never)]
-    pub fn pull<Q: Ask>(&mut self, nodes: &mut Nodes, q: &mut Q, node: u16) -> Option<Packet>
+    pub fn pull<Q: Ask>(nodes: &mut Nodes, q: &mut Q, node: u16) -> Option<Packet>
+        requires can_pull { CanPull nodes.old node (edges_of nodes.old.inputs.items node) }
+        requires holds { IfSome (slice_get nodes.old.states.items node) IsStride }
+        ensures { WasPulled Q.gives nodes.old nodes.new q.old q.new node result }
+    {
+        let State::Stride(mut passes) = nodes.take(node) else {
+            unreachable!()
+        };
+        let got = passes.turn(nodes, q, node);
+        nodes.put(node, State::Stride(passes));
+        got
+    }
+
+    // The turn of a StrideSched.
+    #[cycle(pull)]
+    fn turn<Q: Ask>(&mut self, nodes: &mut Nodes, q: &mut Q, node: u16) -> Option<Packet>
         requires can_pull { CanPull nodes.old node (edges_of nodes.old.inputs.items node) }
         requires fits { IfSome (slice_get nodes.old.inputs.items node) (λ p. FitsPasses (length p.each.items) self.old) }
-        ensures keeps { Keeps nodes.old nodes.new (edges_of nodes.old.inputs.items node) }
-        ensures fits { IfSome (slice_get nodes.old.inputs.items node) (λ p. FitsPasses (length p.each.items) self.new) }
-        ensures answers { Answers Q.gives (queue_asked nodes.old.inputs.items) q.old (added nodes.old nodes.new) q.new }
-        ensures turn { (tickets : List ℕ) → TakesTurn nodes.old nodes.new node (stride tickets) (Stride self.old) (Stride self.new) result }
+        ensures { HadTurn Q.gives nodes.old nodes.new q.old q.new node (Stride self.old) (Stride self.new) result }
     {
         match nodes.ask_in_order(q, node, self.row()) {
             Some((place, packet)) => {

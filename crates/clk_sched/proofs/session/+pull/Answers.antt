@@ -1,38 +1,26 @@
-use Rattle.std.proofs.Common.{MatchBool, ◌≡◌, ◌+◌, ◌-◌, ◌%◌, ◌<◌, ◌≤◌, ◌∷◌, [], true, false, ◌++◌, length, Some, None, IsSome, IfSome, is_some, slice_get, slice_index, refl, sym, ap, ap₂, ◌∙◌, subst, mod-lt, mod-eq_of_lt, arith}
+use Rattle.std.proofs.Common.{◌≡◌, ◌+◌, ◌<◌, true, false, ◌∷◌, [], ◌++◌, length, Some, None, refl, sym, ap, ap₂, ◌∙◌, subst, arith}
 use Rattle.std.specs.List.{range_with_len}
-use Rattle.std.specs.Vec.{with_item}
-use Rattle.std.proofs.lemmas.Option.{slice_get-get_or}
-use Rattle.std.proofs.lemmas.List.{length-map, length-append}
+use Rattle.std.proofs.lemmas.List.{length-map}
 use Rattle.std.proofs.lemmas.List.FromFn.{length-range_with_len, get_or-range_with_len}
 use Rattle.clk_sched.specs.declared.session.stride.Rank.{Rank}
 use Rattle.clk_sched.specs.declared.session.nodes.Nodes.{Nodes}
-use Rattle.clk_sched.specs.declared.session.inputs.Inputs.{Inputs}
-use Rattle.clk_sched.specs.Log.{asking}
-use Rattle.clk_sched.proofs.Members.{of-all, in-slice}
 use Rattle.clk_sched.specs.declared.session.inputs.Input.TheVariants.{Queue, Scheduler}
-use Rattle.clk_sched.specs.Places.{input_at, Answers, queue_asked, edges_of, edges_at, at_queue}
-use Rattle.clk_sched.specs.Pulling.{CanPull, AsksAll, added, now_of, asked_in_order, inputs_in}
-use Rattle.clk_sched.specs.Tree.{prio, shaper}
-use Rattle.clk_sched.specs.Holds.Shaper.{AreBefore, IsTaken}
-use Rattle.clk_sched.specs.Holds.OfClass.{Fits}
-use Rattle.clk_sched.specs.Pulling.{TakesTurn}
-use Rattle.clk_sched.specs.declared.session.state.State.TheVariants.{Prio, Drr, Stride, Shaper}
-use Rattle.clk_sched.proofs.InOrder.{IsWithin, packet_of, within-range}
-use Rattle.std.specs.List.{AllByRecursion}
-use Rattle.clk_sched.proofs.Orders.{priority-order}
-use Rattle.clk_sched.proofs.Ordered.{can-order, order-there, keeps-order, IsOrderAt, can-ask, inputs-asked, keeps-asked}
-use Rattle.clk_sched.proofs.TurnPrio.{prio-turn}
-use Rattle.clk_sched.proofs.TurnRoundRobin.{round_robin-turn, parts, parts-order, can-first, can-second, there-both, asked-both, in_second, in_order-first, index-first, index-second, past, past-length}
-use Rattle.clk_sched.proofs.TurnStride.{stride-asks, stride-fits, stride-won, stride-none, stride-turn}
-use Rattle.clk_sched.proofs.TurnShaper.{can-look, there-look, keeps-look, Tells, IsLeft, left-same, shaper-passes, shaper-vain, shaper-without}
-use Rattle.clk_sched.proofs.TurnOfClass.{drr-only, stride-only, shaper-only}
-use Rattle.clk_sched.proofs.PutBack.{with_state, is-put, pulls-put, pulls-placed, pulls-back, pulls-else, some-same, bucket-same, set-here, set-other, fit-set, can-put, keeps-from, keeps-put, drr-fits, shaper-fits}
-use Rattle.clk_sched.proofs.Asking.{IsAsking, asks-front, apart-split, added-none, keeps-more, answers-then, asks-one, asking-first, asking-can, HasAsked, asking-given, asking-next, asking-all}
-use Rattle.clk_sched.proofs.Asked.{entry, rank_at, entry-input, input-is, edges-scheduler, queue-visited, asks-queue, asks-child}
-use Rattle.clk_sched.specs.Tree.{drr}
+use Rattle.clk_sched.specs.declared.session.state.State.TheVariants.{RoundRobin, Drr, Stride}
+use Rattle.clk_sched.specs.Places.{input_at, Answers, queue_asked, at_queue}
+use Rattle.clk_sched.specs.Pulling.{added, inputs_in}
 use Rattle.clk_sched.specs.Looking.{looking}
-use Rattle.clk_sched.proofs.Asking.{keeps-none}
-use Rattle.clk_sched.proofs.TurnDrr.{edge-there, entry-there, of-entry, to-entry, keeps-logged, added-logged, answers-held, looks-held, looks-fresh, has-looked, making-first, making-can, making-next, making-passed, making-all, ended-keeps, drr-turn}
+use Rattle.clk_sched.proofs.Asking.{added-none, keeps-none, keeps-more, answers-then, asking-first, asking-ready, asking-given, asking-next, asking-all}
+use Rattle.clk_sched.proofs.Asked.{entry, rank_at, entry-input, input-is, edges-scheduler, queue-visited, asks-queue, asks-child}
+use Rattle.clk_sched.proofs.Placed.{can-turn, pulled-back}
+use Rattle.clk_sched.proofs.TurnPrio.{prio-asks, prio-pulled}
+use Rattle.clk_sched.proofs.TurnRoundRobin.{begins, may-first, may-second, had-first, had-second, had-none, few-first, few-second}
+use Rattle.clk_sched.proofs.Logged.{edge-there, keeps-logged, added-logged, asked-logged}
+use Rattle.clk_sched.proofs.LooksDrr.{answers-held, looks-held, looks-fresh}
+use Rattle.clk_sched.proofs.TurnDrr.{has-looked, making-first, making-can, making-next, making-passed, making-all, HasEnded, had-ended}
+use Rattle.clk_sched.proofs.TurnStride.{stride-may, had-won, had-lost}
+use Rattle.clk_sched.proofs.TurnShaper.{shaper-may, shaper-refused, shaper-passed, shaper-returned}
+use Rattle.clk_sched.specs.Turning.{HasAskedAll, WasPulled}
+use Rattle.clk_sched.proofs.InOrder.{packet_of}
 use Rattle.clk_sched.proofs.session.+pull.Goals as goal
 
 pub nodes::Nodes::ask-returns-in-Queue-clause-answers : goal.nodes::Nodes::ask-returns-in-Queue-clause-answers
@@ -82,66 +70,36 @@ nodes::Nodes::ask_in_order-loop-place-init g t c =
 
 pub nodes::Nodes::ask_in_order-look-requires : goal.nodes::Nodes::ask_in_order-look-requires
 nodes::Nodes::ask_in_order-look-requires g t c =
-    let a = c.args.self.now in
     let order = inputs_in c.args.order.now in
     let k = c.loop-place.place in
     let h = c.loop-place.invariant in
-    let l : k < length order = subst (λ n. k < n) (sym (length-map c.args.order.now (λ (r : Rank). r.input))) c.loop-place-test.true in
-    let same_input = entry-input c.args.order.now k c.loop-place-test.true in
-    let can = subst (λ i. CanPull c.loop-place.self c.args.node (edges_at c.loop-place.self.inputs.items c.args.node i)) (sym same_input) (asking-can g.Q.Ask.gives a c.loop-place.self c.args.q.now c.loop-place.q c.args.node k order c.requires.can_pull h l) in
-    let within : IsSome (input_at c.loop-place.self.inputs.items c.args.node (slice_index order k)) =
-    subst (λ table. IsSome (input_at table c.args.node (slice_index order k))) (sym h.keeps.inputs) (of-all (λ i. IsSome (input_at a.inputs.items c.args.node i)) (slice_index order k) order c.requires.within (in-slice order k (slice_index order k) (slice_get-get_or order k 0 l)))
-    in
+    let ready = asking-ready g.Q.Ask.gives c.args.self.now c.loop-place.self c.args.q.now c.loop-place.q c.args.node k (rank_at c.args.order.now k).input order c.requires.can_pull c.requires.within h (subst (λ n. k < n) (sym (length-map c.args.order.now (λ (r : Rank). r.input))) c.loop-place-test.true) (entry-input c.args.order.now k c.loop-place-test.true) in
     let same = ap length h.keeps.inputs in
     let less = c.decreases in
-    λ κs le. (omega (arith, same, less), (search, (can, subst (λ i. IsSome (input_at c.loop-place.self.inputs.items c.args.node i)) (sym same_input) within)))
+    λ κs le. (omega (arith, same, less), (search, (ready.0, ready.1)))
 
 pub nodes::Nodes::ask_in_order-returns-in-Some : goal.nodes::Nodes::ask_in_order-returns-in-Some
 nodes::Nodes::ask_in_order-returns-in-Some g t c =
-    let a = c.args.self.now in
     let order = inputs_in c.args.order.now in
     let k = c.loop-place.place in
-    let h = c.loop-place.invariant in
-    let l : k < length order = subst (λ n. k < n) (sym (length-map c.args.order.now (λ (r : Rank). r.input))) c.loop-place-test.true in
-    let same_input = entry-input c.args.order.now k c.loop-place-test.true in
-    let one : HasAsked g.Q.Ask.gives c.loop-place.self c.look.new.self c.loop-place.q c.look.new.q c.args.node (slice_index order k) (Some c.in-Some.packet) =
-    subst (λ i. HasAsked g.Q.Ask.gives c.loop-place.self c.look.new.self c.loop-place.q c.look.new.q c.args.node i (Some c.in-Some.packet)) same_input (record { keeps = c.look.ensures.keeps; answers = c.look.ensures.answers; asks = subst (λ o. AsksAll c.loop-place.self c.look.new.self c.args.node ((rank_at c.args.order.now k).input ∷ []) (asking c.loop-place.self.pull c.loop-place.self.moment c.args.node (rank_at c.args.order.now k).input o ∷ [])) c.in-Some.is c.look.ensures.asks })
-    in
-    let given = asking-given g.Q.Ask.gives a c.loop-place.self c.look.new.self c.args.q.now c.loop-place.q c.look.new.q c.args.node k order c.in-Some.packet l h one in
     record {
-      keeps = given.keeps;
-      answers = given.answers;
       place = c.loop-place-test.true;
-      asks = given.asks;
+      asked = asking-given g.Q.Ask.gives c.args.self.now c.loop-place.self c.look.new.self c.args.q.now c.loop-place.q c.look.new.q c.args.node k (rank_at c.args.order.now k).input c.look.result c.in-Some.packet order (subst (λ n. k < n) (sym (length-map c.args.order.now (λ (r : Rank). r.input))) c.loop-place-test.true) c.loop-place.invariant (entry-input c.args.order.now k c.loop-place-test.true) c.in-Some.is c.look.ensures;
     }
 
 pub nodes::Nodes::ask_in_order-loop-place-preserved : goal.nodes::Nodes::ask_in_order-loop-place-preserved
 nodes::Nodes::ask_in_order-loop-place-preserved g t c =
-    let a = c.args.self.now in
     let order = inputs_in c.args.order.now in
     let k = c.loop-place.place in
-    let h = c.loop-place.invariant in
-    let l : k < length order = subst (λ n. k < n) (sym (length-map c.args.order.now (λ (r : Rank). r.input))) c.loop-place-test.true in
-    let same_input = entry-input c.args.order.now k c.loop-place-test.true in
-    let one : HasAsked g.Q.Ask.gives c.loop-place.self c.look.new.self c.loop-place.q c.look.new.q c.args.node (slice_index order k) None =
-    subst (λ i. HasAsked g.Q.Ask.gives c.loop-place.self c.look.new.self c.loop-place.q c.look.new.q c.args.node i None) same_input (record { keeps = c.look.ensures.keeps; answers = c.look.ensures.answers; asks = subst (λ o. AsksAll c.loop-place.self c.look.new.self c.args.node ((rank_at c.args.order.now k).input ∷ []) (asking c.loop-place.self.pull c.loop-place.self.moment c.args.node (rank_at c.args.order.now k).input o ∷ [])) c.in_default.is c.look.ensures.asks })
-    in
-    asking-next g.Q.Ask.gives a c.loop-place.self c.look.new.self c.args.q.now c.loop-place.q c.look.new.q c.args.node k order l h one
+    asking-next g.Q.Ask.gives c.args.self.now c.loop-place.self c.look.new.self c.args.q.now c.loop-place.q c.look.new.q c.args.node k (rank_at c.args.order.now k).input c.look.result order (subst (λ n. k < n) (sym (length-map c.args.order.now (λ (r : Rank). r.input))) c.loop-place-test.true) c.loop-place.invariant (entry-input c.args.order.now k c.loop-place-test.true) c.in_default.is c.look.ensures
 
 pub nodes::Nodes::ask_in_order-returns : goal.nodes::Nodes::ask_in_order-returns
 nodes::Nodes::ask_in_order-returns g t c =
-    let a = c.args.self.now in
     let order = inputs_in c.args.order.now in
     let k = c.loop-place.place in
-    let h = c.loop-place.invariant in
-    let l : length order ≤ k = let f = c.loop-place-test.false in let e = length-map c.args.order.now (λ (r : Rank). r.input) in omega (arith, f, e) in
-    let all = asking-all g.Q.Ask.gives a c.loop-place.self c.args.q.now c.loop-place.q c.args.node k order l h in
-    record {
-      keeps = all.keeps;
-      answers = all.answers;
-      place = tt;
-      asks = all.asks;
-    }
+    let f = c.loop-place-test.false in
+    let e = length-map c.args.order.now (λ (r : Rank). r.input) in
+    record { place = tt; asked = asking-all g.Q.Ask.gives c.args.self.now c.loop-place.self c.args.q.now c.loop-place.q c.args.node k order (omega (arith, f, e)) c.loop-place.invariant }
 
 pub nodes::Nodes::ask_in_turn-loop-place-init : goal.nodes::Nodes::ask_in_turn-loop-place-init
 nodes::Nodes::ask_in_turn-loop-place-init g t c =
@@ -149,275 +107,66 @@ nodes::Nodes::ask_in_turn-loop-place-init g t c =
 
 pub nodes::Nodes::ask_in_turn-look-requires : goal.nodes::Nodes::ask_in_turn-look-requires
 nodes::Nodes::ask_in_turn-look-requires g t c =
-    let a = c.args.self.now in
     let order = range_with_len c.args.first c.args.count in
     let k = c.loop-place.place in
     let h = c.loop-place.invariant in
-    let l : k < length order = subst (λ n. k < n) (sym (length-range_with_len c.args.first c.args.count)) c.loop-place-test.true in
-    let same_input : c.args.first + k ≡ slice_index order k = sym (get_or-range_with_len c.args.first c.args.count k 0 c.loop-place-test.true) in
-    let can = subst (λ i. CanPull c.loop-place.self c.args.node (edges_at c.loop-place.self.inputs.items c.args.node i)) (sym same_input) (asking-can g.Q.Ask.gives a c.loop-place.self c.args.q.now c.loop-place.q c.args.node k order c.requires.can_pull h l) in
-    let within : IsSome (input_at c.loop-place.self.inputs.items c.args.node (slice_index order k)) =
-    subst (λ table. IsSome (input_at table c.args.node (slice_index order k))) (sym h.keeps.inputs) (of-all (λ i. IsSome (input_at a.inputs.items c.args.node i)) (slice_index order k) order c.requires.within (in-slice order k (slice_index order k) (slice_get-get_or order k 0 l)))
-    in
+    let ready = asking-ready g.Q.Ask.gives c.args.self.now c.loop-place.self c.args.q.now c.loop-place.q c.args.node k (c.args.first + k) order c.requires.can_pull c.requires.within h (subst (λ n. k < n) (sym (length-range_with_len c.args.first c.args.count)) c.loop-place-test.true) (sym (get_or-range_with_len c.args.first c.args.count k 0 c.loop-place-test.true)) in
     let same = ap length h.keeps.inputs in
     let less = c.decreases in
-    λ κs le. (omega (arith, same, less), (search, (can, subst (λ i. IsSome (input_at c.loop-place.self.inputs.items c.args.node i)) (sym same_input) within)))
+    λ κs le. (omega (arith, same, less), (search, (ready.0, ready.1)))
 
 pub nodes::Nodes::ask_in_turn-returns-in-Some : goal.nodes::Nodes::ask_in_turn-returns-in-Some
 nodes::Nodes::ask_in_turn-returns-in-Some g t c =
-    let a = c.args.self.now in
     let order = range_with_len c.args.first c.args.count in
     let k = c.loop-place.place in
-    let h = c.loop-place.invariant in
-    let l : k < length order = subst (λ n. k < n) (sym (length-range_with_len c.args.first c.args.count)) c.loop-place-test.true in
-    let same_input : c.args.first + k ≡ slice_index order k = sym (get_or-range_with_len c.args.first c.args.count k 0 c.loop-place-test.true) in
-    let one : HasAsked g.Q.Ask.gives c.loop-place.self c.look.new.self c.loop-place.q c.look.new.q c.args.node (slice_index order k) (Some c.in-Some.packet) =
-    subst (λ i. HasAsked g.Q.Ask.gives c.loop-place.self c.look.new.self c.loop-place.q c.look.new.q c.args.node i (Some c.in-Some.packet)) same_input (record { keeps = c.look.ensures.keeps; answers = c.look.ensures.answers; asks = subst (λ o. AsksAll c.loop-place.self c.look.new.self c.args.node ((c.args.first + k) ∷ []) (asking c.loop-place.self.pull c.loop-place.self.moment c.args.node (c.args.first + k) o ∷ [])) c.in-Some.is c.look.ensures.asks })
-    in
-    let given = asking-given g.Q.Ask.gives a c.loop-place.self c.look.new.self c.args.q.now c.loop-place.q c.look.new.q c.args.node k order c.in-Some.packet l h one in
     record {
-      keeps = given.keeps;
-      answers = given.answers;
       place = c.loop-place-test.true;
-      asks = given.asks;
+      asked = asking-given g.Q.Ask.gives c.args.self.now c.loop-place.self c.look.new.self c.args.q.now c.loop-place.q c.look.new.q c.args.node k (c.args.first + k) c.look.result c.in-Some.packet order (subst (λ n. k < n) (sym (length-range_with_len c.args.first c.args.count)) c.loop-place-test.true) c.loop-place.invariant (sym (get_or-range_with_len c.args.first c.args.count k 0 c.loop-place-test.true)) c.in-Some.is c.look.ensures;
     }
 
 pub nodes::Nodes::ask_in_turn-loop-place-preserved : goal.nodes::Nodes::ask_in_turn-loop-place-preserved
 nodes::Nodes::ask_in_turn-loop-place-preserved g t c =
-    let a = c.args.self.now in
     let order = range_with_len c.args.first c.args.count in
     let k = c.loop-place.place in
-    let h = c.loop-place.invariant in
-    let l : k < length order = subst (λ n. k < n) (sym (length-range_with_len c.args.first c.args.count)) c.loop-place-test.true in
-    let same_input : c.args.first + k ≡ slice_index order k = sym (get_or-range_with_len c.args.first c.args.count k 0 c.loop-place-test.true) in
-    let one : HasAsked g.Q.Ask.gives c.loop-place.self c.look.new.self c.loop-place.q c.look.new.q c.args.node (slice_index order k) None =
-    subst (λ i. HasAsked g.Q.Ask.gives c.loop-place.self c.look.new.self c.loop-place.q c.look.new.q c.args.node i None) same_input (record { keeps = c.look.ensures.keeps; answers = c.look.ensures.answers; asks = subst (λ o. AsksAll c.loop-place.self c.look.new.self c.args.node ((c.args.first + k) ∷ []) (asking c.loop-place.self.pull c.loop-place.self.moment c.args.node (c.args.first + k) o ∷ [])) c.in_default.is c.look.ensures.asks })
-    in
-    asking-next g.Q.Ask.gives a c.loop-place.self c.look.new.self c.args.q.now c.loop-place.q c.look.new.q c.args.node k order l h one
+    asking-next g.Q.Ask.gives c.args.self.now c.loop-place.self c.look.new.self c.args.q.now c.loop-place.q c.look.new.q c.args.node k (c.args.first + k) c.look.result order (subst (λ n. k < n) (sym (length-range_with_len c.args.first c.args.count)) c.loop-place-test.true) c.loop-place.invariant (sym (get_or-range_with_len c.args.first c.args.count k 0 c.loop-place-test.true)) c.in_default.is c.look.ensures
 
 pub nodes::Nodes::ask_in_turn-returns : goal.nodes::Nodes::ask_in_turn-returns
 nodes::Nodes::ask_in_turn-returns g t c =
-    let a = c.args.self.now in
     let order = range_with_len c.args.first c.args.count in
     let k = c.loop-place.place in
-    let h = c.loop-place.invariant in
-    let l : length order ≤ k = let f = c.loop-place-test.false in let e = length-range_with_len c.args.first c.args.count in omega (arith, f, e) in
-    let all = asking-all g.Q.Ask.gives a c.loop-place.self c.args.q.now c.loop-place.q c.args.node k order l h in
-    record {
-      keeps = all.keeps;
-      answers = all.answers;
-      place = tt;
-      asks = all.asks;
-    }
+    let f = c.loop-place-test.false in
+    let e = length-range_with_len c.args.first c.args.count in
+    record { place = tt; asked = asking-all g.Q.Ask.gives c.args.self.now c.loop-place.self c.args.q.now c.loop-place.q c.args.node k order (omega (arith, f, e)) c.loop-place.invariant }
 
-pub nodes::Nodes::look-returns-clause-asks : goal.nodes::Nodes::look-returns-clause-asks
-nodes::Nodes::look-returns-clause-asks g t c =
-    asks-one c.args.self.now c.ask-got.new.self _ _ c.args.node c.args.input c.ask-got.result c.ask-got.ensures.keeps
-    (c.push_reserved.ensures.items
-    ∙ ap (λ v. c.ask-got.new.self.log.items ++ v ∷ []) (c.asking.ensures ∙ ap₂ (λ n m. asking n m c.args.node c.args.input c.ask-got.result) c.ask-got.ensures.keeps.pull c.ask-got.ensures.keeps.moment)) refl c.ask-got.ensures.asks
-
-pub nodes::Nodes::pull_taken-returns-clause-pulls : goal.nodes::Nodes::pull_taken-returns-clause-pulls
-nodes::Nodes::pull_taken-returns-clause-pulls g t c =
-    let a = c.args.self.now in
-    let x = c.args.node in
-    let within : x < length a.states.items = subst (λ n. x < n) (sym c.requires.can_pull.fit.lengths) c.requires.can_pull.there in
-    let turned = c.pull-got.new.nodes in
-    let after_within : x < length turned.states.items = subst (λ n. x < n) (sym c.pull-got.ensures.keeps.fit.lengths) c.requires.can_pull.there in
-    let state : slice_get a.states.items x ≡ Some c.replace-state.result = entry a.states.items x c.index_mut.result.now within c.index_mut.ensures.value ∙ ap Some (sym c.replace-state.ensures.value) in
-    pulls-put a (record { inputs = a.inputs; states = with_item a.states x c.replace-state.new.dest; log = a.log; pull = a.pull; moment = a.moment }) turned
-    (record { inputs = turned.inputs; states = with_item turned.states x c.pull-got.new.self; log = turned.log; pull = turned.pull; moment = turned.moment }) x c.replace-state.new.dest c.replace-state.result c.pull-got.new.self
-    c.pull-got.result
-    (record { inputs = refl; log = refl; pull = refl; moment = refl; here = set-here a.states.items x c.replace-state.new.dest within; others = λ y d. set-other a.states.items x y c.replace-state.new.dest d }) state
-    c.pull-got.ensures.turn
-    (record { inputs = refl; log = refl; pull = refl; moment = refl; here = set-here turned.states.items x c.pull-got.new.self after_within; others = λ y d. set-other turned.states.items x y c.pull-got.new.self d })
-
-pub nodes::Nodes::pull_drr-pull-got-requires : goal.nodes::Nodes::pull_drr-pull-got-requires
-nodes::Nodes::pull_drr-pull-got-requires g t c =
-    let a = c.args.self.now in
-    let x = c.args.node in
-    let k = c.requires.can_pull in
-    let within : x < length a.states.items = subst (λ n. x < n) (sym k.fit.lengths) k.there in
-    let state : slice_get a.states.items x ≡ Some (Drr c.in-Drr.deficits) = entry a.states.items x c.index_mut.result.now within c.index_mut.ensures.value ∙ ap Some (sym c.replace.ensures.value ∙ c.in-Drr.is) in
-    let fit = fit-set a.inputs.items a.states.items x c.replace.new.dest k.fit (λ p e. subst (λ s. Fits s (length p.each.items)) (sym c.replace.ensures.after) tt) in
-    let can : CanPull (record { inputs = a.inputs; states = with_item a.states x c.replace.new.dest; log = a.log; pull = a.pull; moment = a.moment }) x (edges_of a.inputs.items x) = record { wired = k.wired; fit = fit; there = k.there; room = k.room; moment = k.moment } in
-    let fits = drr-fits a.inputs.items a.states.items x c.in-Drr.deficits k.fit state in
-    let less = c.decreases in
-    λ κs le. (omega (arith, less), (search, (can, fits)))
-
-pub nodes::Nodes::pull_drr-returns : goal.nodes::Nodes::pull_drr-returns
-nodes::Nodes::pull_drr-returns g t c =
-    let a = c.args.self.now in
-    let x = c.args.node in
-    let turned = c.pull-got.new.nodes in
-    let before = Drr c.in-Drr.deficits in
-    let now = Drr c.pull-got.new.self in
-    let k = c.pull-got.ensures.keeps in
-    let within : x < length a.states.items = subst (λ n. x < n) (sym c.requires.can_pull.fit.lengths) c.requires.can_pull.there in
-    let after_within : x < length turned.states.items = subst (λ n. x < n) (sym k.fit.lengths) c.requires.can_pull.there in
-    let state : slice_get a.states.items x ≡ Some before = entry a.states.items x c.index_mut.result.now within c.index_mut.ensures.value ∙ ap Some (sym c.replace.ensures.value ∙ c.in-Drr.is) in
-    let taken : Nodes = record { inputs = a.inputs; states = with_item a.states x c.replace.new.dest; log = a.log; pull = a.pull; moment = a.moment } in
-    record {
-      keeps = record {
-        inputs = k.inputs;
-        pull = k.pull;
-        moment = k.moment;
-        fit = fit-set a.inputs.items turned.states.items x c.replace-2.new.dest k.fit
-            (λ p e. subst (λ s. Fits s (length p.each.items)) (sym c.replace-2.ensures.after) (subst (λ o. IfSome o (λ q. length c.pull-got.new.self.row.items ≡ length q.each.items)) e c.pull-got.ensures.fits));
-        capacity = k.capacity;
-        grown = k.grown;
-        at_most = k.at_most;
-      };
-      answers = c.pull-got.ensures.answers;
-      pulls = pulls-put a taken turned (record { inputs = turned.inputs; states = with_item turned.states x c.replace-2.new.dest; log = turned.log; pull = turned.pull; moment = turned.moment }) x c.replace.new.dest before now
-          c.pull-got.result
-          (record { inputs = refl; log = refl; pull = refl; moment = refl; here = set-here a.states.items x c.replace.new.dest within; others = λ y d. set-other a.states.items x y c.replace.new.dest d }) state
-          (drr-only taken turned x before c.in-Drr.deficits now c.pull-got.result refl c.pull-got.ensures.turn)
-          (record { inputs = refl; log = refl; pull = refl; moment = refl; here = set-here turned.states.items x c.replace-2.new.dest after_within ∙ ap Some c.replace-2.ensures.after; others = λ y d. set-other turned.states.items x y c.replace-2.new.dest d });
-    }
-
-pub nodes::Nodes::pull_shaper-look-got-requires : goal.nodes::Nodes::pull_shaper-look-got-requires
-nodes::Nodes::pull_shaper-look-got-requires g t c =
-    let a = c.args.self.now in
-    let x = c.args.node in
-    let s = c.in-Shaper.bucket in
-    let z = c.take.new.self in
-    let k = c.requires.can_pull in
-    let within : x < length a.states.items = subst (λ n. x < n) (sym k.fit.lengths) k.there in
-    let state : slice_get a.states.items x ≡ Some (Shaper s) = entry a.states.items x c.index_mut.result.now within c.index_mut.ensures.value ∙ ap Some c.in-Shaper.is in
-    let some = shaper-fits a.inputs.items a.states.items x s k.fit state in
-    let fits : (p : Inputs) → slice_get a.inputs.items x ≡ Some p → 1 ≤ length p.each.items = λ p e. subst (λ o. IfSome o (λ q. 1 ≤ length q.each.items)) e some in
-    let can = can-look (with_state a x (Shaper c.take.new.self)) x (can-put a x (edges_of a.inputs.items x) (Shaper z) k fits) some in
-    let there = there-look a x k some in
-    let less = c.decreases in
-    λ κs le. (omega (arith, less), (search, (can, there)))
-
-pub nodes::Nodes::pull_shaper-returns-then-not-take-clause-pulls : goal.nodes::Nodes::pull_shaper-returns-then-not-take-clause-pulls
-nodes::Nodes::pull_shaper-returns-then-not-take-clause-pulls g t c =
-    let a = c.args.self.now in
-    let x = c.args.node in
-    let s = c.in-Shaper.bucket in
-    let z = c.take.new.self in
-    let k = c.requires.can_pull in
-    let within : x < length a.states.items = subst (λ n. x < n) (sym k.fit.lengths) k.there in
-    let state : slice_get a.states.items x ≡ Some (Shaper s) = entry a.states.items x c.index_mut.result.now within c.index_mut.ensures.value ∙ ap Some c.in-Shaper.is in
-    let some = shaper-fits a.inputs.items a.states.items x s k.fit state in
-    let tells : Tells s a.moment false = subst (Tells s a.moment) c.if-not-take.true c.take.ensures.room in
-    let same : z ≡ s = subst (λ b. MatchBool b (IsTaken s z a.moment) (z ≡ s)) c.if-not-take.true c.take.ensures.taken in
-    pulls-put a a a (with_state a x (Shaper z)) x (Shaper s) (Shaper s) (Shaper z) None (record { inputs = refl; log = refl; pull = refl; moment = refl; here = state; others = λ y d. refl }) state
-    (shaper-only a a x (Shaper s) s (Shaper z) None refl (λ rate burst. subst (λ w. TakesTurn a a x (shaper rate burst) (Shaper s) (Shaper w) None) (sym same) (shaper-without a x s rate burst k.there some tells)))
-    (is-put a x (Shaper z) within)
-
-pub nodes::Nodes::pull_shaper-returns-then-is_some-clause-keeps : goal.nodes::Nodes::pull_shaper-returns-then-is_some-clause-keeps
-nodes::Nodes::pull_shaper-returns-then-is_some-clause-keeps g t c =
-    let a = c.args.self.now in
-    let x = c.args.node in
-    let s = c.in-Shaper.bucket in
-    let z = c.take.new.self in
-    let k = c.requires.can_pull in
-    let within : x < length a.states.items = subst (λ n. x < n) (sym k.fit.lengths) k.there in
-    let state : slice_get a.states.items x ≡ Some (Shaper s) = entry a.states.items x c.index_mut.result.now within c.index_mut.ensures.value ∙ ap Some c.in-Shaper.is in
-    let some = shaper-fits a.inputs.items a.states.items x s k.fit state in
-    keeps-look a c.look-got.new.self x k some (keeps-from a c.look-got.new.self x _ (Shaper z) c.look-got.ensures.keeps)
-
-pub nodes::Nodes::pull_shaper-returns-then-is_some-clause-pulls : goal.nodes::Nodes::pull_shaper-returns-then-is_some-clause-pulls
-nodes::Nodes::pull_shaper-returns-then-is_some-clause-pulls g t c =
-    let a = c.args.self.now in
-    let x = c.args.node in
-    let s = c.in-Shaper.bucket in
-    let z = c.take.new.self in
-    let k = c.requires.can_pull in
-    let within : x < length a.states.items = subst (λ n. x < n) (sym k.fit.lengths) k.there in
-    let state : slice_get a.states.items x ≡ Some (Shaper s) = entry a.states.items x c.index_mut.result.now within c.index_mut.ensures.value ∙ ap Some c.in-Shaper.is in
-    let some = shaper-fits a.inputs.items a.states.items x s k.fit state in
-    let tells : Tells s a.moment true = subst (Tells s a.moment) c.if-not-take.false c.take.ensures.room in
-    let taken : IsTaken s z a.moment = subst (λ b. MatchBool b (IsTaken s z a.moment) (z ≡ s)) c.if-not-take.false c.take.ensures.taken in
-    let b = c.look-got.new.self in
-    let put = with_state a x (Shaper z) in
-    pulls-placed a put b x (Shaper s) (Shaper z) c.look-got.result (is-put a x (Shaper z) within) state
-    (shaper-only put b x (Shaper s) s (Shaper z) c.look-got.result refl (shaper-passes put b x s z c.look-got.result (sym c.is_some.ensures ∙ c.if-is_some.true) k.there some tells c.look-got.ensures.asks taken))
-
-pub nodes::Nodes::pull_shaper-returns-in-Shaper-index_mut-clause-keeps : goal.nodes::Nodes::pull_shaper-returns-in-Shaper-index_mut-clause-keeps
-nodes::Nodes::pull_shaper-returns-in-Shaper-index_mut-clause-keeps g t c =
-    let a = c.args.self.now in
-    let x = c.args.node in
-    let s = c.in-Shaper.bucket in
-    let z = c.take.new.self in
-    let k = c.requires.can_pull in
-    let within : x < length a.states.items = subst (λ n. x < n) (sym k.fit.lengths) k.there in
-    let state : slice_get a.states.items x ≡ Some (Shaper s) = entry a.states.items x c.index_mut.result.now within c.index_mut.ensures.value ∙ ap Some c.in-Shaper.is in
-    let some = shaper-fits a.inputs.items a.states.items x s k.fit state in
-    let fits : (p : Inputs) → slice_get a.inputs.items x ≡ Some p → 1 ≤ length p.each.items = λ p e. subst (λ o. IfSome o (λ q. 1 ≤ length q.each.items)) e some in
-    keeps-put a c.look-got.new.self x _ (Shaper c.give_back.new.self) (keeps-look a c.look-got.new.self x k some (keeps-from a c.look-got.new.self x _ (Shaper z) c.look-got.ensures.keeps)) fits
-
-pub nodes::Nodes::pull_shaper-returns-in-Shaper-index_mut-clause-pulls : goal.nodes::Nodes::pull_shaper-returns-in-Shaper-index_mut-clause-pulls
-nodes::Nodes::pull_shaper-returns-in-Shaper-index_mut-clause-pulls g t c =
-    let a = c.args.self.now in
-    let x = c.args.node in
-    let s = c.in-Shaper.bucket in
-    let z = c.take.new.self in
-    let k = c.requires.can_pull in
-    let within : x < length a.states.items = subst (λ n. x < n) (sym k.fit.lengths) k.there in
-    let state : slice_get a.states.items x ≡ Some (Shaper s) = entry a.states.items x c.index_mut.result.now within c.index_mut.ensures.value ∙ ap Some c.in-Shaper.is in
-    let some = shaper-fits a.inputs.items a.states.items x s k.fit state in
-    let tells : Tells s a.moment true = subst (Tells s a.moment) c.if-not-take.false c.take.ensures.room in
-    let taken : IsTaken s z a.moment = subst (λ b. MatchBool b (IsTaken s z a.moment) (z ≡ s)) c.if-not-take.false c.take.ensures.taken in
-    let b = c.look-got.new.self in
-    let put = with_state a x (Shaper z) in
-    let asked = c.look-got.ensures in
-    let none : is_some c.look-got.result ≡ false = sym c.is_some.ensures ∙ c.if-is_some.false in
-    let after_within : x < length b.states.items = subst (λ n. x < n) (sym asked.keeps.fit.lengths) k.there in
-    let kept = c.in-Shaper-index_mut.bucket in
-    let w = c.give_back.new.self in
-    let there : slice_get b.states.items x ≡ Some (Shaper kept) = entry b.states.items x c.index_mut-2.result.now after_within c.index_mut-2.ensures.value ∙ ap Some c.in-Shaper-index_mut.is in
-    let left : slice_get b.states.items x ≡ Some (Shaper z) → IsLeft s w a.moment = λ e rate burst turns t holds before at passed.
-    c.give_back.ensures s rate burst turns t (subst (IsTaken s kept) (sym at) (subst (λ y. IsTaken s y a.moment) (bucket-same z kept (some-same (Shaper z) (Shaper kept) (sym e ∙ there))) taken)) holds
-    (subst (λ n. AreBefore n turns) (sym at) before) passed
-    in
-    pulls-back a put b (with_state b x (Shaper w)) x (Shaper z) (Shaper s) (Shaper s) (Shaper w) None (is-put a x (Shaper z) within) state
-    (shaper-only put b x (Shaper s) s (Shaper s) None refl (shaper-vain put b x s s c.look-got.result none k.there some tells asked.asks (left-same s a.moment)))
-    (λ e. shaper-only put b x (Shaper s) s (Shaper w) None refl (shaper-vain put b x s w c.look-got.result none k.there some tells asked.asks (left e))) (is-put b x (Shaper w) after_within)
-
-pub nodes::Nodes::pull_shaper-returns-in_default-index_mut : goal.nodes::Nodes::pull_shaper-returns-in_default-index_mut
-nodes::Nodes::pull_shaper-returns-in_default-index_mut g t c =
-    let a = c.args.self.now in
-    let x = c.args.node in
-    let s = c.in-Shaper.bucket in
-    let z = c.take.new.self in
-    let k = c.requires.can_pull in
-    let within : x < length a.states.items = subst (λ n. x < n) (sym k.fit.lengths) k.there in
-    let state : slice_get a.states.items x ≡ Some (Shaper s) = entry a.states.items x c.index_mut.result.now within c.index_mut.ensures.value ∙ ap Some c.in-Shaper.is in
-    let some = shaper-fits a.inputs.items a.states.items x s k.fit state in
-    let tells : Tells s a.moment true = subst (Tells s a.moment) c.if-not-take.false c.take.ensures.room in
-    let taken : IsTaken s z a.moment = subst (λ b. MatchBool b (IsTaken s z a.moment) (z ≡ s)) c.if-not-take.false c.take.ensures.taken in
-    let b = c.look-got.new.self in
-    let put = with_state a x (Shaper z) in
-    let asked = c.look-got.ensures in
-    let none : is_some c.look-got.result ≡ false = sym c.is_some.ensures ∙ c.if-is_some.false in
-    let after_within : x < length b.states.items = subst (λ n. x < n) (sym asked.keeps.fit.lengths) k.there in
-    let w = c.index_mut-2.result.now in
-    let there : slice_get b.states.items x ≡ Some w = entry b.states.items x w after_within c.index_mut-2.ensures.value in
-    record {
-      keeps = keeps-put a b x _ w (keeps-look a b x k some (keeps-from a b x _ (Shaper z) asked.keeps)) (λ p e. asked.keeps.fit.each x p w e there);
-      answers = asked.answers;
-      pulls = pulls-else a put b _ x (Shaper z) (Shaper s) (Shaper s) None (is-put a x (Shaper z) within) state
-          (shaper-only put b x (Shaper s) s (Shaper s) None refl (shaper-vain put b x s s c.look-got.result none k.there some tells asked.asks (left-same s a.moment)))
-          (λ e. c.in_default-index_mut.not-Shaper z (some-same w (Shaper z) (sym there ∙ e)));
-    }
+pub nodes::Nodes::look-returns : goal.nodes::Nodes::look-returns
+nodes::Nodes::look-returns g t c =
+    asked-logged g.Q.Ask.gives c.args.self.now c.ask-got.new.self _ c.args.q.now c.ask-got.new.q c.args.node c.args.input c.ask-got.result c.asking.result c.requires.within c.ask-got.ensures.keeps c.ask-got.ensures.answers c.ask-got.ensures.asks c.asking.ensures
+    (record { inputs = refl; states = refl; pull = refl; moment = refl; capacity = c.push_reserved.ensures.capacity; more = c.push_reserved.ensures.len; items = c.push_reserved.ensures.items })
 
 pub prio::pull_prio-ask_in_turn-requires : goal.prio::pull_prio-ask_in_turn-requires
 prio::pull_prio-ask_in_turn-requires g t c =
-    let a = c.args.nodes.now in
-    let x = c.args.node in
     let p = c.index.result.now in
-    let place : slice_get a.inputs.items x ≡ Some p = entry a.inputs.items x p c.requires.can_pull.there c.index.ensures in
-    let count : c.len-inputs.result ≡ length p.each.items = c.len-inputs.ensures ∙ p.each.ok.0 in
-    let order = range_with_len 0 c.len-inputs.result in
-    let is = priority-order c.len-inputs.result in
-    let can = can-order a x p order c.requires.can_pull place is.apart in
-    let there = order-there a.inputs.items x p order place (subst (λ n. AllByRecursion (λ i. i < n) order) count is.within) in
-    let few = (c.requires.can_pull.wired x p place).few in
+    let place = entry c.args.nodes.now.inputs.items c.args.node p c.requires.can_pull.there c.index.ensures in
+    let count = c.len-inputs.ensures ∙ p.each.ok.0 in
+    let may = prio-asks c.args.nodes.now c.args.node c.len-inputs.result p c.requires.can_pull place count in
     let less = c.decreases in
-    λ κs le. (omega (arith, less), (search, (can, (there, omega (arith, count, few)))))
+    λ κs le. (omega (arith, less), (search, (may.0, (may.1, may.2))))
+
+pub prio::pull_prio-returns-in-Some : goal.prio::pull_prio-returns-in-Some
+prio::pull_prio-returns-in-Some g t c =
+    let p = c.index.result.now in
+    let place = entry c.args.nodes.now.inputs.items c.args.node p c.requires.can_pull.there c.index.ensures in
+    let count = c.len-inputs.ensures ∙ p.each.ok.0 in
+    subst (WasPulled g.Q.Ask.gives c.args.nodes.now c.ask_in_turn.new.self c.args.q.now c.ask_in_turn.new.q c.args.node) (ap packet_of c.in-Some.is ∙ ap Some (sym c.in-Some.packet-is))
+    (prio-pulled g.Q.Ask.gives c.args.nodes.now c.ask_in_turn.new.self c.args.q.now c.ask_in_turn.new.q c.args.node c.len-inputs.result p c.ask_in_turn.result c.requires.can_pull c.requires.holds place count c.ask_in_turn.ensures.place c.ask_in_turn.ensures.asked)
+
+pub prio::pull_prio-returns-in-None : goal.prio::pull_prio-returns-in-None
+prio::pull_prio-returns-in-None g t c =
+    let p = c.index.result.now in
+    let place = entry c.args.nodes.now.inputs.items c.args.node p c.requires.can_pull.there c.index.ensures in
+    let count = c.len-inputs.ensures ∙ p.each.ok.0 in
+    prio-pulled g.Q.Ask.gives c.args.nodes.now c.ask_in_turn.new.self c.args.q.now c.ask_in_turn.new.q c.args.node c.len-inputs.result p None c.requires.can_pull c.requires.holds place count tt
+    (subst (HasAskedAll g.Q.Ask.gives c.args.nodes.now c.ask_in_turn.new.self c.args.q.now c.ask_in_turn.new.q c.args.node (range_with_len 0 c.len-inputs.result)) c.in-None.is c.ask_in_turn.ensures.asked)
 
 pub drr::Deficits::look-ask-got-requires : goal.drr::Deficits::look-ask-got-requires
 drr::Deficits::look-ask-got-requires g t c =
@@ -473,335 +222,172 @@ drr::Deficits::look-returns-in-None g t c =
       looks = looks-fresh a b after _ c.args.node d c.visit-in-None.new.self c.head-head.result c.ask-got.result c.visit-in-None.result c.in-None.is c.head-head.ensures asked.keeps asked.asks logs settles;
     }
 
-pub drr::Deficits::pull-loop-init : goal.drr::Deficits::pull-loop-init
-drr::Deficits::pull-loop-init g t c =
+pub drr::Deficits::turn-loop-init : goal.drr::Deficits::turn-loop-init
+drr::Deficits::turn-loop-init g t c =
     making-first g.Q.Ask.gives c.args.nodes.now c.args.q.now c.args.node c.args.self.now c.requires.can_pull.fit
 
-pub drr::Deficits::pull-look-got-requires : goal.drr::Deficits::pull-look-got-requires
-drr::Deficits::pull-look-got-requires g t c =
+pub drr::Deficits::turn-look-got-requires : goal.drr::Deficits::turn-look-got-requires
+drr::Deficits::turn-look-got-requires g t c =
     let a = c.args.nodes.now in
     let x = c.args.node in
-    let place = entry-there a.inputs.items x c.requires.can_pull.there in
-    let long = of-entry (λ p. length c.args.self.now.row.items ≡ length p.each.items) (slice_get a.inputs.items x) place.0 place.1 c.requires.fits in
-    let count : c.len-end.result ≡ length c.args.self.now.row.items = c.len-end.ensures ∙ c.args.self.now.row.ok.0 in
-    let l : c.loop.counter < length c.args.self.now.row.items = subst (λ n. c.loop.counter < n) count c.loop-test.true in
-    let can = making-can g.Q.Ask.gives a c.loop.nodes c.args.q.now c.loop.q x c.args.self.now c.loop.self c.loop.counter place.0 c.requires.can_pull place.1 long c.loop.invariant l in
+    let d = c.args.self.now in
+    let count : c.len-end.result ≡ length d.row.items = c.len-end.ensures ∙ d.row.ok.0 in
+    let below : c.loop.counter < length d.row.items = subst (λ n. c.loop.counter < n) count c.loop-test.true in
+    let can = making-can g.Q.Ask.gives a c.loop.nodes c.args.q.now c.loop.q x d c.loop.self c.loop.counter c.requires.can_pull c.requires.fits c.loop.invariant below in
     let same = ap length c.loop.invariant.made.keeps.inputs in
     let less = c.decreases in
     λ κs le. (omega (arith, same, less), (search, (can.0, can.1)))
 
-pub drr::Deficits::pull-loop-preserved : goal.drr::Deficits::pull-loop-preserved
-drr::Deficits::pull-loop-preserved g t c =
+pub drr::Deficits::turn-loop-preserved : goal.drr::Deficits::turn-loop-preserved
+drr::Deficits::turn-loop-preserved g t c =
     let a = c.args.nodes.now in
     let x = c.args.node in
-    let count : c.len-end.result ≡ length c.args.self.now.row.items = c.len-end.ensures ∙ c.args.self.now.row.ok.0 in
-    let l : c.loop.counter < length c.args.self.now.row.items = subst (λ n. c.loop.counter < n) count c.loop-test.true in
+    let d = c.args.self.now in
+    let count : c.len-end.result ≡ length d.row.items = c.len-end.ensures ∙ d.row.ok.0 in
+    let below : c.loop.counter < length d.row.items = subst (λ n. c.loop.counter < n) count c.loop-test.true in
     let look = c.look-got.ensures in
     let looked = has-looked g.Q.Ask.gives c.loop.nodes c.look-got.new.nodes c.loop.q c.look-got.new.q x c.loop.self c.look-got.new.self c.look-got.result.0 c.look-got.result.1 look.keeps look.answers look.length look.looks in
-    making-next g.Q.Ask.gives a c.loop.nodes c.look-got.new.nodes c.args.q.now c.loop.q c.look-got.new.q x c.args.self.now c.loop.self c.look-got.new.self c.loop.counter look.looks.visit c.loop.invariant l look.looks.input looked (look.looks.passes ∙ c.if-passed.false) (look.moves c.if-passed.false)
+    making-next g.Q.Ask.gives a c.loop.nodes c.look-got.new.nodes c.args.q.now c.loop.q c.look-got.new.q x d c.loop.self c.look-got.new.self c.loop.counter look.looks.visit c.loop.invariant below look.looks.input looked (look.looks.passes ∙ c.if-passed.false) (look.moves c.if-passed.false)
 
-pub drr::Deficits::pull-returns-then-passed : goal.drr::Deficits::pull-returns-then-passed
-drr::Deficits::pull-returns-then-passed g t c =
+pub drr::Deficits::turn-returns-then-passed : goal.drr::Deficits::turn-returns-then-passed
+drr::Deficits::turn-returns-then-passed g t c =
     let a = c.args.nodes.now in
     let x = c.args.node in
-    let place = entry-there a.inputs.items x c.requires.can_pull.there in
-    let long = of-entry (λ p. length c.args.self.now.row.items ≡ length p.each.items) (slice_get a.inputs.items x) place.0 place.1 c.requires.fits in
-    let count : c.len-end.result ≡ length c.args.self.now.row.items = c.len-end.ensures ∙ c.args.self.now.row.ok.0 in
-    let l : c.loop.counter < length c.args.self.now.row.items = subst (λ n. c.loop.counter < n) count c.loop-test.true in
+    let d = c.args.self.now in
+    let count : c.len-end.result ≡ length d.row.items = c.len-end.ensures ∙ d.row.ok.0 in
+    let below : c.loop.counter < length d.row.items = subst (λ n. c.loop.counter < n) count c.loop-test.true in
     let look = c.look-got.ensures in
     let looked = has-looked g.Q.Ask.gives c.loop.nodes c.look-got.new.nodes c.loop.q c.look-got.new.q x c.loop.self c.look-got.new.self c.look-got.result.0 c.look-got.result.1 look.keeps look.answers look.length look.looks in
-    let ended = making-passed g.Q.Ask.gives a c.loop.nodes c.look-got.new.nodes c.args.q.now c.loop.q c.look-got.new.q x c.args.self.now c.loop.self c.look-got.new.self c.loop.counter look.looks.visit c.loop.invariant l look.looks.input looked (look.looks.passes ∙ c.if-passed.true) in
-    record {
-      keeps = ended-keeps g.Q.Ask.gives a c.look-got.new.nodes c.args.q.now c.look-got.new.q x c.args.self.now c.look-got.new.self look.looks.visit.got place.0 c.requires.can_pull place.1 ended;
-      fits = to-entry (λ p. length c.look-got.new.self.row.items ≡ length p.each.items) (slice_get a.inputs.items x) place.0 place.1 (ended.made.length_is ∙ long);
-      answers = ended.made.answers;
-      turn = λ quanta. subst (λ o. TakesTurn a c.look-got.new.nodes x (drr quanta) (Drr c.args.self.now) (Drr c.look-got.new.self) o) look.looks.gets (drr-turn g.Q.Ask.gives a c.look-got.new.nodes c.args.q.now c.look-got.new.q x c.args.self.now c.look-got.new.self look.looks.visit.got place.0 place.1 long ended quanta);
-    }
+    let ended = making-passed g.Q.Ask.gives a c.loop.nodes c.look-got.new.nodes c.args.q.now c.loop.q c.look-got.new.q x d c.loop.self c.look-got.new.self c.loop.counter look.looks.visit c.loop.invariant below look.looks.input looked (look.looks.passes ∙ c.if-passed.true) in
+    had-ended g.Q.Ask.gives a c.look-got.new.nodes c.args.q.now c.look-got.new.q x d c.look-got.new.self c.look-got.result.0 c.requires.can_pull c.requires.fits (subst (HasEnded g.Q.Ask.gives a c.look-got.new.nodes c.args.q.now c.look-got.new.q x d c.look-got.new.self) look.looks.gets ended)
+
+pub drr::Deficits::turn-returns : goal.drr::Deficits::turn-returns
+drr::Deficits::turn-returns g t c =
+    let a = c.args.nodes.now in
+    let x = c.args.node in
+    let d = c.args.self.now in
+    let count : c.len-end.result ≡ length d.row.items = c.len-end.ensures ∙ d.row.ok.0 in
+    let all : c.loop.counter ≡ length d.row.items = let f = c.loop-test.false in let m = c.loop.auto.counter-end in omega (arith, count, f, m) in
+    had-ended g.Q.Ask.gives a c.loop.nodes c.args.q.now c.loop.q x d c.loop.self None c.requires.can_pull c.requires.fits (making-all g.Q.Ask.gives a c.loop.nodes c.args.q.now c.loop.q x d c.loop.self c.loop.counter c.loop.invariant all)
+
+pub round_robin::Beginning::turn-ask_in_turn-requires : goal.round_robin::Beginning::turn-ask_in_turn-requires
+round_robin::Beginning::turn-ask_in_turn-requires g t c =
+    let h = begins c.args.nodes.now c.args.node c.len-inputs.result c.args.self.now c.index.result.now c.requires.can_pull c.index.ensures c.len-inputs.ensures c.requires.fits in
+    let may = may-first c.args.nodes.now c.args.node c.len-inputs.result c.args.self.now.input h c.requires.can_pull in
+    let less = c.decreases in
+    λ κs le. (omega (arith, less), (search, (may.0, (may.1, may.2))))
+
+pub round_robin::Beginning::turn-overflow_add-self : goal.round_robin::Beginning::turn-overflow_add-self
+round_robin::Beginning::turn-overflow_add-self g t c =
+    let h = begins c.args.nodes.now c.args.node c.len-inputs.result c.args.self.now c.index.result.now c.requires.can_pull c.index.ensures c.len-inputs.ensures c.requires.fits in
+    let few = few-first c.args.nodes.now.inputs.items c.args.node c.len-inputs.result c.args.self.now.input c.in-Some.place c.in-Some.packet c.ask_in_turn.result h c.in-Some.is c.ask_in_turn.ensures.place in omega (arith, few)
+
+pub round_robin::Beginning::turn-overflow_add-self-in-Some : goal.round_robin::Beginning::turn-overflow_add-self-in-Some
+round_robin::Beginning::turn-overflow_add-self-in-Some g t c =
+    let h = begins c.args.nodes.now c.args.node c.len-inputs.result c.args.self.now c.index.result.now c.requires.can_pull c.index.ensures c.len-inputs.ensures c.requires.fits in
+    let few = few-first c.args.nodes.now.inputs.items c.args.node c.len-inputs.result c.args.self.now.input c.in-Some.place c.in-Some.packet c.ask_in_turn.result h c.in-Some.is c.ask_in_turn.ensures.place in omega (arith, few)
+
+pub round_robin::Beginning::turn-returns-in-Some : goal.round_robin::Beginning::turn-returns-in-Some
+round_robin::Beginning::turn-returns-in-Some g t c =
+    let h = begins c.args.nodes.now c.args.node c.len-inputs.result c.args.self.now c.index.result.now c.requires.can_pull c.index.ensures c.len-inputs.ensures c.requires.fits in
+    had-first g.Q.Ask.gives c.args.nodes.now c.ask_in_turn.new.self c.args.q.now c.ask_in_turn.new.q c.args.node c.len-inputs.result c.args.self.now.input c.in-Some.place c.in-Some.packet c.ask_in_turn.result h c.requires.can_pull c.in-Some.is c.ask_in_turn.ensures.place c.ask_in_turn.ensures.asked
+
+pub round_robin::Beginning::turn-ask_in_turn-requires-2 : goal.round_robin::Beginning::turn-ask_in_turn-requires-2
+round_robin::Beginning::turn-ask_in_turn-requires-2 g t c =
+    let h = begins c.args.nodes.now c.args.node c.len-inputs.result c.args.self.now c.index.result.now c.requires.can_pull c.index.ensures c.len-inputs.ensures c.requires.fits in
+    let kept = c.ask_in_turn.ensures.asked.keeps in
+    let may = may-second c.args.nodes.now c.ask_in_turn.new.self c.args.node c.len-inputs.result c.args.self.now.input h c.requires.can_pull kept in
+    let less = c.decreases in
+    let same = ap length kept.inputs in
+    λ κs le. (omega (arith, less, same), (search, (may.0, (may.1, may.2))))
+
+pub round_robin::Beginning::turn-overflow_add-self-in-Some-ask_in_turn : goal.round_robin::Beginning::turn-overflow_add-self-in-Some-ask_in_turn
+round_robin::Beginning::turn-overflow_add-self-in-Some-ask_in_turn g t c =
+    let h = begins c.args.nodes.now c.args.node c.len-inputs.result c.args.self.now c.index.result.now c.requires.can_pull c.index.ensures c.len-inputs.ensures c.requires.fits in
+    let few = few-second c.args.nodes.now.inputs.items c.args.node c.len-inputs.result c.args.self.now.input c.in-Some-ask_in_turn.place c.in-Some-ask_in_turn.packet c.ask_in_turn-2.result h c.in-Some-ask_in_turn.is c.ask_in_turn-2.ensures.place in omega (arith, few)
+
+pub round_robin::Beginning::turn-returns-in-Some-ask_in_turn : goal.round_robin::Beginning::turn-returns-in-Some-ask_in_turn
+round_robin::Beginning::turn-returns-in-Some-ask_in_turn g t c =
+    let h = begins c.args.nodes.now c.args.node c.len-inputs.result c.args.self.now c.index.result.now c.requires.can_pull c.index.ensures c.len-inputs.ensures c.requires.fits in
+    had-second g.Q.Ask.gives c.args.nodes.now c.ask_in_turn.new.self c.ask_in_turn-2.new.self c.args.q.now c.ask_in_turn.new.q c.ask_in_turn-2.new.q c.args.node c.len-inputs.result c.args.self.now.input c.in-Some-ask_in_turn.place c.in-Some-ask_in_turn.packet c.ask_in_turn.result c.ask_in_turn-2.result h c.requires.can_pull
+    c.in_default.is c.ask_in_turn.ensures.asked c.in-Some-ask_in_turn.is c.ask_in_turn-2.ensures.place c.ask_in_turn-2.ensures.asked
+
+pub round_robin::Beginning::turn-returns-in-None : goal.round_robin::Beginning::turn-returns-in-None
+round_robin::Beginning::turn-returns-in-None g t c =
+    let h = begins c.args.nodes.now c.args.node c.len-inputs.result c.args.self.now c.index.result.now c.requires.can_pull c.index.ensures c.len-inputs.ensures c.requires.fits in
+    had-none g.Q.Ask.gives c.args.nodes.now c.ask_in_turn.new.self c.ask_in_turn-2.new.self c.args.q.now c.ask_in_turn.new.q c.ask_in_turn-2.new.q c.args.node c.len-inputs.result c.args.self.now.input c.ask_in_turn.result c.ask_in_turn-2.result h c.requires.can_pull
+    c.in_default.is c.ask_in_turn.ensures.asked c.in-None.is c.ask_in_turn-2.ensures.asked
+
+pub stride::Passes::turn-ask_in_order-requires : goal.stride::Passes::turn-ask_in_order-requires
+stride::Passes::turn-ask_in_order-requires g t c =
+    let may = stride-may c.args.nodes.now c.args.node c.args.self.now c.row.result.now c.requires.can_pull c.requires.fits c.row.ensures in
+    let less = c.decreases in
+    λ κs le. (omega (arith, less), (search, (may.0, may.1)))
+
+pub stride::Passes::turn-returns-in-Some : goal.stride::Passes::turn-returns-in-Some
+stride::Passes::turn-returns-in-Some g t c =
+    had-won g.Q.Ask.gives c.args.nodes.now c.ask_in_order.new.self c.args.q.now c.ask_in_order.new.q c.args.node c.in-Some.place c.in-Some.packet c.args.self.now c.won.new.self c.row.result.now c.ask_in_order.result c.requires.can_pull c.requires.fits c.row.ensures
+    (c.in-Some.is ∙ ap₂ (λ n p. Some (n, p)) (sym c.in-Some.place-is) (sym c.in-Some.packet-is)) c.ask_in_order.ensures.place c.ask_in_order.ensures.asked c.won.ensures.holds
+
+pub stride::Passes::turn-returns-in-None : goal.stride::Passes::turn-returns-in-None
+stride::Passes::turn-returns-in-None g t c =
+    had-lost g.Q.Ask.gives c.args.nodes.now c.ask_in_order.new.self c.args.q.now c.ask_in_order.new.q c.args.node c.args.self.now c.row.result.now c.ask_in_order.result c.requires.can_pull c.requires.fits c.row.ensures c.in-None.is c.ask_in_order.ensures.asked
+
+pub round_robin::Beginning::pull-turn-got-requires : goal.round_robin::Beginning::pull-turn-got-requires
+round_robin::Beginning::pull-turn-got-requires g t c =
+    let a = c.args.nodes.now in
+    let can = can-turn a c.take.new.self c.args.node (RoundRobin c.in-RoundRobin.beginning) c.take.ensures.taken (c.take.ensures.state ∙ ap Some c.in-RoundRobin.is) c.requires.can_pull in
+    let same = ap (λ (n : Nodes). length n.inputs.items) c.take.ensures.taken in
+    let less = c.decreases in
+    λ κs le. (omega (arith, less, same), (search, (can.0, can.1)))
+
+pub round_robin::Beginning::pull-returns : goal.round_robin::Beginning::pull-returns
+round_robin::Beginning::pull-returns g t c =
+    pulled-back g.Q.Ask.gives c.args.nodes.now c.take.new.self c.turn-got.new.nodes c.put.new.self c.args.q.now c.turn-got.new.q c.args.node _ (RoundRobin c.in-RoundRobin.beginning) (RoundRobin c.turn-got.new.self) c.turn-got.result c.take.ensures.taken
+    (c.take.ensures.state ∙ ap Some c.in-RoundRobin.is) c.requires.can_pull c.turn-got.ensures c.put.ensures
+
+pub drr::Deficits::pull-turn-got-requires : goal.drr::Deficits::pull-turn-got-requires
+drr::Deficits::pull-turn-got-requires g t c =
+    let a = c.args.nodes.now in
+    let can = can-turn a c.take.new.self c.args.node (Drr c.in-Drr.deficits) c.take.ensures.taken (c.take.ensures.state ∙ ap Some c.in-Drr.is) c.requires.can_pull in
+    let same = ap (λ (n : Nodes). length n.inputs.items) c.take.ensures.taken in
+    let less = c.decreases in
+    λ κs le. (omega (arith, less, same), (search, (can.0, can.1)))
 
 pub drr::Deficits::pull-returns : goal.drr::Deficits::pull-returns
 drr::Deficits::pull-returns g t c =
-    let a = c.args.nodes.now in
-    let x = c.args.node in
-    let place = entry-there a.inputs.items x c.requires.can_pull.there in
-    let long = of-entry (λ p. length c.args.self.now.row.items ≡ length p.each.items) (slice_get a.inputs.items x) place.0 place.1 c.requires.fits in
-    let count : c.len-end.result ≡ length c.args.self.now.row.items = c.len-end.ensures ∙ c.args.self.now.row.ok.0 in
-    let all : c.loop.counter ≡ length c.args.self.now.row.items = let f = c.loop-test.false in let m = c.loop.auto.counter-end in omega (arith, count, f, m) in
-    let ended = making-all g.Q.Ask.gives a c.loop.nodes c.args.q.now c.loop.q x c.args.self.now c.loop.self c.loop.counter c.loop.invariant all in
-    record {
-      keeps = ended-keeps g.Q.Ask.gives a c.loop.nodes c.args.q.now c.loop.q x c.args.self.now c.loop.self None place.0 c.requires.can_pull place.1 ended;
-      fits = to-entry (λ p. length c.loop.self.row.items ≡ length p.each.items) (slice_get a.inputs.items x) place.0 place.1 (ended.made.length_is ∙ long);
-      answers = ended.made.answers;
-      turn = drr-turn g.Q.Ask.gives a c.loop.nodes c.args.q.now c.loop.q x c.args.self.now c.loop.self None place.0 place.1 long ended;
-    }
+    pulled-back g.Q.Ask.gives c.args.nodes.now c.take.new.self c.turn-got.new.nodes c.put.new.self c.args.q.now c.turn-got.new.q c.args.node _ (Drr c.in-Drr.deficits) (Drr c.turn-got.new.self) c.turn-got.result c.take.ensures.taken
+    (c.take.ensures.state ∙ ap Some c.in-Drr.is) c.requires.can_pull c.turn-got.ensures c.put.ensures
 
-pub prio::pull_prio-returns-in-Some : goal.prio::pull_prio-returns-in-Some
-prio::pull_prio-returns-in-Some g t c =
+pub stride::Passes::pull-turn-got-requires : goal.stride::Passes::pull-turn-got-requires
+stride::Passes::pull-turn-got-requires g t c =
     let a = c.args.nodes.now in
-    let x = c.args.node in
-    let p = c.index.result.now in
-    let place : slice_get a.inputs.items x ≡ Some p = entry a.inputs.items x p c.requires.can_pull.there c.index.ensures in
-    let count : c.len-inputs.result ≡ length p.each.items = c.len-inputs.ensures ∙ p.each.ok.0 in
-    let order = range_with_len 0 c.len-inputs.result in
-    let is = priority-order c.len-inputs.result in
-    record {
-      keeps = keeps-order a c.ask_in_turn.new.self x p order c.requires.can_pull place is.apart c.ask_in_turn.ensures.keeps;
-      answers = c.ask_in_turn.ensures.answers;
-      turn = subst (λ o. TakesTurn a c.ask_in_turn.new.self x prio Prio Prio o) (ap packet_of c.in-Some.is ∙ ap Some (sym c.in-Some.packet-is))
-          (prio-turn a c.ask_in_turn.new.self x c.len-inputs.result p c.ask_in_turn.result place count (within-range 0 c.len-inputs.result c.ask_in_turn.result c.ask_in_turn.ensures.place) c.ask_in_turn.ensures.asks);
-    }
-
-pub prio::pull_prio-returns-in-None : goal.prio::pull_prio-returns-in-None
-prio::pull_prio-returns-in-None g t c =
-    let a = c.args.nodes.now in
-    let x = c.args.node in
-    let p = c.index.result.now in
-    let place : slice_get a.inputs.items x ≡ Some p = entry a.inputs.items x p c.requires.can_pull.there c.index.ensures in
-    let count : c.len-inputs.result ≡ length p.each.items = c.len-inputs.ensures ∙ p.each.ok.0 in
-    let order = range_with_len 0 c.len-inputs.result in
-    let is = priority-order c.len-inputs.result in
-    record {
-      keeps = keeps-order a c.ask_in_turn.new.self x p order c.requires.can_pull place is.apart c.ask_in_turn.ensures.keeps;
-      answers = c.ask_in_turn.ensures.answers;
-      turn = prio-turn a c.ask_in_turn.new.self x c.len-inputs.result p None place count tt (subst (λ r. AsksAll a c.ask_in_turn.new.self x (range_with_len 0 c.len-inputs.result) (asked_in_order (now_of a) x (range_with_len 0 c.len-inputs.result) r)) c.in-None.is c.ask_in_turn.ensures.asks);
-    }
-
-pub round_robin::Beginning::pull-ask_in_turn-requires : goal.round_robin::Beginning::pull-ask_in_turn-requires
-round_robin::Beginning::pull-ask_in_turn-requires g t c =
-    let a = c.args.nodes.now in
-    let x = c.args.node in
-    let p = c.index.result.now in
-    let place : slice_get a.inputs.items x ≡ Some p = entry a.inputs.items x p c.requires.can_pull.there c.index.ensures in
-    let count : c.len-inputs.result ≡ length p.each.items = c.len-inputs.ensures ∙ p.each.ok.0 in
-    let first = c.args.self.now.input in
-    let n = c.len-inputs.result in
-    let low : first < n = subst (λ m. first < m) (sym count) (subst (λ o. IfSome o (λ q. first < length q.each.items)) place c.requires.fits) in
-    let can = can-first a x n first p c.requires.can_pull place low in
-    let there = (there-both a.inputs.items x n first p place count low).0 in
-    let few = (c.requires.can_pull.wired x p place).few in
+    let can = can-turn a c.take.new.self c.args.node (Stride c.in-Stride.passes) c.take.ensures.taken (c.take.ensures.state ∙ ap Some c.in-Stride.is) c.requires.can_pull in
+    let same = ap (λ (n : Nodes). length n.inputs.items) c.take.ensures.taken in
     let less = c.decreases in
-    λ κs le. (omega (arith, less), (search, (can, (there, omega (arith, count, few, low)))))
+    λ κs le. (omega (arith, less, same), (search, (can.0, can.1)))
 
-pub round_robin::Beginning::pull-overflow_add-self : goal.round_robin::Beginning::pull-overflow_add-self
-round_robin::Beginning::pull-overflow_add-self g t c =
-    let a = c.args.nodes.now in
-    let x = c.args.node in
-    let p = c.index.result.now in
-    let place : slice_get a.inputs.items x ≡ Some p = entry a.inputs.items x p c.requires.can_pull.there c.index.ensures in
-    let count : c.len-inputs.result ≡ length p.each.items = c.len-inputs.ensures ∙ p.each.ok.0 in
-    let first = c.args.self.now.input in
-    let n = c.len-inputs.result in
-    let low : first < n = subst (λ m. first < m) (sym count) (subst (λ o. IfSome o (λ q. first < length q.each.items)) place c.requires.fits) in
-    let one = range_with_len first (n - first) in
-    let other = range_with_len 0 first in
-    let within : c.in-Some.place < n - first = subst (λ r. IfSome r (λ q. q.0 < n - first)) (c.in-Some.is) c.ask_in_turn.ensures.place in
-    let few = (c.requires.can_pull.wired x p place).few in omega (arith, count, few, low, within)
+pub stride::Passes::pull-returns : goal.stride::Passes::pull-returns
+stride::Passes::pull-returns g t c =
+    pulled-back g.Q.Ask.gives c.args.nodes.now c.take.new.self c.turn-got.new.nodes c.put.new.self c.args.q.now c.turn-got.new.q c.args.node _ (Stride c.in-Stride.passes) (Stride c.turn-got.new.self) c.turn-got.result c.take.ensures.taken
+    (c.take.ensures.state ∙ ap Some c.in-Stride.is) c.requires.can_pull c.turn-got.ensures c.put.ensures
 
-pub round_robin::Beginning::pull-overflow_add-self-in-Some : goal.round_robin::Beginning::pull-overflow_add-self-in-Some
-round_robin::Beginning::pull-overflow_add-self-in-Some g t c =
-    let a = c.args.nodes.now in
-    let x = c.args.node in
-    let p = c.index.result.now in
-    let place : slice_get a.inputs.items x ≡ Some p = entry a.inputs.items x p c.requires.can_pull.there c.index.ensures in
-    let count : c.len-inputs.result ≡ length p.each.items = c.len-inputs.ensures ∙ p.each.ok.0 in
-    let first = c.args.self.now.input in
-    let n = c.len-inputs.result in
-    let low : first < n = subst (λ m. first < m) (sym count) (subst (λ o. IfSome o (λ q. first < length q.each.items)) place c.requires.fits) in
-    let one = range_with_len first (n - first) in
-    let other = range_with_len 0 first in
-    let within : c.in-Some.place < n - first = subst (λ r. IfSome r (λ q. q.0 < n - first)) (c.in-Some.is) c.ask_in_turn.ensures.place in
-    let few = (c.requires.can_pull.wired x p place).few in omega (arith, count, few, low, within)
-
-pub round_robin::Beginning::pull-returns-in-Some : goal.round_robin::Beginning::pull-returns-in-Some
-round_robin::Beginning::pull-returns-in-Some g t c =
-    let a = c.args.nodes.now in
-    let x = c.args.node in
-    let p = c.index.result.now in
-    let place : slice_get a.inputs.items x ≡ Some p = entry a.inputs.items x p c.requires.can_pull.there c.index.ensures in
-    let count : c.len-inputs.result ≡ length p.each.items = c.len-inputs.ensures ∙ p.each.ok.0 in
-    let first = c.args.self.now.input in
-    let n = c.len-inputs.result in
-    let low : first < n = subst (λ m. first < m) (sym count) (subst (λ o. IfSome o (λ q. first < length q.each.items)) place c.requires.fits) in
-    let one = range_with_len first (n - first) in
-    let other = range_with_len 0 first in
-    let k = c.in-Some.place in
-    let within : k < n - first = subst (λ r. IfSome r (λ q. q.0 < n - first)) (c.in-Some.is) c.ask_in_turn.ensures.place in
-    let inside : k < length one = subst (λ m. k < m) (sym (length-range_with_len first (n - first))) within in
-    let total = length-append one other in
-    let input : slice_index (parts first n) k ≡ first + k = index-first one other k inside ∙ get_or-range_with_len first (n - first) k 0 within in
-    record {
-      keeps = keeps-order a c.ask_in_turn.new.self x p one c.requires.can_pull place (apart-split one other (parts-order n first low).apart).0 c.ask_in_turn.ensures.keeps;
-      fits = subst (λ o. IfSome o (λ q. (first + c.in-Some.place + 1) % n < length q.each.items)) (sym place) (subst (λ m. (first + c.in-Some.place + 1) % n < m) count (mod-lt (first + c.in-Some.place + 1) (omega (arith, low))));
-      answers = c.ask_in_turn.ensures.answers;
-      turn = round_robin-turn a c.ask_in_turn.new.self x n first ((first + k + 1) % n) p (Some (k, c.in-Some.packet)) place count low (omega (arith, inside, total))
-          (subst (AsksAll a c.ask_in_turn.new.self x (parts first n)) (in_order-first (now_of a) x one other k c.in-Some.packet inside)
-          (asks-front a c.ask_in_turn.new.self x one other (asked_in_order (now_of a) x one (Some (k, c.in-Some.packet))) (subst (λ r. AsksAll a c.ask_in_turn.new.self x one (asked_in_order (now_of a) x one r)) c.in-Some.is c.ask_in_turn.ensures.asks)))
-          (ap (λ i. (i + 1) % n) (sym input));
-    }
-
-pub round_robin::Beginning::pull-ask_in_turn-requires-2 : goal.round_robin::Beginning::pull-ask_in_turn-requires-2
-round_robin::Beginning::pull-ask_in_turn-requires-2 g t c =
-    let a = c.args.nodes.now in
-    let x = c.args.node in
-    let p = c.index.result.now in
-    let place : slice_get a.inputs.items x ≡ Some p = entry a.inputs.items x p c.requires.can_pull.there c.index.ensures in
-    let count : c.len-inputs.result ≡ length p.each.items = c.len-inputs.ensures ∙ p.each.ok.0 in
-    let first = c.args.self.now.input in
-    let n = c.len-inputs.result in
-    let low : first < n = subst (λ m. first < m) (sym count) (subst (λ o. IfSome o (λ q. first < length q.each.items)) place c.requires.fits) in
-    let one = range_with_len first (n - first) in
-    let other = range_with_len 0 first in
-    let b = c.ask_in_turn.new.self in
-    let h = c.ask_in_turn.ensures.keeps in
-    let can = can-second a b x n first p c.requires.can_pull place low h in
-    let there = subst (λ table. AllByRecursion (λ i. IsSome (input_at table x i)) other) (sym h.inputs) (there-both a.inputs.items x n first p place count low).1 in
-    let few = (c.requires.can_pull.wired x p place).few in
+pub shaper::Bucket::pull-look-got-requires : goal.shaper::Bucket::pull-look-got-requires
+shaper::Bucket::pull-look-got-requires g t c =
+    let may = shaper-may c.args.nodes.now c.take_at.new.nodes c.args.node _ c.requires.can_pull c.take_at.ensures in
+    let same = ap (λ (n : Nodes). length n.inputs.items) c.take_at.ensures.is in
     let less = c.decreases in
-    let same = ap length h.inputs in
-    λ κs le. (omega (arith, less, same), (search, (can, (there, omega (arith, count, few, low)))))
+    λ κs le. (omega (arith, less, same), (search, (may.0, may.1)))
 
-pub round_robin::Beginning::pull-overflow_add-self-in-Some-ask_in_turn : goal.round_robin::Beginning::pull-overflow_add-self-in-Some-ask_in_turn
-round_robin::Beginning::pull-overflow_add-self-in-Some-ask_in_turn g t c =
-    let a = c.args.nodes.now in
-    let x = c.args.node in
-    let p = c.index.result.now in
-    let place : slice_get a.inputs.items x ≡ Some p = entry a.inputs.items x p c.requires.can_pull.there c.index.ensures in
-    let count : c.len-inputs.result ≡ length p.each.items = c.len-inputs.ensures ∙ p.each.ok.0 in
-    let first = c.args.self.now.input in
-    let n = c.len-inputs.result in
-    let low : first < n = subst (λ m. first < m) (sym count) (subst (λ o. IfSome o (λ q. first < length q.each.items)) place c.requires.fits) in
-    let one = range_with_len first (n - first) in
-    let other = range_with_len 0 first in
-    let within : c.in-Some-ask_in_turn.place < first = subst (λ r. IfSome r (λ q. q.0 < first)) (c.in-Some-ask_in_turn.is) c.ask_in_turn-2.ensures.place in
-    let few = (c.requires.can_pull.wired x p place).few in omega (arith, count, few, low, within)
+pub shaper::Bucket::pull-returns-then-not-take_at : goal.shaper::Bucket::pull-returns-then-not-take_at
+shaper::Bucket::pull-returns-then-not-take_at g t c =
+    shaper-refused g.Q.Ask.gives c.args.nodes.now c.take_at.new.nodes c.args.q.now c.args.node _ c.requires.can_pull c.take_at.ensures c.if-not-take_at.true
 
-pub round_robin::Beginning::pull-returns-in-Some-ask_in_turn : goal.round_robin::Beginning::pull-returns-in-Some-ask_in_turn
-round_robin::Beginning::pull-returns-in-Some-ask_in_turn g t c =
-    let a = c.args.nodes.now in
-    let x = c.args.node in
-    let p = c.index.result.now in
-    let place : slice_get a.inputs.items x ≡ Some p = entry a.inputs.items x p c.requires.can_pull.there c.index.ensures in
-    let count : c.len-inputs.result ≡ length p.each.items = c.len-inputs.ensures ∙ p.each.ok.0 in
-    let first = c.args.self.now.input in
-    let n = c.len-inputs.result in
-    let low : first < n = subst (λ m. first < m) (sym count) (subst (λ o. IfSome o (λ q. first < length q.each.items)) place c.requires.fits) in
-    let one = range_with_len first (n - first) in
-    let other = range_with_len 0 first in
-    let b = c.ask_in_turn.new.self in
-    let d = c.ask_in_turn-2.new.self in
-    let vain : IsAsking g.Q.Ask.gives a b c.args.q.now c.ask_in_turn.new.q x one =
-    record {
-      keeps = c.ask_in_turn.ensures.keeps;
-      answers = c.ask_in_turn.ensures.answers;
-      asks = subst (λ r. AsksAll a b x one (asked_in_order (now_of a) x one r)) c.in_default.is c.ask_in_turn.ensures.asks;
-    }
-    in
-    let all = asked-both g.Q.Ask.gives a b d c.args.q.now c.ask_in_turn.new.q c.ask_in_turn-2.new.q x one other c.ask_in_turn-2.result vain
-    (record { keeps = c.ask_in_turn-2.ensures.keeps; answers = c.ask_in_turn-2.ensures.answers; asks = c.ask_in_turn-2.ensures.asks }) in
-    let k = c.in-Some-ask_in_turn.place in
-    let within : k < first = subst (λ r. IfSome r (λ q. q.0 < first)) (c.in-Some-ask_in_turn.is) c.ask_in_turn-2.ensures.place in
-    let total = length-append one other in
-    let second = length-range_with_len 0 first in
-    let at = past-length one k in
-    let input : slice_index (parts first n) (past one k) ≡ k = index-second one other k ∙ get_or-range_with_len 0 first k 0 within ∙ omega arith in
-    let next : k + 1 ≡ (k + 1) % n = sym (mod-eq_of_lt (omega (arith, within, low))) in
-    record {
-      keeps = keeps-order a d x p (parts first n) c.requires.can_pull place (parts-order n first low).apart all.keeps;
-      fits = subst (λ o. IfSome o (λ q. k + 1 < length q.each.items)) (sym place) (omega (arith, within, low, count));
-      answers = all.answers;
-      turn = round_robin-turn a d x n first (k + 1) p (Some (past one k, c.in-Some-ask_in_turn.packet)) place count low (omega (arith, total, second, at, within))
-          (subst (λ r. AsksAll a d x (parts first n) (asked_in_order (now_of a) x (parts first n) (in_second one r))) c.in-Some-ask_in_turn.is all.asks) (next ∙ ap (λ i. (i + 1) % n) (sym input));
-    }
+pub shaper::Bucket::pull-returns-then-is_some : goal.shaper::Bucket::pull-returns-then-is_some
+shaper::Bucket::pull-returns-then-is_some g t c =
+    shaper-passed g.Q.Ask.gives c.args.nodes.now c.take_at.new.nodes c.look-got.new.self c.args.q.now c.look-got.new.q c.args.node _ c.look-got.result c.requires.can_pull c.take_at.ensures c.if-not-take_at.false c.look-got.ensures (sym c.is_some.ensures ∙ c.if-is_some.true)
 
-pub round_robin::Beginning::pull-returns-in-None : goal.round_robin::Beginning::pull-returns-in-None
-round_robin::Beginning::pull-returns-in-None g t c =
-    let a = c.args.nodes.now in
-    let x = c.args.node in
-    let p = c.index.result.now in
-    let place : slice_get a.inputs.items x ≡ Some p = entry a.inputs.items x p c.requires.can_pull.there c.index.ensures in
-    let count : c.len-inputs.result ≡ length p.each.items = c.len-inputs.ensures ∙ p.each.ok.0 in
-    let first = c.args.self.now.input in
-    let n = c.len-inputs.result in
-    let low : first < n = subst (λ m. first < m) (sym count) (subst (λ o. IfSome o (λ q. first < length q.each.items)) place c.requires.fits) in
-    let one = range_with_len first (n - first) in
-    let other = range_with_len 0 first in
-    let b = c.ask_in_turn.new.self in
-    let d = c.ask_in_turn-2.new.self in
-    let vain : IsAsking g.Q.Ask.gives a b c.args.q.now c.ask_in_turn.new.q x one =
-    record {
-      keeps = c.ask_in_turn.ensures.keeps;
-      answers = c.ask_in_turn.ensures.answers;
-      asks = subst (λ r. AsksAll a b x one (asked_in_order (now_of a) x one r)) c.in_default.is c.ask_in_turn.ensures.asks;
-    }
-    in
-    let all = asked-both g.Q.Ask.gives a b d c.args.q.now c.ask_in_turn.new.q c.ask_in_turn-2.new.q x one other c.ask_in_turn-2.result vain
-    (record { keeps = c.ask_in_turn-2.ensures.keeps; answers = c.ask_in_turn-2.ensures.answers; asks = c.ask_in_turn-2.ensures.asks }) in
-    record {
-      keeps = keeps-order a d x p (parts first n) c.requires.can_pull place (parts-order n first low).apart all.keeps;
-      fits = c.requires.fits;
-      answers = all.answers;
-      turn = round_robin-turn a d x n first first p None place count low tt (subst (λ r. AsksAll a d x (parts first n) (asked_in_order (now_of a) x (parts first n) (in_second one r))) c.in-None.is all.asks) refl;
-    }
-
-pub state::State::pull-returns-in-Stride-clause-turn : goal.state::State::pull-returns-in-Stride-clause-turn
-state::State::pull-returns-in-Stride-clause-turn g t c =
-    stride-only c.args.nodes.now c.pull-in-Stride.new.nodes c.args.node c.args.self.now c.in-Stride.passes (Stride c.pull-in-Stride.new.self) c.pull-in-Stride.result c.in-Stride.is c.pull-in-Stride.ensures.turn
-
-pub stride::Passes::pull-ask_in_order-requires : goal.stride::Passes::pull-ask_in_order-requires
-stride::Passes::pull-ask_in_order-requires g t c =
-    let a = c.args.nodes.now in
-    let x = c.args.node in
-    let order = inputs_in c.row.result.now in
-    let is : IsOrderAt a.inputs.items x order = stride-asks a.inputs.items x c.args.self.now order c.requires.fits (ap inputs_in c.row.ensures) in
-    let can = can-ask a x order c.requires.can_pull is in
-    let there = inputs-asked a.inputs.items x order c.requires.can_pull.there is in
-    let less = c.decreases in
-    λ κs le. (omega (arith, less), (search, (can, there)))
-
-pub stride::Passes::pull-returns-in-Some-clause-keeps : goal.stride::Passes::pull-returns-in-Some-clause-keeps
-stride::Passes::pull-returns-in-Some-clause-keeps g t c =
-    let a = c.args.nodes.now in
-    let x = c.args.node in
-    let order = inputs_in c.row.result.now in
-    let is : IsOrderAt a.inputs.items x order = stride-asks a.inputs.items x c.args.self.now order c.requires.fits (ap inputs_in c.row.ensures) in
-    keeps-asked a c.ask_in_order.new.self x order c.requires.can_pull is c.ask_in_order.ensures.keeps
-
-pub stride::Passes::pull-returns-in-Some-clause-fits : goal.stride::Passes::pull-returns-in-Some-clause-fits
-stride::Passes::pull-returns-in-Some-clause-fits g t c =
-    let a = c.args.nodes.now in
-    let x = c.args.node in
-    let s = c.args.self.now in
-    let order = inputs_in c.row.result.now in
-    let given : c.ask_in_order.result ≡ Some (c.in-Some.place, c.in-Some.packet) = c.in-Some.is ∙ ap₂ (λ n p. Some (n, p)) (sym c.in-Some.place-is) (sym c.in-Some.packet-is) in
-    let within : c.in-Some.place < length order = subst (IsWithin order) given (subst (λ n. IfSome c.ask_in_order.result (λ r. r.0 < n)) (sym (length-map c.row.result.now (λ (r : Rank). r.input))) c.ask_in_order.ensures.place) in
-    stride-fits a.inputs.items (now_of a) x c.in-Some.place a.moment c.in-Some.packet order s c.won.new.self c.requires.fits (ap inputs_in c.row.ensures) within c.won.ensures.holds
-
-pub stride::Passes::pull-returns-in-Some-clause-turn : goal.stride::Passes::pull-returns-in-Some-clause-turn
-stride::Passes::pull-returns-in-Some-clause-turn g t c =
-    let a = c.args.nodes.now in
-    let x = c.args.node in
-    let s = c.args.self.now in
-    let order = inputs_in c.row.result.now in
-    let given : c.ask_in_order.result ≡ Some (c.in-Some.place, c.in-Some.packet) = c.in-Some.is ∙ ap₂ (λ n p. Some (n, p)) (sym c.in-Some.place-is) (sym c.in-Some.packet-is) in
-    let within : c.in-Some.place < length order = subst (IsWithin order) given (subst (λ n. IfSome c.ask_in_order.result (λ r. r.0 < n)) (sym (length-map c.row.result.now (λ (r : Rank). r.input))) c.ask_in_order.ensures.place) in
-    λ tickets.
-    stride-turn a c.ask_in_order.new.self x s c.won.new.self order (Some (c.in-Some.place, c.in-Some.packet)) tickets c.requires.can_pull.there c.requires.fits (ap inputs_in c.row.ensures) within
-    (subst (λ r. AsksAll a c.ask_in_order.new.self x order (asked_in_order (now_of a) x order r)) given c.ask_in_order.ensures.asks)
-    (stride-won a x c.in-Some.place c.in-Some.packet order s c.won.new.self (ap inputs_in c.row.ensures) within c.won.ensures.holds)
-
-pub stride::Passes::pull-returns-in-None-clause-keeps : goal.stride::Passes::pull-returns-in-None-clause-keeps
-stride::Passes::pull-returns-in-None-clause-keeps g t c =
-    let a = c.args.nodes.now in
-    let x = c.args.node in
-    let order = inputs_in c.row.result.now in
-    let is : IsOrderAt a.inputs.items x order = stride-asks a.inputs.items x c.args.self.now order c.requires.fits (ap inputs_in c.row.ensures) in
-    keeps-asked a c.ask_in_order.new.self x order c.requires.can_pull is c.ask_in_order.ensures.keeps
-
-pub stride::Passes::pull-returns-in-None-clause-turn : goal.stride::Passes::pull-returns-in-None-clause-turn
-stride::Passes::pull-returns-in-None-clause-turn g t c =
-    let a = c.args.nodes.now in
-    let x = c.args.node in
-    let s = c.args.self.now in
-    let order = inputs_in c.row.result.now in
-    λ tickets.
-    stride-turn a c.ask_in_order.new.self x s s order None tickets c.requires.can_pull.there c.requires.fits (ap inputs_in c.row.ensures) tt
-    (subst (λ r. AsksAll a c.ask_in_order.new.self x order (asked_in_order (now_of a) x order r)) c.in-None.is c.ask_in_order.ensures.asks) (stride-none a x order s)
+pub shaper::Bucket::pull-returns : goal.shaper::Bucket::pull-returns
+shaper::Bucket::pull-returns g t c =
+    shaper-returned g.Q.Ask.gives c.args.nodes.now c.take_at.new.nodes c.look-got.new.self c.give_back_at.new.nodes c.args.q.now c.look-got.new.q c.args.node _ c.look-got.result c.requires.can_pull c.take_at.ensures c.if-not-take_at.false c.look-got.ensures
+    (sym c.is_some.ensures ∙ c.if-is_some.false) c.give_back_at.ensures

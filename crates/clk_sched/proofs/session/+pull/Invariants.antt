@@ -7,7 +7,7 @@ use Rattle.clk_sched.proofs.session.+pull.Given as goal
 
 -- a node is pulled before those below it, and each step of its pull before the next
 abbrev rank : ℕ → ℕ → ℕ → ℕ
-rank size x step = 9 * (size - x) + step
+rank size x step = 7 * (size - x) + step
 
 abbrev pub decreases-nodes::Nodes::ask : goal.decreases-nodes::Nodes::ask
 decreases-nodes::Nodes::ask g l = rank (length l.self.now.inputs.items) l.node 0
@@ -21,38 +21,35 @@ decreases-nodes::Nodes::ask_in_order g l = rank (length l.self.now.inputs.items)
 abbrev pub decreases-nodes::Nodes::ask_in_turn : goal.decreases-nodes::Nodes::ask_in_turn
 decreases-nodes::Nodes::ask_in_turn g l = rank (length l.self.now.inputs.items) l.node 2
 
-abbrev pub decreases-prio::pull_prio : goal.decreases-prio::pull_prio
-decreases-prio::pull_prio g l = rank (length l.nodes.now.inputs.items) l.node 4
-
-abbrev pub decreases-round_robin::Beginning::pull : goal.decreases-round_robin::Beginning::pull
-decreases-round_robin::Beginning::pull g l = rank (length l.nodes.now.inputs.items) l.node 4
-
-abbrev pub decreases-drr::Deficits::pull : goal.decreases-drr::Deficits::pull
-decreases-drr::Deficits::pull g l = rank (length l.nodes.now.inputs.items) l.node 4
-
-abbrev pub decreases-stride::Passes::pull : goal.decreases-stride::Passes::pull
-decreases-stride::Passes::pull g l = rank (length l.nodes.now.inputs.items) l.node 4
-
 abbrev pub decreases-drr::Deficits::look : goal.decreases-drr::Deficits::look
 decreases-drr::Deficits::look g l = rank (length l.nodes.now.inputs.items) l.node 3
 
-abbrev pub decreases-state::State::pull : goal.decreases-state::State::pull
-decreases-state::State::pull g l = rank (length l.nodes.now.inputs.items) l.node 5
+abbrev pub decreases-round_robin::Beginning::turn : goal.decreases-round_robin::Beginning::turn
+decreases-round_robin::Beginning::turn g l = rank (length l.nodes.now.inputs.items) l.node 4
 
-abbrev pub decreases-nodes::Nodes::pull_shaper : goal.decreases-nodes::Nodes::pull_shaper
-decreases-nodes::Nodes::pull_shaper g l = rank (length l.self.now.inputs.items) l.node 6
+abbrev pub decreases-drr::Deficits::turn : goal.decreases-drr::Deficits::turn
+decreases-drr::Deficits::turn g l = rank (length l.nodes.now.inputs.items) l.node 4
 
-abbrev pub decreases-nodes::Nodes::pull_drr : goal.decreases-nodes::Nodes::pull_drr
-decreases-nodes::Nodes::pull_drr g l = rank (length l.self.now.inputs.items) l.node 6
+abbrev pub decreases-stride::Passes::turn : goal.decreases-stride::Passes::turn
+decreases-stride::Passes::turn g l = rank (length l.nodes.now.inputs.items) l.node 4
 
-abbrev pub decreases-nodes::Nodes::pull_taken : goal.decreases-nodes::Nodes::pull_taken
-decreases-nodes::Nodes::pull_taken g l = rank (length l.self.now.inputs.items) l.node 6
+abbrev pub decreases-prio::pull_prio : goal.decreases-prio::pull_prio
+decreases-prio::pull_prio g l = rank (length l.nodes.now.inputs.items) l.node 5
+
+abbrev pub decreases-round_robin::Beginning::pull : goal.decreases-round_robin::Beginning::pull
+decreases-round_robin::Beginning::pull g l = rank (length l.nodes.now.inputs.items) l.node 5
+
+abbrev pub decreases-drr::Deficits::pull : goal.decreases-drr::Deficits::pull
+decreases-drr::Deficits::pull g l = rank (length l.nodes.now.inputs.items) l.node 5
+
+abbrev pub decreases-stride::Passes::pull : goal.decreases-stride::Passes::pull
+decreases-stride::Passes::pull g l = rank (length l.nodes.now.inputs.items) l.node 5
+
+abbrev pub decreases-shaper::Bucket::pull : goal.decreases-shaper::Bucket::pull
+decreases-shaper::Bucket::pull g l = rank (length l.nodes.now.inputs.items) l.node 5
 
 abbrev pub decreases-nodes::Nodes::pull : goal.decreases-nodes::Nodes::pull
-decreases-nodes::Nodes::pull g l = rank (length l.self.now.inputs.items) l.node 8
-
-abbrev pub decreases-nodes::Nodes::pull_other : goal.decreases-nodes::Nodes::pull_other
-decreases-nodes::Nodes::pull_other g l = rank (length l.self.now.inputs.items) l.node 7
+decreases-nodes::Nodes::pull g l = rank (length l.self.now.inputs.items) l.node 6
 
 abbrev pub invariant-nodes::Nodes::ask_in_order-loop-place : goal.invariant-nodes::Nodes::ask_in_order-loop-place
 invariant-nodes::Nodes::ask_in_order-loop-place g l = IsAsking g.Q.Ask.gives l.initial.self l.self l.initial.q l.q l.node (take l.place (inputs_in l.fn.order))
@@ -60,5 +57,5 @@ invariant-nodes::Nodes::ask_in_order-loop-place g l = IsAsking g.Q.Ask.gives l.i
 abbrev pub invariant-nodes::Nodes::ask_in_turn-loop-place : goal.invariant-nodes::Nodes::ask_in_turn-loop-place
 invariant-nodes::Nodes::ask_in_turn-loop-place g l = IsAsking g.Q.Ask.gives l.initial.self l.self l.initial.q l.q l.node (take l.place (range_with_len l.fn.first l.fn.count))
 
-abbrev pub invariant-drr::Deficits::pull-loop : goal.invariant-drr::Deficits::pull-loop
-invariant-drr::Deficits::pull-loop g l = IsMaking g.Q.Ask.gives l.initial.nodes l.nodes l.initial.q l.q l.node l.initial.self l.self l.counter
+abbrev pub invariant-drr::Deficits::turn-loop : goal.invariant-drr::Deficits::turn-loop
+invariant-drr::Deficits::turn-loop g l = IsMaking g.Q.Ask.gives l.initial.nodes l.nodes l.initial.q l.q l.node l.initial.self l.self l.counter

@@ -1,4 +1,4 @@
--- A node's own state, which is taken out while it has its turn, and put back.
+-- A node's own state, in its place before its turn and after it.
 use Rattle.std.proofs.Common.{◌≡◌, ◌≢◌, ◌⊎◌, ℕ, zero, suc, ◌+◌, ◌<◌, ◌≤◌, List, [], ◌∷◌, length, drop, Bool, true, false, ◌==◌, slice_get, slice_set, Option, Some, None, MatchOption, IfSome, inl, inr, refl, sym, ap, ap₂, ◌∙◌, subst, arith}
 use Rattle.std.proofs.lemmas.Option.{slice_get_within}
 use Rattle.std.proofs.lemmas.List.{length-set}
@@ -8,16 +8,15 @@ use Rattle.clk_packet.specs.declared.packet.Packet.{Packet}
 use Rattle.clk_sched.specs.declared.session.inputs.Inputs.{Inputs}
 use Rattle.clk_sched.specs.declared.session.state.State.{State}
 use Rattle.clk_sched.specs.declared.session.state.State.TheVariants.{Prio, RoundRobin, Drr, Stride, Shaper}
-use Rattle.clk_sched.specs.declared.session.drr.Deficits.{Deficits}
 use Rattle.clk_sched.specs.declared.session.shaper.Bucket.{Bucket}
 use Rattle.clk_sched.specs.declared.session.nodes.Nodes.{Nodes}
-use Rattle.std.specs.Vec.{with_item}
 use Rattle.clk_sched.specs.Tree.{Class, Row, nodes, width}
 use Rattle.clk_sched.specs.Holds.OfClass.{Fits, Holds}
 use Rattle.clk_sched.specs.Holds.Shaper.{AreBefore}
-use Rattle.clk_sched.specs.Places.{StandsIn, AllFit}
+use Rattle.clk_sched.specs.Places.{StandsIn, AllFit, edges_of}
 use Rattle.clk_sched.specs.Pulling.{Pulls, History, NodeHolds, CanPull, Keeps, EachHolds, IsBlock, IsReady, added, now_of, after}
 use Rattle.clk_sched.specs.Pulling.{TakesTurn, TurnIsTaken}
+use Rattle.clk_sched.specs.Turning.{with_state, HadTurn, WasPulled}
 use Rattle.clk_sched.proofs.Below.{holds-same}
 use Rattle.clk_sched.proofs.Numbers.{equal}
 
@@ -87,32 +86,21 @@ pulls-put a taken turned b x placed before now got out state turn back class row
     wider y (inl l) = inl (omega arith)
     wider y (inr l) = inr l
 
--- these nodes, of which one holds this state
-abbrev pub with_state : Nodes → ℕ → State → Nodes
-with_state a x s = record { inputs = a.inputs; states = with_item a.states x s; log = a.log; pull = a.pull; moment = a.moment }
-
 pub is-put : (a : Nodes) (x : ℕ) (s : State) → x < length a.states.items → IsPutIn a (with_state a x s) x s
 is-put a x s l = record { inputs = refl; log = refl; pull = refl; moment = refl; here = set-here a.states.items x s l; others = λ y d. set-other a.states.items x y s d }
 
--- A node whose state is put in its place before its turn has it there after the turn.
-pub pulls-placed : (a taken b : Nodes) (x : ℕ) (before now : State) (got : Option Packet) → IsPutIn a taken x now → slice_get a.states.items x ≡ Some before → ((class : Class) → TakesTurn taken b x class before now got) → Pulls a b x got
-pulls-placed a taken b x before now got out state turn class row history stands holds early =
-    let r = turn class row history (ready-put a taken x class row history now out stands holds early) (subst (λ o. MatchOption o ⊥ (Holds class (width row) (history x))) state holds.here) in
-    pulls-put a taken b b x now before now got out state turn (record { inputs = refl; log = refl; pull = refl; moment = refl; here = r.turned.outside x (inl (omega arith)) ∙ out.here; others = λ y d. refl }) class row history stands holds early
-
--- The same of a node whose state is changed once more after its turn: what it is then follows from what was put in its place.
-pub pulls-back : (a taken turned b : Nodes) (x : ℕ) (placed before other now : State) (got : Option Packet) → IsPutIn a taken x placed → slice_get a.states.items x ≡ Some before
-    → ((class : Class) → TakesTurn taken turned x class before other got) → (slice_get turned.states.items x ≡ Some placed → (class : Class) → TakesTurn taken turned x class before now got) → IsPutIn turned b x now → Pulls a b x got
-pulls-back a taken turned b x placed before other now got out state turn then back class row history stands holds early =
+-- What a node holds after its turn may follow from what stands in its place then.
+pub pulls-later : (a taken turned b : Nodes) (x : ℕ) (placed before other : State) (got : Option Packet) → IsPutIn a taken x placed → slice_get a.states.items x ≡ Some before
+    → ((class : Class) → TakesTurn taken turned x class before other got)
+    → (slice_get turned.states.items x ≡ Some placed → (now : State) × ((class : Class) → TakesTurn taken turned x class before now got) × IsPutIn turned b x now) → Pulls a b x got
+pulls-later a taken turned b x placed before other got out state turn then class row history stands holds early =
     let r = turn class row history (ready-put a taken x class row history placed out stands holds early) (subst (λ o. MatchOption o ⊥ (Holds class (width row) (history x))) state holds.here) in
-    pulls-put a taken turned b x placed before now got out state (then (r.turned.outside x (inl (omega arith)) ∙ out.here)) back class row history stands holds early
+    let t = then (r.turned.outside x (inl (omega arith)) ∙ out.here) in
+    pulls-put a taken turned b x placed before t.0 got out state t.1 t.2 class row history stands holds early
 
--- Where another state stood there after the turn, anything would hold.
-pub pulls-else : (a taken turned b : Nodes) (x : ℕ) (placed before other : State) (got : Option Packet) → IsPutIn a taken x placed → slice_get a.states.items x ≡ Some before
-    → ((class : Class) → TakesTurn taken turned x class before other got) → (slice_get turned.states.items x ≡ Some placed → ⊥) → Pulls a b x got
-pulls-else a taken turned b x placed before other got out state turn gone class row history stands holds early =
-    let r = turn class row history (ready-put a taken x class row history placed out stands holds early) (subst (λ o. MatchOption o ⊥ (Holds class (width row) (history x))) state holds.here) in
-    absurd (gone (r.turned.outside x (inl (omega arith)) ∙ out.here))
+-- what stands there after the turn is what a node holds
+pub still-put : (b : Nodes) (x : ℕ) (s : State) → slice_get b.states.items x ≡ Some s → IsPutIn b b x s
+still-put b x s here = record { inputs = refl; log = refl; pull = refl; moment = refl; here = here; others = λ y d. refl }
 
 -- what is there is one thing
 abbrev or_else : {X : Type 0} → X → Option X → X
@@ -149,21 +137,16 @@ fit-set table states x s fit here =
         subst (λ z. Fits z (length p.each.items)) is (here p (subst (λ z. slice_get table z ≡ Some p) at e))
     by_place y p t e f false k = fit.each y p t e (sym (set-other states x y s (λ at. false≢true (sym k ∙ equal y x at))) ∙ f)
 
--- the row of a DRRSched has the inputs of its node
-pub drr-fits : (table : List Inputs) (states : List State) (x : ℕ) (d : Deficits) → AllFit table states → slice_get states x ≡ Some (Drr d) → IfSome (slice_get table x) (λ (p : Inputs). length d.row.items ≡ length p.each.items)
-drr-fits table states x d fit is = by_case (slice_get table x) refl
+-- what stands in a table that fits, fits its node
+pub fits-there : (table : List Inputs) (states : List State) (x : ℕ) (s : State) → AllFit table states → slice_get states x ≡ Some s → IfSome (slice_get table x) (λ (p : Inputs). Fits s (length p.each.items))
+fits-there table states x s fit is = by_case (slice_get table x) refl
   where
-    by_case : (o : Option Inputs) → slice_get table x ≡ o → IfSome o (λ (p : Inputs). length d.row.items ≡ length p.each.items)
+    by_case : (o : Option Inputs) → slice_get table x ≡ o → IfSome o (λ (p : Inputs). Fits s (length p.each.items))
     by_case None e = _
-    by_case (Some p) e = fit.each x p (Drr d) e is
+    by_case (Some p) e = fit.each x p s e is
 
--- the bucket of a table is that of a Shaper, which has an input
-pub shaper-fits : (table : List Inputs) (states : List State) (x : ℕ) (b : Bucket) → AllFit table states → slice_get states x ≡ Some (Shaper b) → IfSome (slice_get table x) (λ (p : Inputs). 1 ≤ length p.each.items)
-shaper-fits table states x b fit is = by_case (slice_get table x) refl
-  where
-    by_case : (o : Option Inputs) → slice_get table x ≡ o → IfSome o (λ (p : Inputs). 1 ≤ length p.each.items)
-    by_case None e = _
-    by_case (Some p) e = fit.each x p (Shaper b) e is
+pub fits-each : (table : List Inputs) (x : ℕ) (s : State) → IfSome (slice_get table x) (λ (p : Inputs). Fits s (length p.each.items)) → (p : Inputs) → slice_get table x ≡ Some p → Fits s (length p.each.items)
+fits-each table x s fits p e = subst (λ o. IfSome o (λ (q : Inputs). Fits s (length q.each.items))) e fits
 
 -- Another state that fits changes nothing of what a pull asks, and of what stays.
 pub can-put : (a : Nodes) (x m : ℕ) (s : State) → CanPull a x m → ((p : Inputs) → slice_get a.inputs.items x ≡ Some p → Fits s (length p.each.items)) → CanPull (with_state a x s) x m
@@ -175,3 +158,40 @@ keeps-from a b x m s k = record { inputs = k.inputs; pull = k.pull; moment = k.m
 pub keeps-put : (a b : Nodes) (x m : ℕ) (s : State) → Keeps a b m → ((p : Inputs) → slice_get a.inputs.items x ≡ Some p → Fits s (length p.each.items)) → Keeps a (with_state b x s) m
 keeps-put a b x m s k fits =
     record { inputs = k.inputs; pull = k.pull; moment = k.moment; fit = fit-set a.inputs.items b.states.items x s k.fit fits; capacity = k.capacity; grown = k.grown; at_most = k.at_most }
+
+-- There is a state of each node of the table.
+pub state-there : (a : Nodes) (x m : ℕ) → CanPull a x m → x < length a.states.items
+state-there a x m can = subst (λ n. x < n) (sym can.fit.lengths) can.there
+
+kept-there : (a b : Nodes) (x m n : ℕ) → CanPull a x m → Keeps a b n → x < length b.states.items
+kept-there a b x m n can k = subst (λ n. x < n) (sym k.fit.lengths) can.there
+
+-- A node whose state was taken out can have its turn.
+pub can-turn : (a t : Nodes) (x : ℕ) (s : State) → t ≡ with_state a x Prio → slice_get a.states.items x ≡ Some s → CanPull a x (edges_of a.inputs.items x)
+    → CanPull t x (edges_of t.inputs.items x) × IfSome (slice_get t.inputs.items x) (λ (p : Inputs). Fits s (length p.each.items))
+can-turn a t x s is state can =
+    subst (λ (n : Nodes). CanPull n x (edges_of n.inputs.items x) × IfSome (slice_get n.inputs.items x) (λ (p : Inputs). Fits s (length p.each.items))) (sym is)
+    (can-put a x (edges_of a.inputs.items x) Prio can (λ p e. tt), fits-there a.inputs.items a.states.items x s can.fit state)
+
+-- It was pulled once its state is put back.
+pub pulled-back : {S : Type 0} (gives : S → ℕ → Option Packet → S → Type 0) (a t u b : Nodes) (q r : S) (x m : ℕ) (before now : State) (got : Option Packet) → t ≡ with_state a x Prio → slice_get a.states.items x ≡ Some before → CanPull a x m
+    → HadTurn gives t u q r x before now got → b ≡ with_state u x now → WasPulled gives a b q r x got
+pulled-back gives a t u b q r x m before now got out state can turn back = subst (λ (n : Nodes). WasPulled gives a n q r x got) (sym back) (whole (subst (λ (n : Nodes). HadTurn gives n u q r x before now got) out turn))
+  where
+    whole : HadTurn gives (with_state a x Prio) u q r x before now got → WasPulled gives a (with_state u x now) q r x got
+    whole h =
+        let k : Keeps a u (edges_of a.inputs.items x) = keeps-from a u x (edges_of a.inputs.items x) Prio h.keeps in
+        record {
+          keeps = keeps-put a u x (edges_of a.inputs.items x) now k (fits-each a.inputs.items x now h.fits);
+          answers = h.answers;
+          pulls = pulls-put a (with_state a x Prio) u (with_state u x now) x Prio before now got (is-put a x Prio (state-there a x m can)) state h.turn (is-put u x now (kept-there a u x m (edges_of a.inputs.items x) can k));
+        }
+
+-- A node that holds the same in its place was pulled by its turn.
+pub pulled-still : {S : Type 0} (gives : S → ℕ → Option Packet → S → Type 0) (a b : Nodes) (q r : S) (x : ℕ) (s : State) (got : Option Packet) → slice_get a.states.items x ≡ Some s → HadTurn gives a b q r x s s got → WasPulled gives a b q r x got
+pulled-still gives a b q r x s got state h =
+    record {
+      keeps = h.keeps;
+      answers = h.answers;
+      pulls = pulls-later a a b b x s s s got (still-put a x s state) state h.turn (λ there. (s, h.turn, still-put b x s there));
+    }

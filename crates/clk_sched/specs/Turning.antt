@@ -1,0 +1,40 @@
+-- What it is that a node was pulled, had its turn, and asked its inputs.
+use Rattle.std.specs.Prelude.{ℕ, List, [], ◌∷◌, length, Option, IfSome, slice_get}
+use Rattle.std.specs.Vec.{with_item}
+use Rattle.clk_packet.specs.declared.packet.Packet.{Packet}
+use Rattle.clk_sched.specs.declared.session.state.State.{State}
+use Rattle.clk_sched.specs.declared.session.nodes.Nodes.{Nodes}
+use Rattle.clk_sched.specs.Tree.{Class}
+use Rattle.clk_sched.specs.Holds.OfClass.{Fits}
+use Rattle.clk_sched.specs.Log.{asking}
+use Rattle.clk_sched.specs.Places.{Answers, edges_of, edges_at, edges_in, queue_asked}
+use Rattle.clk_sched.specs.Pulling.{Keeps, Pulls, AsksAll, TakesTurn, added, now_of, asked_in_order}
+
+-- these nodes, of which one holds this state
+abbrev pub with_state : Nodes → ℕ → State → Nodes
+with_state a x s = record { inputs = a.inputs; states = with_item a.states x s; log = a.log; pull = a.pull; moment = a.moment }
+
+-- A node was pulled: what stays, how the queues answered, and what it made of that.
+pub record WasPulled {S : Type 0} (gives : S → ℕ → Option Packet → S → Type 0) (old new : Nodes) (before now : S) (x : ℕ) (got : Option Packet) : Type 0 where
+  pub keeps : Keeps old new (edges_of old.inputs.items x)
+  pub answers : Answers gives (queue_asked old.inputs.items) before (added old new) now
+  pub pulls : Pulls old new x got
+
+-- A node had its turn, by one state, and holds another after it, wherever that stands meanwhile.
+pub record HadTurn {S : Type 0} (gives : S → ℕ → Option Packet → S → Type 0) (old new : Nodes) (before now : S) (x : ℕ) (held holds : State) (got : Option Packet) : Type 0 where
+  pub keeps : Keeps old new (edges_of old.inputs.items x)
+  pub answers : Answers gives (queue_asked old.inputs.items) before (added old new) now
+  pub fits : IfSome (slice_get old.inputs.items x) (λ p. Fits holds (length p.each.items))
+  pub turn : (class : Class) → TakesTurn old new x class held holds got
+
+-- A node asked one of its inputs, and recorded the visit.
+pub record HasAsked {S : Type 0} (gives : S → ℕ → Option Packet → S → Type 0) (old new : Nodes) (before now : S) (x i : ℕ) (got : Option Packet) : Type 0 where
+  pub keeps : Keeps old new (edges_at old.inputs.items x i)
+  pub answers : Answers gives (queue_asked old.inputs.items) before (added old new) now
+  pub asks : AsksAll old new x (i ∷ []) (asking old.pull old.moment x i got ∷ [])
+
+-- A node asked its inputs in this order, up to the place at which a packet was given.
+pub record HasAskedAll {S : Type 0} (gives : S → ℕ → Option Packet → S → Type 0) (old new : Nodes) (before now : S) (x : ℕ) (order : List ℕ) (given : Option (ℕ × Packet)) : Type 0 where
+  pub keeps : Keeps old new (edges_in old.inputs.items x order)
+  pub answers : Answers gives (queue_asked old.inputs.items) before (added old new) now
+  pub asks : AsksAll old new x order (asked_in_order (now_of old) x order given)
