@@ -19,13 +19,13 @@ pub gathering-first : (tap : TapLists) (closed : List ClosedLists) → AreOfTap 
 gathering-first tap closed each = record { id = refl; setup = refl; taken = refl; lists = refl; each = each; first = λ k d ge lt. absurd (omega arith) }
 
 -- the seat at a place
-of-tap-at : (tap : TapLists) (now : List ClosedLists) (i : ℕ) (d : ClosedLists) → i < length now → AreOfTap tap now → IsOfTap tap (get_or now i d)
+pub of-tap-at : (tap : TapLists) (now : List ClosedLists) (i : ℕ) (d : ClosedLists) → i < length now → AreOfTap tap now → IsOfTap tap (get_or now i d)
 of-tap-at tap [] i d lt h = absurd (omega arith)
 of-tap-at tap (c ∷ now) zero d lt h = h.0
 of-tap-at tap (c ∷ now) (suc i) d lt h = of-tap-at tap now i d (omega arith) h.1
 
 -- another seat at a place, and a tap that has more
-of-tap-more : (tap new : TapLists) (now : List ClosedLists) → ((c : ClosedLists) → IsOfTap tap c → IsOfTap new c) → AreOfTap tap now → AreOfTap new now
+pub of-tap-more : (tap new : TapLists) (now : List ClosedLists) → ((c : ClosedLists) → IsOfTap tap c → IsOfTap new c) → AreOfTap tap now → AreOfTap new now
 of-tap-more tap new [] more h = tt
 of-tap-more tap new (c ∷ now) more h = (more c h.0, of-tap-more tap new now more h.1)
 
@@ -43,12 +43,12 @@ lists-set (x ∷ now) (suc i) c d lt e = ap (λ l. x.lists ∷ l) (lists-set now
 abbrev pub closed_with : SeatLists → ClosedLists
 closed_with l = record { lists = l; is_gathered = true }
 
-record IsStep (tap new : TapLists) (l : SeatLists) : Type 0 where
-  id : new.id ≡ tap.id
-  setup : new.setup ≡ tap.setup
-  taken : new.taken ≡ tap.taken
-  more : (g : Gathered) → IsAmong g tap.gathered → IsAmong g new.gathered
-  has : IsAmong (as_gathered l) new.gathered
+pub record IsStep (tap new : TapLists) (l : SeatLists) : Type 0 where
+  pub id : new.id ≡ tap.id
+  pub setup : new.setup ≡ tap.setup
+  pub taken : new.taken ≡ tap.taken
+  pub more : (g : Gathered) → IsAmong g tap.gathered → IsAmong g new.gathered
+  pub has : IsAmong (as_gathered l) new.gathered
 
 gather-step : (tap new : TapLists) (c : ClosedLists) (b : Bool) → c.is_gathered ≡ b → IsOfTap tap c → (c.is_gathered ≡ false → new ≡ gathering tap c.lists) → (c.is_gathered ≡ true → new ≡ tap) → IsStep tap new c.lists
 gather-step tap new c true is h first again = subst (λ (t : TapLists). IsStep tap t c.lists) (sym (again is)) record { id = refl; setup = refl; taken = refl; more = λ g a. a; has = h.had is }
@@ -57,19 +57,29 @@ gather-step tap new c false is h first again = subst (λ (t : TapLists). IsStep 
 still-of : (tap new : TapLists) (l : SeatLists) → IsStep tap new l → (c : ClosedLists) → IsOfTap tap c → IsOfTap new c
 still-of tap new l s c h = record { id = h.id ∙ sym s.id; setup = h.setup ∙ sym s.setup; had = λ e. s.more (as_gathered c.lists) (h.had e) }
 
+-- The tap gathered the seat at a place, and all seats are still the tap's.
+pub of-tap-gathered : (tap new : TapLists) (now : List ClosedLists) (i : ℕ) (c d : ClosedLists) → i < length now → AreOfTap tap now
+    → c ≡ closed_with (get_or now i d).lists → ((get_or now i d).is_gathered ≡ false → new ≡ gathering tap (get_or now i d).lists) → ((get_or now i d).is_gathered ≡ true → new ≡ tap)
+    → IsStep tap new (get_or now i d).lists × (lists_of (set now i c) ≡ lists_of now) × AreOfTap new (set now i c)
+of-tap-gathered tap new now i c d lt h is first again =
+    let here = of-tap-at tap now i d lt h in
+    let s = gather-step tap new (get_or now i d) (get_or now i d).is_gathered refl here first again in
+    let one : IsOfTap new (closed_with (get_or now i d).lists) = record { id = here.id ∙ sym s.id; setup = here.setup ∙ sym s.setup; had = λ e. s.has } in (
+      s,
+      lists-set now i c d lt (ap (λ (x : ClosedLists). x.lists) is),
+      of-tap-set tap new now i c (still-of tap new (get_or now i d).lists s) (subst (IsOfTap new) (sym is) one) h,
+    )
+
 pub gathering-more : (old : TapLists) (all : List ClosedLists) (tap new : TapLists) (now : List ClosedLists) (i : ℕ) (c d : ClosedLists) → i < length now → IsGathering old all tap now i
     → c ≡ closed_with (get_or now i d).lists → ((get_or now i d).is_gathered ≡ false → new ≡ gathering tap (get_or now i d).lists) → ((get_or now i d).is_gathered ≡ true → new ≡ tap)
     → IsGathering old all new (set now i c) (i + 1)
 gathering-more old all tap new now i c d lt h is first again =
-    let here = of-tap-at tap now i d lt h.each in
-    let s = gather-step tap new (get_or now i d) (get_or now i d).is_gathered refl here first again in
-    let still : (x : ClosedLists) → IsOfTap tap x → IsOfTap new x = still-of tap new (get_or now i d).lists s in
-    let one : IsOfTap new (closed_with (get_or now i d).lists) = record { id = here.id ∙ sym s.id; setup = here.setup ∙ sym s.setup; had = λ e. s.has } in record {
-      id = s.id ∙ h.id;
-      setup = s.setup ∙ h.setup;
-      taken = s.taken ∙ h.taken;
-      lists = lists-set now i c d lt (ap (λ (x : ClosedLists). x.lists) is) ∙ h.lists;
-      each = of-tap-set tap new now i c still (subst (IsOfTap new) (sym is) one) h.each;
+    let after = of-tap-gathered tap new now i c d lt h.each is first again in record {
+      id = after.0.id ∙ h.id;
+      setup = after.0.setup ∙ h.setup;
+      taken = after.0.taken ∙ h.taken;
+      lists = after.1 ∙ h.lists;
+      each = after.2;
       first = AllWithin-more_set now i c lt (λ (x : ClosedLists). x.is_gathered ≡ true) h.first (ap (λ (x : ClosedLists). x.is_gathered) is);
     }
 

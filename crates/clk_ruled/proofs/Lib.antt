@@ -14,5 +14,7 @@ mod Members
 mod Account
 mod KeyLemmas
 mod Gathering
+mod InUse
 mod Settlement
 mod TapSteps
+pub mod Closing

@@ -6,3 +6,4 @@ pub mod Queue
 pub mod Parts
 pub mod Keys
 pub mod Settle
+pub mod Closing

@@ -9,6 +9,8 @@ mod queue;
 mod seat;
 mod settling;
 mod tap;
+#[cfg(test)]
+mod tests;
 mod view;
 
 pub use closed::ClosedSeat;

@@ -1,0 +1,10 @@
+use Rattle.std.proofs.Common.{arith}
+use Rattle.clk_ruled.proofs.InUse.{seat-in-use, offered-in-use}
+use Rattle.clk_ruled.proofs.tests.shared.Shared.offer.Goals as goal
+
+pub offer-requires-clause-together : goal.offer-requires-clause-together
+offer-requires-clause-together g c = seat-in-use c.self.inside.queue c.self.inside.tap c.self.inside.seats.items c.args.place c.index_mut-seat.result.now (omega arith) c.index_mut-seat.ensures.value c.self.invariant
+
+pub invariant_of-self : goal.invariant_of-self
+invariant_of-self g c =
+    offered-in-use c.self.inside.queue c.self.inside.tap c.self.inside.seats.items c.args.place c.index_mut-seat.result.now c.offer.new.self c.packet-next.result c.offer.result (omega arith) c.index_mut-seat.ensures.value c.offer.ensures.offered c.self.invariant

@@ -1,0 +1,165 @@
+//! A shared queue on one thread, as the tests call it.
+
+ghost use Rattle.std.specs.Prelude.{◌≡◌, ◌≤◌};
+ghost use Rattle.clk_packet.specs.Limits.{most_capacity};
+ghost use Rattle.clk_ruled.specs.Lists.{rooms_in_all};
+ghost use Rattle.clk_ruled.specs.Queue.{SendersRise};
+
+use crate::{ClosedSeat, Opened, RuledQueue, Seat, Settled, Tap, settle};
+use clk_packet::{Fault, Kind, Offered, Packet};
+use std::alloc::Global;
+use std::marker::Model;
+use std::process::Abort;
+use std::sync::Wait;
+
+/// The packet of this number from this sender, of 1 to 65,535 bytes.
+pub fn packet(sender: u16, number: u32, length: u16) -> Packet
+    requires { 1 ≤ length }
+    ensures { (result.sender ≡ sender) × (result.number ≡ number) }
+{
+    Packet {
+        number,
+        sender,
+        length,
+    }
+}
+
+/// A queue, its seats in order, and its tap.
+#[derive(Drop)]
+pub struct Shared {
+    queue: RuledQueue,
+    seats: Vec<Seat>,
+    tap: Tap,
+}
+
+impl Model for Shared {
+    ghost use Rattle.std.specs.Prelude.{List, map, false};
+    ghost use Rattle.clk_ruled.specs.Queue.{SeatLists, ClosedLists, TapLists, IsTapOf};
+    ghost use Rattle.clk_ruled.specs.Settle.{AreTogether};
+
+    ghost Value = { TapLists × List SeatLists };
+
+    ghost view = { λ s. (s.tap, s.seats.items) };
+
+    // If all seats were closed now, they would be all of the tap's queue.
+    ghost invariant = { λ s. IsTapOf s.queue s.tap × AreTogether s.tap (map {B = ClosedLists} (λ l. record { lists = l; is_gathered = false }) s.seats.items) };
+}
+
+impl Shared {
+    pub fn open(
+        alloc: Global,
+        kind: Kind,
+        capacity: u32,
+        senders: &[(u16, u32)],
+    ) -> Result<Shared, Fault>
+        requires capacity { (1 ≤ capacity) × (capacity ≤ most_capacity) }
+        requires rising { SendersRise senders.now }
+        requires room { rooms_in_all senders.now ≤ most_capacity }
+    {
+        let Opened { queue, seats, tap } = RuledQueue::open(alloc, kind, capacity, senders)?;
+        Ok(Shared { queue, seats, tap })
+    }
+
+    /// The seat at this place offers its sender's next packet, of this length.
+    pub fn offer<R: Abort + Wait>(&mut self, rt: &R, place: usize, length: u16) -> Offered
+        requires { 1 ≤ length }
+    {
+        assert!(rt; place < self.seats.len());
+        let seat = &mut self.seats[place];
+        assert!(rt; seat.next() < seat.room());
+        let next = packet(seat.sender(), seat.next(), length);
+        seat.offer(&self.queue, rt, next)
+    }
+
+    pub fn pull(&mut self, rt: &impl Wait) -> Option<Packet> {
+        self.tap.pull(&self.queue, rt)
+    }
+
+    /// The seat at this place.
+    pub fn seat(&self, rt: &impl Abort, place: usize) -> &Seat {
+        assert!(rt; place < self.seats.len());
+        &self.seats[place]
+    }
+
+    /// The packets that were pulled.
+    pub fn taken(&self) -> &[Packet] {
+        self.tap.taken()
+    }
+
+    /// Closes each seat.
+    pub fn close(self, alloc: Global) -> Result<Closed, Fault> {
+        let mut closed = Vec::new(alloc);
+        for seat in self.seats {
+            closed.push(seat.close())?;
+        }
+        Ok(Closed {
+            queue: self.queue,
+            seats: closed,
+            tap: self.tap,
+        })
+    }
+}
+
+/// A queue whose seats are closed.
+#[derive(Drop)]
+pub struct Closed {
+    queue: RuledQueue,
+    seats: Vec<ClosedSeat>,
+    tap: Tap,
+}
+
+impl Model for Closed {
+    ghost use Rattle.std.specs.Prelude.{List};
+    ghost use Rattle.clk_ruled.specs.Queue.{ClosedLists, TapLists, IsTapOf};
+    ghost use Rattle.clk_ruled.specs.Settle.{AreTogether};
+
+    ghost Value = { TapLists × List ClosedLists };
+
+    ghost view = { λ c. (c.tap, c.seats.items) };
+
+    ghost invariant = { λ c. IsTapOf c.queue c.tap × AreTogether c.tap c.seats.items };
+}
+
+impl Closed {
+    pub fn pull(&mut self, rt: &impl Wait) -> Option<Packet> {
+        self.tap.pull(&self.queue, rt)
+    }
+
+    /// The tap gathers the seat at this place.
+    pub fn gather(&mut self, rt: &impl Abort, place: usize) {
+        assert!(rt; place < self.seats.len());
+        self.tap.gather(&self.queue, &mut self.seats[place]);
+    }
+
+    /// The closed seat at this place.
+    pub fn seat(&self, rt: &impl Abort, place: usize) -> &ClosedSeat {
+        assert!(rt; place < self.seats.len());
+        &self.seats[place]
+    }
+
+    /// Settles the queue as that of number 0.
+    pub fn settle(self, alloc: Global) -> Result<Settled, Fault> {
+        settle(alloc, self.queue, self.tap, self.seats, 0)
+    }
+}
+
+/// The packets of a tally that is expected.
+#[derive(Clone, Copy)]
+pub struct Expected<'a> {
+    pub sender: u16,
+    pub accepted: &'a [Packet],
+    pub refused: &'a [Packet],
+    pub evicted: &'a [Packet],
+}
+
+/// Fails unless the queue was settled with these tallies, in order, and with these packets pulled.
+pub fn assert_settled(rt: &impl Abort, settled: &Settled, expected: &[Expected], taken: &[Packet]) {
+    assert_eq!(rt; settled.tallies.len(), expected.len());
+    for (tally, expected) in settled.tallies.iter().zip(expected) {
+        assert_eq!(rt; tally.sender, expected.sender);
+        assert_eq!(rt; tally.accepted.as_slice(), expected.accepted);
+        assert_eq!(rt; tally.refused.as_slice(), expected.refused);
+        assert_eq!(rt; tally.evicted.as_slice(), expected.evicted);
+    }
+    assert_eq!(rt; settled.taken.as_slice(), taken);
+}
