@@ -16,16 +16,21 @@ def stop(why, status=1):
 
 
 def build_clickpull(room):
-    """Proves and builds the program by rt, and gives the path of the executable."""
+    """Proves and builds clickpull by rt, and gives the path of the executable."""
+    return build(CRATE, room)
+
+
+def build(crate, room):
+    """Proves and builds the program of this crate by rt, and gives the path of a copy of the executable."""
     # LLVM compiles it at -O3, whatever backend the environment names. rt then runs it, here on an empty script, and
     # says which file it runs.
     words = ["rt", "run", "--backend", "llvm"]
-    ran = subprocess.run(words, cwd=CRATE, stdin=subprocess.DEVNULL, capture_output=True, text=True)
+    ran = subprocess.run(words, cwd=crate, stdin=subprocess.DEVNULL, capture_output=True, text=True)
     found = re.search(r"^rt: running ([^;\n]+)", ran.stderr, re.M)
     if ran.returncode or not found:
         stop("rt run gave no program:\n" + ran.stderr[-2000:], 2)
     # A copy, since a later build may replace the file while this runs.
-    return shutil.copy(os.path.join(CRATE, found[1]), os.path.join(room, "clickpull"))
+    return shutil.copy(os.path.join(crate, found[1]), os.path.join(room, os.path.basename(crate)))
 
 
 def run(program, script, output, words=()):
