@@ -94,7 +94,7 @@ heads-of_node log x round_robin inputs turns (Shaper b) e h = absurd h
 heads-of_node log x (drr quanta) inputs turns Prio e h = absurd h
 heads-of_node log x (drr quanta) inputs turns (RoundRobin b) e h = absurd h
 heads-of_node log x (drr quanta) inputs turns (Drr d) e h =
-    heads-of_inputs log x inputs d.row.items 0 (width inputs) h.length_is (λ k s f. (h.each k s f).head_is ∙ ap₂ head_at (omega arith) e)
+    heads-of_inputs log x inputs d.value.row.items 0 (width inputs) h.length_is (λ k s f. (h.each k s f).head_is ∙ ap₂ head_at (omega arith) e)
 heads-of_node log x (drr quanta) inputs turns (Stride p) e h = absurd h
 heads-of_node log x (drr quanta) inputs turns (Shaper b) e h = absurd h
 heads-of_node log x (stride tickets) inputs turns Prio e h = absurd h

@@ -163,7 +163,7 @@ keeps-put a b x m s k fits =
 pub state-there : (a : Nodes) (x m : ℕ) → CanPull a x m → x < length a.states.items
 state-there a x m can = subst (λ n. x < n) (sym can.fit.lengths) can.there
 
-kept-there : (a b : Nodes) (x m n : ℕ) → CanPull a x m → Keeps a b n → x < length b.states.items
+pub kept-there : (a b : Nodes) (x m n : ℕ) → CanPull a x m → Keeps a b n → x < length b.states.items
 kept-there a b x m n can k = subst (λ n. x < n) (sym k.fit.lengths) can.there
 
 -- A node whose state was taken out can have its turn.

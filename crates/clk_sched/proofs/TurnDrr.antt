@@ -2,6 +2,7 @@
 use Rattle.std.proofs.Common.{◌≡◌, ◌≢◌, ℕ, zero, suc, ◌+◌, ◌%◌, ◌<◌, Bool, true, false, if◌then◌else◌, List, [], ◌∷◌, ◌++◌, length, map, slice_get, Option, Some, None, IsSome, IfSome, MatchBool, inl, inr, refl, sym, ap, ◌∙◌, subst, arith}
 use Rattle.std.specs.List.{AllByRecursion}
 use Rattle.std.proofs.lemmas.List.{map-append, length-append}
+use Rattle.std.specs.Global.{Box}
 use Rattle.clk_packet.specs.declared.packet.Packet.{Packet}
 use Rattle.clk_sched.specs.declared.visit.Visit.{Visit}
 use Rattle.clk_sched.specs.declared.session.inputs.Inputs.{Inputs}
@@ -263,8 +264,8 @@ turn-before : (moment : ℕ) (own : List Visit) (turns : List Turn) → onto own
 turn-before moment [] turns = refl
 turn-before moment (v ∷ own) turns = onto-append (v ∷ own) (visits_before turns)
 
-pub drr-turn : {S : Type 0} (gives : S → ℕ → Option Packet → S → Type 0) (a b : Nodes) (p q : S) (x : ℕ) (first last : Deficits) (got : Option Packet) (inputs : Inputs) → slice_get a.inputs.items x ≡ Some inputs
-    → length first.row.items ≡ length inputs.each.items → HasEnded gives a b p q x first last got → (quanta : List ℕ) → TakesTurn a b x (drr quanta) (Drr first) (Drr last) got
+pub drr-turn : {S : Type 0} (gives : S → ℕ → Option Packet → S → Type 0) (a b : Nodes) (p q : S) (x : ℕ) (first last : Box Deficits) (got : Option Packet) (inputs : Inputs) → slice_get a.inputs.items x ≡ Some inputs
+    → length first.value.row.items ≡ length inputs.each.items → HasEnded gives a b p q x first.value last.value got → (quanta : List ℕ) → TakesTurn a b x (drr quanta) (Drr first) (Drr last) got
 drr-turn gives a b p q x first last got inputs e long h quanta row history ready holds =
     record {
       turned = record {
@@ -284,14 +285,14 @@ drr-turn gives a b p q x first last got inputs e long h quanta row history ready
         holds = goes.pulling.holds;
         outside = goes.outside;
       };
-      holds = subst (λ l. HoldsDeficits quanta (width row) (visits_before (with_turn a.moment l (history x))) last) (sym own_is)
-          (subst (λ l. HoldsDeficits quanta (width row) l last) (turn-before a.moment h.own (history x)) law.1);
+      holds = subst (λ l. HoldsDeficits quanta (width row) (visits_before (with_turn a.moment l (history x))) last.value) (sym own_is)
+          (subst (λ l. HoldsDeficits quanta (width row) l last.value) (turn-before a.moment h.own (history x)) law.1);
     }
   where
-    wide : length first.row.items ≡ width row
+    wide : length first.value.row.items ≡ width row
     wide = long ∙ stands-width a.inputs.items x row inputs ready.stands e
 
-    law : EachAfter (LooksAtHeads (next_input (width row)) (deficit_covers quanta)) (visits_before (history x)) h.own × HoldsDeficits quanta (width row) (onto h.own (visits_before (history x))) last
+    law : EachAfter (LooksAtHeads (next_input (width row)) (deficit_covers quanta)) (visits_before (history x)) h.own × HoldsDeficits quanta (width row) (onto h.own (visits_before (history x))) last.value
     law = h.made.lawful quanta (width row) (visits_before (history x)) holds
 
     goes : GoesOnBy a b history x row [] [] h.own
@@ -302,14 +303,19 @@ drr-turn gives a b p q x first last got inputs e long h quanta row history ready
     own_is : visits_of x (added a b) ≡ h.own
     own_is = pulling-own (now_of a) history x row b.states.items (added a b) h.own goes.pulling
 
--- It had its turn.
+-- It had its turn, by what stands in one box before it and in one after it.
 pub had-ended : {S : Type 0} (gives : S → ℕ → Option Packet → S → Type 0) (a b : Nodes) (p q : S) (x : ℕ) (first last : Deficits) (got : Option Packet) → CanPull a x (edges_of a.inputs.items x) → RowFits a.inputs.items x first
-    → HasEnded gives a b p q x first last got → HadTurn gives a b p q x (Drr first) (Drr last) got
-had-ended gives a b p q x first last got can fits h =
-    let here : HasRow a.inputs.items x first = row-there a.inputs.items x first can.there fits in
-    record {
-      keeps = keeps-order a b x here.inputs (map input_of h.own) can here.place (inputs-apart h.own h.made.apart) h.made.keeps;
-      answers = h.made.answers;
-      fits = subst (λ n. IfSome (slice_get a.inputs.items x) (λ (y : Inputs). n ≡ length y.each.items)) (sym h.made.length_is) fits;
-      turn = drr-alone a b x first (Drr last) got (drr-turn gives a b p q x first last got here.inputs here.place here.long h);
-    }
+    → HasEnded gives a b p q x first last got → (held holds : Box Deficits) → held.value ≡ first → holds.value ≡ last → HadTurn gives a b p q x (Drr held) (Drr holds) got
+had-ended gives a b p q x first last got can fits h held holds before after =
+    boxed (subst (RowFits a.inputs.items x) (sym before) fits)
+    (subst (λ d. HasEnded gives a b p q x held.value d got) (sym after) (subst (λ d. HasEnded gives a b p q x d last got) (sym before) h))
+  where
+    boxed : RowFits a.inputs.items x held.value → HasEnded gives a b p q x held.value holds.value got → HadTurn gives a b p q x (Drr held) (Drr holds) got
+    boxed fits h =
+        let here : HasRow a.inputs.items x held.value = row-there a.inputs.items x held.value can.there fits in
+        record {
+          keeps = keeps-order a b x here.inputs (map input_of h.own) can here.place (inputs-apart h.own h.made.apart) h.made.keeps;
+          answers = h.made.answers;
+          fits = subst (λ n. IfSome (slice_get a.inputs.items x) (λ (y : Inputs). n ≡ length y.each.items)) (sym h.made.length_is) fits;
+          turn = drr-alone a b x held (Drr holds) got (drr-turn gives a b p q x held holds got here.inputs here.place here.long h);
+        }

@@ -1,5 +1,6 @@
 -- A state is one of a single class: of the others it holds nothing, so that they have no turn by it.
 use Rattle.std.proofs.Common.{◌≡◌, ℕ, ◌<◌, List, length, slice_get, Option, Some, IfSome, refl, ap, ◌∙◌, subst}
+use Rattle.std.specs.Global.{Box}
 use Rattle.clk_packet.specs.declared.packet.Packet.{Packet}
 use Rattle.clk_sched.specs.declared.session.nodes.Nodes.{Nodes}
 use Rattle.clk_sched.specs.declared.session.state.State.{State}
@@ -27,14 +28,14 @@ round_robin-alone a b x s now got h (drr quanta) row history ready holds = absur
 round_robin-alone a b x s now got h (stride tickets) row history ready holds = absurd holds
 round_robin-alone a b x s now got h (shaper rate burst) row history ready holds = absurd holds
 
-pub drr-alone : (a b : Nodes) (x : ℕ) (s : Deficits) (now : State) (got : Option Packet) → ((quanta : List ℕ) → TakesTurn a b x (drr quanta) (Drr s) now got) → (class : Class) → TakesTurn a b x class (Drr s) now got
+pub drr-alone : (a b : Nodes) (x : ℕ) (s : Box Deficits) (now : State) (got : Option Packet) → ((quanta : List ℕ) → TakesTurn a b x (drr quanta) (Drr s) now got) → (class : Class) → TakesTurn a b x class (Drr s) now got
 drr-alone a b x s now got h prio row history ready holds = absurd holds
 drr-alone a b x s now got h round_robin row history ready holds = absurd holds
 drr-alone a b x s now got h (drr quanta) row history ready holds = h quanta row history ready holds
 drr-alone a b x s now got h (stride tickets) row history ready holds = absurd holds
 drr-alone a b x s now got h (shaper rate burst) row history ready holds = absurd holds
 
-pub stride-alone : (a b : Nodes) (x : ℕ) (s : Passes) (now : State) (got : Option Packet) → ((tickets : List ℕ) → TakesTurn a b x (stride tickets) (Stride s) now got) → (class : Class) → TakesTurn a b x class (Stride s) now got
+pub stride-alone : (a b : Nodes) (x : ℕ) (s : Box Passes) (now : State) (got : Option Packet) → ((tickets : List ℕ) → TakesTurn a b x (stride tickets) (Stride s) now got) → (class : Class) → TakesTurn a b x class (Stride s) now got
 stride-alone a b x s now got h prio row history ready holds = absurd holds
 stride-alone a b x s now got h round_robin row history ready holds = absurd holds
 stride-alone a b x s now got h (drr quanta) row history ready holds = absurd holds

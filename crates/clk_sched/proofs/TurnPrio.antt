@@ -1,5 +1,5 @@
 -- The turn of a PrioSched.
-use Rattle.std.proofs.Common.{◌≡◌, ℕ, ◌+◌, ◌<◌, ◌≤◌, List, length, slice_get, Option, Some, IsSome, IfSome, sym, ap, ◌∙◌, subst, arith}
+use Rattle.std.proofs.Common.{◌≡◌, ℕ, ◌+◌, ◌<◌, ◌≤◌, List, length, slice_get, Option, Some, None, IsSome, IfSome, refl, sym, ap, ◌∙◌, subst, arith}
 use Rattle.std.specs.List.{AllByRecursion, range_with_len}
 use Rattle.clk_packet.specs.declared.packet.Packet.{Packet}
 use Rattle.clk_sched.specs.declared.session.inputs.Inputs.{Inputs}
@@ -8,12 +8,13 @@ use Rattle.clk_sched.specs.declared.session.state.State.TheVariants.{Prio}
 use Rattle.clk_sched.specs.Tree.{prio, width}
 use Rattle.clk_sched.specs.Turns.{AsksInOrder}
 use Rattle.clk_sched.specs.Holds.OfClass.{IsPrio}
-use Rattle.clk_sched.specs.Places.{edges_of, edges_in, input_at}
+use Rattle.clk_sched.specs.Places.{edges_of, edges_at, edges_in, input_at}
 use Rattle.clk_sched.specs.Pulling.{CanPull, AsksAll, TakesTurn, now_of, asked_in_order}
-use Rattle.clk_sched.specs.Turning.{HasAskedAll, WasPulled}
+use Rattle.clk_sched.specs.Turning.{HasAsked, HasAskedAll, WasPulled}
 use Rattle.clk_sched.proofs.Orders.{IsOrderOf, priority-order}
 use Rattle.clk_sched.proofs.InOrder.{IsWithin, packet_of, turned-in-order, within-range}
-use Rattle.clk_sched.proofs.Ordered.{IsOrderAt, stands-width, can-ask, inputs-asked, had-order}
+use Rattle.clk_sched.proofs.Asking.{keeps-more}
+use Rattle.clk_sched.proofs.Ordered.{IsOrderAt, item-there, stands-width, can-ask, inputs-asked, had-order}
 use Rattle.clk_sched.proofs.Placed.{some-same, state-there, fits-there, pulled-still}
 use Rattle.clk_sched.proofs.TurnOfClass.{prio-alone, prio-there}
 
@@ -46,3 +47,37 @@ prio-pulled gives a b q r x n p o can holds e all within asked =
     pulled-still gives a b q r x Prio (packet_of o) state
     (had-order gives a b q r x (range_with_len 0 n) o Prio Prio can (prio-order a.inputs.items x n p e all) asked (fits-there a.inputs.items a.states.items x Prio can.fit state)
     (prio-alone a b x Prio (packet_of o) (prio-turn a b x n p o e all (within-range 0 n o within) asked.asks)))
+
+-- what one input gave, as the first of its order
+abbrev at_first : Option Packet → Option (ℕ × Packet)
+at_first None = None
+at_first (Some p) = Some (0, p)
+
+packet-first : (got : Option Packet) → packet_of (at_first got) ≡ got
+packet-first None = refl
+packet-first (Some p) = refl
+
+within-first : (got : Option Packet) → IfSome (at_first got) (λ k. k.0 < 1)
+within-first None = tt
+within-first (Some p) = omega arith
+
+asked-first : {S : Type 0} (gives : S → ℕ → Option Packet → S → Type 0) (a b : Nodes) (q r : S) (x : ℕ) (got : Option Packet) → HasAsked gives a b q r x 0 got → HasAskedAll gives a b q r x (range_with_len 0 1) (at_first got)
+asked-first gives a b q r x None h = record { keeps = keeps-more a b _ _ h.keeps (omega arith); answers = h.answers; asks = h.asks }
+asked-first gives a b q r x (Some p) h = record { keeps = keeps-more a b _ _ h.keeps (omega arith); answers = h.answers; asks = h.asks }
+
+-- A PrioSched over one input was pulled once it asked that.
+pub device-pulled : {S : Type 0} (gives : S → ℕ → Option Packet → S → Type 0) (a b : Nodes) (q r : S) (x : ℕ) (got : Option Packet) → CanPull a x (edges_of a.inputs.items x) → IfSome (slice_get a.states.items x) IsPrio
+    → IfSome (slice_get a.inputs.items x) (λ (p : Inputs). length p.each.items ≡ 1) → HasAsked gives a b q r x 0 got → WasPulled gives a b q r x got
+device-pulled gives a b q r x got can holds one asked =
+    let here = item-there a.inputs.items x can.there in
+    subst (WasPulled gives a b q r x) (packet-first got)
+    (prio-pulled gives a b q r x 1 here.0 (at_first got) can holds here.1 (sym (subst (λ o. IfSome o (λ (p : Inputs). length p.each.items ≡ 1)) here.1 one)) (within-first got) (asked-first gives a b q r x got asked))
+
+-- what asking the one input takes
+pub device-asks : (a : Nodes) (x : ℕ) → CanPull a x (edges_of a.inputs.items x) → IfSome (slice_get a.inputs.items x) (λ (p : Inputs). length p.each.items ≡ 1)
+    → CanPull a x (edges_at a.inputs.items x 0) × IsSome (input_at a.inputs.items x 0)
+device-asks a x can one =
+    let here = item-there a.inputs.items x can.there in
+    let may = prio-asks a x 1 here.0 can here.1 (sym (subst (λ o. IfSome o (λ (p : Inputs). length p.each.items ≡ 1)) here.1 one)) in
+    let room = may.0.room in
+    (record { wired = can.wired; fit = can.fit; there = can.there; room = omega (arith, room); moment = can.moment }, may.1.0)

@@ -3,6 +3,7 @@ use Rattle.std.proofs.Common.{◌≡◌, ℕ, suc, ◌+◌, ◌<◌, List, [], �
 use Rattle.std.specs.List.{AllByRecursion}
 use Rattle.std.proofs.lemmas.List.{length-map}
 use Rattle.std.proofs.lemmas.Option.{slice_get-get_or}
+use Rattle.std.specs.Global.{Box}
 use Rattle.clk_packet.specs.declared.packet.Packet.{Packet}
 use Rattle.clk_sched.specs.declared.visit.Visit.{Visit}
 use Rattle.clk_sched.specs.declared.session.inputs.Inputs.{Inputs}
@@ -77,20 +78,20 @@ none-turn moment (v ∷ own) tickets turns s e holds = passes-none tickets turns
 pub stride-none : (a : Nodes) (x : ℕ) (order : List ℕ) (s : Passes) → HoldsThen a x order None s s
 stride-none a x order s tickets turns holds = none-turn a.moment (asked_in_order (now_of a) x order None) tickets turns s (in_order-giver (now_of a) x order None tt) holds
 
-pub stride-turn : (a b : Nodes) (x : ℕ) (s z : Passes) (order : List ℕ) (r : Option (ℕ × Packet)) (tickets : List ℕ) → x < length a.inputs.items → FitsAt a.inputs.items x s → order ≡ inputs_in s.row.items → IsWithin order r
-    → AsksAll a b x order (asked_in_order (now_of a) x order r) → HoldsThen a x order r s z → TakesTurn a b x (stride tickets) (Stride s) (Stride z) (packet_of r)
+pub stride-turn : (a b : Nodes) (x : ℕ) (s z : Box Passes) (order : List ℕ) (r : Option (ℕ × Packet)) (tickets : List ℕ) → x < length a.inputs.items → FitsAt a.inputs.items x s.value → order ≡ inputs_in s.value.row.items → IsWithin order r
+    → AsksAll a b x order (asked_in_order (now_of a) x order r) → HoldsThen a x order r s.value z.value → TakesTurn a b x (stride tickets) (Stride s) (Stride z) (packet_of r)
 stride-turn a b x s z order r tickets there fits is within asked follows row history ready holds =
     record {
       turned = by.turned;
-      holds = subst (λ turns. HoldsPasses tickets turns z) (sym (after-own a b history x own by.own_is)) (follows tickets (history x) holds);
+      holds = subst (λ turns. HoldsPasses tickets turns z.value) (sym (after-own a b history x own by.own_is)) (follows tickets (history x) holds);
     }
   where
     own : List Visit
     own = asked_in_order (now_of a) x order r
 
     by : HasTurnedBy a b history x (stride tickets) row own (packet_of r)
-    by = turned-in-order a b history x (stride tickets) row order r ready within asked (row-order a.inputs.items x row order there ready.stands (stride-asks a.inputs.items x s order fits is))
-        (λ h. subst (λ l. AsksInOrder l own) (is ∙ order-is tickets (history x) s holds) h)
+    by = turned-in-order a b history x (stride tickets) row order r ready within asked (row-order a.inputs.items x row order there ready.stands (stride-asks a.inputs.items x s.value order fits is))
+        (λ h. subst (λ l. AsksInOrder l own) (is ∙ order-is tickets (history x) s.value holds) h)
 
 -- what is wanted for asking the inputs of its row
 pub stride-may : (a : Nodes) (x : ℕ) (s : Passes) (row : List Rank) → CanPull a x (edges_of a.inputs.items x) → FitsAt a.inputs.items x s → row ≡ s.row.items
@@ -101,12 +102,10 @@ stride-may a x s row can fits e =
 -- The input at a place of the row gave a packet.
 pub had-won : {S : Type 0} (gives : S → ℕ → Option Packet → S → Type 0) (a b : Nodes) (q r : S) (x place : ℕ) (packet : Packet) (s z : Passes) (row : List Rank) (o : Option (ℕ × Packet)) → CanPull a x (edges_of a.inputs.items x)
     → FitsAt a.inputs.items x s → row ≡ s.row.items → o ≡ Some (place, packet) → IfSome o (λ k. k.0 < length row) → HasAskedAll gives a b q r x (inputs_in row) o → IsWonAt s z place
-    → HadTurn gives a b q r x (Stride s) (Stride z) (Some packet)
-had-won gives a b q r x place packet s z row o can fits e is within asked won =
-    had-order gives a b q r x order (Some (place, packet)) (Stride s) (Stride z) can (stride-asks a.inputs.items x s order fits (ap inputs_in e)) given
-    (stride-fits a.inputs.items (now_of a) x place a.moment packet order s z fits (ap inputs_in e) below won)
-    (stride-alone a b x s (Stride z) (Some packet)
-    (λ tickets. stride-turn a b x s z order (Some (place, packet)) tickets can.there fits (ap inputs_in e) below given.asks (stride-won a x place packet order s z (ap inputs_in e) below won)))
+    → (held holds : Box Passes) → held.value ≡ s → holds.value ≡ z → HadTurn gives a b q r x (Stride held) (Stride holds) (Some packet)
+had-won gives a b q r x place packet s z row o can fits e is within asked won held holds before after =
+    boxed (subst (FitsAt a.inputs.items x) (sym before) fits) (ap inputs_in e ∙ ap (λ (p : Passes). inputs_in p.row.items) (sym before))
+    (subst (λ p. IsWonAt held.value p place) (sym after) (subst (λ p. IsWonAt p z place) (sym before) won))
   where
     order : List ℕ
     order = inputs_in row
@@ -117,11 +116,22 @@ had-won gives a b q r x place packet s z row o can fits e is within asked won =
     below : place < length order
     below = subst (λ n. place < n) (sym (length-map row (λ (k : Rank). k.input))) (subst (λ k. IfSome k (λ g. g.0 < length row)) is within)
 
+    boxed : FitsAt a.inputs.items x held.value → order ≡ inputs_in held.value.row.items → IsWonAt held.value holds.value place → HadTurn gives a b q r x (Stride held) (Stride holds) (Some packet)
+    boxed fits e won =
+        had-order gives a b q r x order (Some (place, packet)) (Stride held) (Stride holds) can (stride-asks a.inputs.items x held.value order fits e) given
+        (stride-fits a.inputs.items (now_of a) x place a.moment packet order held.value holds.value fits e below won)
+        (stride-alone a b x held (Stride holds) (Some packet)
+        (λ tickets. stride-turn a b x held holds order (Some (place, packet)) tickets can.there fits e below given.asks (stride-won a x place packet order held.value holds.value e below won)))
+
 -- None of them gave one.
 pub had-lost : {S : Type 0} (gives : S → ℕ → Option Packet → S → Type 0) (a b : Nodes) (q r : S) (x : ℕ) (s : Passes) (row : List Rank) (o : Option (ℕ × Packet)) → CanPull a x (edges_of a.inputs.items x) → FitsAt a.inputs.items x s
-    → row ≡ s.row.items → o ≡ None → HasAskedAll gives a b q r x (inputs_in row) o → HadTurn gives a b q r x (Stride s) (Stride s) None
-had-lost gives a b q r x s row o can fits e is asked =
+    → row ≡ s.row.items → o ≡ None → HasAskedAll gives a b q r x (inputs_in row) o → (held holds : Box Passes) → held.value ≡ s → holds.value ≡ s → HadTurn gives a b q r x (Stride held) (Stride holds) None
+had-lost gives a b q r x s row o can fits e is asked held holds before after =
     let order = inputs_in row in
+    let here : order ≡ inputs_in held.value.row.items = ap inputs_in e ∙ ap (λ (p : Passes). inputs_in p.row.items) (sym before) in
+    let still : holds.value ≡ held.value = after ∙ sym before in
+    let fits_here : FitsAt a.inputs.items x held.value = subst (FitsAt a.inputs.items x) (sym before) fits in
     let given : HasAskedAll gives a b q r x order None = subst (HasAskedAll gives a b q r x order) is asked in
-    had-order gives a b q r x order None (Stride s) (Stride s) can (stride-asks a.inputs.items x s order fits (ap inputs_in e)) given fits
-    (stride-alone a b x s (Stride s) None (λ tickets. stride-turn a b x s s order None tickets can.there fits (ap inputs_in e) tt given.asks (stride-none a x order s)))
+    had-order gives a b q r x order None (Stride held) (Stride holds) can (stride-asks a.inputs.items x held.value order fits_here here) given (subst (FitsAt a.inputs.items x) (sym still) fits_here)
+    (stride-alone a b x held (Stride holds) None
+    (λ tickets. stride-turn a b x held holds order None tickets can.there fits_here here tt given.asks (subst (HoldsThen a x order None held.value) (sym still) (stride-none a x order held.value))))

@@ -14,7 +14,7 @@ heads_in row = filter_map (λ (s : Served). s.head) row
 abbrev pub heads_of : State → List Packet
 heads_of Prio = []
 heads_of (RoundRobin b) = []
-heads_of (Drr d) = heads_in d.row.items
+heads_of (Drr d) = heads_in d.value.row.items
 heads_of (Stride p) = []
 heads_of (Shaper b) = []
 

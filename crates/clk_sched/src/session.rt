@@ -14,15 +14,13 @@ mod tests;
 
 use crate::ask::Ask;
 use crate::session::nodes::Nodes;
+use crate::session::prio::{DEVICE, pull_device};
 use crate::session::results::{add, held_heads};
 use crate::tree::Tree;
 use crate::visit::Visit;
 use clk_packet::{Fault, Packet};
 use std::alloc::Global;
 use std::marker::Model;
-
-/// The node number of the device.
-const DEVICE: u16 = 0;
 
 /// A tree of schedulers with all that its nodes hold, and the log of every visit that they made.
 #[derive(Drop)]
@@ -100,7 +98,7 @@ impl Session {
         self.nodes.log.reserve(edges)?;
         self.emitted.reserve(1)?;
         self.nodes.moment = self.nodes.moment.max(moment);
-        let got = self.nodes.pull(q, DEVICE);
+        let got = pull_device(&mut self.nodes, q);
         self.nodes.pull += 1;
         add(&mut self.emitted, got);
         Ok(got)

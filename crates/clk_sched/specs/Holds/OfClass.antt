@@ -21,8 +21,8 @@ pub record FitsPasses (inputs : ℕ) (p : Passes) : Type 0 where
 abbrev pub Fits : State → ℕ → Type 0
 Fits Prio inputs = ⊤
 Fits (RoundRobin b) inputs = b.input < inputs
-Fits (Drr d) inputs = length d.row.items ≡ inputs
-Fits (Stride p) inputs = FitsPasses inputs p
+Fits (Drr d) inputs = length d.value.row.items ≡ inputs
+Fits (Stride p) inputs = FitsPasses inputs p.value
 Fits (Shaper b) inputs = 1 ≤ inputs
 
 -- a state is that of a PrioSched
@@ -88,7 +88,7 @@ Holds (drr quanta) inputs turns s = Serves s
     Serves : State → Type 0
     Serves Prio = ⊥
     Serves (RoundRobin b) = ⊥
-    Serves (Drr d) = HoldsDeficits quanta inputs (visits_before turns) d
+    Serves (Drr d) = HoldsDeficits quanta inputs (visits_before turns) d.value
     Serves (Stride p) = ⊥
     Serves (Shaper b) = ⊥
 Holds (stride tickets) inputs turns s = Ranks s
@@ -97,7 +97,7 @@ Holds (stride tickets) inputs turns s = Ranks s
     Ranks Prio = ⊥
     Ranks (RoundRobin b) = ⊥
     Ranks (Drr d) = ⊥
-    Ranks (Stride p) = HoldsPasses tickets turns p
+    Ranks (Stride p) = HoldsPasses tickets turns p.value
     Ranks (Shaper b) = ⊥
 Holds (shaper rate burst) inputs turns s = Fills s
   where

@@ -82,6 +82,8 @@ impl Deficits {
     ghost use Rattle.clk_sched.specs.Holds.Deficit.{HoldsDeficits};
     ghost use Rattle.clk_sched.specs.Held.{heads_in};
     ghost use Rattle.std.specs.Vec.{vec_len, vec_capacity};
+    ghost use Rattle.std.specs.Global.{Box};
+    ghost use Rattle.clk_sched.specs.declared.session.drr.Deficits.{Deficits};
     ghost use Rattle.clk_sched.specs.Places.{edges_of, edges_at, input_at, Answers, queue_asked};
     ghost use Rattle.clk_sched.specs.Pulling.{CanPull, Keeps, added};
     ghost use Rattle.clk_sched.specs.Turning.{WasPulled, HadTurn};
@@ -157,7 +159,7 @@ impl Deficits {
     fn turn<Q: Ask>(&mut self, nodes: &mut Nodes, q: &mut Q, node: u16) -> Option<Packet>
         requires can_pull { CanPull nodes.old node (edges_of nodes.old.inputs.items node) }
         requires fits { IfSome (slice_get nodes.old.inputs.items node) (λ p. length self.old.row.items ≡ length p.each.items) }
-        ensures { HadTurn Q.gives nodes.old nodes.new q.old q.new node (Drr self.old) (Drr self.new) result }
+        ensures { (held holds : Box Deficits) → held.value ≡ self.old → holds.value ≡ self.new → HadTurn Q.gives nodes.old nodes.new q.old q.new node (Drr held) (Drr holds) result }
     {
         for _ in 0..self.row.len() {
             let (got, passed) = self.look(nodes, q, node);

@@ -37,7 +37,8 @@ impl Nodes {
     ghost use Rattle.clk_sched.specs.Turning.{with_state, HasAsked, HasAskedAll, WasPulled};
 
     /// Pulls a node, as its class does, and answers its result.
-    // A Shaper is told first, and what it does stands in here, so that a chain of Shapers is one short call each.
+    // A Shaper is told first, and what it does stands in here, so that a chain of Shapers is one short call each. What the other
+    // classes need stands apart.
     #[cycle(pull)]
     #[inline(never)]
     pub fn pull<Q: Ask>(&mut self, q: &mut Q, node: u16) -> Option<Packet>
@@ -47,6 +48,16 @@ impl Nodes {
         if let State::Shaper(_) = self.states[node as usize] {
             return Bucket::pull(self, q, node);
         }
+        self.pull_by_class(q, node)
+    }
+
+    // Pulls a node of any class.
+    #[cycle(pull)]
+    #[inline(never)]
+    fn pull_by_class<Q: Ask>(&mut self, q: &mut Q, node: u16) -> Option<Packet>
+        requires can_pull { CanPull self.old node (edges_of self.old.inputs.items node) }
+        ensures { WasPulled Q.gives self.old self.new q.old q.new node result }
+    {
         match self.states[node as usize] {
             State::Prio => pull_prio(self, q, node),
             State::RoundRobin(_) => Beginning::pull(self, q, node),

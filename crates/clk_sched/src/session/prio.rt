@@ -1,6 +1,6 @@
 //! The pull of a PrioSched, and of the device, which is one over one input.
 
-ghost use Rattle.std.specs.Prelude.{IfSome, slice_get};
+ghost use Rattle.std.specs.Prelude.{◌≡◌, IfSome, length, slice_get};
 ghost use Rattle.clk_sched.specs.Places.{edges_of};
 ghost use Rattle.clk_sched.specs.Holds.OfClass.{IsPrio};
 ghost use Rattle.clk_sched.specs.Pulling.{CanPull};
@@ -9,6 +9,20 @@ ghost use Rattle.clk_sched.specs.Turning.{WasPulled};
 use crate::ask::Ask;
 use crate::session::nodes::Nodes;
 use clk_packet::Packet;
+
+/// The node number of the device.
+pub const DEVICE: u16 = 0;
+
+/// Pulls the device. It asks its one input, with nothing to choose.
+#[inline]
+pub fn pull_device<Q: Ask>(nodes: &mut Nodes, q: &mut Q) -> Option<Packet>
+    requires can_pull { CanPull nodes.old 0 (edges_of nodes.old.inputs.items 0) }
+    requires holds { IfSome (slice_get nodes.old.states.items 0) IsPrio }
+    requires one { IfSome (slice_get nodes.old.inputs.items 0) (λ p. length p.each.items ≡ 1) }
+    ensures { WasPulled Q.gives nodes.old nodes.new q.old q.new 0 result }
+{
+    nodes.look(q, DEVICE, 0)
+}
 
 /// Pulls a PrioSched.
 #[cycle(pull)]

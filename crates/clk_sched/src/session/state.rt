@@ -6,12 +6,13 @@ use crate::session::shaper::Bucket;
 use crate::session::stride::Passes;
 
 /// What a node holds from pull to pull, by its class. The device holds nothing, as a PrioSched.
+// What is taken out for a turn stands in a box, so that the turn moves a pointer and not all of it.
 #[derive(Drop)]
 pub enum State {
     Prio,
     RoundRobin(Beginning),
-    Drr(Deficits),
-    Stride(Passes),
+    Drr(Box<Deficits>),
+    Stride(Box<Passes>),
     Shaper(Bucket),
 }
 

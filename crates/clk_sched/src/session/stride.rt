@@ -96,6 +96,8 @@ impl Passes {
     ghost use Rattle.clk_sched.specs.Places.{edges_of};
     ghost use Rattle.clk_sched.specs.Pulling.{CanPull};
     ghost use Rattle.clk_sched.specs.Turning.{WasPulled, HadTurn};
+    ghost use Rattle.std.specs.Global.{Box};
+    ghost use Rattle.clk_sched.specs.declared.session.stride.Passes.{Passes};
     ghost use Rattle.clk_sched.specs.declared.session.state.State.TheVariants.{Stride};
     ghost use Rattle.clk_sched.specs.Holds.OfClass.{FitsPasses, IsStride};
 
@@ -120,7 +122,7 @@ impl Passes {
     fn turn<Q: Ask>(&mut self, nodes: &mut Nodes, q: &mut Q, node: u16) -> Option<Packet>
         requires can_pull { CanPull nodes.old node (edges_of nodes.old.inputs.items node) }
         requires fits { IfSome (slice_get nodes.old.inputs.items node) (λ p. FitsPasses (length p.each.items) self.old) }
-        ensures { HadTurn Q.gives nodes.old nodes.new q.old q.new node (Stride self.old) (Stride self.new) result }
+        ensures { (held holds : Box Passes) → held.value ≡ self.old → holds.value ≡ self.new → HadTurn Q.gives nodes.old nodes.new q.old q.new node (Stride held) (Stride holds) result }
     {
         match nodes.ask_in_order(q, node, self.row()) {
             Some((place, packet)) => {

@@ -111,8 +111,11 @@ impl Class {
         match self {
             Class::Prio => Ok(State::Prio),
             Class::RoundRobin => Ok(State::RoundRobin(Beginning { input: 0 })),
-            Class::Drr(quanta) => Ok(State::Drr(Deficits::new(alloc, quanta)?)),
-            Class::Stride(tickets) => Ok(State::Stride(Passes::new(alloc, tickets)?)),
+            Class::Drr(quanta) => Ok(State::Drr(Box::new(alloc, Deficits::new(alloc, quanta)?)?)),
+            Class::Stride(tickets) => Ok(State::Stride(Box::new(
+                alloc,
+                Passes::new(alloc, tickets)?,
+            )?)),
             Class::Shaper(rate, burst) => Ok(State::Shaper(Bucket::new(*rate, *burst))),
         }
     }

@@ -1,8 +1,12 @@
-use Rattle.std.proofs.Common.{◌≡◌, ◌+◌, ◌<◌, true, false, ◌∷◌, [], ◌++◌, length, Some, None, refl, sym, ap, ap₂, ◌∙◌, subst, arith}
+use Rattle.std.proofs.Common.{IfSome, slice_get, ◌≡◌, ◌+◌, ◌<◌, true, false, ◌∷◌, [], ◌++◌, length, Some, None, refl, sym, ap, ap₂, ◌∙◌, subst, arith}
+use Rattle.std.specs.Global.{Box}
 use Rattle.std.specs.List.{range_with_len}
 use Rattle.std.proofs.lemmas.List.{length-map}
 use Rattle.std.proofs.lemmas.List.FromFn.{length-range_with_len, get_or-range_with_len}
+use Rattle.clk_sched.specs.declared.session.drr.Deficits.{Deficits}
+use Rattle.clk_sched.specs.declared.session.stride.Passes.{Passes}
 use Rattle.clk_sched.specs.declared.session.stride.Rank.{Rank}
+use Rattle.clk_sched.specs.declared.session.inputs.Inputs.{Inputs}
 use Rattle.clk_sched.specs.declared.session.nodes.Nodes.{Nodes}
 use Rattle.clk_sched.specs.declared.session.inputs.Input.TheVariants.{Queue, Scheduler}
 use Rattle.clk_sched.specs.declared.session.state.State.TheVariants.{RoundRobin, Drr, Stride}
@@ -11,17 +15,21 @@ use Rattle.clk_sched.specs.Pulling.{added, inputs_in}
 use Rattle.clk_sched.specs.Looking.{looking}
 use Rattle.clk_sched.proofs.Asking.{added-none, keeps-none, keeps-more, answers-then, asking-first, asking-ready, asking-given, asking-next, asking-all}
 use Rattle.clk_sched.proofs.Asked.{entry, rank_at, entry-input, input-is, edges-scheduler, queue-visited, asks-queue, asks-child}
-use Rattle.clk_sched.proofs.Placed.{can-turn, pulled-back}
+use Rattle.clk_sched.proofs.Placed.{can-turn, kept-there, pulled-back}
 use Rattle.clk_sched.proofs.TurnPrio.{prio-asks, prio-pulled}
 use Rattle.clk_sched.proofs.TurnRoundRobin.{begins, may-first, may-second, had-first, had-second, had-none, few-first, few-second}
 use Rattle.clk_sched.proofs.Logged.{edge-there, keeps-logged, added-logged, asked-logged}
 use Rattle.clk_sched.proofs.LooksDrr.{answers-held, looks-held, looks-fresh}
 use Rattle.clk_sched.proofs.TurnDrr.{has-looked, making-first, making-can, making-next, making-passed, making-all, HasEnded, had-ended}
-use Rattle.clk_sched.proofs.TurnStride.{stride-may, had-won, had-lost}
+use Rattle.clk_sched.proofs.TurnStride.{FitsAt, stride-may, had-won, had-lost}
 use Rattle.clk_sched.proofs.TurnShaper.{shaper-may, shaper-refused, shaper-passed, shaper-returned}
 use Rattle.clk_sched.specs.Turning.{HasAskedAll, WasPulled}
 use Rattle.clk_sched.proofs.InOrder.{packet_of}
 use Rattle.clk_sched.proofs.session.+pull.Goals as goal
+
+-- a box with something else in it
+abbrev boxed : {X : Type 0} → Box X → X → Box X
+boxed b x = record { ptr = b.ptr; alloc = b.alloc; value = x }
 
 pub nodes::Nodes::ask-returns-in-Queue-clause-answers : goal.nodes::Nodes::ask-returns-in-Queue-clause-answers
 nodes::Nodes::ask-returns-in-Queue-clause-answers g t c =
@@ -352,12 +360,18 @@ drr::Deficits::pull-turn-got-requires g t c =
     let can = can-turn a c.take.new.self c.args.node (Drr c.in-Drr.deficits) c.take.ensures.taken (c.take.ensures.state ∙ ap Some c.in-Drr.is) c.requires.can_pull in
     let same = ap (λ (n : Nodes). length n.inputs.items) c.take.ensures.taken in
     let less = c.decreases in
-    λ κs le. (omega (arith, less, same), (search, (can.0, can.1)))
+    λ κs le. (omega (arith, less, same), (search, (can.0, subst (λ (d : Deficits). IfSome (slice_get c.take.new.self.inputs.items c.args.node) (λ (p : Inputs). length d.row.items ≡ length p.each.items)) (sym c.deref_mut.ensures.value) can.1)))
+
+pub drr::Deficits::pull-put-requires : goal.drr::Deficits::pull-put-requires
+drr::Deficits::pull-put-requires g t c =
+    let can = can-turn c.args.nodes.now c.take.new.self c.args.node (Drr c.in-Drr.deficits) c.take.ensures.taken (c.take.ensures.state ∙ ap Some c.in-Drr.is) c.requires.can_pull in
+    let turned = c.turn-got.ensures c.in-Drr.deficits (boxed c.in-Drr.deficits c.turn-got.new.self) (sym c.deref_mut.ensures.value) refl in
+    kept-there c.take.new.self c.turn-got.new.nodes c.args.node _ _ can.0 turned.keeps
 
 pub drr::Deficits::pull-returns : goal.drr::Deficits::pull-returns
 drr::Deficits::pull-returns g t c =
-    pulled-back g.Q.Ask.gives c.args.nodes.now c.take.new.self c.turn-got.new.nodes c.put.new.self c.args.q.now c.turn-got.new.q c.args.node _ (Drr c.in-Drr.deficits) (Drr c.turn-got.new.self) c.turn-got.result c.take.ensures.taken
-    (c.take.ensures.state ∙ ap Some c.in-Drr.is) c.requires.can_pull c.turn-got.ensures c.put.ensures
+    pulled-back g.Q.Ask.gives c.args.nodes.now c.take.new.self c.turn-got.new.nodes c.put.new.self c.args.q.now c.turn-got.new.q c.args.node _ (Drr c.in-Drr.deficits) (Drr _) c.turn-got.result c.take.ensures.taken
+    (c.take.ensures.state ∙ ap Some c.in-Drr.is) c.requires.can_pull (c.turn-got.ensures c.in-Drr.deficits _ (sym c.deref_mut.ensures.value) refl) c.put.ensures
 
 pub stride::Passes::pull-turn-got-requires : goal.stride::Passes::pull-turn-got-requires
 stride::Passes::pull-turn-got-requires g t c =
@@ -365,12 +379,18 @@ stride::Passes::pull-turn-got-requires g t c =
     let can = can-turn a c.take.new.self c.args.node (Stride c.in-Stride.passes) c.take.ensures.taken (c.take.ensures.state ∙ ap Some c.in-Stride.is) c.requires.can_pull in
     let same = ap (λ (n : Nodes). length n.inputs.items) c.take.ensures.taken in
     let less = c.decreases in
-    λ κs le. (omega (arith, less, same), (search, (can.0, can.1)))
+    λ κs le. (omega (arith, less, same), (search, (can.0, subst (λ (s : Passes). FitsAt c.take.new.self.inputs.items c.args.node s) (sym c.deref_mut.ensures.value) can.1)))
+
+pub stride::Passes::pull-put-requires : goal.stride::Passes::pull-put-requires
+stride::Passes::pull-put-requires g t c =
+    let can = can-turn c.args.nodes.now c.take.new.self c.args.node (Stride c.in-Stride.passes) c.take.ensures.taken (c.take.ensures.state ∙ ap Some c.in-Stride.is) c.requires.can_pull in
+    let turned = c.turn-got.ensures c.in-Stride.passes (boxed c.in-Stride.passes c.turn-got.new.self) (sym c.deref_mut.ensures.value) refl in
+    kept-there c.take.new.self c.turn-got.new.nodes c.args.node _ _ can.0 turned.keeps
 
 pub stride::Passes::pull-returns : goal.stride::Passes::pull-returns
 stride::Passes::pull-returns g t c =
-    pulled-back g.Q.Ask.gives c.args.nodes.now c.take.new.self c.turn-got.new.nodes c.put.new.self c.args.q.now c.turn-got.new.q c.args.node _ (Stride c.in-Stride.passes) (Stride c.turn-got.new.self) c.turn-got.result c.take.ensures.taken
-    (c.take.ensures.state ∙ ap Some c.in-Stride.is) c.requires.can_pull c.turn-got.ensures c.put.ensures
+    pulled-back g.Q.Ask.gives c.args.nodes.now c.take.new.self c.turn-got.new.nodes c.put.new.self c.args.q.now c.turn-got.new.q c.args.node _ (Stride c.in-Stride.passes) (Stride _) c.turn-got.result c.take.ensures.taken
+    (c.take.ensures.state ∙ ap Some c.in-Stride.is) c.requires.can_pull (c.turn-got.ensures c.in-Stride.passes _ (sym c.deref_mut.ensures.value) refl) c.put.ensures
 
 pub shaper::Bucket::pull-look-got-requires : goal.shaper::Bucket::pull-look-got-requires
 shaper::Bucket::pull-look-got-requires g t c =
