@@ -1,6 +1,5 @@
 -- Totals of packets, as the report counts them.
-use Rattle.std.specs.Prelude.{◌≡◌, ℕ, ◌+◌, ◌≤◌, List, ◌++◌, length, Some, slice_get, codes, decimal}
-use Rattle.clk_packet.specs.Limits.{most_sender}
+use Rattle.std.specs.Prelude.{◌≡◌, ℕ, ◌+◌, ◌<◌, List, ◌++◌, length, Some, slice_get, codes, decimal}
 use Rattle.clk_packet.specs.declared.packet.Packet.{Packet}
 use Rattle.clk_packet.specs.declared.tally.Tally.{Tally}
 use Rattle.clk_report.specs.declared.total.Total.{Total}
@@ -16,10 +15,9 @@ with_packet p total = record { packets = total.packets + 1; bytes = total.bytes 
 abbrev pub both : Total → Total → Total
 both one other = record { packets = one.packets + other.packets; bytes = one.bytes + other.bytes }
 
--- at the number of each sender stands the total of its packets
+-- at the number of each sender that the table has stands the total of its packets
 pub record AreTotals (packets : List Packet) (totals : List Total) : Type 0 where
-  pub count : length totals ≡ most_sender + 1
-  pub each : (s : ℕ) → s ≤ most_sender → slice_get totals s ≡ Some (total_of (packets_from s packets))
+  pub each : (s : ℕ) → s < length totals → slice_get totals s ≡ Some (total_of (packets_from s packets))
 
 abbrev pub words_text : List ℕ → Total → List ℕ
 words_text words total = words ++ numbers_text total.packets total.bytes

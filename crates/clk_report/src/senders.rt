@@ -1,13 +1,13 @@
 //! The report: what became of each sender's packets.
 
-ghost use Rattle.std.specs.Prelude.{◌≡◌, ◌+◌, ◌*◌, ◌≤◌, ◌++◌, List, drop, length};
+ghost use Rattle.std.specs.Prelude.{◌≡◌, ◌+◌, ◌*◌, ◌<◌, ◌≤◌, ◌++◌, List, All, drop, length};
 ghost use Rattle.clk_packet.specs.Bytes.{Wrote};
 ghost use Rattle.clk_packet.specs.declared.packet.Packet.{Packet};
 ghost use Rattle.clk_report.specs.Report.{report_text};
 ghost use Rattle.clk_report.specs.Totals.{AreTotals};
 
 use crate::line::{LINE, put_line};
-use crate::total::{SENDERS, Total, count_by_sender};
+use crate::total::{FEW, SENDERS, Total, count_by_sender};
 use clk_packet::{Fault, Packet, Sink, Tally, write_all};
 
 /// How many lines are written at a time.
@@ -30,7 +30,38 @@ pub fn report<W: Sink>(tallies: &[Tally], emitted: &[Packet], writer: &mut W) ->
     ensures { Wrote (W.Sink.taken writer.old) (W.Sink.taken writer.new)
         (W.Sink.failures writer.old) (W.Sink.failures writer.new) result (report_text emitted.now tallies.now) }
 {
-    let mut totals = [Total::NONE; SENDERS];
+    if senders_of(tallies) <= FEW {
+        write_lines::<FEW, W>(tallies, emitted, writer)
+    } else {
+        write_lines::<SENDERS, W>(tallies, emitted, writer)
+    }
+}
+
+/// How many totals a table has at least in which these tallies' senders stand: one more than the greatest of their numbers.
+fn senders_of(tallies: &[Tally]) -> usize
+    ensures within { All (λ t. t.sender < result) tallies.now }
+    ensures limit { result ≤ SENDERS }
+{
+    let mut senders = 0;
+    for tally in tallies {
+        senders = senders.max(usize::from(tally.sender) + 1);
+    }
+    senders
+}
+
+/// Writes the report by a table of N totals. It isn't inlined: the larger table shall not stand in the frame of a report of few senders.
+#[inline(never)]
+fn write_lines<const N: usize, W: Sink>(
+    tallies: &[Tally],
+    emitted: &[Packet],
+    writer: &mut W,
+) -> Result<(), Fault>
+    requires size { N ≤ SENDERS }
+    requires within { All (λ t. t.sender < N) tallies.now }
+    ensures { Wrote (W.Sink.taken writer.old) (W.Sink.taken writer.new)
+        (W.Sink.failures writer.old) (W.Sink.failures writer.new) result (report_text emitted.now tallies.now) }
+{
+    let mut totals = [Total::NONE; N];
     count_by_sender(&mut totals, emitted);
     let mut lines = [0; ROOM];
     let mut rest = tallies;
@@ -45,7 +76,8 @@ pub fn report<W: Sink>(tallies: &[Tally], emitted: &[Packet], writer: &mut W) ->
 }
 
 /// Puts the lines of some tallies, where these are the totals of what came out by sender, before this place, and gives where they start.
-fn put_lines(lines: &mut [u8], tallies: &[Tally], totals: &[Total; SENDERS], end: usize) -> usize
+fn put_lines(lines: &mut [u8], tallies: &[Tally], totals: &[Total], end: usize) -> usize
+    requires counted { All (λ t. t.sender < length totals.now) tallies.now }
     requires room { 512 * length tallies.now ≤ end }
     requires within { end ≤ length lines.old }
     ensures piece { (emitted : List Packet) → AreTotals emitted totals.now → drop result lines.new ≡ report_text emitted tallies.now ++ drop end lines.old }

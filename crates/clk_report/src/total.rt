@@ -8,6 +8,9 @@ use clk_packet::Packet;
 /// How many senders there may be.
 pub const SENDERS: usize = 65_536;
 
+/// How many totals a small table has, for a report whose senders' numbers are below it.
+pub const FEW: usize = 256;
+
 /// So many packets, and the sum of their lengths in bytes.
 #[derive(Clone, Copy)]
 pub struct Total {
@@ -59,12 +62,15 @@ impl Total {
     }
 }
 
-/// Counts packets by the numbers of their senders, in a table that has counted none.
-pub fn count_by_sender(totals: &mut [Total; SENDERS], packets: &[Packet])
+/// Counts packets by the numbers of their senders, in a table that has counted none. Those of a sender beyond the table are left out.
+pub fn count_by_sender(totals: &mut [Total], packets: &[Packet])
     requires none { AreTotals [] totals.old }
     ensures totals { AreTotals packets.now totals.new }
 {
     for packet in packets {
-        totals[usize::from(packet.sender)].add(*packet);
+        let sender = usize::from(packet.sender);
+        if sender < totals.len() {
+            totals[sender].add(*packet);
+        }
     }
 }

@@ -83,6 +83,67 @@ fn no_sender_has_no_line(rt: HostRuntime) -> Result<(), Fail> {
     Ok(())
 }
 
+// Two of them ask for the larger table.
+#[test]
+fn a_sender_is_beyond_the_small_table(rt: HostRuntime) -> Result<(), Fail> {
+    let (few, next, last) = (
+        packet(255, 0, 10),
+        packet(256, 0, 20),
+        packet(65_535, 0, 30),
+    );
+    let tallies = [
+        tally(rt.alloc(), 255, &[few], &[], &[])?,
+        tally(rt.alloc(), 256, &[next], &[], &[])?,
+        tally(rt.alloc(), 65_535, &[last], &[], &[])?,
+    ];
+    let expected = b"sender 255: sent 1 10, accepted 1 10, refused 0 0, evicted 0 0, emitted 1 10\n\
+        sender 256: sent 1 20, accepted 1 20, refused 0 0, evicted 0 0, emitted 1 20\n\
+        sender 65535: sent 1 30, accepted 1 30, refused 0 0, evicted 0 0, emitted 1 30\n";
+    assert_reports(&rt, rt.alloc(), &tallies, &[last, few, next], expected)?;
+    Ok(())
+}
+
+#[test]
+fn the_last_sender_of_the_small_table_is_counted(rt: HostRuntime) -> Result<(), Fail> {
+    let (first, second) = (packet(255, 0, 10), packet(255, 1, 20));
+    let tallies = [tally(rt.alloc(), 255, &[first, second], &[], &[])?];
+    let expected =
+        b"sender 255: sent 2 30, accepted 2 30, refused 0 0, evicted 0 0, emitted 2 30\n";
+    assert_reports(&rt, rt.alloc(), &tallies, &[first, second], expected)?;
+    Ok(())
+}
+
+#[test]
+fn the_first_sender_beyond_the_small_table_is_counted(rt: HostRuntime) -> Result<(), Fail> {
+    let first = packet(256, 0, 10);
+    let tallies = [tally(rt.alloc(), 256, &[first], &[], &[])?];
+    let expected =
+        b"sender 256: sent 1 10, accepted 1 10, refused 0 0, evicted 0 0, emitted 1 10\n";
+    assert_reports(&rt, rt.alloc(), &tallies, &[first], expected)?;
+    Ok(())
+}
+
+// Sender 2 has a place in the small table and no tally; 256, 257 and 65535 have neither.
+#[test]
+fn packets_of_senders_without_a_tally_are_left_out(rt: HostRuntime) -> Result<(), Fail> {
+    let first = packet(1, 0, 10);
+    let tallies = [
+        tally(rt.alloc(), 0, &[], &[], &[])?,
+        tally(rt.alloc(), 1, &[first], &[], &[])?,
+    ];
+    let emitted = [
+        packet(65_535, 0, 50),
+        packet(256, 0, 40),
+        first,
+        packet(257, 0, 30),
+        packet(2, 0, 20),
+    ];
+    let expected = b"sender 0: sent 0 0, accepted 0 0, refused 0 0, evicted 0 0, emitted 0 0\n\
+        sender 1: sent 1 10, accepted 1 10, refused 0 0, evicted 0 0, emitted 1 10\n";
+    assert_reports(&rt, rt.alloc(), &tallies, &emitted, expected)?;
+    Ok(())
+}
+
 // A packet of each sender there may be.
 fn one_of_each(alloc: Global) -> Result<Vec<Packet>, AllocError> {
     let mut packets = Vec::new(alloc);

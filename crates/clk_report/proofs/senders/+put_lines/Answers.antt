@@ -1,4 +1,5 @@
-use Rattle.std.proofs.Common.{ap, sym, ◌∙◌, ◌++◌, ◌-◌, length, take, drop, get_or, append_assoc, arith}
+use Rattle.std.proofs.Common.{ap, sym, ◌∙◌, ◌++◌, ◌-◌, ◌<◌, length, take, drop, get_or, append_assoc, arith}
+use Rattle.clk_packet.specs.declared.tally.Tally.{Tally}
 use Rattle.clk_report.specs.declared.total.Total.{Total}
 use Rattle.clk_report.specs.Report.{report_text}
 use Rattle.clk_report.specs.Totals.{line_text}
@@ -16,7 +17,10 @@ returns-clause-piece t c emitted are =
     let tallies = c.args.tallies.now in
     let after = drop c.args.end c.args.lines.now in
     let came_out = get_or c.args.totals.now c.from.result none in
-    let counted = total-at emitted c.args.totals.now tally.sender c.from.result none c.from.ensures (omega arith) are in
+    let first = ap (λ (t : Tally). t.sender) c.first-item.is in
+    let counted_first = c.requires.counted 0 tally (omega arith) in
+    let inside : tally.sender < length c.args.totals.now = omega (arith, first, counted_first) in
+    let counted = total-at emitted c.args.totals.now tally.sender c.from.result none c.from.ensures inside are in
     let rest = take (length tallies - 1) (drop 1 tallies) in
     c.put_line.ensures.piece ∙ ap (λ l. line_text came_out tally ++ l) (c.put_lines-end.ensures.piece emitted are) ∙ sym (append_assoc (line_text came_out tally) (report_text emitted rest) after)
     ∙ ap (λ l. l ++ after) (lines-first emitted tallies tally came_out c.in-len1-up.len_at_least c.first-item.is counted)

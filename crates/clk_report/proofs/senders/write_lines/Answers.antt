@@ -1,12 +1,23 @@
-use Rattle.std.proofs.Common.{refl, ap, ◌∙◌, ◌+◌, arith}
+use Rattle.std.proofs.Common.{◌≡◌, refl, ap, ◌∙◌, ◌+◌, ◌<◌, length, arith}
+use Rattle.std.proofs.lemmas.List.{length-replicate}
+use Rattle.std.proofs.lemmas.List.Elements.{All-take, All-drop}
 use Rattle.std.proofs.lemmas.Result.{err_from_is_err_and}
+use Rattle.clk_packet.specs.declared.tally.Tally.{Tally}
+use Rattle.clk_report.specs.declared.total.Total.{Total}
 use Rattle.clk_report.specs.Report.{report_text, tally_text}
 use Rattle.clk_report.proofs.TotalLemmas.{AreTotals-zero}
 use Rattle.clk_report.proofs.ReportLemmas.{HasWritten-part, HasWritten-cut, flat_map-split, lines-alone}
-use Rattle.clk_report.proofs.senders.report.Goals as goal
+use Rattle.clk_report.proofs.senders.write_lines.Goals as goal
 
 pub count_by_sender-requires : goal.count_by_sender-requires
-count_by_sender-requires g c = record { none = AreTotals-zero 65536 _ refl refl }
+count_by_sender-requires g c = record { none = AreTotals-zero _ _ refl }
+
+pub put_lines-start-requires-clause-counted : goal.put_lines-start-requires-clause-counted
+put_lines-start-requires-clause-counted g c =
+    let part = c.split_at.result.0.now in
+    let front = All-take (λ (t : Tally). t.sender < g.row.N) c.min.result c.loop-rest.rest.now c.loop-rest.invariant.within in
+    let many : length c.count_by_sender.new.totals ≡ g.row.N = omega (arith, c.count_by_sender.auto.totals, length-replicate {A = Total}) in
+    rw (many, c.split_at.ensures.front) front
 
 pub returns-in_err-write_all : goal.returns-in_err-write_all
 returns-in_err-write_all g c =
@@ -36,4 +47,5 @@ loop-rest-preserved g c =
     record {
       front = HasWritten-part _ _ _ _ (report_text emitted c.loop-rest.rest.now) (report_text emitted part) (report_text emitted after) c.loop-rest.invariant.front split wrote.whole;
       failures = wrote.succeeds ∙ c.loop-rest.invariant.failures;
+      within = rw c.split_at.ensures.back (All-drop (λ (t : Tally). t.sender < g.row.N) c.min.result c.loop-rest.rest.now c.loop-rest.invariant.within);
     }
