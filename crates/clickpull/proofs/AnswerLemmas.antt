@@ -11,14 +11,13 @@ use Rattle.clickpull.specs.declared.router.Router.{Router}
 use Rattle.clickpull.specs.declared.script.Line.{Line}
 use Rattle.clickpull.specs.declared.script.Line.TheVariants as line
 use Rattle.clk_tree.specs.declared.plan.parts.SenderSpec.{SenderSpec}
-use Rattle.clk_packet.specs.declared.packet.Packet.{Packet}
 use Rattle.clk_packet.specs.declared.tally.Tally.{Tally}
 use Rattle.clk_report.specs.Report.{report_text}
 use Rattle.clk_sched.specs.Results.{emitted}
 use Rattle.clk_tree.specs.PlanParts.{AreRising, SendsWithin}
 use Rattle.clickpull.specs.Script.{lines_of, command_in, commands_of, drain_in, is_drain, closing_moment, command_fault, line_fault, fault_at, first_fault, script_fault, most_bytes, most_lines, most_moment}
 use Rattle.clickpull.specs.Meaning.{Setup, sender_numbers, Event, offered, pulled, command_of, number_from, moment_in, accepted_in, evicted_in, event_text, closing_text, tally_after, log_of, CanHappen, WritesWith, StopsShort}
-use Rattle.clickpull.specs.Router.{IsNumber, sender_after, IsAt, CanSend, IsReady, IsReadable, AnswersCommand, AnswersLine, AnswersDrain, StopsDrain, StopsScript}
+use Rattle.clickpull.specs.Router.{IsNumber, sender_after, IsAt, CanSend, IsReady, IsReadable, AnswersCommand, AnswersLine, AnswersDrain, StopsDrain, StopsScript, report_of}
 use Rattle.clickpull.proofs.SenderLemmas.{numbers-its, alike-its}
 use Rattle.clickpull.proofs.ClosingLemmas.{its-latest}
 use Rattle.clickpull.proofs.ScriptLemmas.{readable-commands}
@@ -150,19 +149,19 @@ drained-commands setup router script rest after l number moment text d h =
 drained-moment : (script rest after : List ℕ) (l : Line) (moment : ℕ) → IsDrained script rest after l moment → closing_moment rest ≡ Some moment
 drained-moment script rest after l moment d = rw (d.first, d.drains) refl
 
--- the report of a router, where these packets came out
-report-its : (setup : Setup) (events : List Event) (router : Router) (packets : List Packet) → IsAt setup events router → packets ≡ emitted router.session.log
-    → report_text packets router.tallies.items ≡ report_text (emitted (log_of events)) (map (tally_after events) (sender_numbers setup))
-report-its setup events router packets at is = ap₂ report_text (is ∙ ap emitted at.log) at.tallies
+-- the report of a router
+report-its : (setup : Setup) (events : List Event) (router : Router) → IsAt setup events router
+    → report_of router true ≡ report_text (emitted (log_of events)) (map (tally_after events) (sender_numbers setup))
+report-its setup events router at = ap₂ report_text (ap emitted at.log) at.tallies
 
 -- a script that ends with a drain
-pub Writes-drained : (setup : Setup) (old new : Router) (script rest after : List ℕ) (l : Line) (number moment : ℕ) (before lines : List ℕ) (packets : List Packet) → HasAnswered setup old script rest number before
-    → IsDrained script rest after l moment → packets ≡ emitted new.session.log → AnswersDrain old new moment before lines
-    → WritesWith setup (commands_of script) (closing_moment script) (lines ++ report_text packets new.tallies.items) new.session.log
-Writes-drained setup old new script rest after l number moment before lines packets h d is answers =
+pub Writes-drained : (setup : Setup) (old new : Router) (script rest after : List ℕ) (l : Line) (number moment : ℕ) (before lines : List ℕ) → HasAnswered setup old script rest number before
+    → IsDrained script rest after l moment → AnswersDrain old new moment before lines
+    → WritesWith setup (commands_of script) (closing_moment script) (lines ++ report_of new true) new.session.log
+Writes-drained setup old new script rest after l number moment before lines h d answers =
     let ends = answers setup h.events h.leads in
     let all = h.events ++ ends.closed in
-    subst (λ drain. WritesWith setup (commands_of script) drain (lines ++ report_text packets new.tallies.items) new.session.log) (sym (drained-moment script rest after l moment d) ∙ h.not_closed)
+    subst (λ drain. WritesWith setup (commands_of script) drain (lines ++ report_of new true) new.session.log) (sym (drained-moment script rest after l moment d) ∙ h.not_closed)
     (record {
       writes = record {
         events = h.events;
@@ -171,7 +170,7 @@ Writes-drained setup old new script rest after l number moment before lines pack
         closes = ends.closes;
         can_happen = ends.leads.can_happen;
         lines =
-            ap₂ (λ a b. a ++ b) (ends.lines ∙ ap (λ l. l ++ flat_map closing_text ends.closed) h.lines) (report-its setup all new packets ends.leads is)
+            ap₂ (λ a b. a ++ b) (ends.lines ∙ ap (λ l. l ++ flat_map closing_text ends.closed) h.lines) (report-its setup all new ends.leads)
             ∙ append_assoc (flat_map event_text h.events) (flat_map closing_text ends.closed) _;
       };
       logged = ends.leads.log;

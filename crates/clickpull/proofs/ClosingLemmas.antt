@@ -1,5 +1,5 @@
 -- How a router closes.
-use Rattle.std.proofs.Common.{◌≡◌, ℕ, ◌+◌, ◌-◌, ◌≤◌, ◌==◌, Bool, true, false, if◌then◌else◌, List, [], ◌∷◌, ◌++◌, length, drop, filter, map, reverse, max, fold, append-nil, append_assoc, Option, Some, None, MatchOption, slice_get, ◌⊎◌, inl, inr, refl, sym, ap, ap₂, ◌∙◌, subst, arith}
+use Rattle.std.proofs.Common.{◌≡◌, ℕ, ◌+◌, ◌-◌, ◌≤◌, ◌==◌, Bool, true, false, if◌then◌else◌, List, [], ◌∷◌, ◌++◌, length, drop, filter, map, reverse, max, fold, append-nil, append_assoc, Option, Some, None, MatchOption, slice_get, ◌⊎◌, inl, inr, refl, sym, ap, ap₂, ◌∙◌, subst, arith, Result, Ok, Err, OnOk, IsOkUnless, MatchResult}
 use Rattle.std.specs.List.{filter_map, flat_map, range_with_len, AllByRecursion}
 use Rattle.std.proofs.lemmas.List.{map-append}
 use Rattle.std.proofs.lemmas.List.Elements.{filter_map-append}
@@ -198,3 +198,8 @@ Ends-closed setup events old new moment start before after at closing first give
         ap (flat_map visit_text) (visits ∙ ap log_of closing.closes.are ∙ pulls-log t more)
         ∙ closing-lines setup events t more (subst (λ l. CanHappen setup (events ++ l)) closing.closes.are closing.leads.can_happen) (omega arith)
         ∙ ap (flat_map closing_text) (sym closing.closes.are)
+
+-- what was done, unless memory was refused
+pub done-unless : (r : Result (Unit {0}) Fault) (P : Type 0) (Q : Fault → Type 0) → OnOk r P → IsOkUnless r Memory → MatchResult r (λ done. P) (λ fault. (fault ≡ Memory) ⊎ Q fault)
+done-unless (Ok x) P Q done memory = done
+done-unless (Err fault) P Q done memory = inl memory

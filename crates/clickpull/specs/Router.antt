@@ -1,5 +1,5 @@
 -- What the router's parts do, in the words of the definitions.
-use Rattle.std.specs.Prelude.{◌≡◌, ℕ, ◌+◌, ◌<◌, ◌≤◌, ◌^◌, List, [], ◌∷◌, ◌++◌, length, map, true, false, ◌==◌, ⊤, if◌then◌else◌, Option, Some, None, slice_get}
+use Rattle.std.specs.Prelude.{◌≡◌, ℕ, ◌+◌, ◌<◌, ◌≤◌, ◌^◌, List, [], ◌∷◌, ◌++◌, length, map, Bool, true, false, ◌==◌, ⊤, if◌then◌else◌, Option, Some, None, slice_get}
 use Rattle.std.specs.List.{list_any, filter_map, flat_map, cons_option, AllByRecursion}
 use Rattle.clk_packet.specs.declared.packet.Packet.{Packet}
 use Rattle.clk_packet.specs.declared.packet.Offered.{Offered}
@@ -22,6 +22,7 @@ use Rattle.clickpull.specs.declared.router.Router.{Router}
 use Rattle.clickpull.specs.declared.answer.Answer.{Answer}
 use Rattle.clk_sched.specs.Log.{visits_of, result_of}
 use Rattle.clk_sched.specs.Session.{counted_moment}
+use Rattle.clk_sched.specs.Results.{emitted}
 use Rattle.clickpull.specs.Script.{most_lines, most_moment}
 use Rattle.clk_report.specs.Report.{packets_from, report_text}
 use Rattle.clickpull.specs.Meaning.{Room, Setup, Event, offered, pulled, command_of, event_text, CanHappen, numbers_of, accepted_in, evicted_in, tally_after, history, log_of, sender_numbers, given_text, closing_text, Closes, DrainsShort, CannotClose}
@@ -219,14 +220,14 @@ pub record Ends (setup : Setup) (new : Router) (moment : ℕ) (before after : Li
 abbrev pub AnswersDrain : Router → Router → ℕ → List ℕ → List ℕ → Type 0
 AnswersDrain old new moment before after = (setup : Setup) (events : List Event) → IsAt setup events old → Ends setup new moment before after events
 
--- the report of a router, where these packets came out at the device, if it was closed
-abbrev pub report_of : Router → Option (List Packet) → List ℕ
-report_of router None = []
-report_of router (Some emitted) = report_text emitted router.tallies.items
+-- the report of a router, if it was closed
+abbrev pub report_of : Router → Bool → List ℕ
+report_of router false = []
+report_of router true = report_text (emitted router.session.log) router.tallies.items
 
 -- all that an answer writes: its lines, and then the report
 abbrev pub answer_text : Router → Answer → List ℕ
-answer_text router answer = answer.lines.items ++ report_of router answer.emitted
+answer_text router answer = answer.lines.items ++ report_of router answer.closes
 
 -- Why the closing drain of a router stops short: it made all the pulls that it is given. And why a script's does.
 abbrev pub StopsDrain : Router → ℕ → Fault → Type 0

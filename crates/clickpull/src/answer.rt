@@ -10,7 +10,7 @@ use crate::closing::close;
 use crate::router::Router;
 use crate::script::{Command, Line, MAX_BYTES, MAX_LINES};
 use crate::text::{push_offer, push_pull};
-use clk_packet::{Fault, Packets};
+use clk_packet::Fault;
 use std::alloc::Global;
 
 /// What a script comes to.
@@ -18,8 +18,8 @@ use std::alloc::Global;
 pub struct Answer {
     /// The lines of its commands, and of its closing.
     pub lines: Vec<u8>,
-    /// Where it closes, the packets that came out at the device, of which the report tells.
-    pub emitted: Option<Packets>,
+    /// Whether it closes: then the report follows.
+    pub closes: bool,
 }
 
 /// What a script comes to over a router to which nothing has happened. Each line is carried out as it is read, but a drain once the
@@ -48,17 +48,17 @@ pub fn answer_script(alloc: Global, router: &mut Router, script: &[u8]) -> Resul
         number += 1;
         if let Some(moment) = answer_line(router, number, line, &mut lines)? {
             only_blank_lines(number, after)?;
-            let emitted = close(alloc, router, moment, &mut lines)?;
+            close(router, moment, &mut lines)?;
             return Ok(Answer {
                 lines,
-                emitted: Some(emitted),
+                closes: true,
             });
         }
         rest = after;
     }
     Ok(Answer {
         lines,
-        emitted: None,
+        closes: false,
     })
 }
 

@@ -4,40 +4,31 @@ ghost use Rattle.std.specs.Prelude.{◌≡◌, ◌≤◌, ◌++◌, ◌⊎◌, M
 ghost use Rattle.std.specs.List.{flat_map};
 ghost use Rattle.clk_packet.specs.declared.fault.Fault.TheVariants.{Memory};
 ghost use Rattle.clk_sched.specs.declared.visit.Visit.{Visit};
-ghost use Rattle.clk_sched.specs.Results.{emitted};
 ghost use Rattle.clickpull.specs.Script.{most_moment};
 ghost use Rattle.clickpull.specs.Router.{IsReady, AnswersDrain, StopsDrain, visit_text};
 
 use crate::router::Router;
 use crate::text::push_pull;
-use clk_packet::{Fault, Packets};
+use clk_packet::Fault;
 use clk_sched::Visit;
-use std::alloc::Global;
 
 /// The node number of the device.
 const DEVICE: u16 = 0;
 
-/// Closes a router from this moment on, in ticks, adds a line for each packet that comes out, and answers all packets that came out at
-/// the device, in order.
+/// Closes a router from this moment on, in ticks, and adds a line for each packet that comes out.
 ///
 /// # Errors
 ///
 /// Fault 1 where memory is refused, and 17 where the pulls that the closing is given are not enough.
-pub fn close(
-    alloc: Global,
-    router: &mut Router,
-    moment: u64,
-    text: &mut Vec<u8>,
-) -> Result<Packets, Fault>
+pub fn close(router: &mut Router, moment: u64, text: &mut Vec<u8>) -> Result<(), Fault>
     requires ready { IsReady router.old }
     requires moment { moment ≤ most_moment }
     ensures { MatchResult result
-        (λ came_out. (came_out ≡ emitted router.new.session.log) × AnswersDrain router.old router.new moment text.old.items text.new.items)
+        (λ closed. AnswersDrain router.old router.new moment text.old.items text.new.items)
         (λ fault. (fault ≡ Memory) ⊎ StopsDrain router.old moment fault) }
 {
-    let logged = router.drain(alloc, moment)?;
-    push_given(text, &router.log()[logged..])?;
-    Ok(Packets::from(router.emitted(alloc)?))
+    let logged = router.drain(moment)?;
+    push_given(text, &router.log()[logged..])
 }
 
 /// Adds a line for each packet that came out by these visits. Fault 1 where memory is refused.

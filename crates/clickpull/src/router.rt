@@ -128,7 +128,7 @@ impl Router {
     /// # Errors
     ///
     /// Fault 1 where memory is refused, and 17 where the pulls that a session gives to its closing were not enough.
-    pub fn drain(&mut self, alloc: Global, moment: u64) -> Result<usize, Fault>
+    pub fn drain(&mut self, moment: u64) -> Result<usize, Fault>
         requires ready { IsReady self.old }
         requires moment { moment ≤ most_moment }
         ensures start { IfOk result (λ start. start ≡ length self.old.session.log) }
@@ -139,7 +139,7 @@ impl Router {
         // What happened to the queues stays a history of each by this law, which does nothing.
         calls_are_history();
         let logged = self.session.log().len();
-        let emitted = self.session.emitted(alloc)?.len() as u64;
+        let emitted = self.session.came_out().len() as u64;
         let left = self
             .accepted
             .saturating_sub(self.evicted)
@@ -155,11 +155,10 @@ impl Router {
         self.session.log()
     }
 
-    /// The packets that came out at the device, in order. Fault 1 where memory is refused.
-    pub fn emitted(&self, alloc: Global) -> Result<Vec<Packet>, Fault>
-        ensures packets { IfOk result (λ packets. packets.items ≡ emitted self.now.session.log) }
-        ensures fault { IsOkUnless result Fault.Memory }
+    /// The packets that came out at the device, in order.
+    pub fn came_out(&self) -> &[Packet]
+        ensures { result.now ≡ emitted self.now.session.log }
     {
-        self.session.emitted(alloc)
+        self.session.came_out()
     }
 }

@@ -112,8 +112,8 @@ fn write_answer<W: Sink>(router: &Router, answer: &Answer, writer: &mut W) -> Re
         (W.Sink.failures writer.old) (W.Sink.failures writer.new) result (answer_text router.now answer.now) }
 {
     write_all(writer, &answer.lines)?;
-    match &answer.emitted {
-        Some(emitted) => report(&router.tallies, emitted.as_slice(), writer),
-        None => Ok(()),
+    if answer.closes {
+        return report(&router.tallies, router.came_out(), writer);
     }
+    Ok(())
 }

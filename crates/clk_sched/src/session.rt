@@ -176,9 +176,16 @@ impl Session {
         ensures packets { IfOk result (λ packets. packets.items ≡ emitted self.now.log) }
         ensures fault { IsOkUnless result Fault.Memory }
     {
+        Ok(self.came_out().to_vec(alloc)?)
+    }
+
+    /// The same packets, where the session keeps them.
+    pub fn came_out(&self) -> &[Packet]
+        ensures { result.now ≡ emitted self.now.log }
+    {
         // That these came out is known where a field is read.
         let _ = &self.nodes;
-        Ok(self.emitted.as_slice().to_vec(alloc)?)
+        self.emitted.as_slice()
     }
 
     /// The packets held as heads, by node and then by input.

@@ -36,16 +36,16 @@ close-requires-clause-ready c =
     in
     IsReady-answered _ _ _ _ _ _ at.answered c.requires.rising c.requires.wired h.bound
 
-pub returns-in_err-emitted : goal.returns-in_err-emitted
-returns-in_err-emitted c =
+pub returns-in_err-close : goal.returns-in_err-close
+returns-in_err-close c =
     let h = c.loop-rest.invariant in
     let numbers = numbers-its _ _ _ h.answered.leads in
     let read = rw numbers at c.in_ok-moment.ensures.exact in
     let at = IsAtDrain-read (setup_at c.args.router.now) _ _ c.args.script.now c.loop-rest.rest.now c.next-line.result.1.now c.next-line.result.0 c.loop-rest.number c.in-Some.moment _ _ h.answered (omega arith) h.fault
     c.next-line.ensures.line read.0 (sym read.1 ∙ c.in-Some.is) read.2 (c.in_ok-only_blank_lines.ensures (sender_numbers (setup_at c.args.router.now)))
     in
-    let p = err_from_is_err_and c.from_residual-in_err-emitted.result c.from_residual-in_err-emitted.ensures.1 in
-    rw (p.1, p.2) (closing-refused _ _ _ _ _ _ _ _ _ c.in_err-emitted.field-0.0 at c.in_err-emitted.ensures)
+    let p = err_from_is_err_and c.from_residual-in_err-close.result c.from_residual-in_err-close.ensures.1 in
+    rw (p.1, p.2) (closing-refused _ _ _ _ _ _ _ _ _ c.in_err-close.field-0.0 at c.in_err-close.ensures)
 
 pub returns-in-Some : goal.returns-in-Some
 returns-in-Some c =
@@ -55,7 +55,7 @@ returns-in-Some c =
     let at = IsAtDrain-read (setup_at c.args.router.now) _ _ c.args.script.now c.loop-rest.rest.now c.next-line.result.1.now c.next-line.result.0 c.loop-rest.number c.in-Some.moment _ _ h.answered (omega arith) h.fault
     c.next-line.ensures.line read.0 (sym read.1 ∙ c.in-Some.is) read.2 (c.in_ok-only_blank_lines.ensures (sender_numbers (setup_at c.args.router.now)))
     in
-    (at.sound, Writes-drained _ _ _ _ _ _ _ _ _ _ _ _ at.answered at.drained c.in_ok-emitted.ensures.0 c.in_ok-emitted.ensures.1)
+    (at.sound, Writes-drained _ _ _ _ _ _ _ _ _ _ _ at.answered at.drained c.in_ok-close.ensures)
 
 pub loop-rest-preserved : goal.loop-rest-preserved
 loop-rest-preserved c =
