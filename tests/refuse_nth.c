@@ -26,6 +26,14 @@ __attribute__((destructor)) static void end(void) {
     }
 }
 
+/* A program with threads ends at once. */
+__attribute__((noreturn)) void _exit(int status) {
+    void (*real)(int) = dlsym(RTLD_NEXT, "_exit");
+    end();
+    real(status);
+    abort();
+}
+
 /* Whether the allocation that is asked for now is the one to fail. */
 static int fails(void) {
     if (atomic_fetch_add(&asked, 1) + 1 != refused)

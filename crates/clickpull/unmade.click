@@ -1,0 +1,1 @@
+s :: Sender(3); q :: Queue; d :: ToDevice(link); s -> q -> d;
