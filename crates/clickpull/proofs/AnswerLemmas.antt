@@ -1,238 +1,26 @@
--- How the answer to a script goes on by one line.
-use Rattle.std.proofs.Common.{◌≡◌, ℕ, ◌+◌, ◌≤◌, ◌||◌, List, [], ◌∷◌, ◌++◌, length, map, max, fold, Option, Some, None, Result, Ok, Err, MatchOption, MatchResult, OnOk, IsOkUnless, ◌⊎◌, inl, inr, nat_lt, Bool, true, false, refl, sym, ap, ap₂, subst, ◌∙◌, append_assoc, length-append, arith}
-use Rattle.std.specs.List.{flat_map, filter_map, cons_option, AllByRecursion}
-use Rattle.std.proofs.lemmas.Bool.Decides.{nat_tests}
-use Rattle.std.proofs.lemmas.List.{append-nil, map-append}
-use Rattle.std.proofs.lemmas.List.Concat.{flat_map-append}
+-- How a router goes on by the commands of some rows, and what it comes to.
+use Rattle.std.proofs.Common.{◌≡◌, ℕ, ◌+◌, ◌<◌, ◌≤◌, zero, suc, List, [], ◌∷◌, ◌++◌, length, map, take, drop, set, get_or, max, fold, Option, Some, None, ◌⊎◌, inl, inr, refl, sym, ap, ap₂, subst, ◌∙◌, append_assoc, append-nil, arith}
+use Rattle.std.specs.List.{flat_map, filter_map, AllByRecursion}
+use Rattle.std.proofs.lemmas.List.{map-append, length-map, length-take, take_all, length-set, take-append-drop, take_more, take_more_set, drop_more, drop-set-lt}
+use Rattle.std.proofs.lemmas.Grind.{drop_more_same}
 use Rattle.clk_packet.specs.declared.fault.Fault.{Fault}
 use Rattle.clk_packet.specs.declared.fault.Fault.TheVariants.{Memory, TooManyPulls}
-use Rattle.clickpull.specs.declared.script.Command.{Command}
-use Rattle.clickpull.specs.declared.router.Router.{Router}
-use Rattle.clickpull.specs.declared.script.Line.{Line}
-use Rattle.clickpull.specs.declared.script.Line.TheVariants as line
-use Rattle.clk_tree.specs.declared.plan.parts.SenderSpec.{SenderSpec}
 use Rattle.clk_packet.specs.declared.tally.Tally.{Tally}
 use Rattle.clk_report.specs.Report.{report_text}
 use Rattle.clk_sched.specs.Results.{emitted}
+use Rattle.clk_tree.specs.declared.plan.parts.SenderSpec.{SenderSpec}
 use Rattle.clk_tree.specs.PlanParts.{AreRising, SendsWithin}
-use Rattle.clickpull.specs.Script.{lines_of, command_in, commands_of, drain_in, is_drain, closing_moment, command_fault, line_fault, fault_at, first_fault, script_fault, most_bytes, most_lines, most_moment}
-use Rattle.clickpull.specs.Meaning.{Setup, sender_numbers, Event, offered, pulled, command_of, number_from, moment_in, accepted_in, evicted_in, event_text, closing_text, tally_after, log_of, CanHappen, WritesWith, StopsShort}
-use Rattle.clickpull.specs.Router.{IsNumber, sender_after, IsAt, CanSend, IsReady, IsReadable, AnswersCommand, AnswersLine, AnswersDrain, StopsDrain, StopsScript, report_of}
+use Rattle.clickpull.specs.declared.script.Command.{Command}
+use Rattle.clickpull.specs.declared.script.Command.TheVariants.{Send, Pull}
+use Rattle.clickpull.specs.declared.rows.Row.{Row}
+use Rattle.clickpull.specs.declared.router.Router.{Router}
+use Rattle.clickpull.specs.Script.{most_lines, most_moment}
+use Rattle.clickpull.specs.Meaning.{Setup, sender_numbers, Event, offered, pulled, command_of, number_from, moment_in, accepted_in, event_text, WritesWith}
+use Rattle.clickpull.specs.Router.{IsNumber, sender_after, numbers_in, setup_at, IsAt, CanSend, CanRun, IsReady, IsReadable}
+use Rattle.clickpull.specs.Rows.{row_asked, row_of, IsToDo, CarriesOut, AnswersRows, IsClosedFrom, StopsClosing, StopsCommands, rows_text, ending_of}
 use Rattle.clickpull.proofs.SenderLemmas.{numbers-its, alike-its}
-use Rattle.clickpull.proofs.ClosingLemmas.{its-latest}
-use Rattle.clickpull.proofs.ScriptLemmas.{readable-commands}
-
--- some events, no more than there were lines, have led here and wrote the text, and what is left follows them
-pub record HasAnswered (setup : Setup) (router : Router) (script rest : List ℕ) (number : ℕ) (text : List ℕ) : Type 0 where
-  pub events : List Event
-  pub theirs : map command_of events ++ commands_of rest ≡ commands_of script
-  pub not_closed : closing_moment rest ≡ closing_moment script
-  pub few : length events ≤ number
-  pub lines : text ≡ flat_map event_text events
-  pub leads : IsAt setup events router
-
-pub HasAnswered-none : (setup : Setup) (router : Router) (script text : List ℕ) → IsAt setup [] router → text ≡ [] → HasAnswered setup router script script 0 text
-HasAnswered-none setup router script text at none = record { events = []; theirs = refl; not_closed = refl; few = omega arith; lines = none; leads = at }
-
--- the commands of what is left, by its first line
-commands_on : (rest after : List ℕ) (l : Line) (o : Option Command) → lines_of rest ≡ l ∷ lines_of after → command_in l ≡ o → commands_of rest ≡ cons_option o [] ++ commands_of after
-commands_on rest after l None e f = rw (e, f) refl
-commands_on rest after l (Some command) e f = rw (e, f) refl
-
--- a line that is no drain leaves the closing to what follows
-closing_on : (rest after : List ℕ) (l : Line) → lines_of rest ≡ l ∷ lines_of after → drain_in l ≡ None → closing_moment rest ≡ closing_moment after
-closing_on rest after l e f = rw (e, f) refl
-
-pub HasAnswered-line : (setup : Setup) (old new : Router) (script rest after : List ℕ) (l : Line) (number : ℕ) (before text : List ℕ) → HasAnswered setup old script rest number before → lines_of rest ≡ l ∷ lines_of after → drain_in l ≡ None
-    → AnswersLine old new before text (command_in l) → HasAnswered setup new script after (number + 1) text
-HasAnswered-line setup old new script rest after l number before text h e undrained answers = by_command (command_in l) refl answers
-  where
-    by_command : (o : Option Command) → command_in l ≡ o → AnswersLine old new before text o → HasAnswered setup new script after (number + 1) text
-    by_command None f same =
-        let few = h.few in
-        record {
-          events = h.events;
-          theirs = ap (λ l. map command_of h.events ++ l) (sym (commands_on rest after l None e f)) ∙ h.theirs;
-          not_closed = sym (closing_on rest after l e undrained) ∙ h.not_closed;
-          few = omega arith;
-          lines = same.1 ∙ h.lines;
-          leads = subst (λ (r : Router). IsAt setup h.events r) (sym same.0) h.leads;
-        }
-    by_command (Some command) f carries =
-        let more = carries setup h.events h.leads in
-        let few = h.few in
-        record {
-          events = h.events ++ more.event ∷ [];
-          theirs =
-              ap (λ l. l ++ commands_of after) (map-append command_of h.events (more.event ∷ []) ∙ ap (λ c. map command_of h.events ++ c ∷ []) more.theirs)
-              ∙ append_assoc (map command_of h.events) (command ∷ []) (commands_of after) ∙ ap (λ l. map command_of h.events ++ l) (sym (commands_on rest after l (Some command) e f)) ∙ h.theirs;
-          not_closed = sym (closing_on rest after l e undrained) ∙ h.not_closed;
-          few = omega (arith, length-append h.events (more.event ∷ []));
-          lines =
-              more.line ∙ ap (λ l. l ++ event_text more.event) h.lines ∙ ap (λ l. flat_map event_text h.events ++ l) (sym (append-nil (event_text more.event)))
-              ∙ sym (flat_map-append event_text h.events (more.event ∷ []));
-          leads = more.leads;
-        }
-
--- a script that ends without a drain
-pub Writes-answered : (setup : Setup) (router : Router) (script rest : List ℕ) (number : ℕ) (text : List ℕ) → HasAnswered setup router script rest number text → length rest ≡ 0
-    → WritesWith setup (commands_of script) (closing_moment script) (text ++ []) router.session.log
-Writes-answered setup router script (byte ∷ rest) number text h none = absurd (omega arith)
-Writes-answered setup router script [] number text h none =
-    subst (λ drain. WritesWith setup (commands_of script) drain (text ++ []) router.session.log) h.not_closed
-    (record {
-      writes = record {
-        events = h.events;
-        theirs = sym (append-nil (map command_of h.events)) ∙ h.theirs;
-        closed = [];
-        closes = refl;
-        can_happen = subst (CanHappen setup) (sym (append-nil h.events)) h.leads.can_happen;
-        lines = ap (λ l. l ++ []) h.lines;
-      };
-      logged = h.leads.log ∙ ap log_of (sym (append-nil h.events));
-    })
-
--- lines that are all blank hold no commands
-blank-commands : (senders : List ℕ) (n : ℕ) (ls : List Line) → first_fault senders true n ls ≡ None → filter_map command_in ls ≡ []
-blank-commands senders n [] e = refl
-blank-commands senders n (l ∷ ls) e = by_fault (fault_at senders true n l) refl (blank-commands senders (n + 1) ls)
-  where
-    by_line : (m : Line) → line_fault senders true n m ≡ None → command_in m ≡ None
-    by_line line.Blank f = refl
-    by_line line.Malformed f = refl
-    by_line (line.Command command) f = absurd (cc)
-    by_line (line.Drain moment) f = refl
-
-    by_few : (b : Bool) → nat_lt most_lines n ≡ b → fault_at senders true n l ≡ None → command_in l ≡ None
-    by_few true g f = let no = rw g at f in absurd (cc)
-    by_few false g f = by_line l (rw g at f)
-
-    by_fault : (o : Option Fault) → fault_at senders true n l ≡ o → (first_fault senders true (n + 1) ls ≡ None → filter_map command_in ls ≡ []) → filter_map command_in (l ∷ ls) ≡ []
-    by_fault None f rest = rw (by_few (nat_lt most_lines n) refl f) (rest (rw f at e))
-    by_fault (Some fault) f rest = let no = rw f at e in absurd (cc)
-
--- what is left of a script begins with a drain, and goes on with blank lines
-pub record IsDrained (script rest after : List ℕ) (l : Line) (moment : ℕ) : Type 0 where
-  pub first : lines_of rest ≡ l ∷ lines_of after
-  pub drains : drain_in l ≡ Some moment
-  pub blank : filter_map command_in (lines_of after) ≡ []
-
-pub IsDrained-blank : (senders script rest after : List ℕ) (l : Line) (n moment : ℕ) → lines_of rest ≡ l ∷ lines_of after → drain_in l ≡ Some moment → first_fault senders true n (lines_of after) ≡ None
-    → IsDrained script rest after l moment
-IsDrained-blank senders script rest after l n moment e f blank = record { first = e; drains = f; blank = blank-commands senders n (lines_of after) blank }
-
-no-command : (l : Line) (moment : ℕ) → drain_in l ≡ Some moment → command_in l ≡ None
-no-command line.Blank moment e = refl
-no-command line.Malformed moment e = refl
-no-command (line.Command command) moment e = absurd (cc)
-no-command (line.Drain m) moment e = refl
-
-is-drain : (l : Line) (moment : ℕ) → drain_in l ≡ Some moment → is_drain l ≡ true
-is-drain line.Blank moment e = absurd (cc)
-is-drain line.Malformed moment e = absurd (cc)
-is-drain (line.Command command) moment e = absurd (cc)
-is-drain (line.Drain m) moment e = refl
-
-is-no_drain : (l : Line) → drain_in l ≡ None → is_drain l ≡ false
-is-no_drain line.Blank e = refl
-is-no_drain line.Malformed e = refl
-is-no_drain (line.Command command) e = refl
-is-no_drain (line.Drain m) e = absurd (cc)
-
--- the commands of a script that ends in a drain, and its closing moment
-drained-commands : (setup : Setup) (router : Router) (script rest after : List ℕ) (l : Line) (number moment : ℕ) (text : List ℕ) → IsDrained script rest after l moment
-    → (h : HasAnswered setup router script rest number text) → map command_of h.events ≡ commands_of script
-drained-commands setup router script rest after l number moment text d h =
-    sym (append-nil (map command_of h.events))
-    ∙ ap (λ l. map command_of h.events ++ l) (sym (commands_on rest after l None d.first (no-command l moment d.drains) ∙ d.blank)) ∙ h.theirs
-
-drained-moment : (script rest after : List ℕ) (l : Line) (moment : ℕ) → IsDrained script rest after l moment → closing_moment rest ≡ Some moment
-drained-moment script rest after l moment d = rw (d.first, d.drains) refl
-
--- the report of a router
-report-its : (setup : Setup) (events : List Event) (router : Router) → IsAt setup events router
-    → report_of router true ≡ report_text (emitted (log_of events)) (map (tally_after events) (sender_numbers setup))
-report-its setup events router at = ap₂ report_text (ap emitted at.log) at.tallies
-
--- a script that ends with a drain
-pub Writes-drained : (setup : Setup) (old new : Router) (script rest after : List ℕ) (l : Line) (number moment : ℕ) (before lines : List ℕ) → HasAnswered setup old script rest number before
-    → IsDrained script rest after l moment → AnswersDrain old new moment before lines
-    → WritesWith setup (commands_of script) (closing_moment script) (lines ++ report_of new true) new.session.log
-Writes-drained setup old new script rest after l number moment before lines h d answers =
-    let ends = answers setup h.events h.leads in
-    let all = h.events ++ ends.closed in
-    subst (λ drain. WritesWith setup (commands_of script) drain (lines ++ report_of new true) new.session.log) (sym (drained-moment script rest after l moment d) ∙ h.not_closed)
-    (record {
-      writes = record {
-        events = h.events;
-        theirs = drained-commands setup old script rest after l number moment before d h;
-        closed = ends.closed;
-        closes = ends.closes;
-        can_happen = ends.leads.can_happen;
-        lines =
-            ap₂ (λ a b. a ++ b) (ends.lines ∙ ap (λ l. l ++ flat_map closing_text ends.closed) h.lines) (report-its setup all new ends.leads)
-            ∙ append_assoc (flat_map event_text h.events) (flat_map closing_text ends.closed) _;
-      };
-      logged = ends.leads.log;
-    })
-
--- and one whose drain stops short
-pub StopsScript-drained : (setup : Setup) (old : Router) (script rest after : List ℕ) (l : Line) (number moment : ℕ) (before : List ℕ) (fault : Fault) → HasAnswered setup old script rest number before
-    → IsDrained script rest after l moment → script_fault (sender_numbers setup) script ≡ None → StopsDrain old moment fault → StopsScript setup script fault
-StopsScript-drained setup old script rest after l number moment before (TooManyPulls made) h d sound short =
-    let stops : StopsShort setup (commands_of script) made moment = record {
-      events = h.events;
-      theirs = drained-commands setup old script rest after l number moment before d h;
-      short = short setup h.events h.leads;
-    } in
-    record { sound = sound; short = subst (λ drain. MatchOption drain ⊥ (StopsShort setup (commands_of script) made)) (sym (drained-moment script rest after l moment d) ∙ h.not_closed) stops }
-StopsScript-drained setup old script rest after l number moment before fault h d sound short = absurd short
-
--- the first fault of the lines of a text from the n-th on
-abbrev pub fault_from : List ℕ → Bool → ℕ → List ℕ → Option Fault
-fault_from senders drained n text = first_fault senders drained n (lines_of text)
-
-pub fault-later : (senders rest after : List ℕ) (l : Line) (drained : Bool) (n : ℕ) → lines_of rest ≡ l ∷ lines_of after → fault_at senders drained n l ≡ None
-    → fault_from senders drained n rest ≡ fault_from senders (drained || is_drain l) (n + 1) after
-fault-later senders rest after l drained n e f = rw (e, f) refl
-
-pub fault-open : (senders rest after : List ℕ) (l : Line) (n : ℕ) → lines_of rest ≡ l ∷ lines_of after → fault_at senders false n l ≡ None → drain_in l ≡ None
-    → fault_from senders false n rest ≡ fault_from senders false (n + 1) after
-fault-open senders rest after l n e f undrained = fault-later senders rest after l false n e f ∙ ap (λ b. fault_from senders b (n + 1) after) (is-no_drain l undrained)
-
-pub fault-drained : (senders rest after : List ℕ) (l : Line) (n moment : ℕ) → lines_of rest ≡ l ∷ lines_of after → fault_at senders false n l ≡ None → drain_in l ≡ Some moment
-    → fault_from senders false n rest ≡ fault_from senders true (n + 1) after
-fault-drained senders rest after l n moment e f drains = fault-later senders rest after l false n e f ∙ ap (λ b. fault_from senders b (n + 1) after) (is-drain l moment drains)
-
-fault-of_lines : (senders script : List ℕ) → length script ≤ most_bytes → script_fault senders script ≡ fault_from senders false 1 script
-fault-of_lines senders script small = let no : nat_lt most_bytes (length script) ≡ false = grind (arith, nat_tests) in rw no refl
-
--- what is wrong with what is left is wrong with the script
-pub fault-whole : (senders script rest : List ℕ) (drained : Bool) (n : ℕ) (o : Option Fault) → length script ≤ most_bytes → fault_from senders drained n rest ≡ fault_from senders false 1 script
-    → fault_from senders drained n rest ≡ o → script_fault senders script ≡ o
-fault-whole senders script rest drained n o small e f = fault-of_lines senders script small ∙ sym e ∙ f
-
-pub fault-none : (senders script rest : List ℕ) (n : ℕ) → length script ≤ most_bytes → fault_from senders false n rest ≡ fault_from senders false 1 script → length rest ≡ 0 → script_fault senders script ≡ None
-fault-none senders script (byte ∷ rest) n small e none = absurd (omega arith)
-fault-none senders script [] n small e none = fault-of_lines senders script small ∙ sym e
-
--- the first line that has a fault decides
-fault-here : (senders rest after : List ℕ) (l : Line) (drained : Bool) (n : ℕ) (fault : Fault) → lines_of rest ≡ l ∷ lines_of after → fault_at senders drained n l ≡ Some fault → fault_from senders drained n rest ≡ Some fault
-fault-here senders rest after l drained n fault f is = rw (f, is) refl
-
-pub first-fault : (setup : Setup) (script rest after : List ℕ) (l : Line) (n : ℕ) (fault : Fault) → length script ≤ most_bytes → fault_from (sender_numbers setup) false n rest ≡ fault_from (sender_numbers setup) false 1 script
-    → lines_of rest ≡ l ∷ lines_of after → (fault ≡ Memory) ⊎ (fault_at (sender_numbers setup) false n l ≡ Some fault)
-    → (fault ≡ Memory) ⊎ (script_fault (sender_numbers setup) script ≡ Some fault) ⊎ StopsScript setup script fault
-first-fault setup script rest after l n fault small e f (inl memory) = inl memory
-first-fault setup script rest after l n fault small e f (inr is) =
-    inr (inl (fault-whole (sender_numbers setup) script rest false n (Some fault) small e (fault-here (sender_numbers setup) rest after l false n fault f is)))
-
--- a command that was carried out, or for which there was no memory
-pub command-answered : (r : Result (Unit {0}) Fault) (old new : Router) (before after senders : List ℕ) (command : Command) → command_fault senders command ≡ None
-    → OnOk r (AnswersCommand old new before after command) → IsOkUnless r Memory
-    → MatchResult r (λ done. (command_fault senders command ≡ None) × AnswersCommand old new before after command) (λ fault. (fault ≡ Memory) ⊎ (command_fault senders command ≡ Some fault))
-command-answered (Ok x) old new before after senders command sound leads memory = (sound, leads)
-command-answered (Err fault) old new before after senders command sound leads memory = inl memory
+use Rattle.clickpull.proofs.ClosingLemmas.{its-latest, closing-written}
+use Rattle.clickpull.proofs.RowLemmas.{rows-written}
 
 -- two numbers of the tally at a place
 pub same-number : (o : Option Tally) (one other : ℕ) → IsNumber one o → IsNumber other o → one ≡ other
@@ -248,12 +36,11 @@ length-filter_map-le {X} {Y} f (x ∷ xs) = by_case (f x) refl (length-filter_ma
     by_case (Some y) e h = rw e (omega arith)
 
 -- each sender can send, where there were few events
-each-sends : (events : List Event) (n count : ℕ) (specs : List SenderSpec) → AllByRecursion (SendsWithin count) specs → length events ≤ n → n ≤ most_lines
-    → AllByRecursion (CanSend count) (map (sender_after events) specs)
-each-sends events n count [] wired few bound = tt
-each-sends events n count (spec ∷ specs) wired few bound =
+each-sends : (events : List Event) (count : ℕ) (specs : List SenderSpec) → AllByRecursion (SendsWithin count) specs → length events ≤ most_lines → AllByRecursion (CanSend count) (map (sender_after events) specs)
+each-sends events count [] wired few = tt
+each-sends events count (spec ∷ specs) wired few =
     let sent = length-filter_map-le (number_from spec.number) events in
-    ((wired.0, omega (arith, sent, few, bound)), each-sends events n count specs wired.1 few bound)
+    ((wired.0, omega (arith, sent, few)), each-sends events count specs wired.1 few)
 
 -- the greatest moment of some commands' events is one of a script
 readable-moments : (events : List Event) (before : ℕ) → before ≤ most_moment → AllByRecursion IsReadable (map command_of events) → fold max before (filter_map moment_in events) ≤ most_moment
@@ -261,54 +48,191 @@ readable-moments [] before h all = h
 readable-moments (offered p outcome ∷ events) before h all = readable-moments events before h all.1
 readable-moments (pulled moment visits ∷ events) before h all = readable-moments events (max before moment) (let m = all.0 in omega (arith, m, h)) all.1
 
+-- a router after few events of readable commands
+IsReady-at : (setup : Setup) (events : List Event) (router : Router) → IsAt setup events router → AreRising (sender_numbers setup) → AllByRecursion (SendsWithin (length setup.queues)) setup.senders
+    → length events ≤ most_lines → AllByRecursion IsReadable (map command_of events) → IsReady router
+IsReady-at setup events router at rising wired few readable =
+    record {
+      rising = subst AreRising (sym (numbers-its setup events router at)) rising;
+      can_send =
+          subst (λ count. AllByRecursion (CanSend count) router.senders.items) (sym at.count)
+          (subst (AllByRecursion (CanSend (length setup.queues))) (sym at.senders) (each-sends events (length setup.queues) setup.senders wired few));
+      alike = alike-its setup events router at;
+      few = let accepted = at.accepted in let some = length-filter_map-le accepted_in events in omega (arith, accepted, some, few);
+      moment =
+          let latest = its-latest setup events router at in
+          let most = readable-moments events 0 (omega arith) readable in
+          omega (arith, latest, most);
+    }
+
+-- the commands of rows that can be carried out are readable
+readable-asked : (senders : List ℕ) (commands : List Command) → AllByRecursion (IsToDo senders) (map row_asked commands) → AllByRecursion IsReadable commands
+readable-asked senders [] h = tt
+readable-asked senders (Send sender size ∷ commands) h = (h.0.1, readable-asked senders commands h.1)
+readable-asked senders (Pull moment ∷ commands) h = (h.0, readable-asked senders commands h.1)
+
+-- rows say of which commands they are
+row_asked-one : (a b : Command) → row_asked a ≡ row_asked b → a ≡ b
+row_asked-one (Send sender size) (Send s n) e = cc e
+row_asked-one (Send sender size) (Pull moment) e = absurd (cc e)
+row_asked-one (Pull moment) (Send s n) e = absurd (cc e)
+row_asked-one (Pull moment) (Pull m) e = cc e
+
+rows-one : (xs ys : List Command) → map row_asked xs ≡ map row_asked ys → xs ≡ ys
+rows-one [] [] e = refl
+rows-one [] (y ∷ ys) e = absurd (omega (arith, ap length e))
+rows-one (x ∷ xs) [] e = absurd (omega (arith, ap length e))
+rows-one (x ∷ xs) (y ∷ ys) e = ap₂ (λ (c : Command) cs. c ∷ cs) (row_asked-one x y (cc e)) (rows-one xs ys (cc e))
+
+asked-commands : (events : List Event) → map (λ e. row_asked (command_of e)) events ≡ map row_asked (map command_of events)
+asked-commands [] = refl
+asked-commands (e ∷ events) = ap (λ l. row_asked (command_of e) ∷ l) (asked-commands events)
+
+-- No row was carried out, one was, and some were after others.
+pub AnswersRows-none : (router : Router) (asked done : List Row) → asked ≡ [] → done ≡ [] → AnswersRows router router asked done
+AnswersRows-none router asked done none nothing = λ setup events at. record { more = []; theirs = sym none; rows = nothing; leads = subst (λ l. IsAt setup l router) (sym (append-nil events)) at }
+
+pub CarriesOut-one : (setup : Setup) (new : Router) (asked done : Row) (events : List Event) (e : Event) → row_asked (command_of e) ≡ asked → done ≡ row_of e → IsAt setup (events ++ e ∷ []) new
+    → CarriesOut setup new (asked ∷ []) (done ∷ []) events
+CarriesOut-one setup new asked done events e theirs is leads = record { more = e ∷ []; theirs = ap (λ r. r ∷ []) theirs; rows = ap (λ r. r ∷ []) is; leads = leads }
+
+pub AnswersRows-then : (a b c : Router) (asked done later rows : List Row) → AnswersRows a b asked done → AnswersRows b c later rows → AnswersRows a c (asked ++ later) (done ++ rows)
+AnswersRows-then a b c asked done later rows first next =
+    λ setup events at.
+    let one = first setup events at in
+    let two = next setup (events ++ one.more) one.leads in
+    record {
+      more = one.more ++ two.more;
+      theirs = map-append (λ e. row_asked (command_of e)) one.more two.more ∙ ap₂ (λ x y. x ++ y) one.theirs two.theirs;
+      rows = ap₂ (λ x y. x ++ y) one.rows two.rows ∙ sym (map-append row_of one.more two.more);
+      leads = subst (λ l. IsAt setup l c) (append_assoc events one.more two.more) two.leads;
+    }
+
+-- A router over which some rows were carried out can carry out more, and its senders are those that it had.
+pub IsReady-answered : (old new : Router) (asked done : List Row) → CanRun old → AllByRecursion (IsToDo (numbers_in old)) asked → length asked ≤ most_lines → AnswersRows old new asked done
+    → IsReady new × (numbers_in new ≡ numbers_in old)
+IsReady-answered old new asked done can to_do few answers =
+    let setup = setup_at old in
+    let carried = answers setup [] can.leads in
+    let commands = sym (asked-commands carried.more) ∙ carried.theirs in
+    let count = ap length carried.theirs in
+    let many = length-map carried.more (λ e. row_asked (command_of e)) in (
+      IsReady-at setup carried.more new carried.leads can.rising can.wired (omega (arith, count, many, few))
+      (readable-asked (numbers_in old) (map command_of carried.more) (subst (AllByRecursion (IsToDo (numbers_in old))) (sym commands) to_do)),
+      numbers-its setup carried.more new carried.leads ∙ sym (numbers-its setup [] old can.leads),
+    )
+
+-- what holds of each holds of those in front, and of the one at a place
 all-front : {X : Type 0} (P : X → Type 0) (xs ys : List X) → AllByRecursion P (xs ++ ys) → AllByRecursion P xs
 all-front P [] ys h = tt
 all-front P (x ∷ xs) ys h = (h.0, all-front P xs ys h.1)
 
-pub IsReady-answered : (setup : Setup) (router : Router) (script rest : List ℕ) (n : ℕ) (text : List ℕ) → HasAnswered setup router script rest n text → AreRising (sender_numbers setup)
-    → AllByRecursion (SendsWithin (length setup.queues)) setup.senders → n ≤ most_lines → IsReady router
-IsReady-answered setup router script rest n text h rising wired bound =
+all-at : {X : Type 0} (P : X → Type 0) (xs : List X) (i : ℕ) (d : X) → i < length xs → AllByRecursion P xs → P (get_or xs i d)
+all-at P [] i d within h = absurd (omega arith)
+all-at P (x ∷ xs) zero d within h = h.0
+all-at P (x ∷ xs) (suc i) d within h = all-at P xs i d (omega arith) h.1
+
+-- The rows before a place are carried out, and the others are as they were.
+pub record IsCarriedTo (old new : Router) (asked rows : List Row) (i : ℕ) : Type 0 where
+  pub within : i ≤ length rows
+  pub count : length rows ≡ length asked
+  pub left : drop i rows ≡ drop i asked
+  pub answers : AnswersRows old new (take i asked) (take i rows)
+
+pub IsCarriedTo-none : (router : Router) (rows : List Row) → IsCarriedTo router router rows rows 0
+IsCarriedTo-none router rows = record { within = omega arith; count = refl; left = refl; answers = AnswersRows-none router [] [] refl refl }
+
+-- the row at the place is the one that was asked for
+still-asked : (asked rows : List Row) (i : ℕ) (row : Row) → i < length rows → length rows ≡ length asked → drop i rows ≡ drop i asked → row ≡ get_or rows i row → get_or asked i row ≡ row
+still-asked asked rows i row within count left is =
+    let first : get_or rows i row ∷ drop (i + 1) rows ≡ get_or asked i row ∷ drop (i + 1) asked = sym (drop_more rows i row within) ∙ left ∙ drop_more asked i row (omega (arith, within, count)) in
+    let same : get_or rows i row ≡ get_or asked i row = cc first in
+    sym (is ∙ same)
+
+pub IsCarriedTo-ready : (old new : Router) (asked rows : List Row) (i : ℕ) (row : Row) → CanRun old → AllByRecursion (IsToDo (numbers_in old)) asked → length asked ≤ most_lines → IsCarriedTo old new asked rows i
+    → i < length rows → row ≡ get_or rows i row → IsReady new × IsToDo (numbers_in new) row
+IsCarriedTo-ready old new asked rows i row can to_do few carried within is =
+    let front = all-front (IsToDo (numbers_in old)) (take i asked) (drop i asked) (subst (AllByRecursion (IsToDo (numbers_in old))) (sym (take-append-drop i asked)) to_do) in
+    let shorter = length-take i asked in
+    let ready = IsReady-answered old new (take i asked) (take i rows) can front (omega (arith, shorter, few)) carried.answers in
+    let inside : i < length asked = let count = carried.count in omega (arith, within, count) in
+    let here = subst (IsToDo (numbers_in old)) (still-asked asked rows i row within carried.count carried.left is) (all-at (IsToDo (numbers_in old)) asked i row inside to_do) in
+    (ready.0, subst (λ senders. IsToDo senders row) (sym ready.1) here)
+
+pub IsCarriedTo-more : (old mid new : Router) (asked rows : List Row) (i : ℕ) (row done : Row) → IsCarriedTo old mid asked rows i → i < length rows → row ≡ get_or rows i row → AnswersRows mid new (row ∷ []) (done ∷ [])
+    → IsCarriedTo old new asked (set rows i done) (i + 1)
+IsCarriedTo-more old mid new asked rows i row done carried within is answers =
     record {
-      rising = subst AreRising (sym (numbers-its setup h.events router h.leads)) rising;
-      can_send =
-          subst (λ count. AllByRecursion (CanSend count) router.senders.items) (sym h.leads.count)
-          (subst (AllByRecursion (CanSend (length setup.queues))) (sym h.leads.senders) (each-sends h.events n (length setup.queues) setup.senders wired h.few bound));
-      alike = alike-its setup h.events router h.leads;
-      few = let accepted = h.leads.accepted in let some = length-filter_map-le accepted_in h.events in let few = h.few in omega (arith, accepted, some, few, bound);
-      few_put_out = let evicted = h.leads.evicted in let some = length-filter_map-le evicted_in h.events in let few = h.few in omega (arith, evicted, some, few, bound);
-      moment =
-          let at = its-latest setup h.events router h.leads in
-          let most = readable-moments h.events 0 (omega arith) (all-front IsReadable (map command_of h.events) (commands_of rest) (subst (AllByRecursion IsReadable) (sym h.theirs) (readable-commands script))) in
-          omega (arith, at, most);
+      within = let long = length-set rows i done in omega (arith, within, long);
+      count = length-set rows i done ∙ carried.count;
+      left = drop-set-lt (i + 1) rows i done (omega arith) ∙ drop_more_same rows asked i carried.left;
+      answers =
+          subst (λ l. AnswersRows old new l (take (i + 1) (set rows i done))) (sym (take_more asked i row inside ∙ ap (λ r. take i asked ++ r ∷ []) (still-asked asked rows i row within carried.count carried.left is)))
+          (subst (λ l. AnswersRows old new (take i asked ++ row ∷ []) l) (sym (take_more_set rows i done within))
+          (AnswersRows-then old mid new (take i asked) (take i rows) (row ∷ []) (done ∷ []) carried.answers answers));
     }
+  where
+    inside : i < length asked
+    inside = let count = carried.count in omega (arith, within, count)
 
--- a drain changes nothing by itself
-HasAnswered-drain : (setup : Setup) (old new : Router) (script rest : List ℕ) (l : Line) (number moment : ℕ) (before text : List ℕ) → HasAnswered setup old script rest number before → drain_in l ≡ Some moment
-    → AnswersLine old new before text (command_in l) → HasAnswered setup new script rest number text
-HasAnswered-drain setup old new script rest l number moment before text h drains answers =
-    let same = rw (no-command l moment drains) at answers in
-    record { events = h.events; theirs = h.theirs; not_closed = h.not_closed; few = h.few; lines = same.1 ∙ h.lines; leads = subst (λ (r : Router). IsAt setup h.events r) (sym same.0) h.leads }
+pub all-answered : (old new : Router) (asked rows : List Row) (i : ℕ) → IsCarriedTo old new asked rows i → length rows ≤ i → AnswersRows old new asked rows
+all-answered old new asked rows i carried all =
+    let count = carried.count in
+    subst (λ l. AnswersRows old new l rows) (take_all i asked (omega (arith, count, all))) (subst (λ l. AnswersRows old new (take i asked) l) (take_all i rows all) carried.answers)
 
--- Nothing is wrong with a script, all lines up to a drain are answered, and the lines after it are blank.
-pub record IsAtDrain (setup : Setup) (router : Router) (script rest after : List ℕ) (l : Line) (number moment : ℕ) (text : List ℕ) : Type 0 where
-  pub answered : HasAnswered setup router script rest number text
-  pub drained : IsDrained script rest after l moment
-  pub sound : script_fault (sender_numbers setup) script ≡ None
+-- What a router comes to over which all commands of a script were carried out, without a closing and with one.
+pub Writes-answered : (old mid new : Router) (commands : List Command) (asked done : List Row) (drain start : Option ℕ) → CanRun old → asked ≡ map row_asked commands → AnswersRows old mid asked done → IsClosedFrom mid new drain start
+    → WritesWith (setup_at old) commands drain (rows_text done (emitted new.session.log) new.evicted.items ++ ending_of new start) new.session.log
+Writes-answered old mid new commands asked done drain start can are answers closed = by_closing drain start closed
+  where
+    setup : Setup
+    setup = setup_at old
 
-pub IsAtDrain-read : (setup : Setup) (old new : Router) (script rest after : List ℕ) (l : Line) (number moment : ℕ) (before text : List ℕ) → HasAnswered setup old script rest number before → length script ≤ most_bytes
-    → fault_from (sender_numbers setup) false (number + 1) rest ≡ fault_from (sender_numbers setup) false 1 script → lines_of rest ≡ l ∷ lines_of after
-    → fault_at (sender_numbers setup) false (number + 1) l ≡ None → drain_in l ≡ Some moment → AnswersLine old new before text (command_in l)
-    → first_fault (sender_numbers setup) true (number + 1 + 1) (lines_of after) ≡ None → IsAtDrain setup new script rest after l number moment text
-IsAtDrain-read setup old new script rest after l number moment before text h small whole e sound drains answers blank =
-    record {
-      answered = HasAnswered-drain setup old new script rest l number moment before text h drains answers;
-      drained = IsDrained-blank (sender_numbers setup) script rest after l (number + 1 + 1) moment e drains blank;
-      sound = fault-whole (sender_numbers setup) script rest false (number + 1) None small whole (fault-drained (sender_numbers setup) rest after l (number + 1) moment e sound drains ∙ blank);
-    }
+    carried : CarriesOut setup mid asked done []
+    carried = answers setup [] can.leads
 
--- a refusal of the closing
-pub closing-refused : (setup : Setup) (router : Router) (script rest after : List ℕ) (l : Line) (number moment : ℕ) (text : List ℕ) (fault : Fault) → IsAtDrain setup router script rest after l number moment text
-    → (fault ≡ Memory) ⊎ StopsDrain router moment fault → (fault ≡ Memory) ⊎ (script_fault (sender_numbers setup) script ≡ Some fault) ⊎ StopsScript setup script fault
-closing-refused setup router script rest after l number moment text fault at (inl memory) = inl memory
-closing-refused setup router script rest after l number moment text fault at (inr short) =
-    inr (inr (StopsScript-drained setup router script rest after l number moment text fault at.answered at.drained at.sound short))
+    theirs : map command_of carried.more ≡ commands
+    theirs = rows-one (map command_of carried.more) commands (sym (asked-commands carried.more) ∙ carried.theirs ∙ are)
+
+    -- the lines of the commands, whatever the router did later
+    lines : (later : List Event) → IsAt setup (carried.more ++ later) new → rows_text done (emitted new.session.log) new.evicted.items ≡ flat_map event_text carried.more
+    lines later at = ap (λ rows. rows_text rows (emitted new.session.log) new.evicted.items) carried.rows ∙ rows-written setup carried.more later new at
+
+    by_closing : (d s : Option ℕ) → IsClosedFrom mid new d s → WritesWith setup commands d (rows_text done (emitted new.session.log) new.evicted.items ++ ending_of new s) new.session.log
+    by_closing None s none =
+        let at : IsAt setup (carried.more ++ []) new = subst (λ l. IsAt setup l new) (sym (append-nil carried.more)) (subst (λ (r : Router). IsAt setup carried.more r) (sym none.1) carried.leads) in
+        record {
+          writes = record { events = carried.more; theirs = theirs; closed = []; closes = refl; can_happen = at.can_happen; lines = ap₂ (λ a b. a ++ b) (lines [] at) (ap (ending_of new) none.0) };
+          logged = at.log;
+        }
+    by_closing (Some moment) None ends = absurd ends
+    by_closing (Some moment) (Some s) ends =
+        let closing = ends.2 setup carried.more carried.leads in
+        record {
+          writes = record {
+            events = carried.more;
+            theirs = theirs;
+            closed = closing.closed;
+            closes = closing.closes;
+            can_happen = closing.leads.can_happen;
+            lines =
+                ap₂ (λ a b. a ++ b) (lines closing.closed closing.leads)
+                (ap₂ (λ a b. a ++ b) (closing-written setup carried.more mid new moment s carried.leads closing ends.0) (ap₂ report_text (ap emitted closing.leads.log) closing.leads.tallies));
+          };
+          logged = closing.leads.log;
+        }
+
+-- and why it stops short
+pub Stops-answered : (old mid : Router) (commands : List Command) (asked done : List Row) (drain : Option ℕ) (fault : Fault) → CanRun old → asked ≡ map row_asked commands → AnswersRows old mid asked done
+    → (fault ≡ Memory) ⊎ StopsClosing mid drain fault → (fault ≡ Memory) ⊎ StopsCommands (setup_at old) commands drain fault
+Stops-answered old mid commands asked done drain fault can are answers (inl memory) = inl memory
+Stops-answered old mid commands asked done None fault can are answers (inr stops) = absurd stops
+Stops-answered old mid commands asked done (Some moment) (TooManyPulls made) can are answers (inr stops) =
+    let setup = setup_at old in
+    let carried = answers setup [] can.leads in
+    inr (record {
+      events = carried.more;
+      theirs = rows-one (map command_of carried.more) commands (sym (asked-commands carried.more) ∙ carried.theirs ∙ are);
+      short = stops setup carried.more carried.leads;
+    })
+Stops-answered old mid commands asked done (Some moment) fault can are answers (inr stops) = absurd stops

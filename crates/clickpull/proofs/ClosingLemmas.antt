@@ -1,11 +1,10 @@
 -- How a router closes.
-use Rattle.std.proofs.Common.{◌≡◌, ℕ, ◌+◌, ◌-◌, ◌≤◌, ◌==◌, Bool, true, false, if◌then◌else◌, List, [], ◌∷◌, ◌++◌, length, drop, filter, map, reverse, max, fold, append-nil, append_assoc, Option, Some, None, MatchOption, slice_get, ◌⊎◌, inl, inr, refl, sym, ap, ap₂, ◌∙◌, subst, arith, Result, Ok, Err, OnOk, IsOkUnless, MatchResult}
+use Rattle.std.proofs.Common.{◌≡◌, ℕ, ◌+◌, ◌-◌, ◌≤◌, ◌==◌, Bool, true, false, if◌then◌else◌, List, [], ◌∷◌, ◌++◌, length, drop, filter, map, reverse, max, fold, append-nil, append_assoc, None, slice_get, ◌⊎◌, inl, inr, refl, sym, ap, ap₂, ◌∙◌, subst, arith}
 use Rattle.std.specs.List.{filter_map, flat_map, range_with_len, AllByRecursion}
 use Rattle.std.proofs.lemmas.List.{map-append}
 use Rattle.std.proofs.lemmas.List.Elements.{filter_map-append}
 use Rattle.std.proofs.Math.Seq.{drop-append_seam}
 use Rattle.std.proofs.lemmas.List.Concat.{flat_map-append}
-use Rattle.clk_packet.specs.declared.packet.Packet.{Packet}
 use Rattle.clk_packet.specs.declared.fault.Fault.{Fault}
 use Rattle.clk_packet.specs.declared.fault.Fault.TheVariants.{Memory, TooManyPulls}
 use Rattle.clk_sched.specs.declared.visit.Visit.{Visit}
@@ -20,9 +19,11 @@ use Rattle.clk_sched.specs.Bound.{closing_bound}
 use Rattle.clk_sched.specs.Session.{IsDrained, GivesAll, StopsShort as StopsSession, StopsAt, newly, latest_moment, counted_moment, tree_queue}
 use Rattle.clickpull.specs.declared.router.Router.{Router}
 use Rattle.clickpull.specs.Meaning.{Setup, sender_numbers, Event, pulled, moment_in, pull_in, accepted_in, evicted_in, visits_in, log_of, at_queue, history, CanHappen, pulls_from, closing_pulls, given_text, closing_text, left_after, DrainsShort}
-use Rattle.clickpull.specs.Router.{AreQueuesAt, IsAt, visit_text, LeadsOnByClosing, Ends, StopsDrain}
+use Rattle.clickpull.specs.Router.{AreQueuesAt, IsAt, LeadsOnByClosing, StopsDrain}
+use Rattle.clickpull.specs.Rows.{visit_text}
 use Rattle.clickpull.proofs.Alike.{member-between, its-moment}
 use Rattle.clickpull.proofs.EventLemmas.{fold-more, pulls-log, pulls-add_none, pulls-history, latest-moment, CanHappen-pulls}
+use Rattle.clickpull.proofs.RowLemmas.{alone}
 use Rattle.clickpull.proofs.SenderLemmas.{senders-closed}
 use Rattle.clickpull.proofs.TallyLemmas.{tallies-closed}
 use Rattle.clickpull.proofs.RouterLemmas.{its-history, StandAt, gives, queues-answered}
@@ -58,7 +59,7 @@ module _ (calls : CallsAreHistory) (setup : Setup) (events : List Event) (old ne
         tree = d.tree ∙ at.tree;
         log = log ∙ sym (flat_map-append visits_in events (closing_pulls moment events d.more) ∙ ap (λ l. log_of events ++ l) (pulls-log start d.more));
         accepted = accepted ∙ at.accepted ∙ ap length (sym (pulls-add_none accepted_in (λ n visits. refl) events start d.more));
-        evicted = evicted ∙ at.evicted ∙ ap length (sym (pulls-add_none evicted_in (λ n visits. refl) events start d.more));
+        evicted = ap (λ ps. ps.items) evicted ∙ at.evicted ∙ sym (pulls-add_none evicted_in (λ n visits. refl) events start d.more);
       }
     where
       answered : StandAt setup (λ q. history setup q events ++ at_queue setup q (pulled moment joined)) new.queues.rings.items
@@ -73,13 +74,13 @@ module _ (calls : CallsAreHistory) (setup : Setup) (events : List Event) (old ne
           (sym (flat_map-append (at_queue setup q) events (closing_pulls moment events d.more) ∙ ap (λ l. history setup q events ++ l) (pulls-history setup q moment start d.more))) (answered.each q)
 
 -- how many packets are left, as the router counts them
-pub its-left : (setup : Setup) (events : List Event) (router : Router) → IsAt setup events router → router.accepted - router.evicted - length (emitted router.session.log) ≡ left_after events
+pub its-left : (setup : Setup) (events : List Event) (router : Router) → IsAt setup events router → router.accepted - length router.evicted.items - length (emitted router.session.log) ≡ left_after events
 its-left setup events router at =
-    ap (λ n. n - router.evicted - length (emitted router.session.log)) at.accepted
-    ∙ ap (λ n. length (filter_map accepted_in events) - n - length (emitted router.session.log)) at.evicted
+    ap (λ n. n - length router.evicted.items - length (emitted router.session.log)) at.accepted
+    ∙ ap (λ l. length (filter_map accepted_in events) - length l - length (emitted router.session.log)) at.evicted
     ∙ ap (λ l. length (filter_map accepted_in events) - length (filter_map evicted_in events) - length (emitted l)) at.log
 
-pub closes-all : CallsAreHistory → (setup : Setup) (events : List Event) (old new : Router) (moment made left : ℕ) → IsAt setup events old → left ≡ old.accepted - old.evicted - length (emitted old.session.log)
+pub closes-all : CallsAreHistory → (setup : Setup) (events : List Event) (old new : Router) (moment made left : ℕ) → IsAt setup events old → left ≡ old.accepted - length old.evicted.items - length (emitted old.session.log)
     → GivesAll old.session new.session (max (counted_moment old.session) moment) made left → Answers gives (tree_queue old.session.tree) old.queues (newly old.session new.session) new.queues
     → new.senders ≡ old.senders → new.tallies ≡ old.tallies → new.accepted ≡ old.accepted → new.evicted ≡ old.evicted → LeadsOnByClosing setup new moment events
 closes-all calls setup events old new moment made left at is all answers senders tallies accepted evicted =
@@ -89,7 +90,7 @@ closes-all calls setup events old new moment made left at is all answers senders
       leads = IsAt-closed calls setup events old new moment made left at all.drained answers senders tallies accepted evicted;
     }
 
-pub stops-short : CallsAreHistory → (setup : Setup) (events : List Event) (old new : Router) (moment made left : ℕ) → IsAt setup events old → left ≡ old.accepted - old.evicted - length (emitted old.session.log)
+pub stops-short : CallsAreHistory → (setup : Setup) (events : List Event) (old new : Router) (moment made left : ℕ) → IsAt setup events old → left ≡ old.accepted - length old.evicted.items - length (emitted old.session.log)
     → made ≡ closing_bound old.session.tree left → StopsSession old.session new.session (max (counted_moment old.session) moment) made left
     → Answers gives (tree_queue old.session.tree) old.queues (newly old.session new.session) new.queues → new.senders ≡ old.senders → new.tallies ≡ old.tallies → new.accepted ≡ old.accepted → new.evicted ≡ old.evicted
     → DrainsShort setup moment made events
@@ -103,7 +104,7 @@ stops-short calls setup events old new moment made left at is bound short answer
     }
 
 -- why the drain of a session stopped is why the router's did
-pub stops-at : CallsAreHistory → (old new : Router) (moment left : ℕ) (fault : Fault) → left ≡ old.accepted - old.evicted - length (emitted old.session.log)
+pub stops-at : CallsAreHistory → (old new : Router) (moment left : ℕ) (fault : Fault) → left ≡ old.accepted - length old.evicted.items - length (emitted old.session.log)
     → StopsAt old.session new.session (max (counted_moment old.session) moment) left fault → Answers gives (tree_queue old.session.tree) old.queues (newly old.session new.session) new.queues
     → new.senders ≡ old.senders → new.tallies ≡ old.tallies → new.accepted ≡ old.accepted → new.evicted ≡ old.evicted → (fault ≡ Memory) ⊎ StopsDrain old moment fault
 stops-at calls old new moment left Memory is stops answers senders tallies accepted evicted = inl refl
@@ -130,11 +131,7 @@ one-line moment (v ∷ []) device at = append-nil (written v) ∙ by_passed v.pa
     by_passed : (b : Bool) → (if b then given_text v.moment v.got else []) ≡ given_text moment (if b then v.got else None)
     by_passed true = ap (λ m. given_text m v.got) at.0
     by_passed false = refl
-one-line moment (v ∷ w ∷ visits) device at = absurd (by_got v.got device.1)
-  where
-    by_got : (o : Option Packet) → MatchOption o (UpToFirst [] (w ∷ visits)) (λ p. w ∷ visits ≡ []) → ⊥
-    by_got None h = h
-    by_got (Some p) h = omega (arith, ap length h)
+one-line moment (v ∷ w ∷ visits) device at = absurd (omega (arith, ap length (alone v (w ∷ visits) device)))
 
 all-filtered : {X : Type 0} (P : X → Type 0) (f : X → Bool) (xs : List X) → AllByRecursion P xs → AllByRecursion P (filter f xs)
 all-filtered P f [] h = tt
@@ -171,16 +168,13 @@ closing-lines setup done t (pull ∷ more) can below =
     later : fold max 0 (filter_map moment_in (done ++ pulled t pull ∷ [])) ≤ t + 1
     later = let e = ap (fold max 0) (filter_map-append moment_in done (pulled t pull ∷ [])) ∙ fold-more 0 (filter_map moment_in done) t in omega (arith, e, below)
 
--- A router that was closed and wrote what its visits say.
-pub Ends-closed : (setup : Setup) (events : List Event) (old new : Router) (moment start : ℕ) (before after : List ℕ) → IsAt setup events old → LeadsOnByClosing setup new moment events
-    → start ≡ length old.session.log → after ≡ before ++ flat_map visit_text (drop start new.session.log) → Ends setup new moment before after events
-Ends-closed setup events old new moment start before after at closing first given =
-    record {
-      closed = closing.closed;
-      closes = closing.closes;
-      lines = given ∙ ap (λ l. before ++ l) lines;
-      leads = closing.leads;
-    }
+-- What the visits of a closing write is what its pulls write.
+pub closing-written : (setup : Setup) (events : List Event) (old new : Router) (moment start : ℕ) → IsAt setup events old → (closing : LeadsOnByClosing setup new moment events) → start ≡ length old.session.log
+    → flat_map visit_text (drop start new.session.log) ≡ flat_map closing_text closing.closed
+closing-written setup events old new moment start at closing first =
+    ap (flat_map visit_text) (visits ∙ ap log_of closing.closes.are ∙ pulls-log t more)
+    ∙ closing-lines setup events t more (subst (λ l. CanHappen setup (events ++ l)) closing.closes.are closing.leads.can_happen) (omega arith)
+    ∙ ap (flat_map closing_text) (sym closing.closes.are)
   where
     more : List (List Visit)
     more = closing.closes.closing
@@ -192,14 +186,3 @@ Ends-closed setup events old new moment start before after at closing first give
     visits =
         ap (λ n. drop n new.session.log) (first ∙ ap length at.log) ∙ ap (drop (length (log_of events))) (closing.leads.log ∙ flat_map-append visits_in events closing.closed)
         ∙ drop-append_seam (log_of events) (log_of closing.closed)
-
-    lines : flat_map visit_text (drop start new.session.log) ≡ flat_map closing_text closing.closed
-    lines =
-        ap (flat_map visit_text) (visits ∙ ap log_of closing.closes.are ∙ pulls-log t more)
-        ∙ closing-lines setup events t more (subst (λ l. CanHappen setup (events ++ l)) closing.closes.are closing.leads.can_happen) (omega arith)
-        ∙ ap (flat_map closing_text) (sym closing.closes.are)
-
--- what was done, unless memory was refused
-pub done-unless : (r : Result (Unit {0}) Fault) (P : Type 0) (Q : Fault → Type 0) → OnOk r P → IsOkUnless r Memory → MatchResult r (λ done. P) (λ fault. (fault ≡ Memory) ⊎ Q fault)
-done-unless (Ok x) P Q done memory = done
-done-unless (Err fault) P Q done memory = inl memory

@@ -10,6 +10,9 @@ pub mod RouterLemmas
 pub mod TallyLemmas
 pub mod ClosingLemmas
 pub mod PlaceLemmas
+pub mod ReadingLemmas
+pub mod RowLemmas
+pub mod PassLemmas
 pub mod AnswerLemmas
 pub mod OneMeaning
 pub mod ScriptLemmas

@@ -17,7 +17,10 @@ use Rattle.clickpull.specs.declared.script.Line.TheVariants as line
 use Rattle.clickpull.specs.Script.{most_lines, command_fault, line_fault, fault_at, is_drain, first_fault, lines_of, script_fault, commands_of, closing_moment, most_bytes}
 use Rattle.clk_packet.specs.Bytes.{read_failures, write_failures}
 use Rattle.clickpull.specs.Meaning.{Setup, plan_setup, WritesWith, IsMeaning, MeansWith, MeansOver, MeansOverWith, CannotClose, Explains, sender_numbers}
-use Rattle.clickpull.specs.Router.{StopsScript}
+use Rattle.clickpull.specs.declared.router.Router.{Router}
+use Rattle.clickpull.specs.Router.{numbers_in, setup_at, Starts}
+use Rattle.clickpull.specs.Rows.{StopsCommands}
+use Rattle.clickpull.proofs.SenderLemmas.{numbers-its}
 
 -- one byte past the limit is enough to tell what is wrong
 fault-cut : (senders all : List ℕ) → script_fault senders (take (most_bytes + 1) all) ≡ script_fault senders all
@@ -41,17 +44,17 @@ whole senders all e = by_test (nat_lt most_bytes (length all)) refl
     by_test false f = take_all 33554433 all (grind (arith, nat_tests))
 
 -- the meaning over a setup of a script whose first bytes were read
-pub meaning-known : (over setup : Setup) → over ≡ setup → (known : Option (List ℕ)) (bytes text : List ℕ) (log : List Visit) (P : List ℕ → Type 0) → IfSome known (λ all. bytes ≡ take (most_bytes + 1) all)
-    → script_fault (sender_numbers over) bytes ≡ None → WritesWith over (commands_of bytes) (closing_moment bytes) text log → P text → IfSome known (λ script. (t : List ℕ) × MeansWith setup script t log × P t)
-meaning-known over setup same None bytes text log P is e w p = tt
-meaning-known over setup same (Some all) bytes text log P is e w p =
-    let here : script_fault (sender_numbers setup) bytes ≡ None = subst (λ (s : Setup). script_fault (sender_numbers s) bytes ≡ None) same e in
+pub meaning-known : (setup : Setup) (router : Router) → Starts setup router → (known : Option (List ℕ)) (bytes text : List ℕ) (log : List Visit) (P : List ℕ → Type 0) → IfSome known (λ all. bytes ≡ take (most_bytes + 1) all)
+    → script_fault (numbers_in router) bytes ≡ None → WritesWith (setup_at router) (commands_of bytes) (closing_moment bytes) text log → P text → IfSome known (λ script. (t : List ℕ) × MeansWith setup script t log × P t)
+meaning-known setup router starts None bytes text log P is e w p = tt
+meaning-known setup router starts (Some all) bytes text log P is e w p =
+    let here : script_fault (sender_numbers setup) bytes ≡ None = subst (λ senders. script_fault senders bytes ≡ None) (numbers-its setup [] router starts.leads) e in
     let sound = rw is at here in
     let all_of_it : bytes ≡ all = is ∙ whole (sender_numbers setup) all sound in (
       text,
       record {
         sound = sym (fault-cut (sender_numbers setup) all) ∙ sound;
-        written = subst (λ (script : List ℕ). WritesWith setup (commands_of script) (closing_moment script) text log) all_of_it (subst (λ (s : Setup). WritesWith s (commands_of bytes) (closing_moment bytes) text log) same w);
+        written = subst (λ (script : List ℕ). WritesWith setup (commands_of script) (closing_moment script) text log) all_of_it (subst (λ (s : Setup). WritesWith s (commands_of bytes) (closing_moment bytes) text log) starts.over w);
       },
       p,
     )
@@ -146,21 +149,24 @@ closes_short setup (Some all) bytes made is short =
     let sound : script_fault (sender_numbers setup) (take (most_bytes + 1) all) ≡ None = ap (script_fault (sender_numbers setup)) (sym is) ∙ short.sound in
     subst (λ (script : List ℕ). CannotClose setup script made) (is ∙ whole (sender_numbers setup) all sound) short
 
-by_stop : (setup : Setup) (known : Option (List ℕ)) (bytes : List ℕ) (fault : Fault) → IfSome known (λ all. bytes ≡ take (most_bytes + 1) all) → StopsScript setup bytes fault → IsRefusal setup known fault
-by_stop setup known bytes (TooManyPulls made) is short = record { explains = closes_short setup known bytes made is short; reads = λ n. refl; writes = λ n. refl; not_write = λ e. cc }
-by_stop setup known bytes fault is short = absurd short
+-- memory may run out at any growth
+of-memory : (setup : Setup) (known : Option (List ℕ)) (fault : Fault) → fault ≡ Memory → IsRefusal setup known fault
+of-memory setup known fault e = subst (λ (f : Fault). IsRefusal setup known f) (sym e) (record { explains = tt; reads = λ n. refl; writes = λ n. refl; not_write = λ d. cc })
 
--- why the answer to a script is refused
-abbrev Refuses : Setup → List ℕ → Fault → Type 0
-Refuses setup bytes fault = (fault ≡ Memory) ⊎ (script_fault (sender_numbers setup) bytes ≡ Some fault) ⊎ StopsScript setup bytes fault
+-- why a script is refused as it is read, and as it is run
+pub IsRefusal-read : (setup : Setup) (router : Router) → Starts setup router → (known : Option (List ℕ)) (bytes : List ℕ) (fault : Fault) → IfSome known (λ all. bytes ≡ take (most_bytes + 1) all)
+    → (fault ≡ Memory) ⊎ (script_fault (numbers_in router) bytes ≡ Some fault) → IsRefusal setup known fault
+IsRefusal-read setup router starts known bytes fault is (inl e) = of-memory setup known fault e
+IsRefusal-read setup router starts known bytes fault is (inr e) =
+    let here : script_fault (sender_numbers setup) bytes ≡ Some fault = subst (λ senders. script_fault senders bytes ≡ Some fault) (numbers-its setup [] router starts.leads) e in
+    let kind : IsOfScript fault = rw here at (of_script (sender_numbers setup) bytes) in
+    by_kind setup known fault kind (named (sender_numbers setup) known bytes fault is here)
 
-refused-by : (setup : Setup) (known : Option (List ℕ)) (bytes : List ℕ) (fault : Fault) → IfSome known (λ all. bytes ≡ take (most_bytes + 1) all) → Refuses setup bytes fault → IsRefusal setup known fault
-refused-by setup known bytes fault is (inl e) = subst (λ (f : Fault). IsRefusal setup known f) (sym e) (record { explains = tt; reads = λ n. refl; writes = λ n. refl; not_write = λ d. cc })
-refused-by setup known bytes fault is (inr (inl e)) =
-    let kind : IsOfScript fault = rw e at (of_script (sender_numbers setup) bytes) in
-    by_kind setup known fault kind (named (sender_numbers setup) known bytes fault is e)
-refused-by setup known bytes fault is (inr (inr short)) = by_stop setup known bytes fault is short
-
-pub IsRefusal-script : (over setup : Setup) → over ≡ setup → (known : Option (List ℕ)) (bytes : List ℕ) (fault : Fault) → IfSome known (λ all. bytes ≡ take (most_bytes + 1) all)
-    → Refuses over bytes fault → IsRefusal setup known fault
-IsRefusal-script over setup same known bytes fault is why = refused-by setup known bytes fault is (subst (λ (s : Setup). Refuses s bytes fault) same why)
+pub IsRefusal-run : (setup : Setup) (router : Router) → Starts setup router → (known : Option (List ℕ)) (bytes : List ℕ) (fault : Fault) → IfSome known (λ all. bytes ≡ take (most_bytes + 1) all)
+    → script_fault (numbers_in router) bytes ≡ None → (fault ≡ Memory) ⊎ StopsCommands (setup_at router) (commands_of bytes) (closing_moment bytes) fault → IsRefusal setup known fault
+IsRefusal-run setup router starts known bytes fault is sound (inl e) = of-memory setup known fault e
+IsRefusal-run setup router starts known bytes (TooManyPulls made) is sound (inr short) =
+    let here : script_fault (sender_numbers setup) bytes ≡ None = subst (λ senders. script_fault senders bytes ≡ None) (numbers-its setup [] router starts.leads) sound in
+    let stops : CannotClose setup bytes made = record { sound = here; short = subst (λ (s : Setup). StopsCommands s (commands_of bytes) (closing_moment bytes) (TooManyPulls made)) starts.over short } in
+    record { explains = closes_short setup known bytes made is stops; reads = λ n. refl; writes = λ n. refl; not_write = λ e. cc }
+IsRefusal-run setup router starts known bytes fault is sound (inr short) = absurd short

@@ -152,7 +152,7 @@ queues-answered calls setup moment (v ∷ visits) a b events at answers =
       count = rest.count;
     }
 
--- how many packets were accepted, or put out, with one event more
+-- how many packets were accepted, with one event more
 count-more : (f : Event → Option Packet) (events : List Event) (e : Event) → length (filter_map f (events ++ e ∷ [])) ≡ length (filter_map f events) + length (cons_option (f e) [])
 count-more f events e = ap length (filter_map-append f events (e ∷ [])) ∙ length-append (filter_map f events) (cons_option (f e) [])
 
@@ -181,7 +181,7 @@ IsAt-sent calls setup events old mid new place s p outcome counts at rising here
       tree = ap (λ t. t.tree) kept ∙ at.tree;
       log = ap (λ t. t.log) kept ∙ at.log ∙ sym (flat_map-append visits_in events (offered p outcome ∷ []) ∙ append-nil (log_of events));
       accepted = counts.accepted ∙ ap (λ n. n + length (cons_option (accepted_in (offered p outcome)) [])) (accepted ∙ at.accepted) ∙ sym (count-more accepted_in events (offered p outcome));
-      evicted = counts.evicted ∙ ap (λ n. n + length (cons_option (evicted_in (offered p outcome)) [])) (evicted ∙ at.evicted) ∙ sym (count-more evicted_in events (offered p outcome));
+      evicted = counts.evicted ∙ ap (λ l. l ++ cons_option (evicted_in (offered p outcome)) []) (ap (λ ps. ps.items) evicted ∙ at.evicted) ∙ sym (filter_map-append evicted_in events (offered p outcome ∷ []));
     }
   where
     kept : new.session ≡ old.session
@@ -241,7 +241,7 @@ IsAt-pulled calls setup events old new moment got at once answers senders tallie
         tree = once.tree ∙ at.tree;
         log = log ∙ sym (log-pulled events moment visits);
         accepted = accepted ∙ at.accepted ∙ sym (count-pulled accepted_in events moment visits refl);
-        evicted = evicted ∙ at.evicted ∙ sym (count-pulled evicted_in events moment visits refl);
+        evicted = ap (λ ps. ps.items) evicted ∙ at.evicted ∙ sym (filter_map-append evicted_in events (pulled moment visits ∷ []) ∙ append-nil (filter_map evicted_in events));
       };
     }
   where
@@ -284,7 +284,7 @@ length-made (q ∷ queues) = ap suc (length-made queues)
 
 -- A router to which nothing has happened.
 pub Starts-made : CallsAreHistory → (tree : Tree) (queues : List Queued) (senders : List SenderSpec) (router : Router) → IsRun tree [] → router.session.tree ≡ tree → router.session.log ≡ []
-    → router.queues.rings.items ≡ map queue_made queues → router.senders.items ≡ map sender_made senders → router.tallies.items ≡ map tally_made senders → router.accepted ≡ 0 → router.evicted ≡ 0
+    → router.queues.rings.items ≡ map queue_made queues → router.senders.items ≡ map sender_made senders → router.tallies.items ≡ map tally_made senders → router.accepted ≡ 0 → router.evicted.items ≡ []
     → Starts (setup_of tree queues senders) router
 Starts-made calls tree queues senders router run tree_is log_is queues_are senders_are tallies_are accepted evicted =
     record {

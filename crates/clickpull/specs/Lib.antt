@@ -3,5 +3,7 @@ pub mod Script
 pub mod Meaning
 pub mod Fields
 pub mod Router
+pub mod Rows
+pub mod Lines
 pub mod OneMeaning
 pub mod Examples

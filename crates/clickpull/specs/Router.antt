@@ -1,6 +1,6 @@
 -- What the router's parts do, in the words of the definitions.
-use Rattle.std.specs.Prelude.{◌≡◌, ℕ, ◌+◌, ◌<◌, ◌≤◌, ◌^◌, List, [], ◌∷◌, ◌++◌, length, map, Bool, true, false, ◌==◌, ⊤, if◌then◌else◌, Option, Some, None, slice_get}
-use Rattle.std.specs.List.{list_any, filter_map, flat_map, cons_option, AllByRecursion}
+use Rattle.std.specs.Prelude.{◌≡◌, ℕ, ◌+◌, ◌<◌, ◌≤◌, ◌^◌, List, [], ◌∷◌, ◌++◌, length, map, true, false, ◌==◌, ⊤, Option, Some, None, slice_get}
+use Rattle.std.specs.List.{list_any, filter_map, cons_option, AllByRecursion}
 use Rattle.clk_packet.specs.declared.packet.Packet.{Packet}
 use Rattle.clk_packet.specs.declared.packet.Offered.{Offered}
 use Rattle.clk_packet.specs.declared.packet.Offered.TheVariants.{Accepted, Refused, Evicted}
@@ -19,13 +19,11 @@ use Rattle.clk_tree.specs.declared.plan.parts.SenderSpec.{SenderSpec}
 use Rattle.clk_tree.specs.PlanParts.{Queued, AreRising, SendsWithin}
 use Rattle.clickpull.specs.declared.senders.Sender.{Sender}
 use Rattle.clickpull.specs.declared.router.Router.{Router}
-use Rattle.clickpull.specs.declared.answer.Answer.{Answer}
 use Rattle.clk_sched.specs.Log.{visits_of, result_of}
 use Rattle.clk_sched.specs.Session.{counted_moment}
-use Rattle.clk_sched.specs.Results.{emitted}
 use Rattle.clickpull.specs.Script.{most_lines, most_moment}
-use Rattle.clk_report.specs.Report.{packets_from, report_text}
-use Rattle.clickpull.specs.Meaning.{Room, Setup, Event, offered, pulled, command_of, event_text, CanHappen, numbers_of, accepted_in, evicted_in, tally_after, history, log_of, sender_numbers, given_text, closing_text, Closes, DrainsShort, CannotClose}
+use Rattle.clk_report.specs.Report.{packets_from}
+use Rattle.clickpull.specs.Meaning.{Room, Setup, Event, offered, pulled, CanHappen, numbers_of, accepted_in, evicted_in, tally_after, history, log_of, sender_numbers, Closes, DrainsShort}
 
 -- a queue and a sender as they are made, and what was asked for
 abbrev pub queue_made : Queued → Queue
@@ -146,7 +144,7 @@ pub record IsAt (setup : Setup) (events : List Event) (router : Router) : Type 0
   pub tree : router.session.tree ≡ setup.tree
   pub log : router.session.log ≡ log_of events
   pub accepted : router.accepted ≡ length (filter_map accepted_in events)
-  pub evicted : router.evicted ≡ length (filter_map evicted_in events)
+  pub evicted : router.evicted.items ≡ filter_map evicted_in events
 
 -- the setup that a router is over
 abbrev pub setup_at : Router → Setup
@@ -171,20 +169,19 @@ pub record CanRun (router : Router) : Type 0 where
 abbrev pub CanSend : ℕ → Sender → Type 0
 CanSend count s = (s.queue < count) × (s.sent + 1 < 2 ^ 32)
 
--- A router's senders stand by rising numbers, as their tallies do, and each can send. What was accepted and put out, and the counted
--- moment, are those of a script.
+-- A router's senders stand by rising numbers, as their tallies do, and each can send. What was accepted and the counted moment are
+-- those of a script.
 pub record IsReady (router : Router) : Type 0 where
   pub rising : AreRising (numbers_in router)
   pub alike : map sender_number router.senders.items ≡ numbers_in router
   pub can_send : AllByRecursion (CanSend (length router.queues.rings.items)) router.senders.items
   pub few : router.accepted ≤ most_lines
-  pub few_put_out : router.evicted ≤ most_lines
   pub moment : counted_moment router.session ≤ most_moment
 
--- What became of a packet is counted, and nothing else of the router changes.
+-- What became of a packet is counted, and one that was put out for it kept. Nothing else of the router changes.
 pub record Counts (old : Router) (p : Packet) (outcome : Offered) (new : Router) : Type 0 where
   pub accepted : new.accepted ≡ old.accepted + length (cons_option (accepted_in (offered p outcome)) [])
-  pub evicted : new.evicted ≡ old.evicted + length (cons_option (evicted_in (offered p outcome)) [])
+  pub evicted : new.evicted.items ≡ old.evicted.items ++ cons_option (evicted_in (offered p outcome)) []
   pub session : new.session ≡ old.session
   pub queues : new.queues ≡ old.queues
   pub senders : new.senders ≡ old.senders
@@ -196,51 +193,16 @@ pub record LeadsOnByPull (setup : Setup) (new : Router) (moment : ℕ) (got : Op
   pub result : result_of (visits_of 0 visits) ≡ got
   pub leads : IsAt setup (events ++ pulled moment visits ∷ []) new
 
--- One more event, of this command, led on from these events and wrote its line.
-pub record CarriesOut (setup : Setup) (new : Router) (command : Command) (before after : List ℕ) (events : List Event) : Type 0 where
-  pub event : Event
-  pub theirs : command_of event ≡ command
-  pub line : after ≡ before ++ event_text event
-  pub leads : IsAt setup (events ++ event ∷ []) new
-
 -- The closing drain from a moment on led on from these events.
 pub record LeadsOnByClosing (setup : Setup) (new : Router) (moment : ℕ) (events : List Event) : Type 0 where
   pub closed : List Event
   pub closes : Closes moment events closed
   pub leads : IsAt setup (events ++ closed) new
 
--- the same, and it wrote its lines
-pub record Ends (setup : Setup) (new : Router) (moment : ℕ) (before after : List ℕ) (events : List Event) : Type 0 where
-  pub closed : List Event
-  pub closes : Closes moment events closed
-  pub lines : after ≡ before ++ flat_map closing_text closed
-  pub leads : IsAt setup (events ++ closed) new
-
--- whatever events led to the router
-abbrev pub AnswersDrain : Router → Router → ℕ → List ℕ → List ℕ → Type 0
-AnswersDrain old new moment before after = (setup : Setup) (events : List Event) → IsAt setup events old → Ends setup new moment before after events
-
--- the report of a router, if it was closed
-abbrev pub report_of : Router → Bool → List ℕ
-report_of router false = []
-report_of router true = report_text (emitted router.session.log) router.tallies.items
-
--- all that an answer writes: its lines, and then the report
-abbrev pub answer_text : Router → Answer → List ℕ
-answer_text router answer = answer.lines.items ++ report_of router answer.closes
-
--- Why the closing drain of a router stops short: it made all the pulls that it is given. And why a script's does.
+-- Why the closing drain of a router stops short: it made all the pulls that it is given.
 abbrev pub StopsDrain : Router → ℕ → Fault → Type 0
 StopsDrain old moment (TooManyPulls made) = (setup : Setup) (events : List Event) → IsAt setup events old → DrainsShort setup moment made events
 StopsDrain old moment fault = ⊥
-
-abbrev pub StopsScript : Setup → List ℕ → Fault → Type 0
-StopsScript setup script (TooManyPulls made) = CannotClose setup script made
-StopsScript setup script fault = ⊥
-
--- what a visit writes while a script closes
-abbrev pub visit_text : Visit → List ℕ
-visit_text v = if v.node == 0 then (if v.passed then given_text v.moment v.got else []) else []
 
 -- a command whose numbers are those of a script
 abbrev pub IsReadable : Command → Type 0
@@ -258,12 +220,3 @@ IsReadableLine (line.Drain moment) = moment ≤ most_moment
 abbrev pub IsSound : List ℕ → Command → Type 0
 IsSound senders (Send sender length) = (list_any (λ s. s == sender) senders ≡ true) × (1 ≤ length)
 IsSound senders (Pull moment) = ⊤
-
--- A command is carried out, whatever events led to the router.
-abbrev pub AnswersCommand : Router → Router → List ℕ → List ℕ → Command → Type 0
-AnswersCommand old new before after command = (setup : Setup) (events : List Event) → IsAt setup events old → CarriesOut setup new command before after events
-
--- A line of this command, or of none, was answered: nothing changed, or the command is carried out.
-abbrev pub AnswersLine : Router → Router → List ℕ → List ℕ → Option Command → Type 0
-AnswersLine old new before after None = (new ≡ old) × (after ≡ before)
-AnswersLine old new before after (Some command) = AnswersCommand old new before after command

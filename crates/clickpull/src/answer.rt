@@ -1,154 +1,98 @@
 //! The answer to a script.
 
-ghost use Rattle.std.specs.Prelude.{◌≡◌, ◌≤◌, ◌+◌, ◌⊎◌, true, false, None, Some, [], MatchResult, OnOk};
+ghost use Rattle.std.specs.Prelude.{◌≡◌, ◌≤◌, ◌∷◌, ◌⊎◌, [], IfOk, IfErr, IfSome, OnOk, MatchResult, IsOkUnless, length, map};
+ghost use Rattle.std.specs.List.{AllByRecursion};
 ghost use Rattle.clk_packet.specs.declared.fault.Fault.TheVariants.{Memory};
-ghost use Rattle.clickpull.specs.Script.{lines_of, command_in, drain_in, command_fault, fault_at, first_fault, script_fault, commands_of, closing_moment, most_lines};
-ghost use Rattle.clickpull.specs.Meaning.{WritesWith, sender_numbers};
-ghost use Rattle.clickpull.specs.Router.{IsReadable, IsReadableLine, numbers_in, setup_at, answer_text, IsReady, CanRun, AnswersCommand, AnswersLine, StopsScript};
+ghost use Rattle.clickpull.specs.Script.{most_lines, most_moment};
+ghost use Rattle.clickpull.specs.Meaning.{WritesWith};
+ghost use Rattle.clickpull.specs.Router.{numbers_in, setup_at, IsReady, CanRun};
+ghost use Rattle.clickpull.specs.Rows.{row_asked, answer_text, IsToDo, CanBeRun, AnswersRows, IsClosedFrom, StopsClosing, StopsCommands};
 
-use crate::closing::close;
+use crate::reading::Script;
 use crate::router::Router;
-use crate::script::{Command, Line, MAX_BYTES, MAX_LINES};
-use crate::text::{push_offer, push_pull};
+use crate::rows::Row;
 use clk_packet::Fault;
-use std::alloc::Global;
 
 /// What a script comes to.
 #[derive(Drop)]
 pub struct Answer {
-    /// The lines of its commands, and of its closing.
-    pub lines: Vec<u8>,
-    /// Whether it closes: then the report follows.
-    pub closes: bool,
+    /// What its commands came to, in order.
+    pub rows: Vec<Row>,
+    /// Where the visits of its closing begin in the log, if it closes: then the report follows.
+    pub closing: Option<usize>,
 }
 
-/// What a script comes to over a router to which nothing has happened. Each line is carried out as it is read, but a drain once the
-/// lines after it are known to be empty.
+/// What a script comes to over a router to which nothing has happened.
 ///
 /// # Errors
 ///
-/// Fault 1 where memory is refused; 18 for more than 33,554,432 bytes; then the fault of the first line that has one; 17 where the
-/// drain stops short.
-pub fn answer_script(alloc: Global, router: &mut Router, script: &[u8]) -> Result<Answer, Fault>
-    requires { CanRun router.old }
-    ensures { MatchResult result
-        (λ answer. (script_fault (sender_numbers (setup_at router.old)) script.now ≡ None)
-        × WritesWith (setup_at router.old) (commands_of script.now) (closing_moment script.now) (answer_text router.new answer) router.new.session.log)
-        (λ fault. (fault ≡ Memory) ⊎ (script_fault (sender_numbers (setup_at router.old)) script.now ≡ Some fault)
-        ⊎ StopsScript (setup_at router.old) script.now fault) }
+/// Fault 1 where memory is refused, and 17 where the drain stops short.
+pub fn answer_script(router: &mut Router, script: Script) -> Result<Answer, Fault>
+    requires fresh { CanRun router.old }
+    requires sound { CanBeRun (numbers_in router.old) script }
+    ensures means { (commands : _) → script.rows.items ≡ map row_asked commands → MatchResult result
+        (λ answer. WritesWith (setup_at router.old) commands script.closing (answer_text router.new answer) router.new.session.log)
+        (λ fault. (fault ≡ Memory) ⊎ StopsCommands (setup_at router.old) commands script.closing fault) }
+    ensures within { IfOk result (λ answer. IfSome answer.closing (λ start. start ≤ length router.new.session.log)) }
 {
-    if script.len() > MAX_BYTES {
-        return Err(Fault::TooLarge);
-    }
-    let mut lines = Vec::new(alloc);
-    let mut number = 0;
-    let mut rest = script;
-    while !rest.is_empty() {
-        let (line, after) = Line::next(rest);
-        number += 1;
-        if let Some(moment) = answer_line(router, number, line, &mut lines)? {
-            only_blank_lines(number, after)?;
-            close(router, moment, &mut lines)?;
-            return Ok(Answer {
-                lines,
-                closes: true,
-            });
-        }
-        rest = after;
-    }
-    Ok(Answer {
-        lines,
-        closes: false,
-    })
+    let mut rows = script.rows;
+    carry_out(router, &mut rows)?;
+    let closing = close(router, script.closing)?;
+    Ok(Answer { rows, closing })
 }
 
-/// Carries out the line of this number, counted from 1, unless it has a fault or memory is refused. Of a drain its moment is
-/// answered, and no more is done. The line is one of the first 1,000,000 (fault 18), a command or blank (16), and names a sender that
-/// is there (15).
-fn answer_line(
-    router: &mut Router,
-    number: u32,
-    line: Line,
-    text: &mut Vec<u8>,
-) -> Result<Option<u64>, Fault>
-    requires ready { IsReady router.old }
-    requires readable { IsReadableLine line }
-    ensures exact { MatchResult result
-        (λ drain. (fault_at (numbers_in router.old) false number line ≡ None)
-        × (drain ≡ drain_in line)
-        × AnswersLine router.old router.new text.old.items text.new.items (command_in line))
-        (λ fault. (fault ≡ Memory) ⊎ (fault_at (numbers_in router.old) false number line ≡ Some fault)) }
-    ensures within { OnOk result (number ≤ most_lines) }
+/// Carries out the commands of some rows, and puts what each came to in its place. Fault 1 where memory is refused.
+fn carry_out(router: &mut Router, rows: &mut [Row]) -> Result<(), Fault>
+    requires fresh { CanRun router.old }
+    requires to_do { AllByRecursion (IsToDo (numbers_in router.old)) rows.old }
+    requires few { length rows.old ≤ most_lines }
+    ensures done { OnOk result (AnswersRows router.old router.new rows.old rows.new) }
+    ensures fault { IsOkUnless result Fault.Memory }
 {
-    if number > MAX_LINES {
-        return Err(Fault::TooLarge);
-    }
-    match line {
-        Line::Blank => Ok(None),
-        Line::Malformed => Err(Fault::BadScript { line: number }),
-        Line::Drain { moment } => Ok(Some(moment)),
-        Line::Command(command) => {
-            carry_out(router, command, text)?;
-            Ok(None)
-        }
-    }
-}
-
-/// Carries out one command, and adds the line that it writes. Fault 15 where its sender isn't there, and 1 where memory is
-/// refused.
-fn carry_out(router: &mut Router, command: Command, text: &mut Vec<u8>) -> Result<(), Fault>
-    requires ready { IsReady router.old }
-    requires readable { IsReadable command }
-    ensures { MatchResult result
-        (λ done. (command_fault (numbers_in router.old) command ≡ None) × AnswersCommand router.old router.new text.old.items text.new.items command)
-        (λ fault. (fault ≡ Memory) ⊎ (command_fault (numbers_in router.old) command ≡ Some fault)) }
-{
-    match command {
-        Command::Send { sender, length } => {
-            let Some(place) = router.place_of(sender) else {
-                return Err(Fault::UnknownSender { sender });
-            };
-            let (packet, outcome) = router.send(place, length)?;
-            push_offer(text, packet, outcome)
-        }
-        Command::Pull { moment } => {
-            let got = router.pull(moment)?;
-            push_pull(text, moment, got)
-        }
-    }
-}
-
-/// Whether the lines of a text, which come after a drain that is the line of this number, have no fields. Fault 16 for the first that
-/// has one, and 18 for line 1,000,001.
-fn only_blank_lines(drain: u32, text: &[u8]) -> Result<(), Fault>
-    requires { drain ≤ most_lines }
-    ensures { (senders : _) → MatchResult result
-        (λ blank. first_fault senders true (drain + 1) (lines_of text.now) ≡ None)
-        (λ fault. first_fault senders true (drain + 1) (lines_of text.now) ≡ Some fault) }
-{
-    let mut number = drain;
-    let mut rest = text;
-    while !rest.is_empty() {
-        let (line, after) = Line::next(rest);
-        number += 1;
-        blank_line(number, line)?;
-        rest = after;
+    let mut i = 0;
+    while i < rows.len() {
+        rows[i] = carry_out_one(router, rows[i])?;
+        i += 1;
     }
     Ok(())
 }
 
-/// Whether the line of this number, which comes after a drain, has no fields.
-fn blank_line(number: u32, line: Line) -> Result<(), Fault>
-    ensures fault { (senders : _) → MatchResult result
-        (λ blank. fault_at senders true number line ≡ None)
-        (λ fault. fault_at senders true number line ≡ Some fault) }
-    ensures within { OnOk result (number ≤ most_lines) }
+/// Carries out the command of a row, and gives what it came to. Fault 1 where memory is refused.
+fn carry_out_one(router: &mut Router, row: Row) -> Result<Row, Fault>
+    requires ready { IsReady router.old }
+    requires to_do { IsToDo (numbers_in router.old) row }
+    ensures done { IfOk result (λ done. AnswersRows router.old router.new (row ∷ []) (done ∷ [])) }
+    ensures fault { IsOkUnless result Fault.Memory }
 {
-    if number > MAX_LINES {
-        return Err(Fault::TooLarge);
+    match row {
+        Row::Send { sender, length } => {
+            let Some(place) = router.place_of(sender) else {
+                return Err(Fault::UnknownSender { sender });
+            };
+            let (packet, outcome) = router.send(place, length)?;
+            Ok(Row::offered(packet, outcome))
+        }
+        Row::Pull { moment } => {
+            let got = router.pull(moment)?;
+            Ok(Row::pulled(moment, got))
+        }
+        done => Ok(done),
     }
-    match line {
-        Line::Blank => Ok(()),
-        _ => Err(Fault::BadScript { line: number }),
+}
+
+/// Closes a router from this moment on, in ticks, if there is one. Answers where the visits of the closing begin in the log.
+///
+/// # Errors
+///
+/// Fault 1 where memory is refused, and 17 where the pulls that the closing is given are not enough.
+fn close(router: &mut Router, moment: Option<u64>) -> Result<Option<usize>, Fault>
+    requires ready { IsReady router.old }
+    requires moment { IfSome moment (λ m. m ≤ most_moment) }
+    ensures closed { IfOk result (IsClosedFrom router.old router.new moment) }
+    ensures fault { IfErr result (λ fault. (fault ≡ Memory) ⊎ StopsClosing router.old moment fault) }
+{
+    match moment {
+        Some(moment) => Ok(Some(router.drain(moment)?)),
+        None => Ok(None),
     }
 }

@@ -3,20 +3,23 @@
 
 mod answer;
 mod builtin;
-mod closing;
 mod command;
 mod faults;
 mod fields;
 mod files;
 mod laws;
+mod lines;
 mod queues;
+mod reading;
 mod router;
+mod rows;
 mod run;
 mod script;
 mod senders;
 mod tallies;
 mod text;
 mod words;
+mod writing;
 
 use clk_packet::{Fault, FromRead, Sink, ToWrite, write_all};
 pub use command::command;

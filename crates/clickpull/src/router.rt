@@ -21,8 +21,8 @@ pub struct Router {
     pub tallies: Vec<Tally>,
     /// How many packets the queues took.
     accepted: u64,
-    /// How many of these they put out for later ones.
-    evicted: u64,
+    /// The packets that these put out for later ones, in order.
+    evicted: Vec<Packet>,
 }
 
 impl Router {
@@ -62,7 +62,7 @@ impl Router {
             senders: senders_of(alloc, senders)?,
             tallies: tallies_of(alloc, senders)?,
             accepted: 0,
-            evicted: 0,
+            evicted: Vec::new(alloc),
         })
     }
 
@@ -90,24 +90,25 @@ impl Router {
         let packet = sender.next_packet(length);
         let outcome = self.queues.offer(sender.queue, packet);
         note(&mut self.tallies, place, packet, outcome)?;
-        self.count(outcome);
+        self.count(outcome)?;
         Ok((packet, outcome))
     }
 
-    /// Counts what became of a packet.
-    fn count(&mut self, outcome: Offered)
+    /// Counts what became of a packet, and keeps one that was put out for it. Fault 1 where memory is refused.
+    fn count(&mut self, outcome: Offered) -> Result<(), Fault>
         requires accepted { self.old.accepted ≤ most_lines }
-        requires evicted { self.old.evicted ≤ most_lines }
-        ensures counted { (packet : Packet) → Counts self.old packet outcome self.new }
+        ensures counted { OnOk result ((packet : Packet) → Counts self.old packet outcome self.new) }
+        ensures fault { IsOkUnless result Fault.Memory }
     {
         match outcome {
             Offered::Refused(_) => {}
             Offered::Accepted => self.accepted += 1,
-            Offered::Evicted(_) => {
+            Offered::Evicted(front) => {
                 self.accepted += 1;
-                self.evicted += 1;
+                self.evicted.push(front)?;
             }
         }
+        Ok(())
     }
 
     /// Pulls the device once, at this moment in ticks or, where that is later, at the greatest so far. Fault 1 where memory is
@@ -142,7 +143,7 @@ impl Router {
         let emitted = self.session.came_out().len() as u64;
         let left = self
             .accepted
-            .saturating_sub(self.evicted)
+            .saturating_sub(self.evicted.len() as u64)
             .saturating_sub(emitted);
         self.session.drain(&mut self.queues, left, moment)?;
         Ok(logged)
@@ -153,6 +154,13 @@ impl Router {
         ensures { result.now ≡ self.now.session.log }
     {
         self.session.log()
+    }
+
+    /// The packets that queues put out for later ones, in order.
+    pub fn put_out(&self) -> &[Packet]
+        ensures { result.now ≡ self.now.evicted.items }
+    {
+        &self.evicted
     }
 
     /// The packets that came out at the device, in order.

@@ -11,13 +11,13 @@ ghost use Rattle.clk_sched.specs.Limits.{most_elements};
 ghost use Rattle.clk_tree.specs.PlanParts.{queued, number_of, AreRising, HasCapacity, SendsWithin};
 ghost use Rattle.clickpull.specs.Script.{most_bytes};
 ghost use Rattle.clickpull.specs.Meaning.{IsMeaning, MeansWith, Explains, setup_of, MeansOver, MeansOverWith, ExplainsPlan};
-ghost use Rattle.clickpull.specs.Router.{answer_text};
 
-use crate::answer::{Answer, answer_script};
+use crate::answer::answer_script;
+use crate::reading::read_script;
 use crate::router::Router;
 use crate::script::MAX_BYTES;
-use clk_packet::{Fault, Sink, Source, read_up_to, write_all};
-use clk_report::report;
+use crate::writing::write_answer;
+use clk_packet::{Fault, Sink, Source, read_up_to};
 use clk_sched::Tree;
 use clk_tree::{Plan, QueueSpec, SenderSpec};
 use std::alloc::Global;
@@ -100,20 +100,11 @@ pub fn run_parts<R: Source, W: Sink>(
     ensures limit { Takes (most_bytes + 1) (R.Source.remaining reader.old) (R.Source.remaining reader.new) }
 {
     let mut router = Router::new(alloc, tree, queues, senders)?;
-    let script = read_up_to(alloc, reader, MAX_BYTES + 1)?;
-    let answer = answer_script(alloc, &mut router, &script)?;
+    let text = read_up_to(alloc, reader, MAX_BYTES + 1)?;
+    let script = read_script(alloc, &router.tallies, &text)?;
+    // The rows hold all that is needed of it.
+    drop(text);
+    let answer = answer_script(&mut router, script)?;
     write_answer(&router, &answer, writer)?;
     Ok(router)
-}
-
-/// Writes the lines of an answer, and the report of the router where it was closed.
-fn write_answer<W: Sink>(router: &Router, answer: &Answer, writer: &mut W) -> Result<(), Fault>
-    ensures { Wrote (W.Sink.taken writer.old) (W.Sink.taken writer.new)
-        (W.Sink.failures writer.old) (W.Sink.failures writer.new) result (answer_text router.now answer.now) }
-{
-    write_all(writer, &answer.lines)?;
-    if answer.closes {
-        return report(&router.tallies, router.came_out(), writer);
-    }
-    Ok(())
 }

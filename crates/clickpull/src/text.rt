@@ -1,42 +1,40 @@
-//! The lines that a script writes. Each is written from its end to its front, and then added to the text at once.
+//! The lines that a script writes. Each is put from its end to its front.
 
-ghost use Rattle.std.specs.Prelude.{◌≡◌, ◌+◌, ◌≤◌, ◌++◌, ◌∷◌, [], codes, decimal, drop, length, IsOkUnless, OnOk, Some, None};
-ghost use Rattle.clk_packet.specs.declared.fault.Fault.TheVariants.{Memory};
-ghost use Rattle.clickpull.specs.Meaning.{name_text, packet_text, outcome_text, result_text, event_text, offered};
+ghost use Rattle.std.specs.Prelude.{◌≡◌, ◌+◌, ◌≤◌, ◌++◌, decimal, drop, length};
+ghost use Rattle.clickpull.specs.Meaning.{name_text, packet_text, outcome_text, result_text, pull_text, event_text, offered};
 
-use clk_packet::{Fault, Offered, Packet};
+use clk_packet::{Offered, Packet};
 
-/// Adds the line of an offer. Fault 1 where memory is refused.
-pub fn push_offer(text: &mut Vec<u8>, packet: Packet, outcome: Offered) -> Result<(), Fault>
-    ensures line { OnOk result (text.new.items ≡ text.old.items ++ event_text (offered packet outcome)) }
-    ensures fault { IsOkUnless result Fault.Memory }
+/// How many bytes a line has at most.
+pub const LINE: usize = 128;
+
+/// Puts the line of an offer before this place, and gives where it starts.
+pub fn put_offer(line: &mut [u8], packet: Packet, outcome: Offered, end: usize) -> usize
+    requires room { 122 ≤ end }
+    requires within { end ≤ length line.old }
+    ensures piece { drop result line.new ≡ event_text (offered packet outcome) ++ drop end line.old }
+    ensures before { result ≤ end }
 {
-    let mut line = [0; 128];
-    let end = put(&mut line, b"\n", 128);
-    let end = put_outcome(&mut line, outcome, end);
-    let start = put_packet(&mut line, packet, end);
-    text.extend_from_slice(&line[start..])?;
-    Ok(())
+    let end = put(line, b"\n", end);
+    let end = put_outcome(line, outcome, end);
+    put_packet(line, packet, end)
 }
 
-/// Adds the line of a pull at the moment that was handed in, in ticks. Fault 1 where memory is refused.
-#[inline(always)]
-pub fn push_pull(text: &mut Vec<u8>, moment: u64, got: Option<Packet>) -> Result<(), Fault>
-    ensures line { OnOk result (text.new.items ≡ text.old.items
-        ++ (codes "pull " ++ (decimal moment ++ (codes ": " ++ (result_text got ++ codes "\n"))))) }
-    ensures fault { IsOkUnless result Fault.Memory }
+/// Puts the line of a pull at the moment that was handed in, in ticks.
+pub fn put_pull(line: &mut [u8], moment: u64, got: Option<Packet>, end: usize) -> usize
+    requires room { 90 ≤ end }
+    requires within { end ≤ length line.old }
+    ensures piece { drop result line.new ≡ pull_text moment got ++ drop end line.old }
+    ensures before { result ≤ end }
 {
-    let mut line = [0; 96];
-    let end = put(&mut line, b"\n", 96);
-    let end = put_result(&mut line, got, end);
-    let end = put(&mut line, b": ", end);
-    let end = put_number(&mut line, moment, end);
-    let start = put(&mut line, b"pull ", end);
-    text.extend_from_slice(&line[start..])?;
-    Ok(())
+    let end = put(line, b"\n", end);
+    let end = put_result(line, got, end);
+    let end = put(line, b": ", end);
+    let end = put_number(line, moment, end);
+    put(line, b"pull ", end)
 }
 
-/// Puts ` accepted`, ` refused` or ` accepted evicted S#n` before this place of a line, and gives where it starts.
+/// Puts ` accepted`, ` refused` or ` accepted evicted S#n`.
 fn put_outcome(line: &mut [u8], outcome: Offered, end: usize) -> usize
     requires room { 59 ≤ end }
     requires within { end ≤ length line.old }

@@ -23,5 +23,5 @@ returns-clause-leads c =
     let packet = c.next_packet-packet.result in
     let its = sender-at old.senders.items old.tallies.items c.args.place sender c.requires.ready.alike c.requires.is_there c.index_mut-sender.ensures.value in
     let sent = ap (set old.senders.items c.args.place) c.next_packet-packet.ensures.counted in
-    λ setup events at. IsAt-sent c.calls_are_history.ensures setup events old _ _ c.args.place sender packet c.offer-outcome.result (c.count.ensures.counted packet) at c.requires.ready.rising its.here c.next_packet-packet.ensures.number
+    λ setup events at. IsAt-sent c.calls_are_history.ensures setup events old _ _ c.args.place sender packet c.offer-outcome.result (c.in_ok-count.ensures.counted packet) at c.requires.ready.rising its.here c.next_packet-packet.ensures.number
     c.next_packet-packet.ensures.sender (rw c.next_packet-packet.ensures.counted at c.offer-outcome.ensures) sent c.in_ok-note.ensures.kept refl refl refl

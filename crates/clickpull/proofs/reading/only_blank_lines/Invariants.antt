@@ -1,7 +1,7 @@
 use Rattle.std.proofs.Common.{◌≡◌, ◌+◌, ◌≤◌, ℕ, List, true, length}
 use Rattle.clickpull.specs.Script.{most_lines}
-use Rattle.clickpull.proofs.AnswerLemmas.{fault_from}
-use Rattle.clickpull.proofs.answer.only_blank_lines.Given as goal
+use Rattle.clickpull.proofs.ReadingLemmas.{fault_from}
+use Rattle.clickpull.proofs.reading.only_blank_lines.Given as goal
 
 -- the first fault is in what is left
 abbrev pub invariant-loop-rest : goal.invariant-loop-rest

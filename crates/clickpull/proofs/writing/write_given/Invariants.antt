@@ -1,0 +1,13 @@
+use Rattle.std.proofs.Common.{◌≡◌, drop, length}
+use Rattle.std.specs.List.{flat_map}
+use Rattle.clickpull.specs.Rows.{visit_text}
+use Rattle.clickpull.proofs.PassLemmas.{HasPassed}
+use Rattle.clickpull.proofs.writing.write_given.Given as goal
+
+-- the lines of the visits before this place are passed on
+abbrev pub invariant-loop-visit : goal.invariant-loop-visit
+invariant-loop-visit g l = record {
+  passed : HasPassed (g.W.Sink.taken l.fn.writer) (g.W.Sink.taken l.writer) (g.W.Sink.failures l.fn.writer) (g.W.Sink.failures l.writer)
+      l.fn.lines.held.items (flat_map visit_text l.visits) (flat_map visit_text (drop l.visit-index l.visits)) l.lines.held.items;
+  room : length l.line ≡ 128;
+}

@@ -1,0 +1,141 @@
+//! The reading of a script.
+
+ghost use Rattle.std.specs.Prelude.{◌≡◌, ◌≤◌, ◌+◌, ◌++◌, ◌⊎◌, true, false, map, None, Some, MatchResult, OnOk};
+ghost use Rattle.clk_packet.specs.declared.fault.Fault.TheVariants.{Memory};
+ghost use Rattle.clk_tree.specs.PlanParts.{AreRising};
+ghost use Rattle.clickpull.specs.Script.{lines_of, drain_in, command_fault, fault_at, first_fault, script_fault, most_lines};
+ghost use Rattle.clickpull.specs.Router.{tally_sender};
+ghost use Rattle.clickpull.specs.Rows.{rows_in, IsReadFrom, CanBeRun};
+
+use crate::rows::Row;
+use crate::script::{Command, Line, MAX_BYTES, MAX_LINES};
+use crate::tallies::place_of;
+use clk_packet::{Fault, Tally};
+use std::alloc::Global;
+
+/// A script that was read.
+#[derive(Drop)]
+pub struct Script {
+    /// Its commands, in order.
+    pub rows: Vec<Row>,
+    /// The moment of its drain in ticks, if it has one.
+    pub closing: Option<u64>,
+}
+
+/// Reads a script over the senders of these tallies.
+///
+/// # Errors
+///
+/// Fault 1 where memory is refused; 18 for more than 33,554,432 bytes; then the fault of the first line that has one.
+pub fn read_script(alloc: Global, tallies: &[Tally], text: &[u8]) -> Result<Script, Fault>
+    requires rising { AreRising (map tally_sender tallies.now) }
+    ensures { MatchResult result
+        (λ script. (script_fault (map tally_sender tallies.now) text.now ≡ None)
+        × IsReadFrom text.now script × CanBeRun (map tally_sender tallies.now) script)
+        (λ fault. (fault ≡ Memory) ⊎ (script_fault (map tally_sender tallies.now) text.now ≡ Some fault)) }
+{
+    if text.len() > MAX_BYTES {
+        return Err(Fault::TooLarge);
+    }
+    let mut rows = Vec::new(alloc);
+    let mut number = 0;
+    let mut rest = text;
+    while !rest.is_empty() {
+        let (line, after) = Line::next(rest);
+        number += 1;
+        if let Some(moment) = read_line(tallies, number, line, &mut rows)? {
+            only_blank_lines(number, after)?;
+            return Ok(Script {
+                rows,
+                closing: Some(moment),
+            });
+        }
+        rest = after;
+    }
+    Ok(Script {
+        rows,
+        closing: None,
+    })
+}
+
+/// Adds a row for the line of this number, counted from 1, if it holds a command, and answers the moment of a drain. The line is one
+/// of the first 1,000,000 (fault 18), a command or blank (16), and names a sender that is there (15). Fault 1 where memory is refused.
+fn read_line(
+    tallies: &[Tally],
+    number: u32,
+    line: Line,
+    rows: &mut Vec<Row>,
+) -> Result<Option<u64>, Fault>
+    requires rising { AreRising (map tally_sender tallies.now) }
+    ensures exact { MatchResult result
+        (λ drain. (fault_at (map tally_sender tallies.now) false number line ≡ None)
+        × (drain ≡ drain_in line)
+        × (rows.new.items ≡ rows.old.items ++ rows_in line))
+        (λ fault. (fault ≡ Memory) ⊎ (fault_at (map tally_sender tallies.now) false number line ≡ Some fault)) }
+    ensures within { OnOk result (number ≤ most_lines) }
+{
+    if number > MAX_LINES {
+        return Err(Fault::TooLarge);
+    }
+    match line {
+        Line::Blank => Ok(None),
+        Line::Malformed => Err(Fault::BadScript { line: number }),
+        Line::Drain { moment } => Ok(Some(moment)),
+        Line::Command(command) => {
+            known_sender(tallies, command)?;
+            rows.push(Row::asked(command))?;
+            Ok(None)
+        }
+    }
+}
+
+/// Whether the sender that a command names has one of these tallies. Fault 15 where it doesn't.
+fn known_sender(tallies: &[Tally], command: Command) -> Result<(), Fault>
+    requires rising { AreRising (map tally_sender tallies.now) }
+    ensures { MatchResult result
+        (λ known. command_fault (map tally_sender tallies.now) command ≡ None)
+        (λ fault. command_fault (map tally_sender tallies.now) command ≡ Some fault) }
+{
+    let Command::Send { sender, .. } = command else {
+        return Ok(());
+    };
+    match place_of(tallies, sender) {
+        Some(_) => Ok(()),
+        None => Err(Fault::UnknownSender { sender }),
+    }
+}
+
+/// Whether the lines of a text, which come after a drain that is the line of this number, have no fields. Fault 16 for the first that
+/// has one, and 18 for line 1,000,001.
+fn only_blank_lines(drain: u32, text: &[u8]) -> Result<(), Fault>
+    requires { drain ≤ most_lines }
+    ensures { (senders : _) → MatchResult result
+        (λ blank. first_fault senders true (drain + 1) (lines_of text.now) ≡ None)
+        (λ fault. first_fault senders true (drain + 1) (lines_of text.now) ≡ Some fault) }
+{
+    let mut number = drain;
+    let mut rest = text;
+    while !rest.is_empty() {
+        let (line, after) = Line::next(rest);
+        number += 1;
+        blank_line(number, line)?;
+        rest = after;
+    }
+    Ok(())
+}
+
+/// Whether the line of this number, which comes after a drain, has no fields.
+fn blank_line(number: u32, line: Line) -> Result<(), Fault>
+    ensures fault { (senders : _) → MatchResult result
+        (λ blank. fault_at senders true number line ≡ None)
+        (λ fault. fault_at senders true number line ≡ Some fault) }
+    ensures within { OnOk result (number ≤ most_lines) }
+{
+    if number > MAX_LINES {
+        return Err(Fault::TooLarge);
+    }
+    match line {
+        Line::Blank => Ok(()),
+        _ => Err(Fault::BadScript { line: number }),
+    }
+}

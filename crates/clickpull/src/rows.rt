@@ -1,0 +1,61 @@
+//! What is kept of each command of a script.
+
+ghost use Rattle.clickpull.specs.Rows.{row_asked, row_offered, row_pulled};
+
+use crate::script::Command;
+use clk_packet::{Offered, Packet};
+
+/// What is kept of a command, in 16 bytes: what it asks for, and once it is carried out, what it came to. Which packets came out of the
+/// tree and which were put out of queues is kept elsewhere.
+#[derive(Clone, Copy)]
+pub enum Row {
+    /// The sender is to offer its next packet, of this length in bytes.
+    Send { sender: u16, length: u16 },
+    /// A pull is to be made, at this moment in ticks.
+    Pull { moment: u64 },
+    /// The packet was offered, and accepted.
+    Accepted(Packet),
+    /// It was refused.
+    Refused(Packet),
+    /// It was accepted, and its queue put out a packet for it.
+    Evicting(Packet),
+    /// The pull at this moment gave a packet.
+    Gave { moment: u64 },
+    /// It gave none.
+    GaveNone { moment: u64 },
+}
+
+impl Row {
+    ghost use Rattle.std.specs.Prelude.{◌≡◌};
+
+    /// Of a command that is to be carried out.
+    pub fn asked(command: Command) -> Row
+        ensures { result ≡ row_asked command }
+    {
+        match command {
+            Command::Send { sender, length } => Row::Send { sender, length },
+            Command::Pull { moment } => Row::Pull { moment },
+        }
+    }
+
+    /// Of a packet that was offered.
+    pub fn offered(packet: Packet, outcome: Offered) -> Row
+        ensures { result ≡ row_offered packet outcome }
+    {
+        match outcome {
+            Offered::Accepted => Row::Accepted(packet),
+            Offered::Refused(_) => Row::Refused(packet),
+            Offered::Evicted(_) => Row::Evicting(packet),
+        }
+    }
+
+    /// Of a pull at this moment in ticks.
+    pub fn pulled(moment: u64, got: Option<Packet>) -> Row
+        ensures { result ≡ row_pulled moment got }
+    {
+        match got {
+            Some(_) => Row::Gave { moment },
+            None => Row::GaveNone { moment },
+        }
+    }
+}
