@@ -118,7 +118,7 @@ IsReady-answered old new asked done can to_do few answers =
     let count = ap length carried.theirs in
     let many = length-map carried.more (λ e. row_asked (command_of e)) in (
       IsReady-at setup carried.more new carried.leads can.rising can.wired (omega (arith, count, many, few))
-      (readable-asked (numbers_in old) (map command_of carried.more) (subst (AllByRecursion (IsToDo (numbers_in old))) (sym commands) to_do)),
+          (readable-asked (numbers_in old) (map command_of carried.more) (subst (AllByRecursion (IsToDo (numbers_in old))) (sym commands) to_do)),
       numbers-its setup carried.more new carried.leads ∙ sym (numbers-its setup [] old can.leads),
     )
 

@@ -28,10 +28,14 @@ impl Lines {
 
     /// Adds a line. Where there is no room, what is held is written, and then the line. Fault 20 where the sink fails, which has then
     /// taken a front of the two.
+    #[inline(always)]
     pub fn add<W: Sink>(&mut self, line: &[u8], writer: &mut W) -> Result<(), Fault>
         ensures { Passes (W.Sink.taken writer.old) (W.Sink.taken writer.new)
             (W.Sink.failures writer.old) (W.Sink.failures writer.new) result self.old.held.items line.now self.new.held.items }
     {
+        if line.is_empty() {
+            return Ok(());
+        }
         let Err(_) = self.held.try_extend_from_slice(line) else {
             return Ok(());
         };
@@ -40,6 +44,7 @@ impl Lines {
     }
 
     /// Writes what is held. Fault 20 where the sink fails, which has then taken a front of it.
+    #[inline(never)]
     pub fn write<W: Sink>(&mut self, writer: &mut W) -> Result<(), Fault>
         ensures wrote { Wrote (W.Sink.taken writer.old) (W.Sink.taken writer.new)
             (W.Sink.failures writer.old) (W.Sink.failures writer.new) result self.old.held.items }

@@ -102,9 +102,16 @@ pub fn run_parts<R: Source, W: Sink>(
     let mut router = Router::new(alloc, tree, queues, senders)?;
     let text = read_up_to(alloc, reader, MAX_BYTES + 1)?;
     let script = read_script(alloc, &router.tallies, &text)?;
-    // The rows hold all that is needed of it.
-    drop(text);
+    let_go(text);
     let answer = answer_script(&mut router, script)?;
     write_answer(&router, &answer, writer)?;
     Ok(router)
+}
+
+/// Gives the memory of a text back. The block is made small before it is freed: the C library takes a large block that is freed as a
+/// sign that such blocks come and go, and from then on grows a log of up to that size by copies.
+fn let_go(text: Vec<u8>) {
+    let mut text = text;
+    text.clear();
+    text.shrink_to(1);
 }

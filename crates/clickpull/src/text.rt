@@ -9,6 +9,7 @@ use clk_packet::{Offered, Packet};
 pub const LINE: usize = 128;
 
 /// Puts the line of an offer before this place, and gives where it starts.
+#[inline(always)]
 pub fn put_offer(line: &mut [u8], packet: Packet, outcome: Offered, end: usize) -> usize
     requires room { 122 ≤ end }
     requires within { end ≤ length line.old }
@@ -21,6 +22,7 @@ pub fn put_offer(line: &mut [u8], packet: Packet, outcome: Offered, end: usize) 
 }
 
 /// Puts the line of a pull at the moment that was handed in, in ticks.
+#[inline(always)]
 pub fn put_pull(line: &mut [u8], moment: u64, got: Option<Packet>, end: usize) -> usize
     requires room { 90 ≤ end }
     requires within { end ≤ length line.old }

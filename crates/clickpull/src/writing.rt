@@ -23,11 +23,7 @@ const DEVICE: u16 = 0;
 /// # Errors
 ///
 /// Fault 20 where the sink fails. It has taken a front of these then.
-pub fn write_answer<W: Sink>(
-    router: &Router,
-    answer: &Answer,
-    writer: &mut W,
-) -> Result<(), Fault>
+pub fn write_answer<W: Sink>(router: &Router, answer: &Answer, writer: &mut W) -> Result<(), Fault>
     requires { IfSome answer.now.closing (λ start. start ≤ length router.now.session.log) }
     ensures { Wrote (W.Sink.taken writer.old) (W.Sink.taken writer.new)
         (W.Sink.failures writer.old) (W.Sink.failures writer.new) result (answer_text router.now answer.now) }
@@ -72,6 +68,7 @@ fn write_rows<W: Sink>(
 }
 
 /// Puts the line of a row, and gives where it starts, and what is left of these packets that came out and that were put out.
+#[inline(always)]
 fn put_row<'a>(
     line: &mut [u8],
     row: Row,
@@ -121,11 +118,7 @@ fn first(packets: &[Packet]) -> (Option<Packet>, &[Packet])
 }
 
 /// Adds a line for each packet that came out by these visits.
-fn write_given<W: Sink>(
-    lines: &mut Lines,
-    visits: &[Visit],
-    writer: &mut W,
-) -> Result<(), Fault>
+fn write_given<W: Sink>(lines: &mut Lines, visits: &[Visit], writer: &mut W) -> Result<(), Fault>
     ensures { Passes (W.Sink.taken writer.old) (W.Sink.taken writer.new)
         (W.Sink.failures writer.old) (W.Sink.failures writer.new) result
         lines.old.held.items (flat_map visit_text visits.now) lines.new.held.items }
@@ -139,6 +132,7 @@ fn write_given<W: Sink>(
 }
 
 /// Puts the line of the packet that came out at the device by a visit, if one did, and gives where it starts.
+#[inline(always)]
 fn put_visit(line: &mut [u8], visit: &Visit) -> usize
     requires within { 128 ≤ length line.old }
     ensures piece { drop result line.new ≡ visit_text visit.now ++ drop 128 line.old }
