@@ -2,12 +2,13 @@
 use Rattle.std.proofs.Common.{◌≡◌, ℕ, ◌+◌, ◌≤◌, ◌==◌, Bool, true, false, not, List, [], ◌∷◌, ◌++◌, length, filter, refl, sym, ap, ◌∙◌, subst, ⊎_elim, inl, inr, arith, if◌then◌else◌}
 use Rattle.std.proofs.lemmas.List.{append-nil, nil_from_length}
 use Rattle.std.proofs.lemmas.List.Elements.{filter-append}
-use Rattle.std.specs.List.{flat_map}
+use Rattle.std.specs.List.{flat_map, AllByRecursion}
 use Rattle.clk_packet.specs.declared.packet.Packet.{Packet}
 use Rattle.clk_ruled.specs.Lists.{of_sender, IsIn, is_packet, has_packet, without, has_sender}
-use Rattle.clk_ruled.specs.Queue.{SendersRise}
-use Rattle.clk_ruled.specs.Rule.{Out, to_puller, put_out, went_out, taken_in, evicted_by, Books, IsSound, senders_of}
+use Rattle.clk_ruled.specs.declared.view.Gathered.{Gathered}
+use Rattle.clk_ruled.specs.Rule.{Out, to_puller, put_out, went_out, taken_in, evicted_by, Books, IsSound, AreGathered, FitsSeat, FitsTap, senders_of}
 use Rattle.clk_ruled.specs.Account.{IsAccount}
+use Rattle.clk_ruled.specs.Laws.{KeepsAccount}
 use Rattle.clk_ruled.proofs.SeatSteps.{room-known}
 use Rattle.clk_ruled.proofs.Tally.{rise-apart}
 use Rattle.clk_ruled.proofs.TapSteps.{in-all}
@@ -65,12 +66,12 @@ shared-out : (b : Books) (held : List Packet) → IsSound b held → (p : Packet
 shared-out b held h p = let few = each-once b.all h.rises p in let sum = ap (count (is_packet p)) h.order ∙ count-all (is_packet p) b.gone held in omega (arith, few, sum)
 
 -- A queue whose books are in order has an account.
-pub account : (b : Books) (held : List Packet) → IsSound b held → SendersRise b.setup.rooms
+pub account : (b : Books) (held : List Packet) → IsSound b held
     → IsAccount b.setup.kind b.setup.capacity (senders_of b.setup) (λ s. of_sender s b.all) (λ s. evicted_by s b.gone) (taken_in b.gone) held
-account b held h rise =
+account b held h =
     let all : (p : Packet) → IsIn p (went_out b.gone ++ held) → IsIn p b.all = λ p i. subst (IsIn p) (sym h.order) i in
     let few : (p : Packet) → count (is_packet p) (taken_in b.gone) + count (is_packet p) (put_out_in b.gone) + count (is_packet p) held ≤ 1 = shared-out b held h in
-    let out : (p : Packet) → count (is_packet p) (evicted_in b) ≡ count (is_packet p) (put_out_in b.gone) = λ p. count-evicted (is_packet p) (senders_of b.setup) b.gone (rise-apart b.setup.rooms rise) h.known in
+    let out : (p : Packet) → count (is_packet p) (evicted_in b) ≡ count (is_packet p) (put_out_in b.gone) = λ p. count-evicted (is_packet p) (senders_of b.setup) b.gone (rise-apart b.setup.rooms h.senders_rise) h.known in
     let is_of : (p : Packet) → IsIn p b.all → has_sender (senders_of b.setup) p.sender ≡ true = is-of b held h in record {
       balances = λ s. ap (λ l. without (of_sender s l) (evicted_in b)) h.order
           ∙ keep-taken (has_packet (evicted_in b)) s b.gone held
@@ -93,17 +94,38 @@ drop-held f s [] passes = refl
 drop-held f s (p ∷ l) passes = drop-one f (p.sender == s) p (of_sender s l) [] (passes p (inl refl)) (drop-held f s l (λ q i. passes q (inr i)))
 
 -- Of what wasn't put out, the packets that weren't taken are those that are held.
-pub left-held : (b : Books) (held : List Packet) → IsSound b held → SendersRise b.setup.rooms → (s : ℕ) → without (without (of_sender s b.all) (evicted_in b)) (taken_in b.gone) ≡ of_sender s held
-left-held b held h rise s =
+pub left-held : (b : Books) (held : List Packet) → IsSound b held → (s : ℕ) → without (without (of_sender s b.all) (evicted_in b)) (taken_in b.gone) ≡ of_sender s held
+left-held b held h s =
     let taken : List Packet = taken_in b.gone in
-    ap (λ l. without l taken) ((account b held h rise).balances s)
+    ap (λ l. without l taken) ((account b held h).balances s)
     ∙ filter-append (λ p. not (has_packet taken p)) (of_sender s taken) (of_sender s held)
     ∙ (λ i. drop-held (has_packet taken) s taken (λ p j. has-some p taken (in-counts p taken j)) i ++ keep-held (has_packet taken) s held (λ p j. has-none p taken (let some = in-counts p held j in let one = shared-out b held h p in omega (arith, some, one))) i)
 
--- Where as many packets were taken and put out as came, none is held.
-pub as-many : (b : Books) (held : List Packet) → IsSound b held → SendersRise b.setup.rooms → length b.all ≡ length (evicted_in b) + length (taken_in b.gone) → held ≡ []
-as-many b held h rise e =
+-- How many came: those that were put out, those that were taken, and those that are held.
+pub all-counted : (b : Books) (held : List Packet) → IsSound b held → length b.all ≡ length (evicted_in b) + length (taken_in b.gone) + length held
+all-counted b held h =
     let all = ap length h.order ∙ length-count (went_out b.gone ++ held) ∙ count-all (λ _. true) b.gone held in
-    let out = length-count (evicted_in b) ∙ count-evicted (λ _. true) (senders_of b.setup) b.gone (rise-apart b.setup.rooms rise) h.known in
+    let out = length-count (evicted_in b) ∙ count-evicted (λ _. true) (senders_of b.setup) b.gone (rise-apart b.setup.rooms h.senders_rise) h.known in
     let taken = length-count (taken_in b.gone) in let kept = length-count held in
-    nil_from_length held (omega (arith, all, out, taken, kept, e))
+    omega (arith, all, out, taken, kept)
+
+-- Where as many packets were taken and put out as came, none is held.
+pub as-many : (b : Books) (held : List Packet) → IsSound b held → length b.all ≡ length (evicted_in b) + length (taken_in b.gone) → held ≡ []
+as-many b held h e = let all = all-counted b held h in nil_from_length held (omega (arith, all, e))
+
+-- The account between any two steps, with the lists of all views.
+gathered-listed : (b : Books) (given : List ℕ) (gathered : List Gathered) → AreGathered b given gathered
+    → AllByRecursion (λ (g : Gathered). (g.accepted ≡ of_sender g.sender b.all) × (g.evicted ≡ evicted_by g.sender b.gone)) gathered
+gathered-listed b given [] h = tt
+gathered-listed b given (g ∷ gathered) h = ((h.0.accepted, h.0.evicted), gathered-listed b given gathered h.2)
+
+pub account-kept : KeepsAccount
+account-kept held views h = let b : Books = h.0 in record {
+  setup = b.setup;
+  accepted = λ s. of_sender s b.all;
+  evicted = λ s. evicted_by s b.gone;
+  taken = taken_in b.gone;
+  account = account b held h.1;
+  seats = λ pass v at sits. let fits : FitsSeat b pass v = (h.2 pass v at).0 sits in record { setup_is = fits.setup; accepted_is = fits.accepted; evicted_is = fits.evicted };
+  taps = λ pass v at taps. let fits : FitsTap b pass v = (h.2 pass v at).1 taps in record { setup_is = fits.setup; taken_is = fits.taken; gathered_are = gathered-listed b v.given v.gathered fits.gathered };
+}

@@ -5,7 +5,7 @@ use Rattle.crossbeam_queue.specs.Fifo.{Forks}
 use Rattle.clk_packet.specs.declared.packet.Packet.{Packet}
 use Rattle.clk_ruled.specs.declared.view.Setup.{Setup}
 use Rattle.clk_ruled.specs.declared.view.View.{View}
-use Rattle.clk_ruled.specs.Lists.{has_sender}
+use Rattle.clk_ruled.specs.Lists.{has_sender, SendersRise}
 use Rattle.clk_ruled.specs.Rule.{Books, FitsTap, Fits, Keeps, no_setup, spent_view, blank_view, tap_view}
 use Rattle.clk_ruled.proofs.Changes.{all-set, all-snoc}
 
@@ -15,7 +15,7 @@ begins =
     let c : Books = record { setup = no_setup; all = []; gone = []; seat = λ _. none; tap = 0 } in
     let tap : FitsTap c 0 blank_view = record { tap = refl; setup = refl; taken = refl; fresh = λ s _. record { seat = refl; accepted = refl; evicted = refl }; gathered = tt } in (
       c,
-      record { order = refl; fits = omega arith; room = λ s. omega arith; rises = λ s. tt; known = λ s _. refl; tail_drop = λ _ s. refl },
+      record { senders_rise = tt; order = refl; fits = omega arith; room = λ s. omega arith; rises = λ s. tt; known = λ s _. refl; tail_drop = λ _ s. refl },
       all-snoc (Fits c) [] blank_view (λ j u e. absurd (some-ne-none u (sym e))) ((λ e. absurd (true≢false (sym e))), λ _. tap),
     )
 
@@ -24,8 +24,8 @@ no-items : (items : List Packet) → length items ≤ 0 → items ≡ []
 no-items [] h = refl
 no-items (x ∷ items) h = absurd (omega arith)
 
-pub opens : (pass : ℕ) (v : View) (setup : Setup) → v ≡ blank_view → Forks Keeps pass v (tap_view setup [] [] []) spent_view
-opens pass v setup is items views h at =
+pub opens : (pass : ℕ) (v : View) (setup : Setup) → SendersRise setup.rooms → v ≡ blank_view → Forks Keeps pass v (tap_view setup [] [] []) spent_view
+opens pass v setup rise is items views h at =
     let b : Books = h.0 in let f : FitsTap b pass v = (h.2 pass v at).1 (ap (λ (y : View). y.taps) is) in
     let none_given : v.given ≡ [] = ap (λ (y : View). y.given) is in
     let nothing : items ≡ [] = no-items items (subst (λ (y : Setup). length items ≤ y.capacity) (sym f.setup ∙ ap (λ (y : View). y.setup) is) h.1.fits) in
@@ -34,7 +34,7 @@ opens pass v setup is items views h at =
     let no_seat : (s : ℕ) → b.seat s ≡ none = λ s. (f.fresh s (ap (λ l. has_sender l s) none_given)).seat in
     let tap : FitsTap c pass left = record { tap = refl; setup = refl; taken = refl; fresh = λ s _. record { seat = refl; accepted = refl; evicted = refl }; gathered = tt } in (
       c,
-      record { order = sym nothing; fits = subst (λ (l : List Packet). length l ≤ setup.capacity) (sym nothing) (omega arith); room = λ s. omega arith; rises = λ s. tt; known = λ s _. refl; tail_drop = λ _ s. refl },
+      record { senders_rise = rise; order = sym nothing; fits = subst (λ (l : List Packet). length l ≤ setup.capacity) (sym nothing) (omega arith); room = λ s. omega arith; rises = λ s. tt; known = λ s _. refl; tail_drop = λ _ s. refl },
       all-snoc (Fits c) (set views pass left) spent_view
           (all-set (Fits b) (Fits c) views pass left h.2 ((λ e. absurd (true≢false (sym e))), λ _. tap)
           (λ j u other g. ((λ sits. absurd (some-ne-none j (sym (g.0 sits).seat ∙ no_seat u.sender))), λ taps. absurd (other ((g.1 taps).tap ∙ sym f.tap)))))

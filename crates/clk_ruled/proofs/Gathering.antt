@@ -3,7 +3,7 @@ use Rattle.std.proofs.Common.{◌≡◌, ℕ, ◌+◌, ◌<◌, ◌≤◌, Bool,
 use Rattle.std.specs.List.{AllWithin}
 use Rattle.std.proofs.lemmas.List.Elements.{AllWithin-more_set}
 use Rattle.clk_ruled.specs.declared.view.Gathered.{Gathered}
-use Rattle.clk_ruled.specs.Queue.{SeatLists, TapLists, ClosedLists, gathering}
+use Rattle.clk_ruled.specs.Queue.{SeatLists, TapLists, ClosedLists, closed_with, gathering}
 use Rattle.clk_ruled.specs.Settle.{lists_of, as_gathered, IsAmong, IsOfTap, AreOfTap, HasEach}
 
 -- So many of the seats were gathered, and nothing else has changed.
@@ -38,10 +38,6 @@ lists-set : (now : List ClosedLists) (i : ℕ) (c d : ClosedLists) → i < lengt
 lists-set [] i c d lt e = absurd (omega arith)
 lists-set (x ∷ now) zero c d lt e = ap (λ (l : SeatLists). l ∷ lists_of now) e
 lists-set (x ∷ now) (suc i) c d lt e = ap (λ l. x.lists ∷ l) (lists-set now i c d (omega arith) e)
-
--- a seat that is gathered, for the first time or once more
-abbrev pub closed_with : SeatLists → ClosedLists
-closed_with l = record { lists = l; is_gathered = true }
 
 pub record IsStep (tap new : TapLists) (l : SeatLists) : Type 0 where
   pub id : new.id ≡ tap.id

@@ -5,20 +5,13 @@ use Rattle.clk_packet.specs.declared.packet.Packet.{Packet}
 use Rattle.clk_packet.specs.declared.packet.Offered.{Offered}
 use Rattle.clk_packet.specs.declared.packet.Offered.TheVariants.{Accepted, Refused, Evicted}
 use Rattle.clk_ruled.specs.declared.view.Setup.{Setup}
-use Rattle.clk_ruled.specs.Queue.{Queue, SeatLists, TapLists, ClosedLists, IsTapOf, IsSeatOf, IsOpened, IsOffered, IsPulled, empty_seat, empty_tap, queue_of, taking, gathering}
-use Rattle.clk_ruled.specs.Settle.{AreTogether, AreOfTap, IsOfTap, lists_of}
-use Rattle.clk_ruled.proofs.Gathering.{closed_with, of-tap-at, of-tap-more, of-tap-gathered}
-
--- a seat as it would be, closed now
-abbrev pub closing : SeatLists → ClosedLists
-closing l = record { lists = l; is_gathered = false }
+use Rattle.clk_ruled.specs.Queue.{Queue, SeatLists, TapLists, ClosedLists, closed_with, IsTapOf, IsSeatOf, IsOpened, IsOffered, IsPulled, empty_seat, empty_tap, queue_of, taking, gathering}
+use Rattle.clk_ruled.specs.Settle.{AreTogether, AreOpenedTogether, AreOfTap, IsOfTap, closing, lists_of}
+use Rattle.clk_ruled.specs.Laws.{KeepsTogether}
+use Rattle.clk_ruled.proofs.Gathering.{of-tap-at, of-tap-more, of-tap-gathered}
 
 abbrev place_of : SeatLists → ℕ × ℕ
 place_of l = (l.sender, l.room)
-
--- The seats are all that the tap's queue was opened with.
-abbrev pub AreInUse : Queue → TapLists → List ClosedLists → Type 0
-AreInUse queue tap closed = IsTapOf queue tap × AreTogether tap closed
 
 opened-each : (id : TableId) (setup : Setup) (rooms : List (ℕ × ℕ)) → AreOfTap (empty_tap id setup) (map closing (map (empty_seat id setup) rooms))
 opened-each id setup [] = tt
@@ -28,7 +21,7 @@ opened-places : (id : TableId) (setup : Setup) (rooms : List (ℕ × ℕ)) → m
 opened-places id setup [] = refl
 opened-places id setup (r ∷ rooms) = ap (λ l. r ∷ l) (opened-places id setup rooms)
 
-pub opened-in-use : (setup : Setup) (queue : Queue) (seats : List SeatLists) (tap : TapLists) → IsOpened setup queue seats tap → AreInUse queue tap (map closing seats)
+pub opened-in-use : (setup : Setup) (queue : Queue) (seats : List SeatLists) (tap : TapLists) → IsOpened setup queue seats tap → AreOpenedTogether queue tap (map closing seats)
 opened-in-use setup queue seats tap h = (
   h.0 ∙ ap (λ (t : TapLists). queue_of t.id t.setup) (sym h.2),
   subst (λ (x : TapLists × List SeatLists). AreTogether x.0 (map closing x.1)) (λ i. (sym h.2 i, sym h.1 i)) record { senders = opened-places queue.id setup setup.rooms; each = opened-each queue.id setup setup.rooms },
@@ -38,10 +31,10 @@ opened-in-use setup queue seats tap h = (
 taking-of : (tap : TapLists) (p : Packet) (c : ClosedLists) → IsOfTap tap c → IsOfTap (taking tap p) c
 taking-of tap p c h = record { id = h.id; setup = h.setup; had = h.had }
 
-pub pulled-in-use : (queue : Queue) (tap new : TapLists) (got : Option Packet) (closed : List ClosedLists) → IsPulled tap got new → AreInUse queue tap closed → AreInUse queue new closed
-pulled-in-use queue tap new None closed is h = subst (λ (t : TapLists). AreInUse queue t closed) (sym is) h
+pub pulled-in-use : (queue : Queue) (tap new : TapLists) (got : Option Packet) (closed : List ClosedLists) → IsPulled tap got new → AreOpenedTogether queue tap closed → AreOpenedTogether queue new closed
+pulled-in-use queue tap new None closed is h = subst (λ (t : TapLists). AreOpenedTogether queue t closed) (sym is) h
 pulled-in-use queue tap new (Some p) closed is h =
-    subst (λ (t : TapLists). AreInUse queue t closed) (sym is) (h.0, record { senders = h.1.senders; each = of-tap-more tap (taking tap p) closed (taking-of tap p) h.1.each })
+    subst (λ (t : TapLists). AreOpenedTogether queue t closed) (sym is) (h.0, record { senders = h.1.senders; each = of-tap-more tap (taking tap p) closed (taking-of tap p) h.1.each })
 
 -- the seat at a place
 seat-at : (tap : TapLists) (seats : List SeatLists) (i : ℕ) (d : SeatLists) → i < length seats → AreOfTap tap (map closing seats) → ((get_or seats i d).id ≡ tap.id) × ((get_or seats i d).setup ≡ tap.setup)
@@ -49,7 +42,7 @@ seat-at tap [] i d lt h = absurd (omega arith)
 seat-at tap (l ∷ seats) zero d lt h = (h.0.id, h.0.setup)
 seat-at tap (l ∷ seats) (suc i) d lt h = seat-at tap seats i d (omega arith) h.1
 
-pub seat-in-use : (queue : Queue) (tap : TapLists) (seats : List SeatLists) (i : ℕ) (l : SeatLists) → i < length seats → l ≡ get_or seats i l → AreInUse queue tap (map closing seats) → IsSeatOf queue l
+pub seat-in-use : (queue : Queue) (tap : TapLists) (seats : List SeatLists) (i : ℕ) (l : SeatLists) → i < length seats → l ≡ get_or seats i l → AreOpenedTogether queue tap (map closing seats) → IsSeatOf queue l
 seat-in-use queue tap seats i l lt here h =
     let one = seat-at tap seats i l lt h.1.each in subst (IsSeatOf queue) (sym here) (h.0 ∙ (λ j. queue_of (sym one.0 j) (sym one.1 j)))
 
@@ -75,7 +68,7 @@ set-places (l ∷ seats) zero new d lt e = ap (λ (x : ℕ × ℕ). x ∷ map pl
 set-places (l ∷ seats) (suc i) new d lt e = ap (λ x. place_of l ∷ x) (set-places seats i new d (omega arith) e)
 
 pub offered-in-use : (queue : Queue) (tap : TapLists) (seats : List SeatLists) (i : ℕ) (l new : SeatLists) (p : Packet) (answer : Offered) → i < length seats → l ≡ get_or seats i l → IsOffered l p answer new
-    → AreInUse queue tap (map closing seats) → AreInUse queue tap (map closing (set seats i new))
+    → AreOpenedTogether queue tap (map closing seats) → AreOpenedTogether queue tap (map closing (set seats i new))
 offered-in-use queue tap seats i l new p answer lt here is h =
     let same = subst (λ (x : SeatLists). IsSameSeat x new) here (same-seat l new p answer is) in (
       h.0,
@@ -83,13 +76,13 @@ offered-in-use queue tap seats i l new p answer lt here is h =
     )
 
 -- The same of closed seats, while the tap gathers them.
-pub closed-in-use : (queue : Queue) (tap : TapLists) (closed : List ClosedLists) (i : ℕ) (c : ClosedLists) → i < length closed → c ≡ get_or closed i c → AreInUse queue tap closed → (c.lists.id ≡ tap.id) × (c.lists.setup ≡ tap.setup)
+pub closed-in-use : (queue : Queue) (tap : TapLists) (closed : List ClosedLists) (i : ℕ) (c : ClosedLists) → i < length closed → c ≡ get_or closed i c → AreOpenedTogether queue tap closed → (c.lists.id ≡ tap.id) × (c.lists.setup ≡ tap.setup)
 closed-in-use queue tap closed i c lt here h =
     let one = of-tap-at tap closed i c lt h.1.each in subst (λ (x : ClosedLists). (x.lists.id ≡ tap.id) × (x.lists.setup ≡ tap.setup)) (sym here) (one.id, one.setup)
 
 pub gathered-in-use : (queue : Queue) (tap new : TapLists) (closed : List ClosedLists) (i : ℕ) (old c : ClosedLists) → i < length closed → old ≡ get_or closed i old
     → c ≡ closed_with old.lists → (old.is_gathered ≡ false → new ≡ gathering tap old.lists) → (old.is_gathered ≡ true → new ≡ tap)
-    → AreInUse queue tap closed → AreInUse queue new (set closed i c)
+    → AreOpenedTogether queue tap closed → AreOpenedTogether queue new (set closed i c)
 gathered-in-use queue tap new closed i old c lt here is first again h =
     let after = of-tap-gathered tap new closed i c old lt h.1.each
     (subst (λ (x : ClosedLists). c ≡ closed_with x.lists) here is)
@@ -98,3 +91,13 @@ gathered-in-use queue tap new closed i old c lt here is first again h =
       h.0 ∙ (λ j. queue_of (sym after.0.id j) (sym after.0.setup j)),
       record { senders = ap (map place_of) after.1 ∙ h.1.senders ∙ ap (λ (s : Setup). s.rooms) (sym after.0.setup); each = after.2 },
     )
+
+pub kept-together : KeepsTogether
+kept-together = record {
+  opened = opened-in-use;
+  seats = seat-in-use;
+  offered = offered-in-use;
+  pulled = pulled-in-use;
+  closed = closed-in-use;
+  gathered = gathered-in-use;
+}

@@ -4,8 +4,8 @@ use Rattle.std.proofs.lemmas.List.{append_assoc}
 use Rattle.atomic_table.specs.Seated.{TableId}
 use Rattle.clk_ruled.specs.declared.view.Setup.{Setup}
 use Rattle.clk_ruled.specs.declared.view.View.{View}
-use Rattle.clk_ruled.specs.Lists.{has_sender, room_of}
-use Rattle.clk_ruled.specs.Queue.{SeatLists, empty_seat, SendersAbove, SendersRise}
+use Rattle.clk_ruled.specs.Lists.{has_sender, room_of, SendersAbove, SendersRise}
+use Rattle.clk_ruled.specs.Queue.{SeatLists, empty_seat}
 use Rattle.clk_ruled.specs.Rule.{tap_view}
 use Rattle.clk_ruled.specs.Parts.{AreFree, AreRoomed, IsSeated}
 use Rattle.clk_ruled.proofs.ListLemmas.{eq-true, ne-false}

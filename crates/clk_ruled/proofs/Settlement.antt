@@ -1,7 +1,7 @@
 -- What is known of a queue, once the tap has the lists of all its seats.
 use Rattle.std.proofs.Common.{◌≡◌, ℕ, ◌<◌, ◌≤◌, ◌==◌, Bool, true, false, List, [], ◌∷◌, ◌++◌, length, map, refl, sym, ap, ◌∙◌, subst, ⊎_elim, arith, if◌then◌else◌}
 use Rattle.std.proofs.lemmas.List.{append-nil, length-append, nil_from_length}
-use Rattle.std.specs.List.{flat_map}
+use Rattle.std.specs.List.{flat_map, AllByRecursion}
 use Rattle.atomic_table.specs.Seated.{TableId}
 use Rattle.clk_packet.specs.declared.packet.Packet.{Packet}
 use Rattle.clk_ruled.specs.declared.settling.Settled.{Settled}
@@ -12,10 +12,10 @@ use Rattle.clk_ruled.specs.Account.{IsAccount}
 use Rattle.clk_ruled.specs.Keys.{AreKeysOf, has_key}
 use Rattle.clk_ruled.specs.Lists.{of_sender, has_sender, without}
 use Rattle.clk_ruled.specs.Parts.{TapKeeps}
-use Rattle.clk_ruled.specs.Queue.{SeatLists, TapLists, ClosedLists, SendersRise}
+use Rattle.clk_ruled.specs.Queue.{SeatLists, TapLists, ClosedLists, IsSharedOut}
 use Rattle.clk_ruled.specs.Rule.{Books, FitsTap, AreGathered, evicted_by, taken_in, senders_of}
 use Rattle.clk_ruled.specs.Settle.{lists_of, as_gathered, accepted_of, evicted_of, all_evicted, accepted_count, evicted_count, lost_count, IsAmong, AreTogether, HasEach, tally_by, tally_of, IsSettled, IsAccounted}
-use Rattle.clk_ruled.proofs.Account.{account, as-many, left-held, evicted_in}
+use Rattle.clk_ruled.proofs.Account.{account, all-counted, as-many, left-held, evicted_in}
 use Rattle.clk_ruled.proofs.Counts.{true-eq}
 use Rattle.clk_ruled.proofs.KeyLemmas.{key-packet}
 use Rattle.clk_ruled.proofs.Tally.{times_in_all, senders_named, of-times, named-length, counted, rise-apart, unroomed}
@@ -28,7 +28,6 @@ accounted id v taken k = let fits : FitsTap k.knows.1.0 k.knows.1.1 v = k.knows.
   given = v.given;
   sound = k.knows.1.2;
   setup = fits.setup;
-  rises = k.rises;
   taken = sym k.taken_is ∙ fits.taken;
   gathered = fits.gathered;
 }
@@ -96,12 +95,12 @@ tallies-same packets keys same seats = ap (λ (f : Packet → Bool). map (tally_
 -- The tap has the lists of all seats, and so all is told.
 pub settles : (tap new : TapLists) (closed : List ClosedLists) (settled : Settled) → AreTogether tap closed → (new.setup ≡ tap.setup) × (new.taken ≡ tap.taken) → HasEach new (lists_of closed) → IsAccounted new
     → settled.taken.items ≡ new.taken → settled.tallies.items ≡ map (tally_of (all_evicted (lists_of closed))) (lists_of closed)
-    → (0 < lost_count (lists_of closed) → tap.setup.capacity ≤ accepted_count (lists_of closed)) → IsSettled tap closed settled
-settles tap new closed settled together same has a taken tallies reached =
+    → AllByRecursion IsSharedOut (lists_of closed) → (0 < lost_count (lists_of closed) → tap.setup.capacity ≤ accepted_count (lists_of closed)) → IsSettled tap closed settled
+settles tap new closed settled together same has a taken tallies shared reached =
     let b : Books = a.books in let seats : List SeatLists = lists_of closed in
     let setup : b.setup ≡ tap.setup = sym a.setup ∙ same.0 in
     let took : taken_in b.gone ≡ tap.taken = sym a.taken ∙ same.1 in
-    let rise : SendersRise b.setup.rooms = subst (λ (y : Setup). SendersRise y.rooms) a.setup a.rises in
+    let rise = a.sound.senders_rise in
     let fit : AreFit b seats = each-fit b a.given new seats a.gathered has in
     let senders : senders_of b.setup ≡ senders_at seats = ap (λ (y : Setup). senders_of y) setup ∙ ap (map (λ (r : ℕ × ℕ). r.0)) (sym together.senders) ∙ same-senders seats in
     let unknown : (s : ℕ) → has_sender (senders_at seats) s ≡ false → has_sender (senders_of b.setup) s ≡ false = λ s e. ap (λ l. has_sender l s) senders ∙ e in
@@ -109,18 +108,20 @@ settles tap new closed settled together same has a taken tallies reached =
     let accepted : (s : ℕ) → of_sender s b.all ≡ accepted_of seats s = λ s. sym (accepted-fits b s seats fit (none_came s)) in
     let evicted : (s : ℕ) → evicted_by s b.gone ≡ evicted_of seats s = λ s. sym (evicted-fits b s seats fit (λ e. a.sound.known s (unknown s e))) in
     let out : evicted_in b ≡ all_evicted seats = ap (flat_map (λ s. evicted_by s b.gone)) senders ∙ sym (all-evicted-fit b seats fit) in
-    let whole = account b a.held a.sound rise in record {
+    let apart = subst (λ (l : List ℕ). (t : ℕ) → has_sender l t ≡ false → length (of_sender t b.all) ≡ 0) (sym senders) (λ t e. ap length (none_came t e)) in
+    let came = accepted-times b seats fit ∙ ap (λ l. times_in_all l (senders_named b.all)) (sym senders) ∙ counted (senders_of b.setup) (senders_named b.all) (rise-apart b.setup.rooms rise) (λ t e. sym (of-times t b.all) ∙ apart t e) ∙ named-length b.all in
+    let gone = evicted-length seats ∙ ap length (sym out) in let mine = ap length took in
+    let whole = account b a.held a.sound in record {
       taken = taken ∙ same.1;
       tallies = tallies;
       held = a.held;
       account = subst (λ (x : Setup × (ℕ → List Packet) × (ℕ → List Packet) × List Packet). IsAccount x.0.kind x.0.capacity (senders_of x.0) x.1 x.2 x.3 a.held)
           (λ i. (setup i, (λ s. accepted s i), (λ s. evicted s i), took i)) whole;
-      left = λ s. ((whole.is_last s).0, sym (accepted s) ∙ (whole.is_last s).1 ∙ ap (λ l. (whole.is_last s).0 ++ l) (sym (left-held b a.held a.sound rise s) ∙ (λ i. without (without (accepted s i) (out i)) (took i))));
+      left = λ s. ((whole.is_last s).0, sym (accepted s) ∙ (whole.is_last s).1 ∙ ap (λ l. (whole.is_last s).0 ++ l) (sym (left-held b a.held a.sound s) ∙ (λ i. without (without (accepted s i) (out i)) (took i))));
       all_taken = λ many s.
-          let apart = subst (λ (l : List ℕ). (t : ℕ) → has_sender l t ≡ false → length (of_sender t b.all) ≡ 0) (sym senders) (λ t e. ap length (none_came t e)) in
-          let came = accepted-times b seats fit ∙ ap (λ l. times_in_all l (senders_named b.all)) (sym senders) ∙ counted (senders_of b.setup) (senders_named b.all) (rise-apart b.setup.rooms rise) (λ t e. sym (of-times t b.all) ∙ apart t e) ∙ named-length b.all in
-          let gone = evicted-length seats ∙ ap length (sym out) in let mine = ap length took in
-          let held : a.held ≡ [] = as-many b a.held a.sound rise (omega (arith, many, came, gone, mine)) in
+          let held : a.held ≡ [] = as-many b a.held a.sound (omega (arith, many, came, gone, mine)) in
           sym (λ i. without (accepted s i) (out i)) ∙ whole.balances s ∙ (λ i. of_sender s (took i) ++ of_sender s (held i)) ∙ append-nil (of_sender s tap.taken);
+      within = let all = all-counted b a.held a.sound in omega (arith, all, came, gone, mine);
+      shared = shared;
       reached = reached;
     }

@@ -34,6 +34,7 @@ by-sender F b p s own other = dite (ℕ_discrete p.sender s) (λ e. subst F (sym
 
 accepted-sound : (b : Books) (v : View) (pass : ℕ) (p : Packet) (items : List Packet) → MayOffer v p → FitsSeat b pass v → length items < b.setup.capacity → IsSound b items → IsSound (with_packet b p) (items ++ p ∷ [])
 accepted-sound b v pass p items may f room h = let own : p.sender ≡ v.sender = may.own in record {
+  senders_rise = h.senders_rise;
   order = ap (λ l. l ++ p ∷ []) h.order ∙ append_assoc (went_out b.gone) items (p ∷ []);
   fits = omega (arith, length-append items (p ∷ []));
   room = λ s. by-sender (λ l. length l ≤ room_of b.setup.rooms s) b p s
@@ -91,6 +92,7 @@ front-is_not-tail k e n = absurd (cc)
 
 evicted-sound : (b : Books) (s : ℕ) (p : Packet) (items : List Packet) → b.setup.kind ≡ FrontDrop → has_sender (senders_of b.setup) s ≡ true → IsSound b (p ∷ items) → IsSound (with_out b (put_out s p)) items
 evicted-sound b s p items front has h = record {
+  senders_rise = h.senders_rise;
   order = front-out b (put_out s p) p items refl h.order;
   fits = let fits = h.fits in omega arith;
   room = h.room;
@@ -125,6 +127,7 @@ evicts n pass v may p items views room h at =
 
 pulled-sound : (b : Books) (p : Packet) (items : List Packet) → IsSound b (p ∷ items) → IsSound (with_out b (to_puller p)) items
 pulled-sound b p items h = record {
+  senders_rise = h.senders_rise;
   order = front-out b (to_puller p) p items refl h.order;
   fits = let fits = h.fits in omega arith;
   room = h.room;
@@ -176,7 +179,7 @@ same-seated : (b : Books) (s t : ℕ) (pass : Option ℕ) → t ≢ s → IsSame
 same-seated b s t pass other = record { seat = seat-other b s t pass other; accepted = refl; evicted = refl }
 
 seated-sound : (b : Books) (s : ℕ) (pass : Option ℕ) (items : List Packet) → IsSound b items → IsSound (with_seat b s pass) items
-seated-sound b s pass items h = record { order = h.order; fits = h.fits; room = h.room; rises = h.rises; known = h.known; tail_drop = h.tail_drop }
+seated-sound b s pass items h = record { senders_rise = h.senders_rise; order = h.order; fits = h.fits; room = h.room; rises = h.rises; known = h.known; tail_drop = h.tail_drop }
 
 -- more senders have a seat
 given-more : (b c : Books) (s : ℕ) (given : List ℕ) (gathered : List Gathered) → ((t : ℕ) → t ≢ s → IsSame b c t) → has_sender given s ≡ false → AreGathered b given gathered → AreGathered c (s ∷ given) gathered

@@ -7,7 +7,7 @@ use Rattle.clk_ruled.specs.declared.view.Setup.{Setup}
 use Rattle.clk_ruled.specs.declared.view.Gathered.{Gathered}
 use Rattle.clk_ruled.specs.declared.view.View.{View}
 use Rattle.clk_ruled.specs.Lists.{of_sender, has_sender, IsRising, IsIn, rooms_in_all}
-use Rattle.clk_ruled.specs.Queue.{SendersRise, AreOfSenders, accepted_in_all, evicted_in_all}
+use Rattle.clk_ruled.specs.Queue.{AreOfSenders, accepted_in_all, evicted_in_all}
 use Rattle.clk_ruled.specs.Rule.{Out, to_puller, put_out, went_out, taken_in, Books, senders_of, gathered_senders, IsSound, AreGathered, FitsTap, Knows, KnowsAfter, tap_view}
 use Rattle.clk_ruled.specs.Parts.{TapKeeps}
 use Rattle.clk_ruled.proofs.ListLemmas.{eq-true}
@@ -22,9 +22,17 @@ keeps-pulled v w taken new p k is made =
       taps = ap (λ (u : View). u.taps) is.0;
       taken_is = ap (λ (u : View). u.taken) is.0 ∙ ap (λ l. l ++ p ∷ []) k.taken_is ∙ sym made;
       some = subst (λ (y : Setup). 1 ≤ y.capacity) (sym setup) k.some;
-      rises = subst (λ (y : Setup). SendersRise y.rooms) (sym setup) k.rises;
       knows = is.1;
     }
+
+-- the tap once it gathered a seat
+pub keeps-gathered : (v w u : View) (taken : List Packet) (g : Gathered) → TapKeeps v taken → w ≡ tap_view v.setup v.taken v.given (g ∷ v.gathered) → u ≡ w → KnowsAfter w → TapKeeps u taken
+keeps-gathered v w u taken g k is same knows = subst (λ (x : View). TapKeeps x taken) (sym same) record {
+  taps = ap (λ (x : View). x.taps) is;
+  taken_is = ap (λ (x : View). x.taken) is ∙ k.taken_is;
+  some = subst (λ (y : Setup). 1 ≤ y.capacity) (sym (ap (λ (x : View). x.setup) is)) k.some;
+  knows = knows;
+}
 
 -- the tap where it found the queue empty
 pub keeps-still : (v w : View) (taken : List Packet) → TapKeeps v taken → w ≡ v → TapKeeps w taken
@@ -49,7 +57,7 @@ tap-knows v taken k = knows-held v taken k.knows.0 k k.knows.1
 pub taken-within : (v : View) (taken : List Packet) → TapKeeps v taken → length taken ≤ rooms_in_all v.setup.rooms
 taken-within v taken k =
     let known = tap-knows v taken k in let b = known.books in
-    let all = all-within b.setup.rooms b.all (subst (λ (y : Setup). SendersRise y.rooms) known.setup k.rises) known.sound.room in
+    let all = all-within b.setup.rooms b.all known.sound.senders_rise known.sound.room in
     let few = fewer-taken b.gone k.knows.0 in let long = ap length known.sound.order in let mine = ap length known.taken_is in
     let rooms : rooms_in_all v.setup.rooms ≡ rooms_in_all b.setup.rooms = ap (λ (y : Setup). rooms_in_all y.rooms) known.setup in omega (arith, all, few, long, mine, rooms)
 

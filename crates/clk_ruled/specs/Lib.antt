@@ -7,3 +7,4 @@ pub mod Parts
 pub mod Keys
 pub mod Settle
 pub mod Closing
+pub mod Laws

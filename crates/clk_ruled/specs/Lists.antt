@@ -53,3 +53,12 @@ room_of (r ∷ rooms) s = if r.0 == s then r.1 else room_of rooms s
 abbrev pub rooms_in_all : List (ℕ × ℕ) → ℕ
 rooms_in_all [] = 0
 rooms_in_all (r ∷ rooms) = r.1 + rooms_in_all rooms
+
+-- the senders rise
+abbrev pub SendersAbove : ℕ → List (ℕ × ℕ) → Type 0
+SendersAbove s [] = ⊤
+SendersAbove s (r ∷ rooms) = (s < r.0) × SendersAbove s rooms
+
+abbrev pub SendersRise : List (ℕ × ℕ) → Type 0
+SendersRise [] = ⊤
+SendersRise (r ∷ rooms) = SendersAbove r.0 rooms × SendersRise rooms

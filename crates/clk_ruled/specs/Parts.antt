@@ -3,8 +3,8 @@ use Rattle.std.specs.Prelude.{◌≡◌, ℕ, ◌≤◌, true, false, List, [], 
 use Rattle.clk_packet.specs.declared.packet.Packet.{Packet}
 use Rattle.clk_packet.specs.declared.packet.Kind.TheVariants.{TailDrop, FrontDrop}
 use Rattle.clk_ruled.specs.declared.view.View.{View}
-use Rattle.clk_ruled.specs.Lists.{room_of, has_sender}
-use Rattle.clk_ruled.specs.Queue.{SeatLists, IsShared, SendersRise, empty_seat}
+use Rattle.clk_ruled.specs.Lists.{room_of, has_sender, SendersRise}
+use Rattle.clk_ruled.specs.Queue.{SeatLists, IsShared, empty_seat}
 use Rattle.clk_ruled.specs.Rule.{KnowsAfter, tap_view}
 use Rattle.atomic_table.specs.Seated.{TableId}
 use Rattle.clk_ruled.specs.declared.view.Setup.{Setup}
@@ -22,12 +22,11 @@ pub record SeatFits (v : View) (sender room next : ℕ) (accepted refused evicte
   pub tail_drop : v.setup.kind ≡ TailDrop → evicted ≡ []
   pub front_drop : v.setup.kind ≡ FrontDrop → refused ≡ []
 
--- what was taken is what the view says, the senders rise, and the books know of it
+-- what was taken is what the view says, and the books know of it
 pub record TapKeeps (v : View) (taken : List Packet) : Type 0 where
   pub taps : v.taps ≡ true
   pub taken_is : v.taken ≡ taken
   pub some : 1 ≤ v.setup.capacity
-  pub rises : SendersRise v.setup.rooms
   pub knows : KnowsAfter v
 
 -- none of these senders has had a seat, and each may offer so many packets as is said

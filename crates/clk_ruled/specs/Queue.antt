@@ -1,5 +1,5 @@
 -- A shared queue, its seats and its tap, as their callers see them.
-use Rattle.std.specs.Prelude.{◌≡◌, ℕ, ◌+◌, ◌<◌, Bool, true, List, [], ◌∷◌, ◌++◌, length, min, max, map, ⊤, suc, ◌⊎◌, Option, Some, None}
+use Rattle.std.specs.Prelude.{◌≡◌, ℕ, ◌+◌, ◌≤◌, Bool, true, List, [], ◌∷◌, ◌++◌, length, min, max, map, ⊤, suc, ◌⊎◌, Option, Some, None}
 use Rattle.atomic_table.specs.Seated.{TableId}
 use Rattle.clk_packet.specs.declared.packet.Packet.{Packet}
 use Rattle.clk_packet.specs.declared.packet.Kind.{Kind}
@@ -60,6 +60,12 @@ pub record IsShared (sender next : ℕ) (accepted refused : List Packet) : Type 
   pub count : length offered ≡ next
   pub numbers : AreNumbered sender 0 offered
   pub dealt : IsDealt offered accepted refused
+
+-- What became of all that a seat offered: each packet is in one of accepted and refused, and a FrontDropQueue refuses none.
+pub record IsSharedOut (l : SeatLists) : Type 0 where
+  pub within : l.next ≤ l.room
+  pub shared : IsShared l.sender l.next l.accepted l.refused
+  pub front_drop : l.setup.kind ≡ FrontDrop → l.refused ≡ []
 
 -- the seat is one of this queue's
 abbrev pub IsSeatOf : Queue → SeatLists → Type 0
@@ -129,16 +135,11 @@ IsOpened setup queue seats tap = (queue ≡ queue_of queue.id setup) × (seats �
 abbrev pub setup_of : Kind → ℕ → List (ℕ × ℕ) → Setup
 setup_of kind capacity rooms = record { kind = kind; capacity = capacity; rooms = rooms }
 
--- the senders rise
-abbrev pub SendersAbove : ℕ → List (ℕ × ℕ) → Type 0
-SendersAbove s [] = ⊤
-SendersAbove s (r ∷ rooms) = (s < r.0) × SendersAbove s rooms
-
-abbrev pub SendersRise : List (ℕ × ℕ) → Type 0
-SendersRise [] = ⊤
-SendersRise (r ∷ rooms) = SendersAbove r.0 rooms × SendersRise rooms
-
 -- a closed seat: its lists, and whether the tap gathered them
 pub record ClosedLists : Type 0 where
   pub lists : SeatLists
   pub is_gathered : Bool
+
+-- a closed seat once it is gathered, for the first time or once more
+abbrev pub closed_with : SeatLists → ClosedLists
+closed_with l = record { lists = l; is_gathered = true }

@@ -7,7 +7,7 @@ use Rattle.clk_packet.specs.declared.packet.Kind.TheVariants.{TailDrop}
 use Rattle.clk_ruled.specs.declared.view.Setup.{Setup}
 use Rattle.clk_ruled.specs.declared.view.Gathered.{Gathered}
 use Rattle.clk_ruled.specs.declared.view.View.{View}
-use Rattle.clk_ruled.specs.Lists.{of_sender, IsRising, has_sender, room_of}
+use Rattle.clk_ruled.specs.Lists.{of_sender, IsRising, has_sender, room_of, SendersRise}
 
 -- A packet went out at the front: to the puller, or because a packet of this sender's seat was forced in.
 pub data Out : Type 0 where
@@ -46,6 +46,7 @@ senders_of setup = map (λ (r : ℕ × ℕ). r.0) setup.rooms
 
 -- The books are in order, where these packets are held.
 pub record IsSound (b : Books) (held : List Packet) : Type 0 where
+  pub senders_rise : SendersRise b.setup.rooms
   pub order : b.all ≡ went_out b.gone ++ held
   pub fits : length held ≤ b.setup.capacity
   pub room : (s : ℕ) → length (of_sender s b.all) ≤ room_of b.setup.rooms s

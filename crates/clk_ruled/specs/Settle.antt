@@ -1,6 +1,6 @@
 -- What became of all packets of a shared queue, once its seats are closed.
-use Rattle.std.specs.Prelude.{◌≡◌, ℕ, ◌+◌, ◌<◌, ◌≤◌, ◌==◌, ◌⊎◌, Bool, true, List, [], ◌∷◌, ◌++◌, length, map, filter, ⊤, if◌then◌else◌}
-use Rattle.std.specs.List.{flat_map}
+use Rattle.std.specs.Prelude.{◌≡◌, ℕ, ◌+◌, ◌<◌, ◌≤◌, ◌==◌, ◌⊎◌, Bool, true, false, List, [], ◌∷◌, ◌++◌, length, map, filter, ⊤, if◌then◌else◌}
+use Rattle.std.specs.List.{flat_map, AllByRecursion}
 use Rattle.clk_packet.specs.declared.packet.Packet.{Packet}
 use Rattle.clk_packet.specs.declared.tally.Tally.{Tally}
 use Rattle.clk_packet.specs.declared.fault.Fault.{Fault}
@@ -8,7 +8,7 @@ use Rattle.clk_packet.specs.declared.fault.Fault.TheVariants.{Memory, Unsettled}
 use Rattle.clk_ruled.specs.declared.view.Gathered.{Gathered}
 use Rattle.clk_ruled.specs.declared.settling.Settled.{Settled}
 use Rattle.clk_ruled.specs.Lists.{of_sender, has_packet, without}
-use Rattle.clk_ruled.specs.Queue.{SeatLists, TapLists, ClosedLists, SendersRise, accepted_in_all, evicted_in_all}
+use Rattle.clk_ruled.specs.Queue.{Queue, SeatLists, TapLists, ClosedLists, IsTapOf, IsSharedOut, accepted_in_all, evicted_in_all}
 use Rattle.clk_ruled.specs.Rule.{Books, IsSound, AreGathered, gathered_seat, senders_of, taken_in}
 use Rattle.clk_ruled.specs.Account.{IsAccount}
 
@@ -67,6 +67,15 @@ pub record AreTogether (tap : TapLists) (closed : List ClosedLists) : Type 0 whe
   pub senders : map (λ (l : SeatLists). (l.sender, l.room)) (lists_of closed) ≡ tap.setup.rooms
   pub each : AreOfTap tap closed
 
+-- a seat as it would be, closed now
+abbrev pub closing : SeatLists → ClosedLists
+closing l = record { lists = l; is_gathered = false }
+
+-- A queue, its tap and all of its seats, in order, were opened together, and what each gathered seat had is the tap's. A seat that
+-- isn't closed yet stands as it would be, closed now.
+abbrev pub AreOpenedTogether : Queue → TapLists → List ClosedLists → Type 0
+AreOpenedTogether queue tap closed = IsTapOf queue tap × AreTogether tap closed
+
 -- the tally of a seat's sender, where the packets that pass the test were put out
 abbrev pub tally_by : (Packet → Bool) → SeatLists → Tally
 tally_by was_put_out l = record { sender = l.sender; accepted = l.accepted; refused = l.refused; evicted = filter was_put_out l.accepted }
@@ -86,6 +95,10 @@ pub record IsSettled (tap : TapLists) (closed : List ClosedLists) (settled : Set
   pub left : (s : ℕ) → (before : List Packet) × (accepted_of (lists_of closed) s ≡ before ++ without (without (accepted_of (lists_of closed) s) (all_evicted (lists_of closed))) tap.taken)
   -- where all that weren't put out were pulled, they were pulled in their sender's order
   pub all_taken : accepted_count (lists_of closed) ≡ evicted_count (lists_of closed) + length tap.taken → (s : ℕ) → without (accepted_of (lists_of closed) s) (all_evicted (lists_of closed)) ≡ of_sender s tap.taken
+  -- never are more pulled than weren't put out
+  pub within : evicted_count (lists_of closed) + length tap.taken ≤ accepted_count (lists_of closed)
+  -- each seat's packets are shared out to accepted and refused
+  pub shared : AllByRecursion IsSharedOut (lists_of closed)
   -- something was refused or put out only where the queue took so many packets as it may hold
   pub reached : 0 < lost_count (lists_of closed) → tap.setup.capacity ≤ accepted_count (lists_of closed)
 
@@ -101,7 +114,6 @@ pub record IsAccounted (tap : TapLists) : Type 0 where
   pub given : List ℕ
   pub sound : IsSound books held
   pub setup : tap.setup ≡ books.setup
-  pub rises : SendersRise tap.setup.rooms
   pub taken : tap.taken ≡ taken_in books.gone
   pub gathered : AreGathered books given tap.gathered
 

@@ -24,6 +24,7 @@ pub struct ClosedSeat {
 impl Model for ClosedSeat {
     ghost use Rattle.std.specs.Prelude.{◌≡◌, ◌≤◌, [], false};
     ghost use Rattle.crossbeam_queue.specs.Passes.{view as known};
+    ghost use Rattle.clk_packet.specs.declared.packet.Kind.TheVariants.{FrontDrop};
     ghost use Rattle.clk_ruled.specs.Queue.{ClosedLists, IsShared};
     ghost use Rattle.clk_ruled.specs.Parts.{SeatFits};
 
@@ -31,13 +32,13 @@ impl Model for ClosedSeat {
 
     ghost view = { λ c. record { lists = record { id = c.pass.table_id; setup = (known c.pass).setup; sender = c.sender; room = c.room; next = c.next; accepted = c.accepted.items; refused = c.refused.items; evicted = c.evicted.items }; is_gathered = c.gathered } };
 
-    ghost invariant = { λ c. (c.gathered ≡ false → SeatFits (known c.pass) c.sender c.room c.next c.accepted.items c.refused.items c.evicted.items) × (c.pass.me.1 ≡ []) × (c.next ≤ c.room) × IsShared c.sender c.next c.accepted.items c.refused.items };
+    ghost invariant = { λ c. (c.gathered ≡ false → SeatFits (known c.pass) c.sender c.room c.next c.accepted.items c.refused.items c.evicted.items) × (c.pass.me.1 ≡ []) × (c.next ≤ c.room) × IsShared c.sender c.next c.accepted.items c.refused.items × ((known c.pass).setup.kind ≡ FrontDrop → c.refused.items ≡ []) };
 }
 
 impl ClosedSeat {
     ghost use Rattle.std.specs.Prelude.{◌≡◌, ◌≤◌, true, false};
     ghost use Rattle.crossbeam_queue.specs.Passes.{view as known, IsPassOf};
-    ghost use Rattle.clk_ruled.specs.Queue.{IsShared};
+    ghost use Rattle.clk_ruled.specs.Queue.{IsSharedOut};
     ghost use Rattle.clk_ruled.specs.Rule.{seat_view};
 
     // Gives its pass away, to be gathered, and keeps one that neither sits nor taps.
@@ -65,7 +66,7 @@ impl ClosedSeat {
     pub fn next(&self) -> u32
         ensures next { result ≡ self.now.lists.next }
         ensures within { result ≤ self.now.lists.room }
-        ensures shares { IsShared self.now.lists.sender result self.now.lists.accepted self.now.lists.refused }
+        ensures shares { IsSharedOut self.now.lists }
     {
         self.next
     }
@@ -79,14 +80,16 @@ impl ClosedSeat {
 
     /// The packets that the queue took, by rising number.
     pub fn accepted(&self) -> &[Packet]
-        ensures { result.now ≡ self.now.lists.accepted }
+        ensures accepted { result.now ≡ self.now.lists.accepted }
+        ensures shares { IsSharedOut self.now.lists }
     {
         self.accepted.as_slice()
     }
 
     /// The packets that the queue refused, by rising number.
     pub fn refused(&self) -> &[Packet]
-        ensures { result.now ≡ self.now.lists.refused }
+        ensures refused { result.now ≡ self.now.lists.refused }
+        ensures shares { IsSharedOut self.now.lists }
     {
         self.refused.as_slice()
     }

@@ -3,6 +3,7 @@
 #![tactic(auto)]
 
 mod closed;
+mod laws;
 mod open;
 mod protocol;
 mod queue;
@@ -14,6 +15,7 @@ mod tests;
 mod view;
 
 pub use closed::ClosedSeat;
+pub use laws::{calls_keep_together, queues_keep_account};
 pub use open::Opened;
 pub use queue::RuledQueue;
 pub use seat::Seat;

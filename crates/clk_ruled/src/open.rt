@@ -4,7 +4,7 @@ ghost use Rattle.std.specs.Prelude.{◌≡◌, ◌≤◌, [], ◌∷◌, ◌++�
 ghost use Rattle.crossbeam_queue.specs.Passes.{view, IsPassOf, IsSamePass};
 ghost use Rattle.clk_packet.specs.Limits.{most_capacity};
 ghost use Rattle.clk_packet.specs.declared.fault.Fault.TheVariants.{Memory};
-ghost use Rattle.clk_ruled.specs.Lists.{has_sender, room_of, rooms_in_all};
+ghost use Rattle.clk_ruled.specs.Lists.{has_sender, room_of, rooms_in_all, SendersRise};
 ghost use Rattle.clk_ruled.specs.Queue.{setup_of, empty_seat};
 ghost use Rattle.clk_ruled.specs.Parts.{IsSeated};
 ghost use Rattle.clk_ruled.specs.Rule.{blank_view, tap_view, seat_view};
@@ -28,6 +28,7 @@ fn set_up<O: Opening>(
     senders: &[(u16, u32)],
 )
     requires opening { setup_of kind capacity senders.now ≡ O.setup }
+    requires rising { SendersRise senders.now }
     requires queue { IsPassOf line.now pass.old }
     requires blank { view pass.old ≡ blank_view }
     ensures queue { IsSamePass pass.old pass.new }
@@ -136,7 +137,7 @@ pub struct Opened {
 }
 
 impl RuledQueue {
-    ghost use Rattle.clk_ruled.specs.Queue.{IsOpened, SendersRise};
+    ghost use Rattle.clk_ruled.specs.Queue.{IsOpened};
 
     /// Opens a queue of this kind that holds at most `capacity` packets, from 1 to 1,000,000, for these senders, each with the
     /// number of packets that it may offer. The lists of all seats and of the tap are reserved here.

@@ -45,7 +45,7 @@ impl Seat {
     ghost use Rattle.clk_ruled.specs.Lists.{room_of};
     ghost use Rattle.clk_ruled.specs.Rule.{seat_view};
     ghost use Rattle.clk_packet.specs.declared.packet.Offered.TheVariants.{Refused};
-    ghost use Rattle.clk_ruled.specs.Queue.{IsSeatOf, IsOffered, IsShared, empty_seat};
+    ghost use Rattle.clk_ruled.specs.Queue.{IsSeatOf, IsOffered, IsSharedOut, empty_seat};
 
     // The seat of a sender that may offer so many packets, before its first offer.
     pub(crate) fn fresh(
@@ -142,7 +142,7 @@ impl Seat {
     pub fn next(&self) -> u32
         ensures next { result ≡ self.now.next }
         ensures within { result ≤ self.now.room }
-        ensures shares { IsShared self.now.sender result self.now.accepted self.now.refused }
+        ensures shares { IsSharedOut self.now }
     {
         self.next
     }
@@ -156,14 +156,16 @@ impl Seat {
 
     /// The packets that the queue took, by rising number.
     pub fn accepted(&self) -> &[Packet]
-        ensures { result.now ≡ self.now.accepted }
+        ensures accepted { result.now ≡ self.now.accepted }
+        ensures shares { IsSharedOut self.now }
     {
         self.accepted.as_slice()
     }
 
     /// The packets that the queue refused, by rising number.
     pub fn refused(&self) -> &[Packet]
-        ensures { result.now ≡ self.now.refused }
+        ensures refused { result.now ≡ self.now.refused }
+        ensures shares { IsSharedOut self.now }
     {
         self.refused.as_slice()
     }

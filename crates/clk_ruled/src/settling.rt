@@ -4,10 +4,11 @@ mod evictions;
 mod reach;
 
 ghost use Rattle.std.specs.Prelude.{◌≡◌, map, IfOk, IfErr, IsOkUnless};
+ghost use Rattle.std.specs.List.{AllByRecursion};
 ghost use Rattle.clk_packet.specs.declared.fault.Fault.TheVariants.{Memory};
 ghost use Rattle.clk_ruled.specs.Keys.{AreSorted, has_key};
-ghost use Rattle.clk_ruled.specs.Queue.{IsTapOf};
-ghost use Rattle.clk_ruled.specs.Settle.{AreTogether, AreOfTap, HasEach, IsAccounted, IsSettled, IsFaultOfSettle, lists_of, tally_by};
+ghost use Rattle.clk_ruled.specs.Queue.{IsTapOf, IsSharedOut};
+ghost use Rattle.clk_ruled.specs.Settle.{AreOpenedTogether, AreOfTap, HasEach, IsAccounted, IsSettled, IsFaultOfSettle, lists_of, tally_by};
 
 use crate::closed::ClosedSeat;
 use crate::queue::RuledQueue;
@@ -40,8 +41,7 @@ pub fn settle(
     closed: Vec<ClosedSeat>,
     index: u16,
 ) -> Result<Settled, Fault>
-    requires queue { IsTapOf queue tap }
-    requires together { AreTogether tap closed.items }
+    requires together { AreOpenedTogether queue tap closed.items }
     ensures settled { IfOk result (IsSettled tap closed.items) }
     ensures fault { IfErr result (IsFaultOfSettle tap closed.items index) }
 {
@@ -80,6 +80,7 @@ fn into_taken(tap: Tap) -> Vec<Packet>
 fn tallies(alloc: Global, closed: Vec<ClosedSeat>, keys: &[(u16, u32)]) -> Result<Vec<Tally>, Fault>
     requires sorted { AreSorted keys.now }
     ensures tallies { IfOk result (λ tallies. tallies.items ≡ map (tally_by (has_key keys.now)) (lists_of closed.items)) }
+    ensures shared { IfOk result (λ _. AllByRecursion IsSharedOut (lists_of closed.items)) }
     ensures fault { IsOkUnless result Fault.Memory }
 {
     let mut tallies = Vec::new(alloc);
@@ -93,6 +94,7 @@ fn tallies(alloc: Global, closed: Vec<ClosedSeat>, keys: &[(u16, u32)]) -> Resul
 fn tally(alloc: Global, seat: ClosedSeat, keys: &[(u16, u32)]) -> Result<Tally, Fault>
     requires sorted { AreSorted keys.now }
     ensures tally { IfOk result (λ tally. tally ≡ tally_by (has_key keys.now) seat.lists) }
+    ensures shared { IsSharedOut seat.lists }
     ensures fault { IsOkUnless result Fault.Memory }
 {
     let evicted = evicted_among(alloc, seat.accepted(), keys)?;

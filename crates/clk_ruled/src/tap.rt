@@ -39,7 +39,7 @@ impl Tap {
     ghost use Rattle.crossbeam_queue.specs.Passes.{view as known, IsPassOf};
     ghost use Rattle.clk_packet.specs.declared.fault.Fault.TheVariants.{Memory};
     ghost use Rattle.clk_ruled.specs.Lists.{rooms_in_all, of_sender, IsRising};
-    ghost use Rattle.clk_ruled.specs.Queue.{IsTapOf, IsPulled, SendersRise, AreOfSenders, AreAllGathered, accepted_in_all, evicted_in_all, gathering, empty_tap};
+    ghost use Rattle.clk_ruled.specs.Queue.{IsTapOf, IsPulled, AreOfSenders, AreAllGathered, accepted_in_all, evicted_in_all, gathering, empty_tap};
 
     // The tap of a queue that is open, with room for so many packets.
     pub(crate) fn fresh(
@@ -50,7 +50,6 @@ impl Tap {
     ) -> Result<Tap, Fault>
         requires queue { IsPassOf line.now pass }
         requires taps { ((known pass).taps ≡ true) × ((known pass).taken ≡ []) × ((known pass).gathered ≡ []) × (1 ≤ (known pass).setup.capacity) }
-        requires rises { SendersRise (known pass).setup.rooms }
         requires room { rooms_in_all (known pass).setup.rooms ≤ room }
         ensures fresh { IfOk result (λ tap. tap ≡ empty_tap pass.table_id (known pass).setup) }
         ensures fault { IsOkUnless result Fault.Memory }
@@ -90,7 +89,11 @@ impl Tap {
         ensures seat { seat.new ≡ record { lists = seat.old.lists; is_gathered = true } }
         ensures gathers { seat.old.is_gathered ≡ false → self.new ≡ gathering self.old seat.old.lists }
         ensures again { seat.old.is_gathered ≡ true → self.new ≡ self.old }
+        // As after a pull.
+        ensures within { AreAllGathered self.new → length self.new.taken + evicted_in_all self.new.gathered ≤ accepted_in_all self.new.gathered }
     {
+        // What it pulled is within what came, also where nothing changes.
+        let _taken = self.taken.len();
         if seat.gathered {
             return;
         }

@@ -1,8 +1,10 @@
 //! Seats that are gathered before their queue is settled.
 
+use super::shared::Call::{Offer, Pull};
 use super::shared::{Expected, Shared, assert_settled, packet};
 use crate::ClosedSeat;
-use clk_packet::{Kind, Offered, Packet};
+use clk_packet::Offered::{Accepted, Evicted, Refused};
+use clk_packet::{Kind, Packet};
 use std::process::Abort;
 use std::test::Fail;
 
@@ -23,12 +25,15 @@ fn assert_second(rt: &impl Abort, seat: &ClosedSeat) {
 #[test]
 fn a_gathered_seat_reads_as_before(rt: HostRuntime) -> Result<(), Fail> {
     let mut shared = Shared::open(rt.alloc(), Kind::FrontDrop, 2, &[(0, 2), (1, 3), (4, 1)])?;
-    assert_eq!(rt; shared.offer(&rt, 0, 50), Offered::Accepted);
-    assert_eq!(rt; shared.offer(&rt, 0, 50), Offered::Accepted);
-    assert_eq!(rt; shared.offer(&rt, 1, 50), Offered::Evicted(of(0, 0)));
-    assert_eq!(rt; shared.offer(&rt, 2, 50), Offered::Evicted(of(0, 1)));
-    assert_eq!(rt; shared.pull(&rt), Some(of(1, 0)));
-    assert_eq!(rt; shared.offer(&rt, 1, 50), Offered::Accepted);
+    let calls = [
+        Offer(0, 50, Accepted),
+        Offer(0, 50, Accepted),
+        Offer(1, 50, Evicted(of(0, 0))),
+        Offer(2, 50, Evicted(of(0, 1))),
+        Pull(Some(of(1, 0))),
+        Offer(1, 50, Accepted),
+    ];
+    shared.make(&rt, &calls);
     let mut closed = shared.close(rt.alloc())?;
     assert_second(&rt, closed.seat(&rt, 1));
     closed.gather(&rt, 1);
@@ -66,10 +71,13 @@ fn a_gathered_seat_reads_as_before(rt: HostRuntime) -> Result<(), Fail> {
 #[test]
 fn a_gathered_seat_keeps_what_was_refused(rt: HostRuntime) -> Result<(), Fail> {
     let mut shared = Shared::open(rt.alloc(), Kind::TailDrop, 1, &[(3, 2), (9, 1)])?;
-    assert_eq!(rt; shared.offer(&rt, 0, 50), Offered::Accepted);
-    assert_eq!(rt; shared.offer(&rt, 0, 50), Offered::Refused(of(3, 1)));
-    assert_eq!(rt; shared.pull(&rt), Some(of(3, 0)));
-    assert_eq!(rt; shared.offer(&rt, 1, 50), Offered::Accepted);
+    let calls = [
+        Offer(0, 50, Accepted),
+        Offer(0, 50, Refused(of(3, 1))),
+        Pull(Some(of(3, 0))),
+        Offer(1, 50, Accepted),
+    ];
+    shared.make(&rt, &calls);
     let mut closed = shared.close(rt.alloc())?;
     closed.gather(&rt, 0);
     assert_eq!(rt; closed.seat(&rt, 0).accepted(), [of(3, 0)].as_slice());

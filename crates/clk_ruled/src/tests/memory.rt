@@ -1,8 +1,10 @@
 //! Calls of a shared queue where memory is refused. tests/refuse-memory has each allocation of the test refused in turn.
 
+use super::shared::Call::{Offer, Pull};
 use super::shared::{Expected, Shared, assert_settled, packet};
 use crate::Settled;
-use clk_packet::{Fault, Kind, Offered, Packet};
+use clk_packet::Offered::{Accepted, Evicted, Refused};
+use clk_packet::{Fault, Kind, Packet};
 use std::alloc::Global;
 use std::process::Abort;
 use std::sync::Wait;
@@ -75,29 +77,27 @@ fn packets() -> ([Packet; 6], Packet) {
 // The queue refuses all packets but the first.
 fn refuse<R: Abort + Wait>(rt: &R, shared: &mut Shared) {
     let (of_first, of_second) = packets();
-    assert_eq!(rt; shared.offer(rt, 0, 10), Offered::Accepted);
+    shared.make(rt, &[Offer(0, 10, Accepted)]);
     for packet in &of_first[1..] {
-        assert_eq!(rt;
-            shared.offer(rt, 0, packet.length),
-            Offered::Refused(*packet)
-        );
+        shared.make(rt, &[Offer(0, packet.length, Refused(*packet))]);
     }
-    assert_eq!(rt; shared.offer(rt, 1, 70), Offered::Refused(of_second));
-    assert_eq!(rt; shared.pull(rt), Some(of_first[0]));
+    shared.make(
+        rt,
+        &[Offer(1, 70, Refused(of_second)), Pull(Some(of_first[0]))],
+    );
 }
 
 // Each packet but the first puts out the one before it.
 fn evict<R: Abort + Wait>(rt: &R, shared: &mut Shared) {
     let (of_first, of_second) = packets();
-    assert_eq!(rt; shared.offer(rt, 0, 10), Offered::Accepted);
+    shared.make(rt, &[Offer(0, 10, Accepted)]);
     for (packet, front) in of_first[1..].iter().zip(&of_first) {
-        assert_eq!(rt;
-            shared.offer(rt, 0, packet.length),
-            Offered::Evicted(*front)
-        );
+        shared.make(rt, &[Offer(0, packet.length, Evicted(*front))]);
     }
-    assert_eq!(rt; shared.offer(rt, 1, 70), Offered::Evicted(of_first[5]));
-    assert_eq!(rt; shared.pull(rt), Some(of_second));
+    shared.make(
+        rt,
+        &[Offer(1, 70, Evicted(of_first[5])), Pull(Some(of_second))],
+    );
 }
 
 fn assert_refused(rt: &impl Abort, settled: &Settled) {

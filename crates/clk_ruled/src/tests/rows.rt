@@ -1,95 +1,86 @@
 //! Rows of calls on one thread, with each answer.
 
-use super::shared::{Expected, Shared, assert_settled, packet};
-use clk_packet::{Fault, Kind, Offered};
+use super::shared::Call::{Offer, Pull};
+use super::shared::{Call, Expected, Shared, assert_settled, packet};
+use clk_packet::Offered::{Accepted, Evicted, Refused};
+use clk_packet::{Fault, Kind, Offered, Packet};
 use std::alloc::Global;
 use std::process::Abort;
 use std::sync::Wait;
 use std::test::Fail;
 
-#[test]
-fn a_full_queue_refuses(rt: HostRuntime) -> Result<(), Fail> {
-    let mut shared = Shared::open(rt.alloc(), Kind::TailDrop, 1, &[(0, 2)])?;
-    assert_eq!(rt; shared.offer(&rt, 0, 10), Offered::Accepted);
-    assert_eq!(rt;
-        shared.offer(&rt, 0, 20),
-        Offered::Refused(packet(0, 1, 20))
-    );
-    assert_eq!(rt; shared.pull(&rt), Some(packet(0, 0, 10)));
-    assert_eq!(rt; shared.pull(&rt), None);
-    let settled = shared.close(rt.alloc())?.settle(rt.alloc())?;
-    let tally = Expected {
-        sender: 0,
-        accepted: &[packet(0, 0, 10)],
-        refused: &[packet(0, 1, 20)],
-        evicted: &[],
-    };
-    assert_settled(&rt, &settled, &[tally], &[packet(0, 0, 10)]);
+// Makes calls on a queue, and fails unless they are answered as is said and it is settled so.
+fn assert_row<R: Abort + Wait>(
+    rt: &R,
+    alloc: Global,
+    shared: Shared,
+    calls: &[Call],
+    tallies: &[Expected],
+    taken: &[Packet],
+) -> Result<(), Fault> {
+    let mut shared = shared;
+    shared.make(rt, calls);
+    assert_eq!(rt; shared.taken(), taken);
+    let settled = shared.close(alloc)?.settle(alloc)?;
+    assert_settled(rt, &settled, tallies, taken);
     Ok(())
 }
 
+// Over a queue of one packet, with and without pulls.
 #[test]
-fn what_is_held_at_the_end_is_accepted_and_not_taken(rt: HostRuntime) -> Result<(), Fail> {
-    let mut shared = Shared::open(rt.alloc(), Kind::TailDrop, 1, &[(0, 2)])?;
-    assert_eq!(rt; shared.offer(&rt, 0, 10), Offered::Accepted);
-    assert_eq!(rt;
-        shared.offer(&rt, 0, 20),
-        Offered::Refused(packet(0, 1, 20))
-    );
-    let settled = shared.close(rt.alloc())?.settle(rt.alloc())?;
-    let tally = Expected {
+fn a_full_queue_refuses(rt: HostRuntime) -> Result<(), Fail> {
+    let [first, second] = [packet(0, 0, 10), packet(0, 1, 20)];
+    let calls = [
+        Offer(0, 10, Accepted),
+        Offer(0, 20, Refused(second)),
+        Pull(Some(first)),
+        Pull(None),
+    ];
+    let tallies = [Expected {
         sender: 0,
-        accepted: &[packet(0, 0, 10)],
-        refused: &[packet(0, 1, 20)],
+        accepted: &[first],
+        refused: &[second],
         evicted: &[],
-    };
-    assert_settled(&rt, &settled, &[tally], &[]);
+    }];
+    for (calls, taken) in [(&calls[..], &[first][..]), (&calls[..2], &[])] {
+        let shared = Shared::open(rt.alloc(), Kind::TailDrop, 1, &[(0, 2)])?;
+        assert_row(&rt, rt.alloc(), shared, calls, &tallies, taken)?;
+    }
     Ok(())
 }
 
 #[test]
 fn a_full_front_drop_queue_evicts_its_front(rt: HostRuntime) -> Result<(), Fail> {
-    let mut shared = Shared::open(rt.alloc(), Kind::FrontDrop, 2, &[(0, 3)])?;
-    assert_eq!(rt; shared.offer(&rt, 0, 10), Offered::Accepted);
-    assert_eq!(rt; shared.offer(&rt, 0, 20), Offered::Accepted);
-    assert_eq!(rt;
-        shared.offer(&rt, 0, 30),
-        Offered::Evicted(packet(0, 0, 10))
-    );
-    assert_eq!(rt; shared.pull(&rt), Some(packet(0, 1, 20)));
-    assert_eq!(rt; shared.pull(&rt), Some(packet(0, 2, 30)));
-    assert_eq!(rt; shared.pull(&rt), None);
-    assert_eq!(rt;
-        shared.taken(),
-        [packet(0, 1, 20), packet(0, 2, 30)].as_slice()
-    );
-    let settled = shared.close(rt.alloc())?.settle(rt.alloc())?;
+    let shared = Shared::open(rt.alloc(), Kind::FrontDrop, 2, &[(0, 3)])?;
+    let sent = [packet(0, 0, 10), packet(0, 1, 20), packet(0, 2, 30)];
+    let calls = [
+        Offer(0, 10, Accepted),
+        Offer(0, 20, Accepted),
+        Offer(0, 30, Evicted(sent[0])),
+        Pull(Some(sent[1])),
+        Pull(Some(sent[2])),
+        Pull(None),
+    ];
     let tally = Expected {
         sender: 0,
-        accepted: &[packet(0, 0, 10), packet(0, 1, 20), packet(0, 2, 30)],
+        accepted: &sent,
         refused: &[],
-        evicted: &[packet(0, 0, 10)],
+        evicted: &sent[..1],
     };
-    assert_settled(
-        &rt,
-        &settled,
-        &[tally],
-        &[packet(0, 1, 20), packet(0, 2, 30)],
-    );
+    assert_row(&rt, rt.alloc(), shared, &calls, &[tally], &sent[1..])?;
     Ok(())
 }
 
 #[test]
 fn an_evicted_packet_is_its_own_senders(rt: HostRuntime) -> Result<(), Fail> {
     let mut shared = Shared::open(rt.alloc(), Kind::FrontDrop, 1, &[(0, 1), (1, 1)])?;
-    let first = packet(0, 0, 100);
-    let second = packet(1, 0, 60);
-    assert_eq!(rt; shared.offer(&rt, 0, 100), Offered::Accepted);
-    assert_eq!(rt; shared.offer(&rt, 1, 60), Offered::Evicted(first));
+    let [first, second] = [packet(0, 0, 100), packet(1, 0, 60)];
+    shared.make(
+        &rt,
+        &[Offer(0, 100, Accepted), Offer(1, 60, Evicted(first))],
+    );
     assert_eq!(rt; shared.seat(&rt, 0).evicted(), [].as_slice());
     assert_eq!(rt; shared.seat(&rt, 1).evicted(), [first].as_slice());
-    assert_eq!(rt; shared.pull(&rt), Some(second));
-    let settled = shared.close(rt.alloc())?.settle(rt.alloc())?;
     let tallies = [
         Expected {
             sender: 0,
@@ -104,7 +95,14 @@ fn an_evicted_packet_is_its_own_senders(rt: HostRuntime) -> Result<(), Fail> {
             evicted: &[],
         },
     ];
-    assert_settled(&rt, &settled, &tallies, &[second]);
+    assert_row(
+        &rt,
+        rt.alloc(),
+        shared,
+        &[Pull(Some(second))],
+        &tallies,
+        &[second],
+    )?;
     Ok(())
 }
 
@@ -153,13 +151,14 @@ fn a_queue_of_no_senders_settles_with_nothing(rt: HostRuntime) -> Result<(), Fai
 
 #[test]
 fn a_queue_that_took_its_capacity_and_refused_one_is_settled(rt: HostRuntime) -> Result<(), Fail> {
-    let mut shared = Shared::open(rt.alloc(), Kind::TailDrop, 3, &[(2, 2), (5, 2)])?;
-    assert_eq!(rt; shared.offer(&rt, 0, 1), Offered::Accepted);
-    assert_eq!(rt; shared.offer(&rt, 1, 2), Offered::Accepted);
-    assert_eq!(rt; shared.offer(&rt, 0, 3), Offered::Accepted);
-    assert_eq!(rt; shared.offer(&rt, 1, 4), Offered::Refused(packet(5, 1, 4)));
-    let settled = shared.close(rt.alloc())?.settle(rt.alloc());
-    assert_eq!(rt; settled.as_ref().err(), None);
+    let shared = Shared::open(rt.alloc(), Kind::TailDrop, 3, &[(2, 2), (5, 2)])?;
+    let refused = packet(5, 1, 4);
+    let calls = [
+        Offer(0, 1, Accepted),
+        Offer(1, 2, Accepted),
+        Offer(0, 3, Accepted),
+        Offer(1, 4, Refused(refused)),
+    ];
     let tallies = [
         Expected {
             sender: 2,
@@ -170,10 +169,10 @@ fn a_queue_that_took_its_capacity_and_refused_one_is_settled(rt: HostRuntime) ->
         Expected {
             sender: 5,
             accepted: &[packet(5, 0, 2)],
-            refused: &[packet(5, 1, 4)],
+            refused: &[refused],
             evicted: &[],
         },
     ];
-    assert_settled(&rt, &settled?, &tallies, &[]);
+    assert_row(&rt, rt.alloc(), shared, &calls, &tallies, &[])?;
     Ok(())
 }

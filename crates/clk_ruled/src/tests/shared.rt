@@ -2,8 +2,7 @@
 
 ghost use Rattle.std.specs.Prelude.{◌≡◌, ◌≤◌};
 ghost use Rattle.clk_packet.specs.Limits.{most_capacity};
-ghost use Rattle.clk_ruled.specs.Lists.{rooms_in_all};
-ghost use Rattle.clk_ruled.specs.Queue.{SendersRise};
+ghost use Rattle.clk_ruled.specs.Lists.{rooms_in_all, SendersRise};
 
 use crate::{ClosedSeat, Opened, RuledQueue, Seat, Settled, Tap, settle};
 use clk_packet::{Fault, Kind, Offered, Packet};
@@ -24,6 +23,14 @@ pub fn packet(sender: u16, number: u32, length: u16) -> Packet
     }
 }
 
+/// A call on a shared queue, with its answer.
+#[derive(Clone, Copy)]
+pub enum Call {
+    /// The seat at this place offers its sender's next packet, of this length.
+    Offer(usize, u16, Offered),
+    Pull(Option<Packet>),
+}
+
 /// A queue, its seats in order, and its tap.
 #[derive(Drop)]
 pub struct Shared {
@@ -33,16 +40,16 @@ pub struct Shared {
 }
 
 impl Model for Shared {
-    ghost use Rattle.std.specs.Prelude.{List, map, false};
-    ghost use Rattle.clk_ruled.specs.Queue.{SeatLists, ClosedLists, TapLists, IsTapOf};
-    ghost use Rattle.clk_ruled.specs.Settle.{AreTogether};
+    ghost use Rattle.std.specs.Prelude.{List, map};
+    ghost use Rattle.clk_ruled.specs.Queue.{SeatLists, TapLists};
+    ghost use Rattle.clk_ruled.specs.Settle.{AreOpenedTogether, closing};
 
     ghost Value = { TapLists × List SeatLists };
 
     ghost view = { λ s. (s.tap, s.seats.items) };
 
     // If all seats were closed now, they would be all of the tap's queue.
-    ghost invariant = { λ s. IsTapOf s.queue s.tap × AreTogether s.tap (map {B = ClosedLists} (λ l. record { lists = l; is_gathered = false }) s.seats.items) };
+    ghost invariant = { λ s. AreOpenedTogether s.queue s.tap (map closing s.seats.items) };
 }
 
 impl Shared {
@@ -73,6 +80,19 @@ impl Shared {
 
     pub fn pull(&mut self, rt: &impl Wait) -> Option<Packet> {
         self.tap.pull(&self.queue, rt)
+    }
+
+    /// Makes calls, and fails unless they are answered as is said.
+    pub fn make<R: Abort + Wait>(&mut self, rt: &R, calls: &[Call]) {
+        for call in calls {
+            match *call {
+                Call::Offer(place, length, answer) => {
+                    assert!(rt; length >= 1);
+                    assert_eq!(rt; self.offer(rt, place, length), answer);
+                }
+                Call::Pull(answer) => assert_eq!(rt; self.pull(rt), answer),
+            }
+        }
     }
 
     /// The seat at this place.
@@ -110,14 +130,14 @@ pub struct Closed {
 
 impl Model for Closed {
     ghost use Rattle.std.specs.Prelude.{List};
-    ghost use Rattle.clk_ruled.specs.Queue.{ClosedLists, TapLists, IsTapOf};
-    ghost use Rattle.clk_ruled.specs.Settle.{AreTogether};
+    ghost use Rattle.clk_ruled.specs.Queue.{ClosedLists, TapLists};
+    ghost use Rattle.clk_ruled.specs.Settle.{AreOpenedTogether};
 
     ghost Value = { TapLists × List ClosedLists };
 
     ghost view = { λ c. (c.tap, c.seats.items) };
 
-    ghost invariant = { λ c. IsTapOf c.queue c.tap × AreTogether c.tap c.seats.items };
+    ghost invariant = { λ c. AreOpenedTogether c.queue c.tap c.seats.items };
 }
 
 impl Closed {

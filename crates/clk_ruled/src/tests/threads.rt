@@ -2,8 +2,8 @@
 
 ghost use Rattle.std.specs.Prelude.{◌≡◌, ◌+◌, ◌<◌, ◌≤◌, IfOk};
 ghost use Rattle.clk_packet.specs.Limits.{most_capacity};
-ghost use Rattle.clk_ruled.specs.Lists.{rooms_in_all};
-ghost use Rattle.clk_ruled.specs.Queue.{IsSeatOf, IsTapOf, SendersRise};
+ghost use Rattle.clk_ruled.specs.Lists.{rooms_in_all, SendersRise};
+ghost use Rattle.clk_ruled.specs.Queue.{IsSeatOf, IsTapOf};
 ghost use Rattle.clk_ruled.specs.Closing.{IsSameSeat, IsClosedOf, AreClosedOf, AreSeatsOf};
 
 mod fates;

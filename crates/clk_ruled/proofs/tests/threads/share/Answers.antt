@@ -1,5 +1,5 @@
-use Rattle.std.proofs.Common.{List, ap, ◌∙◌, subst}
-use Rattle.clk_ruled.specs.Queue.{SeatLists, setup_of}
+use Rattle.std.proofs.Common.{List, ap, ◌∙◌, subst, sym}
+use Rattle.clk_ruled.specs.Queue.{SeatLists, setup_of, queue_of}
 use Rattle.clk_ruled.specs.Closing.{AreClosedOf}
 use Rattle.clk_ruled.proofs.Closing.{opened-own, closed-together}
 use Rattle.clk_ruled.proofs.tests.threads.share.Goals as goal
@@ -9,10 +9,16 @@ run-requires-clause-seats g c κs within =
     let opened = c.in_ok-queue.ensures.opened in
     opened-own (setup_of c.args.kind c.args.capacity c.args.senders.now) c.in_ok-queue.field-0.queue c.in_ok-queue.field-0.seats.items opened.0 opened.1
 
-pub settle-requires-clause-together : goal.settle-requires-clause-together
-settle-requires-clause-together g c =
-    let opened = c.in_ok-queue.ensures.opened in let ran = c.in_ok-tap.ensures in
-    closed-together c.in_ok-tap.tap c.in_ok-queue.field-0.queue.id (setup_of c.args.kind c.args.capacity c.args.senders.now) c.in_ok-tap.closed.items
-    (ran.tap.0 ∙ ap (λ t. t.id) opened.2)
-    (ran.tap.1 ∙ ap (λ t. t.setup) opened.2)
-    (subst (λ (seats : List SeatLists). AreClosedOf seats c.in_ok-tap.closed.items) opened.1 ran.closed)
+pub settle-requires : goal.settle-requires
+settle-requires g c =
+    let opened = c.in_ok-queue.ensures.opened in
+    let ran = c.in_ok-tap.ensures in
+    let own = ran.tap.0 ∙ ap (λ t. t.id) opened.2 in
+    let with = ran.tap.1 ∙ ap (λ t. t.setup) opened.2 in
+    record {
+      together = (
+        opened.0 ∙ (λ i. queue_of (sym own i) (sym with i)),
+        closed-together c.in_ok-tap.tap c.in_ok-queue.field-0.queue.id (setup_of c.args.kind c.args.capacity c.args.senders.now) c.in_ok-tap.closed.items own with
+            (subst (λ (seats : List SeatLists). AreClosedOf seats c.in_ok-tap.closed.items) opened.1 ran.closed),
+      );
+    }

@@ -1,5 +1,5 @@
 use Rattle.std.proofs.Common.{◌≡◌, map}
-use Rattle.clk_ruled.proofs.InUse.{closing}
+use Rattle.clk_ruled.specs.Settle.{closing}
 use Rattle.clk_ruled.proofs.tests.shared.Shared.close.Given as goal
 
 abbrev pub invariant-loop-seat : goal.invariant-loop-seat

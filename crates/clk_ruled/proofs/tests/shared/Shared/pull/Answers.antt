@@ -1,5 +1,6 @@
 use Rattle.std.proofs.Common.{map}
-use Rattle.clk_ruled.proofs.InUse.{closing, pulled-in-use}
+use Rattle.clk_ruled.specs.Settle.{closing}
+use Rattle.clk_ruled.proofs.InUse.{pulled-in-use}
 use Rattle.clk_ruled.proofs.tests.shared.Shared.pull.Goals as goal
 
 pub invariant_of-self : goal.invariant_of-self
