@@ -17,6 +17,7 @@ pub mod Pulled
 pub mod Gives
 pub mod Conserved
 pub mod CameFrom
+pub mod Counted
 pub mod GoesOn
 pub mod Apart
 pub mod Below

@@ -1,11 +1,11 @@
 -- That a tree loses nothing, and makes nothing.
-use Rattle.std.specs.Prelude.{◌≡◌, ◌⊎◌, ℕ, true, List, [], ◌∷◌, ◌++◌, Some, None, MatchOption, if◌then◌else◌}
+use Rattle.std.specs.Prelude.{◌≡◌, ◌⊎◌, ℕ, ◌+◌, true, List, [], ◌∷◌, ◌++◌, length, Some, None, MatchOption, if◌then◌else◌}
 use Rattle.std.specs.List.{filter_map, AllByRecursion}
 use Rattle.clk_packet.specs.declared.packet.Packet.{Packet}
 use Rattle.clk_sched.specs.declared.visit.Visit.{Visit}
 use Rattle.clk_sched.specs.Tree.{Row, Tree, root, leaves, stands_in, is_number}
 use Rattle.clk_sched.specs.Run.{IsRun}
-use Rattle.clk_sched.specs.Results.{Traced, leaf_packets, traced_emitted, traced_heads}
+use Rattle.clk_sched.specs.Results.{Traced, leaf_packets, traced_emitted, traced_heads, emitted, heads}
 
 -- the packets that came from a queue
 abbrev pub from_queue : ℕ → List Traced → List Packet
@@ -24,6 +24,15 @@ IsConserved tree log q =
 -- Every run of a tree conserves the packets of each of its queues.
 abbrev pub ConservesPackets : Tree → Type 0
 ConservesPackets tree = (log : List Visit) → IsRun tree log → (q : ℕ) → stands_in q (leaves (root tree)) ≡ true → IsConserved tree log q
+
+-- how many packets some queues gave in all
+abbrev pub given_in_all : Tree → List ℕ → List Visit → ℕ
+given_in_all tree [] log = 0
+given_in_all tree (q ∷ queues) log = length (leaf_packets tree q log) + given_in_all tree queues log
+
+-- In every run of a tree, as many packets came out and are held as its queues gave in all.
+abbrev pub ConservesCounts : Tree → Type 0
+ConservesCounts tree = (log : List Visit) → IsRun tree log → given_in_all tree (leaves (root tree)) log ≡ length (emitted log) + length (heads tree log)
 
 -- a packet came from a queue of a row: it is among those that the queue gave
 abbrev pub CameFrom : Tree → List Visit → Row → Traced → Type 0

@@ -4,7 +4,7 @@ ghost use Rattle.std.specs.Prelude.{◌≡◌, true};
 ghost use Rattle.clk_sched.specs.Tree.{leaves_distinct};
 ghost use Rattle.clk_sched.specs.Step.{GoesOn, CanGoOn};
 ghost use Rattle.clk_sched.specs.Choice.{LeavesNoChoice, PullsLeaveNoChoice};
-ghost use Rattle.clk_sched.specs.Conservation.{ConservesPackets, MakesNothing};
+ghost use Rattle.clk_sched.specs.Conservation.{ConservesPackets, ConservesCounts, MakesNothing};
 ghost use Rattle.clk_sched.specs.Service.{SharesOut};
 
 /// How a run of a tree begins, and goes on by one pull.
@@ -24,10 +24,11 @@ pub fn runs_leave_no_choice()
 {}
 
 /// Each run of a tree conserves the packets of each queue, where no queue stands twice in the tree: what the queue gave is what
-/// was emitted of it, in order, and then what is held of it. In any tree, each packet that is emitted or held is among those
-/// that one of its queues gave.
+/// was emitted of it, in order, and then what is held of it. So as many came out and are held as all queues gave. In any tree, each
+/// packet that is emitted or held is among those that one of its queues gave.
 pub fn runs_conserve_packets()
     ensures loses_nothing { (tree : _) → leaves_distinct tree ≡ true → ConservesPackets tree }
+    ensures counts { (tree : _) → leaves_distinct tree ≡ true → ConservesCounts tree }
     ensures makes_nothing { (tree : _) → MakesNothing tree }
 {}
 
