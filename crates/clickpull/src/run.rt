@@ -76,7 +76,7 @@ pub fn run_plan<R: Source, W: Sink>(
 }
 
 /// The same over the tree, the queues and the senders of a plan, with the same faults.
-pub fn run_parts<R: Source, W: Sink>(
+fn run_parts<R: Source, W: Sink>(
     alloc: Global,
     reader: &mut R,
     writer: &mut W,

@@ -6,6 +6,7 @@ mod deficit;
 mod examples;
 mod failures;
 mod fault_lines;
+mod files;
 mod in_order;
 mod limits;
 mod queues;

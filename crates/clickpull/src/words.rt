@@ -112,7 +112,8 @@ const SCRIPT_MORE: &str = "\
 Commands of a script:
   send S L  sender S offers its next packet, of L bytes (1 to 65535), to its queue
   pull M    the link pulls at moment M, in ticks (0 to 1099511627775)
-  drain M   the link pulls from moment M on until every packet is out, and each sender is accounted for
+  drain M   the link pulls one tick apart until every packet is out, first one tick after M, or after the moment so
+            far where that is later; then each sender is accounted for
 
 The tree is read and checked before the script is opened, and the whole script before anything is printed.
 With --visits FILE the log of its pulls is written to FILE after the answer, as CSV with a row for each visit

@@ -25,6 +25,3 @@ pub use packet::{Kind, Offered, Packet};
 pub use packets::Packets;
 pub use tally::Tally;
 pub use traces::Traces;
-
-#[cfg(test)]
-mod tests;

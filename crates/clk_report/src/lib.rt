@@ -8,6 +8,3 @@ mod visits;
 
 pub use senders::report;
 pub use visits::visits_csv;
-
-#[cfg(test)]
-mod tests;

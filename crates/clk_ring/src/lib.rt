@@ -8,6 +8,3 @@ mod ring;
 pub use laws::{calls_are_history, histories_leave_no_choice, history_examples};
 pub use locked::Locked;
 pub use ring::Ring;
-
-#[cfg(test)]
-mod tests;

@@ -19,6 +19,3 @@ pub use laws::{
 pub use session::Session;
 pub use tree::Tree;
 pub use visit::Visit;
-
-#[cfg(test)]
-mod tests;

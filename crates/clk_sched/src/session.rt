@@ -9,8 +9,6 @@ pub(crate) mod round_robin;
 pub(crate) mod shaper;
 pub(crate) mod state;
 pub(crate) mod stride;
-#[cfg(test)]
-mod tests;
 
 use crate::ask::Ask;
 use crate::session::nodes::Nodes;

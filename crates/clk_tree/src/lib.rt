@@ -26,6 +26,3 @@ pub use laws::{
     wrong_tokens_cannot_be_mended,
 };
 pub use plan::{Plan, QueueSpec, SenderSpec};
-
-#[cfg(test)]
-mod tests;

@@ -1,12 +1,7 @@
 //! The last line of a script, which closes the router.
 
-use super::AMPLE;
 use super::row::assert_writes;
-use super::trees::{DRR_500_OVER_ONE, ONE, PRIO_OVER_ONE, PRIO_OVER_TWO, SHARED_BY_FIRST_AND_LAST};
-use crate::run::run_parts;
-use clk_packet::{FailingSink, FailingSource, Fault};
-use clk_tree::Plan;
-use std::test::Fail;
+use super::trees::{ONE, PRIO_OVER_ONE, PRIO_OVER_TWO, SHARED_BY_FIRST_AND_LAST};
 
 #[test]
 fn a_report_has_each_sender(rt: HostRuntime) {
@@ -36,14 +31,8 @@ fn a_drain_may_vary_as_other_lines_do(rt: HostRuntime) {
 #[test]
 fn a_closing_starts_after_the_greatest_moment_so_far(rt: HostRuntime) {
     let script = "send 0 10\nsend 0 20\nsend 0 30\nsend 0 40\npull 7\npull 2\ndrain 3\n";
-    let expected = "0#0 10 accepted\n\
-        0#1 20 accepted\n\
-        0#2 30 accepted\n\
-        0#3 40 accepted\n\
-        pull 7: 0#0 10\n\
-        pull 2: 0#1 20\n\
-        pull 8: 0#2 30\n\
-        pull 9: 0#3 40\n\
+    let expected = "0#0 10 accepted\n0#1 20 accepted\n0#2 30 accepted\n0#3 40 accepted\n\
+        pull 7: 0#0 10\npull 2: 0#1 20\npull 8: 0#2 30\npull 9: 0#3 40\n\
         sender 0: sent 4 100, accepted 4 100, refused 0 0, evicted 0 0, emitted 4 100\n";
     assert_writes(&rt, rt.alloc(), ONE, script, expected);
 }
@@ -51,12 +40,8 @@ fn a_closing_starts_after_the_greatest_moment_so_far(rt: HostRuntime) {
 #[test]
 fn a_closing_starts_after_its_own_moment_where_that_is_later(rt: HostRuntime) {
     let script = "send 1 65535\nsend 0 20\nsend 1 30\npull 7\ndrain 9\n";
-    let expected = "1#0 65535 accepted\n\
-        0#0 20 accepted\n\
-        1#1 30 accepted\n\
-        pull 7: 0#0 20\n\
-        pull 10: 1#0 65535\n\
-        pull 11: 1#1 30\n\
+    let expected = "1#0 65535 accepted\n0#0 20 accepted\n1#1 30 accepted\n\
+        pull 7: 0#0 20\npull 10: 1#0 65535\npull 11: 1#1 30\n\
         sender 0: sent 1 20, accepted 1 20, refused 0 0, evicted 0 0, emitted 1 20\n\
         sender 1: sent 2 65565, accepted 2 65565, refused 0 0, evicted 0 0, emitted 2 65565\n";
     assert_writes(&rt, rt.alloc(), PRIO_OVER_TWO, script, expected);
@@ -65,35 +50,11 @@ fn a_closing_starts_after_its_own_moment_where_that_is_later(rt: HostRuntime) {
 #[test]
 fn a_report_goes_by_the_numbers_of_senders(rt: HostRuntime) {
     let script = "send 65535 10\nsend 0 20\nsend 65535 30\nsend 65535 40\ndrain 0\n";
-    let expected = "65535#0 10 accepted\n\
-        0#0 20 accepted\n\
+    let expected = "65535#0 10 accepted\n0#0 20 accepted\n\
         65535#1 30 refused\n\
         65535#2 40 refused\n\
-        pull 1: 65535#0 10\n\
-        pull 2: 0#0 20\n\
+        pull 1: 65535#0 10\npull 2: 0#0 20\n\
         sender 0: sent 1 20, accepted 1 20, refused 0 0, evicted 0 0, emitted 1 20\n\
         sender 65535: sent 3 80, accepted 1 10, refused 2 70, evicted 0 0, emitted 1 10\n";
     assert_writes(&rt, rt.alloc(), SHARED_BY_FIRST_AND_LAST, script, expected);
-}
-
-// Queue 1 isn't in the tree, as it is in that of a plan. One packet is given 266 pulls: 133 for quantum 500, at each of two levels.
-#[test]
-fn a_packet_that_cannot_come_out_stops_a_closing(rt: HostRuntime) -> Result<(), Fail> {
-    let alloc = rt.alloc();
-    let over_one = Plan::read(alloc, DRR_500_OVER_ONE.as_bytes()).expect(&rt, "a tree");
-    let over_two = Plan::read(alloc, PRIO_OVER_TWO.as_bytes()).expect(&rt, "a tree");
-    let tree = over_one.tree(alloc).expect(&rt, "ample memory");
-    let mut reader = FailingSource::new(b"send 1 10\ndrain 0\n".to_vec(alloc)?, usize::MAX);
-    let mut writer = FailingSink::new(vec![in alloc; 0; AMPLE]?);
-    let ended = run_parts(
-        alloc,
-        &mut reader,
-        &mut writer,
-        tree,
-        over_two.queues(),
-        over_two.senders(),
-    );
-    assert_eq!(rt; ended.err(), Some(Fault::TooManyPulls { pulls: 266 }));
-    assert!(rt; writer.taken().is_empty());
-    Ok(())
 }

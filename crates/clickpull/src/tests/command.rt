@@ -1,6 +1,7 @@
 //! The program by its words, over memory in place of standard input, output and error, and over files of its own.
 
 use super::AMPLE;
+use super::files::write;
 use crate::command;
 use clk_packet::{FailingSink, FailingSource, Fault};
 use std::process::Abort;
@@ -157,19 +158,19 @@ fn a_tree_is_checked(rt: HostRuntime) -> Result<(), Fail> {
         "s :: Sender(0); q :: Queue; sh :: Shaper(5); d :: ToDevice(eth0); s -> q -> sh /* 5 per tick */ -> d;";
     let text = b"s :: Sender(0);\nq :: Queue(1000);\nsh :: Shaper(5, 5);\nd :: ToDevice(eth0);\n\
         s [0] -> [0] q;\nq [0] -> [0] sh;\nsh [0] -> [0] d;\n";
-    fs::write(&rt, "checked.click", tree)?;
-    assert_writes(&rt, "check checked.click", Ok(0), text);
+    write(&rt, "out/checked.click", tree)?;
+    assert_writes(&rt, "check out/checked.click", Ok(0), text);
     Ok(())
 }
 
 #[test]
 fn a_script_runs_over_a_tree(rt: HostRuntime) -> Result<(), Fail> {
     let tree = "s :: Sender(3); q :: FrontDropQueue(1); d :: ToDevice(link); s -> q -> d;";
-    fs::write(&rt, "evicting.click", tree)?;
-    fs::write(&rt, "evicting.script", "send 3 10\nsend 3 20\npull 0\n")?;
+    write(&rt, "out/evicting.click", tree)?;
+    write(&rt, "out/evicting.script", "send 3 10\nsend 3 20\npull 0\n")?;
     assert_writes(
         &rt,
-        "script evicting.click evicting.script",
+        "script out/evicting.click out/evicting.script",
         Ok(0),
         b"3#0 10 accepted\n3#1 20 accepted evicted 3#0\npull 0: 3#1 20\n",
     );
@@ -178,14 +179,14 @@ fn a_script_runs_over_a_tree(rt: HostRuntime) -> Result<(), Fail> {
 
 #[test]
 fn a_file_that_is_not_there_cannot_be_read(rt: HostRuntime) -> Result<(), Fail> {
-    fs::write(
+    write(
         &rt,
-        "alone.click",
+        "out/alone.click",
         "q :: Queue; d :: ToDevice(link); s :: Sender(0); s -> q -> d;",
     )?;
-    fs::create_dir(&rt, "folder")?;
+    fs::create_dir_all(&rt, "out/folder")?;
     assert_writes(&rt, "check missing.click", Err(Fault::Read), b"");
-    assert_writes(&rt, "check folder", Err(Fault::Read), b"");
+    assert_writes(&rt, "check out/folder", Err(Fault::Read), b"");
     assert_writes(
         &rt,
         "script missing.click missing.script",
@@ -194,30 +195,35 @@ fn a_file_that_is_not_there_cannot_be_read(rt: HostRuntime) -> Result<(), Fail> 
     );
     assert_writes(
         &rt,
-        "script alone.click missing.script",
+        "script out/alone.click missing.script",
         Err(Fault::Read),
         b"",
     );
-    assert_writes(&rt, "script alone.click folder", Err(Fault::Read), b"");
+    assert_writes(
+        &rt,
+        "script out/alone.click out/folder",
+        Err(Fault::Read),
+        b"",
+    );
     Ok(())
 }
 
 #[test]
 fn a_bad_tree_is_told_before_the_script_is_opened(rt: HostRuntime) -> Result<(), Fail> {
-    fs::write(&rt, "bad.click", "q :: Que;")?;
+    write(&rt, "out/bad.click", "q :: Que;")?;
     let fault = Fault::UnknownClass { offset: 5 };
-    assert_writes(&rt, "check bad.click", Err(fault), b"");
-    fs::write(&rt, "empty.click", "")?;
-    assert_writes(&rt, "check empty.click", Err(Fault::NoDevice), b"");
-    assert_writes(&rt, "script bad.click missing.script", Err(fault), b"");
+    assert_writes(&rt, "check out/bad.click", Err(fault), b"");
+    write(&rt, "out/empty.click", "")?;
+    assert_writes(&rt, "check out/empty.click", Err(Fault::NoDevice), b"");
+    assert_writes(&rt, "script out/bad.click missing.script", Err(fault), b"");
     Ok(())
 }
 
 #[test]
 fn a_tree_text_has_at_most_1048576_bytes(rt: HostRuntime) -> Result<(), Fail> {
     for (blanks, fault) in [(1_048_576, Fault::NoDevice), (1_048_577, Fault::TooLarge)] {
-        fs::write(&rt, "long.click", vec![in rt.alloc(); b' '; blanks]?)?;
-        assert_writes(&rt, "check long.click", Err(fault), b"");
+        write(&rt, "out/long.click", vec![in rt.alloc(); b' '; blanks]?)?;
+        assert_writes(&rt, "check out/long.click", Err(fault), b"");
     }
     Ok(())
 }

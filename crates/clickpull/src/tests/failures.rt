@@ -12,10 +12,6 @@ use std::test::Fail;
 
 const SCRIPT: &[u8] = b"send 0 100\nsend 1 50\npull 0\npull 0\npull 0\n";
 
-/// What the script writes.
-const TEXT: &[u8] =
-    b"0#0 100 accepted\n1#0 50 accepted\npull 0: 0#0 100\npull 0: 1#0 50\npull 0: none\n";
-
 #[test]
 fn a_failing_reader_is_told(rt: HostRuntime) -> Result<(), Fail> {
     for limit in 0..=SCRIPT.len() {
@@ -25,7 +21,7 @@ fn a_failing_reader_is_told(rt: HostRuntime) -> Result<(), Fail> {
             PRIO_OVER_ROOM_FOR_TWO,
             script,
             limit,
-            TEXT.len(),
+            AMPLE,
         )?;
         assert_eq!(rt; outcome, Err(Fault::Read), "after {limit} bytes");
         assert!(rt; written.is_empty(), "after {limit} bytes");
@@ -125,28 +121,6 @@ fn a_write_that_failed_is_not_made_again(rt: HostRuntime) -> Result<(), Fail> {
     Ok(())
 }
 
-#[test]
-fn a_failing_writer_is_told(rt: HostRuntime) -> Result<(), Fail> {
-    for room in 0..=TEXT.len() {
-        let script = SCRIPT.to_vec(rt.alloc())?;
-        let (outcome, written) = run_within(
-            rt.alloc(),
-            PRIO_OVER_ROOM_FOR_TWO,
-            script,
-            usize::MAX,
-            room,
-        )?;
-        let expected = if room < TEXT.len() {
-            Err(Fault::Write)
-        } else {
-            Ok(())
-        };
-        assert_eq!(rt; outcome, expected, "after {room} bytes");
-        assert_eq!(rt; written.as_slice(), &TEXT[..room]);
-    }
-    Ok(())
-}
-
 const CLOSED: &[u8] = b"send 0 10\nsend 0 20\npull 0\ndrain 0\n";
 
 /// What that script writes over a queue of one packet.
@@ -162,15 +136,10 @@ fn assert_cut_off(rt: &impl Abort, alloc: Global, room: usize, front: &[u8]) {
     assert_eq!(rt; written.as_slice(), front);
 }
 
+// After 53 bytes that is within the report, behind its first word.
 #[test]
 fn a_report_may_be_cut_off(rt: HostRuntime) {
     for room in 0..REPORTED.len() {
         assert_cut_off(&rt, rt.alloc(), room, &REPORTED[..room]);
     }
-}
-
-#[test]
-fn a_report_may_be_cut_off_after_its_first_word(rt: HostRuntime) {
-    let front = b"0#0 10 accepted\n0#1 20 refused\npull 0: 0#0 10\nsender ";
-    assert_cut_off(&rt, rt.alloc(), 53, front);
 }

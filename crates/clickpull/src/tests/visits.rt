@@ -2,6 +2,7 @@
 
 use super::AMPLE;
 use super::command::{answer_within, assert_writes};
+use super::files::write;
 use super::row::log_of;
 use clk_packet::{Fault, Packet};
 use clk_sched::Visit;
@@ -57,12 +58,12 @@ fn visit_of(row: &StringRecord) -> Option<Visit> {
 #[test]
 fn visits_are_read_back(rt: HostRuntime) -> Result<(), Fail> {
     let alloc = rt.alloc();
-    fs::write(&rt, "read_back.click", TREE)?;
-    fs::write(&rt, "read_back.script", SCRIPT)?;
-    let words = "script read_back.click read_back.script --visits read_back.csv";
+    write(&rt, "out/read_back.click", TREE)?;
+    write(&rt, "out/read_back.script", SCRIPT)?;
+    let words = "script out/read_back.click out/read_back.script --visits out/read_back.csv";
     let answered = answer_within(&rt, words, AMPLE, AMPLE).expect(&rt, "ample memory");
     assert_eq!(rt; answered.outcome, Ok(0));
-    let text = fs::read(&rt, "read_back.csv")?;
+    let text = fs::read(&rt, "out/read_back.csv")?;
     let mut rows = Reader::from_reader(alloc, text.as_slice());
     let mut row = StringRecord::new(alloc);
     let log = log_of(alloc, TREE, SCRIPT).expect(&rt, "ample memory");
@@ -78,23 +79,23 @@ fn visits_are_read_back(rt: HostRuntime) -> Result<(), Fail> {
 
 #[test]
 fn visits_do_not_change_the_answer(rt: HostRuntime) -> Result<(), Fail> {
-    fs::write(
+    write(
         &rt,
-        "same.click",
+        "out/same.click",
         "s :: Sender(3); q :: Queue; d :: ToDevice(link); s -> q -> d;",
     )?;
-    fs::write(&rt, "same.script", "send 3 10\npull 5\npull 4\n")?;
+    write(&rt, "out/same.script", "send 3 10\npull 5\npull 4\n")?;
     let answer = b"3#0 10 accepted\npull 5: 3#0 10\npull 4: none\n";
-    assert_writes(&rt, "script same.click same.script", Ok(0), answer);
+    assert_writes(&rt, "script out/same.click out/same.script", Ok(0), answer);
     // What is there is overwritten.
-    fs::write(&rt, "same.csv", [b'x'; 4096])?;
+    write(&rt, "out/same.csv", [b'x'; 4096])?;
     assert_writes(
         &rt,
-        "script --visits=same.csv same.click same.script",
+        "script --visits=out/same.csv out/same.click out/same.script",
         Ok(0),
         answer,
     );
-    let text = fs::read(&rt, "same.csv")?;
+    let text = fs::read(&rt, "out/same.csv")?;
     let expected =
         b"pull,node,input,fresh,sender,number,length,passed,moment\n0,0,0,1,3,0,10,1,5\n1,0,0,1,,,,0,5\n";
     assert_eq!(rt; text.as_slice(), expected.as_slice());
@@ -103,17 +104,19 @@ fn visits_do_not_change_the_answer(rt: HostRuntime) -> Result<(), Fail> {
 
 #[test]
 fn a_visit_file_that_cannot_be_made_is_told_after_the_answer(rt: HostRuntime) -> Result<(), Fail> {
-    fs::write(
+    write(
         &rt,
-        "unmade.click",
+        "out/unmade.click",
         "s :: Sender(3); q :: Queue; d :: ToDevice(link); s -> q -> d;",
     )?;
-    fs::write(&rt, "unmade.script", "send 3 10\ndrain 0\n")?;
-    fs::create_dir(&rt, "unmade")?;
+    write(&rt, "out/unmade.script", "send 3 10\ndrain 0\n")?;
+    fs::create_dir_all(&rt, "out/unmade")?;
     let answer = b"3#0 10 accepted\npull 1: 3#0 10\n\
         sender 3: sent 1 10, accepted 1 10, refused 0 0, evicted 0 0, emitted 1 10\n";
-    for path in ["unmade", "missing/unmade.csv"] {
-        let words = format!(in rt.alloc(); "script unmade.click unmade.script --visits {path}")?;
+    for path in ["out/unmade", "missing/unmade.csv"] {
+        let words = format!(in rt.alloc();
+            "script out/unmade.click out/unmade.script --visits {path}"
+        )?;
         assert_writes(&rt, &words, Err(Fault::Write), answer);
     }
     Ok(())
@@ -121,19 +124,19 @@ fn a_visit_file_that_cannot_be_made_is_told_after_the_answer(rt: HostRuntime) ->
 
 #[test]
 fn a_script_that_is_refused_makes_no_visit_file(rt: HostRuntime) -> Result<(), Fail> {
-    fs::write(
+    write(
         &rt,
-        "refused.click",
+        "out/refused.click",
         "s :: Sender(3); q :: Queue; d :: ToDevice(link); s -> q -> d;",
     )?;
-    fs::write(&rt, "refused.script", "send 3 10\npush\n")?;
+    write(&rt, "out/refused.script", "send 3 10\npush\n")?;
     let fault = Fault::BadScript { line: 2 };
     assert_writes(
         &rt,
-        "script refused.click refused.script --visits refused.csv",
+        "script out/refused.click out/refused.script --visits out/refused.csv",
         Err(fault),
         b"",
     );
-    assert!(rt; fs::read(&rt, "refused.csv").is_err());
+    assert!(rt; fs::read(&rt, "out/refused.csv").is_err());
     Ok(())
 }

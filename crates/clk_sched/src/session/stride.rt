@@ -134,9 +134,6 @@ impl Passes {
     }
 }
 
-#[cfg(test)]
-mod tests;
-
 /// So many inputs, with a pass of 0 each.
 fn first_row(alloc: Global, inputs: u16) -> Result<SmallVec<Rank, 2>, AllocError>
     ensures { IfOk result (λ row. row.items ≡ map first_rank (range_with_len 0 inputs)) }

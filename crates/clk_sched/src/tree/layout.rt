@@ -121,9 +121,6 @@ impl Class {
     }
 }
 
-#[cfg(test)]
-mod tests;
-
 /// What is left of room for so many queues and schedulers after those of these trees, if they have room.
 #[cycle(room)]
 fn room_after(trees: &[Tree], room: u16) -> Option<u16>

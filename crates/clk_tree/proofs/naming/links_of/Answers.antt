@@ -1,8 +1,9 @@
-use Rattle.std.proofs.Common.{◌≡◌, ◌+◌, ◌∷◌, None, length, drop, slice_index_or, inr, sym, subst}
+use Rattle.std.proofs.Common.{◌≡◌, ◌+◌, ◌∷◌, None, length, drop, slice_index_or, inr, sym, subst, List}
 use Rattle.std.specs.List.{AllByRecursion}
 use Rattle.std.proofs.lemmas.List.{drop_more, drop_all}
 use Rattle.std.proofs.lemmas.Result.{err_from_is_err_and}
 use Rattle.clk_packet.specs.declared.fault.Fault.TheVariants.{UnknownName}
+use Rattle.clk_tree.specs.declared.node.Link.{Link}
 use Rattle.clk_tree.specs.declared.statements.Connection.{Connection}
 use Rattle.clk_tree.specs.declared.token.Symbol.TheVariants.{Name}
 use Rattle.clk_tree.specs.Source.{wire, wires}
@@ -43,7 +44,7 @@ loop-connection-preserved c =
       numbers = (subst (AllByRecursion (HasNumbers text)) next c.loop-connection.invariant.numbers).1;
       links = λ all table.
           let made = c.in_ok-link_of.ensures all table in
-          subst (Links all (wires text cs) (wires text (drop (i + 1) cs))) (sym c.in_ok-push.ensures.items)
+          subst (Links all (wires text cs) (wires text (drop (i + 1) cs))) (sym {A = List Link} c.in_ok-push.ensures.items)
           (Links-more all (wires text cs) (wires text (drop (i + 1) cs)) c.loop-connection.links.items (wire text one) c.in_ok-link_of.field-0 made.0 made.1 made.2
           (subst (λ xs. Links all (wires text cs) (wires text xs) c.loop-connection.links.items) next (c.loop-connection.invariant.links all table)));
     }

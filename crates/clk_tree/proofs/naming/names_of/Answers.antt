@@ -1,8 +1,11 @@
-use Rattle.std.proofs.Common.{◌+◌, map, drop, subst}
+use Rattle.std.proofs.Common.{◌+◌, ◌≤◌, length, map, drop, subst, arith}
+use Rattle.std.specs.List.{AllByRecursion}
 use Rattle.std.proofs.lemmas.List.{drop_all}
 use Rattle.std.proofs.lemmas.Result.{err_from_is_err_and}
 use Rattle.clk_tree.specs.Source.{kept, elements}
+use Rattle.clk_tree.specs.Limits.{most_bytes}
 use Rattle.clk_tree.specs.Naming.{Declares}
+use Rattle.clk_tree.specs.Within.{IsDeclaredWithin, words_in}
 use Rattle.clk_tree.proofs.ListLemmas.{drop-item}
 use Rattle.clk_tree.proofs.NameLemmas.{Declares-all}
 use Rattle.clk_tree.proofs.naming.names_of.Goals as goal
@@ -17,6 +20,25 @@ returns-in_err-declare c =
     rw (p.1, p.2)
     (c.in_err-declare.ensures.declared (elements text (map kept ds)) (elements text (map kept (drop (i + 1) ds)))
     (subst (λ xs. Declares (elements text (map kept ds)) (elements text (map kept xs)) c.loop-declaration.names) next c.loop-declaration.invariant.declares))
+
+pub loop-declaration-preserved : goal.loop-declaration-preserved
+loop-declaration-preserved c =
+    let text = c.args.text.now in
+    let ds = c.args.declarations.now in
+    let i = c.loop-declaration.declaration-index in
+    let inv = c.loop-declaration.invariant in
+    let next = drop-item ds i c.declaration-item.result c.loop-declaration-test.true c.declaration-item.is in
+    let within = subst (λ xs. AllByRecursion (IsDeclaredWithin (length text)) (map kept xs)) next inv.within in
+    let few = subst (λ xs. c.loop-declaration.names.count + words_in (map kept xs) ≤ most_bytes) next inv.few in
+    let counted = c.in_ok-declare.ensures.counted in
+    record {
+      within = within.1;
+      few = omega (arith, few, counted);
+      slots = c.in_ok-declare.ensures.slots;
+      declares =
+          c.in_ok-declare.ensures.declared (elements text (map kept ds)) (elements text (map kept (drop (i + 1) ds)))
+          (subst (λ xs. Declares (elements text (map kept ds)) (elements text (map kept xs)) c.loop-declaration.names) next inv.declares);
+    }
 
 pub returns : goal.returns
 returns c =

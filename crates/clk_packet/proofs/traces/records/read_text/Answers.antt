@@ -1,10 +1,21 @@
-use Rattle.std.proofs.Common.{Bor, List, ℕ, Some, ◌∙◌, inl, inr, arith}
+use Rattle.std.proofs.Common.{Bor, List, ℕ, Some, ◌∙◌, inl, inr, refl, sym, subst, rules, arith}
 use Rattle.std.proofs.lemmas.Result.{err_from_is_err_and}
 use Rattle.csv.specs.Reading.{default_config}
 use Rattle.csv.specs.Records.{fields_of}
 use Rattle.csv.proofs.ReadFacts.{rows-end}
-use Rattle.clk_packet.proofs.TraceLemmas.{Stands-end, Stands-fault, Stands-more, goes-read, row-few, trace_fault-short}
+use Rattle.clk_packet.proofs.TraceLemmas.{Stands, Stands-none, Stands-end, Stands-fault, Stands-more, goes-read, row-few, trace_fault-short}
 use Rattle.clk_packet.proofs.traces.records.read_text.Goals as goal
+
+pub loop-row-init : goal.loop-row-init
+loop-row-init c =
+    let made = c.from_reader-reader.ensures in
+    record {
+      plain = search rules;
+      ready = search rules;
+      config = search rules;
+      short = omega arith;
+      stands = subst (Stands c.args.text.now 1 _ _) (sym c.new-traces.ensures) (Stands-none _ _ _ made.state (search rules));
+    }
 
 pub returns-then-not-found : goal.returns-then-not-found
 returns-then-not-found c =

@@ -1,1 +1,0 @@
-q :: Queue; d :: ToDevice(link); s :: Sender(0); s -> q -> d;

@@ -1,1 +1,0 @@
-s :: Sender(3); q :: FrontDropQueue(1); d :: ToDevice(link); s -> q -> d;

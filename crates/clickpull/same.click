@@ -1,1 +1,0 @@
-s :: Sender(3); q :: Queue; d :: ToDevice(link); s -> q -> d;

@@ -1,0 +1,11 @@
+//! Trees of schedulers: their limits, and worked rows of a session, each a tree, the steps that are taken with it, and the text that
+//! they show.
+
+mod constructors;
+mod limits;
+mod memory;
+mod queues;
+pub mod row;
+mod rows;
+mod text;
+pub mod trees;

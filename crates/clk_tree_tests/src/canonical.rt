@@ -1,0 +1,97 @@
+//! The canonical texts of plans.
+
+use clk_tree::Plan;
+use std::alloc::Global;
+use std::process::Abort;
+
+/// Texts, and the canonical texts of their plans.
+const TEXTS: [(&str, &str); 3] = [
+    (
+        "s :: Sender(0); q :: Queue; sh :: Shaper(5); d :: ToDevice(eth0); s -> q -> sh /* 5 per tick */ -> d;",
+        "s :: Sender(0);
+q :: Queue(1000);
+sh :: Shaper(5, 5);
+d :: ToDevice(eth0);
+s [0] -> [0] q;
+q [0] -> [0] sh;
+sh [0] -> [0] d;
+",
+    ),
+    (EVERY_CLASS, EVERY_CLASS_WRITTEN),
+    (
+        "q::Queue();d::ToDevice(x);q->d",
+        "q :: Queue(1000);
+d :: ToDevice(x);
+q [0] -> [0] d;
+",
+    ),
+];
+
+/// Every class, with what may be left out and without.
+const EVERY_CLASS: &str = "out :: ToDevice(9x_); top :: PrioSched; turns :: RoundRobinSched();
+usual :: DRRSched; one :: DRRSched(700); each :: DRRSched(300, 01500);
+share :: StrideSched(3, 1); sh :: Shaper(2, 8);
+qa, qb :: Queue; qc :: FrontDropQueue; qd :: FrontDropQueue(1); qe :: Queue(0064); qf :: Queue(1000000);
+s0 :: Sender(0); s9 :: Sender(65535); s1 :: Sender(010);
+s1 -> qa -> usual -> turns -> top -> out; s9 -> qf -> [1] share [0] -> [1] top; s0 -> [0] qa;
+qc -> [1] one; qb -> one -> [1] turns;
+qe -> [1] each -> sh -> share; qd -> each;
+";
+
+const EVERY_CLASS_WRITTEN: &str = "out :: ToDevice(9x_);
+top :: PrioSched;
+turns :: RoundRobinSched;
+usual :: DRRSched(500);
+one :: DRRSched(700);
+each :: DRRSched(300, 1500);
+share :: StrideSched(3, 1);
+sh :: Shaper(2, 8);
+qa :: Queue(1000);
+qb :: Queue(1000);
+qc :: FrontDropQueue(1000);
+qd :: FrontDropQueue(1);
+qe :: Queue(64);
+qf :: Queue(1000000);
+s0 :: Sender(0);
+s9 :: Sender(65535);
+s1 :: Sender(10);
+top [0] -> [0] out;
+turns [0] -> [0] top;
+share [0] -> [1] top;
+usual [0] -> [0] turns;
+one [0] -> [1] turns;
+qa [0] -> [0] usual;
+qb [0] -> [0] one;
+qc [0] -> [1] one;
+qd [0] -> [0] each;
+qe [0] -> [1] each;
+sh [0] -> [0] share;
+qf [0] -> [1] share;
+each [0] -> [0] sh;
+s0 [0] -> [0] qa;
+s1 [0] -> [0] qa;
+s9 [0] -> [0] qf;
+";
+
+/// The plan that a text denotes has this canonical text.
+fn assert_written(rt: &impl Abort, alloc: Global, text: &str, canonical: &str) {
+    let plan = Plan::read(alloc, text.as_bytes()).expect(rt, "a plan");
+    let written = plan.write(alloc).expect(rt, "memory");
+    let written = str::from_utf8(&written).expect(rt, "a text");
+    assert_eq!(rt; written, canonical);
+}
+
+#[test]
+fn plans_have_canonical_texts(rt: HostRuntime) {
+    for (text, canonical) in &TEXTS {
+        assert_written(&rt, rt.alloc(), text, canonical);
+    }
+}
+
+// A canonical text is that of its own plan.
+#[test]
+fn canonical_texts_stay_as_they_are(rt: HostRuntime) {
+    for (_, canonical) in &TEXTS {
+        assert_written(&rt, rt.alloc(), canonical, canonical);
+    }
+}

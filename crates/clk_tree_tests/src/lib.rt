@@ -1,0 +1,21 @@
+//! Tests of clk_tree, by its public calls alone: what texts of trees are answered.
+#![tactic(auto)]
+
+#[cfg(test)]
+mod altered;
+#[cfg(test)]
+mod canonical;
+#[cfg(test)]
+mod faults;
+#[cfg(test)]
+mod limits;
+#[cfg(test)]
+mod memory;
+#[cfg(test)]
+mod parts;
+#[cfg(test)]
+mod row;
+#[cfg(test)]
+mod sound;
+#[cfg(test)]
+mod trees;

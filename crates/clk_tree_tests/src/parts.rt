@@ -1,0 +1,76 @@
+//! The queues and the senders of plans.
+
+use clk_packet::Kind;
+use clk_tree::Plan;
+use std::alloc::{AllocError, Global};
+
+/// Texts, and the queues and senders of their plans.
+const TEXTS: [(&str, &str); 3] = [
+    // Senders that aren't declared in order of their numbers, before and after the queues, and queues that aren't connected in order.
+    (
+        "t :: Sender(9); a :: FrontDropQueue(5); s :: Sender(2); b, c :: Queue; d :: ToDevice(x); p :: PrioSched;
+u :: Sender(65535); v :: Sender(0); w :: Sender(10);
+c -> p -> d; b -> [1] p; a -> [2] p; u -> a; t -> c; s -> c; v -> a; w -> c;",
+        "TailDrop or FrontDrop, capacity: senders
+FrontDrop 5: 0 65535
+TailDrop 1000:
+TailDrop 1000: 2 9 10
+sender: queue
+0: 0
+2: 2
+9: 2
+10: 2
+65535: 0
+",
+    ),
+    (
+        "s :: Sender(7); q :: Queue(1000000); d :: ToDevice(x); s -> q -> d;",
+        "TailDrop or FrontDrop, capacity: senders
+TailDrop 1000000: 7
+sender: queue
+7: 0
+",
+    ),
+    (
+        "d :: ToDevice(x); q -> d; q :: FrontDropQueue",
+        "TailDrop or FrontDrop, capacity: senders
+FrontDrop 1000:
+sender: queue
+",
+    ),
+];
+
+// What becomes of a packet that arrives at a full queue.
+fn kind_name(kind: Kind) -> &'static str {
+    match kind {
+        Kind::TailDrop => "TailDrop",
+        Kind::FrontDrop => "FrontDrop",
+    }
+}
+
+/// The queues of a plan by their numbers, and its senders with the numbers of their queues, each in a line.
+pub fn told_parts(alloc: Global, plan: &Plan) -> Result<String, AllocError> {
+    let mut told = format!(in alloc; "TailDrop or FrontDrop, capacity: senders\n")?;
+    for queue in plan.queues() {
+        write!(told, "{} {}:", kind_name(queue.kind), queue.capacity)?;
+        for sender in &queue.senders {
+            write!(told, " {sender}")?;
+        }
+        told.push_str("\n")?;
+    }
+    told.push_str("sender: queue\n")?;
+    for sender in plan.senders() {
+        write!(told, "{}: {}\n", sender.number, sender.queue)?;
+    }
+    Ok(told)
+}
+
+#[test]
+fn plans_have_queues_and_senders(rt: HostRuntime) {
+    let alloc = rt.alloc();
+    for (text, parts) in &TEXTS {
+        let plan = Plan::read(alloc, text.as_bytes()).expect(&rt, "a plan");
+        let told = told_parts(alloc, &plan).expect(&rt, "memory");
+        assert_eq!(rt; told.as_str(), *parts);
+    }
+}

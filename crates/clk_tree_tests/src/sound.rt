@@ -1,0 +1,40 @@
+//! Texts without a fault.
+
+use crate::row::assert_answers;
+
+/// A router of two senders, each with a queue, under a PrioSched.
+pub const TWO_QUEUES: &str = "s0 :: Sender(0); s1 :: Sender(1);
+q0 :: Queue(2); q1 :: Queue(2);
+p :: PrioSched;
+out :: ToDevice(link);
+s0 -> q0 -> p -> out;
+s1 -> q1 -> [1] p;
+";
+
+/// Texts of trees.
+const TEXTS: [(&str, &str); 7] = [
+    (TWO_QUEUES, ""),
+    (
+        "s :: Sender(0); q :: Queue; sh :: Shaper(5); d :: ToDevice(eth0); s -> q -> sh /* 5 per tick */ -> d;",
+        "",
+    ),
+    (
+        "s :: Sender(0); q :: Queue; y :: DRRSched(300); x :: DRRSched(500); d :: ToDevice(link); s -> q -> y -> x -> d;",
+        "",
+    ),
+    ("q :: Queue; d :: ToDevice(x); q -> d;", ""),
+    ("q::Queue();d::ToDevice(9x);q[0]->[0]d", ""),
+    (
+        "// senders\r\na, b :: Queue(007); s :: StrideSched(1, 2);\t/**/d :: ToDevice(x); a -> s -> d; b -> [0001] s;; ;",
+        "",
+    ),
+    (
+        "s :: Sender(0); t :: Sender(1); q :: FrontDropQueue(1); d :: ToDevice(link); s -> q -> d; t -> q;",
+        "",
+    ),
+];
+
+#[test]
+fn texts_of_trees_have_no_fault(rt: HostRuntime) {
+    assert_answers(&rt, rt.alloc(), &TEXTS);
+}

@@ -1,0 +1,65 @@
+//! The trees of plans.
+
+use clk_packet::Packet;
+use clk_sched::{Ask, Session};
+use clk_tree::Plan;
+use std::alloc::Global;
+use std::process::Abort;
+
+/// Three queues that have nothing, and remember the order in which they were asked.
+#[derive(Drop)]
+struct Asked {
+    /// Of each queue, by its number, how many had been asked with it when it was asked last.
+    order: [u32; 3],
+    count: u32,
+}
+
+impl Ask for Asked {
+    ghost use Rattle.std.specs.Prelude.{true};
+
+    ghost has = { λ s leaf. true };
+
+    ghost gives = { λ s leaf got t. Unit };
+
+    fn ask(&mut self, leaf: u16) -> Option<Packet> {
+        self.count = self.count.saturating_add(1);
+        *self.order.get_mut(usize::from(leaf))? = self.count;
+        None
+    }
+}
+
+// A session over the tree of a text.
+fn session(rt: &impl Abort, alloc: Global, text: &str) -> Session {
+    let plan = Plan::read(alloc, text.as_bytes()).expect(rt, "a plan");
+    let tree = plan.tree(alloc).expect(rt, "memory");
+    Session::new(alloc, tree).expect(rt, "a session")
+}
+
+// One packet takes at most 1 * 3 * (1 + 65,535 / 300, rounded up) pulls.
+#[test]
+fn quanta_of_a_text_bound_the_closing_pulls(rt: HostRuntime) {
+    let session = session(
+        &rt,
+        rt.alloc(),
+        "s :: Sender(0); q :: Queue; y :: DRRSched(300); x :: DRRSched(500); d :: ToDevice(link); s -> q -> y -> x -> d;",
+    );
+    assert_eq!(rt; session.bound(1), 660);
+}
+
+// A queue's number is its place among the queues as they are declared, and inputs are asked as they are connected.
+#[test]
+fn queues_are_asked_by_their_numbers(rt: HostRuntime) {
+    let mut session = session(
+        &rt,
+        rt.alloc(),
+        "a :: Queue; s :: Sender(4); b, c :: FrontDropQueue(3); p, r :: PrioSched; d :: ToDevice(x);
+s -> b; b -> [1] p; a -> [2] p -> d; r -> p; c -> r;",
+    );
+    let mut asked = Asked {
+        order: [0; 3],
+        count: 0,
+    };
+    assert_eq!(rt; session.pull(&mut asked, 0), Ok(None));
+    // c, b and a.
+    assert_eq!(rt; asked.order, [3, 2, 1]);
+}
