@@ -1,0 +1,132 @@
+-- Once a drain gave all that was left, nothing is held, and each queue's packets were all taken that weren't evicted.
+use Rattle.std.proofs.Common.{◌≡◌, ℕ, ◌+◌, ◌≤◌, ◌==◌, ◌&&◌, ◌||◌, Bool, true, false, true≢false, not, List, [], ◌∷◌, length, refl, sym, ap, ◌∙◌, arith, eq-eqb, if◌then◌else◌}
+use Rattle.std.proofs.lemmas.Bool.{eqb-true}
+use Rattle.std.proofs.lemmas.Bool.Decides.{nat_tests}
+use Rattle.std.proofs.lemmas.List.{nil_from_length}
+use Rattle.std.specs.List.{AllByRecursion}
+use Rattle.clk_sched.specs.declared.visit.Visit.{Visit}
+use Rattle.clk_sched.specs.Tree.{Tree, root, leaves, stands_in, are_distinct, leaves_distinct}
+use Rattle.clk_sched.specs.Conservation.{given_in_all, ConservesCounts}
+use Rattle.clk_sched.specs.Results.{heads, leaf_packets}
+use Rattle.clk_sched.specs.Session.{Progress, IsDrained}
+use Rattle.clk_drain.specs.Closing.{accepted_over, evicted_over, left_over}
+use Rattle.clk_drain.specs.Line.{LineLists, leaves_of, AreLinesOf}
+use Rattle.clk_drain.specs.Parts.{IsWithin, HasAllTaken}
+use Rattle.clk_drain.specs.Senders.{IsBelowAll, Rise}
+use Rattle.clk_drain.proofs.Emitting.{emitted-more}
+
+and-both : (a b : Bool) → (not a && b) ≡ true → (a ≡ false) × (b ≡ true)
+and-both true b e = absurd (true≢false (sym e))
+and-both false b e = (refl, e)
+
+and-are : (a b : Bool) → a ≡ false → b ≡ true → (not a && b) ≡ true
+and-are true b e f = absurd (true≢false e)
+and-are false b e f = f
+
+-- a number that rises above all doesn't stand among them
+below-apart : (n : ℕ) (ns : List ℕ) → IsBelowAll n ns → stands_in n ns ≡ false
+below-apart n [] h = refl
+below-apart n (m ∷ ns) h =
+    let other : (m == n) ≡ false = grind (arith, nat_tests, h.0) in
+    ap (λ b. b || stands_in n ns) other ∙ below-apart n ns h.1
+
+rise-distinct : (ns : List ℕ) → Rise ns → are_distinct ns ≡ true
+rise-distinct [] h = refl
+rise-distinct (n ∷ ns) h = and-are (stands_in n ns) (are_distinct ns) (below-apart n ns h.0) (rise-distinct ns h.1)
+
+-- a list without the first place of a number
+abbrev drop_one : ℕ → List ℕ → List ℕ
+drop_one x [] = []
+drop_one x (y ∷ ys) = if y == x then ys else y ∷ drop_one x ys
+
+-- Behind the first of a list without repeats stands what stands in the list, but for the first.
+stands-behind : (q x : ℕ) (xs : List ℕ) → stands_in x xs ≡ false → stands_in q xs ≡ (((x == q) || stands_in q xs) && not (x == q))
+stands-behind q x xs e = by_test (x == q) refl
+  where
+    by_test : (b : Bool) → (x == q) ≡ b → stands_in q xs ≡ ((b || stands_in q xs) && not b)
+    by_test true t = ap (λ n. stands_in n xs) (sym (eqb-true x q t)) ∙ e
+    by_test false t = by_stands (stands_in q xs)
+      where
+        by_stands : (s : Bool) → s ≡ (s && true)
+        by_stands true = refl
+        by_stands false = refl
+
+stands-dropped : (q x : ℕ) (ys : List ℕ) → are_distinct ys ≡ true → stands_in q (drop_one x ys) ≡ (stands_in q ys && not (x == q))
+stands-dropped q x [] d = refl
+stands-dropped q x (y ∷ ys) d = by_test (y == x) refl (stands-dropped q x ys parts.1)
+  where
+    parts : (stands_in y ys ≡ false) × (are_distinct ys ≡ true)
+    parts = and-both (stands_in y ys) (are_distinct ys) d
+
+    other : (b : Bool) → (y == q) ≡ b → (y == x) ≡ false → stands_in q (drop_one x ys) ≡ (stands_in q ys && not (x == q)) → (b || stands_in q (drop_one x ys)) ≡ ((b || stands_in q ys) && not (x == q))
+    other true e t again = let apart : (x == q) ≡ false = grind (arith, nat_tests, e, t) in ap not (sym apart)
+    other false e t again = again
+
+    by_test : (b : Bool) → (y == x) ≡ b → stands_in q (drop_one x ys) ≡ (stands_in q ys && not (x == q)) → stands_in q (if b then ys else y ∷ drop_one x ys) ≡ (((y == q) || stands_in q ys) && not (x == q))
+    by_test true t again = stands-behind q y ys parts.0 ∙ ap (λ n. ((y == q) || stands_in q ys) && not (n == q)) (eqb-true y x t)
+    by_test false t again = other (y == q) refl t again
+
+distinct-dropped : (x : ℕ) (ys : List ℕ) → are_distinct ys ≡ true → are_distinct (drop_one x ys) ≡ true
+distinct-dropped x [] d = refl
+distinct-dropped x (y ∷ ys) d = by_test (y == x) (distinct-dropped x ys parts.1)
+  where
+    parts : (stands_in y ys ≡ false) × (are_distinct ys ≡ true)
+    parts = and-both (stands_in y ys) (are_distinct ys) d
+
+    by_test : (b : Bool) → are_distinct (drop_one x ys) ≡ true → are_distinct (if b then ys else y ∷ drop_one x ys) ≡ true
+    by_test true again = parts.1
+    by_test false again = and-are (stands_in y (drop_one x ys)) (are_distinct (drop_one x ys)) (stands-dropped y x ys parts.1 ∙ ap (λ b. b && not (x == y)) parts.0) again
+
+-- What all queues gave is what one of them gave, and the others.
+given-dropped : (tree : Tree) (log : List Visit) (x : ℕ) (ys : List ℕ) → stands_in x ys ≡ true → given_in_all tree ys log ≡ length (leaf_packets tree x log) + given_in_all tree (drop_one x ys) log
+given-dropped tree log x [] s = absurd (true≢false (sym s))
+given-dropped tree log x (y ∷ ys) s = by_test (y == x) refl s (given-dropped tree log x ys)
+  where
+    by_test : (b : Bool) → (y == x) ≡ b → (b || stands_in x ys) ≡ true → (stands_in x ys ≡ true → given_in_all tree ys log ≡ length (leaf_packets tree x log) + given_in_all tree (drop_one x ys) log)
+        → length (leaf_packets tree y log) + given_in_all tree ys log ≡ length (leaf_packets tree x log) + given_in_all tree (if b then ys else y ∷ drop_one x ys) log
+    by_test true t k again = ap (λ n. length (leaf_packets tree n log) + given_in_all tree ys log) (eqb-true y x t)
+    by_test false t k again = let rest = again k in omega (arith, rest)
+
+-- The same queues, each once on both sides, gave as much in all.
+given-same : (tree : Tree) (log : List Visit) (xs ys : List ℕ) → are_distinct xs ≡ true → are_distinct ys ≡ true → ((q : ℕ) → stands_in q xs ≡ stands_in q ys) → given_in_all tree xs log ≡ given_in_all tree ys log
+given-same tree log [] [] c d same = refl
+given-same tree log [] (y ∷ ys) c d same = absurd (true≢false (sym (same y ∙ ap (λ b. b || stands_in y ys) (eq-eqb y y refl))))
+given-same tree log (x ∷ xs) ys c d same =
+    let parts = and-both (stands_in x xs) (are_distinct xs) c in
+    let here : stands_in x ys ≡ true = sym (same x) ∙ ap (λ b. b || stands_in x xs) (eq-eqb x x refl) in
+    let rest = given-same tree log xs (drop_one x ys) parts.1 (distinct-dropped x ys d) (λ q. stands-behind q x xs parts.0 ∙ ap (λ b. b && not (x == q)) (same q) ∙ sym (stands-dropped q x ys d)) in
+    let all = given-dropped tree log x ys here in
+    omega (arith, rest, all)
+
+-- how many packets the taps of lines took in all
+abbrev taken_over : List LineLists → ℕ
+taken_over [] = 0
+taken_over (l ∷ lines) = length l.tap.taken + taken_over lines
+
+given-taken : (tree : Tree) (log : List Visit) (lines : List LineLists) → AllByRecursion (λ (l : LineLists). l.tap.taken ≡ leaf_packets tree l.leaf log) lines → given_in_all tree (leaves_of lines) log ≡ taken_over lines
+given-taken tree log [] h = refl
+given-taken tree log (l ∷ lines) h = let here = ap length h.0 in let rest = given-taken tree log lines h.1 in omega (arith, here, rest)
+
+all-within : (lines : List LineLists) → AllByRecursion IsWithin lines → evicted_over lines + taken_over lines ≤ accepted_over lines
+all-within [] h = omega arith
+all-within (l ∷ lines) h = let here : IsWithin l = h.0 in let rest = all-within lines h.1 in omega (arith, here, rest)
+
+-- Where in all no fewer were taken than weren't evicted, it is so of each line.
+each-taken : (lines : List LineLists) → AllByRecursion IsWithin lines → accepted_over lines ≤ evicted_over lines + taken_over lines → AllByRecursion HasAllTaken lines
+each-taken [] h all = tt
+each-taken (l ∷ lines) h all =
+    let here : IsWithin l = h.0 in let rest = all-within lines h.1 in
+    (omega (arith, here, rest, all), each-taken lines h.1 (omega (arith, here, rest, all)))
+
+-- A drain that gave all that was left leaves no head held, and each line has all taken.
+pub all-given : (old new : Progress) (lines : List LineLists) (moment made : ℕ) → leaves_distinct new.tree ≡ true → ConservesCounts new.tree → IsDrained old new moment made (left_over old lines) → AreLinesOf new lines
+    → AllByRecursion IsWithin lines → (heads new.tree new.log ≡ []) × AllByRecursion HasAllTaken lines
+all-given old new lines moment made distinct conserves drained own within =
+    let out = emitted-more old new moment made (left_over old lines) drained in
+    let all = conserves new.log drained.run in
+    let same = given-same new.tree new.log (leaves_of lines) (leaves (root new.tree)) (rise-distinct (leaves_of lines) own.rise) distinct own.leaves in
+    let taken = given-taken new.tree new.log lines own.taken in
+    let most = all-within lines within in
+    let none : length (heads new.tree new.log) ≡ 0 = omega (arith, out, all, same, taken, most) in
+    let least : accepted_over lines ≤ evicted_over lines + taken_over lines = omega (arith, out, all, same, taken) in
+    (nil_from_length (heads new.tree new.log) none, each-taken lines within least)

@@ -1,0 +1,50 @@
+-- What closing a session over its lines comes to.
+use Rattle.std.proofs.Common.{◌≡◌, ℕ, ◌+◌, ◌-◌, true, List, [], ◌∷◌, length, map, max, refl, sym, ◌∙◌, subst}
+use Rattle.std.specs.List.{AllByRecursion}
+use Rattle.clk_sched.specs.Tree.{Tree, leaves_distinct}
+use Rattle.clk_sched.specs.Conservation.{ConservesPackets, ConservesCounts, MakesNothing}
+use Rattle.clk_sched.specs.Results.{emitted}
+use Rattle.clk_sched.specs.Session.{Progress, counted_moment, IsDrained, GivesAll}
+use Rattle.clk_drain.specs.declared.drained.Drained.{Drained}
+use Rattle.clk_drain.specs.Line.{LineLists, senders_at, HaveOwnSenders}
+use Rattle.clk_drain.specs.Closing.{left_over, queue_of_line, device_of, HasSent, IsDrainedOver}
+use Rattle.clk_drain.specs.Outcome.{Device, IsSettledOutcome}
+use Rattle.clk_drain.specs.Senders.{AreApart}
+use Rattle.clk_drain.specs.Parts.{IsDrainOf, IsSettledLine, IsWithin, AreInOrder, tallies_in}
+use Rattle.clk_drain.proofs.Left.{IsLeft, left-is}
+use Rattle.clk_drain.proofs.Still.{still-accepted, still-evicted, still-seats, still-queues}
+use Rattle.clk_drain.proofs.AllGiven.{all-given}
+use Rattle.clk_drain.proofs.FromSenders.{emitted-of, emitted-own}
+use Rattle.clk_drain.proofs.Settling.{settled-outcome}
+
+each-within : (lines : List LineLists) → AllByRecursion IsSettledLine lines → AllByRecursion IsWithin lines
+each-within [] h = tt
+each-within (l ∷ lines) h = (h.0.is.within, each-within lines h.1)
+
+-- All is settled, and what is settled is what was asked for.
+pub record IsClosed (session new : Progress) (lines gathered after : List LineLists) (moment left : ℕ) : Type 0 where
+  pub own : HaveOwnSenders lines
+  pub leaves_some : IsLeft session lines gathered left
+  pub drained : IsDrainOf session gathered moment left new after
+  pub distinct : leaves_distinct new.tree ≡ true
+  pub settled : AllByRecursion IsSettledLine after
+
+pub drained-over : (session new : Progress) (lines gathered after : List LineLists) (moment left : ℕ) (drained : Drained) → ((tree : Tree) → leaves_distinct tree ≡ true → ConservesPackets tree) → ((tree : Tree) → leaves_distinct tree ≡ true → ConservesCounts tree) → ((tree : Tree) → MakesNothing tree)
+    → IsClosed session new lines gathered after moment left → AreInOrder (tallies_in after) drained.tallies.items → drained.log.items ≡ new.log → drained.emitted.items ≡ emitted new.log → IsDrainedOver session lines moment drained
+drained-over session new lines gathered after moment left drained conserves counts nothing h tallies log out =
+    let still = h.drained.still ∙ h.leaves_some.gathers.still in
+    let run = h.drained.gives.drained.run in
+    let apart : HaveOwnSenders after = subst (λ seats. AreApart (senders_at seats)) (sym (still-seats lines after still)) h.own in
+    let is_left : left ≡ left_over session after = left-is session lines gathered left h.leaves_some ∙ (λ i. sym (still-accepted lines after still) i - (sym (still-evicted lines after still) i + length (emitted session.log))) in
+    let given = all-given session new after (max (counted_moment session) moment) h.drained.made h.distinct (counts new.tree h.distinct) (subst (λ n. IsDrained session new (max (counted_moment session) moment) h.drained.made n) is_left h.drained.gives.drained) h.drained.own (each-within after h.settled) in
+    let emits = emitted-of new after (conserves new.tree h.distinct) (nothing new.tree) run given.0 h.drained.own apart h.settled in
+    let known = emitted-own new after (conserves new.tree h.distinct) (nothing new.tree) run given.0 h.drained.own apart h.settled in
+    let whole = settled-outcome new after drained.tallies.items (emitted new.log) run refl given.0 h.drained.own apart h.settled given.1 emits known tallies in
+    let is_device : record { tree = new.tree; queues = map queue_of_line after; log = new.log; emitted = emitted new.log } ≡ device_of session lines drained =
+    λ i. record { tree = h.drained.gives.drained.tree i; queues = still-queues lines after still i; log = sym log i; emitted = sym out i } in record {
+      sent = whole.0;
+      offered = subst (AllByRecursion (HasSent whole.0)) (still-seats lines after still) whole.1;
+      outcome = subst (λ (d : Device). IsSettledOutcome whole.0 (d ∷ []) drained.tallies.items) is_device whole.2;
+      made = h.drained.made;
+      goes_on = subst (λ (x : Progress × ℕ). GivesAll session x.0 (max (counted_moment session) moment) h.drained.made x.1) (λ i. (record { tree = h.drained.gives.drained.tree i; log = sym log i }, left-is session lines gathered left h.leaves_some i)) h.drained.gives;
+    }

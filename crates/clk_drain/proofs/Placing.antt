@@ -1,0 +1,77 @@
+-- The line of a leaf, by its place.
+use Rattle.std.proofs.Common.{◌≡◌, ℕ, ◌<◌, ◌==◌, Bool, true, false, zero, suc, List, [], ◌∷◌, length, get_or, set, Option, None, refl, sym, ap, ◌∙◌, subst, arith, eq-eqb, if◌then◌else◌}
+use Rattle.std.specs.declared.cmp.Ordering.TheVariants.{Equal}
+use Rattle.std.specs.Ordering.{nat_cmp}
+use Rattle.std.proofs.Math.Seq.{map-set_same}
+use Rattle.std.proofs.lemmas.Bool.Decides.{nat_tests}
+use Rattle.std.proofs.lemmas.Cmp.{ranked}
+use Rattle.clk_packet.specs.declared.packet.Packet.{Packet}
+use Rattle.clk_drain.specs.Senders.{IsBelowAll, Rise}
+use Rattle.clk_drain.specs.Line.{LineLists, leaves_of, pulling, pulling_all, packets_of, answered, PullsAt, has_line}
+use Rattle.clk_drain.proofs.Truths.{or-here, or-there}
+use Rattle.clk_drain.proofs.Growing.{pulling-none, all-none}
+
+other-are : (m n : ℕ) → m < n → ((m == n) ≡ false) × ((n == m) ≡ false)
+other-are m n lt = (grind (arith, nat_tests, lt), grind (arith, nat_tests, lt))
+
+-- a line of another leaf stays
+stays : (leaf : ℕ) (got : Option Packet) (l : LineLists) → (leaf == l.leaf) ≡ false → pulling l (answered leaf got l.leaf) ≡ l
+stays leaf got l e = ap (λ b. pulling l (if b then packets_of got else [])) e ∙ pulling-none l
+
+all-stay : (leaf : ℕ) (got : Option Packet) (lines : List LineLists) → IsBelowAll leaf (leaves_of lines) → pulling_all (answered leaf got) lines ≡ lines
+all-stay leaf got [] h = refl
+all-stay leaf got (l ∷ lines) h = λ i. stays leaf got l (other-are leaf l.leaf h.0).0 i ∷ all-stay leaf got lines h.1 i
+
+-- a leaf below all is not that at a place
+below-at : (n : ℕ) (lines : List LineLists) (i : ℕ) (d : LineLists) → i < length lines → IsBelowAll n (leaves_of lines) → n < (get_or lines i d).leaf
+below-at n [] i d lt h = absurd (omega arith)
+below-at n (l ∷ lines) zero d lt h = h.0
+below-at n (l ∷ lines) (suc i) d lt h = below-at n lines i d (omega arith) h.1
+
+-- The line at the place of a leaf pulled, and no other.
+pulled-at : (lines : List LineLists) (leaf : ℕ) (got : Option Packet) (i : ℕ) (d : LineLists) → i < length lines → Rise (leaves_of lines) → (get_or lines i d).leaf ≡ leaf
+    → set lines i (pulling (get_or lines i d) (packets_of got)) ≡ pulling_all (answered leaf got) lines
+pulled-at [] leaf got i d lt rise e = absurd (omega arith)
+pulled-at (l ∷ lines) leaf got zero d lt rise e = λ i. pulling l (ap (λ b. if b then packets_of got else []) (sym (eq-eqb leaf l.leaf (sym e))) i) ∷ sym (all-stay leaf got lines (subst (λ n. IsBelowAll n (leaves_of lines)) e rise.0)) i
+pulled-at (l ∷ lines) leaf got (suc i) d lt rise e =
+    let below : l.leaf < leaf = subst (λ n. l.leaf < n) e (below-at l.leaf lines i d (omega arith) rise.0) in
+    λ j. sym (stays leaf got l (other-are l.leaf leaf below).1) j ∷ pulled-at lines leaf got i d (omega arith) rise.1 e j
+
+-- An answer of none changes no tap.
+none-pulled : (leaf : ℕ) (lines : List LineLists) → pulling_all (answered leaf None) lines ≡ lines
+none-pulled leaf lines = ap (λ f. pulling_all f lines) (λ i q. nothing (leaf == q) i) ∙ all-none lines
+  where
+    nothing : (b : Bool) → (if b then packets_of None else []) ≡ []
+    nothing true = refl
+    nothing false = refl
+
+pub unanswered : (leaf : ℕ) (lines : List LineLists) → PullsAt lines leaf None lines
+unanswered leaf lines = sym (none-pulled leaf lines)
+
+-- a leaf at a place stands among the leaves
+has-at : (lines : List LineLists) (leaf i : ℕ) (d : LineLists) → i < length lines → (get_or lines i d).leaf ≡ leaf → has_line lines leaf ≡ true
+has-at [] leaf i d lt e = absurd (omega arith)
+has-at (l ∷ lines) leaf zero d lt e = or-here (l.leaf == leaf) (has_line lines leaf) (eq-eqb l.leaf leaf e)
+has-at (l ∷ lines) leaf (suc i) d lt e = or-there (l.leaf == leaf) (has_line lines leaf) (has-at lines leaf i d (omega arith) e)
+
+-- What a pull of the line that the search found for a leaf leaves.
+pub record IsAsked (old : List LineLists) (leaf : ℕ) (got : Option Packet) (new : List LineLists) : Type 0 where
+  pub rise : Rise (leaves_of new)
+  pub pulls : PullsAt old leaf got new
+  pub has : has_line old leaf ≡ true
+
+asked-there : (lines : List LineLists) (leaf : ℕ) (got : Option Packet) (place : ℕ) (d : LineLists) → Rise (leaves_of lines) → place < length lines → (get_or lines place d).leaf ≡ leaf
+    → IsAsked lines leaf got (set lines place (pulling (get_or lines place d) (packets_of got)))
+asked-there lines leaf got place d rise lt e = record {
+  rise = subst Rise (sym (map-set_same (λ (l : LineLists). l.leaf) lines place (pulling (get_or lines place d) (packets_of got)) d refl)) rise;
+  pulls = pulled-at lines leaf got place d lt rise e;
+  has = has-at lines leaf place d lt e;
+}
+
+-- `seen` is what the search looks at, and `line` what was read at the place.
+pub asked-at : (lines seen old : List LineLists) (leaf : ℕ) (got : Option Packet) (place : ℕ) (line new : LineLists) → seen ≡ lines → lines ≡ old → Rise (leaves_of lines)
+    → ((d : LineLists) → nat_cmp (get_or seen place d).leaf leaf ≡ Equal) → place < length seen → line ≡ get_or lines place line → new ≡ pulling line (packets_of got) → IsAsked old leaf got (set lines place new)
+asked-at lines seen old leaf got place line new same is rise found lt read pulled =
+    let found_here : (get_or lines place line).leaf ≡ leaf = ranked (get_or lines place line).leaf leaf _ (sym (subst (λ ls. nat_cmp (get_or ls place line).leaf leaf ≡ Equal) same (found line))) in
+    let here = asked-there lines leaf got place line rise (subst (λ ls. place < length ls) same lt) found_here in
+    subst (λ (x : List LineLists × LineLists). IsAsked x.0 leaf got (set lines place x.1)) (λ i. (is i, sym (pulled ∙ ap (λ l. pulling l (packets_of got)) read) i)) here

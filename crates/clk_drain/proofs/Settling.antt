@@ -1,0 +1,234 @@
+-- Settled lines, all of whose packets came out, have a settled outcome.
+use Rattle.std.proofs.Common.{◌≡◌, ℕ, ◌==◌, inl, inr, Bool, true, false, true≢false, not, List, [], ◌∷◌, ◌++◌, map, filter, MatchOption, refl, sym, ap, ◌∙◌, subst, arith, if◌then◌else◌, eq-eqb, ne_eqb, append-nil}
+use Rattle.std.specs.List.{flat_map, AllByRecursion}
+use Rattle.std.proofs.lemmas.Bool.{eqb-false}
+use Rattle.clk_packet.specs.declared.packet.Kind.TheVariants.{TailDrop, FrontDrop}
+use Rattle.clk_packet.specs.declared.packet.Packet.{Packet}
+use Rattle.clk_packet.specs.declared.tally.Tally.{Tally}
+use Rattle.clk_ruled.specs.Lists.{of_sender, has_sender, has_packet, without}
+use Rattle.clk_ruled.specs.Queue.{SeatLists, TapLists, ClosedLists, IsDealt, IsSharedOut}
+use Rattle.clk_ruled.specs.Settle.{lists_of, of_seat, accepted_of, evicted_of, all_evicted, AreOfTap, tally_of}
+use Rattle.clk_sched.specs.Results.{emitted, heads, leaf_packets}
+use Rattle.clk_sched.specs.Run.{IsRun}
+use Rattle.clk_sched.specs.Session.{Progress}
+use Rattle.clk_drain.specs.Senders.{AreApart}
+use Rattle.clk_drain.specs.Line.{LineLists, seats_of, seats_in, senders_at, AreLinesOf, HaveOwnSenders}
+use Rattle.clk_drain.specs.Outcome.{SharedQueue, Device, senders_to, IsTallied, tally_for, IsQueueSettled, IsSettledOutcome}
+use Rattle.clk_drain.specs.Closing.{queue_of_line, AreOffered, HasSent}
+use Rattle.clk_drain.specs.Parts.{IsSettledLine, HasAllTaken, tallies_in, AreInOrder}
+use Rattle.clk_drain.proofs.Seated.{joined}
+use Rattle.clk_drain.proofs.Tallies.{tellers, in-order-rise, in-order-found, in-order-all, all-split, all-weaker, tellers-in, AreFound, each-found, none-filtered, no-evicted, accepted-same, lost-some}
+
+-- What holds of all members of lists.
+all-join : {X : Type 0} (P : X → Type 0) (xs ys : List X) → AllByRecursion P xs → AllByRecursion P ys → AllByRecursion P (xs ++ ys)
+all-join P [] ys h k = k
+all-join P (x ∷ xs) ys h k = (h.0, all-join P xs ys h.1 k)
+
+all-both : {X : Type 0} (P Q R : X → Type 0) (xs : List X) → ((x : X) → P x → Q x → R x) → AllByRecursion P xs → AllByRecursion Q xs → AllByRecursion R xs
+all-both P Q R [] f h k = tt
+all-both P Q R (x ∷ xs) f h k = (f x h.0 k.0, all-both P Q R xs f h.1 k.1)
+
+-- each member's name is among all names
+all-named : {X : Type 0} (name : X → ℕ) (xs : List X) → AllByRecursion (λ x. has_sender (map name xs) (name x) ≡ true) xs
+all-named name [] = tt
+all-named {X} name (x ∷ xs) = (
+  ap (λ (b : Bool). if b then true else has_sender (map name xs) (name x)) (eq-eqb (name x) (name x) refl),
+  all-weaker (λ (y : X). has_sender (map name xs) (name y) ≡ true) (λ (y : X). has_sender (map name (x ∷ xs)) (name y) ≡ true) xs (λ y e. later (name x == name y) (has_sender (map name xs) (name y)) e) (all-named name xs),
+)
+  where
+    later : (b has : Bool) → has ≡ true → (if b then true else has) ≡ true
+    later true has e = refl
+    later false has e = e
+
+-- Senders that stand apart.
+not-either : (b has : Bool) → (if b then true else has) ≡ false → (b ≡ false) × (has ≡ false)
+not-either true has e = absurd (true≢false e)
+not-either false has e = (refl, e)
+
+-- a sender that isn't in two lists joined is not in the first
+none-in : (s : ℕ) (xs ys : List ℕ) → has_sender (xs ++ ys) s ≡ false → has_sender xs s ≡ false
+none-in s [] ys e = refl
+none-in s (x ∷ xs) ys e = let both = not-either (x == s) (has_sender (xs ++ ys) s) e in ap (λ (b : Bool). if b then true else has_sender xs s) both.0 ∙ none-in s xs ys both.1
+
+apart-parts : (xs ys : List ℕ) → AreApart (xs ++ ys) → AreApart xs × AreApart ys
+apart-parts [] ys h = (tt, h)
+apart-parts (x ∷ xs) ys h = let rest = apart-parts xs ys h.1 in ((none-in x xs ys h.0, rest.0), rest.1)
+
+-- a sender that no seat has is another than each seat's
+others : (s : ℕ) (seats : List SeatLists) → has_sender (senders_at seats) s ≡ false → AllByRecursion (λ (c : SeatLists). (s == c.sender) ≡ false) seats
+others s [] e = tt
+others s (c ∷ seats) e = let both = not-either (c.sender == s) (has_sender (senders_at seats) s) e in (ne_eqb s c.sender (λ k. eqb-false c.sender s both.0 (sym k)), others s seats both.1)
+
+-- each seat's list is what is found under its sender
+own-list : (list : SeatLists → List Packet) (seats : List SeatLists) → AreApart (senders_at seats) → AllByRecursion (λ (c : SeatLists). of_seat list seats c.sender ≡ list c) seats
+own-list list [] apart = tt
+own-list list (c ∷ seats) apart = (
+  ap (λ (b : Bool). if b then list c else of_seat list seats c.sender) (eq-eqb c.sender c.sender refl),
+  all-both (λ (e : SeatLists). (c.sender == e.sender) ≡ false) (λ (e : SeatLists). of_seat list seats e.sender ≡ list e) (λ (e : SeatLists). of_seat list (c ∷ seats) e.sender ≡ list e) seats
+      (λ e other own. ap (λ (b : Bool). if b then list c else of_seat list seats e.sender) other ∙ own) (others c.sender seats apart.0) (own-list list seats apart.1),
+)
+
+-- What each seat offered is what its sender sent.
+abbrev sent_of : (seats : List SeatLists) → AllByRecursion IsSharedOut seats → ℕ → List Packet
+sent_of [] h s = []
+sent_of (c ∷ seats) h s = if c.sender == s then h.0.shared.offered else sent_of seats h.1 s
+
+own-sent : (seats : List SeatLists) (h : AllByRecursion IsSharedOut seats) → AreApart (senders_at seats) → AllByRecursion (λ (c : SeatLists). AreOffered (sent_of seats h c.sender) c) seats
+own-sent [] h apart = tt
+own-sent (c ∷ seats) h apart = (
+  subst (λ (b : Bool). AreOffered (if b then h.0.shared.offered else sent_of seats h.1 c.sender) c) (sym (eq-eqb c.sender c.sender refl)) (h.0.shared.count, h.0.shared.numbers, h.0.shared.dealt),
+  all-both (λ (e : SeatLists). (c.sender == e.sender) ≡ false) (λ (e : SeatLists). AreOffered (sent_of seats h.1 e.sender) e) (λ (e : SeatLists). AreOffered (sent_of (c ∷ seats) h e.sender) e) seats
+      (λ e other own. subst (λ (b : Bool). AreOffered (if b then h.0.shared.offered else sent_of seats h.1 e.sender) e) (sym other) own) (others c.sender seats apart.0) (own-sent seats h.1 apart.1),
+)
+
+-- What holds of all lines' seats holds of each line's.
+each-line : (P : SeatLists → Type 0) (lines : List LineLists) → AllByRecursion P (seats_in lines) → AllByRecursion (λ (l : LineLists). AllByRecursion P (seats_of l)) lines
+each-line P [] h = tt
+each-line P (l ∷ lines) h = let both = all-split P (seats_of l) (seats_in lines) h in (both.0, each-line P lines both.1)
+
+all-shared : (lines : List LineLists) → AllByRecursion IsSettledLine lines → AllByRecursion IsSharedOut (seats_in lines)
+all-shared [] h = tt
+all-shared (l ∷ lines) h = all-join IsSharedOut (seats_of l) (seats_in lines) h.0.is.shared (all-shared lines h.1)
+
+-- where all senders stand apart each line's do
+each-apart : (lines : List LineLists) → HaveOwnSenders lines → AllByRecursion (λ (l : LineLists). AreApart (senders_at (seats_of l))) lines
+each-apart [] h = tt
+each-apart (l ∷ lines) h = let both = apart-parts (senders_at (seats_of l)) (senders_at (seats_in lines)) (subst AreApart (joined l lines) h) in (both.0, each-apart lines both.1)
+
+-- the senders to a device's queues are those of the lines
+senders-same : (lines : List LineLists) → flat_map (λ (q : SharedQueue). q.senders) (map queue_of_line lines) ≡ senders_at (seats_in lines)
+senders-same [] = refl
+senders-same (l ∷ lines) = ap (λ m. senders_at (seats_of l) ++ m) (senders-same lines) ∙ sym (joined l lines)
+
+-- A test deals packets to those that pass and those that don't.
+dealt : (test : Packet → Bool) (packets : List Packet) → IsDealt packets (filter test packets) (filter (λ p. not (test p)) packets)
+dealt test [] = (refl, refl)
+dealt test (p ∷ packets) = by_test (test p) (dealt test packets)
+  where
+    some : List Packet
+    some = filter test packets
+
+    rest : List Packet
+    rest = filter (λ p. not (test p)) packets
+
+    by_test : (b : Bool) → IsDealt packets some rest → IsDealt (p ∷ packets) (if b then p ∷ some else some) (if not b then p ∷ rest else rest)
+    by_test true h = inl (some, refl, h)
+    by_test false h = inr (rest, refl, h)
+
+setups : (tap : TapLists) (closed : List ClosedLists) → AreOfTap tap closed → AllByRecursion (λ (c : SeatLists). c.setup ≡ tap.setup) (lists_of closed)
+setups tap [] h = tt
+setups tap (c ∷ closed) h = (h.0.setup, setups tap closed h.1)
+
+-- What a line tells, once all of its packets came out of a device.
+record IsReady (sent : ℕ → List Packet) (d : Device) (tallies : List Tally) (l : LineLists) : Type 0 where
+  settled : IsSettledLine l
+  taken : HasAllTaken l
+  apart : AreApart (senders_at (seats_of l))
+  shared : AllByRecursion (λ (c : SeatLists). AreOffered (sent c.sender) c) (seats_of l)
+  found : AreFound tallies (all_evicted (seats_of l)) (seats_of l)
+  emitted : (s : ℕ) → has_sender (senders_at (seats_of l)) s ≡ true → of_sender s d.emitted ≡ of_sender s l.tap.taken
+  given : l.tap.taken ≡ leaf_packets d.tree l.leaf d.log
+
+-- What a seat tells besides.
+record IsOwn (l : LineLists) (c : SeatLists) : Type 0 where
+  accepted : accepted_of (seats_of l) c.sender ≡ c.accepted
+  named : has_sender (senders_at (seats_of l)) c.sender ≡ true
+  front_drop : l.tap.setup.kind ≡ FrontDrop → c.refused ≡ []
+
+-- a Queue puts nothing out
+none-put_out : (l : LineLists) → IsSettledLine l → AreApart (senders_at (seats_of l)) → l.tap.setup.kind ≡ TailDrop → all_evicted (seats_of l) ≡ []
+none-put_out l h apart k =
+    no-evicted (seats_of l)
+    (all-weaker (λ (c : SeatLists). evicted_of (seats_of l) c.sender ≡ c.evicted) (λ (c : SeatLists). c.evicted ≡ []) (seats_of l) (λ c e. sym e ∙ h.is.account.tail_drop k c.sender) (own-list (λ c. c.evicted) (seats_of l) apart))
+
+-- A seat's packets became what its tally tells.
+tallied : (sent : ℕ → List Packet) (d : Device) (tallies : List Tally) (l : LineLists) → IsReady sent d tallies l → (c : SeatLists) → AreOffered (sent c.sender) c → IsOwn l c
+    → IsTallied sent d (queue_of_line l) (tally_of (all_evicted (seats_of l)) c)
+tallied sent d tallies l ready c shared own =
+    let out : List Packet = all_evicted (seats_of l) in
+    let came = ready.emitted c.sender own.named in
+    let left : without c.accepted out ≡ of_sender c.sender d.emitted = ap (λ accepted. without accepted out) (sym own.accepted) ∙ ready.settled.is.all_taken ready.taken c.sender ∙ sym came in record {
+      shared = shared.2;
+      emitted = subst (IsDealt c.accepted (filter (has_packet out) c.accepted)) left (dealt (has_packet out) c.accepted);
+      given = ap (of_sender c.sender) (sym ready.given) ∙ sym came;
+      tail_drop = λ k. none-filtered out c.accepted (none-put_out l ready.settled ready.apart k);
+      front_drop = own.front_drop;
+    }
+
+each-tallied : (sent : ℕ → List Packet) (d : Device) (tallies : List Tally) (l : LineLists) → IsReady sent d tallies l → (seats : List SeatLists) → AreFound tallies (all_evicted (seats_of l)) seats
+    → AllByRecursion (λ (c : SeatLists). AreOffered (sent c.sender) c) seats → AllByRecursion (IsOwn l) seats
+    → AllByRecursion (λ s. MatchOption (tally_for tallies s) ⊥ (IsTallied sent d (queue_of_line l))) (senders_at seats)
+each-tallied sent d tallies l ready [] found shared own = tt
+each-tallied sent d tallies l ready (c ∷ seats) found shared own = (
+  subst (λ o. MatchOption o ⊥ (IsTallied sent d (queue_of_line l))) (sym found.0) (tallied sent d tallies l ready c shared.0 own.0),
+  each-tallied sent d tallies l ready seats found.1 shared.1 own.1,
+)
+
+all-own : (l : LineLists) → IsSettledLine l → AreApart (senders_at (seats_of l)) → AllByRecursion (IsOwn l) (seats_of l)
+all-own l h apart =
+    all-both (λ (c : SeatLists). accepted_of (seats_of l) c.sender ≡ c.accepted) (λ (c : SeatLists). (has_sender (senders_at (seats_of l)) c.sender ≡ true) × (l.tap.setup.kind ≡ FrontDrop → c.refused ≡ []))
+    (IsOwn l) (seats_of l) (λ c e k. record { accepted = e; named = k.0; front_drop = k.1 }) (own-list (λ c. c.accepted) (seats_of l) apart)
+    (all-both (λ (c : SeatLists). has_sender (senders_at (seats_of l)) c.sender ≡ true) (λ (c : SeatLists). l.tap.setup.kind ≡ FrontDrop → c.refused ≡ []) _ (seats_of l) (λ c e k. (e, k)) (all-named (λ (c : SeatLists). c.sender) (seats_of l))
+    (all-both IsSharedOut (λ (c : SeatLists). c.setup ≡ l.tap.setup) _ (seats_of l) (λ c s e k. s.front_drop (ap (λ setup. setup.kind) e ∙ k)) h.is.shared (setups l.tap l.closed h.together.each)))
+
+-- A ready line's queue is settled.
+queue-settled : (sent : ℕ → List Packet) (d : Device) (tallies : List Tally) (l : LineLists) → IsReady sent d tallies l → IsQueueSettled sent tallies d (queue_of_line l)
+queue-settled sent d tallies l ready = record {
+  each = each-tallied sent d tallies l ready (seats_of l) ready.found ready.shared (all-own l ready.settled ready.apart);
+  reached = λ lost. let full = ready.settled.is.reached (lost-some tallies (seats_of l) ready.found lost) in let same = accepted-same tallies (all_evicted (seats_of l)) (seats_of l) ready.found in omega (arith, full, same);
+}
+
+abbrev queues_of : List LineLists → List SharedQueue
+queues_of lines = map queue_of_line lines
+
+queues-settled : (sent : ℕ → List Packet) (d : Device) (tallies : List Tally) (lines : List LineLists) → AllByRecursion (IsReady sent d tallies) lines → AllByRecursion (IsQueueSettled sent tallies d) (queues_of lines)
+queues-settled sent d tallies [] h = tt
+queues-settled sent d tallies (l ∷ lines) h = (queue-settled sent d tallies l h.0, queues-settled sent d tallies lines h.1)
+
+all-ready : (sent : ℕ → List Packet) (d : Device) (tallies : List Tally) (lines : List LineLists) → AllByRecursion IsSettledLine lines → AllByRecursion HasAllTaken lines
+    → AllByRecursion (λ (l : LineLists). AreApart (senders_at (seats_of l))) lines
+    → AllByRecursion (λ (l : LineLists). AllByRecursion (λ (c : SeatLists). AreOffered (sent c.sender) c) (seats_of l)) lines
+    → AllByRecursion (λ (l : LineLists). AreFound tallies (all_evicted (seats_of l)) (seats_of l)) lines
+    → AllByRecursion (λ (l : LineLists). (s : ℕ) → has_sender (senders_at (seats_of l)) s ≡ true → of_sender s d.emitted ≡ of_sender s l.tap.taken) lines
+    → AllByRecursion (λ (l : LineLists). l.tap.taken ≡ leaf_packets d.tree l.leaf d.log) lines → AllByRecursion (IsReady sent d tallies) lines
+all-ready sent d tallies [] settled taken apart shared found came given = tt
+all-ready sent d tallies (l ∷ lines) settled taken apart shared found came given = (
+  record { settled = settled.0; taken = taken.0; apart = apart.0; shared = shared.0; found = found.0; emitted = came.0; given = given.0 },
+  all-ready sent d tallies lines settled.1 taken.1 apart.1 shared.1 found.1 came.1 given.1,
+)
+
+-- What each seat sent, and that all of it is settled, where every packet that came out is a line's and each line's came out.
+pub settled-outcome : (session : Progress) (lines : List LineLists) (tallies : List Tally) (emits : List Packet)
+    → IsRun session.tree session.log → emits ≡ emitted session.log → heads session.tree session.log ≡ []
+    → AreLinesOf session lines → HaveOwnSenders lines → AllByRecursion IsSettledLine lines → AllByRecursion HasAllTaken lines
+    → AllByRecursion (λ (l : LineLists). (s : ℕ) → has_sender (senders_at (seats_of l)) s ≡ true → of_sender s emits ≡ of_sender s l.tap.taken) lines
+    → AllByRecursion (λ (p : Packet). has_sender (senders_at (seats_in lines)) p.sender ≡ true) emits
+    → AreInOrder (tallies_in lines) tallies
+    → (sent : ℕ → List Packet) × AllByRecursion (HasSent sent) (seats_in lines) × IsSettledOutcome sent (record { tree = session.tree; queues = map queue_of_line lines; log = session.log; emitted = emits } ∷ []) tallies
+settled-outcome session lines tallies emits run out none own_lines own settled taken came known order =
+    let shared : AllByRecursion IsSharedOut (seats_in lines) = all-shared lines settled in
+    let sent : ℕ → List Packet = sent_of (seats_in lines) shared in
+    let offered : AllByRecursion (λ (c : SeatLists). AreOffered (sent c.sender) c) (seats_in lines) = own-sent (seats_in lines) shared own in
+    let d : Device = record { tree = session.tree; queues = map queue_of_line lines; log = session.log; emitted = emits } in
+    let apart : AreApart (tellers (tallies_in lines)) = subst AreApart (sym (tellers-in lines)) own in
+    let found = each-found tallies lines (in-order-found (tallies_in lines) tallies apart order) in
+    let senders : tellers (tallies_in lines) ≡ senders_to d ++ [] = tellers-in lines ∙ sym (senders-same lines) ∙ sym (append-nil (senders_to d)) in (
+      sent,
+      offered,
+      record {
+        rise = in-order-rise (tallies_in lines) tallies apart order;
+        known = in-order-all (λ (t : Tally). has_sender (senders_to d ++ []) t.sender ≡ true) (tallies_in lines) tallies order
+            (subst (λ names. AllByRecursion (λ (t : Tally). has_sender names t.sender ≡ true) (tallies_in lines)) senders (all-named (λ (t : Tally). t.sender) (tallies_in lines)));
+        settled = (
+          record {
+            run = run;
+            emitted = out;
+            heads = none;
+            queues = queues-settled sent d tallies lines
+                (all-ready sent d tallies lines settled taken (each-apart lines own) (each-line (λ (c : SeatLists). AreOffered (sent c.sender) c) lines offered) found came own_lines.taken);
+            own = subst (λ names. AllByRecursion (λ (p : Packet). has_sender names p.sender ≡ true) emits) (sym (senders-same lines)) known;
+          },
+          tt,
+        );
+      },
+    )

@@ -1,0 +1,88 @@
+-- What stays of lines, whatever their taps gather and pull.
+use Rattle.std.proofs.Common.{◌≡◌, ◌⊎◌, ℕ, ◌+◌, ◌<◌, ◌≤◌, List, [], ◌∷◌, ◌++◌, map, refl, sym, ap, ◌∙◌, subst}
+use Rattle.std.specs.List.{flat_map, AllByRecursion}
+use Rattle.clk_packet.specs.declared.packet.Packet.{Packet}
+use Rattle.clk_packet.specs.declared.fault.Fault.{Fault}
+use Rattle.clk_packet.specs.declared.fault.Fault.TheVariants.{Memory, Unsettled}
+use Rattle.clk_ruled.specs.Queue.{SeatLists}
+use Rattle.clk_ruled.specs.Settle.{accepted_count, evicted_count, lost_count, IsFaultOfSettle}
+use Rattle.clk_sched.specs.declared.visit.Visit.{Visit}
+use Rattle.clk_sched.specs.Tree.{Tree, stands_in}
+use Rattle.clk_sched.specs.Results.{leaf_packets}
+use Rattle.clk_sched.specs.Session.{Progress}
+use Rattle.clk_drain.specs.Senders.{Rise}
+use Rattle.clk_drain.specs.Line.{LineLists, leaves_of, seats_of, seats_in, senders_at, pulling_all, AreLinesOf, Lasting, lasting_of, AreStill}
+use Rattle.clk_drain.specs.Closing.{accepted_over, evicted_over, queue_of_line, HasReached, HasUnsettled}
+use Rattle.clk_drain.specs.Parts.{taken_at, AreGatheredFrom}
+
+through : {X : Type 0} (f : Lasting → X) (lines : List LineLists) → map (λ l. f (lasting_of l)) lines ≡ map f (map lasting_of lines)
+through f [] = refl
+through f (l ∷ lines) = ap (λ rest. f (lasting_of l) ∷ rest) (through f lines)
+
+-- What is made of that stays too.
+still-map : {X : Type 0} (f : Lasting → X) (old new : List LineLists) → AreStill old new → map (λ l. f (lasting_of l)) new ≡ map (λ l. f (lasting_of l)) old
+still-map f old new still = through f new ∙ ap (map f) still ∙ sym (through f old)
+
+pub still-leaves : (old new : List LineLists) → AreStill old new → leaves_of new ≡ leaves_of old
+still-leaves = still-map (λ (k : Lasting). k.leaf)
+
+pub still-queues : (old new : List LineLists) → AreStill old new → map queue_of_line new ≡ map queue_of_line old
+still-queues = still-map (λ (k : Lasting). record { leaf = k.leaf; kind = k.setup.kind; capacity = k.setup.capacity; senders = senders_at k.seats })
+
+-- over seats by line
+abbrev over : (List SeatLists → ℕ) → List Lasting → ℕ
+over count [] = 0
+over count (k ∷ kept) = count k.seats + over count kept
+
+accepted-through : (lines : List LineLists) → accepted_over lines ≡ over accepted_count (map lasting_of lines)
+accepted-through [] = refl
+accepted-through (l ∷ lines) = ap (λ n. accepted_count (seats_of l) + n) (accepted-through lines)
+
+pub still-accepted : (old new : List LineLists) → AreStill old new → accepted_over new ≡ accepted_over old
+still-accepted old new still = accepted-through new ∙ ap (over accepted_count) still ∙ sym (accepted-through old)
+
+evicted-through : (lines : List LineLists) → evicted_over lines ≡ over evicted_count (map lasting_of lines)
+evicted-through [] = refl
+evicted-through (l ∷ lines) = ap (λ n. evicted_count (seats_of l) + n) (evicted-through lines)
+
+pub still-evicted : (old new : List LineLists) → AreStill old new → evicted_over new ≡ evicted_over old
+still-evicted old new still = evicted-through new ∙ ap (over evicted_count) still ∙ sym (evicted-through old)
+
+seats-through : (lines : List LineLists) → seats_in lines ≡ flat_map (λ (k : Lasting). k.seats) (map lasting_of lines)
+seats-through [] = refl
+seats-through (l ∷ lines) = ap (λ rest. seats_of l ++ rest) (seats-through lines)
+
+pub still-seats : (old new : List LineLists) → AreStill old new → seats_in new ≡ seats_in old
+still-seats old new still = seats-through new ∙ ap (flat_map (λ (k : Lasting). k.seats)) still ∙ sym (seats-through old)
+
+-- why a line isn't settled, by what stays of it
+abbrev IsUnsettled : List Lasting → Fault → Type 0
+IsUnsettled [] fault = ⊥
+IsUnsettled (k ∷ kept) fault =
+    ((fault ≡ Memory) ⊎ ((fault ≡ Unsettled k.leaf (accepted_count k.seats) k.setup.capacity) × (0 < lost_count k.seats) × (accepted_count k.seats < k.setup.capacity)))
+    ⊎ ((0 < lost_count k.seats → k.setup.capacity ≤ accepted_count k.seats) × IsUnsettled kept fault)
+
+unsettled-through : (lines : List LineLists) (fault : Fault) → HasUnsettled lines fault ≡ IsUnsettled (map lasting_of lines) fault
+unsettled-through [] fault = refl
+unsettled-through (l ∷ lines) fault = ap (λ (rest : Type 0). IsFaultOfSettle l.tap l.closed l.leaf fault ⊎ (HasReached l × rest)) (unsettled-through lines fault)
+
+pub still-unsettled : (old new : List LineLists) (fault : Fault) → AreStill old new → HasUnsettled new fault → HasUnsettled old fault
+still-unsettled old new fault still h = subst (λ (t : Type 0). t) (unsettled-through new fault ∙ ap (λ k. IsUnsettled k fault) still ∙ sym (unsettled-through old fault)) h
+
+-- Pulls let it stay.
+pub pulled-still : (f : ℕ → List Packet) (lines : List LineLists) → AreStill lines (pulling_all f lines)
+pulled-still f [] = refl
+pulled-still f (l ∷ lines) = ap (λ rest. lasting_of l ∷ rest) (pulled-still f lines)
+
+-- Gathering lets what was taken stay too.
+taken-through : (tree : Tree) (log : List Visit) (lines : List LineLists) → AllByRecursion (λ (l : LineLists). l.tap.taken ≡ leaf_packets tree l.leaf log) lines ≡ AllByRecursion (λ (x : ℕ × List Packet). x.1 ≡ leaf_packets tree x.0 log) (map taken_at lines)
+taken-through tree log [] = refl
+taken-through tree log (l ∷ lines) = ap (λ (rest : Type 0). (l.tap.taken ≡ leaf_packets tree l.leaf log) × rest) (taken-through tree log lines)
+
+pub gathered-lines : (session : Progress) (old new : List LineLists) → AreGatheredFrom old new → AreLinesOf session old → AreLinesOf session new
+gathered-lines session old new g h =
+    let same = still-leaves old new g.still in record {
+      rise = subst Rise (sym same) h.rise;
+      leaves = λ q. ap (stands_in q) same ∙ h.leaves q;
+      taken = subst (λ (t : Type 0). t) (taken-through session.tree session.log old ∙ ap (AllByRecursion (λ (x : ℕ × List Packet). x.1 ≡ leaf_packets session.tree x.0 session.log)) (sym g.taken) ∙ sym (taken-through session.tree session.log new)) h.taken;
+    }

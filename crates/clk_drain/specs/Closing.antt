@@ -1,0 +1,66 @@
+-- What closing a session over its lines comes to.
+use Rattle.std.specs.Prelude.{◌≡◌, ◌⊎◌, ℕ, ◌+◌, ◌-◌, ◌<◌, ◌≤◌, List, [], ◌∷◌, length, map, max}
+use Rattle.std.specs.List.{AllByRecursion}
+use Rattle.clk_packet.specs.declared.packet.Packet.{Packet}
+use Rattle.clk_packet.specs.declared.fault.Fault.{Fault}
+use Rattle.clk_packet.specs.declared.fault.Fault.TheVariants.{Memory}
+use Rattle.clk_ruled.specs.Queue.{SeatLists, AreNumbered, IsDealt}
+use Rattle.clk_ruled.specs.Settle.{accepted_count, evicted_count, lost_count, IsFaultOfSettle}
+use Rattle.clk_sched.specs.Session.{Progress, counted_moment, GivesAll, StopsAt}
+use Rattle.clk_sched.specs.Results.{emitted}
+use Rattle.clk_drain.specs.declared.drained.Drained.{Drained}
+use Rattle.clk_drain.specs.Line.{LineLists, seats_of, seats_in, senders_at}
+use Rattle.clk_drain.specs.Outcome.{SharedQueue, Device, IsSettledOutcome}
+
+-- how many packets the queues of lines accepted and evicted in all
+abbrev pub accepted_over : List LineLists → ℕ
+accepted_over [] = 0
+accepted_over (l ∷ lines) = accepted_count (seats_of l) + accepted_over lines
+
+abbrev pub evicted_over : List LineLists → ℕ
+evicted_over [] = 0
+evicted_over (l ∷ lines) = evicted_count (seats_of l) + evicted_over lines
+
+-- how many are left: those accepted, less those evicted, less those emitted
+abbrev pub left_over : Progress → List LineLists → ℕ
+left_over session lines = accepted_over lines - (evicted_over lines + length (emitted session.log))
+
+-- the queue of a line
+abbrev pub queue_of_line : LineLists → SharedQueue
+queue_of_line l = record { leaf = l.leaf; kind = l.tap.setup.kind; capacity = l.tap.setup.capacity; senders = senders_at (seats_of l) }
+
+-- a session's device over lines, with what it came to
+abbrev pub device_of : Progress → List LineLists → Drained → Device
+device_of session lines drained = record { tree = session.tree; queues = map queue_of_line lines; log = drained.log.items; emitted = drained.emitted.items }
+
+-- The packets are those that a seat offered: so many of its sender, numbered from 0 on, each accepted or refused, in order.
+abbrev pub AreOffered : List Packet → SeatLists → Type 0
+AreOffered packets l = (length packets ≡ l.next) × AreNumbered l.sender 0 packets × IsDealt packets l.accepted l.refused
+
+-- each seat's sender sent what the seat offered
+abbrev pub HasSent : (ℕ → List Packet) → SeatLists → Type 0
+HasSent sent l = AreOffered (sent l.sender) l
+
+-- A session was drained over its lines, from a moment on, and all is settled.
+pub record IsDrainedOver (session : Progress) (lines : List LineLists) (moment : ℕ) (drained : Drained) : Type 0 where
+  -- what the seats sent has a settled outcome
+  pub sent : ℕ → List Packet
+  pub offered : AllByRecursion (HasSent sent) (seats_in lines)
+  pub outcome : IsSettledOutcome sent (device_of session lines drained ∷ []) drained.tallies.items
+  -- the log goes on from the session's by the pulls of one drain of all that was left
+  pub made : ℕ
+  pub goes_on : GivesAll session (record { tree = session.tree; log = drained.log.items }) (max (counted_moment session) moment) made (left_over session lines)
+
+-- A queue refused or evicted packets only where it accepted as many as it may hold.
+abbrev pub HasReached : LineLists → Type 0
+HasReached l = 0 < lost_count (seats_of l) → l.tap.setup.capacity ≤ accepted_count (seats_of l)
+
+-- Why a line isn't settled, after others that could be.
+abbrev pub HasUnsettled : List LineLists → Fault → Type 0
+HasUnsettled [] fault = ⊥
+HasUnsettled (l ∷ lines) fault = IsFaultOfSettle l.tap l.closed l.leaf fault ⊎ (HasReached l × HasUnsettled lines fault)
+
+-- Why a session isn't drained over its lines: memory was refused, the drain stopped short, or the queue of a line isn't settled.
+abbrev pub IsFaultOfDrain : Progress → List LineLists → ℕ → Fault → Type 0
+IsFaultOfDrain session lines moment fault =
+    (fault ≡ Memory) ⊎ ((new : Progress) × StopsAt session new (max (counted_moment session) moment) (left_over session lines) fault) ⊎ HasUnsettled lines fault

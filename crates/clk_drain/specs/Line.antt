@@ -1,0 +1,82 @@
+-- Lines: the shared queues of a tree, whose seats are all closed.
+use Rattle.std.specs.Prelude.{◌≡◌, ℕ, ◌==◌, Bool, List, [], ◌∷◌, ◌++◌, map, Option, Some, None, if◌then◌else◌}
+use Rattle.std.specs.List.{flat_map, AllByRecursion}
+use Rattle.clk_packet.specs.declared.packet.Packet.{Packet}
+use Rattle.clk_ruled.specs.declared.view.Setup.{Setup}
+use Rattle.clk_ruled.specs.Queue.{SeatLists, TapLists, ClosedLists}
+use Rattle.clk_ruled.specs.Settle.{lists_of}
+use Rattle.clk_sched.specs.Tree.{root, leaves, stands_in}
+use Rattle.clk_sched.specs.Results.{leaf_packets}
+use Rattle.clk_sched.specs.Session.{Progress}
+use Rattle.clk_drain.specs.Senders.{AreApart, Rise}
+
+-- A line: the leaf of its queue, the queue's tap, and all of its seats, closed, in order.
+pub record LineLists : Type 0 where
+  pub leaf : ℕ
+  pub tap : TapLists
+  pub closed : List ClosedLists
+
+abbrev pub leaves_of : List LineLists → List ℕ
+leaves_of lines = map (λ (l : LineLists). l.leaf) lines
+
+-- the seats of a line, and those of all lines
+abbrev pub seats_of : LineLists → List SeatLists
+seats_of l = lists_of l.closed
+
+abbrev pub seats_in : List LineLists → List SeatLists
+seats_in lines = flat_map seats_of lines
+
+abbrev pub senders_at : List SeatLists → List ℕ
+senders_at seats = map (λ (l : SeatLists). l.sender) seats
+
+-- the tap once it pulled these packets besides, and its line
+abbrev pub taking_all : TapLists → List Packet → TapLists
+taking_all t more = record { id = t.id; setup = t.setup; taken = t.taken ++ more; gathered = t.gathered }
+
+abbrev pub pulling : LineLists → List Packet → LineLists
+pulling l more = record { leaf = l.leaf; tap = taking_all l.tap more; closed = l.closed }
+
+-- the lines once each tap pulled besides what its leaf gave
+abbrev pub pulling_all : (ℕ → List Packet) → List LineLists → List LineLists
+pulling_all gave lines = map (λ l. pulling l (gave l.leaf)) lines
+
+-- what one answer of a leaf gave, at each leaf
+abbrev pub packets_of : Option Packet → List Packet
+packets_of None = []
+packets_of (Some p) = p ∷ []
+
+abbrev pub answered : ℕ → Option Packet → ℕ → List Packet
+answered leaf got q = if leaf == q then packets_of got else []
+
+-- A leaf gave an answer: the tap of its line took it, and no other tap changed.
+abbrev pub PullsAt : List LineLists → ℕ → Option Packet → List LineLists → Type 0
+PullsAt old leaf got new = new ≡ pulling_all (answered leaf got) old
+
+-- whether there is a line for a leaf
+abbrev pub has_line : List LineLists → ℕ → Bool
+has_line lines leaf = stands_in leaf (leaves_of lines)
+
+-- what of a line stays, whatever its tap gathers and pulls
+pub record Lasting : Type 0 where
+  pub leaf : ℕ
+  pub setup : Setup
+  pub seats : List SeatLists
+
+abbrev pub lasting_of : LineLists → Lasting
+lasting_of l = record { leaf = l.leaf; setup = l.tap.setup; seats = seats_of l }
+
+-- Lines are the same but for what their taps gathered and pulled.
+abbrev pub AreStill : List LineLists → List LineLists → Type 0
+AreStill old new = map lasting_of new ≡ map lasting_of old
+
+-- Lines are those of a session, which was pulled over them alone.
+pub record AreLinesOf (session : Progress) (lines : List LineLists) : Type 0 where
+  -- one for each queue of its tree, by rising leaf
+  pub rise : Rise (leaves_of lines)
+  pub leaves : (q : ℕ) → stands_in q (leaves_of lines) ≡ stands_in q (leaves (root session.tree))
+  -- what a tap took is what the log got at its leaf
+  pub taken : AllByRecursion (λ (l : LineLists). l.tap.taken ≡ leaf_packets session.tree l.leaf session.log) lines
+
+-- No sender has a seat on two lines, nor two on one.
+abbrev pub HaveOwnSenders : List LineLists → Type 0
+HaveOwnSenders lines = AreApart (senders_at (seats_in lines))

@@ -1,0 +1,85 @@
+-- A settled outcome: what became of every packet that was sent, in lists alone (this project's own definition).
+use Rattle.std.specs.Prelude.{◌≡◌, ℕ, ◌+◌, ◌<◌, ◌≤◌, ◌==◌, true, List, [], ◌∷◌, length, map, Option, Some, None, MatchOption, if◌then◌else◌}
+use Rattle.std.specs.List.{flat_map, AllByRecursion}
+use Rattle.clk_packet.specs.declared.packet.Packet.{Packet}
+use Rattle.clk_packet.specs.declared.packet.Kind.{Kind}
+use Rattle.clk_packet.specs.declared.packet.Kind.TheVariants.{TailDrop, FrontDrop}
+use Rattle.clk_packet.specs.declared.tally.Tally.{Tally}
+use Rattle.clk_ruled.specs.Lists.{of_sender, has_sender}
+use Rattle.clk_ruled.specs.Queue.{IsDealt}
+use Rattle.clk_sched.specs.declared.visit.Visit.{Visit}
+use Rattle.clk_sched.specs.Tree.{Tree}
+use Rattle.clk_sched.specs.Run.{IsRun}
+use Rattle.clk_sched.specs.Results.{emitted, heads, leaf_packets}
+use Rattle.clk_drain.specs.Senders.{Rise}
+
+-- a queue: the leaf at which it stands, its kind, how many packets it holds at most, and who sends to it
+pub record SharedQueue : Type 0 where
+  pub leaf : ℕ
+  pub kind : Kind
+  pub capacity : ℕ
+  pub senders : List ℕ
+
+-- a device: its tree and its queues, every visit of its tree, and what it emitted
+pub record Device : Type 0 where
+  pub tree : Tree
+  pub queues : List SharedQueue
+  pub log : List Visit
+  pub emitted : List Packet
+
+-- who sends to the queues of a device
+abbrev pub senders_to : Device → List ℕ
+senders_to d = flat_map (λ (q : SharedQueue). q.senders) d.queues
+
+-- What became of all that a sender sent to a queue of a device.
+pub record IsTallied (sent : ℕ → List Packet) (d : Device) (q : SharedQueue) (t : Tally) : Type 0 where
+  -- each packet sent is in one of accepted and refused, both in order
+  pub shared : IsDealt (sent t.sender) t.accepted t.refused
+  -- each packet accepted is in one of evicted and emitted, both in order
+  pub emitted : IsDealt t.accepted t.evicted (of_sender t.sender d.emitted)
+  -- the queue gave what was emitted
+  pub given : of_sender t.sender (leaf_packets d.tree q.leaf d.log) ≡ of_sender t.sender d.emitted
+  -- only a FrontDropQueue evicts, and only a Queue refuses
+  pub tail_drop : q.kind ≡ TailDrop → t.evicted ≡ []
+  pub front_drop : q.kind ≡ FrontDrop → t.refused ≡ []
+
+-- the tally of a sender, if there is one
+abbrev pub tally_for : List Tally → ℕ → Option Tally
+tally_for [] s = None
+tally_for (t ∷ tallies) s = if t.sender == s then Some t else tally_for tallies s
+
+-- how many packets were accepted, and how many were lost, by a tally and by those of some senders
+abbrev pub accepted_by : Option Tally → ℕ
+accepted_by None = 0
+accepted_by (Some t) = length t.accepted
+
+abbrev pub lost_by : Option Tally → ℕ
+lost_by None = 0
+lost_by (Some t) = length t.refused + length t.evicted
+
+abbrev pub in_all : (Option Tally → ℕ) → List Tally → List ℕ → ℕ
+in_all count tallies [] = 0
+in_all count tallies (s ∷ senders) = count (tally_for tallies s) + in_all count tallies senders
+
+-- A queue of a device is settled.
+pub record IsQueueSettled (sent : ℕ → List Packet) (tallies : List Tally) (d : Device) (q : SharedQueue) : Type 0 where
+  pub each : AllByRecursion (λ s. MatchOption (tally_for tallies s) ⊥ (IsTallied sent d q)) q.senders
+  -- it refused or evicted packets only where it accepted as many as it may hold
+  pub reached : 0 < in_all lost_by tallies q.senders → q.capacity ≤ in_all accepted_by tallies q.senders
+
+-- A device is settled.
+pub record IsDeviceSettled (sent : ℕ → List Packet) (tallies : List Tally) (d : Device) : Type 0 where
+  -- its log is a run of its tree, and it emitted what came out there
+  pub run : IsRun d.tree d.log
+  pub emitted : d.emitted ≡ emitted d.log
+  -- no packet is held in the tree
+  pub heads : heads d.tree d.log ≡ []
+  pub queues : AllByRecursion (IsQueueSettled sent tallies d) d.queues
+  -- what it emitted is of those alone who send to its queues
+  pub own : AllByRecursion (λ (p : Packet). has_sender (senders_to d) p.sender ≡ true) d.emitted
+
+-- What became of all that each sender sent: one tally a sender, by rising number, and all devices settled.
+pub record IsSettledOutcome (sent : ℕ → List Packet) (devices : List Device) (tallies : List Tally) : Type 0 where
+  pub rise : Rise (map (λ (t : Tally). t.sender) tallies)
+  pub known : AllByRecursion (λ (t : Tally). has_sender (flat_map senders_to devices) t.sender ≡ true) tallies
+  pub settled : AllByRecursion (IsDeviceSettled sent tallies) devices

@@ -1,0 +1,17 @@
+-- Lists of senders.
+use Rattle.std.specs.Prelude.{◌≡◌, ◌<◌, ℕ, false, List, [], ◌∷◌, ⊤}
+use Rattle.clk_ruled.specs.Lists.{has_sender}
+
+-- no sender stands twice
+abbrev pub AreApart : List ℕ → Type 0
+AreApart [] = ⊤
+AreApart (s ∷ senders) = (has_sender senders s ≡ false) × AreApart senders
+
+-- each number is below those that follow it
+abbrev pub IsBelowAll : ℕ → List ℕ → Type 0
+IsBelowAll n [] = ⊤
+IsBelowAll n (m ∷ numbers) = (n < m) × IsBelowAll n numbers
+
+abbrev pub Rise : List ℕ → Type 0
+Rise [] = ⊤
+Rise (n ∷ numbers) = IsBelowAll n numbers × Rise numbers

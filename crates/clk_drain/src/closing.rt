@@ -1,0 +1,182 @@
+//! The closing of a session: its lines are drained to the device, and settled.
+
+ghost use Rattle.std.specs.Prelude.{◌≡◌, ◌⊎◌, ◌+◌, ◌-◌, ◌<◌, ◌≤◌, ◌++◌, true, max, IfOk, IfErr, OnOk, IsOkUnless};
+ghost use Rattle.std.specs.List.{AllByRecursion};
+ghost use Rattle.clk_packet.specs.declared.fault.Fault.TheVariants.{Memory};
+ghost use Rattle.clk_sched.specs.Limits.{most_left, end_of_drains};
+ghost use Rattle.clk_sched.specs.Results.{emitted};
+ghost use Rattle.clk_sched.specs.Session.{counted_moment};
+ghost use Rattle.clk_sched.specs.Tree.{leaves_distinct};
+ghost use Rattle.clk_drain.specs.Line.{AreLinesOf, HaveOwnSenders};
+ghost use Rattle.clk_drain.specs.Closing.{accepted_over, evicted_over, IsDrainedOver, IsFaultOfDrain, HasUnsettled};
+ghost use Rattle.clk_drain.specs.Parts.{HasGathered, AreGatheredFrom, IsDrainOf, HasStopped, IsSettledLine, AreInOrder, tallies_in};
+
+use crate::drained::Drained;
+use crate::line::Line;
+use crate::lines::Lines;
+use clk_packet::{Fault, Packet, Tally};
+use clk_ruled::Settled;
+use clk_sched::{Session, Visit, runs_conserve_packets};
+use std::alloc::Global;
+use std::sync::Wait;
+
+/// Closes a session whose lines are all closed: what is left in their queues and in the tree is drained to the device, one tick
+/// apart, the first time one tick after the later of this moment and the session's, and each queue is settled. Every seat is gathered
+/// before the first pull. `left` is what all queues accepted, less what they evicted and what was emitted.
+///
+/// Of each sender just those packets come out, before or now, that its queue accepted and didn't evict, each once, in the order in
+/// which they were sent.
+///
+/// # Errors
+///
+/// Fault 1 where memory is refused. Fault 17 with the number of pulls after `bound(left)` pulls that gave fewer packets. Fault 21
+/// with the leaf of the first queue that refused or evicted a packet though it accepted fewer than its capacity. Nothing is handed
+/// back.
+pub fn close_and_drain<W: Wait>(
+    alloc: Global,
+    wait: &W,
+    session: Session,
+    lines: Vec<Line>,
+    moment: u64,
+) -> Result<Drained, Fault>
+    requires lines { AreLinesOf session lines.items }
+    requires senders { HaveOwnSenders lines.items }
+    requires few { accepted_over lines.items ≤ most_left }
+    requires moment { max (counted_moment session) moment < end_of_drains }
+    ensures drained { IfOk result (IsDrainedOver session lines.items moment) }
+    ensures fault { IfErr result (IsFaultOfDrain session lines.items moment) }
+{
+    runs_conserve_packets();
+    let lines = gathered(lines);
+    let left = left(&lines, session.came_out().len() as u64);
+    let (session, lines) = drain(wait, session, lines, left, moment)?;
+    let tallies = settle_all(alloc, lines)?;
+    Ok(Drained {
+        emitted: emitted_by(alloc, &session)?,
+        log: log_of(alloc, &session)?,
+        tallies,
+    })
+}
+
+// What came out at the device of a session, in order.
+fn emitted_by(alloc: Global, session: &Session) -> Result<Vec<Packet>, Fault>
+    ensures packets { IfOk result (λ packets. packets.items ≡ emitted session.now.log) }
+    ensures fault { IsOkUnless result Fault.Memory }
+{
+    session.emitted(alloc)
+}
+
+// The log of a session.
+fn log_of(alloc: Global, session: &Session) -> Result<Vec<Visit>, Fault>
+    ensures visits { IfOk result (λ visits. visits.items ≡ session.now.log) }
+    ensures distinct { leaves_distinct session.now.tree ≡ true }
+    ensures fault { IsOkUnless result Fault.Memory }
+{
+    Ok(session.log().to_vec(alloc)?)
+}
+
+// The lines, once their taps gathered all seats.
+fn gathered(lines: Vec<Line>) -> Vec<Line>
+    ensures { AreGatheredFrom lines.items result.items }
+{
+    let mut lines = lines;
+    gather_all(&mut lines);
+    lines
+}
+
+// The taps gather all seats.
+fn gather_all(lines: &mut [Line])
+    ensures { AreGatheredFrom lines.old lines.new }
+{
+    for line in lines {
+        line.gather();
+    }
+}
+
+// Drains a session over its lines, whose seats are all gathered, so that a tap that answers none has given all.
+fn drain<W: Wait>(
+    wait: &W,
+    session: Session,
+    lines: Vec<Line>,
+    left: u64,
+    moment: u64,
+) -> Result<(Session, Vec<Line>), Fault>
+    requires lines { AreLinesOf session lines.items }
+    requires gathered { AllByRecursion HasGathered lines.items }
+    requires left { left ≤ most_left }
+    requires moment { max (counted_moment session) moment < end_of_drains }
+    ensures drained { IfOk result (λ drained. IsDrainOf session lines.items moment left drained.0 drained.1.items) }
+    ensures fault { IfErr result (HasStopped session moment left) }
+{
+    let mut session = session;
+    let mut lines = Lines::new(wait, lines);
+    session.drain(&mut lines, left, moment)?;
+    Ok((session, lines.into_vec()))
+}
+
+// How many packets are left, where so many were emitted.
+fn left(lines: &[Line], emitted: u64) -> u64
+    requires few { accepted_over lines.now ≤ most_left }
+    ensures { result ≡ accepted_over lines.now - (evicted_over lines.now + emitted) }
+{
+    less_evicted(lines, accepted(lines)).saturating_sub(emitted)
+}
+
+// How many packets the queues accepted.
+fn accepted(lines: &[Line]) -> u64
+    requires few { accepted_over lines.now ≤ most_left }
+    ensures { result ≡ accepted_over lines.now }
+{
+    let mut accepted = 0;
+    for line in lines {
+        accepted += line.accepted();
+    }
+    accepted
+}
+
+// So many, less those that the queues evicted, or 0 where that is below.
+fn less_evicted(lines: &[Line], packets: u64) -> u64
+    ensures { result ≡ packets - evicted_over lines.now }
+{
+    let mut left = packets;
+    for line in lines {
+        left = line.less_evicted(left);
+    }
+    left
+}
+
+// Settles the lines: a tally for each sender, by rising number.
+fn settle_all(alloc: Global, lines: Vec<Line>) -> Result<Vec<Tally>, Fault>
+    ensures settled { IfOk result (λ _. AllByRecursion IsSettledLine lines.items) }
+    ensures tallies { IfOk result (λ tallies. AreInOrder (tallies_in lines.items) tallies.items) }
+    ensures fault { IfErr result (λ fault. (fault ≡ Memory) ⊎ HasUnsettled lines.items fault) }
+{
+    let mut tallies = settle_each(alloc, lines)?;
+    tallies.sort_unstable_by_key(|tally| tally.sender);
+    Ok(tallies)
+}
+
+// Settles each line, in order: the tallies of their senders.
+fn settle_each(alloc: Global, lines: Vec<Line>) -> Result<Vec<Tally>, Fault>
+    ensures settled { IfOk result (λ _. AllByRecursion IsSettledLine lines.items) }
+    ensures tallies { IfOk result (λ tallies. tallies.items ≡ tallies_in lines.items) }
+    ensures fault { IfErr result (λ fault. (fault ≡ Memory) ⊎ HasUnsettled lines.items fault) }
+{
+    let mut tallies = Vec::new(alloc);
+    for line in lines {
+        let Settled { tallies: more, .. } = line.settle(alloc)?;
+        add(&mut tallies, more)?;
+    }
+    Ok(tallies)
+}
+
+// Adds tallies at the end.
+fn add(tallies: &mut Vec<Tally>, more: Vec<Tally>) -> Result<(), Fault>
+    ensures added { OnOk result (tallies.new.items ≡ tallies.old.items ++ more.items) }
+    ensures fault { IsOkUnless result Fault.Memory }
+{
+    for tally in more {
+        tallies.push(tally)?;
+    }
+    Ok(())
+}

@@ -1,0 +1,112 @@
+//! A shared queue of a tree, once all its seats are closed.
+
+ghost use Rattle.std.specs.Prelude.{◌≡◌, true};
+ghost use Rattle.std.specs.List.{AllByRecursion};
+ghost use Rattle.clk_ruled.specs.Settle.{AreOpenedTogether, lists_of};
+
+use clk_packet::{Fault, Packet};
+use clk_ruled::{ClosedSeat, RuledQueue, Settled, Tap, calls_keep_together, settle};
+use std::alloc::Global;
+use std::marker::Model;
+use std::sync::Wait;
+
+/// A shared queue with the leaf at which it stands, its tap, and all of its seats, closed, in the order of `open`.
+#[derive(Drop)]
+pub struct Line {
+    /// The leaf's number in the tree.
+    pub leaf: u16,
+    pub queue: RuledQueue,
+    pub tap: Tap,
+    pub closed: Vec<ClosedSeat>,
+}
+
+impl Model for Line {
+    ghost use Rattle.clk_ruled.specs.Settle.{AreOpenedTogether};
+    ghost use Rattle.clk_drain.specs.Line.{LineLists};
+
+    ghost Value = { LineLists };
+
+    ghost view = { λ l. record { leaf = l.leaf; tap = l.tap; closed = l.closed.items } };
+
+    ghost invariant = { λ l. AreOpenedTogether l.queue l.tap l.closed.items };
+}
+
+impl Line {
+    ghost use Rattle.std.specs.Prelude.{◌≡◌, ◌+◌, ◌-◌, ◌≤◌, length, None, IfOk, IfErr};
+    ghost use Rattle.clk_ruled.specs.Queue.{AreAllGathered, accepted_in_all, evicted_in_all};
+    ghost use Rattle.clk_ruled.specs.Settle.{IsSettled, IsFaultOfSettle, AreTogether, accepted_count, evicted_count};
+    ghost use Rattle.clk_sched.specs.Limits.{most_left};
+    ghost use Rattle.clk_drain.specs.Line.{pulling, packets_of, seats_of};
+    ghost use Rattle.clk_drain.specs.Parts.{IsGatheredFrom};
+
+    /// The number of its leaf.
+    pub fn leaf(&self) -> u16
+        ensures { result ≡ self.now.leaf }
+    {
+        self.leaf
+    }
+
+    /// Pulls the packet at the front of the queue, or answers none where it found it empty. Takes no memory.
+    pub fn pull(&mut self, wait: &impl Wait) -> Option<Packet>
+        ensures pulled { self.new ≡ pulling self.old (packets_of result) }
+        // With every seat gathered, none comes only where as many were taken as were accepted, less those evicted.
+        ensures none { result ≡ None → AreAllGathered self.new.tap → length self.new.tap.taken + evicted_in_all self.new.tap.gathered ≡ accepted_in_all self.new.tap.gathered }
+    {
+        calls_keep_together();
+        self.tap.pull(&self.queue, wait)
+    }
+
+    // The tap takes over the lists of each seat.
+    pub(crate) fn gather(&mut self)
+        ensures gathered { IsGatheredFrom self.old self.new }
+    {
+        gather_seats(&self.queue, &mut self.tap, &mut self.closed);
+    }
+
+    // How many packets the queue accepted.
+    pub(crate) fn accepted(&self) -> u64
+        requires few { accepted_count (seats_of self.now) ≤ most_left }
+        ensures { result ≡ accepted_count (seats_of self.now) }
+    {
+        let mut accepted = 0;
+        for seat in &self.closed {
+            accepted += seat.accepted().len() as u64;
+        }
+        accepted
+    }
+
+    // So many, less those that the queue evicted, or 0 where that is below.
+    pub(crate) fn less_evicted(&self, packets: u64) -> u64
+        ensures { result ≡ packets - evicted_count (seats_of self.now) }
+    {
+        let mut left = packets;
+        for seat in &self.closed {
+            left = left.saturating_sub(seat.evicted().len() as u64);
+        }
+        left
+    }
+
+    // Settles the queue.
+    pub(crate) fn settle(self, alloc: Global) -> Result<Settled, Fault>
+        ensures together { AreTogether self.tap self.closed }
+        ensures settled { IfOk result (IsSettled self.tap self.closed) }
+        ensures fault { IfErr result (IsFaultOfSettle self.tap self.closed self.leaf) }
+    {
+        settle(alloc, self.queue, self.tap, self.closed, self.leaf)
+    }
+}
+
+// The tap takes over the lists of each seat.
+fn gather_seats(queue: &RuledQueue, tap: &mut Tap, closed: &mut [ClosedSeat])
+    requires together { AreOpenedTogether queue.now tap.old closed.old }
+    ensures together { AreOpenedTogether queue.now tap.new closed.new }
+    ensures setup { tap.new.setup ≡ tap.old.setup }
+    ensures taken { tap.new.taken ≡ tap.old.taken }
+    ensures seats { lists_of closed.new ≡ lists_of closed.old }
+    ensures all { AllByRecursion (λ c. c.is_gathered ≡ true) closed.new }
+{
+    calls_keep_together();
+    for seat in closed {
+        tap.gather(queue, seat);
+    }
+}

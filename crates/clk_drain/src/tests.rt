@@ -1,0 +1,4 @@
+//! What sessions come to that are closed over their lines.
+
+mod closing;
+mod shared;
