@@ -186,6 +186,15 @@ impl Session {
         self.emitted.as_slice()
     }
 
+    /// Every visit and the packets that came out at the device, in order, without taking memory.
+    pub fn into_parts(self) -> (Vec<Visit>, Vec<Packet>)
+        ensures log { result.0.items ≡ self.log }
+        ensures emitted { result.1.items ≡ emitted self.log }
+    {
+        let Session { nodes, emitted, .. } = self;
+        (nodes.log, emitted)
+    }
+
     /// The packets held as heads, by node and then by input.
     ///
     /// # Errors
