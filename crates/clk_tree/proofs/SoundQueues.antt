@@ -16,23 +16,9 @@ use Rattle.clk_tree.specs.Faults.{node, nodes_of, links_of, fault_of}
 use Rattle.clk_tree.specs.Plan.{Planned, Known, is_connected, source_at, sources_of, all_known, planned_at, planned_from, plan_of}
 use Rattle.clk_tree.specs.PlanTree as tree
 use Rattle.clk_tree.proofs.SoundChecks.{IsRight}
-use Rattle.clk_tree.proofs.SoundNodes.{IsPlanned, known_as, queue-class}
+use Rattle.clk_tree.proofs.SoundNodes.{IsPlanned, node-at, queue-class}
 use Rattle.clk_tree.proofs.SoundPaths.{AreSound, Feeds, fed}
 use Rattle.clk_tree.proofs.SoundPlans.{IsPlanOf, is-plan, sound-nodes, pull-sources}
-
--- the role of each element of a plan
-pub node-at : (count : ℕ) (links : List Link) (elements : List Element) (i j : ℕ) (p : Planned) → slice_get (planned_from count links i (all_known elements)) j ≡ Some p
-    → role_at (nodes_of elements) j ≡ Some (role_of p.class)
-node-at count links [] i j p at = absurd (cc)
-node-at count links (e ∷ elements) i j p at = by_case (class_of e) j at (λ m. node-at count links elements i m p) (λ m. node-at count links elements (i + 1) m p)
-  where
-    by_case : (o : Option Class) (j : ℕ) → slice_get (planned_from count links i (cons_option (option_map (known_as e) o) (all_known elements))) j ≡ Some p
-        → ((m : ℕ) → slice_get (planned_from count links i (all_known elements)) m ≡ Some p → role_at (nodes_of elements) m ≡ Some (role_of p.class))
-        → ((m : ℕ) → slice_get (planned_from count links (i + 1) (all_known elements)) m ≡ Some p → role_at (nodes_of elements) m ≡ Some (role_of p.class))
-        → role_at (cons_option (option_map (node e.name.place) o) (nodes_of elements)) j ≡ Some (role_of p.class)
-    by_case None j at here later = here j at
-    by_case (Some class) zero at here later = ap (λ (q : Planned). Some (role_of q.class)) (same_Some (planned_at count links i (known_as e class)) p at)
-    by_case (Some class) (suc j) at here later = later j at
 
 pub length-planned : (count : ℕ) (links : List Link) (i : ℕ) (ks : List Known) → length (planned_from count links i ks) ≡ length ks
 length-planned count links i [] = refl

@@ -82,9 +82,9 @@ HasCapacity q = (1 ≤ q.capacity) × (q.capacity ≤ most_capacity)
 abbrev pub SendsWithin : ℕ → SenderSpec → Type 0
 SendsWithin count s = s.queue < count
 
--- What a plan keeps: some text denotes it, this element is connected to its device, and these are its queues and senders.
-pub record IsKept (plan : List Planned) (top : ℕ) (queues : List Queued) (senders : List SenderSpec) : Type 0 where
+-- What a plan keeps: some text denotes it, one of these elements is connected to each of its devices, and these are its queues and senders.
+pub record IsKept (plan : List Planned) (tops : List ℕ) (queues : List Queued) (senders : List SenderSpec) : Type 0 where
   pub denoted : (text : List ℕ) × Denotes text plan
-  pub source : device_sources plan ≡ top ∷ []
+  pub sources : device_sources plan ≡ map (λ top. top ∷ []) tops
   pub queues_are : queues ≡ queues_of plan
   pub senders_are : senders ≡ senders_of plan
