@@ -9,7 +9,7 @@ use Rattle.std.proofs.lemmas.Option.{same_Some}
 use Rattle.clk_packet.specs.declared.fault.Fault.TheVariants.{BadPort, PortTwice, PortMissing, NoDevice, ManyDevices, NotATree, TooLarge}
 use Rattle.clk_sched.specs.Limits.{most_elements}
 use Rattle.clk_sched.specs.Session as session
-use Rattle.clk_sched.specs.Tree.{Tree, queue, scheduler, root, are_distinct, leaves_distinct}
+use Rattle.clk_sched.specs.Tree.{Tree, root, are_distinct, leaves_distinct}
 use Rattle.clk_tree.specs.declared.class.Role.{Role}
 use Rattle.clk_tree.specs.declared.class.Role.TheVariants as role
 use Rattle.clk_tree.specs.declared.node.Node.{Node}

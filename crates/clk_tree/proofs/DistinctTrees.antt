@@ -30,7 +30,7 @@ places plan sources row = []
 abbrev pub Stands : Option Planned → Type 0
 Stands o = MatchOption o ⊥ (λ e. is_device e.class ≡ false)
 
-queue-device : (c : Class) → is_queue c ≡ true → is_device c ≡ false
+pub queue-device : (c : Class) → is_queue c ≡ true → is_device c ≡ false
 queue-device (class.device word) e = absurd (false≢true e)
 queue-device c e = refl
 
@@ -38,11 +38,11 @@ node-device : (c : Class) (over : tree.Class) (inputs : ℕ) → scheduler_over 
 node-device (class.device word) over inputs e = absurd (cc)
 node-device c over inputs e = refl
 
-node-queue : (c : Class) (over : tree.Class) (inputs : ℕ) → scheduler_over c inputs ≡ Some over → is_queue c ≡ false
+pub node-queue : (c : Class) (over : tree.Class) (inputs : ℕ) → scheduler_over c inputs ≡ Some over → is_queue c ≡ false
 node-queue (class.queue kind capacity) over inputs e = absurd (cc)
 node-queue c over inputs e = refl
 
-leaf-stands : (n q : ℕ) (o : Option Planned) → number_if n o ≡ Some q → Stands o
+pub leaf-stands : (n q : ℕ) (o : Option Planned) → number_if n o ≡ Some q → Stands o
 leaf-stands n q None e = absurd (cc)
 leaf-stands n q (Some p) e = queue-device p.class (by_test (is_queue p.class) e)
   where
@@ -50,7 +50,7 @@ leaf-stands n q (Some p) e = queue-device p.class (by_test (is_queue p.class) e)
     by_test true e = refl
     by_test false e = absurd (cc)
 
-node-stands : (over : tree.Class) (o : Option Planned) → IsNode over o → Stands o
+pub node-stands : (over : tree.Class) (o : Option Planned) → IsNode over o → Stands o
 node-stands over None h = absurd h
 node-stands over (Some e) h = node-device e.class over (length e.sources) h
 

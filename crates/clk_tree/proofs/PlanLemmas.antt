@@ -1,11 +1,12 @@
 -- What is known of a plan that some text denotes.
-use Rattle.std.proofs.Common.{◌≡◌, ℕ, ◌+◌, ◌≤◌, ◌<◌, zero, suc, List, [], ◌∷◌, length, map, get_or, None, true, Result, Ok, Err, IfOk, sym, ap, ap₂, subst, ◌∙◌, arith}
+use Rattle.std.proofs.Common.{◌≡◌, ℕ, ◌+◌, ◌≤◌, ◌<◌, zero, suc, List, [], ◌∷◌, length, map, get_or, slice_get, Some, None, true, Result, Ok, Err, IfOk, sym, ap, ap₂, subst, ◌∙◌, arith}
 use Rattle.std.specs.List.{AllByRecursion}
 use Rattle.std.proofs.lemmas.List.{length-map, get_or-map}
+use Rattle.std.proofs.lemmas.Option.{slice_get_within}
 use Rattle.clk_packet.specs.declared.fault.Fault.{Fault}
 use Rattle.clk_sched.specs.Limits.{most_levels, most_elements}
 use Rattle.clk_sched.specs.Session as session
-use Rattle.clk_sched.specs.Tree.{Tree, root, leaves_distinct}
+use Rattle.clk_sched.specs.Tree.{Tree, root, leaves, stands_in, leaves_distinct}
 use Rattle.clk_tree.specs.declared.node.Node.{Node}
 use Rattle.clk_tree.specs.declared.node.Link.{Link}
 use Rattle.clk_tree.specs.declared.statements.Connection.{Connection}
@@ -19,9 +20,13 @@ use Rattle.clk_tree.specs.Reading.{IsNamedText, elements_of, wires_of}
 use Rattle.clk_tree.specs.declared.plan.parts.SenderSpec.{SenderSpec}
 use Rattle.clk_tree.specs.Plan.{Planned, all_known, planned_from, Denotes}
 use Rattle.clk_tree.specs.PlanTree.{IsScheduled, IsRowOf, IsTreeOf, device_sources, device_count, sources_of_device}
-use Rattle.clk_tree.specs.PlanParts.{Queued, IsKept}
+use Rattle.clk_tree.specs.PlanParts.{Queued, queues_of, leads_to, IsKept}
+use Rattle.clk_tree.specs.Shares.{AreTreesOf, AreSharedOut}
 use Rattle.clk_tree.proofs.SoundPlans.{IsRoot, plan-scheduled, plan-device}
 use Rattle.clk_tree.proofs.DistinctPlans.{nodes-known, plan-few, devices-few, denoted-small, denoted-distinct, denoted-session}
+use Rattle.clk_tree.proofs.LeafLemmas.{denoted-leaves, queue-device-below}
+use Rattle.clk_tree.proofs.FedPlans.{denoted-fed}
+use Rattle.clk_tree.proofs.SharedOut.{shared-out}
 use Rattle.clk_tree.proofs.FaultLemmas.{denotes-by}
 
 -- one element is connected to each device, a scheduler or a queue
@@ -82,10 +87,11 @@ pub record IsMadeTree (plan : List Planned) (d : ℕ) (made : Result Tree Fault)
   pub tree : IfOk made (IsTreeOf plan d)
   pub distinct : IfOk made (λ tree. leaves_distinct tree ≡ true)
   pub fits : IfOk made (λ tree. 1 + session.elements (root tree) ≤ most_elements)
+  pub leaves : IfOk made (λ tree. (q : ℕ) → stands_in q (leaves (root tree)) ≡ leads_to d (slice_get (queues_of plan) q))
 
 pub kept-made : (plan : List Planned) (tops : List ℕ) (queues : List Queued) (senders : List SenderSpec) (d top : ℕ) (made : Result Tree Fault) → IsKept plan tops queues senders → d < length tops
     → top ≡ get_or tops d top → IfOk made (λ tree. IsRowOf plan (top ∷ []) (root tree)) → IsMadeTree plan d made
-kept-made plan tops queues senders d top (Err fault) h below at is = record { tree = _; distinct = _; fits = _ }
+kept-made plan tops queues senders d top (Err fault) h below at is = record { tree = _; distinct = _; fits = _; leaves = _ }
 kept-made plan tops queues senders d top (Ok tree) h below at is =
     let its : IsTreeOf plan d tree = subst (λ sources. IsRowOf plan sources (root tree)) (sym (kept-sources plan tops queues senders d top h below at)) is in
     let known : d < device_count plan = subst (λ n. d < n) (kept-devices plan tops queues senders h).count below in
@@ -93,7 +99,19 @@ kept-made plan tops queues senders d top (Ok tree) h below at is =
       tree = its;
       distinct = denoted-distinct h.denoted.0 plan d h.denoted.1 known tree its;
       fits = denoted-session h.denoted.0 plan d h.denoted.1 known tree its;
+      leaves = denoted-leaves h.denoted.0 plan d h.denoted.1 known tree its;
     }
+
+-- The leaves of the trees of a plan are its queues.
+pub kept-shared : (plan : List Planned) (tops : List ℕ) (queues : List Queued) (senders : List SenderSpec) → IsKept plan tops queues senders → (trees : List Tree) → AreTreesOf plan trees → AreSharedOut (queues_of plan) trees
+kept-shared plan tops queues senders h trees are = shared-out (queues_of plan) trees (record {
+  distinct = λ d tree at. denoted-distinct h.denoted.0 plan d h.denoted.1 (below d tree at) tree (are.each d tree at);
+  leads = λ d tree at. denoted-leaves h.denoted.0 plan d h.denoted.1 (below d tree at) tree (are.each d tree at);
+  there = λ q queue at. subst (λ n. queue.device < n) (sym are.count) (queue-device-below plan (denoted-fed h.denoted.0 plan h.denoted.1) q queue at);
+})
+  where
+    below : (d : ℕ) (tree : Tree) → slice_get trees d ≡ Some tree → d < device_count plan
+    below d tree at = subst (λ n. d < n) are.count (slice_get_within trees d tree at)
 
 -- What is made of a text whose names are right and whose checks find nothing is the plan that it denotes.
 pub read-denotes : (text : List ℕ) (declared given : List Declaration) (connections : List Connection) (nodes checked : List Node) (links joined : List Link) (plan : List Planned)

@@ -4,7 +4,6 @@ use Rattle.std.proofs.lemmas.Option.{same_Some}
 use Rattle.std.specs.List.{cons_option}
 use Rattle.clk_tree.specs.declared.class.Role.{Role}
 use Rattle.clk_tree.specs.declared.class.Role.TheVariants as role
-use Rattle.clk_tree.specs.declared.node.Node.{Node}
 use Rattle.clk_tree.specs.declared.node.Link.{Link}
 use Rattle.clk_tree.specs.Classes.{Class, sender, queue, prio, round_robin, drr, stride, shaper, device, role_of}
 use Rattle.clk_tree.specs.Source.{Element}

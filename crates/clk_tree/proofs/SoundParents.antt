@@ -1,17 +1,16 @@
 -- In the plan of a text without a fault each source of an element that is no queue leads to it, and stands at one input of it.
-use Rattle.std.proofs.Common.{◌≡◌, ℕ, ◌+◌, ◌<◌, ◌==◌, ◌&&◌, zero, suc, true, false, not, if◌then◌else◌, List, [], ◌∷◌, length, map, Some, None, MatchOption, slice_get, refl, sym, ap, subst, ◌∙◌, arith, eq-eqb, ne_eqb}
+use Rattle.std.proofs.Common.{◌≡◌, ℕ, ◌+◌, ◌<◌, ◌==◌, ◌&&◌, zero, suc, true, false, not, if◌then◌else◌, List, [], ◌∷◌, length, map, Some, None, slice_get, refl, sym, ap, subst, ◌∙◌, arith, eq-eqb, ne_eqb}
 use Rattle.std.specs.List.{AllByRecursion, range_with_len}
 use Rattle.std.proofs.lemmas.Bool.{or_parts, or_from}
 use Rattle.std.proofs.lemmas.Option.{same_Some}
 use Rattle.clk_sched.specs.Tree.{stands_in, are_distinct}
 use Rattle.clk_tree.specs.declared.class.Role.{Role}
-use Rattle.clk_tree.specs.declared.class.Role.TheVariants as role
 use Rattle.clk_tree.specs.declared.node.Node.{Node}
 use Rattle.clk_tree.specs.declared.node.Link.{Link}
 use Rattle.clk_tree.specs.Source.{Element, Wire}
-use Rattle.clk_tree.specs.Classes.{Class, sender, queue, prio, round_robin, drr, stride, shaper, device, role_of}
+use Rattle.clk_tree.specs.Classes.{role_of}
 use Rattle.clk_tree.specs.Declarations.{first_after}
-use Rattle.clk_tree.specs.Ports.{role_at, is_queue, is_device, uses_output, inputs_of, next}
+use Rattle.clk_tree.specs.Ports.{role_at, is_queue, uses_output, inputs_of, next}
 use Rattle.clk_tree.specs.Faults.{nodes_of, links_of, fault_of}
 use Rattle.clk_tree.specs.Plan.{Planned, source_at, all_known, plan_of}
 use Rattle.clk_tree.specs.PlanTree as tree

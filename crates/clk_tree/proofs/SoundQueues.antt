@@ -1,6 +1,6 @@
 -- In the plan of a text without a fault what is connected to a queue are Senders, and each Sender is connected to one element, a queue.
-use Rattle.std.proofs.Common.{◌≡◌, ℕ, ◌+◌, ◌<◌, ◌≤◌, ◌==◌, ◌&&◌, ◌||◌, inl, inr, zero, suc, Bool, true, false, not, if◌then◌else◌, List, [], ◌∷◌, length, map, filter, Option, Some, None, option_map, slice_get, refl, sym, ap, subst, ◌∙◌, arith, eqb-true, eq-eqb, ne_eqb}
-use Rattle.std.specs.List.{AllByRecursion, cons_option, range_with_len}
+use Rattle.std.proofs.Common.{◌≡◌, ℕ, ◌+◌, ◌<◌, ◌≤◌, ◌==◌, ◌&&◌, ◌||◌, inl, inr, zero, suc, Bool, true, false, not, if◌then◌else◌, List, [], ◌∷◌, length, map, filter, Option, Some, None, slice_get, refl, sym, ap, subst, ◌∙◌, arith, eqb-true, eq-eqb, ne_eqb}
+use Rattle.std.specs.List.{AllByRecursion, range_with_len}
 use Rattle.std.proofs.lemmas.Bool.{false≢true, cases_eq, cases_Bool, or_cases, or_from}
 use Rattle.std.proofs.lemmas.Option.{slice_get_within, same_Some}
 use Rattle.clk_sched.specs.Tree.{is_number, stands_in, are_distinct}
@@ -10,10 +10,9 @@ use Rattle.clk_tree.specs.declared.node.Node.{Node}
 use Rattle.clk_tree.specs.declared.node.Link.{Link}
 use Rattle.clk_tree.specs.Classes.{Class, sender, queue, prio, round_robin, drr, stride, shaper, device, role_of}
 use Rattle.clk_tree.specs.Source.{Element, Wire}
-use Rattle.clk_tree.specs.Declarations.{class_of}
 use Rattle.clk_tree.specs.Ports.{role_at, is_source, is_queue, is_scheduler, uses_output, inputs_of, target}
-use Rattle.clk_tree.specs.Faults.{node, nodes_of, links_of, fault_of}
-use Rattle.clk_tree.specs.Plan.{Planned, Known, is_connected, source_at, sources_of, all_known, planned_at, planned_from, plan_of}
+use Rattle.clk_tree.specs.Faults.{nodes_of, links_of, fault_of}
+use Rattle.clk_tree.specs.Plan.{Planned, Known, is_connected, source_at, sources_of, all_known, planned_from, plan_of}
 use Rattle.clk_tree.specs.PlanTree as tree
 use Rattle.clk_tree.proofs.SoundChecks.{IsRight}
 use Rattle.clk_tree.proofs.SoundNodes.{IsPlanned, node-at, queue-class}
@@ -31,7 +30,7 @@ pub record IsLinkFrom (P : Link → Type 0) (links : List Link) (s : ℕ) : Type
   pub from : link.from ≡ s
   pub target : target s links ≡ Some link.to
 
-link-from : (P : Link → Type 0) (links : List Link) (s : ℕ) → AllByRecursion P links → uses_output s links ≡ true → IsLinkFrom P links s
+pub link-from : (P : Link → Type 0) (links : List Link) (s : ℕ) → AllByRecursion P links → uses_output s links ≡ true → IsLinkFrom P links s
 link-from P [] s all uses = absurd (cc)
 link-from P (c ∷ links) s all uses = by_test (c.from == s) refl uses (link-from P links s all.1)
   where

@@ -1,6 +1,7 @@
 //! The plan that a text denotes.
 
 mod build;
+mod devices;
 mod element;
 mod parts;
 mod text;
@@ -54,17 +55,18 @@ impl Model for Plan {
 }
 
 impl Plan {
-    ghost use Rattle.std.specs.Prelude.{◌≡◌, ◌≤◌, ◌<◌, ◌+◌, ◌⊎◌, true, map, length, IfOk, IfErr, IsOkUnless};
+    ghost use Rattle.std.specs.Prelude.{◌≡◌, ◌≤◌, ◌<◌, ◌+◌, ◌⊎◌, ℕ, List, true, map, length, slice_get, IfOk, IfErr, IsOkUnless};
     ghost use Rattle.std.specs.List.{AllByRecursion};
     ghost use Rattle.clk_packet.specs.declared.fault.Fault.TheVariants.{Memory};
-    ghost use Rattle.clk_sched.specs.Tree.{root, leaves_distinct};
+    ghost use Rattle.clk_sched.specs.Tree.{Tree, root, leaves, stands_in, leaves_distinct};
     ghost use Rattle.clk_sched.specs.Session.{elements};
     ghost use Rattle.clk_sched.specs.Limits.{most_elements};
     ghost use Rattle.clk_tree.specs.Limits.{most_bytes};
     ghost use Rattle.clk_tree.specs.Reading.{HasFault};
     ghost use Rattle.clk_tree.specs.Plan.{Denotes};
     ghost use Rattle.clk_tree.specs.PlanTree.{device_count, IsTreeOf};
-    ghost use Rattle.clk_tree.specs.PlanParts.{queued, number_of, senders_of, queues_of, AreRising, HasCapacity, SendsWithin};
+    ghost use Rattle.clk_tree.specs.PlanParts.{queued, leads_to, number_of, senders_of, queues_of, AreRising, HasCapacity, SendsWithin};
+    ghost use Rattle.clk_tree.specs.Shares.{AreTreesOf, AreSharedOut};
     ghost use Rattle.clk_tree.specs.Canonical.{canonical_text};
 
     /// Reads a tree text: the plan that it denotes, where it keeps to the grammar of Click's language, and declares and connects a tree of
@@ -125,6 +127,8 @@ impl Plan {
         ensures distinct { IfOk result (λ tree. leaves_distinct tree ≡ true) }
         // A session takes it.
         ensures fits { IfOk result (λ tree. 1 + elements (root tree) ≤ most_elements) }
+        // Its leaves are the queues whose paths end at this device.
+        ensures leaves { IfOk result (λ tree. (q : ℕ) → stands_in q (leaves (root tree)) ≡ leads_to device (slice_get (queues_of self.now) q)) }
         ensures fault { IsOkUnless result Memory }
     {
         tree_at(alloc, &self.elements, self.tops[device as usize], 64)
@@ -134,8 +138,16 @@ impl Plan {
     pub fn queues(&self) -> &[QueueSpec]
         ensures queues { map queued result.now ≡ queues_of self.now }
         ensures capacities { AllByRecursion HasCapacity (queues_of self.now) }
+        ensures devices { AllByRecursion (λ q. q.device < device_count self.now) (queues_of self.now) }
     {
         &self.queues
+    }
+
+    /// A law: the leaves of the trees together are the numbers of the queues, each once, and each queue is a leaf of the tree of its device.
+    pub fn trees_share_queues(&self)
+        ensures { (trees : List Tree) → AreTreesOf self.now trees → AreSharedOut (queues_of self.now) trees }
+    {
+        let _elements = &self.elements;
     }
 
     /// The senders of the plan, by rising number.

@@ -1,8 +1,9 @@
-use Rattle.std.proofs.Common.{◌≡◌, map, length, ◌≤◌, sym, subst}
+use Rattle.std.proofs.Common.{◌≡◌, map, length, ◌≤◌, sym, ap, subst, ◌∙◌}
 use Rattle.std.specs.List.{AllByRecursion}
 use Rattle.clk_sched.specs.Limits.{most_elements}
 use Rattle.clk_tree.specs.Kept.{planned}
 use Rattle.clk_tree.specs.PlanTree.{device_sources}
+use Rattle.clk_tree.specs.PlanParts.{senders_of}
 use Rattle.clk_tree.proofs.PlanLemmas.{denoted-one, denoted-few}
 use Rattle.clk_tree.proofs.plan.Plan.read.Goals as goal
 
@@ -16,4 +17,7 @@ pub senders_of-requires : goal.senders_of-requires
 senders_of-requires c = record { few = subst (λ es. length es ≤ most_elements) (sym c.deref-2.ensures.value) (denoted-few c.args.text.now c.in_ok-elements.elements.items c.in_ok-elements.ensures.denotes) }
 
 pub queues_of-requires : goal.queues_of-requires
-queues_of-requires c = record { few = subst (λ es. length es ≤ most_elements) (sym c.deref-3.ensures.value) (denoted-few c.args.text.now c.in_ok-elements.elements.items c.in_ok-elements.ensures.denotes) }
+queues_of-requires c = record {
+  few = subst (λ es. length es ≤ most_elements) (sym c.deref-3.ensures.value) (denoted-few c.args.text.now c.in_ok-elements.elements.items c.in_ok-elements.ensures.denotes);
+  senders = c.deref-4.ensures.value ∙ c.in_ok-senders.ensures.made ∙ ap (λ es. senders_of (map planned es)) (c.deref-2.ensures.value ∙ sym c.deref-3.ensures.value);
+}

@@ -1,8 +1,8 @@
-use Rattle.std.proofs.Common.{◌∷◌, [], map, IfOk, sym, subst}
-use Rattle.clk_sched.specs.Tree.{root}
+use Rattle.std.proofs.Common.{◌≡◌, ◌∷◌, [], ℕ, map, slice_get, IfOk, sym, subst}
+use Rattle.clk_sched.specs.Tree.{Tree, root, leaves, stands_in}
 use Rattle.clk_sched.specs.Limits.{most_levels}
 use Rattle.clk_tree.specs.Kept.{planned}
-use Rattle.clk_tree.specs.PlanParts.{queued}
+use Rattle.clk_tree.specs.PlanParts.{queued, queues_of, leads_to}
 use Rattle.clk_tree.specs.PlanTree.{IsScheduled, IsRowOf}
 use Rattle.clk_tree.proofs.PlanLemmas.{IsMadeTree, kept-below, kept-scheduled, kept-made}
 use Rattle.clk_tree.proofs.plan.Plan.tree.Goals as goal
@@ -29,3 +29,7 @@ returns-clause-distinct c = (made c).distinct
 
 pub returns-clause-fits : goal.returns-clause-fits
 returns-clause-fits c = (made c).fits
+
+pub returns-clause-leaves : goal.returns-clause-leaves
+returns-clause-leaves c =
+    subst (λ plan. IfOk c.tree_at.result (λ (tree : Tree). (q : ℕ) → stands_in q (leaves (root tree)) ≡ leads_to c.args.device (slice_get (queues_of plan) q))) c.self.view_is (made c).leaves
