@@ -66,7 +66,7 @@ meaning-alone setup None log P h = tt
 meaning-alone setup (Some script) log P h = (h.0, record { sound = h.1.sound; written = h.1.written.writes }, h.2)
 
 -- the meaning over a plan
-pub meaning-over : (plan : List Planned) (tree : Tree) (setup : Setup) → IsTreeOf plan tree → setup ≡ plan_setup tree plan → (known : Option (List ℕ)) (log : List Visit) (P : List ℕ → Type 0)
+pub meaning-over : (plan : List Planned) (tree : Tree) (setup : Setup) → IsTreeOf plan 0 tree → setup ≡ plan_setup tree plan → (known : Option (List ℕ)) (log : List Visit) (P : List ℕ → Type 0)
     → IfSome known (λ script. (t : List ℕ) × MeansWith setup script t log × P t) → IfSome known (λ script. (t : List ℕ) × MeansOverWith plan script t log × P t)
 meaning-over plan tree setup is same None log P h = tt
 meaning-over plan tree setup is same (Some script) log P h = (h.0, record { tree = tree; is = is; means = subst (λ (s : Setup). MeansWith s script h.0 log) same h.1 }, h.2)

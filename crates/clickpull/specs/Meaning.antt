@@ -261,15 +261,15 @@ Explains setup script fault = ⊥
 -- The text is the meaning of the script over a plan: it is its meaning over the setup that the plan is, with its tree.
 pub record MeansOver (plan : List Planned) (script text : List ℕ) : Type 0 where
   pub tree : Tree
-  pub is : IsTreeOf plan tree
+  pub is : IsTreeOf plan 0 tree
   pub means : IsMeaning (plan_setup tree plan) script text
 
 -- the same, with the log of the visits
 pub record MeansOverWith (plan : List Planned) (script text : List ℕ) (log : List Visit) : Type 0 where
   pub tree : Tree
-  pub is : IsTreeOf plan tree
+  pub is : IsTreeOf plan 0 tree
   pub means : MeansWith (plan_setup tree plan) script text log
 
 -- Why running a script over a plan is refused with a fault: memory ran out, or as above over the setup that the plan is.
 abbrev pub ExplainsPlan : List Planned → Option (List ℕ) → Fault → Type 0
-ExplainsPlan plan script fault = (fault ≡ Memory) ⊎ ((tree : Tree) × IsTreeOf plan tree × Explains (plan_setup tree plan) script fault)
+ExplainsPlan plan script fault = (fault ≡ Memory) ⊎ ((tree : Tree) × IsTreeOf plan 0 tree × Explains (plan_setup tree plan) script fault)

@@ -71,7 +71,9 @@ pub fn run_plan<R: Source, W: Sink>(
     ensures write_failures { W.Sink.failures writer.new ≡ write_failures result (W.Sink.failures writer.old) }
     ensures limit { Takes (most_bytes + 1) (R.Source.remaining reader.old) (R.Source.remaining reader.new) }
 {
-    let tree = plan.tree(alloc)?;
+    // A plan has a device.
+    let _devices = plan.devices();
+    let tree = plan.tree(alloc, 0)?;
     run_parts(alloc, reader, writer, tree, plan.queues(), plan.senders())
 }
 

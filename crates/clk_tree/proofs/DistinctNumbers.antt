@@ -4,6 +4,7 @@ use Rattle.std.specs.Bool.{⊤}
 use Rattle.std.specs.List.{AllByRecursion, list_any, filter_map, cons_option, IsDistinct}
 use Rattle.std.proofs.lemmas.Bool.{or_right, and_parts, and_from, not-true, not_from_false, false_from_ne_true, false≢true, both_ways}
 use Rattle.std.proofs.lemmas.Map.Steps.{length-le_from_distinct_below}
+use Rattle.std.proofs.lemmas.Option.{same_Some}
 use Rattle.clk_sched.specs.Tree.{stands_in, are_distinct}
 
 abbrev pub In : ℕ → List ℕ → Type 0
@@ -20,7 +21,7 @@ in-all P x (y ∷ ys) all (inl e) = subst P e all.0
 in-all P x (y ∷ ys) all (inr m) = in-all P x ys all.1 m
 
 -- the test of distinct numbers says so
-in-stands : (x : ℕ) (xs : List ℕ) → In x xs → stands_in x xs ≡ true
+pub in-stands : (x : ℕ) (xs : List ℕ) → In x xs → stands_in x xs ≡ true
 in-stands x [] m = absurd m
 in-stands x (y ∷ ys) (inl e) = ap (λ b. b || stands_in x ys) (eq-eqb y x e)
 in-stands x (y ∷ ys) (inr m) = or_right (y == x) (stands_in x ys) (in-stands x ys m)
@@ -44,7 +45,20 @@ distinct-test [] d = refl
 distinct-test (x ∷ xs) d =
     and_from (not (stands_in x xs)) (are_distinct xs) (not_from_false (stands_in x xs) (false_from_ne_true (stands_in x xs) (λ s. d.0 (stands-in x xs s)))) (distinct-test xs d.1)
 
+pub all-of : (P : ℕ → Type 0) (xs : List ℕ) → ((x : ℕ) → In x xs → P x) → AllByRecursion P xs
+all-of P [] each = tt
+all-of P (x ∷ xs) each = (each x (inl refl), all-of P xs (λ y m. each y (inr m)))
+
 -- two lists in a row
+pub in-left : (x : ℕ) (xs ys : List ℕ) → In x xs → In x (xs ++ ys)
+in-left x [] ys m = absurd m
+in-left x (z ∷ xs) ys (inl e) = inl e
+in-left x (z ∷ xs) ys (inr m) = inr (in-left x xs ys m)
+
+pub in-right : (x : ℕ) (xs ys : List ℕ) → In x ys → In x (xs ++ ys)
+in-right x [] ys m = m
+in-right x (z ∷ xs) ys m = inr (in-right x xs ys m)
+
 pub in-append : (x : ℕ) (xs ys : List ℕ) → In x (xs ++ ys) → In x xs ⊎ In x ys
 in-append x [] ys m = inr m
 in-append x (z ∷ xs) ys (inl e) = inl (inl e)
@@ -67,7 +81,7 @@ pub record ComesFrom (f : ℕ → Option ℕ) (y : ℕ) (xs : List ℕ) : Type 0
   pub among : In from xs
   pub gives : f from ≡ Some y
 
-mapped-from : (f : ℕ → Option ℕ) (y : ℕ) (xs : List ℕ) → In y (filter_map f xs) → ComesFrom f y xs
+pub mapped-from : (f : ℕ → Option ℕ) (y : ℕ) (xs : List ℕ) → In y (filter_map f xs) → ComesFrom f y xs
 mapped-from f y [] m = absurd m
 mapped-from f y (x ∷ xs) m = by_option (f x) refl (λ k. later (mapped-from f y xs k)) m
   where
@@ -78,6 +92,19 @@ mapped-from f y (x ∷ xs) m = by_option (f x) refl (λ k. later (mapped-from f 
     by_option None e rest k = rest k
     by_option (Some z) e rest (inl same) = record { from = x; among = inl refl; gives = e ∙ ap Some same }
     by_option (Some z) e rest (inr k) = rest k
+
+pub in-mapped : (f : ℕ → Option ℕ) (x y : ℕ) (xs : List ℕ) → In x xs → f x ≡ Some y → In y (filter_map f xs)
+in-mapped f x y [] m is = absurd m
+in-mapped f x y (z ∷ xs) (inl e) is = by_option (f z) (ap f e ∙ is)
+  where
+    by_option : (o : Option ℕ) → o ≡ Some y → In y (cons_option o (filter_map f xs))
+    by_option None is = absurd (cc)
+    by_option (Some w) is = inl (same_Some w y is)
+in-mapped f x y (z ∷ xs) (inr m) is = by_option (f z) (in-mapped f x y xs m is)
+  where
+    by_option : (o : Option ℕ) → In y (filter_map f xs) → In y (cons_option o (filter_map f xs))
+    by_option None later = later
+    by_option (Some w) later = inr later
 
 pub distinct-mapped : (f : ℕ → Option ℕ) (xs : List ℕ) → ((a b y : ℕ) → f a ≡ Some y → f b ≡ Some y → a ≡ b) → Distinct xs → Distinct (filter_map f xs)
 distinct-mapped f [] one d = tt

@@ -1,6 +1,6 @@
 -- In the plan of a text without faults each source of a scheduler or a device leads to it, and none stands twice: each output is connected
 -- once, and each input of theirs is. So no queue stands twice in the tree of such a plan, and the tree is smaller than the plan.
-use Rattle.std.proofs.Common.{◌≡◌, ℕ, ◌≤◌, ◌<◌, ◌+◌, ◌==◌, ◌&&◌, ◌||◌, zero, suc, Bool, true, false, not, if◌then◌else◌, nat_lt, List, [], ◌∷◌, length, map, Option, Some, None, MatchOption, slice_get, inl, inr, refl, sym, ap, subst, ◌∙◌, arith, eq-eqb, eqb-true, zero-add}
+use Rattle.std.proofs.Common.{◌≡◌, ℕ, ◌≤◌, ◌<◌, ◌+◌, ◌==◌, ◌&&◌, ◌||◌, zero, suc, Bool, true, false, not, if◌then◌else◌, nat_lt, List, [], ◌∷◌, length, map, take, get_or, Option, Some, None, slice_get, inl, inr, refl, sym, ap, subst, ◌∙◌, arith, eq-eqb, eqb-true, zero-add}
 use Rattle.std.specs.Bool.{⊤}
 use Rattle.std.specs.Option.{option_or, option_map}
 use Rattle.std.specs.List.{AllByRecursion, range_with_len, cons_option}
@@ -9,7 +9,7 @@ use Rattle.std.proofs.lemmas.Option.{same_Some}
 use Rattle.clk_packet.specs.declared.fault.Fault.TheVariants.{BadPort, PortTwice, PortMissing, NoDevice, ManyDevices, NotATree, TooLarge}
 use Rattle.clk_sched.specs.Limits.{most_elements}
 use Rattle.clk_sched.specs.Session as session
-use Rattle.clk_sched.specs.Tree.{Tree, queue, scheduler, root, are_distinct, leaves_distinct}
+use Rattle.clk_sched.specs.Tree.{Tree, root, are_distinct, leaves_distinct}
 use Rattle.clk_tree.specs.declared.class.Role.{Role}
 use Rattle.clk_tree.specs.declared.class.Role.TheVariants as role
 use Rattle.clk_tree.specs.declared.node.Node.{Node}
@@ -25,7 +25,7 @@ use Rattle.clk_tree.specs.Faults as faults
 use Rattle.clk_tree.specs.Faults.{nodes_of, links_of, naming_fault, port_fault, shape_fault, nodes_fault, fault_of}
 use Rattle.clk_tree.specs.Plan.{Planned, Known, all_known, source_at, sources_of, planned_at, planned_from, plan_of, Denotes}
 use Rattle.clk_tree.specs.Reading.{elements_of, wires_of}
-use Rattle.clk_tree.specs.PlanTree.{is_queue, is_device, device_sources, IsRowOf, IsTreeOf}
+use Rattle.clk_tree.specs.PlanTree.{is_queue, is_device, device_sources, device_count, sources_of_device, IsRowOf, IsTreeOf}
 use Rattle.clk_tree.proofs.PortLemmas.{used_again}
 use Rattle.clk_tree.proofs.DistinctNumbers.{In, Distinct, distinct-test}
 use Rattle.clk_tree.proofs.DistinctTrees.{HasParents, tree-distinct, tree-fits}
@@ -242,25 +242,56 @@ sound-links elements wires none =
     links : List Link
     links = links_of elements wires
 
--- The first device of a plan, whose sources are the plan's.
-record FirstDevice (plan : List Planned) (s : ℕ) : Type 0 where
-  place : ℕ
-  element : Planned
-  at : slice_get plan place ≡ Some element
-  is : is_device element.class ≡ true
-  sources : element.sources ≡ s ∷ []
+-- The device of a number: it stands at this place, and as many devices are declared before it.
+pub record IsDeviceAt (plan : List Planned) (d : ℕ) : Type 0 where
+  pub place : ℕ
+  pub element : Planned
+  pub at : slice_get plan place ≡ Some element
+  pub is : is_device element.class ≡ true
+  pub sources : sources_of_device plan d ≡ element.sources
+  pub before : device_count (take place plan) ≡ d
 
-first-device : (plan : List Planned) (s : ℕ) → device_sources plan ≡ s ∷ [] → FirstDevice plan s
-first-device [] s e = absurd (cc)
-first-device (p ∷ more) s e = by_test (is_device p.class) refl (first-device more s) e
+abbrev with_device : Bool → List ℕ → List (List ℕ) → List (List ℕ)
+with_device b sources more = if b then sources ∷ more else more
+
+device-here : (p : Planned) (more : List Planned) → is_device p.class ≡ true → IsDeviceAt (p ∷ more) 0
+device-here p more is = record {
+  place = 0;
+  element = p;
+  at = refl;
+  is = is;
+  sources = ap (λ b. get_or (with_device b p.sources (device_sources more)) 0 []) is;
+  before = refl;
+}
+
+device-after : (p : Planned) (more : List Planned) (d : ℕ) → is_device p.class ≡ true → IsDeviceAt more d → IsDeviceAt (p ∷ more) (suc d)
+device-after p more d is h = record {
+  place = suc h.place;
+  element = h.element;
+  at = h.at;
+  is = h.is;
+  sources = ap (λ b. get_or (with_device b p.sources (device_sources more)) (suc d) []) is ∙ h.sources;
+  before = ap (λ b. length (with_device b p.sources (device_sources (take h.place more)))) is ∙ ap suc h.before;
+}
+
+device-past : (p : Planned) (more : List Planned) (d : ℕ) → is_device p.class ≡ false → IsDeviceAt more d → IsDeviceAt (p ∷ more) d
+device-past p more d is h = record {
+  place = suc h.place;
+  element = h.element;
+  at = h.at;
+  is = h.is;
+  sources = ap (λ b. get_or (with_device b p.sources (device_sources more)) d []) is ∙ h.sources;
+  before = ap (λ b. length (with_device b p.sources (device_sources (take h.place more)))) is ∙ h.before;
+}
+
+pub device-at : (plan : List Planned) (d : ℕ) → d < device_count plan → IsDeviceAt plan d
+device-at [] d below = absurd (omega arith)
+device-at (p ∷ more) d below = by_test (is_device p.class) refl d below (device-at more)
   where
-    by_test : (b : Bool) → is_device p.class ≡ b → (device_sources more ≡ s ∷ [] → FirstDevice more s) → (if b then p.sources else device_sources more) ≡ s ∷ [] → FirstDevice (p ∷ more) s
-    by_test true is later e = record { place = 0; element = p; at = refl; is = is; sources = e }
-    by_test false is later e = let d = later e in record { place = suc d.place; element = d.element; at = d.at; is = d.is; sources = d.sources }
-
-device-queue : (c : Class) → is_device c ≡ true → is_queue c ≡ false
-device-queue (class.queue kind capacity) e = absurd (false≢true e)
-device-queue c e = refl
+    by_test : (b : Bool) → is_device p.class ≡ b → (d : ℕ) → d < length (with_device b p.sources (device_sources more)) → ((n : ℕ) → n < device_count more → IsDeviceAt more n) → IsDeviceAt (p ∷ more) d
+    by_test true is zero below later = device-here p more is
+    by_test true is (suc d) below later = device-after p more d is (later d (omega arith))
+    by_test false is d below later = device-past p more d is (later d below)
 
 module _ (elements : List Element) (wires : List Wire) (sound : AreSound elements (links_of elements wires)) where
   -- each source of a scheduler or a device leads to it, and none stands twice
@@ -296,49 +327,33 @@ module _ (elements : List Element) (wires : List Wire) (sound : AreSound element
       let p = planned-at i e at in
       subst (λ (x : Planned). is_queue x.class ≡ false → are_distinct x.sources ≡ true) (sym p.is) (known-once i p.known p.at)
 
-  pub has-parents : (s : ℕ) → device_sources (plan_of elements wires) ≡ s ∷ [] → (top : ℕ) × HasParents (plan_of elements wires) (next (links_of elements wires)) top
-  has-parents s one =
-      let d = first-device (plan_of elements wires) s one in (
-        d.place,
-        record {
-          leads = plan-lead;
-          once = plan-once;
-          device = subst (λ o. MatchOption o ⊥ (λ e. is_device e.class ≡ true)) (sym d.at) d.is;
-          root = λ r also. (subst (AllByRecursion (λ s. next (links_of elements wires) s ≡ d.place)) (d.sources ∙ sym one ∙ also) (plan-lead d.place d.element d.at (device-queue d.element.class d.is))).0;
-        },
-      )
+  pub has-parents : HasParents (plan_of elements wires) (next (links_of elements wires))
+  has-parents = record { leads = plan-lead; once = plan-once }
 
--- a tree stands at one input
-one-source : (plan : List Planned) (sources : List ℕ) (t : Tree) → IsRowOf plan sources (root t) → (s : ℕ) × (sources ≡ s ∷ [])
-one-source plan [] (queue q) is = absurd is
-one-source plan [] (scheduler over inputs) is = absurd is
-one-source plan (s ∷ []) t is = (s, refl)
-one-source plan (s ∷ p ∷ more) (queue q) is = absurd is.1
-one-source plan (s ∷ p ∷ more) (scheduler over inputs) is = absurd is.2
+-- no queue stands twice in a tree of what is declared and connected without faults
+pub plan-distinct : (elements : List Element) (wires : List Wire) (d : ℕ) → fault_of elements wires ≡ None → d < device_count (plan_of elements wires) → (t : Tree) → IsTreeOf (plan_of elements wires) d t
+    → leaves_distinct t ≡ true
+plan-distinct elements wires d none below t is =
+    let here = device-at (plan_of elements wires) d below in
+    tree-distinct (plan_of elements wires) (next (links_of elements wires)) here.place here.element (has-parents elements wires (sound-links elements wires none)) here.at here.is t
+    (subst (λ sources. IsRowOf (plan_of elements wires) sources (root t)) here.sources is)
 
--- no queue stands twice in the tree of what is declared and connected without faults
-pub plan-distinct : (elements : List Element) (wires : List Wire) → fault_of elements wires ≡ None → (t : Tree) → IsTreeOf (plan_of elements wires) t → leaves_distinct t ≡ true
-plan-distinct elements wires none t is =
-    let one = one-source (plan_of elements wires) (device_sources (plan_of elements wires)) t is in
-    let h = has-parents elements wires (sound-links elements wires none) one.0 one.1 in
-    tree-distinct (plan_of elements wires) (next (links_of elements wires)) h.0 h.1 one.0 one.1 t is
-
-pub plan-fits : (elements : List Element) (wires : List Wire) → fault_of elements wires ≡ None → (t : Tree) → IsTreeOf (plan_of elements wires) t
+pub plan-fits : (elements : List Element) (wires : List Wire) (d : ℕ) → fault_of elements wires ≡ None → d < device_count (plan_of elements wires) → (t : Tree) → IsTreeOf (plan_of elements wires) d t
     → 1 + session.elements (root t) ≤ length (plan_of elements wires)
-plan-fits elements wires none t is =
-    let one = one-source (plan_of elements wires) (device_sources (plan_of elements wires)) t is in
-    let h = has-parents elements wires (sound-links elements wires none) one.0 one.1 in
-    tree-fits (plan_of elements wires) (next (links_of elements wires)) h.0 h.1 one.0 one.1 t is
+plan-fits elements wires d none below t is =
+    let here = device-at (plan_of elements wires) d below in
+    tree-fits (plan_of elements wires) (next (links_of elements wires)) here.place here.element (has-parents elements wires (sound-links elements wires none)) here.at here.is t
+    (subst (λ sources. IsRowOf (plan_of elements wires) sources (root t)) here.sources is)
 
 -- and of what a text denotes
-pub denoted-distinct : (text : List ℕ) (plan : List Planned) → Denotes text plan → (t : Tree) → IsTreeOf plan t → leaves_distinct t ≡ true
-denoted-distinct text plan d t is =
-    plan-distinct (elements_of text d.faultless.statements) (wires_of text d.faultless.statements) d.faultless.sound t (subst (λ p. IsTreeOf p t) d.is is)
+pub denoted-distinct : (text : List ℕ) (plan : List Planned) (d : ℕ) → Denotes text plan → d < device_count plan → (t : Tree) → IsTreeOf plan d t → leaves_distinct t ≡ true
+denoted-distinct text plan d h below t is =
+    plan-distinct (elements_of text h.faultless.statements) (wires_of text h.faultless.statements) d h.faultless.sound (subst (λ p. d < device_count p) h.is below) t (subst (λ p. IsTreeOf p d t) h.is is)
 
-pub denoted-fits : (text : List ℕ) (plan : List Planned) → Denotes text plan → (t : Tree) → IsTreeOf plan t → 1 + session.elements (root t) ≤ length plan
-denoted-fits text plan d t is =
-    subst (λ p. 1 + session.elements (root t) ≤ length p) (sym d.is)
-    (plan-fits (elements_of text d.faultless.statements) (wires_of text d.faultless.statements) d.faultless.sound t (subst (λ p. IsTreeOf p t) d.is is))
+pub denoted-fits : (text : List ℕ) (plan : List Planned) (d : ℕ) → Denotes text plan → d < device_count plan → (t : Tree) → IsTreeOf plan d t → 1 + session.elements (root t) ≤ length plan
+denoted-fits text plan d h below t is =
+    subst (λ p. 1 + session.elements (root t) ≤ length p) (sym h.is)
+    (plan-fits (elements_of text h.faultless.statements) (wires_of text h.faultless.statements) d h.faultless.sound (subst (λ p. d < device_count p) h.is below) t (subst (λ p. IsTreeOf p d t) h.is is))
 
 -- which is no larger than a session may be
 pub nodes-known : (elements : List Element) → length (nodes_of elements) ≡ length (all_known elements)
@@ -374,8 +389,20 @@ plan-few elements wires none =
     let known = planned-known (length (all_known elements)) links 0 (all_known elements) in
     subst (λ n. n ≤ most_elements) (nodes-known elements ∙ sym known) few
 
-pub denoted-session : (text : List ℕ) (plan : List Planned) → Denotes text plan → (t : Tree) → IsTreeOf plan t → 1 + session.elements (root t) ≤ most_elements
-denoted-session text plan d t is =
-    let fits = denoted-fits text plan d t is in
-    let few = subst (λ p. length p ≤ most_elements) (sym d.is) (plan-few (elements_of text d.faultless.statements) (wires_of text d.faultless.statements) d.faultless.sound) in
+pub denoted-small : (text : List ℕ) (plan : List Planned) → Denotes text plan → length plan ≤ most_elements
+denoted-small text plan h = subst (λ p. length p ≤ most_elements) (sym h.is) (plan-few (elements_of text h.faultless.statements) (wires_of text h.faultless.statements) h.faultless.sound)
+
+pub denoted-session : (text : List ℕ) (plan : List Planned) (d : ℕ) → Denotes text plan → d < device_count plan → (t : Tree) → IsTreeOf plan d t → 1 + session.elements (root t) ≤ most_elements
+denoted-session text plan d h below t is =
+    let fits = denoted-fits text plan d h below t is in
+    let few = denoted-small text plan h in
     omega (arith, fits, few)
+
+-- A plan has no more devices than elements.
+pub devices-few : (plan : List Planned) → device_count plan ≤ length plan
+devices-few [] = omega arith
+devices-few (p ∷ more) = by_test (is_device p.class) (devices-few more)
+  where
+    by_test : (b : Bool) → device_count more ≤ length more → length (with_device b p.sources (device_sources more)) ≤ suc (length more)
+    by_test true few = omega arith
+    by_test false few = omega arith

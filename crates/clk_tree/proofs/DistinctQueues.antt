@@ -21,7 +21,7 @@ queues-before (e ∷ more) (suc i) (suc j) l is = by_test (is_queue e.class) (qu
     by_test true m n l = omega arith
     by_test false m n l = l
 
-number-of : (n q : ℕ) (o : Option Planned) → number_if n o ≡ Some q → (is_queue_at o ≡ true) × (n ≡ q)
+pub number-of : (n q : ℕ) (o : Option Planned) → number_if n o ≡ Some q → (is_queue_at o ≡ true) × (n ≡ q)
 number-of n q None e = absurd (cc)
 number-of n q (Some p) e = cond_some (is_queue p.class) n q e
 

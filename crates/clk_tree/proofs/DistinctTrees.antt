@@ -1,5 +1,5 @@
--- No element of a plan stands twice in its tree: a place in the tree has one way up to the device, so that it stands in the tree of one
--- source of each element above it. Then no queue stands twice, and the tree has fewer elements than the plan.
+-- No element of a plan stands twice in the tree of a device: a place in the tree has one way up to the device, so that it stands in the
+-- tree of one source of each element above it. Then no queue stands twice, and the tree has fewer elements than the plan.
 use Rattle.std.proofs.Common.{◌≡◌, ◌≢◌, if◌then◌else◌, ◌≤◌, ◌<◌, ◌+◌, ℕ, zero, suc, List, [], ◌∷◌, ◌++◌, length, Bool, true, false, Option, Some, None, MatchOption, slice_get, inl, inr, refl, sym, ap, ap₂, subst, ◌∙◌, length-append, arith}
 use Rattle.std.specs.List.{AllByRecursion, filter_map, cons_option}
 use Rattle.std.proofs.lemmas.Bool.{false≢true}
@@ -11,16 +11,14 @@ use Rattle.clk_sched.specs.Tree.{Row, end, leaf, node, Tree, queue, scheduler, r
 use Rattle.clk_tree.specs.Classes as class
 use Rattle.clk_tree.specs.Classes.{Class}
 use Rattle.clk_tree.specs.Plan.{Planned}
-use Rattle.clk_tree.specs.PlanTree.{is_queue, is_device, number_if, queue_number, scheduler_over, IsNode, sources_at, IsRowOf, device_sources, IsTreeOf}
+use Rattle.clk_tree.specs.PlanTree.{is_queue, is_device, number_if, queue_number, scheduler_over, IsNode, sources_at, IsRowOf}
 use Rattle.clk_tree.proofs.DistinctNumbers.{In, Distinct, in-all, test-distinct, distinct-test, in-append, distinct-append, distinct-mapped, distinct-below}
 use Rattle.clk_tree.proofs.DistinctQueues.{one-number}
 
--- What is known of a plan, at whose top a device stands: each source of an element that is no queue leads to it, and no source stands twice.
-pub record HasParents (plan : List Planned) (parent : ℕ → ℕ) (top : ℕ) : Type 0 where
+-- What is known of a plan: each source of an element that is no queue leads to it, and no source stands twice.
+pub record HasParents (plan : List Planned) (parent : ℕ → ℕ) : Type 0 where
   pub leads : (i : ℕ) (e : Planned) → slice_get plan i ≡ Some e → is_queue e.class ≡ false → AllByRecursion (λ s. parent s ≡ i) e.sources
   pub once : (i : ℕ) (e : Planned) → slice_get plan i ≡ Some e → is_queue e.class ≡ false → are_distinct e.sources ≡ true
-  pub device : MatchOption (slice_get plan top) ⊥ (λ e. is_device e.class ≡ true)
-  pub root : (s : ℕ) → device_sources plan ≡ s ∷ [] → parent s ≡ top
 
 -- the elements that a row stands for, each before those above it
 abbrev pub places : List Planned → List ℕ → Row → List ℕ
@@ -32,7 +30,7 @@ places plan sources row = []
 abbrev pub Stands : Option Planned → Type 0
 Stands o = MatchOption o ⊥ (λ e. is_device e.class ≡ false)
 
-queue-device : (c : Class) → is_queue c ≡ true → is_device c ≡ false
+pub queue-device : (c : Class) → is_queue c ≡ true → is_device c ≡ false
 queue-device (class.device word) e = absurd (false≢true e)
 queue-device c e = refl
 
@@ -40,11 +38,11 @@ node-device : (c : Class) (over : tree.Class) (inputs : ℕ) → scheduler_over 
 node-device (class.device word) over inputs e = absurd (cc)
 node-device c over inputs e = refl
 
-node-queue : (c : Class) (over : tree.Class) (inputs : ℕ) → scheduler_over c inputs ≡ Some over → is_queue c ≡ false
+pub node-queue : (c : Class) (over : tree.Class) (inputs : ℕ) → scheduler_over c inputs ≡ Some over → is_queue c ≡ false
 node-queue (class.queue kind capacity) over inputs e = absurd (cc)
 node-queue c over inputs e = refl
 
-leaf-stands : (n q : ℕ) (o : Option Planned) → number_if n o ≡ Some q → Stands o
+pub leaf-stands : (n q : ℕ) (o : Option Planned) → number_if n o ≡ Some q → Stands o
 leaf-stands n q None e = absurd (cc)
 leaf-stands n q (Some p) e = queue-device p.class (by_test (is_queue p.class) e)
   where
@@ -52,7 +50,7 @@ leaf-stands n q (Some p) e = queue-device p.class (by_test (is_queue p.class) e)
     by_test true e = refl
     by_test false e = absurd (cc)
 
-node-stands : (over : tree.Class) (o : Option Planned) → IsNode over o → Stands o
+pub node-stands : (over : tree.Class) (o : Option Planned) → IsNode over o → Stands o
 node-stands over None h = absurd h
 node-stands over (Some e) h = node-device e.class over (length e.sources) h
 
@@ -64,10 +62,6 @@ node-none over n (Some e) h = ap (λ b. if b then Some n else None) (node-queue 
 stands-within : (plan : List Planned) (x : ℕ) (o : Option Planned) → slice_get plan x ≡ o → Stands o → x < length plan
 stands-within plan x None at h = absurd h
 stands-within plan x (Some e) at h = slice_get_within plan x e at
-
-stands-other : (o : Option Planned) → Stands o → MatchOption o ⊥ (λ e. is_device e.class ≡ true) → ⊥
-stands-other None h d = h
-stands-other (Some e) h d = false≢true (sym h ∙ d)
 
 pub places-stand : (plan : List Planned) (sources : List ℕ) (row : Row) (x : ℕ) → IsRowOf plan sources row → In x (places plan sources row) → Stands (slice_get plan x)
 places-stand plan [] end x is m = absurd m
@@ -171,7 +165,12 @@ below-all : (parent : ℕ → ℕ) (top n s : ℕ) (sources : List ℕ) → IsAt
 below-all parent top n s [] at leads = tt
 below-all parent top n s (t ∷ more) at leads = (subst (IsAt parent top n) (sym leads.0) at, below-all parent top n s more at leads.1)
 
-module _ (plan : List Planned) (parent : ℕ → ℕ) (top : ℕ) (h : HasParents plan parent top) where
+pub device-queue : (c : Class) → is_device c ≡ true → is_queue c ≡ false
+device-queue (class.queue kind capacity) e = absurd (false≢true e)
+device-queue c e = refl
+
+-- the tree of the device that stands at the top
+module _ (plan : List Planned) (parent : ℕ → ℕ) (top : ℕ) (root_of : Planned) (h : HasParents plan parent) (top_at : slice_get plan top ≡ Some root_of) (top_is : is_device root_of.class ≡ true) where
   -- the sources of a scheduler lead to it, and are distinct
   inner-leads : (over : tree.Class) (s : ℕ) (o : Option Planned) → slice_get plan s ≡ o → IsNode over o → AllByRecursion (λ t. parent t ≡ s) (sources_at o)
   inner-leads over s None at is = absurd is
@@ -182,7 +181,7 @@ module _ (plan : List Planned) (parent : ℕ → ℕ) (top : ℕ) (h : HasParent
   inner-once over s (Some e) at is = test-distinct e.sources (h.once s e at (node-queue e.class over (length e.sources) is))
 
   stands-below : (s : ℕ) → Stands (slice_get plan s) → s ≢ top
-  stands-below s is same = stands-other (slice_get plan s) is (subst (λ d. MatchOption (slice_get plan d) ⊥ (λ e. is_device e.class ≡ true)) (sym same) h.device)
+  stands-below s stands same = false≢true (sym (subst Stands top_at (subst (λ d. Stands (slice_get plan d)) same stands)) ∙ top_is)
 
   -- what stands in the tree of a scheduler
   inner-below : (over : tree.Class) (n s : ℕ) → IsNode over (slice_get plan s) → IsAt parent top n (parent s) → AreBelow parent top (suc n) (sources_at (slice_get plan s))
@@ -258,35 +257,23 @@ module _ (plan : List Planned) (parent : ℕ → ℕ) (top : ℕ) (h : HasParent
         (places-under n more row x is.2 below.1 m)),
   )
 
-  -- the tree of the plan
-  tree-places : (s : ℕ) → device_sources plan ≡ s ∷ [] → (t : Tree) → IsRowOf plan (s ∷ []) (root t) → Distinct (places plan (s ∷ []) (root t))
-  tree-places s one t is = places-distinct 0 (s ∷ []) (root t) is (h.root s one, tt) (λ m. m, tt)
+  tree-places : (t : Tree) → IsRowOf plan root_of.sources (root t) → Distinct (places plan root_of.sources (root t))
+  tree-places t row =
+      places-distinct 0 root_of.sources (root t) row (h.leads top root_of top_at (device-queue root_of.class top_is)) (test-distinct root_of.sources (h.once top root_of top_at (device-queue root_of.class top_is)))
 
-pub tree-distinct : (plan : List Planned) (parent : ℕ → ℕ) (top : ℕ) → HasParents plan parent top → (s : ℕ) → device_sources plan ≡ s ∷ [] → (t : Tree) → IsTreeOf plan t
-    → leaves_distinct t ≡ true
-tree-distinct plan parent top h s one t is =
-    let row = subst (λ sources. IsRowOf plan sources (root t)) one is in
-    distinct-test (leaves (root t))
-    (subst Distinct (sym (leaves-places plan (s ∷ []) (root t) row))
-    (distinct-mapped (queue_number plan) (places plan (s ∷ []) (root t)) (one-number plan) (tree-places plan parent top h s one t row)))
+  pub tree-distinct : (t : Tree) → IsRowOf plan root_of.sources (root t) → leaves_distinct t ≡ true
+  tree-distinct t row =
+      distinct-test (leaves (root t))
+      (subst Distinct (sym (leaves-places plan root_of.sources (root t) row))
+      (distinct-mapped (queue_number plan) (places plan root_of.sources (root t)) (one-number plan) (tree-places t row)))
 
-pub tree-fits : (plan : List Planned) (parent : ℕ → ℕ) (top : ℕ) → HasParents plan parent top → (s : ℕ) → device_sources plan ≡ s ∷ [] → (t : Tree) → IsTreeOf plan t
-    → 1 + elements (root t) ≤ length plan
-tree-fits plan parent top h s one t is =
-    let few = distinct-below (length plan) (top ∷ all) (λ m. stands-below plan parent top h top (places-stand plan (s ∷ []) (root t) top row m) refl, tree-places plan parent top h s one t row) within in
-    let count = places-count plan (s ∷ []) (root t) row in
-    omega arith
-  where
-    row : IsRowOf plan (s ∷ []) (root t)
-    row = subst (λ sources. IsRowOf plan sources (root t)) one is
+  within-plan : (t : Tree) → IsRowOf plan root_of.sources (root t) → (x : ℕ) → In x (top ∷ places plan root_of.sources (root t)) → x < length plan
+  within-plan t row x (inl e) = subst (λ y. y < length plan) e (slice_get_within plan top root_of top_at)
+  within-plan t row x (inr m) = stands-within plan x (slice_get plan x) refl (places-stand plan root_of.sources (root t) x row m)
 
-    all : List ℕ
-    all = places plan (s ∷ []) (root t)
-
-    device-within : (o : Option Planned) → slice_get plan top ≡ o → MatchOption o ⊥ (λ e. is_device e.class ≡ true) → top < length plan
-    device-within None at d = absurd d
-    device-within (Some e) at d = slice_get_within plan top e at
-
-    within : (x : ℕ) → In x (top ∷ all) → x < length plan
-    within x (inl e) = subst (λ y. y < length plan) e (device-within (slice_get plan top) refl h.device)
-    within x (inr m) = stands-within plan x (slice_get plan x) refl (places-stand plan (s ∷ []) (root t) x row m)
+  pub tree-fits : (t : Tree) → IsRowOf plan root_of.sources (root t) → 1 + elements (root t) ≤ length plan
+  tree-fits t row =
+      let few = distinct-below (length plan) (top ∷ places plan root_of.sources (root t))
+      (λ m. stands-below top (places-stand plan root_of.sources (root t) top row m) refl, tree-places t row) (within-plan t row) in
+      let count = places-count plan root_of.sources (root t) row in
+      omega arith

@@ -50,8 +50,15 @@ pub mod CanonicalElements
 pub mod CanonicalWires
 pub mod CanonicalStatements
 pub mod SameWiring
+pub mod DevicePaths
+pub mod FedPlans
+pub mod QueueLemmas
+pub mod LeafLemmas
+pub mod SharedOut
 pub mod PlanLemmas
 pub mod PartSteps
+pub mod PathSteps
+pub mod QueueSteps
 pub mod PartLemmas
 pub mod RewiredNames
 pub mod RewiredLinks

@@ -31,20 +31,20 @@ plan-limits count links i (x ∷ elements) = by_case (class_of x) (class-limits 
     by_case None limits here later = here
     by_case (Some class) limits here later = (limits class refl, later)
 
-queues-within : (senders : List SenderSpec) (q : ℕ) (plan : List Planned) → AllByRecursion (λ (e : Planned). HasLimits e.class) plan → AllByRecursion HasCapacity (queues_from senders q plan)
-queues-within senders q [] limits = tt
-queues-within senders q (e ∷ more) limits = by_class e.class limits.0 (λ n. queues-within senders n more limits.1)
+queues-within : (plan : List Planned) (i : ℕ) (rest : List Planned) → AllByRecursion (λ (e : Planned). HasLimits e.class) rest → AllByRecursion HasCapacity (queues_from plan i rest)
+queues-within plan i [] limits = tt
+queues-within plan i (e ∷ more) limits = by_class e.class limits.0 (queues-within plan (i + 1) more limits.1)
   where
-    by_class : (class : Class) → HasLimits class → ((n : ℕ) → AllByRecursion HasCapacity (queues_from senders n more))
-        → AllByRecursion HasCapacity (cons_option (queue_of senders q class) (queues_from senders (if is_queue class then q + 1 else q) more))
-    by_class (queue kind capacity) has later = (has, later (q + 1))
-    by_class class has later = later q
+    by_class : (class : Class) → HasLimits class → AllByRecursion HasCapacity (queues_from plan (i + 1) more)
+        → AllByRecursion HasCapacity (cons_option (queue_of plan i class) (queues_from plan (i + 1) more))
+    by_class (queue kind capacity) has later = (has, later)
+    by_class class has later = later
 
 pub queues-capacities : (text : List ℕ) (plan : List Planned) → Denotes text plan → AllByRecursion HasCapacity (queues_of plan)
 queues-capacities text plan d =
     let elements = elements_of text d.faultless.statements in
     let links = links_of elements (wires_of text d.faultless.statements) in
-    queues-within (senders_of plan) 0 plan (subst (AllByRecursion (λ (e : Planned). HasLimits e.class)) (sym d.is) (plan-limits (length (all_known elements)) links 0 elements))
+    queues-within plan 0 plan (subst (AllByRecursion (λ (e : Planned). HasLimits e.class)) (sym d.is) (plan-limits (length (all_known elements)) links 0 elements))
 
 -- what is so of senders is so of them in order of their numbers
 all-placed : (P : SenderSpec → Type 0) (s : SenderSpec) (senders : List SenderSpec) → P s → AllByRecursion P senders → AllByRecursion P (placed s senders)
@@ -118,14 +118,14 @@ senders-rising text plan d =
     (ap are_distinct (numbers-from plan 0 plan) ∙ ap (λ p. are_distinct (sender_numbers p)) d.is
     ∙ senders-distinct (elements_of text d.faultless.statements) (wires_of text d.faultless.statements) d.faultless.sound)
 
-queues-count : (senders : List SenderSpec) (q : ℕ) (plan : List Planned) → length (queues_from senders q plan) ≡ queue_count plan
-queues-count senders q [] = refl
-queues-count senders q (e ∷ more) = by_class e.class (λ n. queues-count senders n more)
+queues-count : (plan : List Planned) (i : ℕ) (rest : List Planned) → length (queues_from plan i rest) ≡ queue_count rest
+queues-count plan i [] = refl
+queues-count plan i (e ∷ more) = by_class e.class (queues-count plan (i + 1) more)
   where
-    by_class : (class : Class) → ((n : ℕ) → length (queues_from senders n more) ≡ queue_count more)
-        → length (cons_option (queue_of senders q class) (queues_from senders (if is_queue class then q + 1 else q) more)) ≡ (if is_queue class then queue_count more + 1 else queue_count more)
-    by_class (queue kind capacity) later = ap suc (later (q + 1)) ∙ sym (add-one (queue_count more))
-    by_class class later = later q
+    by_class : (class : Class) → length (queues_from plan (i + 1) more) ≡ queue_count more
+        → length (cons_option (queue_of plan i class) (queues_from plan (i + 1) more)) ≡ (if is_queue class then queue_count more + 1 else queue_count more)
+    by_class (queue kind capacity) later = ap suc later ∙ sym (add-one (queue_count more))
+    by_class class later = later
 
 -- an element that is connected to a queue of a plan is connected to one of so many
 fed-more : (is feeds : Bool) (fed count : ℕ) → fed < count → (if is then (if feeds then 0 else fed + 1) else fed) < (if is then count + 1 else count)
@@ -158,7 +158,7 @@ from-wired plan i (e ∷ rest) each at =
 
 pub senders-wired : (text : List ℕ) (plan : List Planned) → Denotes text plan → AllByRecursion (SendsWithin (length (queues_of plan))) (senders_of plan)
 senders-wired text plan d =
-    subst (λ count. AllByRecursion (SendsWithin count) (senders_of plan)) (sym (queues-count (senders_of plan) 0 plan))
+    subst (λ count. AllByRecursion (SendsWithin count) (senders_of plan)) (sym (queues-count plan 0 plan))
     (all-by_number (SendsWithin (queue_count plan)) (senders_from plan 0 plan) (from-wired plan 0 plan sent (λ j e at. subst (λ k. slice_get plan k ≡ Some e) (zero-more j) at)))
   where
     zero-more : (j : ℕ) → j ≡ 0 + j

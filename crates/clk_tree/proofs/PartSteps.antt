@@ -12,10 +12,10 @@ use Rattle.clk_tree.specs.PlanParts.{queue_fed, placed}
 use Rattle.clk_tree.proofs.ListLemmas.{drop-item}
 
 -- what is left begins with the element that stands there
-left-cons : (elements : List Element) (k : ℕ) (x : Element) → k < length elements → x ≡ get_or elements k x → map planned (drop k elements) ≡ planned x ∷ map planned (drop (k + 1) elements)
+pub left-cons : (elements : List Element) (k : ℕ) (x : Element) → k < length elements → x ≡ get_or elements k x → map planned (drop k elements) ≡ planned x ∷ map planned (drop (k + 1) elements)
 left-cons elements k x within is = ap (map planned) (drop-item elements k x within is)
 
-any-stands : (place : ℕ) (ps : List ℕ) → list_any (λ p. p == place) ps ≡ stands_in place ps
+pub any-stands : (place : ℕ) (ps : List ℕ) → list_any (λ p. p == place) ps ≡ stands_in place ps
 any-stands place [] = refl
 any-stands place (p ∷ ps) = ap (λ b. (p == place) || b) (any-stands place ps)
 

@@ -32,7 +32,8 @@ use Rattle.clk_tree.proofs.SoundClasses.{HasLimits, class-limits}
 use Rattle.clk_tree.proofs.SoundChecks.{all-both}
 use Rattle.clk_tree.proofs.SoundPaths.{AreSound, fed}
 use Rattle.clk_tree.proofs.SoundPlans.{IsPlanOf, is-plan, sound-nodes, pull-sources, all-range}
-use Rattle.clk_tree.proofs.SoundQueues.{node-at, length-planned, queue-role}
+use Rattle.clk_tree.proofs.SoundNodes.{node-at}
+use Rattle.clk_tree.proofs.SoundQueues.{length-planned, queue-role}
 use Rattle.clk_tree.proofs.WordTokens.{IsSpelled, elements-spelled}
 
 -- the word of a device is its argument

@@ -19,11 +19,11 @@ use Rattle.clk_tree.proofs.DistinctNumbers.{in-all, stands-in}
 use Rattle.clk_tree.proofs.DistinctPlans.{Once}
 use Rattle.clk_tree.proofs.SameWiring.{Occurs}
 use Rattle.clk_tree.proofs.SoundChecks.{IsRight}
-use Rattle.clk_tree.proofs.SoundNodes.{queue-class}
+use Rattle.clk_tree.proofs.SoundNodes.{queue-class, node-at}
 use Rattle.clk_tree.proofs.SoundParents.{has-inputs, sources-lead, sources-distinct}
 use Rattle.clk_tree.proofs.SoundPaths.{AreSound, input-used}
 use Rattle.clk_tree.proofs.SoundPlans.{is-plan, sound-nodes}
-use Rattle.clk_tree.proofs.SoundQueues.{node-at, number-is, queue-role, queue-distinct, all-filter}
+use Rattle.clk_tree.proofs.SoundQueues.{number-is, queue-role, queue-distinct, all-filter}
 use Rattle.clk_tree.proofs.RewiredLinks.{source_link, input_links, class_links, plan_links, class-links, Each, each-element, plan-all, HasElement, HasEnds}
 
 -- what the ports of a connection are that is right

@@ -1,9 +1,9 @@
 -- The elements of a plan and those that the checks see stand at the same places.
-use Rattle.std.proofs.Common.{◌≡◌, ℕ, ◌+◌, zero, suc, true, false, ◌||◌, if◌then◌else◌, List, [], ◌∷◌, Option, Some, None, slice_get, option_map, refl, ap, ◌∙◌, arith}
+use Rattle.std.proofs.Common.{◌≡◌, ℕ, ◌+◌, ◌≤◌, zero, suc, Bool, true, false, ◌||◌, if◌then◌else◌, List, [], ◌∷◌, length, Option, Some, None, slice_get, option_map, refl, sym, ap, ◌∙◌, arith}
+use Rattle.std.proofs.lemmas.Option.{same_Some}
 use Rattle.std.specs.List.{cons_option}
 use Rattle.clk_tree.specs.declared.class.Role.{Role}
 use Rattle.clk_tree.specs.declared.class.Role.TheVariants as role
-use Rattle.clk_tree.specs.declared.node.Node.{Node}
 use Rattle.clk_tree.specs.declared.node.Link.{Link}
 use Rattle.clk_tree.specs.Classes.{Class, sender, queue, prio, round_robin, drr, stride, shaper, device, role_of}
 use Rattle.clk_tree.specs.Source.{Element}
@@ -12,7 +12,7 @@ use Rattle.clk_tree.specs.Ports.{role_at, is_queue, is_device, has_device}
 use Rattle.clk_tree.specs.Faults.{node, nodes_of}
 use Rattle.clk_tree.specs.Plan.{Planned, Known, all_known, planned_at, planned_from, sources_of}
 use Rattle.clk_tree.specs.PlanTree as tree
-use Rattle.clk_tree.specs.PlanTree.{device_sources}
+use Rattle.clk_tree.specs.PlanTree.{device_sources, device_count}
 use Rattle.clk_tree.proofs.SoundChecks.{at-more}
 use Rattle.clk_tree.proofs.SoundClasses.{HasLimits, class-limits}
 
@@ -65,49 +65,19 @@ planned-at count links (e ∷ elements) i j r at =
     by_case (Some class) limits (suc j) at here later =
         later-planned (planned_at count links i (known_as e class)) (planned_from count links (i + 1) (all_known elements)) count links i j r (later j at)
 
--- the first device of a plan, and what is connected to it
-pub record IsDevice (nodes : List Node) (plan : List Planned) (count : ℕ) (links : List Link) (i : ℕ) : Type 0 where
-  pub place : ℕ
-  pub at : role_at nodes place ≡ Some role.Device
-  pub sources : device_sources plan ≡ sources_of count links (i + place) role.Device
-
-next-device : (e : Element) (class : Class) (nodes : List Node) (plan : List Planned) (count : ℕ) (links : List Link) (i : ℕ) → tree.is_device class ≡ false
-    → IsDevice nodes plan count links (i + 1) → IsDevice (node e.name.place class ∷ nodes) (planned_at count links i (known_as e class) ∷ plan) count links i
-next-device e class nodes plan count links i other h = record {
-  place = suc h.place;
-  at = h.at;
-  sources = ap (λ b. if b then sources_of count links i (role_of class) else device_sources plan) other ∙ h.sources ∙ ap (λ n. sources_of count links n role.Device) (at-more i h.place);
-}
-
-first-device : (e : Element) (class : Class) (nodes : List Node) (plan : List Planned) (count : ℕ) (links : List Link) (i : ℕ)
-    → (is_device (Some (role_of class)) || has_device nodes) ≡ true → (has_device nodes ≡ true → IsDevice nodes plan count links (i + 1))
-    → IsDevice (node e.name.place class ∷ nodes) (planned_at count links i (known_as e class) ∷ plan) count links i
-first-device e (device word) nodes plan count links i has later = record {
-  place = 0;
-  at = refl;
-  sources = let place : i ≡ i + 0 = omega arith in ap (λ n. sources_of count links n role.Device) place;
-}
-first-device e (sender n) nodes plan count links i has later = next-device e (sender n) nodes plan count links i refl (later has)
-first-device e (queue kind capacity) nodes plan count links i has later = next-device e (queue kind capacity) nodes plan count links i refl (later has)
-first-device e prio nodes plan count links i has later = next-device e prio nodes plan count links i refl (later has)
-first-device e round_robin nodes plan count links i has later = next-device e round_robin nodes plan count links i refl (later has)
-first-device e (drr []) nodes plan count links i has later = next-device e (drr []) nodes plan count links i refl (later has)
-first-device e (drr (q ∷ [])) nodes plan count links i has later = next-device e (drr (q ∷ [])) nodes plan count links i refl (later has)
-first-device e (drr (q ∷ r ∷ more)) nodes plan count links i has later = next-device e (drr (q ∷ r ∷ more)) nodes plan count links i refl (later has)
-first-device e (stride tickets) nodes plan count links i has later = next-device e (stride tickets) nodes plan count links i refl (later has)
-first-device e (shaper rate burst) nodes plan count links i has later = next-device e (shaper rate burst) nodes plan count links i refl (later has)
-
-pub device-at : (count : ℕ) (links : List Link) (elements : List Element) (i : ℕ) → has_device (nodes_of elements) ≡ true
-    → IsDevice (nodes_of elements) (planned_from count links i (all_known elements)) count links i
-device-at count links [] i has = absurd (cc)
-device-at count links (e ∷ elements) i has = by_case (class_of e) has (device-at count links elements i) (device-at count links elements (i + 1))
+-- the role of each element of a plan
+pub node-at : (count : ℕ) (links : List Link) (elements : List Element) (i j : ℕ) (p : Planned) → slice_get (planned_from count links i (all_known elements)) j ≡ Some p
+    → role_at (nodes_of elements) j ≡ Some (role_of p.class)
+node-at count links [] i j p at = absurd (cc)
+node-at count links (e ∷ elements) i j p at = by_case (class_of e) j at (λ m. node-at count links elements i m p) (λ m. node-at count links elements (i + 1) m p)
   where
-    by_case : (o : Option Class) → has_device (cons_option (option_map (node e.name.place) o) (nodes_of elements)) ≡ true
-        → (has_device (nodes_of elements) ≡ true → IsDevice (nodes_of elements) (planned_from count links i (all_known elements)) count links i)
-        → (has_device (nodes_of elements) ≡ true → IsDevice (nodes_of elements) (planned_from count links (i + 1) (all_known elements)) count links (i + 1))
-        → IsDevice (cons_option (option_map (node e.name.place) o) (nodes_of elements)) (planned_from count links i (cons_option (option_map (known_as e) o) (all_known elements))) count links i
-    by_case None has here later = here has
-    by_case (Some class) has here later = first-device e class (nodes_of elements) (planned_from count links (i + 1) (all_known elements)) count links i has later
+    by_case : (o : Option Class) (j : ℕ) → slice_get (planned_from count links i (cons_option (option_map (known_as e) o) (all_known elements))) j ≡ Some p
+        → ((m : ℕ) → slice_get (planned_from count links i (all_known elements)) m ≡ Some p → role_at (nodes_of elements) m ≡ Some (role_of p.class))
+        → ((m : ℕ) → slice_get (planned_from count links (i + 1) (all_known elements)) m ≡ Some p → role_at (nodes_of elements) m ≡ Some (role_of p.class))
+        → role_at (cons_option (option_map (node e.name.place) o) (nodes_of elements)) j ≡ Some (role_of p.class)
+    by_case None j at here later = here j at
+    by_case (Some class) zero at here later = ap (λ (q : Planned). Some (role_of q.class)) (same_Some (planned_at count links i (known_as e class)) p at)
+    by_case (Some class) (suc j) at here later = later j at
 
 -- what a role says of a class
 pub queue-class : (class : Class) → tree.is_queue class ≡ is_queue (Some (role_of class))
@@ -121,6 +91,36 @@ queue-class (drr (q ∷ r ∷ more)) = refl
 queue-class (stride tickets) = refl
 queue-class (shaper rate burst) = refl
 queue-class (device word) = refl
+
+pub device-class : (class : Class) → tree.is_device class ≡ is_device (Some (role_of class))
+device-class (sender n) = refl
+device-class (queue kind capacity) = refl
+device-class prio = refl
+device-class round_robin = refl
+device-class (drr []) = refl
+device-class (drr (q ∷ [])) = refl
+device-class (drr (q ∷ r ∷ more)) = refl
+device-class (stride tickets) = refl
+device-class (shaper rate burst) = refl
+device-class (device word) = refl
+
+-- a device among the elements that the checks see is one of the plan
+pub some-device : (count : ℕ) (links : List Link) (elements : List Element) (i : ℕ) → has_device (nodes_of elements) ≡ true → 1 ≤ device_count (planned_from count links i (all_known elements))
+some-device count links [] i has = absurd (cc)
+some-device count links (e ∷ elements) i has = by_case (class_of e) has (some-device count links elements i) (some-device count links elements (i + 1))
+  where
+    by_class : (class : Class) (b : Bool) → tree.is_device class ≡ b → (is_device (Some (role_of class)) || has_device (nodes_of elements)) ≡ true
+        → (has_device (nodes_of elements) ≡ true → 1 ≤ device_count (planned_from count links (i + 1) (all_known elements)))
+        → (sources : List ℕ) → 1 ≤ length (if b then sources ∷ device_sources (planned_from count links (i + 1) (all_known elements)) else device_sources (planned_from count links (i + 1) (all_known elements)))
+    by_class class true is has later sources = omega arith
+    by_class class false is has later sources = later (ap (λ b. b || has_device (nodes_of elements)) (sym is ∙ device-class class) ∙ has)
+
+    by_case : (o : Option Class) → has_device (cons_option (option_map (node e.name.place) o) (nodes_of elements)) ≡ true
+        → (has_device (nodes_of elements) ≡ true → 1 ≤ device_count (planned_from count links i (all_known elements)))
+        → (has_device (nodes_of elements) ≡ true → 1 ≤ device_count (planned_from count links (i + 1) (all_known elements)))
+        → 1 ≤ device_count (planned_from count links i (cons_option (option_map (known_as e) o) (all_known elements)))
+    by_case None has here later = here has
+    by_case (Some class) has here later = by_class class (tree.is_device class) refl has later (sources_of count links i (role_of class))
 
 pub queue-planned : (plan : List Planned) (count : ℕ) (links : List Link) (i j : ℕ) → IsPlanned plan count links i j role.Queue → tree.is_queue_at (slice_get plan j) ≡ true
 queue-planned plan count links i j h = ap tree.is_queue_at h.at ∙ queue-class h.element.class ∙ ap (λ r. is_queue (Some r)) h.role

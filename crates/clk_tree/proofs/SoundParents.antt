@@ -1,27 +1,24 @@
 -- In the plan of a text without a fault each source of an element that is no queue leads to it, and stands at one input of it.
-use Rattle.std.proofs.Common.{◌≡◌, ℕ, ◌+◌, ◌<◌, ◌==◌, ◌&&◌, zero, suc, true, false, not, if◌then◌else◌, List, [], ◌∷◌, length, map, Some, None, MatchOption, slice_get, refl, sym, ap, subst, ◌∙◌, arith, eq-eqb, ne_eqb}
+use Rattle.std.proofs.Common.{◌≡◌, ℕ, ◌+◌, ◌<◌, ◌==◌, ◌&&◌, zero, suc, true, false, not, if◌then◌else◌, List, [], ◌∷◌, length, map, Some, None, slice_get, refl, sym, ap, subst, ◌∙◌, arith, eq-eqb, ne_eqb}
 use Rattle.std.specs.List.{AllByRecursion, range_with_len}
 use Rattle.std.proofs.lemmas.Bool.{or_parts, or_from}
 use Rattle.std.proofs.lemmas.Option.{same_Some}
 use Rattle.clk_sched.specs.Tree.{stands_in, are_distinct}
 use Rattle.clk_tree.specs.declared.class.Role.{Role}
-use Rattle.clk_tree.specs.declared.class.Role.TheVariants as role
 use Rattle.clk_tree.specs.declared.node.Node.{Node}
 use Rattle.clk_tree.specs.declared.node.Link.{Link}
 use Rattle.clk_tree.specs.Source.{Element, Wire}
-use Rattle.clk_tree.specs.Classes.{Class, sender, queue, prio, round_robin, drr, stride, shaper, device, role_of}
+use Rattle.clk_tree.specs.Classes.{role_of}
 use Rattle.clk_tree.specs.Declarations.{first_after}
-use Rattle.clk_tree.specs.Ports.{role_at, is_queue, is_device, uses_output, inputs_of, next}
+use Rattle.clk_tree.specs.Ports.{role_at, is_queue, uses_output, inputs_of, next}
 use Rattle.clk_tree.specs.Faults.{nodes_of, links_of, fault_of}
 use Rattle.clk_tree.specs.Plan.{Planned, source_at, all_known, plan_of}
 use Rattle.clk_tree.specs.PlanTree as tree
-use Rattle.clk_tree.specs.PlanTree.{device_sources}
 use Rattle.clk_tree.proofs.PortLemmas.{used_again}
 use Rattle.clk_tree.proofs.SoundChecks.{neither, all-both, unused-after}
-use Rattle.clk_tree.proofs.SoundNodes.{device-at, queue-class}
+use Rattle.clk_tree.proofs.SoundNodes.{node-at, queue-class}
 use Rattle.clk_tree.proofs.SoundPaths.{AreSound, fed, link-to, input-used}
 use Rattle.clk_tree.proofs.SoundPlans.{is-plan, sound-nodes, pull-sources, all-range, inputs_at}
-use Rattle.clk_tree.proofs.SoundQueues.{node-at}
 
 -- the input to which the output of an element leads
 abbrev input_from : List Link → ℕ → ℕ
@@ -99,40 +96,3 @@ sources-distinct elements wires none i e at other =
     ap are_distinct h.sources
     ∙ map-distinct (source_at links i) (input_from links) 0 (inputs_of i (role_of e.class) links)
     (λ p within. fed-input nodes links i p (role_of e.class) (sound-nodes elements wires none) h.role (omega arith))
-
-device-class : (class : Class) → is_device (Some (role_of class)) ≡ tree.is_device class
-device-class (sender n) = refl
-device-class (queue kind capacity) = refl
-device-class prio = refl
-device-class round_robin = refl
-device-class (drr []) = refl
-device-class (drr (q ∷ [])) = refl
-device-class (drr (q ∷ r ∷ more)) = refl
-device-class (stride tickets) = refl
-device-class (shaper rate burst) = refl
-device-class (device word) = refl
-
--- A device stands in the plan, and the one element that is connected to it leads to it.
-pub record HasDevice (plan : List Planned) (links : List Link) : Type 0 where
-  pub place : ℕ
-  pub is : MatchOption (slice_get plan place) ⊥ (λ e. tree.is_device e.class ≡ true)
-  pub root : (s : ℕ) → device_sources plan ≡ s ∷ [] → next links s ≡ place
-
-pub device-there : (elements : List Element) (wires : List Wire) → fault_of elements wires ≡ None → HasDevice (plan_of elements wires) (links_of elements wires)
-device-there elements wires none =
-    let nodes = nodes_of elements in
-    let links = links_of elements wires in
-    let sound = sound-nodes elements wires none in
-    let d = device-at (length (all_known elements)) links elements 0 sound.device in
-    let plan = is-plan elements wires in
-    let h = plan.at d.place role.Device d.at in
-    let from : device_sources (plan_of elements wires) ≡ source_at links d.place 0 ∷ [] = d.sources ∙ ap (λ i. source_at links i 0 ∷ []) (omega arith) in
-    record {
-      place = d.place;
-      is = subst (λ o. MatchOption o ⊥ (λ e. tree.is_device e.class ≡ true)) (sym h.at) (sym (device-class h.element.class) ∙ ap (λ r. is_device (Some r)) h.role);
-      root = λ s only. let same : source_at links d.place 0 ≡ s = one-of (sym from ∙ only) in
-          subst (λ t. next links t ≡ d.place) same (fed nodes links d.place 0 role.Device sound d.at refl (omega arith)).to;
-    }
-  where
-    one-of : {x y : ℕ} → x ∷ [] ≡ y ∷ [] → x ≡ y
-    one-of e = cc

@@ -1,8 +1,9 @@
--- The plan of a text without a fault can be made a tree: its device has one input, at which stands a queue or a scheduler over such
+-- The plan of a text without a fault can be made trees: each device has one input, at which stands a queue or a scheduler over such
 -- elements, within the limits of trees.
-use Rattle.std.proofs.Common.{◌≡◌, ℕ, ◌+◌, ◌<◌, ◌≤◌, inl, inr, zero, suc, true, false, List, [], ◌∷◌, length, map, Some, None, MatchOption, slice_get, refl, sym, ap, subst, ◌∙◌, arith}
+use Rattle.std.proofs.Common.{◌≡◌, ℕ, ◌+◌, ◌<◌, ◌≤◌, inl, inr, zero, suc, Bool, true, false, if◌then◌else◌, List, [], ◌∷◌, length, map, Option, Some, None, MatchOption, slice_get, refl, sym, ap, subst, ◌∙◌, arith}
 use Rattle.std.specs.List.{AllByRecursion, range_with_len}
 use Rattle.std.proofs.lemmas.List.FromFn.{length-map-range_with_len}
+use Rattle.std.proofs.lemmas.Option.{same_Some}
 use Rattle.clk_sched.specs.Limits.{most_levels, most_inputs}
 use Rattle.clk_tree.specs.declared.class.Role.{Role}
 use Rattle.clk_tree.specs.declared.class.Role.TheVariants as role
@@ -13,10 +14,11 @@ use Rattle.clk_tree.specs.Classes.{role_of}
 use Rattle.clk_tree.specs.Ports.{role_at, is_queue, is_device, is_scheduler, inputs_of, next}
 use Rattle.clk_tree.specs.Faults.{nodes_of, links_of, fault_of, naming_fault, nodes_fault}
 use Rattle.clk_tree.specs.Plan.{Planned, source_at, sources_of, all_known, plan_of}
-use Rattle.clk_tree.specs.PlanTree.{device_sources, is_queue_at, IsOver, IsScheduled}
+use Rattle.clk_tree.specs.PlanTree as tree
+use Rattle.clk_tree.specs.PlanTree.{device_sources, device_count, is_queue_at, IsOver, IsScheduled}
 use Rattle.clk_tree.proofs.SoundChecks.{neither}
 use Rattle.clk_tree.proofs.SoundClasses.{over-inputs}
-use Rattle.clk_tree.proofs.SoundNodes.{IsPlanned, planned-at, device-at, queue-planned}
+use Rattle.clk_tree.proofs.SoundNodes.{IsPlanned, planned-at, node-at, queue-planned, device-class, some-device}
 use Rattle.clk_tree.proofs.SoundPaths.{AreSound, are-sound, Feeds, fed, Way, way-short}
 
 -- a plan has each element at its place
@@ -102,14 +104,46 @@ pub sound-nodes : (elements : List Element) (wires : List Wire) → fault_of ele
 sound-nodes elements wires none =
     are-sound (nodes_of elements) (links_of elements wires) (neither (naming_fault elements wires) (nodes_fault (nodes_of elements) (links_of elements wires)) none).1
 
--- One element is connected to the device of a plan without a fault, and it is scheduled.
-pub plan-scheduled : (elements : List Element) (wires : List Wire) → fault_of elements wires ≡ None
-    → (s : ℕ) × (device_sources (plan_of elements wires) ≡ s ∷ []) × IsScheduled (plan_of elements wires) most_levels s
-plan-scheduled elements wires none =
+-- What is connected to a device: one element, which is scheduled.
+pub record IsRoot (plan : List Planned) (sources : List ℕ) : Type 0 where
+  pub top : ℕ
+  pub source : sources ≡ top ∷ []
+  pub is : IsScheduled plan most_levels top
+
+device-root : (elements : List Element) (wires : List Wire) → fault_of elements wires ≡ None → (i : ℕ) (e : Planned) → slice_get (plan_of elements wires) i ≡ Some e → tree.is_device e.class ≡ true
+    → IsRoot (plan_of elements wires) e.sources
+device-root elements wires none i e at is =
     let count = length (all_known elements) in
     let links = links_of elements wires in
     let sound = sound-nodes elements wires none in
-    let d = device-at count links elements 0 sound.device in
-    let done = all-done (plan_of elements wires) count (nodes_of elements) links most_levels sound (is-plan elements wires) (omega arith) most_levels 0 d.place role.Device (omega arith)
-    (ap is_device d.at) d.at refl in
-    (source_at links d.place 0, d.sources ∙ ap (λ i. source_at links i 0 ∷ []) (omega arith), done.0)
+    let plan = is-plan elements wires in
+    let there : role_at (nodes_of elements) i ≡ Some role.Device =
+    device-role (role_at (nodes_of elements) i) (ap is_device (node-at count links elements 0 i e at) ∙ sym (device-class e.class) ∙ is) in
+    let h = plan.at i role.Device there in
+    let same : h.element ≡ e = same_Some h.element e (sym h.at ∙ at) in
+    let done = all-done (plan_of elements wires) count (nodes_of elements) links most_levels sound plan (omega arith) most_levels 0 i role.Device (omega arith) (ap is_device there) there refl in
+    record { top = source_at links i 0; source = ap (λ (p : Planned). p.sources) (sym same) ∙ h.sources; is = done.0 }
+  where
+    device-role : (o : Option Role) → is_device o ≡ true → o ≡ Some role.Device
+    device-role None e = absurd (cc)
+    device-role (Some role.Source) e = absurd (cc)
+    device-role (Some role.Queue) e = absurd (cc)
+    device-role (Some role.Scheduler) e = absurd (cc)
+    device-role (Some (role.SchedulerOf n)) e = absurd (cc)
+    device-role (Some role.Device) e = refl
+
+all-devices : (P : List ℕ → Type 0) (plan : List Planned) → ((i : ℕ) (e : Planned) → slice_get plan i ≡ Some e → tree.is_device e.class ≡ true → P e.sources) → AllByRecursion P (device_sources plan)
+all-devices P [] each = tt
+all-devices P (x ∷ plan) each = by_test (tree.is_device x.class) (each 0 x refl) (all-devices P plan (λ i e at is. each (suc i) e at is))
+  where
+    by_test : (b : Bool) → (b ≡ true → P x.sources) → AllByRecursion P (device_sources plan) → AllByRecursion P (if b then x.sources ∷ device_sources plan else device_sources plan)
+    by_test true here later = (here refl, later)
+    by_test false here later = later
+
+-- One element is connected to each device of a plan without a fault, and it is scheduled.
+pub plan-scheduled : (elements : List Element) (wires : List Wire) → fault_of elements wires ≡ None → AllByRecursion (IsRoot (plan_of elements wires)) (device_sources (plan_of elements wires))
+plan-scheduled elements wires none = all-devices (IsRoot (plan_of elements wires)) (plan_of elements wires) (device-root elements wires none)
+
+-- There is a device.
+pub plan-device : (elements : List Element) (wires : List Wire) → fault_of elements wires ≡ None → 1 ≤ device_count (plan_of elements wires)
+plan-device elements wires none = some-device (length (all_known elements)) (links_of elements wires) elements 0 (sound-nodes elements wires none).device

@@ -1,6 +1,6 @@
 -- In the plan of a text without a fault what is connected to a queue are Senders, and each Sender is connected to one element, a queue.
-use Rattle.std.proofs.Common.{◌≡◌, ℕ, ◌+◌, ◌<◌, ◌≤◌, ◌==◌, ◌&&◌, ◌||◌, inl, inr, zero, suc, Bool, true, false, not, if◌then◌else◌, List, [], ◌∷◌, length, map, filter, Option, Some, None, option_map, slice_get, refl, sym, ap, subst, ◌∙◌, arith, eqb-true, eq-eqb, ne_eqb}
-use Rattle.std.specs.List.{AllByRecursion, cons_option, range_with_len}
+use Rattle.std.proofs.Common.{◌≡◌, ℕ, ◌+◌, ◌<◌, ◌≤◌, ◌==◌, ◌&&◌, ◌||◌, inl, inr, zero, suc, Bool, true, false, not, if◌then◌else◌, List, [], ◌∷◌, length, map, filter, Option, Some, None, slice_get, refl, sym, ap, subst, ◌∙◌, arith, eqb-true, eq-eqb, ne_eqb}
+use Rattle.std.specs.List.{AllByRecursion, range_with_len}
 use Rattle.std.proofs.lemmas.Bool.{false≢true, cases_eq, cases_Bool, or_cases, or_from}
 use Rattle.std.proofs.lemmas.Option.{slice_get_within, same_Some}
 use Rattle.clk_sched.specs.Tree.{is_number, stands_in, are_distinct}
@@ -10,29 +10,14 @@ use Rattle.clk_tree.specs.declared.node.Node.{Node}
 use Rattle.clk_tree.specs.declared.node.Link.{Link}
 use Rattle.clk_tree.specs.Classes.{Class, sender, queue, prio, round_robin, drr, stride, shaper, device, role_of}
 use Rattle.clk_tree.specs.Source.{Element, Wire}
-use Rattle.clk_tree.specs.Declarations.{class_of}
 use Rattle.clk_tree.specs.Ports.{role_at, is_source, is_queue, is_scheduler, uses_output, inputs_of, target}
-use Rattle.clk_tree.specs.Faults.{node, nodes_of, links_of, fault_of}
-use Rattle.clk_tree.specs.Plan.{Planned, Known, is_connected, source_at, sources_of, all_known, planned_at, planned_from, plan_of}
+use Rattle.clk_tree.specs.Faults.{nodes_of, links_of, fault_of}
+use Rattle.clk_tree.specs.Plan.{Planned, Known, is_connected, source_at, sources_of, all_known, planned_from, plan_of}
 use Rattle.clk_tree.specs.PlanTree as tree
 use Rattle.clk_tree.proofs.SoundChecks.{IsRight}
-use Rattle.clk_tree.proofs.SoundNodes.{IsPlanned, known_as, queue-class}
+use Rattle.clk_tree.proofs.SoundNodes.{IsPlanned, node-at, queue-class}
 use Rattle.clk_tree.proofs.SoundPaths.{AreSound, Feeds, fed}
 use Rattle.clk_tree.proofs.SoundPlans.{IsPlanOf, is-plan, sound-nodes, pull-sources}
-
--- the role of each element of a plan
-pub node-at : (count : ℕ) (links : List Link) (elements : List Element) (i j : ℕ) (p : Planned) → slice_get (planned_from count links i (all_known elements)) j ≡ Some p
-    → role_at (nodes_of elements) j ≡ Some (role_of p.class)
-node-at count links [] i j p at = absurd (cc)
-node-at count links (e ∷ elements) i j p at = by_case (class_of e) j at (λ m. node-at count links elements i m p) (λ m. node-at count links elements (i + 1) m p)
-  where
-    by_case : (o : Option Class) (j : ℕ) → slice_get (planned_from count links i (cons_option (option_map (known_as e) o) (all_known elements))) j ≡ Some p
-        → ((m : ℕ) → slice_get (planned_from count links i (all_known elements)) m ≡ Some p → role_at (nodes_of elements) m ≡ Some (role_of p.class))
-        → ((m : ℕ) → slice_get (planned_from count links (i + 1) (all_known elements)) m ≡ Some p → role_at (nodes_of elements) m ≡ Some (role_of p.class))
-        → role_at (cons_option (option_map (node e.name.place) o) (nodes_of elements)) j ≡ Some (role_of p.class)
-    by_case None j at here later = here j at
-    by_case (Some class) zero at here later = ap (λ (q : Planned). Some (role_of q.class)) (same_Some (planned_at count links i (known_as e class)) p at)
-    by_case (Some class) (suc j) at here later = later j at
 
 pub length-planned : (count : ℕ) (links : List Link) (i : ℕ) (ks : List Known) → length (planned_from count links i ks) ≡ length ks
 length-planned count links i [] = refl
@@ -45,7 +30,7 @@ pub record IsLinkFrom (P : Link → Type 0) (links : List Link) (s : ℕ) : Type
   pub from : link.from ≡ s
   pub target : target s links ≡ Some link.to
 
-link-from : (P : Link → Type 0) (links : List Link) (s : ℕ) → AllByRecursion P links → uses_output s links ≡ true → IsLinkFrom P links s
+pub link-from : (P : Link → Type 0) (links : List Link) (s : ℕ) → AllByRecursion P links → uses_output s links ≡ true → IsLinkFrom P links s
 link-from P [] s all uses = absurd (cc)
 link-from P (c ∷ links) s all uses = by_test (c.from == s) refl uses (link-from P links s all.1)
   where

@@ -16,7 +16,9 @@ pub mod Reading
 pub mod Plan
 pub mod Kept
 pub mod PlanTree
+pub mod PlanPaths
 pub mod PlanParts
+pub mod Shares
 pub mod Canonical
 pub mod Checks
 pub mod Used

@@ -1,5 +1,5 @@
 -- The senders and the queues of a plan (their numbers as this project chose them).
-use Rattle.std.specs.Prelude.{◌≡◌, ℕ, ◌+◌, ◌<◌, ◌≤◌, List, [], ◌∷◌, map, filter, nat_lt, ◌==◌, if◌then◌else◌, Option, Some, None, ⊤}
+use Rattle.std.specs.Prelude.{◌≡◌, ℕ, ◌+◌, ◌<◌, ◌≤◌, List, [], ◌∷◌, map, take, filter, nat_lt, ◌==◌, Bool, false, if◌then◌else◌, Option, Some, None, ⊤}
 use Rattle.std.specs.List.{cons_option, AllByRecursion}
 use Rattle.clk_packet.specs.Limits.{most_capacity}
 use Rattle.clk_packet.specs.declared.packet.Kind.{Kind}
@@ -8,7 +8,8 @@ use Rattle.clk_tree.specs.declared.plan.parts.QueueSpec.{QueueSpec}
 use Rattle.clk_tree.specs.declared.plan.parts.SenderSpec.{SenderSpec}
 use Rattle.clk_tree.specs.Classes.{Class, sender, queue}
 use Rattle.clk_tree.specs.Plan.{Planned, Denotes}
-use Rattle.clk_tree.specs.PlanTree.{is_queue, device_sources}
+use Rattle.clk_tree.specs.PlanTree.{is_queue, queue_count, device_sources}
+use Rattle.clk_tree.specs.PlanPaths.{device_of}
 
 -- The number of the queue to which an element is connected: queues are numbered from 0 in order of declaration.
 abbrev pub queue_fed : List Planned → ℕ → ℕ
@@ -42,32 +43,44 @@ senders_of plan = by_number (senders_from plan 0 plan)
 abbrev pub number_of : SenderSpec → ℕ
 number_of s = s.number
 
--- a queue of a plan: its kind, how many packets it holds at most, and the numbers of the senders that send to it
+-- a queue of a plan: its kind, how many packets it holds at most, the numbers of the senders that send to it, and the number of the device
+-- at the end of its path
 pub record Queued : Type 0 where
   pub kind : Kind
   pub capacity : ℕ
   pub senders : List ℕ
+  pub device : ℕ
 
 abbrev pub queued : QueueSpec → Queued
-queued q = record { kind = q.kind; capacity = q.capacity; senders = q.senders.items }
+queued q = record { kind = q.kind; capacity = q.capacity; senders = q.senders.items; device = q.device }
 
 -- the senders among these that send to the queue of this number
 abbrev pub senders_to : List SenderSpec → ℕ → List ℕ
 senders_to senders q = map number_of (filter (λ (s : SenderSpec). s.queue == q) senders)
 
-abbrev pub queue_of : List SenderSpec → ℕ → Class → Option Queued
-queue_of senders q (queue kind capacity) = Some (record { kind = kind; capacity = capacity; senders = senders_to senders q })
-queue_of senders q class = None
+-- the queue that stands at a place
+abbrev pub queue_of : List Planned → ℕ → Class → Option Queued
+queue_of plan i (queue kind capacity) = Some (record {
+  kind = kind;
+  capacity = capacity;
+  senders = senders_to (senders_of plan) (queue_count (take i plan));
+  device = device_of plan i;
+})
+queue_of plan i class = None
 
--- the queues among some elements, the first of which has this number
-abbrev pub queues_from : List SenderSpec → ℕ → List Planned → List Queued
-queues_from senders q [] = []
-queues_from senders q (e ∷ more) =
-    cons_option (queue_of senders q e.class) (queues_from senders (if is_queue e.class then q + 1 else q) more)
+-- the queues of a plan among the elements from a place on, in order of declaration
+abbrev pub queues_from : List Planned → ℕ → List Planned → List Queued
+queues_from plan i [] = []
+queues_from plan i (e ∷ more) = cons_option (queue_of plan i e.class) (queues_from plan (i + 1) more)
 
 -- the queues of a plan, by their numbers
 abbrev pub queues_of : List Planned → List Queued
-queues_of plan = queues_from (senders_of plan) 0 plan
+queues_of plan = queues_from plan 0 plan
+
+-- there is a queue, and the path from it ends at this device
+abbrev pub leads_to : ℕ → Option Queued → Bool
+leads_to d None = false
+leads_to d (Some q) = q.device == d
 
 -- the numbers rise
 abbrev pub AreRising : List ℕ → Type 0
@@ -82,9 +95,9 @@ HasCapacity q = (1 ≤ q.capacity) × (q.capacity ≤ most_capacity)
 abbrev pub SendsWithin : ℕ → SenderSpec → Type 0
 SendsWithin count s = s.queue < count
 
--- What a plan keeps: some text denotes it, this element is connected to its device, and these are its queues and senders.
-pub record IsKept (plan : List Planned) (top : ℕ) (queues : List Queued) (senders : List SenderSpec) : Type 0 where
+-- What a plan keeps: some text denotes it, one of these elements is connected to each of its devices, and these are its queues and senders.
+pub record IsKept (plan : List Planned) (tops : List ℕ) (queues : List Queued) (senders : List SenderSpec) : Type 0 where
   pub denoted : (text : List ℕ) × Denotes text plan
-  pub source : device_sources plan ≡ top ∷ []
+  pub sources : device_sources plan ≡ map (λ top. top ∷ []) tops
   pub queues_are : queues ≡ queues_of plan
   pub senders_are : senders ≡ senders_of plan

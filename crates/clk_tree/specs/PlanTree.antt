@@ -1,5 +1,5 @@
--- The tree, the queues and the senders of a plan (node and leaf numbers as this project chose them).
-use Rattle.std.specs.Prelude.{◌≡◌, ◌≤◌, ◌⊎◌, ℕ, ◌+◌, List, [], ◌∷◌, length, take, replicate, Bool, true, false, if◌then◌else◌, Option, Some, None, MatchOption, ⊤, Result, zero, suc, slice_get}
+-- The trees of a plan, one for each device (node and leaf numbers as this project chose them).
+use Rattle.std.specs.Prelude.{◌≡◌, ◌≤◌, ◌⊎◌, ℕ, ◌+◌, List, [], ◌∷◌, length, take, replicate, Bool, true, false, if◌then◌else◌, Option, Some, None, MatchOption, ⊤, Result, zero, suc, slice_get, get_or}
 use Rattle.std.specs.List.{AllByRecursion}
 use Rattle.clk_packet.specs.declared.fault.Fault.{Fault}
 use Rattle.clk_sched.specs.Tree as tree
@@ -61,18 +61,22 @@ IsRowOf plan (s ∷ more) (node class inputs row) =
     IsNode class (slice_get plan s) × IsRowOf plan (sources_at (slice_get plan s)) inputs × IsRowOf plan more row
 IsRowOf plan sources row = ⊥
 
--- what is connected to the device
-abbrev pub device_sources : List Planned → List ℕ
+-- what is connected to each device: devices are numbered from 0 in order of declaration
+abbrev pub device_sources : List Planned → List (List ℕ)
 device_sources [] = []
-device_sources (e ∷ more) = if is_device e.class then e.sources else device_sources more
+device_sources (e ∷ more) = if is_device e.class then e.sources ∷ device_sources more else device_sources more
 
--- one element is connected to the device
-abbrev pub HasRoot : List Planned → Type 0
-HasRoot plan = (s : ℕ) × (device_sources plan ≡ s ∷ [])
+-- how many devices there are
+abbrev pub device_count : List Planned → ℕ
+device_count plan = length (device_sources plan)
 
--- the tree of a plan stands at the input of its device
-abbrev pub IsTreeOf : List Planned → Tree → Type 0
-IsTreeOf plan t = IsRowOf plan (device_sources plan) (root t)
+-- what is connected to the device of this number
+abbrev pub sources_of_device : List Planned → ℕ → List ℕ
+sources_of_device plan d = get_or (device_sources plan) d []
+
+-- the tree of a device of a plan stands at its input
+abbrev pub IsTreeOf : List Planned → ℕ → Tree → Type 0
+IsTreeOf plan d t = IsRowOf plan (sources_of_device plan d) (root t)
 
 -- Whether a class can be a scheduler over so many inputs: there is one at least, they are within the limit, and its arguments fit them.
 abbrev pub FitsInputs : ℕ → Option tree.Class → Type 0

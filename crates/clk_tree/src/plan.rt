@@ -1,17 +1,19 @@
 //! The plan that a text denotes.
 
 mod build;
+mod devices;
 mod element;
 mod parts;
 mod text;
 mod tree;
 mod wiring;
 
-ghost use Rattle.std.specs.Prelude.{◌≡◌, ◌⊎◌, ◌∷◌, [], map, IfOk, IfErr};
+ghost use Rattle.std.specs.Prelude.{◌≡◌, ◌⊎◌, ◌∷◌, [], map, length, IfOk, IfErr, IsOkUnless};
+ghost use Rattle.std.specs.List.{AllByRecursion};
 ghost use Rattle.clk_packet.specs.declared.fault.Fault.TheVariants.{Memory};
 ghost use Rattle.clk_tree.specs.Reading.{HasFault};
 ghost use Rattle.clk_tree.specs.Plan.{Denotes};
-ghost use Rattle.clk_tree.specs.PlanTree.{HasRoot, device_sources};
+ghost use Rattle.clk_tree.specs.PlanTree.{device_sources};
 ghost use Rattle.clk_tree.specs.Kept.{planned};
 
 use crate::checks::check_graph;
@@ -33,8 +35,8 @@ use std::marker::Model;
 #[derive(Drop)]
 pub struct Plan {
     elements: Vec<Element>,
-    /// The element that is connected to the device, by its place among all.
-    top: u16,
+    /// The element that is connected to each device, by its place among all.
+    tops: Vec<u16>,
     queues: Vec<QueueSpec>,
     senders: Vec<SenderSpec>,
 }
@@ -49,21 +51,22 @@ impl Model for Plan {
 
     ghost view = { λ plan. map planned plan.elements.items };
 
-    ghost invariant = { λ plan. IsKept (map planned plan.elements.items) plan.top (map queued plan.queues.items) plan.senders.items };
+    ghost invariant = { λ plan. IsKept (map planned plan.elements.items) plan.tops.items (map queued plan.queues.items) plan.senders.items };
 }
 
 impl Plan {
-    ghost use Rattle.std.specs.Prelude.{◌≡◌, ◌≤◌, ◌+◌, ◌⊎◌, true, map, length, IfOk, IfErr, IsOkUnless};
+    ghost use Rattle.std.specs.Prelude.{◌≡◌, ◌≤◌, ◌<◌, ◌+◌, ◌⊎◌, ℕ, List, true, map, length, slice_get, IfOk, IfErr, IsOkUnless};
     ghost use Rattle.std.specs.List.{AllByRecursion};
     ghost use Rattle.clk_packet.specs.declared.fault.Fault.TheVariants.{Memory};
-    ghost use Rattle.clk_sched.specs.Tree.{root, leaves_distinct};
+    ghost use Rattle.clk_sched.specs.Tree.{Tree, root, leaves, stands_in, leaves_distinct};
     ghost use Rattle.clk_sched.specs.Session.{elements};
     ghost use Rattle.clk_sched.specs.Limits.{most_elements};
     ghost use Rattle.clk_tree.specs.Limits.{most_bytes};
     ghost use Rattle.clk_tree.specs.Reading.{HasFault};
     ghost use Rattle.clk_tree.specs.Plan.{Denotes};
-    ghost use Rattle.clk_tree.specs.PlanTree.{IsTreeOf};
-    ghost use Rattle.clk_tree.specs.PlanParts.{queued, number_of, senders_of, queues_of, AreRising, HasCapacity, SendsWithin};
+    ghost use Rattle.clk_tree.specs.PlanTree.{device_count, IsTreeOf};
+    ghost use Rattle.clk_tree.specs.PlanParts.{queued, leads_to, number_of, senders_of, queues_of, AreRising, HasCapacity, SendsWithin};
+    ghost use Rattle.clk_tree.specs.Shares.{AreTreesOf, AreSharedOut};
     ghost use Rattle.clk_tree.specs.Canonical.{canonical_text};
 
     /// Reads a tree text: the plan that it denotes, where it keeps to the grammar of Click's language, and declares and connects a tree of
@@ -78,12 +81,12 @@ impl Plan {
         ensures fault { IfErr result (λ fault. (fault ≡ Memory) ⊎ HasFault text.now fault) }
     {
         let elements = read_elements(alloc, text)?;
-        let top = top_of(&elements);
+        let tops = tops_of(alloc, &elements)?;
         let senders = senders_of(alloc, &elements)?;
         let queues = queues_of(alloc, &elements, &senders)?;
         Ok(Plan {
             elements,
-            top,
+            tops,
             queues,
             senders,
         })
@@ -104,27 +107,47 @@ impl Plan {
         canonical_text(alloc, &self.elements)
     }
 
-    /// The tree of the plan. A leaf is a queue by its number: queues are numbered from 0 in order of declaration.
+    /// How many devices there are. Each is the root of a tree of its own; they are numbered from 0 in order of declaration.
+    pub fn devices(&self) -> u16
+        ensures count { result ≡ device_count self.now }
+        ensures some { 1 ≤ result }
+        ensures within { result ≤ most_elements }
+    {
+        self.tops.len() as u16
+    }
+
+    /// The tree of a device of the plan, by its number. A leaf is a queue by its number: queues are numbered from 0 in order of declaration.
     ///
     /// # Errors
     ///
     /// Fault 1 where memory is refused.
-    pub fn tree(&self, alloc: Global) -> Result<Tree, Fault>
-        ensures tree { IfOk result (IsTreeOf self.now) }
+    pub fn tree(&self, alloc: Global, device: u16) -> Result<Tree, Fault>
+        requires device { device < device_count self.now }
+        ensures tree { IfOk result (IsTreeOf self.now device) }
         ensures distinct { IfOk result (λ tree. leaves_distinct tree ≡ true) }
         // A session takes it.
         ensures fits { IfOk result (λ tree. 1 + elements (root tree) ≤ most_elements) }
+        // Its leaves are the queues whose paths end at this device.
+        ensures leaves { IfOk result (λ tree. (q : ℕ) → stands_in q (leaves (root tree)) ≡ leads_to device (slice_get (queues_of self.now) q)) }
         ensures fault { IsOkUnless result Memory }
     {
-        tree_at(alloc, &self.elements, self.top, 64)
+        tree_at(alloc, &self.elements, self.tops[device as usize], 64)
     }
 
     /// The queues of the plan, by their numbers.
     pub fn queues(&self) -> &[QueueSpec]
         ensures queues { map queued result.now ≡ queues_of self.now }
         ensures capacities { AllByRecursion HasCapacity (queues_of self.now) }
+        ensures devices { AllByRecursion (λ q. q.device < device_count self.now) (queues_of self.now) }
     {
         &self.queues
+    }
+
+    /// A law: the leaves of the trees together are the numbers of the queues, each once, and each queue is a leaf of the tree of its device.
+    pub fn trees_share_queues(&self)
+        ensures { (trees : List Tree) → AreTreesOf self.now trees → AreSharedOut (queues_of self.now) trees }
+    {
+        let _elements = &self.elements;
     }
 
     /// The senders of the plan, by rising number.
@@ -157,15 +180,17 @@ fn read_elements(alloc: Global, text: &[u8]) -> Result<Vec<Element>, Fault>
     )
 }
 
-/// The element that is connected to the first device, by its place among all.
-fn top_of(elements: &[Element]) -> u16
-    requires top { HasRoot (map planned elements.now) }
-    ensures { device_sources (map planned elements.now) ≡ result ∷ [] }
+/// The element that is connected to each device, by its place among all. Fault 1 where memory is refused.
+fn tops_of(alloc: Global, elements: &[Element]) -> Result<Vec<u16>, Fault>
+    requires one { AllByRecursion (λ sources. length sources ≡ 1) (device_sources (map planned elements.now)) }
+    ensures made { IfOk result (λ tops. device_sources (map planned elements.now) ≡ map (λ top. top ∷ []) tops.items) }
+    ensures fault { IsOkUnless result Memory }
 {
+    let mut tops = Vec::new(alloc);
     for element in elements {
         if let Class::ToDevice(_) = element.class {
-            return element.sources[0];
+            tops.push(element.sources[0])?;
         }
     }
-    unreachable!()
+    Ok(tops)
 }

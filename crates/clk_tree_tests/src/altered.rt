@@ -14,7 +14,7 @@ const COMMENTED: &str =
 /// The bytes that are put in the place of each byte.
 const OTHERS: [u8; 10] = [b'x', b'1', b';', b',', b'/', b'*', b'[', b'\n', 200, 0];
 
-// The canonical text of a plan denotes the same plan, which has a tree that a session takes.
+// The canonical text of a plan denotes the same plan, which has trees that a session takes.
 fn assert_plan(rt: &impl Abort, alloc: Global, plan: &Plan) {
     let written = plan.write(alloc).expect(rt, "memory");
     let again = Plan::read(alloc, &written).expect(rt, "a plan");
@@ -23,8 +23,10 @@ fn assert_plan(rt: &impl Abort, alloc: Global, plan: &Plan) {
     let parts = told_parts(alloc, plan).expect(rt, "memory");
     let parts_again = told_parts(alloc, &again).expect(rt, "memory");
     assert_eq!(rt; parts_again.as_str(), parts.as_str());
-    let tree = plan.tree(alloc).expect(rt, "memory");
-    let _session = Session::new(alloc, tree).expect(rt, "a session");
+    for device in 0..plan.devices() {
+        let tree = plan.tree(alloc, device).expect(rt, "memory");
+        let _session = Session::new(alloc, tree).expect(rt, "a session");
+    }
 }
 
 // A text is that of a plan, or has a fault of a text.

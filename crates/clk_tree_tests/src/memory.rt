@@ -81,11 +81,13 @@ fn write(rt: &impl Abort, alloc: Global, plan: &Plan, refused: &mut Refused) {
 }
 
 fn tree(rt: &impl Abort, alloc: Global, plan: &Plan, refused: &mut Refused) {
-    let tree = match plan.tree(alloc) {
+    // Counting the devices takes no memory.
+    assert_eq!(rt; plan.devices(), 1);
+    let tree = match plan.tree(alloc, 0) {
         Ok(tree) => tree,
         Err(fault) => {
             refused.note(rt, Call::Tree, fault);
-            plan.tree(alloc).expect(rt, "memory")
+            plan.tree(alloc, 0).expect(rt, "memory")
         }
     };
     match Session::new(alloc, tree) {

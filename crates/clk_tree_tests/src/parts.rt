@@ -11,10 +11,10 @@ const TEXTS: [(&str, &str); 3] = [
         "t :: Sender(9); a :: FrontDropQueue(5); s :: Sender(2); b, c :: Queue; d :: ToDevice(x); p :: PrioSched;
 u :: Sender(65535); v :: Sender(0); w :: Sender(10);
 c -> p -> d; b -> [1] p; a -> [2] p; u -> a; t -> c; s -> c; v -> a; w -> c;",
-        "TailDrop or FrontDrop, capacity: senders
-FrontDrop 5: 0 65535
-TailDrop 1000:
-TailDrop 1000: 2 9 10
+        "TailDrop or FrontDrop, capacity, device: senders
+FrontDrop 5 0: 0 65535
+TailDrop 1000 0:
+TailDrop 1000 0: 2 9 10
 sender: queue
 0: 0
 2: 2
@@ -25,16 +25,16 @@ sender: queue
     ),
     (
         "s :: Sender(7); q :: Queue(1000000); d :: ToDevice(x); s -> q -> d;",
-        "TailDrop or FrontDrop, capacity: senders
-TailDrop 1000000: 7
+        "TailDrop or FrontDrop, capacity, device: senders
+TailDrop 1000000 0: 7
 sender: queue
 7: 0
 ",
     ),
     (
         "d :: ToDevice(x); q -> d; q :: FrontDropQueue",
-        "TailDrop or FrontDrop, capacity: senders
-FrontDrop 1000:
+        "TailDrop or FrontDrop, capacity, device: senders
+FrontDrop 1000 0:
 sender: queue
 ",
     ),
@@ -50,9 +50,15 @@ fn kind_name(kind: Kind) -> &'static str {
 
 /// The queues of a plan by their numbers, and its senders with the numbers of their queues, each in a line.
 pub fn told_parts(alloc: Global, plan: &Plan) -> Result<String, AllocError> {
-    let mut told = format!(in alloc; "TailDrop or FrontDrop, capacity: senders\n")?;
+    let mut told = format!(in alloc; "TailDrop or FrontDrop, capacity, device: senders\n")?;
     for queue in plan.queues() {
-        write!(told, "{} {}:", kind_name(queue.kind), queue.capacity)?;
+        write!(
+            told,
+            "{} {} {}:",
+            kind_name(queue.kind),
+            queue.capacity,
+            queue.device
+        )?;
         for sender in &queue.senders {
             write!(told, " {sender}")?;
         }

@@ -28,10 +28,11 @@ impl Ask for Asked {
     }
 }
 
-// A session over the tree of a text.
+// A session over the tree of a text with one device.
 fn session(rt: &impl Abort, alloc: Global, text: &str) -> Session {
     let plan = Plan::read(alloc, text.as_bytes()).expect(rt, "a plan");
-    let tree = plan.tree(alloc).expect(rt, "memory");
+    assert_eq!(rt; plan.devices(), 1);
+    let tree = plan.tree(alloc, 0).expect(rt, "memory");
     Session::new(alloc, tree).expect(rt, "a session")
 }
 

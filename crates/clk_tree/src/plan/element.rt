@@ -6,7 +6,7 @@ ghost use Rattle.clk_sched.specs.Tree as tree;
 ghost use Rattle.clk_sched.specs.Tree.{HasArguments};
 ghost use Rattle.clk_sched.specs.Built.{built};
 ghost use Rattle.clk_tree.specs.Classes.{class_view};
-ghost use Rattle.clk_tree.specs.PlanTree.{is_queue, drr_over, IsOver, IsBuilt};
+ghost use Rattle.clk_tree.specs.PlanTree.{is_queue, is_device, drr_over, IsOver, IsBuilt};
 
 use crate::class::Class;
 use clk_packet::Fault;
@@ -30,6 +30,16 @@ impl Element {
     {
         match self.class {
             Class::Queue(_, _) => true,
+            _ => false,
+        }
+    }
+
+    /// Whether it is a device.
+    pub fn is_device(&self) -> bool
+        ensures { result ≡ is_device (class_view self.now.class) }
+    {
+        match self.class {
+            Class::ToDevice(_) => true,
             _ => false,
         }
     }

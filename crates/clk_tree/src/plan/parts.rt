@@ -4,10 +4,11 @@ ghost use Rattle.std.specs.Prelude.{◌≡◌, ◌≤◌, map, length, nat_le, I
 ghost use Rattle.std.specs.List.{prefix_len};
 ghost use Rattle.clk_packet.specs.declared.fault.Fault.TheVariants.{Memory};
 ghost use Rattle.clk_sched.specs.Limits.{most_elements};
-ghost use Rattle.clk_tree.specs.PlanParts.{queued, queue_fed, placed, senders_to, senders_of, queues_from};
+ghost use Rattle.clk_tree.specs.PlanParts.{queued, queue_fed, placed, senders_to, senders_of, queues_of};
 ghost use Rattle.clk_tree.specs.Kept.{planned};
 
 use crate::class::Class;
+use crate::plan::devices::device_of;
 use crate::plan::element::Element;
 use clk_packet::{Fault, Kind};
 use std::alloc::Global;
@@ -21,6 +22,8 @@ pub struct QueueSpec {
     pub capacity: u32,
     /// The numbers of the senders that send to it, rising.
     pub senders: Vec<u16>,
+    /// The number of the device at the end of its path: devices are numbered from 0 in order of declaration.
+    pub device: u16,
 }
 
 /// A sender of a plan.
@@ -101,24 +104,26 @@ fn senders_to(alloc: Global, senders: &[SenderSpec], queue: u16) -> Result<Vec<u
     Ok(numbers)
 }
 
-/// The queues among elements, to which these senders send. Fault 1 where memory is refused.
+/// The queues of a plan, whose senders these are. Fault 1 where memory is refused.
 pub fn queues_of(
     alloc: Global,
     elements: &[Element],
     senders: &[SenderSpec],
 ) -> Result<Vec<QueueSpec>, Fault>
     requires few { length elements.now ≤ most_elements }
-    ensures made { IfOk result (λ queues. map queued queues.items ≡ queues_from senders.now 0 (map planned elements.now)) }
+    requires senders { senders.now ≡ senders_of (map planned elements.now) }
+    ensures made { IfOk result (λ queues. map queued queues.items ≡ queues_of (map planned elements.now)) }
     ensures fault { IsOkUnless result Memory }
 {
     let mut queues = Vec::new(alloc);
     let mut number = 0;
-    for element in elements {
-        if let Class::Queue(kind, capacity) = element.class {
+    for place in 0..elements.len() {
+        if let Class::Queue(kind, capacity) = elements[place].class {
             queues.push(QueueSpec {
                 kind,
                 capacity,
                 senders: senders_to(alloc, senders, number)?,
+                device: device_of(elements, place as u16),
             })?;
             number += 1;
         }

@@ -1,11 +1,18 @@
-use Rattle.std.proofs.Common.{map, subst}
+use Rattle.std.proofs.Common.{◌<◌, map, subst}
 use Rattle.std.specs.List.{AllByRecursion}
 use Rattle.clk_tree.specs.Kept.{planned}
-use Rattle.clk_tree.specs.PlanParts.{queues_of, HasCapacity}
+use Rattle.clk_tree.specs.PlanTree.{device_count}
+use Rattle.clk_tree.specs.PlanParts.{Queued, queues_of, HasCapacity}
 use Rattle.clk_tree.proofs.PartLemmas.{queues-capacities}
+use Rattle.clk_tree.proofs.LeafLemmas.{denoted-devices}
 use Rattle.clk_tree.proofs.plan.Plan.queues.Goals as goal
 
 pub returns-clause-capacities : goal.returns-clause-capacities
 returns-clause-capacities c =
     subst (λ plan. AllByRecursion HasCapacity (queues_of plan)) c.self.view_is
     (queues-capacities c.self.invariant.denoted.0 (map planned c.self.inside.elements.items) c.self.invariant.denoted.1)
+
+pub returns-clause-devices : goal.returns-clause-devices
+returns-clause-devices c =
+    subst (λ plan. AllByRecursion (λ (q : Queued). q.device < device_count plan) (queues_of plan)) c.self.view_is
+    (denoted-devices c.self.invariant.denoted.0 (map planned c.self.inside.elements.items) c.self.invariant.denoted.1)

@@ -1,25 +1,35 @@
-use Rattle.std.proofs.Common.{◌∷◌, [], map, IfOk, sym, subst}
-use Rattle.clk_sched.specs.Tree.{root}
+use Rattle.std.proofs.Common.{◌≡◌, ◌∷◌, [], ℕ, map, slice_get, IfOk, sym, subst}
+use Rattle.clk_sched.specs.Tree.{Tree, root, leaves, stands_in}
 use Rattle.clk_sched.specs.Limits.{most_levels}
 use Rattle.clk_tree.specs.Kept.{planned}
-use Rattle.clk_tree.specs.PlanParts.{queued}
+use Rattle.clk_tree.specs.PlanParts.{queued, queues_of, leads_to}
 use Rattle.clk_tree.specs.PlanTree.{IsScheduled, IsRowOf}
-use Rattle.clk_tree.proofs.PlanLemmas.{kept-scheduled, kept-distinct, kept-fits}
+use Rattle.clk_tree.proofs.PlanLemmas.{IsMadeTree, kept-below, kept-scheduled, kept-made}
 use Rattle.clk_tree.proofs.plan.Plan.tree.Goals as goal
 
 pub tree_at-requires-clause-scheduled : goal.tree_at-requires-clause-scheduled
 tree_at-requires-clause-scheduled c =
-    subst (λ es. IsScheduled (map planned es) most_levels c.self.inside.top) (sym c.deref.ensures.value)
-    (kept-scheduled (map planned c.self.inside.elements.items) c.self.inside.top (map queued c.self.inside.queues.items) c.self.inside.senders.items c.self.invariant)
+    let plan = map planned c.self.inside.elements.items in
+    let queues = map queued c.self.inside.queues.items in
+    let below = kept-below plan c.args.self.now c.self.inside.tops.items queues c.self.inside.senders.items c.args.device c.self.invariant c.self.view_is c.requires.device in
+    subst (λ es. IsScheduled (map planned es) most_levels c.index.result.now) (sym c.deref.ensures.value)
+    (kept-scheduled plan c.self.inside.tops.items queues c.self.inside.senders.items c.args.device c.index.result.now c.self.invariant below c.index.ensures)
 
--- what is made there, over the elements that the plan keeps
-made : (c : goal.After-tree_at) → IfOk c.tree_at.result (λ tree. IsRowOf (map planned c.self.inside.elements.items) (c.self.inside.top ∷ []) (root tree))
-made c = subst (λ es. IfOk c.tree_at.result (λ tree. IsRowOf (map planned es) (c.self.inside.top ∷ []) (root tree))) c.deref.ensures.value c.tree_at.ensures.tree
+-- the tree that is made there
+made : (c : goal.After-tree_at) → IsMadeTree (map planned c.self.inside.elements.items) c.args.device c.tree_at.result
+made c =
+    let plan = map planned c.self.inside.elements.items in
+    let queues = map queued c.self.inside.queues.items in
+    let below = kept-below plan c.args.self.now c.self.inside.tops.items queues c.self.inside.senders.items c.args.device c.self.invariant c.self.view_is c.requires.device in
+    kept-made plan c.self.inside.tops.items queues c.self.inside.senders.items c.args.device c.index.result.now c.tree_at.result c.self.invariant below c.index.ensures
+    (subst (λ es. IfOk c.tree_at.result (λ tree. IsRowOf (map planned es) (c.index.result.now ∷ []) (root tree))) c.deref.ensures.value c.tree_at.ensures.tree)
 
 pub returns-clause-distinct : goal.returns-clause-distinct
-returns-clause-distinct c =
-    kept-distinct (map planned c.self.inside.elements.items) c.self.inside.top (map queued c.self.inside.queues.items) c.self.inside.senders.items c.tree_at.result c.self.invariant (made c)
+returns-clause-distinct c = (made c).distinct
 
 pub returns-clause-fits : goal.returns-clause-fits
-returns-clause-fits c =
-    kept-fits (map planned c.self.inside.elements.items) c.self.inside.top (map queued c.self.inside.queues.items) c.self.inside.senders.items c.tree_at.result c.self.invariant (made c)
+returns-clause-fits c = (made c).fits
+
+pub returns-clause-leaves : goal.returns-clause-leaves
+returns-clause-leaves c =
+    subst (λ plan. IfOk c.tree_at.result (λ (tree : Tree). (q : ℕ) → stands_in q (leaves (root tree)) ≡ leads_to c.args.device (slice_get (queues_of plan) q))) c.self.view_is (made c).leaves
