@@ -13,11 +13,12 @@ use Rattle.clk_tree.specs.PlanParts.{AreRising, SendsWithin}
 use Rattle.clickpull.specs.declared.script.Command.{Command}
 use Rattle.clickpull.specs.declared.script.Command.TheVariants.{Send, Pull}
 use Rattle.clickpull.specs.declared.rows.Row.{Row}
+use Rattle.clickpull.specs.declared.past.Past.{Past}
 use Rattle.clickpull.specs.declared.router.Router.{Router}
 use Rattle.clickpull.specs.Script.{most_lines, most_moment}
 use Rattle.clickpull.specs.Meaning.{Setup, sender_numbers, Event, offered, pulled, command_of, number_from, moment_in, accepted_in, event_text, WritesWith}
-use Rattle.clickpull.specs.Router.{IsNumber, sender_after, numbers_in, setup_at, IsAt, CanSend, CanRun, IsReady, IsReadable}
-use Rattle.clickpull.specs.Rows.{row_asked, row_of, IsToDo, CarriesOut, AnswersRows, IsClosedFrom, StopsClosing, StopsCommands, rows_text, ending_of}
+use Rattle.clickpull.specs.Router.{IsNumber, sender_after, numbers_in, setup_at, IsAt, IsPastOf, CanSend, CanRun, IsReady, IsReadable}
+use Rattle.clickpull.specs.Rows.{row_asked, row_of, IsToDo, CarriesOut, AnswersRows, IsClosedFrom, StopsClosing, StopsCommands, rows_text, visit_text, ending_of}
 use Rattle.clickpull.proofs.SenderLemmas.{numbers-its, alike-its}
 use Rattle.clickpull.proofs.ClosingLemmas.{its-latest, closing-written}
 use Rattle.clickpull.proofs.RowLemmas.{rows-written}
@@ -181,9 +182,9 @@ all-answered old new asked rows i carried all =
     subst (λ l. AnswersRows old new l rows) (take_all i asked (omega (arith, count, all))) (subst (λ l. AnswersRows old new (take i asked) l) (take_all i rows all) carried.answers)
 
 -- What a router comes to over which all commands of a script were carried out, without a closing and with one.
-pub Writes-answered : (old mid new : Router) (commands : List Command) (asked done : List Row) (drain start : Option ℕ) → CanRun old → asked ≡ map row_asked commands → AnswersRows old mid asked done → IsClosedFrom mid new drain start
-    → WritesWith (setup_at old) commands drain (rows_text done (emitted new.session.log) new.evicted.items ++ ending_of new start) new.session.log
-Writes-answered old mid new commands asked done drain start can are answers closed = by_closing drain start closed
+pub Writes-answered : (old mid new : Router) (past : Past) (commands : List Command) (asked done : List Row) (drain start : Option ℕ) → CanRun old → asked ≡ map row_asked commands → AnswersRows old mid asked done
+    → IsClosedFrom mid new drain start → IsPastOf new past → WritesWith (setup_at old) commands drain (rows_text done past.came_out.items past.put_out.items ++ ending_of past start) past.log.items
+Writes-answered old mid new past commands asked done drain start can are answers closed is = by_closing drain start closed
   where
     setup : Setup
     setup = setup_at old
@@ -195,15 +196,16 @@ Writes-answered old mid new commands asked done drain start can are answers clos
     theirs = rows-one (map command_of carried.more) commands (sym (asked-commands carried.more) ∙ carried.theirs ∙ are)
 
     -- the lines of the commands, whatever the router did later
-    lines : (later : List Event) → IsAt setup (carried.more ++ later) new → rows_text done (emitted new.session.log) new.evicted.items ≡ flat_map event_text carried.more
-    lines later at = ap (λ rows. rows_text rows (emitted new.session.log) new.evicted.items) carried.rows ∙ rows-written setup carried.more later new at
+    lines : (later : List Event) → IsAt setup (carried.more ++ later) new → rows_text done past.came_out.items past.put_out.items ≡ flat_map event_text carried.more
+    lines later at =
+        ap₂ (λ given fronts. rows_text done given fronts) is.came_out is.put_out ∙ ap (λ rows. rows_text rows (emitted new.session.log) new.evicted.items) carried.rows ∙ rows-written setup carried.more later new at
 
-    by_closing : (d s : Option ℕ) → IsClosedFrom mid new d s → WritesWith setup commands d (rows_text done (emitted new.session.log) new.evicted.items ++ ending_of new s) new.session.log
+    by_closing : (d s : Option ℕ) → IsClosedFrom mid new d s → WritesWith setup commands d (rows_text done past.came_out.items past.put_out.items ++ ending_of past s) past.log.items
     by_closing None s none =
         let at : IsAt setup (carried.more ++ []) new = subst (λ l. IsAt setup l new) (sym (append-nil carried.more)) (subst (λ (r : Router). IsAt setup carried.more r) (sym none.1) carried.leads) in
         record {
-          writes = record { events = carried.more; theirs = theirs; closed = []; closes = refl; can_happen = at.can_happen; lines = ap₂ (λ a b. a ++ b) (lines [] at) (ap (ending_of new) none.0) };
-          logged = at.log;
+          writes = record { events = carried.more; theirs = theirs; closed = []; closes = refl; can_happen = at.can_happen; lines = ap₂ (λ a b. a ++ b) (lines [] at) (ap (ending_of past) none.0) };
+          logged = is.log ∙ at.log;
         }
     by_closing (Some moment) None ends = absurd ends
     by_closing (Some moment) (Some s) ends =
@@ -217,9 +219,10 @@ Writes-answered old mid new commands asked done drain start can are answers clos
             can_happen = closing.leads.can_happen;
             lines =
                 ap₂ (λ a b. a ++ b) (lines closing.closed closing.leads)
-                (ap₂ (λ a b. a ++ b) (closing-written setup carried.more mid new moment s carried.leads closing ends.0) (ap₂ report_text (ap emitted closing.leads.log) closing.leads.tallies));
+                (ap₂ (λ a b. a ++ b) (ap (λ l. flat_map visit_text (drop s l)) is.log ∙ closing-written setup carried.more mid new moment s carried.leads closing ends.0)
+                (ap₂ report_text (is.came_out ∙ ap emitted closing.leads.log) (is.tallies ∙ closing.leads.tallies)));
           };
-          logged = closing.leads.log;
+          logged = is.log ∙ closing.leads.log;
         }
 
 -- and why it stops short

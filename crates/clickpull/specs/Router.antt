@@ -18,8 +18,10 @@ use Rattle.clickpull.specs.declared.script.Line.TheVariants as line
 use Rattle.clk_tree.specs.declared.plan.parts.SenderSpec.{SenderSpec}
 use Rattle.clk_tree.specs.PlanParts.{Queued, AreRising, SendsWithin}
 use Rattle.clickpull.specs.declared.senders.Sender.{Sender}
+use Rattle.clickpull.specs.declared.past.Past.{Past}
 use Rattle.clickpull.specs.declared.router.Router.{Router}
 use Rattle.clk_sched.specs.Log.{visits_of, result_of}
+use Rattle.clk_sched.specs.Results.{emitted}
 use Rattle.clk_sched.specs.Session.{counted_moment}
 use Rattle.clickpull.specs.Script.{most_lines, most_moment}
 use Rattle.clk_report.specs.Report.{packets_from}
@@ -153,6 +155,13 @@ setup_at router = record {
   queues = map queue_room router.queues.rings.items;
   senders = map sender_spec router.senders.items;
 }
+
+-- All that a router did.
+pub record IsPastOf (router : Router) (past : Past) : Type 0 where
+  pub log : past.log.items ≡ router.session.log
+  pub came_out : past.came_out.items ≡ emitted router.session.log
+  pub put_out : past.put_out.items ≡ router.evicted.items
+  pub tallies : past.tallies.items ≡ router.tallies.items
 
 -- Nothing has happened to a router over this setup.
 pub record Starts (setup : Setup) (router : Router) : Type 0 where

@@ -8,7 +8,6 @@ use Rattle.clk_packet.specs.declared.fault.Fault.{Fault}
 use Rattle.clk_packet.specs.declared.fault.Fault.TheVariants.{TooManyPulls}
 use Rattle.clk_sched.specs.declared.visit.Visit.{Visit}
 use Rattle.clk_sched.specs.Log.{visits_of, result_of}
-use Rattle.clk_sched.specs.Results.{emitted}
 use Rattle.clk_report.specs.Report.{report_text}
 use Rattle.clickpull.specs.declared.script.Command.{Command}
 use Rattle.clickpull.specs.declared.script.Command.TheVariants.{Send, Pull}
@@ -17,6 +16,7 @@ use Rattle.clickpull.specs.declared.rows.Row.{Row}
 use Rattle.clickpull.specs.declared.rows.Row.TheVariants as row
 use Rattle.clickpull.specs.declared.reading.Script.{Script}
 use Rattle.clickpull.specs.declared.answer.Answer.{Answer}
+use Rattle.clickpull.specs.declared.past.Past.{Past}
 use Rattle.clickpull.specs.declared.router.Router.{Router}
 use Rattle.clickpull.specs.Script.{command_in, commands_of, closing_moment, most_lines, most_moment}
 use Rattle.clickpull.specs.Meaning.{Setup, Event, offered, pulled, command_of, event_text, pull_text, given_text, StopsShort}
@@ -121,10 +121,10 @@ abbrev pub visit_text : Visit → List ℕ
 visit_text v = if v.node == 0 then (if v.passed then given_text v.moment v.got else []) else []
 
 -- what the closing writes whose visits begin at a place of the log, if there is one, and then the report
-abbrev pub ending_of : Router → Option ℕ → List ℕ
-ending_of router None = []
-ending_of router (Some start) = flat_map visit_text (drop start router.session.log) ++ report_text (emitted router.session.log) router.tallies.items
+abbrev pub ending_of : Past → Option ℕ → List ℕ
+ending_of past None = []
+ending_of past (Some start) = flat_map visit_text (drop start past.log.items) ++ report_text past.came_out.items past.tallies.items
 
 -- all that an answer writes
-abbrev pub answer_text : Router → Answer → List ℕ
-answer_text router answer = rows_text answer.rows.items (emitted router.session.log) router.evicted.items ++ ending_of router answer.closing
+abbrev pub answer_text : Answer → List ℕ
+answer_text answer = rows_text answer.rows.items answer.past.came_out.items answer.past.put_out.items ++ ending_of answer.past answer.closing

@@ -8,6 +8,7 @@ ghost use Rattle.clickpull.specs.Meaning.{WritesWith};
 ghost use Rattle.clickpull.specs.Router.{numbers_in, setup_at, IsReady, CanRun};
 ghost use Rattle.clickpull.specs.Rows.{row_asked, answer_text, IsToDo, CanBeRun, AnswersRows, IsClosedFrom, StopsClosing, StopsCommands};
 
+use crate::past::Past;
 use crate::reading::Script;
 use crate::router::Router;
 use crate::rows::Row;
@@ -20,6 +21,8 @@ pub struct Answer {
     pub rows: Vec<Row>,
     /// Where the visits of its closing begin in the log, if it closes: then the report follows.
     pub closing: Option<usize>,
+    /// What the router did.
+    pub past: Past,
 }
 
 /// What a script comes to over a router to which nothing has happened.
@@ -27,18 +30,23 @@ pub struct Answer {
 /// # Errors
 ///
 /// Fault 1 where memory is refused, and 17 where the drain stops short.
-pub fn answer_script(router: &mut Router, script: Script) -> Result<Answer, Fault>
-    requires fresh { CanRun router.old }
-    requires sound { CanBeRun (numbers_in router.old) script }
+pub fn answer_script(router: Router, script: Script) -> Result<Answer, Fault>
+    requires fresh { CanRun router }
+    requires sound { CanBeRun (numbers_in router) script }
     ensures means { (commands : _) → script.rows.items ≡ map row_asked commands → MatchResult result
-        (λ answer. WritesWith (setup_at router.old) commands script.closing (answer_text router.new answer) router.new.session.log)
-        (λ fault. (fault ≡ Memory) ⊎ StopsCommands (setup_at router.old) commands script.closing fault) }
-    ensures within { IfOk result (λ answer. IfSome answer.closing (λ start. start ≤ length router.new.session.log)) }
+        (λ answer. WritesWith (setup_at router) commands script.closing (answer_text answer) answer.past.log.items)
+        (λ fault. (fault ≡ Memory) ⊎ StopsCommands (setup_at router) commands script.closing fault) }
+    ensures within { IfOk result (λ answer. IfSome answer.closing (λ start. start ≤ length answer.past.log.items)) }
 {
+    let mut router = router;
     let mut rows = script.rows;
-    carry_out(router, &mut rows)?;
-    let closing = close(router, script.closing)?;
-    Ok(Answer { rows, closing })
+    carry_out(&mut router, &mut rows)?;
+    let closing = close(&mut router, script.closing)?;
+    Ok(Answer {
+        rows,
+        closing,
+        past: router.into_past(),
+    })
 }
 
 /// Carries out the commands of some rows, and puts what each came to in its place. Fault 1 where memory is refused.

@@ -15,6 +15,7 @@ use clk_packet::{Fault, Sink, Source, write_all};
 use clk_tree::Plan;
 use std::alloc::Global;
 use std::rt::Files;
+use std::slice;
 use std::sync::Wait;
 
 /// Does what the words after the program's name ask for, and answers the status that the program ends with: 0 where it
@@ -90,9 +91,9 @@ fn perform<H: Files + AllocGlobal, R: Source, W: Sink>(
             visits,
         } => {
             let plan = read_plan(rt, alloc, tree)?;
-            let ran = run_plan(alloc, &mut open_file(rt, script)?, writer, &plan)?;
+            let past = run_plan(alloc, &mut open_file(rt, script)?, writer, &plan)?;
             match visits {
-                Some(path) => write_visits(rt, alloc, path, ran.log()),
+                Some(path) => write_visits(rt, alloc, path, slice::from_ref(&past.log)),
                 None => Ok(()),
             }
         }

@@ -41,16 +41,21 @@ pub fn read_plan<H: Files>(rt: &H, alloc: Global, path: &str) -> Result<Plan, Fa
     Plan::read(alloc, &text)
 }
 
-/// Writes a log of visits to a file, as CSV. The file is made, or overwritten where it is there.
+/// Writes the logs of devices to a file, as CSV. The file is made, or overwritten where it is there.
 ///
 /// # Errors
 ///
 /// Fault 1 where memory is refused, and 20 where the file can't be made or written. It may hold a front of the CSV then.
-pub fn write_visits<H: Files>(rt: &H, alloc: Global, path: &str, log: &[Visit]) -> Result<(), Fault>
+pub fn write_visits<H: Files>(
+    rt: &H,
+    alloc: Global,
+    path: &str,
+    logs: &[Vec<Visit>],
+) -> Result<(), Fault>
     ensures fault { IfErr result (λ fault. (fault ≡ Memory) ⊎ (fault ≡ Write)) }
 {
     match fs::create(rt, path) {
-        Ok(file) => visits_csv(alloc, log, &mut ToWrite::new(file)),
+        Ok(file) => visits_csv(alloc, logs, &mut ToWrite::new(file)),
         Err(_) => Err(Fault::Write),
     }
 }

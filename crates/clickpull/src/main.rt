@@ -9,6 +9,7 @@ mod fields;
 mod files;
 mod laws;
 mod lines;
+mod past;
 mod queues;
 mod reading;
 mod router;

@@ -1,11 +1,12 @@
 //! The router that a script runs over: senders, queues, and a session of a tree over the queues.
 
+use crate::past::Past;
 use crate::queues::Queues;
 use crate::senders::{Sender, senders_of};
 use crate::tallies::{note, place_of, tallies_of};
 use clk_packet::{Fault, Offered, Packet, Tally};
 use clk_ring::calls_are_history;
-use clk_sched::{Session, Tree, Visit, runs_go_on};
+use clk_sched::{Session, Tree, runs_go_on};
 use clk_tree::{QueueSpec, SenderSpec};
 use std::alloc::Global;
 
@@ -33,11 +34,10 @@ impl Router {
     ghost use Rattle.clk_sched.specs.Tree.{root, leaves_distinct};
     ghost use Rattle.clk_sched.specs.Session.{elements};
     ghost use Rattle.clk_sched.specs.Limits.{most_elements};
-    ghost use Rattle.clk_sched.specs.Results.{emitted};
     ghost use Rattle.clk_tree.specs.PlanParts.{queued, HasCapacity};
     ghost use Rattle.clickpull.specs.Script.{most_lines, most_moment};
     ghost use Rattle.clickpull.specs.Meaning.{Setup, Event, offered, setup_of};
-    ghost use Rattle.clickpull.specs.Router.{numbers_in, IsPlace, IsPlaceOf, IsSentFrom, IsReady, IsAt, Starts, Counts, LeadsOnByPull, LeadsOnByClosing, StopsDrain};
+    ghost use Rattle.clickpull.specs.Router.{numbers_in, IsPlace, IsPlaceOf, IsSentFrom, IsReady, IsAt, IsPastOf, Starts, Counts, LeadsOnByPull, LeadsOnByClosing, StopsDrain};
 
     /// The router over these parts before anything has happened. Fault 1 where memory is refused.
     pub fn new(
@@ -149,24 +149,16 @@ impl Router {
         Ok(logged)
     }
 
-    /// Every visit so far, in order.
-    pub fn log(&self) -> &[Visit]
-        ensures { result.now ≡ self.now.session.log }
+    /// All that it did, without copies.
+    pub fn into_past(self) -> Past
+        ensures { IsPastOf self result }
     {
-        self.session.log()
-    }
-
-    /// The packets that queues put out for later ones, in order.
-    pub fn put_out(&self) -> &[Packet]
-        ensures { result.now ≡ self.now.evicted.items }
-    {
-        &self.evicted
-    }
-
-    /// The packets that came out at the device, in order.
-    pub fn came_out(&self) -> &[Packet]
-        ensures { result.now ≡ emitted self.now.session.log }
-    {
-        self.session.came_out()
+        let (log, came_out) = self.session.into_parts();
+        Past {
+            log,
+            came_out,
+            put_out: self.evicted,
+            tallies: self.tallies,
+        }
     }
 }

@@ -13,6 +13,7 @@ ghost use Rattle.clickpull.specs.Script.{most_bytes};
 ghost use Rattle.clickpull.specs.Meaning.{IsMeaning, MeansWith, Explains, setup_of, MeansOver, MeansOverWith, ExplainsPlan};
 
 use crate::answer::answer_script;
+use crate::past::Past;
 use crate::reading::read_script;
 use crate::router::Router;
 use crate::script::MAX_BYTES;
@@ -54,15 +55,15 @@ pub fn run_script<R: Source, W: Sink>(
     Ok(())
 }
 
-/// The same, with the same faults. Answers the router over which it ran, with the log of all visits.
+/// The same, with the same faults. Answers what was done, with the log of all visits.
 pub fn run_plan<R: Source, W: Sink>(
     alloc: Global,
     reader: &mut R,
     writer: &mut W,
     plan: &Plan,
-) -> Result<Router, Fault>
-    ensures written { IfOk result (λ router. IfSome (R.Source.remaining reader.old) (λ script.
-        (text : _) × MeansOverWith plan.now script text router.session.log × Appends (W.Sink.taken writer.old) (W.Sink.taken writer.new) text)) }
+) -> Result<Past, Fault>
+    ensures written { IfOk result (λ past. IfSome (R.Source.remaining reader.old) (λ script.
+        (text : _) × MeansOverWith plan.now script text past.log.items × Appends (W.Sink.taken writer.old) (W.Sink.taken writer.new) text)) }
     ensures front { IsErrOf result Fault.Write → IfSome (R.Source.remaining reader.old) (λ script.
         (text : _) × MeansOver plan.now script text × AppendsFront (W.Sink.taken writer.old) (W.Sink.taken writer.new) text) }
     ensures nothing { IfErr result (λ fault. fault ≢ Write → Keeps (W.Sink.taken writer.old) (W.Sink.taken writer.new)) }
@@ -85,14 +86,14 @@ fn run_parts<R: Source, W: Sink>(
     tree: Tree,
     queues: &[QueueSpec],
     senders: &[SenderSpec],
-) -> Result<Router, Fault>
+) -> Result<Past, Fault>
     requires distinct { leaves_distinct tree ≡ true }
     requires fits { 1 + elements (root tree) ≤ most_elements }
     requires capacities { AllByRecursion HasCapacity (map queued queues.now) }
     requires rising { AreRising (map number_of senders.now) }
     requires wired { AllByRecursion (SendsWithin (length (map queued queues.now))) senders.now }
-    ensures written { IfOk result (λ router. IfSome (R.Source.remaining reader.old) (λ script.
-        (text : _) × MeansWith (setup_of tree (map queued queues.now) senders.now) script text router.session.log × Appends (W.Sink.taken writer.old) (W.Sink.taken writer.new) text)) }
+    ensures written { IfOk result (λ past. IfSome (R.Source.remaining reader.old) (λ script.
+        (text : _) × MeansWith (setup_of tree (map queued queues.now) senders.now) script text past.log.items × Appends (W.Sink.taken writer.old) (W.Sink.taken writer.new) text)) }
     ensures front { IsErrOf result Fault.Write → IfSome (R.Source.remaining reader.old) (λ script.
         (text : _) × IsMeaning (setup_of tree (map queued queues.now) senders.now) script text × AppendsFront (W.Sink.taken writer.old) (W.Sink.taken writer.new) text) }
     ensures nothing { IfErr result (λ fault. fault ≢ Write → Keeps (W.Sink.taken writer.old) (W.Sink.taken writer.new)) }
@@ -101,13 +102,13 @@ fn run_parts<R: Source, W: Sink>(
     ensures write_failures { W.Sink.failures writer.new ≡ write_failures result (W.Sink.failures writer.old) }
     ensures limit { Takes (most_bytes + 1) (R.Source.remaining reader.old) (R.Source.remaining reader.new) }
 {
-    let mut router = Router::new(alloc, tree, queues, senders)?;
+    let router = Router::new(alloc, tree, queues, senders)?;
     let text = read_up_to(alloc, reader, MAX_BYTES + 1)?;
     let script = read_script(alloc, &router.tallies, &text)?;
     let_go(text);
-    let answer = answer_script(&mut router, script)?;
-    write_answer(&router, &answer, writer)?;
-    Ok(router)
+    let answer = answer_script(router, script)?;
+    write_answer(&answer, writer)?;
+    Ok(answer.past)
 }
 
 /// Gives the memory of a text back. The block is made small before it is freed: the C library takes a large block that is freed as a

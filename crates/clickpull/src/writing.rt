@@ -8,40 +8,41 @@ ghost use Rattle.clickpull.specs.Rows.{row_text, rows_text, given_after, fronts_
 
 use crate::answer::Answer;
 use crate::lines::Lines;
-use crate::router::Router;
 use crate::rows::Row;
 use crate::text::{LINE, put_offer, put_pull};
 use clk_packet::{Fault, Offered, Packet, Sink};
 use clk_report::report;
 use clk_sched::Visit;
+use std::slice;
 
 /// The node number of the device.
 const DEVICE: u16 = 0;
 
-/// Writes the lines of an answer over a router, and the report of the router where it was closed.
+/// Writes the lines of an answer, and the report where the router was closed.
 ///
 /// # Errors
 ///
 /// Fault 20 where the sink fails. It has taken a front of these then.
-pub fn write_answer<W: Sink>(router: &Router, answer: &Answer, writer: &mut W) -> Result<(), Fault>
-    requires { IfSome answer.now.closing (λ start. start ≤ length router.now.session.log) }
+pub fn write_answer<W: Sink>(answer: &Answer, writer: &mut W) -> Result<(), Fault>
+    requires { IfSome answer.now.closing (λ start. start ≤ length answer.now.past.log.items) }
     ensures { Wrote (W.Sink.taken writer.old) (W.Sink.taken writer.new)
-        (W.Sink.failures writer.old) (W.Sink.failures writer.new) result (answer_text router.now answer.now) }
+        (W.Sink.failures writer.old) (W.Sink.failures writer.new) result (answer_text answer.now) }
 {
+    let past = &answer.past;
     let mut lines = Lines::new();
     write_rows(
         &mut lines,
         &answer.rows,
-        router.came_out(),
-        router.put_out(),
+        &past.came_out,
+        &past.put_out,
         writer,
     )?;
     let Some(start) = answer.closing else {
         return lines.write(writer);
     };
-    write_given(&mut lines, &router.log()[start..], writer)?;
+    write_given(&mut lines, &past.log[start..], writer)?;
     lines.write(writer)?;
-    report(&router.tallies, router.came_out(), writer)
+    report(&past.tallies, slice::from_ref(&past.came_out), writer)
 }
 
 /// Adds the lines of some rows, where these packets came out from the first of them on, and these were put out.

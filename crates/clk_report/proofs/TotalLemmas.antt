@@ -1,13 +1,17 @@
 -- Totals of packets, counted one by one.
-use Rattle.std.proofs.Common.{◌≡◌, ◌≢◌, ℕ, ◌+◌, ◌*◌, ◌<◌, ◌≤◌, ◌==◌, Bool, true, false, List, [], ◌∷◌, ◌++◌, length, drop, replicate, set, get_or, Some, refl, sym, ap, ◌∙◌, subst, arith}
+use Rattle.std.proofs.Common.{◌≡◌, ◌≢◌, ℕ, ◌+◌, ◌*◌, ◌^◌, ◌<◌, ◌≤◌, ◌==◌, Bool, true, false, List, [], ◌∷◌, ◌++◌, All, Vec, length, take, drop, replicate, set, get_or, slice_get, append_assoc, append-nil, Some, refl, sym, ap, ◌∙◌, subst, arith}
+use Rattle.std.specs.declared.alloc.Global.{Global}
 use Rattle.std.proofs.lemmas.Bool.{false≢true}
 use Rattle.std.proofs.lemmas.Bool.Decides.{nat_tests}
-use Rattle.std.proofs.lemmas.List.{length-append, length-replicate, length-set, get_or-replicate, get_or-set_same, get_or-set_other, drop_more}
+use Rattle.std.proofs.lemmas.List.{length-append, length-drop, length-replicate, length-set, get_or-replicate, get_or-set_same, get_or-set_other, take_all, take_more}
+use Rattle.std.proofs.lemmas.List.Concat.{flat_map-append}
+use Rattle.std.proofs.lemmas.List.Elements.{All-set, filter-append}
 use Rattle.std.proofs.lemmas.Option.{slice_get-get_or, get_or_from_slice_get}
 use Rattle.clk_packet.specs.declared.packet.Packet.{Packet}
 use Rattle.clk_report.specs.declared.total.Total.{Total}
+use Rattle.clk_report.specs.Devices.{came_out}
 use Rattle.clk_report.specs.Report.{packets_from, bytes_of}
-use Rattle.clk_report.specs.Totals.{total_of, with_packet, both, AreTotals}
+use Rattle.clk_report.specs.Totals.{total_of, with_packet, both, AreTotals, HasRoom}
 
 pub bytes-few : (packets : List Packet) → bytes_of packets ≤ 65535 * length packets
 bytes-few [] = omega arith
@@ -17,66 +21,147 @@ pub bytes-append : (packets more : List Packet) → bytes_of (packets ++ more) �
 bytes-append [] more = omega arith
 bytes-append (p ∷ packets) more = let e = bytes-append packets more in omega (arith, e)
 
--- a total that lacks these packets to be that of all
-pub record Lacks (all rest : List Packet) (total : Total) : Type 0 where
-  pub packets : total.packets + length rest ≡ length all
-  pub bytes : total.bytes + bytes_of rest ≡ bytes_of all
+same-total : (t u : Total) → t.packets ≡ u.packets → t.bytes ≡ u.bytes → t ≡ u
+same-total t u e f = λ i. record { packets = e i; bytes = f i }
 
--- each sender's total lacks its packets of the rest
-pub record EachLacks (all rest : List Packet) (totals : List Total) : Type 0 where
-  pub each : (s : ℕ) (d : Total) → s < length totals → Lacks (packets_from s all) (packets_from s rest) (get_or totals s d)
+-- one packet more is counted
+total-more : (packets : List Packet) (p : Packet) → total_of (packets ++ p ∷ []) ≡ with_packet p (total_of packets)
+total-more packets p =
+    let many = length-append packets (p ∷ []) in
+    let long = bytes-append packets (p ∷ []) in
+    same-total (total_of (packets ++ p ∷ [])) (with_packet p (total_of packets)) (omega (arith, many)) (omega (arith, long))
 
-pub EachLacks-all : (all : List Packet) (totals : List Total) → AreTotals [] totals → EachLacks all all totals
-EachLacks-all all totals none =
-    record {
-      each = λ s d within.
-          let is = get_or_from_slice_get totals s _ d (none.each s within) in
-          subst (λ (t : Total). Lacks (packets_from s all) (packets_from s all) t) (sym is) (record { packets = omega arith; bytes = omega arith });
-    }
+-- a packet is one of its sender's, and none of another's
+packets-mine : (s : ℕ) (packets : List Packet) (p : Packet) → (p.sender == s) ≡ true → packets_from s (packets ++ p ∷ []) ≡ packets_from s packets ++ p ∷ []
+packets-mine s packets p mine =
+    let one : packets_from s (p ∷ []) ≡ p ∷ [] = rw mine refl in
+    filter-append (λ (q : Packet). q.sender == s) packets (p ∷ []) ∙ ap (λ l. packets_from s packets ++ l) one
 
--- one packet is counted
-pub EachLacks-more : (all rest : List Packet) (p : Packet) (totals : List Total) (t other : Total) → p.sender < length totals → EachLacks all (p ∷ rest) totals → t ≡ with_packet p (get_or totals p.sender other)
-    → EachLacks all rest (set totals p.sender t)
-EachLacks-more all rest p totals t other inside h is =
-    record { each = λ s d within. by_test s d (subst (λ n. s < n) (length-set totals p.sender t) within) (p.sender == s) refl }
+packets-others : (s : ℕ) (packets : List Packet) (p : Packet) → (p.sender == s) ≡ false → packets_from s (packets ++ p ∷ []) ≡ packets_from s packets
+packets-others s packets p other =
+    let none : packets_from s (p ∷ []) ≡ [] = rw other refl in
+    filter-append (λ (q : Packet). q.sender == s) packets (p ∷ []) ∙ ap (λ l. packets_from s packets ++ l) none ∙ append-nil (packets_from s packets)
+
+-- one packet more is counted at its sender
+AreTotals-more : (packets : List Packet) (p : Packet) (totals : List Total) (t d : Total) → p.sender < length totals → AreTotals packets totals → t ≡ with_packet p (get_or totals p.sender d)
+    → AreTotals (packets ++ p ∷ []) (set totals p.sender t)
+AreTotals-more packets p totals t d inside are is =
+    record { each = λ s within. by_test s (subst (λ n. s < n) (length-set totals p.sender t) within) (p.sender == s) refl }
   where
-    by_test : (s : ℕ) (d : Total) → s < length totals → (b : Bool) → (p.sender == s) ≡ b → Lacks (packets_from s all) (packets_from s rest) (get_or (set totals p.sender t) s d)
-    by_test s d within true e =
+    by_test : (s : ℕ) → s < length totals → (b : Bool) → (p.sender == s) ≡ b → slice_get (set totals p.sender t) s ≡ Some (total_of (packets_from s (packets ++ p ∷ [])))
+    by_test s within true e =
         let same : p.sender ≡ s = grind (arith, nat_tests) in
-        let lacks = rw e at (h.each s other within) in
-        let at : get_or (set totals p.sender t) s d ≡ with_packet p (get_or totals s other) =
-        ap (λ n. get_or (set totals p.sender t) n d) (sym same) ∙ get_or-set_same totals p.sender t d inside ∙ is ∙ ap (λ n. with_packet p (get_or totals n other)) same
-        in
-        let packets = lacks.packets in
-        let bytes = lacks.bytes in
-        rw at (record { packets = omega (arith, packets); bytes = omega (arith, bytes) })
-    by_test s d within false e =
+        let here : get_or (set totals p.sender t) s d ≡ t = ap (λ n. get_or (set totals p.sender t) n d) (sym same) ∙ get_or-set_same totals p.sender t d inside in
+        let before : get_or totals p.sender d ≡ total_of (packets_from s packets) = ap (λ n. get_or totals n d) same ∙ get_or_from_slice_get totals s _ d (are.each s within) in
+        let counted : t ≡ total_of (packets_from s (packets ++ p ∷ [])) = is ∙ ap (with_packet p) before ∙ sym (total-more (packets_from s packets) p) ∙ ap total_of (sym (packets-mine s packets p e)) in
+        slice_get-get_or (set totals p.sender t) s d (subst (λ n. s < n) (sym (length-set totals p.sender t)) within) ∙ ap Some (here ∙ counted)
+    by_test s within false e =
         let differs : s ≢ p.sender = λ same. let mine : (p.sender == s) ≡ true = grind (arith, nat_tests) in absurd (false≢true (sym e ∙ mine)) in
-        let lacks = rw e at (h.each s d within) in
-        rw (get_or-set_other totals p.sender s t d differs) lacks
+        slice_get-get_or (set totals p.sender t) s d (subst (λ n. s < n) (sym (length-set totals p.sender t)) within)
+        ∙ ap Some (get_or-set_other totals p.sender s t d differs ∙ get_or_from_slice_get totals s _ d (are.each s within) ∙ ap total_of (sym (packets-others s packets p e)))
 
 -- one packet of a sender beyond the table is left out
-pub EachLacks-beyond : (all rest : List Packet) (p : Packet) (totals : List Total) → length totals ≤ p.sender → EachLacks all (p ∷ rest) totals → EachLacks all rest totals
-EachLacks-beyond all rest p totals beyond h =
-    record {
-      each = λ s d within.
-          let other : (p.sender == s) ≡ false = grind (arith, nat_tests) in
-          rw other at (h.each s d within);
-    }
-
-pub AreTotals-none : (all : List Packet) (totals : List Total) → EachLacks all [] totals → AreTotals all totals
-AreTotals-none all totals h =
+AreTotals-beyond : (packets : List Packet) (p : Packet) (totals : List Total) → length totals ≤ p.sender → AreTotals packets totals → AreTotals (packets ++ p ∷ []) totals
+AreTotals-beyond packets p totals beyond are =
     record {
       each = λ s within.
-          let d : Total = record { packets = 0; bytes = 0 } in
-          let lacks = h.each s d within in
-          let packets = lacks.packets in
-          let bytes = lacks.bytes in
-          slice_get-get_or totals s d within ∙ ap Some (same-total (get_or totals s d) _ _ (omega (arith, packets)) (omega (arith, bytes)));
+          let other : (p.sender == s) ≡ false = grind (arith, nat_tests) in
+          are.each s within ∙ ap (λ l. Some (total_of l)) (sym (packets-others s packets p other));
     }
+
+-- room for one less is left once one is counted, or left out
+HasRoom-less : (more : ℕ) (t : Total) → HasRoom (more + 1) t → HasRoom more t
+HasRoom-less more t room = let packets = room.packets in let bytes = room.bytes in record { packets = omega (arith, packets); bytes = omega (arith, bytes) }
+
+HasRoom-counted : (more : ℕ) (p : Packet) (t u : Total) → u ≡ with_packet p t → HasRoom (more + 1) t → HasRoom more u
+HasRoom-counted more p t u is room =
+    let packets = room.packets in
+    let bytes = room.bytes in
+    let within = p.is_within in
+    subst (HasRoom more) (sym is) (record { packets = omega (arith, packets); bytes = omega (arith, bytes, within) })
+
+-- What is counted of the packets before a place, after any others, with room for those from the place on.
+pub record IsCountedTo (old new : List Total) (packets : List Packet) (i : ℕ) : Type 0 where
+  pub counted : (before : List Packet) → AreTotals before old → AreTotals (before ++ take i packets) new
+  pub room : All (HasRoom (length (drop i packets))) new
+
+pub IsCountedTo-none : (totals : List Total) (packets : List Packet) → All (HasRoom (length packets)) totals → IsCountedTo totals totals packets 0
+IsCountedTo-none totals packets room = record { counted = λ before are. subst (λ l. AreTotals l totals) (sym (append-nil before)) are; room = room }
+
+-- there is room to count the next one
+pub room-next : (old new : List Total) (packets : List Packet) (i n : ℕ) (d : Total) → i < length packets → n < length new → IsCountedTo old new packets i → HasRoom 1 (get_or new n d)
+room-next old new packets i n d within inside so_far =
+    let room = so_far.room n d inside in
+    let left = length-drop i packets in
+    let count = room.packets in
+    let bytes = room.bytes in
+    record { packets = omega (arith, left, count); bytes = omega (arith, left, bytes) }
+
+pub IsCountedTo-more : (old new : List Total) (packets : List Packet) (i : ℕ) (p : Packet) (n : ℕ) (d t : Total) → i < length packets → p ≡ get_or packets i p → n ≡ p.sender → n < length new
+    → IsCountedTo old new packets i → t ≡ with_packet p (get_or new n d) → IsCountedTo old (set new n t) packets (i + 1)
+IsCountedTo-more old new packets i p n d t within is at inside so_far more =
+    let next : take (i + 1) packets ≡ take i packets ++ p ∷ [] = take_more packets i p within ∙ ap (λ q. take i packets ++ q ∷ []) (sym is) in
+    let left : length (drop i packets) ≡ length (drop (i + 1) packets) + 1 = omega (arith, length-drop i packets, length-drop (i + 1) packets) in
+    record {
+      counted = λ before are.
+          subst (λ l. AreTotals l (set new n t)) (append_assoc before (take i packets) (p ∷ []) ∙ ap (λ l. before ++ l) (sym next))
+          (subst (λ m. AreTotals ((before ++ take i packets) ++ p ∷ []) (set new m t)) (sym at)
+          (AreTotals-more (before ++ take i packets) p new t d (subst (λ m. m < length new) at inside) (so_far.counted before are) (more ∙ ap (λ m. with_packet p (get_or new m d)) at)));
+      room =
+          All-set (HasRoom (length (drop (i + 1) packets))) new n t
+          (HasRoom-counted (length (drop (i + 1) packets)) p (get_or new n d) t more (subst (λ m. HasRoom m (get_or new n d)) left (so_far.room n d inside)))
+          (λ s u within. HasRoom-less (length (drop (i + 1) packets)) (get_or new s u) (subst (λ j. HasRoom j (get_or new s u)) left (so_far.room s u within)));
+    }
+
+pub IsCountedTo-skip : (old new : List Total) (packets : List Packet) (i : ℕ) (p : Packet) (n : ℕ) → i < length packets → p ≡ get_or packets i p → n ≡ p.sender → length new ≤ n
+    → IsCountedTo old new packets i → IsCountedTo old new packets (i + 1)
+IsCountedTo-skip old new packets i p n within is at beyond so_far =
+    let next : take (i + 1) packets ≡ take i packets ++ p ∷ [] = take_more packets i p within ∙ ap (λ q. take i packets ++ q ∷ []) (sym is) in
+    let left : length (drop i packets) ≡ length (drop (i + 1) packets) + 1 = omega (arith, length-drop i packets, length-drop (i + 1) packets) in
+    record {
+      counted = λ before are.
+          subst (λ l. AreTotals l new) (append_assoc before (take i packets) (p ∷ []) ∙ ap (λ l. before ++ l) (sym next))
+          (AreTotals-beyond (before ++ take i packets) p new (subst (λ m. length new ≤ m) at beyond) (so_far.counted before are));
+      room = λ s u inside. HasRoom-less (length (drop (i + 1) packets)) (get_or new s u) (subst (λ j. HasRoom j (get_or new s u)) left (so_far.room s u inside));
+    }
+
+pub all-counted : (old new : List Total) (packets : List Packet) (i : ℕ) → length packets ≤ i → IsCountedTo old new packets i → (before : List Packet) → AreTotals before old → AreTotals (before ++ packets) new
+all-counted old new packets i all so_far before are = subst (λ l. AreTotals (before ++ l) new) (take_all i packets all) (so_far.counted before are)
+
+packets-few : (s : ℕ) (packets : List Packet) → length (packets_from s packets) ≤ length packets
+packets-few s [] = omega arith
+packets-few s (p ∷ packets) = by_test (p.sender == s) refl (packets-few s packets)
   where
-    same-total : (t : Total) (n b : ℕ) → t.packets ≡ n → t.bytes ≡ b → t ≡ record { packets = n; bytes = b }
-    same-total t n b e f = λ i. record { packets = e i; bytes = f i }
+    by_test : (b : Bool) → (p.sender == s) ≡ b → length (packets_from s packets) ≤ length packets → length (packets_from s (p ∷ packets)) ≤ length (p ∷ packets)
+    by_test true e few = rw e (omega (arith, few))
+    by_test false e few = rw e (omega (arith, few))
+
+-- the packets of the devices before a place are counted, and so few that there is room for those of one more
+pub record AreCountedTo (emitted : List (Vec Packet Global)) (totals : List Total) (i : ℕ) : Type 0 where
+  pub are : AreTotals (came_out (take i emitted)) totals
+  pub few : length (came_out (take i emitted)) ≤ 2 ^ 64 * i
+
+pub AreCountedTo-room : (emitted : List (Vec Packet Global)) (totals : List Total) (i more : ℕ) → i ≤ 65535 → more < 2 ^ 64 → AreCountedTo emitted totals i → All (HasRoom more) totals
+AreCountedTo-room emitted totals i more below short so_far s d inside =
+    let packets = packets_from s (came_out (take i emitted)) in
+    let few = packets-few s (came_out (take i emitted)) in
+    let all = so_far.few in
+    let bytes = bytes-few packets in
+    subst (HasRoom more) (sym (get_or_from_slice_get totals s (total_of packets) d (so_far.are.each s inside))) (record { packets = omega (arith, few, all); bytes = omega (arith, few, all, bytes) })
+
+pub AreCountedTo-more : (emitted : List (Vec Packet Global)) (old new : List Total) (i : ℕ) (v : Vec Packet Global) (packets : List Packet) → i < length emitted → v ≡ get_or emitted i v → packets ≡ v.items → length packets < 2 ^ 64
+    → AreCountedTo emitted old i → ((before : List Packet) → AreTotals before old → AreTotals (before ++ packets) new) → AreCountedTo emitted new (i + 1)
+AreCountedTo-more emitted old new i v packets within is its short so_far counts =
+    let next : came_out (take (i + 1) emitted) ≡ came_out (take i emitted) ++ packets =
+    ap came_out (take_more emitted i v within ∙ ap (λ u. take i emitted ++ u ∷ []) (sym is)) ∙ flat_map-append (λ (u : Vec Packet Global). u.items) (take i emitted) (v ∷ [])
+    ∙ ap (λ l. came_out (take i emitted) ++ l) (append-nil v.items ∙ sym its)
+    in
+    let many = ap length next ∙ length-append (came_out (take i emitted)) packets in
+    let few = so_far.few in
+    record { are = subst (λ l. AreTotals l new) (sym next) (counts (came_out (take i emitted)) so_far.are); few = omega (arith, many, few) }
+
+pub all-devices-counted : (emitted : List (Vec Packet Global)) (totals : List Total) (i : ℕ) → length emitted ≤ i → AreCountedTo emitted totals i → AreTotals (came_out emitted) totals
+all-devices-counted emitted totals i all so_far = subst (λ l. AreTotals (came_out l) totals) (take_all i emitted all) so_far.are
 
 -- no packets of any sender
 pub AreTotals-zero : (n : ℕ) (totals : List Total) → totals ≡ replicate n (total_of []) → AreTotals [] totals
@@ -91,44 +176,6 @@ AreTotals-zero n totals is =
 -- what two lists come to together
 pub both-of : (packets more : List Packet) → both (total_of packets) (total_of more) ≡ total_of (packets ++ more)
 both-of packets more = λ i. record { packets = sym (length-append packets more) i; bytes = sym (bytes-append packets more) i }
-
-packets-few : (s : ℕ) (packets : List Packet) → length (packets_from s packets) ≤ length packets
-packets-few s [] = omega arith
-packets-few s (p ∷ packets) = by_test (p.sender == s) refl (packets-few s packets)
-  where
-    by_test : (b : Bool) → (p.sender == s) ≡ b → length (packets_from s packets) ≤ length packets → length (packets_from s (p ∷ packets)) ≤ length (p ∷ packets)
-    by_test true e few = rw e (omega (arith, few))
-    by_test false e few = rw e (omega (arith, few))
-
--- there is room to count one more
-pub record HasRoom (all : List Packet) (p : Packet) (total : Total) : Type 0 where
-  pub packets : total.packets + 1 ≤ length all
-  pub bytes : total.bytes + p.length ≤ 65535 * length all
-
-pub HasRoom-next : (all : List Packet) (totals : List Total) (i : ℕ) (p : Packet) (n : ℕ) (d : Total) → i < length all → p ≡ get_or all i p → n ≡ p.sender → n < length totals
-    → EachLacks all (drop i all) totals → HasRoom all p (get_or totals n d)
-HasRoom-next all totals i p n d within is at inside h =
-    let next : drop i all ≡ p ∷ drop (i + 1) all = drop_more all i p within ∙ ap (λ q. q ∷ drop (i + 1) all) (sym is) in
-    let mine : (p.sender == p.sender) ≡ true = grind (arith, nat_tests) in
-    let lacks = rw (next, mine) at (h.each p.sender d (subst (λ m. m < length totals) at inside)) in
-    let packets = lacks.packets in
-    let bytes = lacks.bytes in
-    let few = packets-few p.sender all in
-    let short = bytes-few (packets_from p.sender all) in
-    subst (HasRoom all p) (sym (ap (λ m. get_or totals m d) at)) (record { packets = omega (arith, packets, few); bytes = omega (arith, bytes, few, short) })
-
-pub EachLacks-next : (all : List Packet) (totals : List Total) (i : ℕ) (p : Packet) (n : ℕ) (d total : Total) → i < length all → p ≡ get_or all i p → n ≡ p.sender → n < length totals
-    → EachLacks all (drop i all) totals → total ≡ with_packet p (get_or totals n d) → EachLacks all (drop (i + 1) all) (set totals n total)
-EachLacks-next all totals i p n d total within is at inside h more =
-    let next : drop i all ≡ p ∷ drop (i + 1) all = drop_more all i p within ∙ ap (λ q. q ∷ drop (i + 1) all) (sym is) in
-    subst (λ m. EachLacks all (drop (i + 1) all) (set totals m total)) (sym at)
-    (EachLacks-more all (drop (i + 1) all) p totals total d (subst (λ m. m < length totals) at inside) (subst (λ l. EachLacks all l totals) next h) (more ∙ ap (λ m. with_packet p (get_or totals m d)) at))
-
-pub EachLacks-skip : (all : List Packet) (totals : List Total) (i : ℕ) (p : Packet) (n : ℕ) → i < length all → p ≡ get_or all i p → n ≡ p.sender → length totals ≤ n
-    → EachLacks all (drop i all) totals → EachLacks all (drop (i + 1) all) totals
-EachLacks-skip all totals i p n within is at beyond h =
-    let next : drop i all ≡ p ∷ drop (i + 1) all = drop_more all i p within ∙ ap (λ q. q ∷ drop (i + 1) all) (sym is) in
-    EachLacks-beyond all (drop (i + 1) all) p totals (subst (λ m. length totals ≤ m) at beyond) (subst (λ l. EachLacks all l totals) next h)
 
 -- the total of a sender, read at its number
 pub total-at : (packets : List Packet) (totals : List Total) (s n : ℕ) (d : Total) → n ≡ s → s < length totals → AreTotals packets totals → get_or totals n d ≡ total_of (packets_from s packets)

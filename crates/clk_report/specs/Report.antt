@@ -20,7 +20,7 @@ numbers_text packets bytes = codes " " ++ (decimal packets ++ (codes " " ++ deci
 abbrev pub total_text : List Packet → List ℕ
 total_text packets = numbers_text (length packets) (bytes_of packets)
 
--- `sender S: sent N B, accepted N B, refused N B, evicted N B, emitted N B`, where these packets came out at the device. Sent is
+-- `sender S: sent N B, accepted N B, refused N B, evicted N B, emitted N B`, where these packets came out at any device. Sent is
 -- accepted and refused together.
 abbrev pub tally_text : List Packet → Tally → List ℕ
 tally_text emitted tally =

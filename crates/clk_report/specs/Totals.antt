@@ -1,5 +1,6 @@
 -- Totals of packets, as the report counts them.
-use Rattle.std.specs.Prelude.{◌≡◌, ℕ, ◌+◌, ◌<◌, List, ◌++◌, length, Some, slice_get, codes, decimal}
+use Rattle.std.specs.Prelude.{◌≡◌, ℕ, ◌+◌, ◌*◌, ◌^◌, ◌<◌, List, ◌++◌, length, Some, slice_get, codes, decimal}
+use Rattle.clk_packet.specs.Limits.{most_length}
 use Rattle.clk_packet.specs.declared.packet.Packet.{Packet}
 use Rattle.clk_packet.specs.declared.tally.Tally.{Tally}
 use Rattle.clk_report.specs.declared.total.Total.{Total}
@@ -19,10 +20,15 @@ both one other = record { packets = one.packets + other.packets; bytes = one.byt
 pub record AreTotals (packets : List Packet) (totals : List Total) : Type 0 where
   pub each : (s : ℕ) → s < length totals → slice_get totals s ≡ Some (total_of (packets_from s packets))
 
+-- there is room to count so many packets more
+pub record HasRoom (more : ℕ) (total : Total) : Type 0 where
+  pub packets : total.packets + more < 2 ^ 128
+  pub bytes : total.bytes + most_length * more < 2 ^ 128
+
 abbrev pub words_text : List ℕ → Total → List ℕ
 words_text words total = words ++ numbers_text total.packets total.bytes
 
--- the line of a tally, of whose sender so many packets came out at the device
+-- the line of a tally, of whose sender so many packets came out at all devices
 abbrev pub line_text : Total → Tally → List ℕ
 line_text came_out tally =
     codes "sender " ++ (decimal tally.sender ++ (words_text (codes ": sent") (both (total_of tally.accepted) (total_of tally.refused))

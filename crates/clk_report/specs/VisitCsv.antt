@@ -1,5 +1,5 @@
--- The visit CSV: a header line and a row for each visit of a log (this project's own columns, in rows as the crate csv writes them).
-use Rattle.std.specs.Prelude.{ℕ, List, [], ◌∷◌, ◌++◌, Bool, if◌then◌else◌, Option, Some, None, option_map, codes, decimal}
+-- The visit CSV: a header line and a row for each visit of the logs (this project's own columns, in rows as the crate csv writes them).
+use Rattle.std.specs.Prelude.{ℕ, ◌+◌, List, [], ◌∷◌, ◌++◌, Bool, if◌then◌else◌, Option, Some, None, option_map, codes, decimal}
 use Rattle.std.specs.List.{flat_map}
 use Rattle.csv.specs.Writing.{default_writer, row_text}
 use Rattle.clk_packet.specs.declared.packet.Packet.{Packet}
@@ -28,8 +28,22 @@ columns v =
     decimal v.pull ∷ decimal v.node ∷ decimal v.input ∷ flag_text v.fresh ∷ got_text (λ p. p.sender) v.got ∷ got_text (λ p. p.number) v.got
     ∷ got_text (λ p. p.length) v.got ∷ flag_text v.passed ∷ decimal v.moment ∷ []
 
-abbrev pub rows_text : List Visit → List ℕ
-rows_text log = flat_map (λ v. row_text default_writer (columns v)) log
+-- the column of the device, where rows tell it
+abbrev pub device_column : Option ℕ → List (List ℕ)
+device_column None = []
+device_column (Some d) = decimal d ∷ []
 
-abbrev pub visits_text : List Visit → List ℕ
-visits_text log = header_text ++ rows_text log
+-- a row for each visit of a log
+abbrev pub rows_text : Option ℕ → List Visit → List ℕ
+rows_text device log = flat_map (λ v. row_text default_writer (device_column device ++ columns v)) log
+
+-- the rows of several devices' logs, one log after another, by the devices' numbers from d on
+abbrev pub devices_text : ℕ → List (List Visit) → List ℕ
+devices_text d [] = []
+devices_text d (log ∷ logs) = rows_text (Some d) log ++ devices_text (d + 1) logs
+
+-- The header line, and the rows of the logs. Of several devices each line tells the device first, of one none does.
+abbrev pub visits_text : List (List Visit) → List ℕ
+visits_text [] = header_text
+visits_text (log ∷ []) = header_text ++ rows_text None log
+visits_text (log ∷ other ∷ logs) = codes "device," ++ (header_text ++ devices_text 0 (log ∷ other ∷ logs))

@@ -1,10 +1,12 @@
-//! What a run came to, as texts: a line for each sender, and a row for each visit of a log.
+//! What a run came to, as texts: a line for each sender, and a row for each visit of the logs.
 #![tactic(auto)]
 
+mod laws;
 mod line;
 mod senders;
 mod total;
 mod visits;
 
-pub use senders::report;
+pub use laws::one_device_is_not_told;
+pub use senders::{MAX_DEVICES, report};
 pub use visits::visits_csv;

@@ -10,7 +10,7 @@ use itoa::Buffer;
 /// How many bytes a line has at most.
 pub const LINE: usize = 512;
 
-/// Puts the line of a tally, of whose sender so many packets came out at the device, before this place of some lines, and gives where
+/// Puts the line of a tally, of whose sender so many packets came out at all devices, before this place of some lines, and gives where
 /// it starts.
 pub fn put_line(lines: &mut [u8], tally: &Tally, came_out: Total, end: usize) -> usize
     requires room { 512 ≤ end }
@@ -42,7 +42,7 @@ fn put_total(lines: &mut [u8], words: &[u8], total: Total, end: usize) -> usize
 {
     let end = put_number(lines, total.bytes, end);
     let end = put(lines, b" ", end);
-    let end = put_number(lines, u128::from(total.packets), end);
+    let end = put_number(lines, total.packets, end);
     let end = put(lines, b" ", end);
     put(lines, words, end)
 }

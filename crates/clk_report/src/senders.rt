@@ -3,6 +3,7 @@
 ghost use Rattle.std.specs.Prelude.{◌≡◌, ◌+◌, ◌*◌, ◌<◌, ◌≤◌, ◌++◌, List, All, drop, length};
 ghost use Rattle.clk_packet.specs.Bytes.{Wrote};
 ghost use Rattle.clk_packet.specs.declared.packet.Packet.{Packet};
+ghost use Rattle.clk_report.specs.Devices.{came_out};
 ghost use Rattle.clk_report.specs.Report.{report_text};
 ghost use Rattle.clk_report.specs.Totals.{AreTotals};
 
@@ -10,14 +11,18 @@ use crate::line::{LINE, put_line};
 use crate::total::{FEW, SENDERS, Total, count_by_sender};
 use clk_packet::{Fault, Packet, Sink, Tally, write_all};
 
+/// How many devices there may be.
+pub const MAX_DEVICES: usize = 65_535;
+
 /// How many lines are written at a time.
 const LINES: usize = 64;
 
 /// How many bytes they have at most.
 const ROOM: usize = LINES * LINE;
 
-/// Writes the report: a line for each tally, in order, where these packets came out at the device. `N B` stands for N packets whose
-/// lengths sum to B bytes, and sent is accepted and refused together:
+/// Writes the report: a line for each tally, in order, where these packets came out at each device, of which there are 65,535 at most.
+/// `N B` stands for N packets whose lengths sum to B bytes, sent is accepted and refused together, and emitted counts what came out at
+/// any device:
 ///
 /// `sender S: sent N B, accepted N B, refused N B, evicted N B, emitted N B`
 ///
@@ -26,9 +31,14 @@ const ROOM: usize = LINES * LINE;
 /// # Errors
 ///
 /// Fault 20 where the sink fails. It has taken a front of the report then.
-pub fn report<W: Sink>(tallies: &[Tally], emitted: &[Packet], writer: &mut W) -> Result<(), Fault>
+pub fn report<W: Sink>(
+    tallies: &[Tally],
+    emitted: &[Vec<Packet>],
+    writer: &mut W,
+) -> Result<(), Fault>
+    requires { length emitted.now ≤ MAX_DEVICES }
     ensures { Wrote (W.Sink.taken writer.old) (W.Sink.taken writer.new)
-        (W.Sink.failures writer.old) (W.Sink.failures writer.new) result (report_text emitted.now tallies.now) }
+        (W.Sink.failures writer.old) (W.Sink.failures writer.new) result (report_text (came_out emitted.now) tallies.now) }
 {
     if senders_of(tallies) <= FEW {
         write_lines::<FEW, W>(tallies, emitted, writer)
@@ -53,13 +63,14 @@ fn senders_of(tallies: &[Tally]) -> usize
 #[inline(never)]
 fn write_lines<const N: usize, W: Sink>(
     tallies: &[Tally],
-    emitted: &[Packet],
+    emitted: &[Vec<Packet>],
     writer: &mut W,
 ) -> Result<(), Fault>
     requires size { N ≤ SENDERS }
     requires within { All (λ t. t.sender < N) tallies.now }
+    requires few { length emitted.now ≤ MAX_DEVICES }
     ensures { Wrote (W.Sink.taken writer.old) (W.Sink.taken writer.new)
-        (W.Sink.failures writer.old) (W.Sink.failures writer.new) result (report_text emitted.now tallies.now) }
+        (W.Sink.failures writer.old) (W.Sink.failures writer.new) result (report_text (came_out emitted.now) tallies.now) }
 {
     let mut totals = [Total::NONE; N];
     count_by_sender(&mut totals, emitted);

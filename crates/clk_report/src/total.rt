@@ -1,8 +1,11 @@
 //! Numbers of packets and of their bytes.
 
-ghost use Rattle.std.specs.Prelude.{[]};
-ghost use Rattle.clk_report.specs.Totals.{AreTotals};
+ghost use Rattle.std.specs.Prelude.{◌≤◌, ◌++◌, [], List, All, length};
+ghost use Rattle.clk_packet.specs.declared.packet.Packet.{Packet};
+ghost use Rattle.clk_report.specs.Devices.{came_out};
+ghost use Rattle.clk_report.specs.Totals.{AreTotals, HasRoom};
 
+use crate::senders::MAX_DEVICES;
 use clk_packet::Packet;
 
 /// How many senders there may be.
@@ -14,7 +17,7 @@ pub const FEW: usize = 256;
 /// So many packets, and the sum of their lengths in bytes.
 #[derive(Clone, Copy)]
 pub struct Total {
-    pub packets: u64,
+    pub packets: u128,
     pub bytes: u128,
 }
 
@@ -30,7 +33,7 @@ impl Total {
 
     /// With one packet more.
     fn add(&mut self, packet: Packet)
-        requires packets { self.old.packets + 1 < 2 ^ 64 }
+        requires packets { self.old.packets + 1 < 2 ^ 128 }
         requires bytes { self.old.bytes + packet.length < 2 ^ 128 }
         ensures { self.new ≡ with_packet packet self.old }
     {
@@ -40,7 +43,7 @@ impl Total {
 
     /// With those of another.
     pub fn and(self, other: Total) -> Total
-        requires packets { self.packets + other.packets < 2 ^ 64 }
+        requires packets { self.packets + other.packets < 2 ^ 128 }
         requires bytes { self.bytes + other.bytes < 2 ^ 128 }
         ensures { result ≡ both self other }
     {
@@ -62,10 +65,22 @@ impl Total {
     }
 }
 
-/// Counts packets by the numbers of their senders, in a table that has counted none. Those of a sender beyond the table are left out.
-pub fn count_by_sender(totals: &mut [Total], packets: &[Packet])
+/// Counts packets of each device by the numbers of their senders, in a table that has counted none. Those of a sender beyond the table
+/// are left out.
+pub fn count_by_sender(totals: &mut [Total], emitted: &[Vec<Packet>])
     requires none { AreTotals [] totals.old }
-    ensures totals { AreTotals packets.now totals.new }
+    requires few { length emitted.now ≤ MAX_DEVICES }
+    ensures totals { AreTotals (came_out emitted.now) totals.new }
+{
+    for packets in emitted {
+        count(totals, packets);
+    }
+}
+
+/// Counts more packets, after any others.
+fn count(totals: &mut [Total], packets: &[Packet])
+    requires room { All (HasRoom (length packets.now)) totals.old }
+    ensures counted { (before : List Packet) → AreTotals before totals.old → AreTotals (before ++ packets.now) totals.new }
 {
     for packet in packets {
         let sender = usize::from(packet.sender);

@@ -34,9 +34,9 @@ pub fn assert_visits(rt: &impl Abort, alloc: Global, tree: &str, script: &str, r
 }
 
 fn csv_of(alloc: Global, tree: &str, script: &str) -> Result<Vec<u8>, Fault> {
-    let log = log_of(alloc, tree, script)?;
+    let logs = [log_of(alloc, tree, script)?];
     let mut sink = FailingSink::new(vec![in alloc; 0; AMPLE]?);
-    visits_csv(alloc, &log, &mut sink)?;
+    visits_csv(alloc, &logs, &mut sink)?;
     Ok(sink.taken().to_vec(alloc)?)
 }
 
@@ -45,8 +45,8 @@ pub fn log_of(alloc: Global, tree: &str, script: &str) -> Result<Vec<Visit>, Fau
     let plan = Plan::read(alloc, tree.as_bytes())?;
     let mut reader = FailingSource::new(script.as_bytes().to_vec(alloc)?, usize::MAX);
     let mut writer = FailingSink::new(vec![in alloc; 0; AMPLE]?);
-    let ran = run_plan(alloc, &mut reader, &mut writer, &plan)?;
-    Ok(ran.log().to_vec(alloc)?)
+    let past = run_plan(alloc, &mut reader, &mut writer, &plan)?;
+    Ok(past.log)
 }
 
 /// How a run of a script over a tree ends, and what it wrote, where neither the reader nor the writer fails.

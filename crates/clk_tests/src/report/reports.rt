@@ -28,7 +28,7 @@ fn assert_reports(
     rt: &impl Abort,
     alloc: Global,
     tallies: &[Tally],
-    emitted: &[Packet],
+    emitted: &[Vec<Packet>],
     expected: &[u8],
 ) -> Result<(), AllocError> {
     for room in 0..expected.len() {
@@ -46,7 +46,7 @@ fn reported(
     rt: &impl Abort,
     alloc: Global,
     tallies: &[Tally],
-    emitted: &[Packet],
+    emitted: &[Vec<Packet>],
     room: usize,
 ) -> Result<FailingSink, AllocError> {
     let mut sink = sink_of(alloc, room)?;
@@ -59,7 +59,8 @@ fn a_refused_packet_was_sent(rt: HostRuntime) -> Result<(), Fail> {
     let first = packet(0, 0, 10);
     let tallies = [tally(rt.alloc(), 0, &[first], &[packet(0, 1, 20)], &[])?];
     let expected = b"sender 0: sent 2 30, accepted 1 10, refused 1 20, evicted 0 0, emitted 1 10\n";
-    assert_reports(&rt, rt.alloc(), &tallies, &[first], expected)?;
+    let emitted = [[first].to_vec(rt.alloc())?];
+    assert_reports(&rt, rt.alloc(), &tallies, &emitted, expected)?;
     Ok(())
 }
 
@@ -73,13 +74,15 @@ fn a_packet_is_evicted_by_another_sender(rt: HostRuntime) -> Result<(), Fail> {
     let expected =
         b"sender 0: sent 1 100, accepted 1 100, refused 0 0, evicted 1 100, emitted 0 0\n\
         sender 1: sent 1 60, accepted 1 60, refused 0 0, evicted 0 0, emitted 1 60\n";
-    assert_reports(&rt, rt.alloc(), &tallies, &[second], expected)?;
+    let emitted = [[second].to_vec(rt.alloc())?];
+    assert_reports(&rt, rt.alloc(), &tallies, &emitted, expected)?;
     Ok(())
 }
 
 #[test]
 fn no_sender_has_no_line(rt: HostRuntime) -> Result<(), Fail> {
-    assert_reports(&rt, rt.alloc(), &[], &[packet(0, 0, 10)], b"")?;
+    let emitted = [[packet(0, 0, 10)].to_vec(rt.alloc())?];
+    assert_reports(&rt, rt.alloc(), &[], &emitted, b"")?;
     Ok(())
 }
 
@@ -99,7 +102,8 @@ fn a_sender_is_beyond_the_small_table(rt: HostRuntime) -> Result<(), Fail> {
     let expected = b"sender 255: sent 1 10, accepted 1 10, refused 0 0, evicted 0 0, emitted 1 10\n\
         sender 256: sent 1 20, accepted 1 20, refused 0 0, evicted 0 0, emitted 1 20\n\
         sender 65535: sent 1 30, accepted 1 30, refused 0 0, evicted 0 0, emitted 1 30\n";
-    assert_reports(&rt, rt.alloc(), &tallies, &[last, few, next], expected)?;
+    let emitted = [[last, few, next].to_vec(rt.alloc())?];
+    assert_reports(&rt, rt.alloc(), &tallies, &emitted, expected)?;
     Ok(())
 }
 
@@ -111,16 +115,44 @@ fn packets_of_senders_without_a_tally_are_left_out(rt: HostRuntime) -> Result<()
         tally(rt.alloc(), 0, &[], &[], &[])?,
         tally(rt.alloc(), 1, &[first], &[], &[])?,
     ];
-    let emitted = [
+    let packets = [
         packet(65_535, 0, 50),
         packet(256, 0, 40),
         first,
         packet(257, 0, 30),
         packet(2, 0, 20),
     ];
+    let emitted = [packets.to_vec(rt.alloc())?];
     let expected = b"sender 0: sent 0 0, accepted 0 0, refused 0 0, evicted 0 0, emitted 0 0\n\
         sender 1: sent 1 10, accepted 1 10, refused 0 0, evicted 0 0, emitted 1 10\n";
     assert_reports(&rt, rt.alloc(), &tallies, &emitted, expected)?;
+    Ok(())
+}
+
+// Sender 0's packets came out at the first and at the last device, and none at the one between.
+#[test]
+fn packets_came_out_at_several_devices(rt: HostRuntime) -> Result<(), Fail> {
+    let (first, second, other) = (packet(0, 0, 10), packet(0, 1, 20), packet(1, 0, 5));
+    let tallies = [
+        tally(rt.alloc(), 0, &[first, second], &[], &[])?,
+        tally(rt.alloc(), 1, &[other], &[], &[])?,
+    ];
+    let emitted = [
+        [first].to_vec(rt.alloc())?,
+        Vec::new(rt.alloc()),
+        [other, second].to_vec(rt.alloc())?,
+    ];
+    let expected = b"sender 0: sent 2 30, accepted 2 30, refused 0 0, evicted 0 0, emitted 2 30\n\
+        sender 1: sent 1 5, accepted 1 5, refused 0 0, evicted 0 0, emitted 1 5\n";
+    assert_reports(&rt, rt.alloc(), &tallies, &emitted, expected)?;
+    Ok(())
+}
+
+#[test]
+fn without_a_device_nothing_came_out(rt: HostRuntime) -> Result<(), Fail> {
+    let tallies = [tally(rt.alloc(), 7, &[], &[packet(7, 0, 10)], &[])?];
+    let expected = b"sender 7: sent 1 10, accepted 0 0, refused 1 10, evicted 0 0, emitted 0 0\n";
+    assert_reports(&rt, rt.alloc(), &tallies, &[], expected)?;
     Ok(())
 }
 
@@ -170,7 +202,8 @@ fn each_sender_has_its_line(rt: HostRuntime) -> Result<(), Fail> {
     let packets = one_of_each(rt.alloc())?;
     let tallies = accepted_alone(rt.alloc(), &packets)?;
     let expected = line_of_each(rt.alloc())?;
-    let sink = reported(&rt, rt.alloc(), &tallies, &packets, expected.len())?;
+    let emitted = [packets];
+    let sink = reported(&rt, rt.alloc(), &tallies, &emitted, expected.len())?;
     assert!(rt; sink.taken() == expected.as_bytes());
     Ok(())
 }
@@ -182,7 +215,8 @@ fn a_sender_has_a_million_packets(rt: HostRuntime) -> Result<(), Fail> {
     let tallies = [tally(rt.alloc(), 65_535, &packets, &[], &[])?];
     let expected = b"sender 65535: sent 1000000 65535000000, accepted 1000000 65535000000, \
         refused 0 0, evicted 0 0, emitted 1000000 65535000000\n";
-    let sink = reported(&rt, rt.alloc(), &tallies, &packets, expected.len())?;
+    let emitted = [packets];
+    let sink = reported(&rt, rt.alloc(), &tallies, &emitted, expected.len())?;
     assert_eq!(rt; sink.taken(), expected.as_slice());
     Ok(())
 }

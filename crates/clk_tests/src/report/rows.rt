@@ -1,4 +1,4 @@
-//! The CSV of the log of a row.
+//! The CSV of the log of a row, and of the logs of several devices.
 
 use super::sink_of;
 use crate::sched::row::{Step, session_after};
@@ -18,24 +18,28 @@ pub fn assert_writes(
     expected: &str,
 ) {
     let session = session_after(rt, alloc, tree, steps).expect(rt, "ample memory");
-    let bytes = expected.as_bytes();
-    for room in 0..bytes.len() {
-        let front = &bytes[..room];
-        assert_takes(rt, alloc, session.log(), room, front, Err(Fault::Write));
-    }
-    assert_takes(rt, alloc, session.log(), bytes.len(), bytes, Ok(()));
+    let (log, _) = session.into_parts();
+    assert_writes_all(rt, alloc, &[log], expected);
 }
 
-// Writes the CSV of a log where there is room for so many bytes, and fails unless it ends so and these bytes were written.
+/// Fails unless the CSV of these logs is what is expected, and a writer that fails after fewer bytes has taken them.
+pub fn assert_writes_all(rt: &impl Abort, alloc: Global, logs: &[Vec<Visit>], expected: &str) {
+    let bytes = expected.as_bytes();
+    for room in 0..bytes.len() {
+        assert_takes(rt, alloc, logs, &bytes[..room], Err(Fault::Write));
+    }
+    assert_takes(rt, alloc, logs, bytes, Ok(()));
+}
+
+// Writes the CSV of logs where there is room for so many bytes, and fails unless it ends so and these bytes were written.
 fn assert_takes(
     rt: &impl Abort,
     alloc: Global,
-    log: &[Visit],
-    room: usize,
+    logs: &[Vec<Visit>],
     bytes: &[u8],
     expected: Result<(), Fault>,
 ) {
-    let mut sink = sink_of(alloc, room).expect(rt, "ample memory");
-    assert_eq!(rt; visits_csv(alloc, log, &mut sink), expected);
+    let mut sink = sink_of(alloc, bytes.len()).expect(rt, "ample memory");
+    assert_eq!(rt; visits_csv(alloc, logs, &mut sink), expected);
     assert_eq!(rt; sink.taken(), bytes);
 }

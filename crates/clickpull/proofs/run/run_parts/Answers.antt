@@ -60,8 +60,8 @@ pub returns-clause-written : goal.returns-clause-written
 returns-clause-written g c =
     let read = rw (c.deref.ensures.value, c.deref-2.ensures.value) at c.in_ok-script.ensures in
     let means = rw read.1.closing at (c.in_ok-answer.ensures.means _ read.1.rows) in
-    meaning-known (setup_of c.args.tree (map queued c.args.queues.now) c.args.senders.now) c.in_ok-router.router c.in_ok-router.ensures.made _ c.in_ok-text.text.items (answer_text c.answer_script.new.router c.in_ok-answer.answer)
-    c.answer_script.new.router.session.log (Appends (g.W.Sink.taken c.args.writer.now) (g.W.Sink.taken c.write_answer.new.writer)) c.in_ok-text.ensures.bytes read.0 means c.in_ok-write_answer.ensures.whole
+    meaning-known (setup_of c.args.tree (map queued c.args.queues.now) c.args.senders.now) c.in_ok-router.router c.in_ok-router.ensures.made _ c.in_ok-text.text.items (answer_text c.in_ok-answer.answer)
+    c.in_ok-answer.answer.past.log.items (Appends (g.W.Sink.taken c.args.writer.now) (g.W.Sink.taken c.write_answer.new.writer)) c.in_ok-text.ensures.bytes read.0 means c.in_ok-write_answer.ensures.whole
 
 pub returns-in_err-write_answer-clause-front : goal.returns-in_err-write_answer-clause-front
 returns-in_err-write_answer-clause-front g c =
@@ -69,5 +69,5 @@ returns-in_err-write_answer-clause-front g c =
     let read = rw (c.deref.ensures.value, c.deref-2.ensures.value) at c.in_ok-script.ensures in
     let means = rw read.1.closing at (c.in_ok-answer.ensures.means _ read.1.rows) in
     λ e. meaning-alone setup _ _ _
-    (meaning-known setup c.in_ok-router.router c.in_ok-router.ensures.made _ c.in_ok-text.text.items (answer_text c.answer_script.new.router c.in_ok-answer.answer) c.answer_script.new.router.session.log
+    (meaning-known setup c.in_ok-router.router c.in_ok-router.ensures.made _ c.in_ok-text.text.items (answer_text c.in_ok-answer.answer) c.in_ok-answer.answer.past.log.items
     (AppendsFront (g.W.Sink.taken c.args.writer.now) (g.W.Sink.taken c.write_answer.new.writer)) c.in_ok-text.ensures.bytes read.0 means c.in_err-write_answer.ensures.front)

@@ -1,43 +1,17 @@
-use Rattle.std.proofs.Common.{subst, arith}
-use Rattle.std.proofs.lemmas.List.{drop_all}
-use Rattle.clk_report.proofs.TotalLemmas.{EachLacks, EachLacks-next, EachLacks-skip, AreTotals-none, HasRoom-next}
-use Rattle.clk_report.specs.declared.total.Total.{Total}
+use Rattle.std.proofs.Common.{length, arith}
+use Rattle.clk_report.proofs.TotalLemmas.{AreCountedTo-room, AreCountedTo-more, all-devices-counted}
 use Rattle.clk_report.proofs.total.count_by_sender.Goals as goal
-use Rattle.clk_report.proofs.total.count_by_sender.Goals.{then-sender-totals, else-sender-totals}
 
--- what would stand beyond the table
-abbrev none : Total
-none = record { packets = 0; bytes = 0 }
+pub loop-packets-init : goal.loop-packets-init
+loop-packets-init c = record { are = c.requires.none; few = omega arith }
 
-pub add-requires-clause-packets : goal.add-requires-clause-packets
-add-requires-clause-packets c =
-    let room = HasRoom-next c.args.packets.now c.loop-packet.totals c.loop-packet.packet-index c.packet-item.result c.from-sender.result none c.loop-packet-test.true c.packet-item.is c.from-sender.ensures c.if-sender-totals.true
-    c.loop-packet.invariant in
-    let packets = room.packets in
-    omega (arith, packets)
+pub count-requires : goal.count-requires
+count-requires c = record { room = AreCountedTo-room c.args.emitted.now c.loop-packets.totals c.loop-packets.packets-index (length c.deref.result.now) (omega arith) (omega arith) c.loop-packets.invariant }
 
-pub add-requires-clause-bytes : goal.add-requires-clause-bytes
-add-requires-clause-bytes c =
-    let room = HasRoom-next c.args.packets.now c.loop-packet.totals c.loop-packet.packet-index c.packet-item.result c.from-sender.result none c.loop-packet-test.true c.packet-item.is c.from-sender.ensures c.if-sender-totals.true
-    c.loop-packet.invariant in
-    let bytes = room.bytes in
-    omega (arith, bytes)
-
-pub loop-packet-preserved : goal.loop-packet-preserved
-loop-packet-preserved c =
-    elim c.if-sender-totals.branch [
-      | then-sender-totals w ↦
-          rw (w.totals-is)
-          (EachLacks-next c.args.packets.now c.loop-packet.totals c.loop-packet.packet-index c.packet-item.result c.from-sender.result none w.add.new.self c.loop-packet-test.true c.packet-item.is c.from-sender.ensures
-          w.if-sender-totals.true c.loop-packet.invariant w.add.ensures)
-      | else-sender-totals w ↦
-          rw (w.totals-is)
-          (EachLacks-skip c.args.packets.now c.loop-packet.totals c.loop-packet.packet-index c.packet-item.result c.from-sender.result c.loop-packet-test.true c.packet-item.is c.from-sender.ensures
-          w.if-sender-totals.false c.loop-packet.invariant)
-    ]
+pub loop-packets-preserved : goal.loop-packets-preserved
+loop-packets-preserved c =
+    AreCountedTo-more c.args.emitted.now c.loop-packets.totals c.count.new.totals c.loop-packets.packets-index c.packets-item.result c.deref.result.now c.loop-packets-test.true c.packets-item.is c.deref.ensures.value (omega arith)
+    c.loop-packets.invariant c.count.ensures.counted
 
 pub returns : goal.returns
-returns c =
-    record {
-      totals = AreTotals-none c.args.packets.now c.loop-packet.totals (subst (λ l. EachLacks c.args.packets.now l c.loop-packet.totals) (drop_all c.loop-packet.packet-index c.args.packets.now (omega arith)) c.loop-packet.invariant);
-    }
+returns c = record { totals = all-devices-counted c.args.emitted.now c.loop-packets.totals c.loop-packets.packets-index (omega arith) c.loop-packets.invariant }

@@ -7,7 +7,7 @@ use Rattle.clk_report.proofs.visits.rows_text.Given as goal
 -- what is written and the rows of what is left are all, and the writer stands at the start of a row
 abbrev pub invariant-loop-visit : goal.invariant-loop-visit
 invariant-loop-visit l = record {
-  text : append_known (text_written (λ v. Some v.items) l.rows) (rows_text (drop l.visit-index l.log)) ≡ Some (rows_text l.log);
+  text : append_known (text_written (λ v. Some v.items) l.rows) (rows_text l.device (drop l.visit-index l.log)) ≡ Some (rows_text l.device l.log);
   setup : writer_setup l.rows ≡ default_writer;
   fields : fields_written l.rows ≡ 0;
   wrote : has_written l.rows ≡ false;

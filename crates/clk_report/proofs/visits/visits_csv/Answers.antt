@@ -1,41 +1,41 @@
-use Rattle.std.proofs.Common.{◌≡◌, ◌∙◌, length, sym, arith}
-use Rattle.std.proofs.lemmas.Bool.Decides.{nat_tests}
+use Rattle.std.proofs.Common.{None, arith}
 use Rattle.std.proofs.lemmas.Result.{err_from_is_err_and}
-use Rattle.csv.specs.Writing.{default_writer, row_text}
 use Rattle.clk_packet.proofs.BytesLemmas.{Wrote-cut}
-use Rattle.clk_report.specs.VisitCsv.{columns, header_text, rows_text}
-use Rattle.clk_report.proofs.ReportLemmas.{HasWritten-part, HasWritten-cut, HasWritten-all, flat_map-split}
+use Rattle.clk_report.specs.Devices.{lists_of}
+use Rattle.clk_report.specs.VisitCsv.{header_text, rows_text, devices_text}
+use Rattle.clk_report.proofs.VisitLemmas.{WroteOrStopped-wrote, WroteOrStopped-then, WroteOrStopped-same, devices_header, no-log, one-log, many-logs}
 use Rattle.clk_report.proofs.visits.visits_csv.Goals as goal
 
-pub returns-in_err-write_all-clause-front : goal.returns-in_err-write_all-clause-front
-returns-in_err-write_all-clause-front g c =
+pub returns-in-empty : goal.returns-in-empty
+returns-in-empty g c =
+    let w = WroteOrStopped-same _ _ _ _ _ header_text _ (no-log c.args.logs.now (omega arith)) (WroteOrStopped-wrote _ _ _ _ _ header_text c.write_all.ensures) in
+    record { whole = w.whole; front = w.front; fault = w.fault; failures = w.failures }
+
+pub returns-in_err-write_all-in-len1-clause-front : goal.returns-in_err-write_all-in-len1-clause-front
+returns-in_err-write_all-in-len1-clause-front g c =
     let p = err_from_is_err_and c.from_residual.result c.from_residual.ensures.1 in
-    let cut = Wrote-cut _ _ _ _ _ header_text (rows_text c.args.log.now) c.in_err-write_all.ensures in
-    rw (p.1) cut.front
+    let cut = Wrote-cut _ _ _ _ _ header_text (rows_text None c.log-item.result.items) c.in_err-write_all-in-len1.ensures in
+    rw (p.1, one-log c.args.logs.now c.log-item.result (omega arith) c.log-item.is) cut.front
 
-pub returns-in_err-write_all-2-clause-front : goal.returns-in_err-write_all-2-clause-front
-returns-in_err-write_all-2-clause-front g c =
-    let p = err_from_is_err_and c.from_residual-in_err-write_all-2.result c.from_residual-in_err-write_all-2.ensures.1 in
-    let part = c.split_at.result.0.now in
-    let after = c.split_at.result.1.now in
-    let rows = c.deref.ensures.value ∙ c.in_ok-rows.ensures.rows in
-    let split = flat_map-split (λ v. row_text default_writer (columns v)) c.loop-rest.rest.now part after c.min.result c.split_at.ensures.front c.split_at.ensures.back in
-    let failed = rw rows at c.in_err-write_all-2.ensures in
-    rw (p.1) (HasWritten-cut _ _ _ _ (rows_text c.loop-rest.rest.now) (rows_text part) (rows_text after) c.loop-rest.invariant.front split failed.front)
+pub returns-in_ok-write_all-in-len1 : goal.returns-in_ok-write_all-in-len1
+returns-in_ok-write_all-in-len1 g c =
+    let rows = rw c.deref.ensures.value at c.write_rows.ensures in
+    let w =
+    WroteOrStopped-same _ _ _ _ _ _ _ (one-log c.args.logs.now c.log-item.result (omega arith) c.log-item.is)
+    (WroteOrStopped-then _ _ _ _ _ _ _ _ header_text (rows_text None c.log-item.result.items) c.in_ok-write_all-in-len1.ensures rows)
+    in
+    record { whole = w.whole; front = w.front; fault = w.fault; failures = w.failures }
 
-pub loop-rest-preserved : goal.loop-rest-preserved
-loop-rest-preserved g c =
-    let part = c.split_at.result.0.now in
-    let after = c.split_at.result.1.now in
-    let rows = c.deref.ensures.value ∙ c.in_ok-rows.ensures.rows in
-    let split = flat_map-split (λ v. row_text default_writer (columns v)) c.loop-rest.rest.now part after c.min.result c.split_at.ensures.front c.split_at.ensures.back in
-    let wrote = rw rows at c.in_ok-write_all-2.ensures in
-    record {
-      front = HasWritten-part _ _ _ _ (rows_text c.loop-rest.rest.now) (rows_text part) (rows_text after) c.loop-rest.invariant.front split wrote.whole;
-      failures = wrote.succeeds ∙ c.loop-rest.invariant.failures;
-    }
+pub returns-in_err-write_all-in_default-clause-front : goal.returns-in_err-write_all-in_default-clause-front
+returns-in_err-write_all-in_default-clause-front g c =
+    let p = err_from_is_err_and c.from_residual-in_err-write_all-in_default.result c.from_residual-in_err-write_all-in_default.ensures.1 in
+    let cut = Wrote-cut _ _ _ _ _ devices_header (devices_text 0 (lists_of c.args.logs.now)) c.in_err-write_all-in_default.ensures in
+    rw (p.1, many-logs c.args.logs.now (omega arith)) cut.front
 
-pub returns-clause-whole : goal.returns-clause-whole
-returns-clause-whole g c =
-    let none : length c.loop-rest.rest.now ≡ 0 = let e = sym c.is_empty.ensures ∙ c.loop-rest-test.false in grind (arith, nat_tests) in
-    HasWritten-all (λ v. row_text default_writer (columns v)) c.loop-rest.rest.now _ _ _ none c.loop-rest.invariant.front
+pub returns-in_ok-write_all-in_default : goal.returns-in_ok-write_all-in_default
+returns-in_ok-write_all-in_default g c =
+    let w =
+    WroteOrStopped-same _ _ _ _ _ _ _ (many-logs c.args.logs.now (omega arith))
+    (WroteOrStopped-then _ _ _ _ _ _ _ _ devices_header (devices_text 0 (lists_of c.args.logs.now)) c.in_ok-write_all-in_default.ensures c.write_devices.ensures)
+    in
+    record { whole = w.whole; front = w.front; fault = w.fault; failures = w.failures }

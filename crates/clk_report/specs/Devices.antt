@@ -1,0 +1,13 @@
+-- Lists that devices have each, by the devices' rising numbers.
+use Rattle.std.specs.Prelude.{List, map, Vec}
+use Rattle.std.specs.List.{flat_map}
+use Rattle.std.specs.declared.alloc.Global.{Global}
+use Rattle.clk_packet.specs.declared.packet.Packet.{Packet}
+
+-- the lists themselves
+abbrev pub lists_of : {X : Type 0} → List (Vec X Global) → List (List X)
+lists_of lists = map (λ l. l.items) lists
+
+-- all packets that came out, at whichever device
+abbrev pub came_out : List (Vec Packet Global) → List Packet
+came_out emitted = flat_map (λ (packets : Vec Packet Global). packets.items) emitted
