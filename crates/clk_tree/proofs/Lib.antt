@@ -55,6 +55,7 @@ pub mod FedPlans
 pub mod QueueLemmas
 pub mod LeafLemmas
 pub mod SharedOut
+pub mod QueueLaws
 pub mod PlanLemmas
 pub mod PartSteps
 pub mod PathSteps

@@ -137,7 +137,9 @@ impl Plan {
     /// The queues of the plan, by their numbers.
     pub fn queues(&self) -> &[QueueSpec]
         ensures queues { map queued result.now ≡ queues_of self.now }
+        ensures few { length (queues_of self.now) ≤ most_elements }
         ensures capacities { AllByRecursion HasCapacity (queues_of self.now) }
+        ensures senders { AllByRecursion (λ q. AreRising q.senders) (queues_of self.now) }
         ensures devices { AllByRecursion (λ q. q.device < device_count self.now) (queues_of self.now) }
     {
         &self.queues

@@ -1,10 +1,12 @@
-use Rattle.std.proofs.Common.{◌<◌, map, subst}
+use Rattle.std.proofs.Common.{◌<◌, ◌≤◌, length, map, subst}
 use Rattle.std.specs.List.{AllByRecursion}
+use Rattle.clk_sched.specs.Limits.{most_elements}
 use Rattle.clk_tree.specs.Kept.{planned}
 use Rattle.clk_tree.specs.PlanTree.{device_count}
-use Rattle.clk_tree.specs.PlanParts.{Queued, queues_of, HasCapacity}
+use Rattle.clk_tree.specs.PlanParts.{Queued, queues_of, AreRising, HasCapacity}
 use Rattle.clk_tree.proofs.PartLemmas.{queues-capacities}
 use Rattle.clk_tree.proofs.LeafLemmas.{denoted-devices}
+use Rattle.clk_tree.proofs.QueueLaws.{queues-few, queues-rise}
 use Rattle.clk_tree.proofs.plan.Plan.queues.Goals as goal
 
 pub returns-clause-capacities : goal.returns-clause-capacities
@@ -16,3 +18,13 @@ pub returns-clause-devices : goal.returns-clause-devices
 returns-clause-devices c =
     subst (λ plan. AllByRecursion (λ (q : Queued). q.device < device_count plan) (queues_of plan)) c.self.view_is
     (denoted-devices c.self.invariant.denoted.0 (map planned c.self.inside.elements.items) c.self.invariant.denoted.1)
+
+pub returns-clause-few : goal.returns-clause-few
+returns-clause-few c =
+    subst (λ plan. length (queues_of plan) ≤ most_elements) c.self.view_is
+    (queues-few c.self.invariant.denoted.0 (map planned c.self.inside.elements.items) c.self.invariant.denoted.1)
+
+pub returns-clause-senders : goal.returns-clause-senders
+returns-clause-senders c =
+    subst (λ plan. AllByRecursion (λ (q : Queued). AreRising q.senders) (queues_of plan)) c.self.view_is
+    (queues-rise c.self.invariant.denoted.0 (map planned c.self.inside.elements.items) c.self.invariant.denoted.1)
