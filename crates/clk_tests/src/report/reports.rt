@@ -1,8 +1,10 @@
 //! Reports of worked rows, and of many senders and packets.
 
+ghost use Rattle.std.specs.Prelude.{◌≤◌, length};
+
 use super::{packet, sink_of};
 use clk_packet::{FailingSink, Fault, Packet, Packets, Tally};
-use clk_report::report;
+use clk_report::{MAX_DEVICES, report};
 use std::alloc::{AllocError, Global};
 use std::process::Abort;
 use std::test::Fail;
@@ -30,7 +32,9 @@ fn assert_reports(
     tallies: &[Tally],
     emitted: &[Vec<Packet>],
     expected: &[u8],
-) -> Result<(), AllocError> {
+) -> Result<(), AllocError>
+    requires { length emitted.now ≤ MAX_DEVICES }
+{
     for room in 0..expected.len() {
         let mut sink = sink_of(alloc, room)?;
         assert_eq!(rt; report(tallies, emitted, &mut sink), Err(Fault::Write));
@@ -48,7 +52,9 @@ fn reported(
     tallies: &[Tally],
     emitted: &[Vec<Packet>],
     room: usize,
-) -> Result<FailingSink, AllocError> {
+) -> Result<FailingSink, AllocError>
+    requires { length emitted.now ≤ MAX_DEVICES }
+{
     let mut sink = sink_of(alloc, room)?;
     assert_eq!(rt; report(tallies, emitted, &mut sink), Ok(()));
     Ok(sink)
