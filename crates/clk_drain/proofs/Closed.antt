@@ -1,12 +1,13 @@
 -- What closing a session over its lines comes to.
 use Rattle.std.proofs.Common.{◌≡◌, ℕ, ◌+◌, ◌-◌, true, List, [], ◌∷◌, length, map, max, refl, sym, ◌∙◌, subst}
 use Rattle.std.specs.List.{AllByRecursion}
+use Rattle.clk_packet.specs.declared.packet.Packet.{Packet}
 use Rattle.clk_sched.specs.Tree.{Tree, leaves_distinct}
 use Rattle.clk_sched.specs.Conservation.{ConservesPackets, ConservesCounts, MakesNothing}
 use Rattle.clk_sched.specs.Results.{emitted}
 use Rattle.clk_sched.specs.Session.{Progress, counted_moment, IsDrained, GivesAll}
 use Rattle.clk_drain.specs.declared.drained.Drained.{Drained}
-use Rattle.clk_drain.specs.Line.{LineLists, senders_at, HaveOwnSenders}
+use Rattle.clk_drain.specs.Line.{LineLists, seats_in, senders_at, HaveOwnSenders}
 use Rattle.clk_drain.specs.Closing.{left_over, queue_of_line, device_of, HasSent, IsDrainedOver}
 use Rattle.clk_drain.specs.Outcome.{Device, IsSettledOutcome}
 use Rattle.clk_drain.specs.Senders.{AreApart}
@@ -15,7 +16,7 @@ use Rattle.clk_drain.proofs.Left.{IsLeft, left-is}
 use Rattle.clk_drain.proofs.Still.{still-accepted, still-evicted, still-seats, still-queues}
 use Rattle.clk_drain.proofs.AllGiven.{all-given}
 use Rattle.clk_drain.proofs.FromSenders.{emitted-of, emitted-own}
-use Rattle.clk_drain.proofs.Settling.{settled-outcome}
+use Rattle.clk_drain.proofs.Settling.{some-sent, settled-outcome}
 
 each-within : (lines : List LineLists) → AllByRecursion IsSettledLine lines → AllByRecursion IsWithin lines
 each-within [] h = tt
@@ -39,12 +40,15 @@ drained-over session new lines gathered after moment left drained conserves coun
     let given = all-given session new after (max (counted_moment session) moment) h.drained.made h.distinct (counts new.tree h.distinct) (subst (λ n. IsDrained session new (max (counted_moment session) moment) h.drained.made n) is_left h.drained.gives.drained) h.drained.own (each-within after h.settled) in
     let emits = emitted-of new after (conserves new.tree h.distinct) (nothing new.tree) run given.0 h.drained.own apart h.settled in
     let known = emitted-own new after (conserves new.tree h.distinct) (nothing new.tree) run given.0 h.drained.own apart h.settled in
-    let whole = settled-outcome new after drained.tallies.items (emitted new.log) run refl given.0 h.drained.own apart h.settled given.1 emits known tallies in
+    let some = some-sent after apart h.settled in
+    let seats : seats_in after ≡ seats_in lines = still-seats lines after still in
+    let settled : (packets : ℕ → List Packet) → AllByRecursion (HasSent packets) (seats_in lines) → IsSettledOutcome packets (record { tree = new.tree; queues = map queue_of_line after; log = new.log; emitted = emitted new.log } ∷ []) drained.tallies.items =
+    λ packets offered. settled-outcome packets new after drained.tallies.items (emitted new.log) run refl given.0 h.drained.own apart (subst (AllByRecursion (HasSent packets)) (sym seats) offered) h.settled given.1 emits known tallies in
     let is_device : record { tree = new.tree; queues = map queue_of_line after; log = new.log; emitted = emitted new.log } ≡ device_of session lines drained =
     λ i. record { tree = h.drained.gives.drained.tree i; queues = still-queues lines after still i; log = sym log i; emitted = sym out i } in record {
-      sent = whole.0;
-      offered = subst (AllByRecursion (HasSent whole.0)) (still-seats lines after still) whole.1;
-      outcome = subst (λ (d : Device). IsSettledOutcome whole.0 (d ∷ []) drained.tallies.items) is_device whole.2;
+      sent = some.0;
+      offered = subst (AllByRecursion (HasSent some.0)) seats some.1;
+      outcome = λ packets offered. subst (λ (d : Device). IsSettledOutcome packets (d ∷ []) drained.tallies.items) is_device (settled packets offered);
       made = h.drained.made;
       goes_on = subst (λ (x : Progress × ℕ). GivesAll session x.0 (max (counted_moment session) moment) h.drained.made x.1) (λ i. (record { tree = h.drained.gives.drained.tree i; log = sym log i }, left-is session lines gathered left h.leaves_some i)) h.drained.gives;
     }

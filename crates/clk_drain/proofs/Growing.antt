@@ -26,7 +26,7 @@ pub all-none : (lines : List LineLists) → pulling_all (λ q. []) lines ≡ lin
 all-none [] = refl
 all-none (l ∷ lines) = λ i. pulling-none l i ∷ all-none lines i
 
-all-twice : (f g : ℕ → List Packet) (lines : List LineLists) → pulling_all g (pulling_all f lines) ≡ pulling_all (λ q. f q ++ g q) lines
+pub all-twice : (f g : ℕ → List Packet) (lines : List LineLists) → pulling_all g (pulling_all f lines) ≡ pulling_all (λ q. f q ++ g q) lines
 all-twice f g [] = refl
 all-twice f g (l ∷ lines) = λ i. pulling-twice l (f l.leaf) (g l.leaf) i ∷ all-twice f g lines i
 

@@ -9,7 +9,7 @@ use Rattle.clk_sched.specs.Tree.{Tree}
 use Rattle.clk_sched.specs.Places.{Answers}
 use Rattle.clk_sched.specs.Results.{leaf_packets}
 use Rattle.clk_sched.specs.Session.{Progress, newly, counted_moment, tree_queue, IsPulledOnce, IsDrained, GivesAll}
-use Rattle.clk_drain.specs.Line.{LineLists, PullsAt, AreLinesOf, lasting_of, AreStill}
+use Rattle.clk_drain.specs.Line.{LineLists, PullsAt, pulling_all, AreLinesOf, lasting_of, AreStill}
 use Rattle.clk_drain.specs.Parts.{IsDrainOf}
 use Rattle.clk_drain.proofs.Growing.{grown, lines-grown}
 use Rattle.clk_drain.proofs.Still.{pulled-still}
@@ -49,3 +49,8 @@ lines-drained old new lines pulled left after moment made packets gives from ans
       made = made;
       gives = gives;
     }
+
+-- What a pull took of each line.
+pub lines-taken : (tree : Tree) (before : List LineLists) (more : List Visit) (after : List LineLists) (result : Result (Option Packet) Fault) → OnOk result (Answers PullsAt (tree_queue tree) before more after) → OnOk result (after ≡ pulling_all (λ q. leaf_packets tree q more) before)
+lines-taken tree before more after (Ok got) answers = grown tree before more after answers
+lines-taken tree before more after (Err fault) answers = tt

@@ -1,5 +1,5 @@
 -- On which line a sender has its seat.
-use Rattle.std.proofs.Common.{◌≡◌, ℕ, ◌==◌, ◌||◌, ◌⊎◌, inl, inr, Bool, true, false, true≢false, List, [], ◌∷◌, ◌++◌, map, Option, Some, None, MatchOption, refl, sym, ap, ◌∙◌, subst, if◌then◌else◌}
+use Rattle.std.proofs.Common.{◌≡◌, ℕ, ◌==◌, ◌||◌, ◌⊎◌, inl, inr, Bool, true, false, true≢false, List, [], ◌∷◌, ◌++◌, map, Option, Some, None, MatchOption, refl, sym, ap, ◌∙◌, subst}
 use Rattle.std.specs.List.{AllByRecursion}
 use Rattle.std.proofs.lemmas.Bool.{eqb-true}
 use Rattle.std.proofs.lemmas.List.{map-append}
@@ -14,36 +14,7 @@ use Rattle.clk_sched.specs.Session.{Progress}
 use Rattle.clk_drain.specs.Senders.{AreApart}
 use Rattle.clk_drain.specs.Line.{LineLists, leaves_of, seats_of, seats_in, senders_at, AreLinesOf, HaveOwnSenders}
 use Rattle.clk_drain.specs.Parts.{IsSettledLine}
-
--- a sender of two lists that were joined
-has-left : (a b : List ℕ) (s : ℕ) → has_sender a s ≡ true → has_sender (a ++ b) s ≡ true
-has-left [] b s h = absurd (true≢false (sym h))
-has-left (t ∷ a) b s h = by_test (t == s) (has-left a b s) h
-  where
-    by_test : (c : Bool) → (has_sender a s ≡ true → has_sender (a ++ b) s ≡ true) → (if c then true else has_sender a s) ≡ true → (if c then true else has_sender (a ++ b) s) ≡ true
-    by_test true again k = refl
-    by_test false again k = again k
-
-has-right : (a b : List ℕ) (s : ℕ) → has_sender b s ≡ true → has_sender (a ++ b) s ≡ true
-has-right [] b s h = h
-has-right (t ∷ a) b s h = by_test (t == s) (has-right a b s h)
-  where
-    by_test : (c : Bool) → has_sender (a ++ b) s ≡ true → (if c then true else has_sender (a ++ b) s) ≡ true
-    by_test true again = refl
-    by_test false again = again
-
--- Of joined lists in which no sender stands twice, one has it.
-not-both : (a b : List ℕ) (s : ℕ) → AreApart (a ++ b) → has_sender a s ≡ true → has_sender b s ≡ true → ⊥
-not-both [] b s apart h k = true≢false (sym h)
-not-both (t ∷ a) b s apart h k = by_test (t == s) refl (not-both a b s apart.1) h
-  where
-    by_test : (c : Bool) → (t == s) ≡ c → (has_sender a s ≡ true → has_sender b s ≡ true → ⊥) → (if c then true else has_sender a s) ≡ true → ⊥
-    by_test true e again m = true≢false (sym (has-right a b t (subst (λ r. has_sender b r ≡ true) (sym (eqb-true t s e)) k)) ∙ apart.0)
-    by_test false e again m = again m k
-
-apart-right : (a b : List ℕ) → AreApart (a ++ b) → AreApart b
-apart-right [] b apart = apart
-apart-right (t ∷ a) b apart = apart-right a b apart.1
+use Rattle.clk_drain.proofs.Apart.{has-left, has-right, not-both, apart-parts}
 
 -- the senders that have seats on a line
 abbrev pub line_senders : LineLists → List ℕ
@@ -68,7 +39,7 @@ one-leaf s q r [] own h k = absurd h
 one-leaf s q r (l ∷ lines) own (inl h) (inl k) = sym h.0 ∙ k.0
 one-leaf s q r (l ∷ lines) own (inl h) (inr k) = absurd (not-both (line_senders l) (senders_at (seats_in lines)) s (subst AreApart (joined l lines) own) h.1 (sits-has s r lines k))
 one-leaf s q r (l ∷ lines) own (inr h) (inl k) = absurd (not-both (line_senders l) (senders_at (seats_in lines)) s (subst AreApart (joined l lines) own) k.1 (sits-has s q lines h))
-one-leaf s q r (l ∷ lines) own (inr h) (inr k) = one-leaf s q r lines (apart-right (line_senders l) (senders_at (seats_in lines)) (subst AreApart (joined l lines) own)) h k
+one-leaf s q r (l ∷ lines) own (inr h) (inr k) = one-leaf s q r lines (apart-parts (line_senders l) (senders_at (seats_in lines)) (subst AreApart (joined l lines) own)).1 h k
 
 -- the senders that a queue was opened with are those of its seats
 rooms-senders : (seats : List SeatLists) → map (λ (r : ℕ × ℕ). r.0) (map (λ (l : SeatLists). (l.sender, l.room)) seats) ≡ senders_at seats

@@ -1,5 +1,5 @@
 -- Settled lines, all of whose packets came out, have a settled outcome.
-use Rattle.std.proofs.Common.{◌≡◌, ℕ, ◌==◌, inl, inr, Bool, true, false, true≢false, not, List, [], ◌∷◌, ◌++◌, map, filter, MatchOption, refl, sym, ap, ◌∙◌, subst, arith, if◌then◌else◌, eq-eqb, ne_eqb, append-nil}
+use Rattle.std.proofs.Common.{◌≡◌, ℕ, ◌==◌, inl, inr, Bool, true, false, not, List, [], ◌∷◌, ◌++◌, map, filter, MatchOption, refl, sym, ap, ◌∙◌, subst, arith, if◌then◌else◌, eq-eqb, ne_eqb, append-nil}
 use Rattle.std.specs.List.{flat_map, AllByRecursion}
 use Rattle.std.proofs.lemmas.Bool.{eqb-false}
 use Rattle.clk_packet.specs.declared.packet.Kind.TheVariants.{TailDrop, FrontDrop}
@@ -16,15 +16,16 @@ use Rattle.clk_drain.specs.Line.{LineLists, seats_of, seats_in, senders_at, AreL
 use Rattle.clk_drain.specs.Outcome.{SharedQueue, Device, senders_to, IsTallied, tally_for, IsQueueSettled, IsSettledOutcome}
 use Rattle.clk_drain.specs.Closing.{queue_of_line, AreOffered, HasSent}
 use Rattle.clk_drain.specs.Parts.{IsSettledLine, HasAllTaken, tallies_in, AreInOrder}
+use Rattle.clk_drain.proofs.Apart.{has-here, has-later, not-either, apart-parts}
 use Rattle.clk_drain.proofs.Seated.{joined}
 use Rattle.clk_drain.proofs.Tallies.{tellers, in-order-rise, in-order-found, in-order-all, all-split, all-weaker, tellers-in, AreFound, each-found, none-filtered, no-evicted, accepted-same, lost-some}
 
 -- What holds of all members of lists.
-all-join : {X : Type 0} (P : X → Type 0) (xs ys : List X) → AllByRecursion P xs → AllByRecursion P ys → AllByRecursion P (xs ++ ys)
+pub all-join : {X : Type 0} (P : X → Type 0) (xs ys : List X) → AllByRecursion P xs → AllByRecursion P ys → AllByRecursion P (xs ++ ys)
 all-join P [] ys h k = k
 all-join P (x ∷ xs) ys h k = (h.0, all-join P xs ys h.1 k)
 
-all-both : {X : Type 0} (P Q R : X → Type 0) (xs : List X) → ((x : X) → P x → Q x → R x) → AllByRecursion P xs → AllByRecursion Q xs → AllByRecursion R xs
+pub all-both : {X : Type 0} (P Q R : X → Type 0) (xs : List X) → ((x : X) → P x → Q x → R x) → AllByRecursion P xs → AllByRecursion Q xs → AllByRecursion R xs
 all-both P Q R [] f h k = tt
 all-both P Q R (x ∷ xs) f h k = (f x h.0 k.0, all-both P Q R xs f h.1 k.1)
 
@@ -32,27 +33,9 @@ all-both P Q R (x ∷ xs) f h k = (f x h.0 k.0, all-both P Q R xs f h.1 k.1)
 all-named : {X : Type 0} (name : X → ℕ) (xs : List X) → AllByRecursion (λ x. has_sender (map name xs) (name x) ≡ true) xs
 all-named name [] = tt
 all-named {X} name (x ∷ xs) = (
-  ap (λ (b : Bool). if b then true else has_sender (map name xs) (name x)) (eq-eqb (name x) (name x) refl),
-  all-weaker (λ (y : X). has_sender (map name xs) (name y) ≡ true) (λ (y : X). has_sender (map name (x ∷ xs)) (name y) ≡ true) xs (λ y e. later (name x == name y) (has_sender (map name xs) (name y)) e) (all-named name xs),
+  has-here (name x) (map name xs),
+  all-weaker (λ (y : X). has_sender (map name xs) (name y) ≡ true) (λ (y : X). has_sender (map name (x ∷ xs)) (name y) ≡ true) xs (λ y e. has-later (name x == name y) (has_sender (map name xs) (name y)) e) (all-named name xs),
 )
-  where
-    later : (b has : Bool) → has ≡ true → (if b then true else has) ≡ true
-    later true has e = refl
-    later false has e = e
-
--- Senders that stand apart.
-not-either : (b has : Bool) → (if b then true else has) ≡ false → (b ≡ false) × (has ≡ false)
-not-either true has e = absurd (true≢false e)
-not-either false has e = (refl, e)
-
--- a sender that isn't in two lists joined is not in the first
-none-in : (s : ℕ) (xs ys : List ℕ) → has_sender (xs ++ ys) s ≡ false → has_sender xs s ≡ false
-none-in s [] ys e = refl
-none-in s (x ∷ xs) ys e = let both = not-either (x == s) (has_sender (xs ++ ys) s) e in ap (λ (b : Bool). if b then true else has_sender xs s) both.0 ∙ none-in s xs ys both.1
-
-apart-parts : (xs ys : List ℕ) → AreApart (xs ++ ys) → AreApart xs × AreApart ys
-apart-parts [] ys h = (tt, h)
-apart-parts (x ∷ xs) ys h = let rest = apart-parts xs ys h.1 in ((none-in x xs ys h.0, rest.0), rest.1)
 
 -- a sender that no seat has is another than each seat's
 others : (s : ℕ) (seats : List SeatLists) → has_sender (senders_at seats) s ≡ false → AllByRecursion (λ (c : SeatLists). (s == c.sender) ≡ false) seats
@@ -96,7 +79,7 @@ each-apart [] h = tt
 each-apart (l ∷ lines) h = let both = apart-parts (senders_at (seats_of l)) (senders_at (seats_in lines)) (subst AreApart (joined l lines) h) in (both.0, each-apart lines both.1)
 
 -- the senders to a device's queues are those of the lines
-senders-same : (lines : List LineLists) → flat_map (λ (q : SharedQueue). q.senders) (map queue_of_line lines) ≡ senders_at (seats_in lines)
+pub senders-same : (lines : List LineLists) → flat_map (λ (q : SharedQueue). q.senders) (map queue_of_line lines) ≡ senders_at (seats_in lines)
 senders-same [] = refl
 senders-same (l ∷ lines) = ap (λ m. senders_at (seats_of l) ++ m) (senders-same lines) ∙ sym (joined l lines)
 
@@ -197,38 +180,35 @@ all-ready sent d tallies (l ∷ lines) settled taken apart shared found came giv
   all-ready sent d tallies lines settled.1 taken.1 apart.1 shared.1 found.1 came.1 given.1,
 )
 
--- What each seat sent, and that all of it is settled, where every packet that came out is a line's and each line's came out.
-pub settled-outcome : (session : Progress) (lines : List LineLists) (tallies : List Tally) (emits : List Packet)
+-- The seats of settled lines offered some packets.
+pub some-sent : (lines : List LineLists) → HaveOwnSenders lines → AllByRecursion IsSettledLine lines → (sent : ℕ → List Packet) × AllByRecursion (HasSent sent) (seats_in lines)
+some-sent lines own settled = let shared = all-shared lines settled in (sent_of (seats_in lines) shared, own-sent (seats_in lines) shared own)
+
+-- What the seats offered is settled, where every packet that came out is a line's and each line's came out.
+pub settled-outcome : (sent : ℕ → List Packet) (session : Progress) (lines : List LineLists) (tallies : List Tally) (emits : List Packet)
     → IsRun session.tree session.log → emits ≡ emitted session.log → heads session.tree session.log ≡ []
-    → AreLinesOf session lines → HaveOwnSenders lines → AllByRecursion IsSettledLine lines → AllByRecursion HasAllTaken lines
+    → AreLinesOf session lines → HaveOwnSenders lines → AllByRecursion (HasSent sent) (seats_in lines) → AllByRecursion IsSettledLine lines → AllByRecursion HasAllTaken lines
     → AllByRecursion (λ (l : LineLists). (s : ℕ) → has_sender (senders_at (seats_of l)) s ≡ true → of_sender s emits ≡ of_sender s l.tap.taken) lines
     → AllByRecursion (λ (p : Packet). has_sender (senders_at (seats_in lines)) p.sender ≡ true) emits
     → AreInOrder (tallies_in lines) tallies
-    → (sent : ℕ → List Packet) × AllByRecursion (HasSent sent) (seats_in lines) × IsSettledOutcome sent (record { tree = session.tree; queues = map queue_of_line lines; log = session.log; emitted = emits } ∷ []) tallies
-settled-outcome session lines tallies emits run out none own_lines own settled taken came known order =
-    let shared : AllByRecursion IsSharedOut (seats_in lines) = all-shared lines settled in
-    let sent : ℕ → List Packet = sent_of (seats_in lines) shared in
-    let offered : AllByRecursion (λ (c : SeatLists). AreOffered (sent c.sender) c) (seats_in lines) = own-sent (seats_in lines) shared own in
+    → IsSettledOutcome sent (record { tree = session.tree; queues = map queue_of_line lines; log = session.log; emitted = emits } ∷ []) tallies
+settled-outcome sent session lines tallies emits run out none own_lines own offered settled taken came known order =
     let d : Device = record { tree = session.tree; queues = map queue_of_line lines; log = session.log; emitted = emits } in
     let apart : AreApart (tellers (tallies_in lines)) = subst AreApart (sym (tellers-in lines)) own in
     let found = each-found tallies lines (in-order-found (tallies_in lines) tallies apart order) in
-    let senders : tellers (tallies_in lines) ≡ senders_to d ++ [] = tellers-in lines ∙ sym (senders-same lines) ∙ sym (append-nil (senders_to d)) in (
-      sent,
-      offered,
-      record {
-        rise = in-order-rise (tallies_in lines) tallies apart order;
-        known = in-order-all (λ (t : Tally). has_sender (senders_to d ++ []) t.sender ≡ true) (tallies_in lines) tallies order
-            (subst (λ names. AllByRecursion (λ (t : Tally). has_sender names t.sender ≡ true) (tallies_in lines)) senders (all-named (λ (t : Tally). t.sender) (tallies_in lines)));
-        settled = (
-          record {
-            run = run;
-            emitted = out;
-            heads = none;
-            queues = queues-settled sent d tallies lines
-                (all-ready sent d tallies lines settled taken (each-apart lines own) (each-line (λ (c : SeatLists). AreOffered (sent c.sender) c) lines offered) found came own_lines.taken);
-            own = subst (λ names. AllByRecursion (λ (p : Packet). has_sender names p.sender ≡ true) emits) (sym (senders-same lines)) known;
-          },
-          tt,
-        );
-      },
-    )
+    let senders : tellers (tallies_in lines) ≡ senders_to d ++ [] = tellers-in lines ∙ sym (senders-same lines) ∙ sym (append-nil (senders_to d)) in record {
+      rise = in-order-rise (tallies_in lines) tallies apart order;
+      known = in-order-all (λ (t : Tally). has_sender (senders_to d ++ []) t.sender ≡ true) (tallies_in lines) tallies order
+          (subst (λ names. AllByRecursion (λ (t : Tally). has_sender names t.sender ≡ true) (tallies_in lines)) senders (all-named (λ (t : Tally). t.sender) (tallies_in lines)));
+      settled = (
+        record {
+          run = run;
+          emitted = out;
+          heads = none;
+          queues = queues-settled sent d tallies lines
+              (all-ready sent d tallies lines settled taken (each-apart lines own) (each-line (λ (c : SeatLists). AreOffered (sent c.sender) c) lines offered) found came own_lines.taken);
+          own = subst (λ names. AllByRecursion (λ (p : Packet). has_sender names p.sender ≡ true) emits) (sym (senders-same lines)) known;
+        },
+        tt,
+      );
+    }

@@ -23,9 +23,6 @@ through f (l ∷ lines) = ap (λ rest. f (lasting_of l) ∷ rest) (through f lin
 still-map : {X : Type 0} (f : Lasting → X) (old new : List LineLists) → AreStill old new → map (λ l. f (lasting_of l)) new ≡ map (λ l. f (lasting_of l)) old
 still-map f old new still = through f new ∙ ap (map f) still ∙ sym (through f old)
 
-pub still-leaves : (old new : List LineLists) → AreStill old new → leaves_of new ≡ leaves_of old
-still-leaves = still-map (λ (k : Lasting). k.leaf)
-
 pub still-queues : (old new : List LineLists) → AreStill old new → map queue_of_line new ≡ map queue_of_line old
 still-queues = still-map (λ (k : Lasting). record { leaf = k.leaf; kind = k.setup.kind; capacity = k.setup.capacity; senders = senders_at k.seats })
 
@@ -79,10 +76,18 @@ taken-through : (tree : Tree) (log : List Visit) (lines : List LineLists) → Al
 taken-through tree log [] = refl
 taken-through tree log (l ∷ lines) = ap (λ (rest : Type 0). (l.tap.taken ≡ leaf_packets tree l.leaf log) × rest) (taken-through tree log lines)
 
-pub gathered-lines : (session : Progress) (old new : List LineLists) → AreGatheredFrom old new → AreLinesOf session old → AreLinesOf session new
-gathered-lines session old new g h =
-    let same = still-leaves old new g.still in record {
-      rise = subst Rise (sym same) h.rise;
-      leaves = λ q. ap (stands_in q) same ∙ h.leaves q;
-      taken = subst (λ (t : Type 0). t) (taken-through session.tree session.log old ∙ ap (AllByRecursion (λ (x : ℕ × List Packet). x.1 ≡ leaf_packets session.tree x.0 session.log)) (sym g.taken) ∙ sym (taken-through session.tree session.log new)) h.taken;
+leaves-through : (lines : List LineLists) → leaves_of lines ≡ map (λ (x : ℕ × List Packet). x.0) (map taken_at lines)
+leaves-through [] = refl
+leaves-through (l ∷ lines) = ap (λ rest. l.leaf ∷ rest) (leaves-through lines)
+
+-- Lines at the same leaves, whose taps took the same, are a session's own where the others are.
+pub same-lines : (session : Progress) (old new : List LineLists) → map taken_at new ≡ map taken_at old → AreLinesOf session old → AreLinesOf session new
+same-lines session old new same h =
+    let leaves : leaves_of new ≡ leaves_of old = leaves-through new ∙ ap (map (λ (x : ℕ × List Packet). x.0)) same ∙ sym (leaves-through old) in record {
+      rise = subst Rise (sym leaves) h.rise;
+      leaves = λ q. ap (stands_in q) leaves ∙ h.leaves q;
+      taken = subst (λ (t : Type 0). t) (taken-through session.tree session.log old ∙ ap (AllByRecursion (λ (x : ℕ × List Packet). x.1 ≡ leaf_packets session.tree x.0 session.log)) (sym same) ∙ sym (taken-through session.tree session.log new)) h.taken;
     }
+
+pub gathered-lines : (session : Progress) (old new : List LineLists) → AreGatheredFrom old new → AreLinesOf session old → AreLinesOf session new
+gathered-lines session old new g h = same-lines session old new g.taken h

@@ -104,7 +104,7 @@ pub all-split : {X : Type 0} (P : X → Type 0) (xs ys : List X) → AllByRecurs
 all-split P [] ys h = (tt, h)
 all-split P (x ∷ xs) ys h = let rest = all-split P xs ys h.1 in ((h.0, rest.0), rest.1)
 
-all-unmap : {X Y : Type 0} (P : Y → Type 0) (f : X → Y) (xs : List X) → AllByRecursion P (map f xs) → AllByRecursion (λ x. P (f x)) xs
+pub all-unmap : {X Y : Type 0} (P : Y → Type 0) (f : X → Y) (xs : List X) → AllByRecursion P (map f xs) → AllByRecursion (λ x. P (f x)) xs
 all-unmap P f [] h = tt
 all-unmap P f (x ∷ xs) h = (h.0, all-unmap P f xs h.1)
 

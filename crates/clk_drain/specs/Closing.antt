@@ -43,10 +43,12 @@ HasSent sent l = AreOffered (sent l.sender) l
 
 -- A session was drained over its lines, from a moment on, and all is settled.
 pub record IsDrainedOver (session : Progress) (lines : List LineLists) (moment : ℕ) (drained : Drained) : Type 0 where
-  -- what the seats sent has a settled outcome
+  -- the seats offered some packets
   pub sent : ℕ → List Packet
   pub offered : AllByRecursion (HasSent sent) (seats_in lines)
-  pub outcome : IsSettledOutcome sent (device_of session lines drained ∷ []) drained.tallies.items
+  -- whatever it is that they offered, this is its settled outcome
+  pub outcome : (packets : ℕ → List Packet) → AllByRecursion (HasSent packets) (seats_in lines)
+      → IsSettledOutcome packets (device_of session lines drained ∷ []) drained.tallies.items
   -- the log goes on from the session's by the pulls of one drain of all that was left
   pub made : ℕ
   pub goes_on : GivesAll session (record { tree = session.tree; log = drained.log.items }) (max (counted_moment session) moment) made (left_over session lines)

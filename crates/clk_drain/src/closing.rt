@@ -51,28 +51,23 @@ pub fn close_and_drain<W: Wait>(
     let left = left(&lines, session.came_out().len() as u64);
     let (session, lines) = drain(wait, session, lines, left, moment)?;
     let tallies = settle_all(alloc, lines)?;
+    let (log, emitted) = came_to(session);
     Ok(Drained {
-        emitted: emitted_by(alloc, &session)?,
-        log: log_of(alloc, &session)?,
+        emitted,
+        log,
         tallies,
     })
 }
 
-// What came out at the device of a session, in order.
-fn emitted_by(alloc: Global, session: &Session) -> Result<Vec<Packet>, Fault>
-    ensures packets { IfOk result (λ packets. packets.items ≡ emitted session.now.log) }
-    ensures fault { IsOkUnless result Fault.Memory }
+// The log of a session, and what came out at its device.
+fn came_to(session: Session) -> (Vec<Visit>, Vec<Packet>)
+    ensures log { result.0.items ≡ session.log }
+    ensures emitted { result.1.items ≡ emitted session.log }
+    ensures distinct { leaves_distinct session.tree ≡ true }
 {
-    session.emitted(alloc)
-}
-
-// The log of a session.
-fn log_of(alloc: Global, session: &Session) -> Result<Vec<Visit>, Fault>
-    ensures visits { IfOk result (λ visits. visits.items ≡ session.now.log) }
-    ensures distinct { leaves_distinct session.now.tree ≡ true }
-    ensures fault { IsOkUnless result Fault.Memory }
-{
-    Ok(session.log().to_vec(alloc)?)
+    // That no queue stands twice in its tree is known where the log is read.
+    let _ = session.log();
+    session.into_parts()
 }
 
 // The lines, once their taps gathered all seats.
@@ -170,8 +165,8 @@ fn settle_each(alloc: Global, lines: Vec<Line>) -> Result<Vec<Tally>, Fault>
     Ok(tallies)
 }
 
-// Adds tallies at the end.
-fn add(tallies: &mut Vec<Tally>, more: Vec<Tally>) -> Result<(), Fault>
+/// Adds tallies at the end. Fault 1 where memory is refused.
+pub fn add(tallies: &mut Vec<Tally>, more: Vec<Tally>) -> Result<(), Fault>
     ensures added { OnOk result (tallies.new.items ≡ tallies.old.items ++ more.items) }
     ensures fault { IsOkUnless result Fault.Memory }
 {

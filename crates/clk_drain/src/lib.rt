@@ -1,18 +1,25 @@
-//! How a session is closed: what its shared queues still hold is drained to its device, and every packet is accounted for.
+//! Producers on threads and a consumer for each device, over shared queues, and how they are closed: what the queues still hold is
+//! drained to the devices, and every packet is accounted for.
 #![tactic(auto)]
 
 mod closing;
 mod drained;
 mod examples;
+mod gate;
 mod laws;
 mod line;
 mod lines;
+mod outcome;
+mod running;
 #[cfg(test)]
 mod tests;
 
 pub use closing::close_and_drain;
 pub use drained::Drained;
 pub use examples::outcome_examples;
+pub use gate::{Free, Gate};
 pub use laws::taps_take_what_leaves_give;
 pub use line::Line;
 pub use lines::Lines;
+pub use outcome::Outcome;
+pub use running::run;

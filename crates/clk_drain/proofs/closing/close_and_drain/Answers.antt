@@ -30,5 +30,5 @@ returns-in_err-tallies-clause-fault g c =
 pub returns-clause-drained : goal.returns-clause-drained
 returns-clause-drained g c =
     drained-over c.args.session c.in_ok-session.session c.args.lines.items c.gathered-lines.result.items c.in_ok-session.lines.items c.args.moment c.left-left.result _ c.runs_conserve_packets.ensures.loses_nothing c.runs_conserve_packets.ensures.counts c.runs_conserve_packets.ensures.makes_nothing
-    record { own = c.requires.senders; leaves_some = record { gathers = c.gathered-lines.ensures; left_is = c.left-left.ensures ∙ (λ i. accepted_over (c.deref.ensures.value i) - (evicted_over (c.deref.ensures.value i) + length (c.came_out.ensures i))) }; drained = c.in_ok-session.ensures.drained; distinct = c.log_of.ensures.distinct; settled = c.in_ok-tallies.ensures.settled }
-    c.in_ok-tallies.ensures.tallies c.in_ok-log_of.ensures.visits c.in_ok-emitted_by.ensures.packets
+    record { own = c.requires.senders; leaves_some = record { gathers = c.gathered-lines.ensures; left_is = c.left-left.ensures ∙ (λ i. accepted_over (c.deref.ensures.value i) - (evicted_over (c.deref.ensures.value i) + length (c.came_out.ensures i))) }; drained = c.in_ok-session.ensures.drained; distinct = c.came_to-log.ensures.distinct; settled = c.in_ok-tallies.ensures.settled }
+    c.in_ok-tallies.ensures.tallies c.came_to-log.ensures.log c.came_to-log.ensures.emitted

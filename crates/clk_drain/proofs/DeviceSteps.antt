@@ -1,0 +1,136 @@
+-- The devices of a plan are opened one after another, and the queues of each.
+use Rattle.std.proofs.Common.{◌≡◌, ℕ, zero, suc, ◌+◌, ◌<◌, ◌==◌, Bool, true, false, List, [], ◌∷◌, ◌++◌, length, map, take, get_or, slice_get, sym, ap, ◌∙◌, subst, arith, if◌then◌else◌}
+use Rattle.std.specs.List.{AllByRecursion}
+use Rattle.std.proofs.lemmas.List.{append-nil, map-append, length-map, length-take-le, take_more, get_or-map}
+use Rattle.clk_packet.specs.declared.packet.Packet.{Packet}
+use Rattle.clk_ruled.specs.Queue.{SeatLists, TapLists}
+use Rattle.clk_sched.specs.Session.{Progress}
+use Rattle.clk_sched.specs.Tree.{Tree, root, leaves, stands_in}
+use Rattle.clk_tree.specs.Plan.{Planned}
+use Rattle.clk_tree.specs.PlanTree.{IsTreeOf, device_count}
+use Rattle.clk_tree.specs.declared.plan.parts.QueueSpec.{QueueSpec}
+use Rattle.clk_tree.specs.PlanParts.{Queued, queued, queues_of, leads_to, HasCapacity, AreRising}
+use Rattle.clk_drain.specs.declared.running.opening.LeafQueue.{LeafQueue}
+use Rattle.clk_drain.specs.Senders.{Rise}
+use Rattle.clk_drain.specs.Outcome.{SharedQueue}
+use Rattle.clk_drain.specs.Handed.{EndLists}
+use Rattle.clk_drain.specs.Opening.{shared_at, IsOpenAs, AreOpenAs, IsAdded}
+use Rattle.clk_drain.specs.Run.{queues_at}
+use Rattle.clk_drain.specs.Devices.{IsOpenOf, AreOpenFrom}
+use Rattle.clk_drain.proofs.PlanSenders.{rising-rise}
+use Rattle.clk_drain.proofs.QueuesAt.{stands-at}
+
+-- What is known of the queue that stands at a leaf.
+pub record IsQueueOf (plan : List Queued) (leaf : ℕ) (q : Queued) : Type 0 where
+  pub within : leaf < length plan
+  pub is : q ≡ get_or plan leaf q
+  pub capacity : HasCapacity q
+  pub rises : Rise q.senders
+
+all-at : {X : Type 0} (P : X → Type 0) (xs : List X) (i : ℕ) (x : X) → AllByRecursion P xs → i < length xs → x ≡ get_or xs i x → P x
+all-at P [] i x all lt is = absurd (omega (arith, lt))
+all-at P (y ∷ xs) zero x all lt is = subst P (sym is) all.0
+all-at P (y ∷ xs) (suc i) x all lt is = all-at P xs i x all.1 (omega (arith, lt)) is
+
+pub queue-of : (specs : List QueueSpec) (plan : List Queued) (leaf : ℕ) (s : QueueSpec) → map queued specs ≡ plan → AllByRecursion HasCapacity plan → AllByRecursion (λ (q : Queued). AreRising q.senders) plan → leaf < length specs → s ≡ get_or specs leaf s
+    → IsQueueOf plan leaf (queued s)
+queue-of specs plan leaf s are capacities senders lt is =
+    let count : length specs ≡ length plan = sym (length-map specs queued) ∙ ap length are in
+    let within : leaf < length plan = omega (arith, count, lt) in
+    let at : queued s ≡ get_or plan leaf (queued s) = ap queued is ∙ sym (get_or-map queued specs leaf s (queued s) lt) ∙ ap (λ (qs : List Queued). get_or qs leaf (queued s)) are in record {
+      within = within;
+      is = at;
+      capacity = all-at HasCapacity plan leaf (queued s) capacities within at;
+      rises = rising-rise s.senders.items (all-at (λ (q : Queued). AreRising q.senders) plan leaf (queued s) senders within at);
+    }
+
+-- a queue more that was opened
+open-more : (traces : List (List Packet)) (shared : List SharedQueue) (queues : List LeafQueue) (taps : List TapLists) (seats : List (List SeatLists)) (q : SharedQueue) (at : LeafQueue) (t : TapLists) (s : List SeatLists)
+    → AreOpenAs traces shared queues taps seats → IsOpenAs traces q at t s → AreOpenAs traces (shared ++ q ∷ []) (queues ++ at ∷ []) (taps ++ t ∷ []) (seats ++ s ∷ [])
+open-more traces [] [] [] [] q at t s h is = (is, tt)
+open-more traces (r ∷ shared) (a ∷ queues) (u ∷ taps) (v ∷ seats) q at t s h is = (h.0, open-more traces shared queues taps seats q at t s h.1 is)
+open-more traces shared queues taps seats q at t s h is = absurd h
+
+-- the queues of a device among some and one more
+abbrev if_at : ℕ → ℕ → Queued → List SharedQueue
+if_at device leaf q = if q.device == device then shared_at leaf q ∷ [] else []
+
+at-more : (device leaf n : ℕ) (queues : List Queued) (q : Queued) → n ≡ leaf + length queues → queues_at device leaf (queues ++ q ∷ []) ≡ queues_at device leaf queues ++ if_at device n q
+at-more device leaf n [] q e = ap (λ m. if_at device m q) (omega (arith, e))
+at-more device leaf n (p ∷ queues) q e = by_test (p.device == device) (at-more device (suc leaf) n queues q (omega (arith, e)))
+  where
+    by_test : (b : Bool) → queues_at device (suc leaf) (queues ++ q ∷ []) ≡ queues_at device (suc leaf) queues ++ if_at device n q
+        → (if b then shared_at leaf p ∷ queues_at device (suc leaf) (queues ++ q ∷ []) else queues_at device (suc leaf) (queues ++ q ∷ []))
+        ≡ (if b then shared_at leaf p ∷ queues_at device (suc leaf) queues else queues_at device (suc leaf) queues) ++ if_at device n q
+    by_test true rest = ap (λ qs. shared_at leaf p ∷ qs) rest
+    by_test false rest = rest
+
+-- The queues of a device among the first so many of a plan's were opened.
+pub record AreOpening (traces : List (List Packet)) (device : ℕ) (plan : List Queued) (session : Progress) (queues : List LeafQueue) (ends : EndLists) (leaf : ℕ) : Type 0 where
+  pub opened : AreOpenAs traces (queues_at device 0 (take leaf plan)) queues ends.taps ends.seats
+  pub session_is : ends.session ≡ session
+
+-- those of one queue more
+taken-more : (device leaf : ℕ) (plan : List Queued) (q : Queued) → leaf < length plan → q ≡ get_or plan leaf q → queues_at device 0 (take (leaf + 1) plan) ≡ queues_at device 0 (take leaf plan) ++ if_at device leaf q
+taken-more device leaf plan q lt is =
+    ap (queues_at device 0) (take_more plan leaf q lt ∙ (λ i. take leaf plan ++ sym is i ∷ []))
+    ∙ at-more device 0 leaf (take leaf plan) q (let le = length-take-le leaf plan (omega arith) in omega (arith, le))
+
+pub opened-more : (traces : List (List Packet)) (device leaf : ℕ) (plan : List Queued) (q : Queued) (session : Progress) (queues more : List LeafQueue) (old new : EndLists) → leaf < length plan → q ≡ get_or plan leaf q → (q.device == device) ≡ true
+    → IsAdded traces (shared_at leaf q) queues more old new → AreOpening traces device plan session queues old leaf → AreOpening traces device plan session more new (leaf + 1)
+opened-more traces device leaf plan q session queues more old new lt is own added h = record {
+  opened =
+      let are : queues_at device 0 (take (leaf + 1) plan) ≡ queues_at device 0 (take leaf plan) ++ shared_at leaf q ∷ [] =
+      taken-more device leaf plan q lt is ∙ ap (λ (b : Bool). queues_at device 0 (take leaf plan) ++ (if b then shared_at leaf q ∷ [] else [])) own in
+      let all = open-more traces (queues_at device 0 (take leaf plan)) queues old.taps old.seats (shared_at leaf q) added.at added.tap added.seats h.opened added.opened in
+      let at : List LeafQueue → EndLists → Type 0 = λ qs e. AreOpenAs traces (queues_at device 0 (take (leaf + 1) plan)) qs e.taps e.seats in
+      subst (λ (p : List LeafQueue × EndLists). at p.0 p.1) (λ i. (sym added.queues_are i, sym added.ends_are i))
+      (subst (λ (shared : List SharedQueue). AreOpenAs traces shared (queues ++ added.at ∷ []) (old.taps ++ added.tap ∷ []) (old.seats ++ added.seats ∷ [])) (sym are) all);
+  session_is = ap (λ (e : EndLists). e.session) added.ends_are ∙ h.session_is;
+}
+
+-- A queue of another device is passed over.
+pub opened-same : (traces : List (List Packet)) (device leaf : ℕ) (plan : List Queued) (q : Queued) (session : Progress) (queues : List LeafQueue) (ends : EndLists) → leaf < length plan → q ≡ get_or plan leaf q → (q.device == device) ≡ false
+    → AreOpening traces device plan session queues ends leaf → AreOpening traces device plan session queues ends (leaf + 1)
+opened-same traces device leaf plan q session queues ends lt is other h = record {
+  opened =
+      let are : queues_at device 0 (take (leaf + 1) plan) ≡ queues_at device 0 (take leaf plan) =
+      taken-more device leaf plan q lt is ∙ ap (λ (b : Bool). queues_at device 0 (take leaf plan) ++ (if b then shared_at leaf q ∷ [] else [])) other ∙ append-nil (queues_at device 0 (take leaf plan)) in
+      subst (λ (shared : List SharedQueue). AreOpenAs traces shared queues ends.taps ends.seats) (sym are) h.opened;
+  session_is = h.session_is;
+}
+
+-- Some devices of a plan were opened, from a number on and below another.
+abbrev pub AreOpenBelow : List Planned → List (List Packet) → ℕ → ℕ → List (List LeafQueue) → List EndLists → Type 0
+AreOpenBelow plan traces device last [] [] = device ≡ last
+AreOpenBelow plan traces device last (queues ∷ more) (e ∷ ends) = IsOpenOf plan traces device queues e × AreOpenBelow plan traces (suc device) last more ends
+AreOpenBelow plan traces device last queues ends = ⊥
+
+open-below : (plan : List Planned) (traces : List (List Packet)) (device last : ℕ) (queues : List (List LeafQueue)) (ends : List EndLists) (more : List LeafQueue) (e : EndLists) → AreOpenBelow plan traces device last queues ends → IsOpenOf plan traces last more e
+    → AreOpenBelow plan traces device (last + 1) (queues ++ more ∷ []) (ends ++ e ∷ [])
+open-below plan traces device last [] [] more e h is = (subst (λ (n : ℕ). IsOpenOf plan traces n more e) (sym h) is, omega (arith, h))
+open-below plan traces device last (q ∷ queues) (f ∷ ends) more e h is = (h.0, open-below plan traces (suc device) last queues ends more e h.1 is)
+open-below plan traces device last queues ends more e h is = absurd h
+
+-- The queues of each device are in a list of its own.
+pub opened-below : {X : Type 0} (items : X → List LeafQueue) (plan : List Planned) (traces : List (List Packet)) (last : ℕ) (queues given : List X) (ends handed : List EndLists) (more : X) (e : EndLists) → given ≡ queues ++ more ∷ [] → handed ≡ ends ++ e ∷ []
+    → AreOpenBelow plan traces 0 last (map items queues) ends → IsOpenOf plan traces last (items more) e → AreOpenBelow plan traces 0 (last + 1) (map items given) handed
+opened-below {X} items plan traces last queues given ends handed more e its their h is =
+    let joined : map items given ≡ map items queues ++ items more ∷ [] = ap (map items) its ∙ map-append items queues (more ∷ []) in
+    subst (λ (p : List (List LeafQueue) × List EndLists). AreOpenBelow plan traces 0 (last + 1) p.0 p.1) (λ i. (sym joined i, sym their i)) (open-below plan traces 0 last (map items queues) ends (items more) e h is)
+
+pub all-open : (plan : List Planned) (traces : List (List Packet)) (device : ℕ) (queues : List (List LeafQueue)) (ends : List EndLists) → AreOpenBelow plan traces device (device_count plan) queues ends → AreOpenFrom plan traces device queues ends
+all-open plan traces device [] [] h = h
+all-open plan traces device (q ∷ queues) (e ∷ ends) h = (h.0, all-open plan traces (suc device) queues ends h.1)
+all-open plan traces device queues ends h = absurd h
+
+-- A device was opened: its session is before its first pull, and its queues are those whose paths end at it.
+pub opened-device : (plan : List Planned) (traces : List (List Packet)) (device : ℕ) (queues : List LeafQueue) (ends : EndLists) (tree : Tree) (session : Progress) → ends.session ≡ session → session.tree ≡ tree → session.log ≡ [] → IsTreeOf plan device tree
+    → ((q : ℕ) → stands_in q (leaves (root tree)) ≡ leads_to device (slice_get (queues_of plan) q)) → AreOpenAs traces (queues_at device 0 (queues_of plan)) queues ends.taps ends.seats → IsOpenOf plan traces device queues ends
+opened-device plan traces device queues ends tree session its tree_is none made stand opened =
+    let its_tree : ends.session.tree ≡ tree = ap (λ (p : Progress). p.tree) its ∙ tree_is in record {
+      tree = subst (IsTreeOf plan device) (sym its_tree) made;
+      none = ap (λ (p : Progress). p.log) its ∙ none;
+      leaves_are = λ q. ap (λ (t : Tree). stands_in q (leaves (root t))) its_tree ∙ stand q ∙ sym (stands-at device q (queues_of plan));
+      opened = opened;
+    }

@@ -1,0 +1,65 @@
+-- The devices of a plan by number: what was opened for each, what each came to, and that no sender sends to two.
+use Rattle.std.proofs.Common.{◌≡◌, ℕ, zero, suc, ◌+◌, ◌==◌, List, [], ◌∷◌, ◌++◌, length, map, filter, refl, sym, ◌∙◌, subst, add-one}
+use Rattle.std.specs.List.{flat_map, range_with_len, AllByRecursion}
+use Rattle.clk_packet.specs.declared.packet.Packet.{Packet}
+use Rattle.clk_tree.specs.Plan.{Planned}
+use Rattle.clk_tree.specs.PlanTree.{IsTreeOf}
+use Rattle.clk_tree.specs.PlanParts.{Queued, queues_of}
+use Rattle.clk_drain.specs.declared.running.opening.LeafQueue.{LeafQueue}
+use Rattle.clk_drain.specs.Senders.{AreApart}
+use Rattle.clk_drain.specs.Outcome.{SharedQueue, Device}
+use Rattle.clk_drain.specs.Moments.{HasMoments}
+use Rattle.clk_drain.specs.Threads.{Terms, Feed}
+use Rattle.clk_drain.specs.Handed.{EndLists, AreClosedDevices}
+use Rattle.clk_drain.specs.Run.{queues_at, AreDevicesFrom}
+use Rattle.clk_drain.specs.Devices.{AreOpenFrom}
+use Rattle.clk_drain.proofs.Joining.{AreAllOpenAs, AreJoinedFeeds, senders_over}
+use Rattle.clk_drain.proofs.PlanSenders.{apart-by-kind}
+use Rattle.clk_drain.proofs.QueuesAt.{senders-at}
+
+-- the queues of each of so many devices, from a number on
+abbrev pub queues_by_device : List Queued → ℕ → ℕ → List (List SharedQueue)
+queues_by_device queues first count = map (λ d. queues_at d 0 queues) (range_with_len first count)
+
+senders-by-device : (queues : List Queued) (first count : ℕ)
+    → flat_map senders_over (queues_by_device queues first count) ≡ flat_map (λ (d : ℕ). flat_map (λ (q : Queued). q.senders) (filter (λ (q : Queued). q.device == d) queues)) (range_with_len first count)
+senders-by-device queues first zero = refl
+senders-by-device queues first (suc count) = λ i. senders-at first 0 queues i ++ senders-by-device queues (first + 1) count i
+
+-- Where no sender sends to two queues, none sends to two devices.
+pub apart-by-device : (queues : List Queued) (first count : ℕ) → AreApart (flat_map (λ (q : Queued). q.senders) queues) → AreApart (flat_map senders_over (queues_by_device queues first count))
+apart-by-device queues first count apart = subst AreApart (sym (senders-by-device queues first count)) (apart-by-kind (λ (q : Queued). q.senders) (λ (q : Queued). q.device) queues first count apart)
+
+-- Each device's queues were opened.
+pub opened-by-device : (plan : List Planned) (traces : List (List Packet)) (device : ℕ) (queues : List (List LeafQueue)) (ends : List EndLists) → AreOpenFrom plan traces device queues ends
+    → AreAllOpenAs traces (queues_by_device (queues_of plan) device (length ends)) queues ends
+opened-by-device plan traces device [] [] h = tt
+opened-by-device plan traces device (qs ∷ queues) (e ∷ ends) h =
+    (h.0.opened, subst (λ (n : ℕ). AreAllOpenAs traces (queues_by_device (queues_of plan) n (length ends)) queues ends) (sym (add-one device)) (opened-by-device plan traces (suc device) queues ends h.1))
+opened-by-device plan traces device queues ends h = absurd h
+
+-- What each device came to is that of the plan's device.
+pub devices-from : (plan : List Planned) (terms : Terms) (device : ℕ) (queues : List (List LeafQueue)) (ends : List EndLists) (feeds : List Feed) (devices : List Device) → AreOpenFrom plan terms.traces device queues ends
+    → AreJoinedFeeds terms (queues_by_device (queues_of plan) device (length ends)) ends feeds → AreClosedDevices terms feeds devices → AreDevicesFrom plan device devices
+devices-from plan terms device [] [] [] [] h joined closed = h
+devices-from plan terms device [] [] [] (d ∷ devices) h joined closed = absurd closed
+devices-from plan terms device [] [] (f ∷ feeds) devices h joined closed = absurd joined
+devices-from plan terms device (qs ∷ queues) (e ∷ ends) [] devices h joined closed = absurd joined
+devices-from plan terms device (qs ∷ queues) (e ∷ ends) (f ∷ feeds) [] h joined closed = absurd closed
+devices-from plan terms device (qs ∷ queues) (e ∷ ends) (f ∷ feeds) (d ∷ devices) h joined closed =
+    let later : AreJoinedFeeds terms (queues_by_device (queues_of plan) (suc device) (length ends)) ends feeds =
+    subst (λ (n : ℕ). AreJoinedFeeds terms (queues_by_device (queues_of plan) n (length ends)) ends feeds) (add-one device) joined.1 in (
+      record {
+        tree = subst (IsTreeOf plan device) (sym (closed.0.tree ∙ joined.0.tree_is)) h.0.tree;
+        queues = closed.0.queues ∙ joined.0.queues_are;
+      },
+      devices-from plan terms (suc device) queues ends feeds devices h.1 later closed.1,
+    )
+devices-from plan terms device queues ends feeds devices h joined closed = absurd h
+
+-- Each device was pulled when it was to be pulled.
+pub moments-closed : (terms : Terms) (feeds : List Feed) (devices : List Device) → AreClosedDevices terms feeds devices → AllByRecursion (λ (d : Device). HasMoments terms.step terms.limit d.log) devices
+moments-closed terms [] [] closed = tt
+moments-closed terms [] (d ∷ devices) closed = absurd closed
+moments-closed terms (f ∷ feeds) [] closed = absurd closed
+moments-closed terms (f ∷ feeds) (d ∷ devices) closed = (closed.0.moments, moments-closed terms feeds devices closed.1)

@@ -1,0 +1,87 @@
+-- What a run comes to, from what each of its parts says.
+use Rattle.std.proofs.Common.{◌≡◌, ◌≤◌, List, length, map, Result, Ok, Err, IfOk, IfErr, sym, subst}
+use Rattle.std.specs.List.{AllByRecursion}
+use Rattle.clk_packet.specs.Trace.{packets_in}
+use Rattle.clk_packet.specs.declared.fault.Fault.{Fault}
+use Rattle.clk_ruled.specs.Queue.{SeatLists, ClosedLists}
+use Rattle.clk_sched.specs.Limits.{most_left}
+use Rattle.clk_tree.specs.Plan.{Planned}
+use Rattle.clk_tree.specs.declared.plan.parts.SenderSpec.{SenderSpec}
+use Rattle.clk_tree.specs.PlanParts.{queues_of, senders_of, number_of, AreRising}
+use Rattle.clk_drain.specs.declared.outcome.Outcome.{Outcome}
+use Rattle.clk_drain.specs.declared.running.opening.LeafQueue.{LeafQueue}
+use Rattle.clk_drain.specs.Threads.{Terms, Feed, HaveSentAll}
+use Rattle.clk_drain.specs.Handed.{EndLists, PulledLists, HavePulled, AreAllJoinable, IsReadyToClose, AreApartDevices, AreSettledTogether, IsFaultOfClosing, seats_given, feeds_from, joined_feeds}
+use Rattle.clk_drain.specs.Run.{IsRunOutcome, senders_in, AreKnown, IsFaultOfRun}
+use Rattle.clk_drain.specs.Devices.{AreOpenFrom}
+use Rattle.clk_drain.specs.Outcome.{SharedQueue}
+use Rattle.clk_drain.proofs.Joining.{AreJoinedFeeds, all-joined, all-ready, all-apart}
+use Rattle.clk_drain.proofs.PlanSenders.{queues-apart}
+use Rattle.clk_drain.proofs.Refused.{unclosed}
+use Rattle.clk_drain.proofs.PlanDevices.{queues_by_device, apart-by-device, opened-by-device, devices-from, moments-closed}
+
+-- what was opened of a plan, and what its threads gave back
+pub record HasEnded (plan : List Planned) (terms : Terms) (queues : List (List LeafQueue)) (ends : List EndLists) (closed : List ClosedLists) (pulled : List PulledLists) : Type 0 where
+  pub opened : AreOpenFrom plan terms.traces 0 queues ends
+  pub rising : AreRising (map number_of (senders_of plan))
+  pub few : packets_in terms.traces ≤ most_left
+  pub sent : HaveSentAll terms (seats_given ends) closed
+  pub pulled_over : HavePulled terms (feeds_from queues ends) pulled
+
+-- So it is where `course`, `producers` and `consumers` are what was handed out.
+pub has-ended : (plan : List Planned) (terms course : Terms) (senders : List SenderSpec) (queues : List (List LeafQueue)) (ends : List EndLists) (producers : List SeatLists) (consumers : List Feed) (closed : List ClosedLists) (pulled : List PulledLists)
+    → course ≡ terms → senders ≡ senders_of plan → AreRising (map number_of senders) → packets_in terms.traces ≤ most_left → AreOpenFrom plan terms.traces 0 queues ends → producers ≡ seats_given ends → consumers ≡ feeds_from queues ends
+    → HaveSentAll course producers closed → HavePulled course consumers pulled → HasEnded plan terms queues ends closed pulled
+has-ended plan terms course senders queues ends producers consumers closed pulled same own rising few opened given fed sent over = record {
+  opened = opened;
+  rising = subst (λ (ss : List SenderSpec). AreRising (map number_of ss)) own rising;
+  few = few;
+  sent = subst (λ (x : Terms × List SeatLists). HaveSentAll x.0 x.1 closed) (λ i. (same i, given i)) sent;
+  pulled_over = subst (λ (x : Terms × List Feed). HavePulled x.0 x.1 pulled) (λ i. (same i, fed i)) over;
+}
+
+abbrev shared_of : List Planned → List EndLists → List (List SharedQueue)
+shared_of plan ends = queues_by_device (queues_of plan) 0 (length ends)
+
+pub record IsJoinedRun (plan : List Planned) (terms : Terms) (queues : List (List LeafQueue)) (ends : List EndLists) (closed : List ClosedLists) (pulled : List PulledLists) : Type 0 where
+  pub joinable : AreAllJoinable queues pulled closed
+  pub joined : AreJoinedFeeds terms (shared_of plan ends) ends (joined_feeds queues pulled closed)
+  pub ready : AllByRecursion (IsReadyToClose terms) (joined_feeds queues pulled closed)
+  pub apart : AreApartDevices (joined_feeds queues pulled closed)
+
+pub run-joined : (plan : List Planned) (terms : Terms) (queues : List (List LeafQueue)) (ends : List EndLists) (closed : List ClosedLists) (pulled : List PulledLists) → HasEnded plan terms queues ends closed pulled
+    → IsJoinedRun plan terms queues ends closed pulled
+run-joined plan terms queues ends closed pulled h =
+    let both = all-joined terms (shared_of plan ends) queues ends h.pulled_over.feeds closed (opened-by-device plan terms.traces 0 queues ends h.opened) h.sent h.pulled_over.are in
+    let apart = apart-by-device (queues_of plan) 0 (length ends) (queues-apart plan h.rising) in
+    let pair = subst (λ p. AreAllJoinable queues p closed × AreJoinedFeeds terms (shared_of plan ends) ends (joined_feeds queues p closed)) (sym h.pulled_over.taps) both in record {
+      joinable = pair.0;
+      joined = pair.1;
+      ready = all-ready terms (shared_of plan ends) ends (joined_feeds queues pulled closed) apart h.few pair.1;
+      apart = all-apart terms (shared_of plan ends) ends (joined_feeds queues pulled closed) apart pair.1;
+    }
+
+pub run-settled : (plan : List Planned) (terms : Terms) (queues : List (List LeafQueue)) (ends : List EndLists) (closed : List ClosedLists) (pulled : List PulledLists) (outcome : Outcome) → HasEnded plan terms queues ends closed pulled
+    → AreSettledTogether terms (joined_feeds queues pulled closed) outcome → IsRunOutcome plan terms.traces terms.step terms.limit outcome
+run-settled plan terms queues ends closed pulled outcome h settled =
+    let joined = run-joined plan terms queues ends closed pulled h in record {
+      devices = settled.devices;
+      each = devices-from plan terms 0 queues ends (joined_feeds queues pulled closed) settled.devices h.opened joined.joined settled.closed;
+      logs = settled.logs;
+      emitted = settled.emitted;
+      settled = settled.settled;
+      moments = moments-closed terms (joined_feeds queues pulled closed) settled.devices settled.closed;
+    }
+
+-- What closing the devices answers is what the run answers.
+pub answered-ok : (plan : List Planned) (terms course : Terms) (queues : List (List LeafQueue)) (ends : List EndLists) (closed : List ClosedLists) (pulled : List PulledLists) (feeds : List Feed) (result : Result Outcome Fault) → course ≡ terms → feeds ≡ joined_feeds queues pulled closed
+    → HasEnded plan terms queues ends closed pulled → IfOk result (AreSettledTogether course feeds) → IfOk result (IsRunOutcome plan terms.traces terms.step terms.limit)
+answered-ok plan terms course queues ends closed pulled feeds (Ok outcome) same are h settled =
+    run-settled plan terms queues ends closed pulled outcome h (subst (λ (x : Terms × List Feed). AreSettledTogether x.0 x.1 outcome) (λ i. (same i, are i)) settled)
+answered-ok plan terms course queues ends closed pulled feeds (Err fault) same are h settled = tt
+
+pub answered-err : (plan : List Planned) (terms : Terms) (queues : List (List LeafQueue)) (ends : List EndLists) (closed : List ClosedLists) (pulled : List PulledLists) (feeds : List Feed) (result : Result Outcome Fault) → feeds ≡ joined_feeds queues pulled closed
+    → HasEnded plan terms queues ends closed pulled → AreKnown (senders_in plan) terms.traces → IfErr result (IsFaultOfClosing feeds) → IfErr result (IsFaultOfRun plan terms.traces)
+answered-err plan terms queues ends closed pulled feeds (Ok outcome) are h known fault = tt
+answered-err plan terms queues ends closed pulled feeds (Err fault) are h known refused =
+    unclosed plan terms known (joined_feeds queues pulled closed) fault (run-joined plan terms queues ends closed pulled h).ready (subst (λ (fs : List Feed). IsFaultOfClosing fs fault) are refused)

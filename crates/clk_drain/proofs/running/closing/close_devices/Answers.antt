@@ -1,0 +1,71 @@
+use Rattle.std.proofs.Common.{◌≤◌, [], ◌∷◌, ◌++◌, rules, refl, sym, ap, ◌∙◌, subst}
+use Rattle.std.specs.Vec.Iter.{into_iter_items}
+use Rattle.std.proofs.lemmas.List.{nil_from_length}
+use Rattle.std.proofs.lemmas.List.Sorted.{IsNonDecreasingBy-from_sort_by_key}
+use Rattle.std.proofs.lemmas.Result.{err_from_is_err_and}
+use Rattle.clk_packet.specs.declared.tally.Tally.{Tally}
+use Rattle.clk_drain.specs.Limits.{most_step, most_limit}
+use Rattle.clk_drain.specs.Threads.{Terms, Feed}
+use Rattle.clk_drain.proofs.ClosingSteps.{AreClosing, moment-within, closing-more, next-ready, next-fault, memory-fault, all-closed}
+use Rattle.clk_drain.proofs.running.closing.close_devices.Goals as goal
+
+pub returns-in_err-with_capacity-clause-fault : goal.returns-in_err-with_capacity-clause-fault
+returns-in_err-with_capacity-clause-fault g c =
+    let p = err_from_is_err_and c.from_residual.result c.from_residual.ensures.1 in
+    rw p.1 (memory-fault c.args.closings.items p.0 p.2)
+
+pub returns-in_err-with_capacity-2-clause-fault : goal.returns-in_err-with_capacity-2-clause-fault
+returns-in_err-with_capacity-2-clause-fault g c =
+    let p = err_from_is_err_and c.from_residual-in_err-with_capacity-2.result c.from_residual-in_err-with_capacity-2.ensures.1 in
+    rw p.1 (memory-fault c.args.closings.items p.0 p.2)
+
+pub close_and_drain-requires-clause-lines : goal.close_and_drain-requires-clause-lines
+close_and_drain-requires-clause-lines g c =
+    let f : Feed = record { session = c.session.inside.session; lines = c.session.inside.lines.items } in
+    let rest = into_iter_items c.next.new.self in
+    let ready = next-ready c.args.course.now c.args.closings.items c.loop-session.yielded rest (into_iter_items c.loop-session.session-iterator) f c.loop-session.outcome (c.in-Some.ensures.steps.0 ∙ ap (λ x. x ∷ rest) (sym c.session.view_is)) c.loop-session.invariant c.requires.ready in
+    ready.own
+
+pub close_and_drain-requires-clause-moment : goal.close_and_drain-requires-clause-moment
+close_and_drain-requires-clause-moment g c =
+    let f : Feed = record { session = c.session.inside.session; lines = c.session.inside.lines.items } in
+    let rest = into_iter_items c.next.new.self in
+    let ready = next-ready c.args.course.now c.args.closings.items c.loop-session.yielded rest (into_iter_items c.loop-session.session-iterator) f c.loop-session.outcome (c.in-Some.ensures.steps.0 ∙ ap (λ x. x ∷ rest) (sym c.session.view_is)) c.loop-session.invariant c.requires.ready in
+    moment-within c.args.course.now f (subst (λ (t : Terms). t.step ≤ most_step) c.course.view_is c.course.invariant.0) (subst (λ (t : Terms). t.limit ≤ most_limit) c.course.view_is c.course.invariant.1) ready
+
+pub returns-in_err-drained-clause-fault : goal.returns-in_err-drained-clause-fault
+returns-in_err-drained-clause-fault g c =
+    let f : Feed = record { session = c.session.inside.session; lines = c.session.inside.lines.items } in
+    let rest = into_iter_items c.next.new.self in
+    let p = err_from_is_err_and c.from_residual-in_err-drained.result c.from_residual-in_err-drained.ensures.1 in
+    rw (p.1, p.2) (next-fault c.args.course.now c.args.closings.items c.loop-session.yielded rest (into_iter_items c.loop-session.session-iterator) f c.loop-session.outcome c.in_err-drained.field-0.0 (c.in-Some.ensures.steps.0 ∙ ap (λ x. x ∷ rest) (sym c.session.view_is)) c.loop-session.invariant c.in_err-drained.ensures.fault)
+
+pub loop-session-preserved : goal.loop-session-preserved
+loop-session-preserved g c =
+    let terms = c.args.course.now in
+    let all = c.args.closings.items in
+    let done = c.loop-session.yielded in
+    let before = into_iter_items c.loop-session.session-iterator in
+    let f : Feed = record { session = c.session.inside.session; lines = c.session.inside.lines.items } in
+    let rest = into_iter_items c.next.new.self in
+    let next = c.in-Some.ensures.steps.0 ∙ ap (λ x. x ∷ rest) (sym c.session.view_is) in
+    let ready = next-ready terms all done rest before f c.loop-session.outcome next c.loop-session.invariant c.requires.ready in
+    subst (λ (d : Feed). AreClosing terms all (done ++ d ∷ []) rest c.note.new.outcome) c.session.view_is
+    (closing-more terms all done rest before f c.in_ok-drained.drained c.loop-session.outcome c.note.new.outcome next ready c.in_ok-drained.ensures.drained
+    (record { logs = c.in_ok-note.ensures.logs; emitted = c.in_ok-note.ensures.emitted; tallies = c.in_ok-note.ensures.tallies }) c.loop-session.invariant)
+
+pub returns-in_err-note-clause-fault : goal.returns-in_err-note-clause-fault
+returns-in_err-note-clause-fault g c =
+    let p = err_from_is_err_and c.from_residual-in_err-note.result c.from_residual-in_err-note.ensures.1 in
+    rw (p.1, p.2) (memory-fault c.args.closings.items c.in_err-note.field-0.0 c.in_err-note.ensures.fault)
+
+pub returns-clause-settled : goal.returns-clause-settled
+returns-clause-settled g c =
+    all-closed c.args.course.now c.args.closings.items c.loop-session.yielded (into_iter_items c.loop-session.session-iterator) c.loop-session.outcome
+    (record { emitted = c.loop-session.outcome.emitted; logs = c.loop-session.outcome.logs; tallies = c.sort_unstable_by_key.new.self })
+    (nil_from_length (into_iter_items c.loop-session.session-iterator) (sym c.loop-session.session-iterator.rest.ok.0 ∙ c.in-None.ensures.steps.0)) refl refl
+    (record {
+      same = c.sort_unstable_by_key.ensures.permutation;
+      order = IsNonDecreasingBy-from_sort_by_key (λ (t : Tally). t.sender) _ c.sort_unstable_by_key.ensures.sorted (λ a r q k. search rules);
+    })
+    c.requires.apart c.loop-session.invariant

@@ -1,0 +1,25 @@
+-- What a run opens of a plan.
+use Rattle.std.specs.Prelude.{◌≡◌, ℕ, List, [], ◌∷◌, map, suc}
+use Rattle.clk_packet.specs.declared.packet.Packet.{Packet}
+use Rattle.clk_sched.specs.Tree.{root, leaves, stands_in}
+use Rattle.clk_tree.specs.Plan.{Planned}
+use Rattle.clk_tree.specs.PlanTree.{IsTreeOf, device_count}
+use Rattle.clk_tree.specs.PlanParts.{queues_of}
+use Rattle.clk_drain.specs.declared.running.opening.LeafQueue.{LeafQueue}
+use Rattle.clk_drain.specs.Outcome.{SharedQueue}
+use Rattle.clk_drain.specs.Run.{queues_at}
+use Rattle.clk_drain.specs.Handed.{EndLists}
+use Rattle.clk_drain.specs.Opening.{AreOpenAs}
+
+-- A device of a plan was opened: its session is before its first pull, and it has these queues.
+pub record IsOpenOf (plan : List Planned) (traces : List (List Packet)) (device : ℕ) (queues : List LeafQueue) (ends : EndLists) : Type 0 where
+  pub tree : IsTreeOf plan device ends.session.tree
+  pub none : ends.session.log ≡ []
+  pub leaves_are : (q : ℕ) → stands_in q (leaves (root ends.session.tree)) ≡ stands_in q (map (λ (s : SharedQueue). s.leaf) (queues_at device 0 (queues_of plan)))
+  pub opened : AreOpenAs traces (queues_at device 0 (queues_of plan)) queues ends.taps ends.seats
+
+-- so for each device of a plan from a number on
+abbrev pub AreOpenFrom : List Planned → List (List Packet) → ℕ → List (List LeafQueue) → List EndLists → Type 0
+AreOpenFrom plan traces device [] [] = device ≡ device_count plan
+AreOpenFrom plan traces device (queues ∷ more) (e ∷ ends) = IsOpenOf plan traces device queues e × AreOpenFrom plan traces (suc device) more ends
+AreOpenFrom plan traces device queues ends = ⊥

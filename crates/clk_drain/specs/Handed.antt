@@ -1,0 +1,154 @@
+-- How the parts of opened devices are handed out to the threads of a run, and joined again.
+use Rattle.std.specs.Prelude.{◌≡◌, ◌⊎◌, ℕ, ◌*◌, ◌+◌, ◌≤◌, List, [], ◌∷◌, length, map, take, drop, ⊤}
+use Rattle.std.specs.List.{flat_map, AllByRecursion}
+use Rattle.clk_packet.specs.declared.fault.Fault.{Fault}
+use Rattle.clk_packet.specs.declared.fault.Fault.TheVariants.{Memory}
+use Rattle.clk_packet.specs.Trace.{sent_by}
+use Rattle.clk_ruled.specs.Queue.{SeatLists, TapLists, ClosedLists, IsTapOf}
+use Rattle.clk_ruled.specs.Closing.{AreSeatsOf}
+use Rattle.clk_ruled.specs.Settle.{AreOpenedTogether}
+use Rattle.clk_sched.specs.Limits.{most_left}
+use Rattle.clk_sched.specs.Log.{pulls, moment_of}
+use Rattle.clk_sched.specs.Session.{Progress, counted_moment}
+use Rattle.clk_drain.specs.declared.outcome.Outcome.{Outcome}
+use Rattle.clk_drain.specs.declared.running.opening.LeafQueue.{LeafQueue}
+use Rattle.clk_drain.specs.Senders.{AreApart, Rise}
+use Rattle.clk_drain.specs.Line.{LineLists, leaves_of, seats_in, senders_at, AreLinesOf, HaveOwnSenders}
+use Rattle.clk_drain.specs.Outcome.{Device, IsSettledOutcome}
+use Rattle.clk_drain.specs.Closing.{accepted_over, HasSent, queue_of_line, IsFaultOfDrain}
+use Rattle.clk_drain.specs.Moments.{steps, HasMoments}
+use Rattle.clk_drain.specs.Threads.{Terms, Feed, ArePulled}
+
+-- a device's session, and the taps and the seats of its queues, each in order
+pub record EndLists : Type 0 where
+  pub session : Progress
+  pub taps : List TapLists
+  pub seats : List (List SeatLists)
+
+-- a session and the taps of its queues, in order
+pub record PulledLists : Type 0 where
+  pub session : Progress
+  pub taps : List TapLists
+
+-- the queues' lines while their seats are out
+abbrev pub lines_from : List LeafQueue → List TapLists → List LineLists
+lines_from [] taps = []
+lines_from (q ∷ queues) [] = []
+lines_from (q ∷ queues) (t ∷ taps) = record { leaf = q.leaf; tap = t; closed = [] } ∷ lines_from queues taps
+
+-- Each tap is that of the queue in its place.
+abbrev pub AreTapsOf : List LeafQueue → List TapLists → Type 0
+AreTapsOf [] [] = ⊤
+AreTapsOf (q ∷ queues) (t ∷ taps) = IsTapOf q.queue t × AreTapsOf queues taps
+AreTapsOf queues taps = ⊥
+
+-- The seats in each place are of the queue in that place.
+abbrev pub AreSeatsOfEach : List LeafQueue → List (List SeatLists) → Type 0
+AreSeatsOfEach [] [] = ⊤
+AreSeatsOfEach (q ∷ queues) (s ∷ seats) = AreSeatsOf q.queue s × AreSeatsOfEach queues seats
+AreSeatsOfEach queues seats = ⊥
+
+-- What a device's threads are given fits its queues, which stand at rising leaves.
+pub record FitsQueues (queues : List LeafQueue) (e : EndLists) : Type 0 where
+  pub rise : Rise (leaves_of (lines_from queues e.taps))
+  pub taps : AreTapsOf queues e.taps
+  pub seats : AreSeatsOfEach queues e.seats
+
+-- so for each device, in order
+abbrev pub FitQueues : List (List LeafQueue) → List EndLists → Type 0
+FitQueues [] [] = ⊤
+FitQueues (queues ∷ more) (e ∷ ends) = FitsQueues queues e × FitQueues more ends
+FitQueues queues ends = ⊥
+
+-- the seats of all devices, in order
+abbrev pub seats_given : List EndLists → List SeatLists
+seats_given ends = flat_map (λ (e : EndLists). flat_map (λ seats. seats) e.seats) ends
+
+-- a device's session with its lines, and those of all devices, while the seats are out
+abbrev pub feed_from : List LeafQueue → EndLists → Feed
+feed_from queues e = record { session = e.session; lines = lines_from queues e.taps }
+
+abbrev pub feeds_from : List (List LeafQueue) → List EndLists → List Feed
+feeds_from [] ends = []
+feeds_from (queues ∷ more) [] = []
+feeds_from (queues ∷ more) (e ∷ ends) = feed_from queues e ∷ feeds_from more ends
+
+-- the sessions and the taps of consumers
+abbrev pub pulled_of : Feed → PulledLists
+pulled_of f = record { session = f.session; taps = map (λ (l : LineLists). l.tap) f.lines }
+
+-- Each session was pulled, once each step, and its taps are what became of its lines.
+pub record HavePulled (terms : Terms) (before : List Feed) (pulled : List PulledLists) : Type 0 where
+  pub feeds : List Feed
+  pub are : ArePulled terms before feeds
+  pub taps : pulled ≡ map pulled_of feeds
+
+-- how many seats queues have in all
+abbrev pub seat_count : List LeafQueue → ℕ
+seat_count [] = 0
+seat_count (q ∷ queues) = q.senders + seat_count queues
+
+-- the queues' lines, where the closed seats of one come after those of the other
+abbrev pub joined_lines : List LeafQueue → List TapLists → List ClosedLists → List LineLists
+joined_lines [] taps closed = []
+joined_lines (q ∷ queues) [] closed = []
+joined_lines (q ∷ queues) (t ∷ taps) closed =
+    record { leaf = q.leaf; tap = t; closed = take q.senders closed } ∷ joined_lines queues taps (drop q.senders closed)
+
+-- Each queue, its tap and as many of the closed seats as it has senders were opened together.
+abbrev pub AreJoinable : List LeafQueue → List TapLists → List ClosedLists → Type 0
+AreJoinable [] [] closed = ⊤
+AreJoinable (q ∷ queues) (t ∷ taps) closed =
+    (q.senders ≤ length closed) × AreOpenedTogether q.queue t (take q.senders closed) × AreJoinable queues taps (drop q.senders closed)
+AreJoinable queues taps closed = ⊥
+
+-- so for each device, in order
+abbrev pub joined_feeds : List (List LeafQueue) → List PulledLists → List ClosedLists → List Feed
+joined_feeds [] pulled closed = []
+joined_feeds (queues ∷ more) [] closed = []
+joined_feeds (queues ∷ more) (p ∷ pulled) closed =
+    record { session = p.session; lines = joined_lines queues p.taps closed } ∷ joined_feeds more pulled (drop (seat_count queues) closed)
+
+abbrev pub AreAllJoinable : List (List LeafQueue) → List PulledLists → List ClosedLists → Type 0
+AreAllJoinable [] [] closed = ⊤
+AreAllJoinable (queues ∷ more) (p ∷ pulled) closed = AreJoinable queues p.taps closed × AreAllJoinable more pulled (drop (seat_count queues) closed)
+AreAllJoinable queues pulled closed = ⊥
+
+-- A session with its lines, all of whose seats offered all that is sent, after a run's pulls.
+pub record IsReadyToClose (terms : Terms) (f : Feed) : Type 0 where
+  pub own : AreLinesOf f.session f.lines
+  pub apart : HaveOwnSenders f.lines
+  pub few : accepted_over f.lines ≤ most_left
+  pub sent : AllByRecursion (HasSent (sent_by terms.traces)) (seats_in f.lines)
+  pub made : ℕ
+  pub within : made ≤ terms.limit
+  pub moments : map moment_of (pulls f.session.log) ≡ steps terms.step made
+  pub counted : counted_moment f.session ≡ made * terms.step
+
+-- no sender has seats at two devices
+abbrev pub AreApartDevices : List Feed → Type 0
+AreApartDevices feeds = AreApart (flat_map (λ (f : Feed). senders_at (seats_in f.lines)) feeds)
+
+-- A closed device, with what it came to.
+pub record IsClosedDevice (terms : Terms) (f : Feed) (d : Device) : Type 0 where
+  pub tree : d.tree ≡ f.session.tree
+  pub queues : d.queues ≡ map queue_of_line f.lines
+  pub moments : HasMoments terms.step terms.limit d.log
+
+abbrev pub AreClosedDevices : Terms → List Feed → List Device → Type 0
+AreClosedDevices terms [] [] = ⊤
+AreClosedDevices terms (f ∷ feeds) (d ∷ devices) = IsClosedDevice terms f d × AreClosedDevices terms feeds devices
+AreClosedDevices terms feeds devices = ⊥
+
+-- All devices were closed, and what was sent is settled.
+pub record AreSettledTogether (terms : Terms) (feeds : List Feed) (outcome : Outcome) : Type 0 where
+  pub devices : List Device
+  pub closed : AreClosedDevices terms feeds devices
+  pub logs : map (λ log. log.items) outcome.logs.items ≡ map (λ (d : Device). d.log) devices
+  pub emitted : map (λ packets. packets.items) outcome.emitted.items ≡ map (λ (d : Device). d.emitted) devices
+  pub settled : IsSettledOutcome (sent_by terms.traces) devices outcome.tallies.items
+
+-- Why some device isn't closed: memory was refused, or its session isn't drained over its lines.
+abbrev pub IsFaultOfClosing : List Feed → Fault → Type 0
+IsFaultOfClosing [] fault = fault ≡ Memory
+IsFaultOfClosing (f ∷ feeds) fault = IsFaultOfDrain f.session f.lines 0 fault ⊎ IsFaultOfClosing feeds fault

@@ -1,0 +1,85 @@
+-- What a run of producers on threads comes to (this project's own definition).
+use Rattle.std.specs.Prelude.{◌≡◌, ℕ, ◌==◌, ◌<◌, false, true, List, [], ◌∷◌, length, map, suc, ⊤, if◌then◌else◌}
+use Rattle.std.specs.List.{AllByRecursion}
+use Rattle.clk_packet.specs.declared.packet.Packet.{Packet}
+use Rattle.clk_packet.specs.declared.fault.Fault.{Fault}
+use Rattle.clk_packet.specs.declared.fault.Fault.TheVariants.{Memory, UnknownSender, TooManyPulls, Unsettled}
+use Rattle.clk_packet.specs.Limits.{most_sender}
+use Rattle.clk_packet.specs.Trace.{sent_by}
+use Rattle.clk_ruled.specs.Lists.{has_sender}
+use Rattle.clk_ruled.specs.Queue.{SeatLists}
+use Rattle.clk_ruled.specs.Settle.{accepted_count, lost_count}
+use Rattle.clk_tree.specs.Plan.{Planned}
+use Rattle.clk_tree.specs.PlanTree.{IsTreeOf, device_count}
+use Rattle.clk_tree.specs.PlanParts.{Queued, queues_of, senders_of, number_of}
+use Rattle.clk_drain.specs.declared.outcome.Outcome.{Outcome}
+use Rattle.clk_drain.specs.Closing.{HasSent}
+use Rattle.clk_drain.specs.Moments.{HasMoments}
+use Rattle.clk_drain.specs.Outcome.{SharedQueue, Device, IsSettledOutcome}
+use Rattle.clk_drain.specs.Opening.{shared_at}
+
+-- the queues of a device among queues that stand at the leaves from this one on
+abbrev pub queues_at : ℕ → ℕ → List Queued → List SharedQueue
+queues_at device leaf [] = []
+queues_at device leaf (q ∷ queues) =
+    if q.device == device then shared_at leaf q ∷ queues_at device (suc leaf) queues else queues_at device (suc leaf) queues
+
+-- A device of a plan, with what it logged and emitted.
+pub record IsDeviceOf (plan : List Planned) (number : ℕ) (d : Device) : Type 0 where
+  pub tree : IsTreeOf plan number d.tree
+  pub queues : d.queues ≡ queues_at number 0 (queues_of plan)
+
+-- The devices of a plan from a number on, each of them.
+abbrev pub AreDevicesFrom : List Planned → ℕ → List Device → Type 0
+AreDevicesFrom plan number [] = number ≡ device_count plan
+AreDevicesFrom plan number (d ∷ devices) = IsDeviceOf plan number d × AreDevicesFrom plan (suc number) devices
+
+-- What a run of a plan over a trace came to: for each device a log and what it emitted, and one tally a sender.
+pub record IsRunOutcome (plan : List Planned) (traces : List (List Packet)) (step limit : ℕ) (outcome : Outcome) : Type 0 where
+  pub devices : List Device
+  pub each : AreDevicesFrom plan 0 devices
+  pub logs : map (λ log. log.items) outcome.logs.items ≡ map (λ (d : Device). d.log) devices
+  pub emitted : map (λ packets. packets.items) outcome.emitted.items ≡ map (λ (d : Device). d.emitted) devices
+  -- all that each sender sends is accounted for
+  pub settled : IsSettledOutcome (sent_by traces) devices outcome.tallies.items
+  pub moments : AllByRecursion (λ (d : Device). HasMoments step limit d.log) devices
+
+-- the numbers of a plan's senders
+abbrev pub senders_in : List Planned → List ℕ
+senders_in plan = map number_of (senders_of plan)
+
+-- Of the senders below a number each that sends something is one of these.
+abbrev pub AreKnownBelow : List ℕ → List (List Packet) → ℕ → Type 0
+AreKnownBelow senders traces n = (s : ℕ) → s < n → 0 < length (sent_by traces s) → has_sender senders s ≡ true
+
+-- Each sender that sends something is one of these.
+abbrev pub AreKnown : List ℕ → List (List Packet) → Type 0
+AreKnown senders traces = AreKnownBelow senders traces (suc most_sender)
+
+-- It is the least sender that sends something and isn't one of these.
+pub record IsFirstUnknown (senders : List ℕ) (traces : List (List Packet)) (s : ℕ) : Type 0 where
+  pub sends : 0 < length (sent_by traces s)
+  pub unknown : has_sender senders s ≡ false
+  pub least : AreKnownBelow senders traces s
+
+-- The fault that names it.
+abbrev pub IsUnknownSender : List ℕ → List (List Packet) → Fault → Type 0
+IsUnknownSender senders traces (UnknownSender s) = IsFirstUnknown senders traces s
+IsUnknownSender senders traces fault = ⊥
+
+-- The senders of some queue sent what they send, and it lost packets though it accepted fewer than it may hold.
+pub record HasLostBelow (traces : List (List Packet)) (accepted capacity : ℕ) : Type 0 where
+  pub seats : List SeatLists
+  pub sent : AllByRecursion (HasSent (sent_by traces)) seats
+  pub accepted_are : accepted ≡ accepted_count seats
+  pub lost : 0 < lost_count seats
+  pub below : accepted < capacity
+
+-- Why a run of a plan over a trace is refused: memory or a thread, the least sender that the plan doesn't have, or, with senders that
+-- it all has, a drain that stopped short, or a queue that lost packets below its capacity.
+abbrev pub IsFaultOfRun : List Planned → List (List Packet) → Fault → Type 0
+IsFaultOfRun plan traces Memory = ⊤
+IsFaultOfRun plan traces (UnknownSender s) = IsFirstUnknown (senders_in plan) traces s
+IsFaultOfRun plan traces (TooManyPulls made) = AreKnown (senders_in plan) traces
+IsFaultOfRun plan traces (Unsettled leaf accepted capacity) = AreKnown (senders_in plan) traces × HasLostBelow traces accepted capacity
+IsFaultOfRun plan traces fault = ⊥

@@ -1,0 +1,71 @@
+-- What the threads of a run say to one another.
+use Rattle.std.specs.Prelude.{◌≡◌, ℕ, ◌*◌, ◌≤◌, List, [], ◌∷◌, ◌++◌, length, map, max, ⊤}
+use Rattle.clk_packet.specs.declared.packet.Packet.{Packet}
+use Rattle.clk_packet.specs.Trace.{sent_by}
+use Rattle.clk_ruled.specs.Queue.{SeatLists, ClosedLists}
+use Rattle.clk_ruled.specs.Closing.{IsClosedOf}
+use Rattle.clk_sched.specs.Log.{pulls, moment_of}
+use Rattle.clk_sched.specs.Session.{Progress, counted_moment}
+use Rattle.clk_drain.specs.Line.{LineLists, pulling_all, AreLinesOf}
+use Rattle.clk_drain.specs.Closing.{AreOffered}
+use Rattle.clk_drain.specs.Moments.{steps}
+
+-- what is sent, and at which moments devices are pulled
+pub record Terms : Type 0 where
+  pub traces : List (List Packet)
+  pub step : ℕ
+  pub limit : ℕ
+
+-- A seat before its first offer, with room for all that its sender sends.
+pub record IsUnused (terms : Terms) (seat : SeatLists) : Type 0 where
+  pub offered : AreOffered [] seat
+  pub room : seat.room ≡ length (sent_by terms.traces seat.sender)
+
+-- All that its sender sends was offered, and then the seat was closed.
+pub record HasSentAll (terms : Terms) (seat : SeatLists) (result : ClosedLists) : Type 0 where
+  pub closed : IsClosedOf seat result
+  pub sent : AreOffered (sent_by terms.traces seat.sender) result.lists
+
+-- so for each of some seats, in order
+abbrev pub HaveSentAll : Terms → List SeatLists → List ClosedLists → Type 0
+HaveSentAll terms [] [] = ⊤
+HaveSentAll terms (s ∷ seats) (c ∷ closed) = HasSentAll terms s c × HaveSentAll terms seats closed
+HaveSentAll terms seats closed = ⊥
+
+-- a session and the lines over which it is pulled
+pub record Feed : Type 0 where
+  pub session : Progress
+  pub lines : List LineLists
+
+-- A session that is to be pulled for the first time.
+pub record IsUnpulled (feed : Feed) : Type 0 where
+  pub none : feed.session.log ≡ []
+  pub own : AreLinesOf feed.session feed.lines
+
+-- It was pulled once more, at this moment or, where that is later, at the greatest so far.
+pub record IsPulledAt (moment : ℕ) (old new : Feed) : Type 0 where
+  pub tree : new.session.tree ≡ old.session.tree
+  pub gave : ℕ → List Packet
+  pub lines : new.lines ≡ pulling_all gave old.lines
+  pub own : AreLinesOf new.session new.lines
+  pub counted : counted_moment new.session ≡ max (counted_moment old.session) moment
+  pub moments : map moment_of (pulls new.session.log) ≡ map moment_of (pulls old.session.log) ++ counted_moment new.session ∷ []
+
+-- It was pulled so often, once each step.
+pub record IsPulledFor (terms : Terms) (made : ℕ) (old new : Feed) : Type 0 where
+  pub tree : new.session.tree ≡ old.session.tree
+  pub gave : ℕ → List Packet
+  pub lines : new.lines ≡ pulling_all gave old.lines
+  pub own : AreLinesOf new.session new.lines
+  pub moments : map moment_of (pulls new.session.log) ≡ steps terms.step made
+  pub counted : counted_moment new.session ≡ made * terms.step
+
+-- It was pulled, as often as it may be at most.
+abbrev pub IsPulled : Terms → Feed → Feed → Type 0
+IsPulled terms old new = (made : ℕ) × (made ≤ terms.limit) × IsPulledFor terms made old new
+
+-- so for each of some sessions, in order
+abbrev pub ArePulled : Terms → List Feed → List Feed → Type 0
+ArePulled terms [] [] = ⊤
+ArePulled terms (f ∷ feeds) (g ∷ pulled) = IsPulled terms f g × ArePulled terms feeds pulled
+ArePulled terms feeds pulled = ⊥

@@ -1,0 +1,115 @@
+//! A run: producers on threads, a consumer for each device, and then the closing.
+
+mod closing;
+mod consumer;
+mod course;
+mod devices;
+mod handing;
+mod inlets;
+mod joining;
+mod opening;
+mod producer;
+mod threads;
+
+ghost use Rattle.std.specs.Prelude.{◌≡◌, ◌≤◌, ◌<◌, true, false, map, length, IfOk, IfErr};
+ghost use Rattle.clk_packet.specs.declared.fault.Fault.TheVariants.{UnknownSender};
+ghost use Rattle.clk_packet.specs.Trace.{sent_by};
+ghost use Rattle.clk_ruled.specs.Lists.{has_sender};
+ghost use Rattle.clk_tree.specs.PlanParts.{number_of};
+ghost use Rattle.clk_drain.specs.Limits.{most_step, most_limit};
+ghost use Rattle.clk_drain.specs.Run.{IsRunOutcome, senders_in, AreKnown, IsFaultOfRun, IsUnknownSender};
+
+use crate::gate::Gate;
+use crate::outcome::Outcome;
+use crate::running::closing::close_devices;
+use crate::running::course::Course;
+use crate::running::devices::{OpenPlan, open_devices};
+use crate::running::handing::hand_out;
+use crate::running::joining::join_devices;
+use crate::running::threads::run_threads;
+use clk_packet::{Fault, Traces};
+use clk_tree::{Plan, SenderSpec};
+use std::alloc::Global;
+use std::sync::Wait;
+use std::thread::Threads;
+
+/// Runs a plan over a trace: a producer for each sender, on a thread of its own, offers all that the sender sends, in order, and closes
+/// its seat; meanwhile a consumer for each device pulls its tree, once each `step` ticks, `limit` times at most or until all producers
+/// are through. The first device's consumer is on this thread, each other one on a thread of its own. Then all threads are joined, and
+/// the devices are drained one after the other.
+///
+/// Whatever the threads do, of each sender just those packets come out that its queue accepted and didn't evict, each once, in the
+/// order in which they were sent; and each device's log is a run of its tree over what the queues answered. Which packets are
+/// refused or evicted, and how senders mix, is open.
+///
+/// `step` is from 1 to 1,000, `limit` from 1 to 1,000,000.
+///
+/// # Errors
+///
+/// Fault 1 where memory or a thread is refused. Fault 15 with the least sender that the trace has and the plan hasn't, before anything
+/// is opened. Fault 17 where a drain stops short, and 21 where a queue lost packets though it accepted fewer than its capacity. At
+/// every fault all threads have ended, and nothing is handed back.
+pub fn run<R: Threads + Wait, W: Wait + Sync, G: Gate + Sync>(
+    rt: &R,
+    alloc: Global,
+    wait: &W,
+    plan: &Plan,
+    traces: &Traces,
+    step: u32,
+    limit: u32,
+    gate: &G,
+) -> Result<Outcome, Fault>
+    requires step { (1 ≤ step) × (step ≤ most_step) }
+    requires limit { (1 ≤ limit) × (limit ≤ most_limit) }
+    ensures outcome { IfOk result (IsRunOutcome plan.now traces.now step limit) }
+    ensures known { IfOk result (λ _. AreKnown (senders_in plan.now) traces.now) }
+    ensures fault { IfErr result (IsFaultOfRun plan.now traces.now) }
+{
+    check_senders(plan.senders(), traces)?;
+    // How many packets are sent in all is known where they are counted.
+    let _ = traces.count(0);
+    let OpenPlan { queues, ends } = open_devices(alloc, plan, traces)?;
+    let handed = hand_out(alloc, wait, &queues, ends)?;
+    let course = Course::new(wait, traces, gate, step, limit, handed.producers.len());
+    let ended = run_threads(rt, alloc, &course, handed)?;
+    let closings = join_devices(alloc, queues, ended.pulled, ended.closed)?;
+    close_devices(alloc, &course, closings)
+}
+
+// Whether all senders of the trace are among these. Fault 15 with the least that isn't.
+fn check_senders(senders: &[SenderSpec], traces: &Traces) -> Result<(), Fault>
+    ensures known { IfOk result (λ _. AreKnown (map number_of senders.now) traces.now) }
+    ensures fault { IfErr result (λ fault. IsUnknownSender (map number_of senders.now) traces.now fault) }
+{
+    for sender in 0..=u16::MAX {
+        check_sender(senders, traces, sender)?;
+    }
+    Ok(())
+}
+
+// Whether a sender sends nothing, or is among these. Else fault 15.
+fn check_sender(senders: &[SenderSpec], traces: &Traces, sender: u16) -> Result<(), Fault>
+    ensures known { IfOk result (λ _. 0 < length (sent_by traces.now sender) → has_sender (map number_of senders.now) sender ≡ true) }
+    ensures fault { IfErr result (λ fault. (fault ≡ UnknownSender sender) × (0 < length (sent_by traces.now sender)) × (has_sender (map number_of senders.now) sender ≡ false)) }
+{
+    if traces.count(sender) == 0 {
+        return Ok(());
+    }
+    if is_among(senders, sender) {
+        return Ok(());
+    }
+    Err(Fault::UnknownSender { sender })
+}
+
+// Whether a sender is among these.
+fn is_among(senders: &[SenderSpec], number: u16) -> bool
+    ensures { result ≡ has_sender (map number_of senders.now) number }
+{
+    let [first, rest @ ..] = senders else {
+        return false;
+    };
+    if first.number == number {
+        return true;
+    }
+    is_among(rest, number)
+}

@@ -1,0 +1,61 @@
+//! The devices of a run are closed, one after the other.
+
+ghost use Rattle.std.specs.Prelude.{◌≡◌, ◌⊎◌, ◌<◌, ◌++◌, ◌∷◌, [], map, IfOk, IfErr, OnOk, IsOkUnless};
+ghost use Rattle.std.specs.List.{AllByRecursion};
+ghost use Rattle.clk_packet.specs.declared.fault.Fault.TheVariants.{Memory};
+ghost use Rattle.clk_drain.specs.Handed.{IsReadyToClose, AreApartDevices, AreSettledTogether, IsFaultOfClosing};
+
+use crate::closing::{add, close_and_drain};
+use crate::drained::Drained;
+use crate::gate::Gate;
+use crate::outcome::Outcome;
+use crate::running::course::Course;
+use crate::running::joining::Closing;
+use clk_packet::Fault;
+use std::alloc::Global;
+use std::sync::Wait;
+
+/// Closes each device, in order, and joins what they came to.
+///
+/// # Errors
+///
+/// The first fault of a device, and fault 1 where memory is refused.
+pub fn close_devices<W: Wait, G: Gate>(
+    alloc: Global,
+    course: &Course<W, G>,
+    closings: Vec<Closing>,
+) -> Result<Outcome, Fault>
+    requires ready { AllByRecursion (IsReadyToClose course.now) closings.items }
+    requires apart { AreApartDevices closings.items }
+    ensures settled { IfOk result (AreSettledTogether course.now closings.items) }
+    ensures fault { IfErr result (IsFaultOfClosing closings.items) }
+{
+    let mut outcome = Outcome {
+        emitted: Vec::with_capacity(alloc, closings.len())?,
+        logs: Vec::with_capacity(alloc, closings.len())?,
+        tallies: Vec::new(alloc),
+    };
+    for Closing { session, lines } in closings {
+        let drained = close_and_drain(alloc, course.wait, session, lines, 0)?;
+        note(&mut outcome, drained)?;
+    }
+    outcome.tallies.sort_unstable_by_key(|tally| tally.sender);
+    Ok(outcome)
+}
+
+// Adds what a device came to, after the devices before it.
+fn note(outcome: &mut Outcome, drained: Drained) -> Result<(), Fault>
+    ensures emitted { OnOk result (outcome.new.emitted.items ≡ outcome.old.emitted.items ++ drained.emitted ∷ []) }
+    ensures logs { OnOk result (outcome.new.logs.items ≡ outcome.old.logs.items ++ drained.log ∷ []) }
+    ensures tallies { OnOk result (outcome.new.tallies.items ≡ outcome.old.tallies.items ++ drained.tallies.items) }
+    ensures fault { IsOkUnless result Fault.Memory }
+{
+    let Drained {
+        emitted,
+        log,
+        tallies,
+    } = drained;
+    outcome.emitted.push(emitted)?;
+    outcome.logs.push(log)?;
+    add(&mut outcome.tallies, tallies)
+}

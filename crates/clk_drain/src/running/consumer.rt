@@ -1,0 +1,75 @@
+//! A consumer: what pulls a device while producers run.
+
+use crate::gate::Gate;
+use crate::running::course::Course;
+use crate::running::inlets::Inlets;
+use clk_packet::Fault;
+use clk_sched::Session;
+use std::marker::Model;
+use std::sync::Wait;
+use std::thread;
+
+/// A device's session, with the inlets over which it is pulled.
+#[derive(Drop)]
+pub struct Consumer<'a, W: Wait> {
+    pub device: u16,
+    pub session: Session,
+    pub inlets: Inlets<'a, W>,
+}
+
+impl<'a, W: Wait> Model for Consumer<'a, W> {
+    ghost use Rattle.clk_drain.specs.Threads.{Feed};
+    ghost use Rattle.std.specs.Coded.{codes};
+    ghost use Rattle.clk_sched.specs.Stored.{tree_code};
+
+    ghost Value = { Feed };
+
+    ghost coded = { Prim.hlevel (codes, tree_code) };
+
+    ghost view = { λ c. record { session = c.session; lines = c.inlets } };
+}
+
+impl<'a, W: Wait> Consumer<'a, W> {
+    ghost use Rattle.std.specs.Prelude.{◌≤◌, ◌*◌, IfOk, OnOk, IsOkUnless};
+    ghost use Rattle.clk_packet.specs.declared.fault.Fault.TheVariants.{Memory};
+    ghost use Rattle.clk_drain.specs.Line.{AreLinesOf};
+    ghost use Rattle.clk_drain.specs.Threads.{IsUnpulled, IsPulled, IsPulledAt};
+
+    /// Pulls the device once each step, as often as it may at most, or until all producers are through.
+    ///
+    /// # Errors
+    ///
+    /// Fault 1 where memory is refused to the session's log.
+    pub fn pull_all<G: Gate>(self, course: &Course<W, G>) -> Result<Consumer<'a, W>, Fault>
+        requires unpulled { IsUnpulled self }
+        ensures pulled { IfOk result (IsPulled course.now self.entry) }
+        ensures fault { IsOkUnless result Fault.Memory }
+    {
+        let mut consumer = self;
+        let mut made = 0;
+        while made < course.limit() {
+            if course.is_over() {
+                return Ok(consumer);
+            }
+            made += 1;
+            consumer.pull(course, made)?;
+        }
+        Ok(consumer)
+    }
+
+    // Makes the pull of this number, counted from 1. Where it gave none, other threads come first.
+    fn pull<G: Gate>(&mut self, course: &Course<W, G>, number: u32) -> Result<(), Fault>
+        requires number { number ≤ course.now.limit }
+        requires own { AreLinesOf self.old.session self.old.lines }
+        ensures pulled { OnOk result (IsPulledAt (number * course.now.step) self.old self.new) }
+        ensures fault { IsOkUnless result Fault.Memory }
+    {
+        let moment = course.moment(number);
+        let got = self.inlets.pull(&mut self.session, moment)?;
+        course.gate.pulled(self.device, u64::from(number));
+        if got.is_none() {
+            thread::yield_now();
+        }
+        Ok(())
+    }
+}

@@ -1,0 +1,85 @@
+//! What all threads of a run share.
+
+use crate::gate::Gate;
+use clk_packet::Traces;
+use std::marker::Model;
+use std::sync::Wait;
+use std::sync::atomic::{AtomicU64, Ordering};
+
+/// What all threads of a run share: what is sent, at which moments devices are pulled, and how many producers are through.
+#[derive(Drop)]
+pub struct Course<'a, W: Wait, G: Gate> {
+    pub wait: &'a W,
+    pub traces: &'a Traces,
+    pub gate: &'a G,
+    /// How many ticks lie between two pulls of a device, from 1 to 1,000.
+    pub step: u32,
+    /// How often a device is pulled at most while producers run, from 1 to 1,000,000.
+    pub limit: u32,
+    pub producers: u64,
+    /// How many of the producers are through.
+    pub through: AtomicU64,
+}
+
+impl<'a, W: Wait, G: Gate> Model for Course<'a, W, G> {
+    ghost use Rattle.std.specs.Prelude.{◌≤◌};
+    ghost use Rattle.clk_drain.specs.Limits.{most_step, most_limit};
+    ghost use Rattle.clk_drain.specs.Threads.{Terms};
+
+    ghost Value = { Terms };
+
+    ghost view = { λ c. record { traces = c.traces.now; step = c.step; limit = c.limit } };
+
+    ghost invariant = { λ c. (c.step ≤ most_step) × (c.limit ≤ most_limit) };
+}
+
+impl<'a, W: Wait, G: Gate> Course<'a, W, G> {
+    ghost use Rattle.std.specs.Prelude.{◌≡◌, ◌≤◌, ◌*◌, ◌<◌};
+    ghost use Rattle.clk_sched.specs.Limits.{end_of_moments};
+    ghost use Rattle.clk_drain.specs.Limits.{most_step, most_limit};
+
+    /// What they share, where so many producers are to run.
+    pub fn new(
+        wait: &'a W,
+        traces: &'a Traces,
+        gate: &'a G,
+        step: u32,
+        limit: u32,
+        producers: usize,
+    ) -> Course<'a, W, G>
+        requires step { step ≤ most_step }
+        requires limit { limit ≤ most_limit }
+        ensures { result ≡ record { traces = traces.now; step = step; limit = limit } }
+    {
+        Course {
+            wait,
+            traces,
+            gate,
+            step,
+            limit,
+            producers: producers as u64,
+            through: AtomicU64::new(0),
+        }
+    }
+
+    /// How often a device is pulled at most while producers run.
+    pub fn limit(&self) -> u32
+        ensures { result ≡ self.now.limit }
+    {
+        self.limit
+    }
+
+    /// The moment of a device's pull of this number, counted from 1.
+    pub fn moment(&self, pull: u32) -> u64
+        requires { pull ≤ self.now.limit }
+        ensures moment { result ≡ pull * self.now.step }
+        ensures within { result < end_of_moments }
+    {
+        u64::from(pull) * u64::from(self.step)
+    }
+
+    /// Whether all producers are through.
+    pub fn is_over(&self) -> bool {
+        self.through.load(Ordering::SeqCst) == self.producers
+    }
+}

@@ -1,0 +1,143 @@
+//! The shared queues of a tree while their seats are out, as what a session is pulled over.
+
+use clk_packet::{Fault, Packet};
+use clk_ruled::{RuledQueue, Tap};
+use clk_sched::{Ask, Session};
+use std::alloc::Global;
+use std::marker::Model;
+use std::sync::Wait;
+
+/// The tap of a shared queue, at the leaf where the queue stands. Contracts see a line that has no seats yet.
+#[derive(Drop)]
+pub struct Inlet<'a> {
+    pub leaf: u16,
+    pub queue: &'a RuledQueue,
+    pub tap: Tap,
+}
+
+impl<'a> Model for Inlet<'a> {
+    ghost use Rattle.std.specs.Prelude.{[]};
+    ghost use Rattle.clk_ruled.specs.Queue.{IsTapOf};
+    ghost use Rattle.clk_drain.specs.Line.{LineLists};
+
+    ghost Value = { LineLists };
+
+    ghost view = { λ i. record { leaf = i.leaf; tap = i.tap; closed = [] } };
+
+    ghost invariant = { λ i. IsTapOf i.queue.now i.tap };
+}
+
+impl<'a> Inlet<'a> {
+    ghost use Rattle.std.specs.Prelude.{◌≡◌};
+    ghost use Rattle.clk_drain.specs.Line.{pulling, packets_of};
+
+    /// The number of its leaf.
+    pub fn leaf(&self) -> u16
+        ensures { result ≡ self.now.leaf }
+    {
+        self.leaf
+    }
+
+    /// Pulls the packet at the front of the queue, or answers none where it found it empty. Takes no memory.
+    pub fn pull(&mut self, wait: &impl Wait) -> Option<Packet>
+        ensures { self.new ≡ pulling self.old (packets_of result) }
+    {
+        let queue = self.queue;
+        self.tap.pull(queue, wait)
+    }
+
+    /// The tap.
+    pub fn into_tap(self) -> Tap
+        ensures { result ≡ self.entry.tap }
+    {
+        self.tap
+    }
+}
+
+/// Inlets, of rising leaves, over which a session is pulled.
+#[derive(Drop)]
+pub struct Inlets<'a, W: Wait> {
+    wait: &'a W,
+    each: Vec<Inlet<'a>>,
+}
+
+impl<'a, W: Wait> Model for Inlets<'a, W> {
+    ghost use Rattle.std.specs.Prelude.{List};
+    ghost use Rattle.clk_drain.specs.Senders.{Rise};
+    ghost use Rattle.clk_drain.specs.Line.{LineLists, leaves_of};
+
+    ghost Value = { List LineLists };
+
+    ghost view = { λ i. i.each.items };
+
+    ghost invariant = { λ i. Rise (leaves_of i.each.items) };
+}
+
+impl<'a, W: Wait> Inlets<'a, W> {
+    ghost use Rattle.std.specs.Prelude.{◌≡◌, ◌<◌, map, IfOk, OnOk, OnErr, IsOkUnless};
+    ghost use Rattle.clk_packet.specs.declared.fault.Fault.TheVariants.{Memory};
+    ghost use Rattle.clk_sched.specs.Limits.{end_of_moments};
+    ghost use Rattle.clk_sched.specs.Results.{leaf_packets};
+    ghost use Rattle.clk_sched.specs.Session.{IsPulledOnce, newly};
+    ghost use Rattle.clk_drain.specs.Senders.{Rise};
+    ghost use Rattle.clk_drain.specs.Line.{LineLists, AreLinesOf, leaves_of, pulling_all};
+
+    /// Inlets of rising leaves. `wait` is what their queues wait by.
+    pub fn new(wait: &'a W, each: Vec<Inlet<'a>>) -> Inlets<'a, W>
+        requires rise { Rise (leaves_of each.items) }
+        ensures { result ≡ each.entry.items }
+    {
+        Inlets { wait, each }
+    }
+
+    /// Pulls a session over its inlets once, as `Session::pull` does.
+    ///
+    /// # Errors
+    ///
+    /// Fault 1 where memory is refused. Then nothing has changed, and nothing was asked.
+    pub fn pull(&mut self, session: &mut Session, moment: u64) -> Result<Option<Packet>, Fault>
+        requires moment { moment < end_of_moments }
+        requires lines { AreLinesOf session.old self.old }
+        ensures pulled { IfOk result (IsPulledOnce session.old session.new moment) }
+        ensures lines { AreLinesOf session.new self.new }
+        ensures taken { OnOk result (self.new ≡ pulling_all (λ q. leaf_packets session.old.tree q (newly session.old session.new)) self.old) }
+        ensures fault { IsOkUnless result Fault.Memory }
+    {
+        session.pull(self, moment)
+    }
+
+    /// The taps, in order.
+    ///
+    /// # Errors
+    ///
+    /// Fault 1 where memory is refused.
+    pub fn into_taps(self, alloc: Global) -> Result<Vec<Tap>, Fault>
+        ensures taps { IfOk result (λ taps. taps.items ≡ map (λ (l : LineLists). l.tap) self.entry) }
+        ensures fault { IsOkUnless result Fault.Memory }
+    {
+        let mut taps = Vec::with_capacity(alloc, self.each.len())?;
+        for inlet in self.each {
+            taps.push(inlet.into_tap())?;
+        }
+        Ok(taps)
+    }
+}
+
+impl<'a, W: Wait> Ask for Inlets<'a, W> {
+    ghost use Rattle.clk_drain.specs.Line.{PullsAt, has_line};
+
+    ghost has = { has_line };
+
+    ghost gives = { PullsAt };
+
+    fn ask(&mut self, leaf: u16) -> Option<Packet> {
+        match self.each.binary_search_by_key(&leaf, |inlet| inlet.leaf()) {
+            Ok(place) => {
+                let wait = self.wait;
+                let inlet = &mut self.each[place];
+                inlet.pull(wait)
+            }
+            Err(_) => None,
+        }
+    }
+}

@@ -1,0 +1,86 @@
+//! The shared queues that a run opens, each with its tap and its seats.
+
+ghost use Rattle.std.specs.Prelude.{◌≡◌, ◌<◌, ◌≤◌, length, IfOk, OnOk, IsOkUnless};
+ghost use Rattle.clk_packet.specs.declared.fault.Fault.TheVariants.{Memory};
+ghost use Rattle.clk_packet.specs.Trace.{packets_in, most_records};
+ghost use Rattle.clk_tree.specs.PlanParts.{queued, HasCapacity};
+ghost use Rattle.clk_drain.specs.Senders.{Rise};
+ghost use Rattle.clk_drain.specs.Opening.{shared_at, rooms_for, IsAdded};
+
+use clk_packet::{Fault, Traces};
+use clk_ruled::{Opened, RuledQueue, Seat, Tap};
+use clk_sched::Session;
+use clk_tree::QueueSpec;
+use std::alloc::Global;
+use std::marker::Model;
+
+/// A shared queue at the leaf where it stands, with the number of its senders.
+#[derive(Drop)]
+pub struct LeafQueue {
+    pub leaf: u16,
+    pub queue: RuledQueue,
+    pub senders: usize,
+}
+
+/// What the threads of a device are given: its session, and the taps and the seats of its queues, by rising leaf. Contracts see all
+/// but the device's number.
+#[derive(Drop)]
+pub struct Ends {
+    pub device: u16,
+    pub session: Session,
+    pub taps: Vec<Tap>,
+    pub seats: Vec<Vec<Seat>>,
+}
+
+impl Model for Ends {
+    ghost use Rattle.std.specs.Prelude.{map};
+    ghost use Rattle.std.specs.Coded.{codes};
+    ghost use Rattle.clk_sched.specs.Stored.{tree_code};
+    ghost use Rattle.clk_drain.specs.Handed.{EndLists};
+
+    ghost Value = { EndLists };
+
+    ghost coded = { Prim.hlevel (codes, tree_code) };
+
+    ghost view = { λ e. record { session = e.session; taps = e.taps.items; seats = map (λ seats. seats.items) e.seats.items } };
+}
+
+/// Opens a queue more, at this leaf, with room for all that is sent to it. Fault 1 where memory is refused.
+pub fn open_queue(
+    alloc: Global,
+    queues: &mut Vec<LeafQueue>,
+    ends: &mut Ends,
+    leaf: u16,
+    queue: &QueueSpec,
+    traces: &Traces,
+) -> Result<(), Fault>
+    requires capacity { HasCapacity (queued queue.now) }
+    requires rising { Rise queue.now.senders.items }
+    ensures added { OnOk result (IsAdded traces.now (shared_at leaf (queued queue.now)) queues.old.items queues.new.items ends.old ends.new) }
+    ensures fault { IsOkUnless result Fault.Memory }
+{
+    let rooms = rooms_for(alloc, &queue.senders, traces)?;
+    let Opened { queue, seats, tap } = RuledQueue::open(alloc, queue.kind, queue.capacity, &rooms)?;
+    queues.push(LeafQueue {
+        leaf,
+        queue,
+        senders: seats.len(),
+    })?;
+    ends.taps.push(tap)?;
+    ends.seats.push(seats)?;
+    Ok(())
+}
+
+// How many packets each of these senders may offer: all that it sends.
+fn rooms_for(alloc: Global, senders: &[u16], traces: &Traces) -> Result<Vec<(u16, u32)>, Fault>
+    ensures rooms { IfOk result (λ rooms. rooms.items ≡ rooms_for traces.now senders.now) }
+    // No trace sends more, as is known once a sender's packets were counted.
+    ensures within { IfOk result (λ _. 0 < length senders.now → packets_in traces.now ≤ most_records) }
+    ensures fault { IsOkUnless result Fault.Memory }
+{
+    let mut rooms = Vec::with_capacity(alloc, senders.len())?;
+    for sender in senders {
+        rooms.push((*sender, traces.count(*sender)))?;
+    }
+    Ok(rooms)
+}
