@@ -1,8 +1,9 @@
 -- What two histories, or two lists of events, have in common after the same events.
-use Rattle.std.proofs.Common.{◌≡◌, ℕ, ◌+◌, ◌≤◌, zero, suc, List, [], ◌∷◌, ◌++◌, length, drop, map, max, fold, Option, refl, sym, ap, ap₂, ◌∙◌, subst, arith}
+use Rattle.std.proofs.Common.{◌≡◌, ℕ, ◌+◌, ◌≤◌, ◌==◌, true, zero, suc, List, [], ◌∷◌, ◌++◌, length, drop, map, max, fold, Option, refl, sym, ap, ap₂, ◌∙◌, subst, arith}
 use Rattle.std.specs.List.{filter_map, range_with_len, AllByRecursion}
 use Rattle.std.proofs.lemmas.List.{map-append}
-use Rattle.std.proofs.lemmas.List.Elements.{filter_map-append}
+use Rattle.std.proofs.lemmas.Bool.Decides.{nat_tests}
+use Rattle.std.proofs.lemmas.List.Elements.{filter-append, filter_map-append}
 use Rattle.std.proofs.lemmas.List.{append_assoc, append-nil}
 use Rattle.std.proofs.Math.Bridge.{le_prop}
 use mathlib.Core.HLevel.{is_prop→PathP}
@@ -14,7 +15,8 @@ use Rattle.clk_ring.specs.Laws.{HistoriesLeaveNoChoice}
 use Rattle.clk_sched.specs.declared.visit.Visit.{Visit}
 use Rattle.clk_sched.specs.Log.{moment_of, counted}
 use Rattle.clk_sched.specs.Choice.{GoAlike}
-use Rattle.clickpull.specs.Meaning.{Setup, Event, offered, pulled, pull_in, moment_in, CanHappen}
+use Rattle.clk_sched.specs.Tree.{Tree}
+use Rattle.clickpull.specs.Meaning.{Setup, Event, offered, pulled, happens_at, events_at, pull_in, moment_in, RunsTree}
 
 -- two packets with the same number, sender and length
 pub packet-same : (p q : Packet) → p.number ≡ q.number → p.sender ≡ q.sender → p.length ≡ q.length → p ≡ q
@@ -73,12 +75,19 @@ member-between P (z ∷ xs) x ys h = member-between P xs x ys h.1
 moments-count : (events : List Event) → length (map moment_of (filter_map pull_in events)) ≡ length (filter_map moment_in events)
 moments-count [] = refl
 moments-count (offered p outcome ∷ events) = moments-count events
-moments-count (pulled m v ∷ events) = ap suc (moments-count events)
+moments-count (pulled d m v ∷ events) = ap suc (moments-count events)
 
--- the counted moment of a pull between others
-pub its-moment : (setup : Setup) (done : List Event) (m : ℕ) (v : List Visit) (more : List Event) → CanHappen setup (done ++ pulled m v ∷ more)
+-- the counted moment of a pull between others of its device
+pub its-moment : (tree : Tree) (done : List Event) (d m : ℕ) (v : List Visit) (more : List Event) → RunsTree tree (done ++ pulled d m v ∷ more)
     → moment_of v ≡ max (fold max 0 (filter_map moment_in done)) m
-its-moment setup done m v more can =
+its-moment tree done d m v more runs =
     moment-counted 0 (map moment_of (filter_map pull_in done)) (moment_of v) (map moment_of (filter_map pull_in more)) (filter_map moment_in done) m (filter_map moment_in more) (moments-count done)
-    (sym (ap (map moment_of) (filter_map-append pull_in done (pulled m v ∷ more)) ∙ map-append moment_of (filter_map pull_in done) (v ∷ filter_map pull_in more)) ∙ can.moments
-    ∙ ap (counted 0) (filter_map-append moment_in done (pulled m v ∷ more)))
+    (sym (ap (map moment_of) (filter_map-append pull_in done (pulled d m v ∷ more)) ∙ map-append moment_of (filter_map pull_in done) (v ∷ filter_map pull_in more)) ∙ runs.moments
+    ∙ ap (counted 0) (filter_map-append moment_in done (pulled d m v ∷ more)))
+
+-- a pull stands among the events of its device
+pub events-at-pull : (setup : Setup) (d m : ℕ) (v : List Visit) (done more : List Event)
+    → events_at setup d (done ++ pulled d m v ∷ more) ≡ events_at setup d done ++ pulled d m v ∷ events_at setup d more
+events-at-pull setup d m v done more =
+    let same : (d == d) ≡ true = grind (arith, nat_tests) in
+    filter-append (happens_at setup d) done (pulled d m v ∷ more) ∙ ap (λ (l : List Event). events_at setup d done ++ l) (rw same refl)

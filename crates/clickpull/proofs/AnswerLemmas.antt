@@ -1,12 +1,22 @@
 -- How a router goes on by the commands of some rows, and what it comes to.
-use Rattle.std.proofs.Common.{◌≡◌, ℕ, ◌+◌, ◌<◌, ◌≤◌, zero, suc, List, [], ◌∷◌, ◌++◌, length, map, take, drop, set, get_or, max, fold, Option, Some, None, ◌⊎◌, inl, inr, refl, sym, ap, ap₂, subst, ◌∙◌, append_assoc, append-nil, arith}
-use Rattle.std.specs.List.{flat_map, filter_map, AllByRecursion}
+use Rattle.std.proofs.Common.{◌≡◌, ℕ, ◌+◌, ◌<◌, ◌≤◌, ◌==◌, zero, suc, nat_lt, Bool, true, false, List, [], ◌∷◌, ◌++◌, length, map, filter, take, drop, set, get_or, reverse, max, fold, Option, Some, None, MatchOption, Vec, slice_get, ◌⊎◌, inl, inr, refl, sym, ap, ap₂, subst, ◌∙◌, append_assoc, append-nil, zero-add, arith}
+use Rattle.std.specs.Bool.{⊤}
+use Rattle.std.specs.List.{flat_map, filter_map, cons_option, range_with_len, AllByRecursion}
+use Rattle.std.specs.declared.alloc.Global.{Global}
 use Rattle.std.proofs.lemmas.List.{map-append, length-map, length-take, take_all, length-set, take-append-drop, take_more, take_more_set, drop_more, drop-set-lt}
+use Rattle.std.proofs.lemmas.List.Elements.{filter_map-append}
 use Rattle.std.proofs.lemmas.Grind.{drop_more_same}
 use Rattle.clk_packet.specs.declared.fault.Fault.{Fault}
 use Rattle.clk_packet.specs.declared.fault.Fault.TheVariants.{Memory, TooManyPulls}
+use Rattle.clk_packet.specs.declared.packet.Packet.{Packet}
+use Rattle.clk_packet.specs.declared.packet.Offered.{Offered}
 use Rattle.clk_packet.specs.declared.tally.Tally.{Tally}
 use Rattle.clk_report.specs.Report.{report_text}
+use Rattle.clk_report.specs.Devices.{lists_of, came_out}
+use Rattle.clk_sched.specs.declared.visit.Visit.{Visit}
+use Rattle.clk_sched.specs.Tree.{Tree}
+use Rattle.clk_sched.specs.Log.{pulls}
+use Rattle.clk_sched.specs.Session.{latest_moment, counted_moment}
 use Rattle.clk_sched.specs.Results.{emitted}
 use Rattle.clk_tree.specs.declared.plan.parts.SenderSpec.{SenderSpec}
 use Rattle.clk_tree.specs.PlanParts.{AreRising, SendsWithin}
@@ -14,13 +24,14 @@ use Rattle.clickpull.specs.declared.script.Command.{Command}
 use Rattle.clickpull.specs.declared.script.Command.TheVariants.{Send, Pull}
 use Rattle.clickpull.specs.declared.rows.Row.{Row}
 use Rattle.clickpull.specs.declared.past.Past.{Past}
+use Rattle.clickpull.specs.declared.devices.Device.{Device}
 use Rattle.clickpull.specs.declared.router.Router.{Router}
-use Rattle.clickpull.specs.Script.{most_lines, most_moment}
-use Rattle.clickpull.specs.Meaning.{Setup, sender_numbers, Event, offered, pulled, command_of, number_from, moment_in, accepted_in, event_text, WritesWith}
-use Rattle.clickpull.specs.Router.{IsNumber, sender_after, numbers_in, setup_at, IsAt, IsPastOf, CanSend, CanRun, IsReady, IsReadable}
-use Rattle.clickpull.specs.Rows.{row_asked, row_of, IsToDo, CarriesOut, AnswersRows, IsClosedFrom, StopsClosing, StopsCommands, rows_text, visit_text, ending_of}
+use Rattle.clickpull.specs.Script.{Names, most_lines, most_moment}
+use Rattle.clickpull.specs.Meaning.{Room, Setup, sender_numbers, names_of, has_several, Event, offered, pulled, command_of, happens_at, events_at, number_from, moment_in, accepted_in, log_of, tally_after, event_text, RunsTree, CloseFirst, logs_of, WritesWith}
+use Rattle.clickpull.specs.Router.{IsNumber, sender_after, numbers_in, names_in, room_device, IsAt, AreDevicesAt, device_log, device_emitted, IsPastOf, CanSend, IsWhole, Starts, IsSteady, IsReady, given_kept, LeadsOnByPull, IsReadable}
+use Rattle.clickpull.specs.Rows.{row_asked, row_offered, row_pulled, row_of, given_by, IsToDo, CarriesOut, AnswersRows, IsClosedFrom, StopsClosing, StopsCommands, rows_text, closings_text, are_several, given_first, given_of, ending_of}
+use Rattle.clickpull.proofs.EventLemmas.{latest-moment}
 use Rattle.clickpull.proofs.SenderLemmas.{numbers-its, alike-its}
-use Rattle.clickpull.proofs.ClosingLemmas.{its-latest, closing-written}
 use Rattle.clickpull.proofs.RowLemmas.{rows-written}
 
 -- two numbers of the tally at a place
@@ -36,6 +47,14 @@ length-filter_map-le {X} {Y} f (x ∷ xs) = by_case (f x) refl (length-filter_ma
     by_case None e h = rw e (omega arith)
     by_case (Some y) e h = rw e (omega arith)
 
+length-filter-le : {X : Type 0} (f : X → Bool) (xs : List X) → length (filter f xs) ≤ length xs
+length-filter-le f [] = omega arith
+length-filter-le f (x ∷ xs) = by_test (f x) refl (length-filter-le f xs)
+  where
+    by_test : (b : Bool) → f x ≡ b → length (filter f xs) ≤ length xs → length (filter f (x ∷ xs)) ≤ length (x ∷ xs)
+    by_test true e h = rw e (omega arith)
+    by_test false e h = rw e (omega arith)
+
 -- each sender can send, where there were few events
 each-sends : (events : List Event) (count : ℕ) (specs : List SenderSpec) → AllByRecursion (SendsWithin count) specs → length events ≤ most_lines → AllByRecursion (CanSend count) (map (sender_after events) specs)
 each-sends events count [] wired few = tt
@@ -43,41 +62,88 @@ each-sends events count (spec ∷ specs) wired few =
     let sent = length-filter_map-le (number_from spec.number) events in
     ((wired.0, omega (arith, sent, few)), each-sends events count specs wired.1 few)
 
--- the greatest moment of some commands' events is one of a script
-readable-moments : (events : List Event) (before : ℕ) → before ≤ most_moment → AllByRecursion IsReadable (map command_of events) → fold max before (filter_map moment_in events) ≤ most_moment
-readable-moments [] before h all = h
-readable-moments (offered p outcome ∷ events) before h all = readable-moments events before h all.1
-readable-moments (pulled moment visits ∷ events) before h all = readable-moments events (max before moment) (let m = all.0 in omega (arith, m, h)) all.1
+-- the greatest moment that a device's events hand in, if they are of readable commands, is one of a script
+readable-moments : (setup : Setup) (d : ℕ) (events : List Event) (before : ℕ) → before ≤ most_moment → AllByRecursion IsReadable (map command_of events)
+    → fold max before (filter_map moment_in (events_at setup d events)) ≤ most_moment
+readable-moments setup d [] before h all = h
+readable-moments setup d (offered p outcome ∷ events) before h all = by_test (happens_at setup d (offered p outcome)) refl (readable-moments setup d events before h all.1)
+  where
+    by_test : (b : Bool) → happens_at setup d (offered p outcome) ≡ b → fold max before (filter_map moment_in (events_at setup d events)) ≤ most_moment
+        → fold max before (filter_map moment_in (events_at setup d (offered p outcome ∷ events))) ≤ most_moment
+    by_test true e rest = rw e rest
+    by_test false e rest = rw e rest
+readable-moments setup d (pulled device moment visits ∷ events) before h all =
+    by_test (device == d) refl (readable-moments setup d events (max before moment) (let m = all.0 in omega (arith, m, h)) all.1) (readable-moments setup d events before h all.1)
+  where
+    by_test : (b : Bool) → (device == d) ≡ b → fold max (max before moment) (filter_map moment_in (events_at setup d events)) ≤ most_moment → fold max before (filter_map moment_in (events_at setup d events)) ≤ most_moment
+        → fold max before (filter_map moment_in (events_at setup d (pulled device moment visits ∷ events))) ≤ most_moment
+    by_test true e counted same = rw e counted
+    by_test false e counted same = rw e same
+
+-- the device at a place, after few events of readable commands
+steady-at : (setup : Setup) (d : ℕ) (events : List Event) (tree : Option Tree) (at : Option Device) (device : Device) → AreDevicesAt (events_at setup d events) tree at
+    → MatchOption tree ⊤ (λ t. RunsTree t (events_at setup d events)) → at ≡ Some device → length events ≤ most_lines → AllByRecursion IsReadable (map command_of events) → IsSteady device
+steady-at setup d events None None device is runs e few readable = absurd (cc)
+steady-at setup d events None (Some other) device is runs e few readable = absurd is
+steady-at setup d events (Some tree) None device is runs e few readable = absurd is
+steady-at setup d events (Some tree) (Some other) device is runs e few readable = subst IsSteady same (record { few = most; moment = latest })
+  where
+    same : other ≡ device
+    same = cc
+
+    most : other.kept ≤ most_lines
+    most =
+        let kept = is.kept in
+        let accepted = length-filter_map-le accepted_in (events_at setup d events) in
+        let some = length-filter-le (happens_at setup d) events in
+        omega (arith, kept, accepted, some, few)
+
+    latest : counted_moment other.session ≤ most_moment
+    latest =
+        let counted = ap (λ l. latest_moment (reverse (pulls l))) is.log ∙ latest-moment tree (events_at setup d events) runs in
+        let greatest = readable-moments setup d events 0 (omega arith) readable in
+        omega (arith, counted, greatest)
+
+-- what holds of the member at each place holds of all
+all-placed : {X : Type 0} (P : X → Type 0) (xs : List X) → ((i : ℕ) (x : X) → slice_get xs i ≡ Some x → P x) → AllByRecursion P xs
+all-placed P [] h = tt
+all-placed P (x ∷ xs) h = (h 0 x refl, all-placed P xs (λ i. h (suc i)))
+
+all-mapped : {X Y : Type 0} (P : Y → Type 0) (f : X → Y) (xs : List X) → AllByRecursion (λ x. P (f x)) xs → AllByRecursion P (map f xs)
+all-mapped P f [] h = tt
+all-mapped P f (x ∷ xs) h = (h.0, all-mapped P f xs h.1)
 
 -- a router after few events of readable commands
-IsReady-at : (setup : Setup) (events : List Event) (router : Router) → IsAt setup events router → AreRising (sender_numbers setup) → AllByRecursion (SendsWithin (length setup.queues)) setup.senders
-    → length events ≤ most_lines → AllByRecursion IsReadable (map command_of events) → IsReady router
-IsReady-at setup events router at rising wired few readable =
+IsReady-at : (setup : Setup) (events : List Event) (router : Router) → IsAt setup events router → IsWhole setup → length events ≤ most_lines → AllByRecursion IsReadable (map command_of events) → IsReady router
+IsReady-at setup events router at whole few readable =
     record {
-      rising = subst AreRising (sym (numbers-its setup events router at)) rising;
+      rising = subst AreRising (sym (numbers-its setup events router at)) whole.rising;
       can_send =
           subst (λ count. AllByRecursion (CanSend count) router.senders.items) (sym at.count)
-          (subst (AllByRecursion (CanSend (length setup.queues))) (sym at.senders) (each-sends events (length setup.queues) setup.senders wired few));
+          (subst (AllByRecursion (CanSend (length setup.queues))) (sym at.senders) (each-sends events (length setup.queues) setup.senders whole.wired few));
       alike = alike-its setup events router at;
-      few = let accepted = at.accepted in let some = length-filter_map-le accepted_in events in omega (arith, accepted, some, few);
-      moment =
-          let latest = its-latest setup events router at in
-          let most = readable-moments events 0 (omega arith) readable in
-          omega (arith, latest, most);
+      path_count = ap length at.paths ∙ length-map setup.queues room_device ∙ sym at.count;
+      paths =
+          subst (AllByRecursion (λ d. d < length router.devices.items)) (sym at.paths)
+          (all-mapped (λ d. d < length router.devices.items) room_device setup.queues (subst (λ n. AllByRecursion (λ (room : Room). room.device < n) setup.queues) (sym at.device_count) whole.paths));
+      steady =
+          all-placed IsSteady router.devices.items
+          (λ d device here. steady-at setup d events (slice_get setup.trees d) (slice_get router.devices.items d) device (at.devices d) (at.can_happen.runs d) here few readable);
+      few = let count = at.device_count in let most = whole.few in omega (arith, count, most);
     }
 
 -- the commands of rows that can be carried out are readable
-readable-asked : (senders : List ℕ) (commands : List Command) → AllByRecursion (IsToDo senders) (map row_asked commands) → AllByRecursion IsReadable commands
-readable-asked senders [] h = tt
-readable-asked senders (Send sender size ∷ commands) h = (h.0.1, readable-asked senders commands h.1)
-readable-asked senders (Pull moment ∷ commands) h = (h.0, readable-asked senders commands h.1)
+readable-asked : (names : Names) (commands : List Command) → AllByRecursion (IsToDo names) (map row_asked commands) → AllByRecursion IsReadable commands
+readable-asked names [] h = tt
+readable-asked names (Send sender size ∷ commands) h = (h.0.1, readable-asked names commands h.1)
+readable-asked names (Pull device moment ∷ commands) h = (h.0.1, readable-asked names commands h.1)
 
 -- rows say of which commands they are
 row_asked-one : (a b : Command) → row_asked a ≡ row_asked b → a ≡ b
 row_asked-one (Send sender size) (Send s n) e = cc e
-row_asked-one (Send sender size) (Pull moment) e = absurd (cc e)
-row_asked-one (Pull moment) (Send s n) e = absurd (cc e)
-row_asked-one (Pull moment) (Pull m) e = cc e
+row_asked-one (Send sender size) (Pull device moment) e = absurd (cc e)
+row_asked-one (Pull device moment) (Send s n) e = absurd (cc e)
+row_asked-one (Pull device moment) (Pull d m) e = cc e
 
 rows-one : (xs ys : List Command) → map row_asked xs ≡ map row_asked ys → xs ≡ ys
 rows-one [] [] e = refl
@@ -91,11 +157,37 @@ asked-commands (e ∷ events) = ap (λ l. row_asked (command_of e) ∷ l) (asked
 
 -- No row was carried out, one was, and some were after others.
 pub AnswersRows-none : (router : Router) (asked done : List Row) → asked ≡ [] → done ≡ [] → AnswersRows router router asked done
-AnswersRows-none router asked done none nothing = λ setup events at. record { more = []; theirs = sym none; rows = nothing; leads = subst (λ l. IsAt setup l router) (sym (append-nil events)) at }
+AnswersRows-none router asked done none nothing =
+    λ setup events at.
+    record { more = []; theirs = sym none; rows = nothing; given = λ several. sym (append-nil router.given.items); leads = subst (λ l. IsAt setup l router) (sym (append-nil events)) at }
 
-pub CarriesOut-one : (setup : Setup) (new : Router) (asked done : Row) (events : List Event) (e : Event) → row_asked (command_of e) ≡ asked → done ≡ row_of e → IsAt setup (events ++ e ∷ []) new
-    → CarriesOut setup new (asked ∷ []) (done ∷ []) events
-CarriesOut-one setup new asked done events e theirs is leads = record { more = e ∷ []; theirs = ap (λ r. r ∷ []) theirs; rows = ap (λ r. r ∷ []) is; leads = leads }
+pub AnswersRows-sent : (old new : Router) (asked done : Row) (p : Packet) (outcome : Offered) → row_asked (Send p.sender p.length) ≡ asked → done ≡ row_offered p outcome → new.given ≡ old.given
+    → ((setup : Setup) (events : List Event) → IsAt setup events old → IsAt setup (events ++ offered p outcome ∷ []) new) → AnswersRows old new (asked ∷ []) (done ∷ [])
+AnswersRows-sent old new asked done p outcome theirs is given leads =
+    λ setup events at.
+    record {
+      more = offered p outcome ∷ [];
+      theirs = ap (λ r. r ∷ []) theirs;
+      rows = ap (λ r. r ∷ []) is;
+      given = λ several. ap (λ ps. ps.items) given ∙ sym (append-nil old.given.items);
+      leads = leads setup events at;
+    }
+
+pub AnswersRows-pulled : (old new : Router) (device moment : ℕ) (done : Row) (got : Option Packet) → done ≡ row_pulled device moment got → new.given.items ≡ given_kept old got
+    → ((setup : Setup) (events : List Event) → IsAt setup events old → LeadsOnByPull setup new device moment got events) → AnswersRows old new (row_asked (Pull device moment) ∷ []) (done ∷ [])
+AnswersRows-pulled old new device moment done got is given leads =
+    λ setup events at.
+    let led = leads setup events at in
+    record {
+      more = pulled device moment led.visits ∷ [];
+      theirs = refl;
+      rows = ap (λ r. r ∷ []) (is ∙ ap (row_pulled device moment) (sym led.result));
+      given =
+          λ several.
+          let many : nat_lt 1 (length old.devices.items) ≡ true = ap (nat_lt 1) at.device_count ∙ several in
+          given ∙ rw many (ap (λ g. old.given.items ++ cons_option g []) (sym led.result));
+      leads = led.leads;
+    }
 
 pub AnswersRows-then : (a b c : Router) (asked done later rows : List Row) → AnswersRows a b asked done → AnswersRows b c later rows → AnswersRows a c (asked ++ later) (done ++ rows)
 AnswersRows-then a b c asked done later rows first next =
@@ -106,21 +198,28 @@ AnswersRows-then a b c asked done later rows first next =
       more = one.more ++ two.more;
       theirs = map-append (λ e. row_asked (command_of e)) one.more two.more ∙ ap₂ (λ x y. x ++ y) one.theirs two.theirs;
       rows = ap₂ (λ x y. x ++ y) one.rows two.rows ∙ sym (map-append row_of one.more two.more);
+      given =
+          λ several.
+          two.given several ∙ ap (λ l. l ++ filter_map given_by two.more) (one.given several) ∙ append_assoc a.given.items (filter_map given_by one.more) (filter_map given_by two.more)
+          ∙ ap (λ l. a.given.items ++ l) (sym (filter_map-append given_by one.more two.more));
       leads = subst (λ l. IsAt setup l c) (append_assoc events one.more two.more) two.leads;
     }
 
--- A router over which some rows were carried out can carry out more, and its senders are those that it had.
-pub IsReady-answered : (old new : Router) (asked done : List Row) → CanRun old → AllByRecursion (IsToDo (numbers_in old)) asked → length asked ≤ most_lines → AnswersRows old new asked done
-    → IsReady new × (numbers_in new ≡ numbers_in old)
-IsReady-answered old new asked done can to_do few answers =
-    let setup = setup_at old in
-    let carried = answers setup [] can.leads in
+-- what a script may name over a router is what it may name over its setup
+pub names-its : (setup : Setup) (events : List Event) (router : Router) → IsAt setup events router → names_in router ≡ names_of setup
+names-its setup events router at = λ i. record { senders = numbers-its setup events router at i; devices = at.device_count i }
+
+-- A router over which some rows were carried out can carry out more, and what a script may name over it is as before.
+pub IsReady-answered : (setup : Setup) (old new : Router) (asked done : List Row) → Starts setup old → AllByRecursion (IsToDo (names_in old)) asked → length asked ≤ most_lines → AnswersRows old new asked done
+    → IsReady new × (names_in new ≡ names_in old)
+IsReady-answered setup old new asked done starts to_do few answers =
+    let carried = answers setup [] starts.leads in
     let commands = sym (asked-commands carried.more) ∙ carried.theirs in
     let count = ap length carried.theirs in
     let many = length-map carried.more (λ e. row_asked (command_of e)) in (
-      IsReady-at setup carried.more new carried.leads can.rising can.wired (omega (arith, count, many, few))
-          (readable-asked (numbers_in old) (map command_of carried.more) (subst (AllByRecursion (IsToDo (numbers_in old))) (sym commands) to_do)),
-      numbers-its setup carried.more new carried.leads ∙ sym (numbers-its setup [] old can.leads),
+      IsReady-at setup carried.more new carried.leads starts.whole (omega (arith, count, many, few))
+          (readable-asked (names_in old) (map command_of carried.more) (subst (AllByRecursion (IsToDo (names_in old))) (sym commands) to_do)),
+      names-its setup carried.more new carried.leads ∙ sym (names-its setup [] old starts.leads),
     )
 
 -- what holds of each holds of those in front, and of the one at a place
@@ -150,15 +249,15 @@ still-asked asked rows i row within count left is =
     let same : get_or rows i row ≡ get_or asked i row = cc first in
     sym (is ∙ same)
 
-pub IsCarriedTo-ready : (old new : Router) (asked rows : List Row) (i : ℕ) (row : Row) → CanRun old → AllByRecursion (IsToDo (numbers_in old)) asked → length asked ≤ most_lines → IsCarriedTo old new asked rows i
-    → i < length rows → row ≡ get_or rows i row → IsReady new × IsToDo (numbers_in new) row
-IsCarriedTo-ready old new asked rows i row can to_do few carried within is =
-    let front = all-front (IsToDo (numbers_in old)) (take i asked) (drop i asked) (subst (AllByRecursion (IsToDo (numbers_in old))) (sym (take-append-drop i asked)) to_do) in
+pub IsCarriedTo-ready : (setup : Setup) (old new : Router) (asked rows : List Row) (i : ℕ) (row : Row) → Starts setup old → AllByRecursion (IsToDo (names_in old)) asked → length asked ≤ most_lines
+    → IsCarriedTo old new asked rows i → i < length rows → row ≡ get_or rows i row → IsReady new × IsToDo (names_in new) row
+IsCarriedTo-ready setup old new asked rows i row starts to_do few carried within is =
+    let front = all-front (IsToDo (names_in old)) (take i asked) (drop i asked) (subst (AllByRecursion (IsToDo (names_in old))) (sym (take-append-drop i asked)) to_do) in
     let shorter = length-take i asked in
-    let ready = IsReady-answered old new (take i asked) (take i rows) can front (omega (arith, shorter, few)) carried.answers in
+    let ready = IsReady-answered setup old new (take i asked) (take i rows) starts front (omega (arith, shorter, few)) carried.answers in
     let inside : i < length asked = let count = carried.count in omega (arith, within, count) in
-    let here = subst (IsToDo (numbers_in old)) (still-asked asked rows i row within carried.count carried.left is) (all-at (IsToDo (numbers_in old)) asked i row inside to_do) in
-    (ready.0, subst (λ senders. IsToDo senders row) (sym ready.1) here)
+    let here = subst (IsToDo (names_in old)) (still-asked asked rows i row within carried.count carried.left is) (all-at (IsToDo (names_in old)) asked i row inside to_do) in
+    (ready.0, subst (λ names. IsToDo names row) (sym ready.1) here)
 
 pub IsCarriedTo-more : (old mid new : Router) (asked rows : List Row) (i : ℕ) (row done : Row) → IsCarriedTo old mid asked rows i → i < length rows → row ≡ get_or rows i row → AnswersRows mid new (row ∷ []) (done ∷ [])
     → IsCarriedTo old new asked (set rows i done) (i + 1)
@@ -181,61 +280,126 @@ all-answered old new asked rows i carried all =
     let count = carried.count in
     subst (λ l. AnswersRows old new l rows) (take_all i asked (omega (arith, count, all))) (subst (λ l. AnswersRows old new (take i asked) l) (take_all i rows all) carried.answers)
 
--- What a router comes to over which all commands of a script were carried out, without a closing and with one.
-pub Writes-answered : (old mid new : Router) (past : Past) (commands : List Command) (asked done : List Row) (drain start : Option ℕ) → CanRun old → asked ≡ map row_asked commands → AnswersRows old mid asked done
-    → IsClosedFrom mid new drain start → IsPastOf new past → WritesWith (setup_at old) commands drain (rows_text done past.came_out.items past.put_out.items ++ ending_of past start) past.log.items
-Writes-answered old mid new past commands asked done drain start can are answers closed is = by_closing drain start closed
-  where
-    setup : Setup
-    setup = setup_at old
+-- the logs of a router's devices, by number
+logs-placed : (devices : List Device) (f : ℕ → List Visit) (n : ℕ) → ((i : ℕ) (device : Device) → slice_get devices i ≡ Some device → device_log device ≡ f (n + i))
+    → map device_log devices ≡ map f (range_with_len n (length devices))
+logs-placed [] f n h = refl
+logs-placed (device ∷ devices) f n h =
+    let first : n + 0 ≡ n = omega arith in
+    ap₂ (λ l ls. l ∷ ls) (h 0 device refl ∙ ap f first)
+    (logs-placed devices f (n + 1) (λ i other here. let next : n + suc i ≡ n + 1 + i = omega arith in h (suc i) other here ∙ ap f next))
 
-    carried : CarriesOut setup mid asked done []
-    carried = answers setup [] can.leads
+log-at : (events : List Event) (tree : Option Tree) (at : Option Device) (device : Device) → AreDevicesAt events tree at → at ≡ Some device → device_log device ≡ log_of events
+log-at events None None device is e = absurd (cc)
+log-at events None (Some other) device is e = absurd is
+log-at events (Some tree) None device is e = absurd is
+log-at events (Some tree) (Some other) device is e = let same : other ≡ device = cc in ap device_log (sym same) ∙ is.log
 
-    theirs : map command_of carried.more ≡ commands
-    theirs = rows-one (map command_of carried.more) commands (sym (asked-commands carried.more) ∙ carried.theirs ∙ are)
+logs-its : (setup : Setup) (events : List Event) (router : Router) → IsAt setup events router → map device_log router.devices.items ≡ logs_of setup events
+logs-its setup events router at =
+    logs-placed router.devices.items (λ d. log_of (events_at setup d events)) 0
+    (λ d device here. log-at (events_at setup d events) (slice_get setup.trees d) (slice_get router.devices.items d) device (at.devices d) here ∙ ap (λ k. log_of (events_at setup k events)) (sym (zero-add d)))
+    ∙ ap (λ n. map (λ d. log_of (events_at setup d events)) (range_with_len 0 n)) at.device_count
+
+-- lists of what members become, joined
+flat-mapped : {X Y Z : Type 0} (f : Y → List Z) (g : X → Y) (xs : List X) → flat_map f (map g xs) ≡ flat_map (λ x. f (g x)) xs
+flat-mapped f g [] = refl
+flat-mapped f g (x ∷ xs) = ap (λ l. f (g x) ++ l) (flat-mapped f g xs)
+
+-- A router over which all commands of a script were carried out, from what was kept of it, and what was kept when it ended.
+module _ (setup : Setup) (old mid : Router) (commands : List Command) (asked done : List Row) (starts : Starts setup old) (are : asked ≡ map row_asked commands) (answers : AnswersRows old mid asked done) where
+  carried : CarriesOut setup old.given.items mid asked done []
+  carried = answers setup [] starts.leads
+
+  theirs : map command_of carried.more ≡ commands
+  theirs = rows-one (map command_of carried.more) commands (sym (asked-commands carried.more) ∙ carried.theirs ∙ are)
+
+  -- the pulls' packets that were kept, where there are several devices
+  kept : has_several setup ≡ true → mid.given.items ≡ filter_map given_by carried.more
+  kept several = carried.given several ∙ ap (λ l. l ++ filter_map given_by carried.more) starts.given
+
+  -- what a router that went on with these events did
+  module _ (new : Router) (past : Past) (later : List Event) (at : IsAt setup (carried.more ++ later) new) (given : new.given ≡ mid.given) (is : IsPastOf new past) where
+    several : are_several past ≡ has_several setup
+    several =
+        ap (nat_lt 1)
+        (sym (length-map past.came_out.items (λ l. l.items)) ∙ ap length is.came_out ∙ length-map new.devices.items device_emitted ∙ at.device_count)
 
     -- the lines of the commands, whatever the router did later
-    lines : (later : List Event) → IsAt setup (carried.more ++ later) new → rows_text done past.came_out.items past.put_out.items ≡ flat_map event_text carried.more
-    lines later at =
-        ap₂ (λ given fronts. rows_text done given fronts) is.came_out is.put_out ∙ ap (λ rows. rows_text rows (emitted new.session.log) new.evicted.items) carried.rows ∙ rows-written setup carried.more later new at
+    lines : rows_text (are_several past) done (given_of past) past.put_out.items ≡ flat_map (event_text (has_several setup)) carried.more
+    lines =
+        ap (λ b. rows_text b done (given_of past) past.put_out.items) several
+        ∙ ap₂ (λ came_out fronts. rows_text (has_several setup) done (given_first came_out past.given.items) fronts) is.came_out is.put_out
+        ∙ ap (λ rows. rows_text (has_several setup) rows (given_first (map device_emitted new.devices.items) past.given.items) new.evicted.items) carried.rows
+        ∙ rows-written setup carried.more later new past.given.items starts.whole.some at (λ many. is.given ∙ ap (λ ps. ps.items) given ∙ kept many)
 
-    by_closing : (d s : Option ℕ) → IsClosedFrom mid new d s → WritesWith setup commands d (rows_text done past.came_out.items past.put_out.items ++ ending_of past s) past.log.items
-    by_closing None s none =
-        let at : IsAt setup (carried.more ++ []) new = subst (λ l. IsAt setup l new) (sym (append-nil carried.more)) (subst (λ (r : Router). IsAt setup carried.more r) (sym none.1) carried.leads) in
-        record {
-          writes = record { events = carried.more; theirs = theirs; closed = []; closes = refl; can_happen = at.can_happen; lines = ap₂ (λ a b. a ++ b) (lines [] at) (ap (ending_of past) none.0) };
-          logged = is.log ∙ at.log;
-        }
-    by_closing (Some moment) None ends = absurd ends
-    by_closing (Some moment) (Some s) ends =
-        let closing = ends.2 setup carried.more carried.leads in
-        record {
-          writes = record {
-            events = carried.more;
-            theirs = theirs;
-            closed = closing.closed;
-            closes = closing.closes;
-            can_happen = closing.leads.can_happen;
-            lines =
-                ap₂ (λ a b. a ++ b) (lines closing.closed closing.leads)
-                (ap₂ (λ a b. a ++ b) (ap (λ l. flat_map visit_text (drop s l)) is.log ∙ closing-written setup carried.more mid new moment s carried.leads closing ends.0)
-                (ap₂ report_text (is.came_out ∙ ap emitted closing.leads.log) (is.tallies ∙ closing.leads.tallies)));
-          };
-          logged = is.log ∙ closing.leads.log;
-        }
+    logs : map device_log new.devices.items ≡ logs_of setup (carried.more ++ later)
+    logs = logs-its setup (carried.more ++ later) new at
 
--- and why it stops short
-pub Stops-answered : (old mid : Router) (commands : List Command) (asked done : List Row) (drain : Option ℕ) (fault : Fault) → CanRun old → asked ≡ map row_asked commands → AnswersRows old mid asked done
-    → (fault ≡ Memory) ⊎ StopsClosing mid drain fault → (fault ≡ Memory) ⊎ StopsCommands (setup_at old) commands drain fault
-Stops-answered old mid commands asked done drain fault can are answers (inl memory) = inl memory
-Stops-answered old mid commands asked done None fault can are answers (inr stops) = absurd stops
-Stops-answered old mid commands asked done (Some moment) (TooManyPulls made) can are answers (inr stops) =
-    let setup = setup_at old in
-    let carried = answers setup [] can.leads in
-    inr (record {
-      events = carried.more;
-      theirs = rows-one (map command_of carried.more) commands (sym (asked-commands carried.more) ∙ carried.theirs ∙ are);
-      short = stops setup carried.more carried.leads;
-    })
-Stops-answered old mid commands asked done (Some moment) fault can are answers (inr stops) = absurd stops
+    report : report_text (came_out past.came_out.items) past.tallies.items
+        ≡ report_text (flat_map emitted (logs_of setup (carried.more ++ later))) (map (tally_after (carried.more ++ later)) (sender_numbers setup))
+    report =
+        ap₂ report_text
+        (sym (flat-mapped (λ l. l) (λ (l : Vec Packet Global). l.items) past.came_out.items) ∙ ap (flat_map (λ l. l)) is.came_out ∙ flat-mapped (λ l. l) device_emitted new.devices.items
+        ∙ sym (flat-mapped emitted device_log new.devices.items) ∙ ap (flat_map emitted) logs)
+        (is.tallies ∙ at.tallies)
+
+  -- What it comes to, without a closing and with one.
+  pub Writes-answered : (new : Router) (past : Past) (drain : Option ℕ) (from : Option (List ℕ)) → IsClosedFrom mid new drain from → IsPastOf new past
+      → WritesWith setup commands drain (rows_text (are_several past) done (given_of past) past.put_out.items ++ ending_of past from) (lists_of past.logs.items)
+  Writes-answered new past None None closed is =
+      let at : IsAt setup (carried.more ++ []) new = subst (λ l. IsAt setup l new) (sym (append-nil carried.more)) (subst (λ (r : Router). IsAt setup carried.more r) (sym closed) carried.leads) in
+      record {
+        writes = record {
+          events = carried.more;
+          theirs = theirs;
+          closed = [];
+          closes = refl;
+          can_happen = at.can_happen;
+          lines = ap (λ l. l ++ []) (lines new past [] at (ap (λ (r : Router). r.given) closed) is);
+        };
+        logged = is.logs ∙ logs new past [] at (ap (λ (r : Router). r.given) closed) is;
+      }
+  Writes-answered new past None (Some from) closed is = absurd closed
+  Writes-answered new past (Some moment) None closed is = absurd closed
+  Writes-answered new past (Some moment) (Some from) closed is =
+      let closes = closed.closes setup carried.more carried.leads in
+      let at = closes.closing.leads in
+      let all : take (length mid.devices.items) new.devices.items ≡ new.devices.items = let count = closed.count in take_all (length mid.devices.items) new.devices.items (omega (arith, count)) in
+      record {
+        writes = record {
+          events = carried.more;
+          theirs = theirs;
+          closed = closes.closing.closed;
+          closes = subst (λ n. CloseFirst setup moment n carried.more closes.closing.closed) (carried.leads.device_count) closes.closing.closes;
+          can_happen = at.can_happen;
+          lines =
+              ap₂ (λ a b. a ++ b) (lines new past closes.closing.closed at closed.given is)
+              (ap₂ (λ a b. a ++ b)
+              (ap₂ (λ b ls. closings_text b 0 from ls) (several new past closes.closing.closed at closed.given is) (is.logs ∙ ap (map device_log) (sym all)) ∙ sym closes.lines)
+              (report new past closes.closing.closed at closed.given is));
+        };
+        logged = is.logs ∙ logs new past closes.closing.closed at closed.given is;
+      }
+
+  -- And why it stops short.
+  pub Stops-answered : (drain : Option ℕ) (fault : Fault) → (fault ≡ Memory) ⊎ StopsClosing mid drain fault → (fault ≡ Memory) ⊎ StopsCommands setup commands drain fault
+  Stops-answered drain fault (inl memory) = inl memory
+  Stops-answered None fault (inr stops) = absurd stops
+  Stops-answered (Some moment) (TooManyPulls made) (inr stops) = inr (record { events = carried.more; theirs = theirs; short = stops setup carried.more carried.leads })
+  Stops-answered (Some moment) fault (inr stops) = absurd stops
+
+-- A router has as many devices as before, whatever it did.
+count-closed : (mid new : Router) (drain : Option ℕ) (from : Option (List ℕ)) → IsClosedFrom mid new drain from → length new.devices.items ≡ length mid.devices.items
+count-closed mid new None None closed = ap (λ (r : Router). length r.devices.items) closed
+count-closed mid new None (Some from) closed = absurd closed
+count-closed mid new (Some moment) None closed = absurd closed
+count-closed mid new (Some moment) (Some from) closed = closed.count
+
+pub devices-kept : (setup : Setup) (old mid new : Router) (past : Past) (asked done : List Row) (drain : Option ℕ) (from : Option (List ℕ)) → Starts setup old → AnswersRows old mid asked done → IsClosedFrom mid new drain from
+    → IsPastOf new past → (length past.logs.items ≡ length old.devices.items) × (length past.came_out.items ≡ length old.devices.items)
+devices-kept setup old mid new past asked done drain from starts answers closed is =
+    let kept = count-closed mid new drain from closed ∙ (answers setup [] starts.leads).leads.device_count ∙ sym starts.leads.device_count in (
+      sym (length-map past.logs.items (λ l. l.items)) ∙ ap length is.logs ∙ length-map new.devices.items device_log ∙ kept,
+      sym (length-map past.came_out.items (λ l. l.items)) ∙ ap length is.came_out ∙ length-map new.devices.items device_emitted ∙ kept,
+    )

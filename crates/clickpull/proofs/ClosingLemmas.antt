@@ -1,14 +1,18 @@
 -- How a router closes.
-use Rattle.std.proofs.Common.{◌≡◌, ℕ, ◌+◌, ◌-◌, ◌≤◌, ◌==◌, Bool, true, false, if◌then◌else◌, List, [], ◌∷◌, ◌++◌, length, drop, filter, map, reverse, max, fold, append-nil, append_assoc, None, slice_get, ◌⊎◌, inl, inr, refl, sym, ap, ap₂, ◌∙◌, subst, arith}
+use Rattle.std.proofs.Common.{◌≡◌, ℕ, ◌+◌, ◌-◌, ◌<◌, ◌≤◌, ◌==◌, zero, suc, Bool, true, false, if◌then◌else◌, List, [], ◌∷◌, ◌++◌, length, drop, filter, map, reverse, max, fold, append-nil, append_assoc, Option, Some, None, MatchOption, slice_get, ◌⊎◌, inl, inr, refl, sym, ap, ap₂, ◌∙◌, subst, arith}
+use Rattle.std.specs.Bool.{⊤}
 use Rattle.std.specs.List.{filter_map, flat_map, range_with_len, AllByRecursion}
 use Rattle.std.proofs.lemmas.List.{map-append}
-use Rattle.std.proofs.lemmas.List.Elements.{filter_map-append}
+use Rattle.std.proofs.lemmas.List.Elements.{filter-append, filter_map-append}
 use Rattle.std.proofs.Math.Seq.{drop-append_seam}
 use Rattle.std.proofs.lemmas.List.Concat.{flat_map-append}
+use Rattle.std.proofs.lemmas.Option.{slice_get_within}
+use Rattle.std.proofs.lemmas.Bool.Decides.{nat_tests}
 use Rattle.clk_packet.specs.declared.fault.Fault.{Fault}
 use Rattle.clk_packet.specs.declared.fault.Fault.TheVariants.{Memory, TooManyPulls}
 use Rattle.clk_sched.specs.declared.visit.Visit.{Visit}
 use Rattle.clk_ring.specs.Laws.{CallsAreHistory}
+use Rattle.clk_sched.specs.Tree.{Tree}
 use Rattle.clk_sched.specs.Turns.{UpToFirst, AsksInOrder}
 use Rattle.clk_sched.specs.Laws.Device.{IsDeviceTurn}
 use Rattle.clk_sched.specs.Log.{pulls, visits_of, moment_of, result_of, turn, HasOneMoment}
@@ -17,172 +21,238 @@ use Rattle.clk_sched.specs.Places.{Answers}
 use Rattle.clk_sched.specs.Results.{emitted}
 use Rattle.clk_sched.specs.Bound.{closing_bound}
 use Rattle.clk_sched.specs.Session.{IsDrained, GivesAll, StopsShort as StopsSession, StopsAt, newly, latest_moment, counted_moment, tree_queue}
+use Rattle.clickpull.specs.declared.devices.Device.{Device}
 use Rattle.clickpull.specs.declared.router.Router.{Router}
-use Rattle.clickpull.specs.Meaning.{Setup, sender_numbers, Event, pulled, moment_in, pull_in, accepted_in, evicted_in, visits_in, log_of, at_queue, history, CanHappen, pulls_from, closing_pulls, given_text, closing_text, left_after, DrainsShort}
-use Rattle.clickpull.specs.Router.{AreQueuesAt, IsAt, LeadsOnByClosing, StopsDrain}
+use Rattle.clickpull.specs.Meaning.{Setup, sender_numbers, has_several, Event, pulled, happens_at, events_at, moment_in, pull_in, accepted_in, evicted_in, visits_in, log_of, at_queue, history, RunsTree, pulls_from, closing_pulls, given_text, closing_text, left_after, DeviceDrainsShort}
+use Rattle.clickpull.specs.Router.{AreQueuesAt, IsDeviceAt, AreDevicesAt, IsAt, device_log, IsSteadyAt, LeadsOnByDrain, StopsDrain}
 use Rattle.clickpull.specs.Rows.{visit_text}
 use Rattle.clickpull.proofs.Alike.{member-between, its-moment}
-use Rattle.clickpull.proofs.EventLemmas.{fold-more, pulls-log, pulls-add_none, pulls-history, latest-moment, CanHappen-pulls}
+use Rattle.clickpull.proofs.EventLemmas.{fold-more, events-pulls, pulls-elsewhere, pulls-log, pulls-add_none, pulls-history, latest-moment, RunsTree-pulls, CanHappen-pulls}
 use Rattle.clickpull.proofs.RowLemmas.{alone}
 use Rattle.clickpull.proofs.SenderLemmas.{senders-closed}
 use Rattle.clickpull.proofs.TallyLemmas.{tallies-closed}
-use Rattle.clickpull.proofs.RouterLemmas.{its-history, StandAt, gives, queues-answered}
+use Rattle.clickpull.proofs.RouterLemmas.{its-history, StandAt, gives, queues-answered, IsHere, device-here, devices-same, IsSetAt}
 
--- the moment after which the closing of a router begins
-pub its-latest : (setup : Setup) (events : List Event) (router : Router) → IsAt setup events router → counted_moment router.session ≡ fold max 0 (filter_map moment_in events)
-its-latest setup events router at = ap (λ l. latest_moment (reverse (pulls l))) at.log ∙ latest-moment setup events at.can_happen
+-- the moment after which the closing of a device begins
+its-latest : (setup : Setup) (events : List Event) (d : ℕ) (device : Device) → IsHere setup events d device → counted_moment device.session ≡ fold max 0 (filter_map moment_in (events_at setup d events))
+its-latest setup events d device here = ap (λ l. latest_moment (reverse (pulls l))) here.is.log ∙ latest-moment here.tree (events_at setup d events) here.runs
 
--- A drain of the session leads on.
-module _ (calls : CallsAreHistory) (setup : Setup) (events : List Event) (old new : Router) (moment made given : ℕ) (at : IsAt setup events old)
-    (d : IsDrained old.session new.session (max (counted_moment old.session) moment) made given) where
+-- how many packets are left, as a device counts them
+its-left : (setup : Setup) (events : List Event) (d : ℕ) (device : Device) → IsHere setup events d device → device.kept - length (emitted device.session.log) ≡ left_after (events_at setup d events)
+its-left setup events d device here =
+    let kept = here.is.kept in
+    let out = ap (λ l. length (emitted l)) here.is.log in
+    omega (arith, kept, out)
+
+-- A drain of a device, which changes no other, leads on.
+module _ (calls : CallsAreHistory) (setup : Setup) (events : List Event) (old new : Router) (d moment made given : ℕ) (before after : Device) (at : IsAt setup events old)
+    (set : IsSetAt old.devices.items d before after new.devices.items) (kept : after.kept ≡ before.kept) (dr : IsDrained before.session after.session (max (counted_moment before.session) moment) made given) where
+  here : IsHere setup events d before
+  here = device-here setup events old d before at set.was
+
+  abbrev its : List Event
+  its = events_at setup d events
+
   abbrev pub start : ℕ
-  start = max (fold max 0 (filter_map moment_in events)) moment + 1
+  start = max (fold max 0 (filter_map moment_in its)) moment + 1
 
   abbrev pub joined : List Visit
-  joined = flat_map (λ pull. pull) d.more
+  joined = flat_map (λ pull. pull) dr.more
 
-  log : new.session.log ≡ log_of events ++ joined
-  log = d.log ∙ ap (λ l. l ++ joined) at.log
+  abbrev last : List Event
+  last = closing_pulls d moment its dr.more
 
-  pub IsAt-closed : Answers gives (tree_queue old.session.tree) old.queues (newly old.session new.session) new.queues → new.senders ≡ old.senders → new.tallies ≡ old.tallies → new.accepted ≡ old.accepted → new.evicted ≡ old.evicted
-      → IsAt setup (events ++ closing_pulls moment events d.more) new
-  IsAt-closed answers senders tallies accepted evicted =
+  log : after.session.log ≡ log_of its ++ joined
+  log = dr.log ∙ ap (λ l. l ++ joined) here.is.log
+
+  runs : RunsTree here.tree (its ++ last)
+  runs =
+      RunsTree-pulls here.tree its d start dr.more here.runs (omega arith) (subst (IsRun here.tree) log (subst (λ t. IsRun t after.session.log) (dr.tree ∙ here.is.tree_is) dr.run))
+      (ap pulls (sym log) ∙ dr.pulls_are ∙ ap (λ l. pulls l ++ dr.more) here.is.log) (dr.moments ∙ ap₂ range_with_len (ap (λ n. max n moment + 1) (its-latest setup events d before here)) (sym dr.made_are))
+
+  pub IsAt-closed : Answers gives (tree_queue before.session.tree) old.queues (newly before.session after.session) new.queues → new.senders ≡ old.senders → new.tallies ≡ old.tallies → new.paths ≡ old.paths
+      → new.evicted ≡ old.evicted → IsAt setup (events ++ last) new
+  IsAt-closed answers senders tallies paths evicted =
       record {
         can_happen =
-            CanHappen-pulls setup events start d.more at.can_happen (omega arith) (subst (IsRun setup.tree) log (subst (λ t. IsRun t new.session.log) (d.tree ∙ at.tree) d.run))
-            (ap pulls (sym log) ∙ d.pulls_are ∙ ap (λ l. pulls l ++ d.more) at.log) (d.moments ∙ ap₂ range_with_len (ap (λ n. max n moment + 1) (its-latest setup events old at)) (sym d.made_are))
-            (λ q. its-history (history setup q (events ++ closing_pulls moment events d.more)) (slice_get setup.queues q) (slice_get new.queues.rings.items q) (queues q));
-        senders = ap (λ ss. ss.items) senders ∙ at.senders ∙ senders-closed events start d.more setup.senders;
-        tallies = ap (λ ts. ts.items) tallies ∙ at.tallies ∙ tallies-closed events start d.more (sender_numbers setup);
+            CanHappen-pulls setup events d start dr.more at.can_happen (slice_get_within setup.trees d here.tree here.its) (subst (λ o. MatchOption o ⊤ (λ tree. RunsTree tree (its ++ last))) (sym here.its) runs)
+            (λ q. its-history (history setup q (events ++ last)) (slice_get setup.queues q) (slice_get new.queues.rings.items q) (queues q));
+        senders = ap (λ ss. ss.items) senders ∙ at.senders ∙ senders-closed events d start dr.more setup.senders;
+        tallies = ap (λ ts. ts.items) tallies ∙ at.tallies ∙ tallies-closed events d start dr.more (sender_numbers setup);
         queues = queues;
         count = answered.count;
-        tree = d.tree ∙ at.tree;
-        log = log ∙ sym (flat_map-append visits_in events (closing_pulls moment events d.more) ∙ ap (λ l. log_of events ++ l) (pulls-log start d.more));
-        accepted = accepted ∙ at.accepted ∙ ap length (sym (pulls-add_none accepted_in (λ n visits. refl) events start d.more));
-        evicted = ap (λ ps. ps.items) evicted ∙ at.evicted ∙ sym (pulls-add_none evicted_in (λ n visits. refl) events start d.more);
+        devices = devices_go;
+        device_count = set.only.count ∙ at.device_count;
+        paths = ap (λ ps. ps.items) paths ∙ at.paths;
+        evicted = ap (λ ps. ps.items) evicted ∙ at.evicted ∙ sym (pulls-add_none evicted_in (λ k n visits. refl) events d start dr.more);
       }
     where
-      answered : StandAt setup (λ q. history setup q events ++ at_queue setup q (pulled moment joined)) new.queues.rings.items
+      answered : StandAt setup (λ q. history setup q events ++ at_queue setup q (pulled d moment joined)) new.queues.rings.items
       answered =
-          queues-answered calls setup moment joined old.queues new.queues (λ q. history setup q events) (record { each = at.queues; count = at.count })
-          (subst (λ l. Answers gives (tree_queue setup.tree) old.queues l new.queues) (ap (drop (length old.session.log)) d.log ∙ drop-append_seam old.session.log joined)
-          (subst (λ t. Answers gives (tree_queue t) old.queues (newly old.session new.session) new.queues) at.tree answers))
+          queues-answered calls setup here.tree d moment joined old.queues new.queues (λ q. history setup q events) here.its (record { each = at.queues; count = at.count })
+          (subst (λ l. Answers gives (tree_queue here.tree) old.queues l new.queues) (ap (drop (length before.session.log)) dr.log ∙ drop-append_seam before.session.log joined)
+          (subst (λ t. Answers gives (tree_queue t) old.queues (newly before.session after.session) new.queues) here.is.tree_is answers))
 
-      queues : (q : ℕ) → AreQueuesAt (history setup q (events ++ closing_pulls moment events d.more)) (slice_get setup.queues q) (slice_get new.queues.rings.items q)
+      queues : (q : ℕ) → AreQueuesAt (history setup q (events ++ last)) (slice_get setup.queues q) (slice_get new.queues.rings.items q)
       queues q =
           subst (λ l. AreQueuesAt l (slice_get setup.queues q) (slice_get new.queues.rings.items q))
-          (sym (flat_map-append (at_queue setup q) events (closing_pulls moment events d.more) ∙ ap (λ l. history setup q events ++ l) (pulls-history setup q moment start d.more))) (answered.each q)
+          (sym (flat_map-append (at_queue setup q) events last ∙ ap (λ l. history setup q events ++ l) (pulls-history setup q d moment start dr.more))) (answered.each q)
 
--- how many packets are left, as the router counts them
-pub its-left : (setup : Setup) (events : List Event) (router : Router) → IsAt setup events router → router.accepted - length router.evicted.items - length (emitted router.session.log) ≡ left_after events
-its-left setup events router at =
-    ap (λ n. n - length router.evicted.items - length (emitted router.session.log)) at.accepted
-    ∙ ap (λ l. length (filter_map accepted_in events) - length l - length (emitted router.session.log)) at.evicted
-    ∙ ap (λ l. length (filter_map accepted_in events) - length (filter_map evicted_in events) - length (emitted l)) at.log
+      itself : IsDeviceAt (its ++ last) here.tree after
+      itself =
+          record {
+            tree_is = dr.tree ∙ here.is.tree_is;
+            log = log ∙ sym (flat_map-append visits_in its last ∙ ap (λ l. log_of its ++ l) (pulls-log d start dr.more));
+            kept =
+                ap₂ (λ a b. a + b) kept (ap length (pulls-add_none evicted_in (λ k n visits. refl) its d start dr.more)) ∙ here.is.kept
+                ∙ ap length (sym (pulls-add_none accepted_in (λ k n visits. refl) its d start dr.more));
+          }
 
-pub closes-all : CallsAreHistory → (setup : Setup) (events : List Event) (old new : Router) (moment made left : ℕ) → IsAt setup events old → left ≡ old.accepted - length old.evicted.items - length (emitted old.session.log)
-    → GivesAll old.session new.session (max (counted_moment old.session) moment) made left → Answers gives (tree_queue old.session.tree) old.queues (newly old.session new.session) new.queues
-    → new.senders ≡ old.senders → new.tallies ≡ old.tallies → new.accepted ≡ old.accepted → new.evicted ≡ old.evicted → LeadsOnByClosing setup new moment events
-closes-all calls setup events old new moment made left at is all answers senders tallies accepted evicted =
+      devices_go : (k : ℕ) → AreDevicesAt (events_at setup k (events ++ last)) (slice_get setup.trees k) (slice_get new.devices.items k)
+      devices_go k = by_test (d == k) refl
+        where
+          by_test : (b : Bool) → (d == k) ≡ b → AreDevicesAt (events_at setup k (events ++ last)) (slice_get setup.trees k) (slice_get new.devices.items k)
+          by_test true f =
+              let same : d ≡ k = grind (arith, nat_tests) in
+              subst (λ n. AreDevicesAt (events_at setup n (events ++ last)) (slice_get setup.trees n) (slice_get new.devices.items n)) same
+              (subst (λ l. AreDevicesAt l (slice_get setup.trees d) (slice_get new.devices.items d)) (sym (events-pulls setup d events start dr.more))
+              (subst (λ (o : Option Device). AreDevicesAt (its ++ last) (slice_get setup.trees d) o) (sym set.is) (subst (λ (o : Option Tree). AreDevicesAt (its ++ last) o (Some after)) (sym here.its) itself)))
+          by_test false f =
+              devices-same (events_at setup k events) (events_at setup k (events ++ last)) (slice_get setup.trees k) (slice_get old.devices.items k) (slice_get new.devices.items k)
+              (sym (filter-append (happens_at setup k) events last ∙ ap (λ l. events_at setup k events ++ l) (pulls-elsewhere setup d k start dr.more f) ∙ append-nil (events_at setup k events)))
+              (set.only.others k f) (at.devices k)
+
+pub closes-all : CallsAreHistory → (setup : Setup) (events : List Event) (old new : Router) (d moment made left : ℕ) (before after : Device) → IsAt setup events old → IsSetAt old.devices.items d before after new.devices.items
+    → after.kept ≡ before.kept → left ≡ before.kept - length (emitted before.session.log) → GivesAll before.session after.session (max (counted_moment before.session) moment) made left
+    → Answers gives (tree_queue before.session.tree) old.queues (newly before.session after.session) new.queues → new.senders ≡ old.senders → new.tallies ≡ old.tallies → new.paths ≡ old.paths → new.evicted ≡ old.evicted
+    → LeadsOnByDrain setup new d moment events
+closes-all calls setup events old new d moment made left before after at set kept is all answers senders tallies paths evicted =
     record {
-      closed = closing_pulls moment events all.drained.more;
-      closes = record { closing = all.drained.more; are = refl; all = all.drained.given_are ∙ is ∙ its-left setup events old at; stops = all.stops };
-      leads = IsAt-closed calls setup events old new moment made left at all.drained answers senders tallies accepted evicted;
+      last = closing_pulls d moment (events_at setup d events) all.drained.more;
+      closes = record { closing = all.drained.more; are = refl; all = all.drained.given_are ∙ is ∙ its-left setup events d before (device-here setup events old d before at set.was); stops = all.stops };
+      leads = IsAt-closed calls setup events old new d moment made left before after at set kept all.drained answers senders tallies paths evicted;
     }
 
-pub stops-short : CallsAreHistory → (setup : Setup) (events : List Event) (old new : Router) (moment made left : ℕ) → IsAt setup events old → left ≡ old.accepted - length old.evicted.items - length (emitted old.session.log)
-    → made ≡ closing_bound old.session.tree left → StopsSession old.session new.session (max (counted_moment old.session) moment) made left
-    → Answers gives (tree_queue old.session.tree) old.queues (newly old.session new.session) new.queues → new.senders ≡ old.senders → new.tallies ≡ old.tallies → new.accepted ≡ old.accepted → new.evicted ≡ old.evicted
-    → DrainsShort setup moment made events
-stops-short calls setup events old new moment made left at is bound short answers senders tallies accepted evicted =
+stops-short : CallsAreHistory → (setup : Setup) (events : List Event) (old new : Router) (d moment made left : ℕ) (before after : Device) → IsAt setup events old → IsSetAt old.devices.items d before after new.devices.items
+    → after.kept ≡ before.kept → left ≡ before.kept - length (emitted before.session.log) → made ≡ closing_bound before.session.tree left
+    → StopsSession before.session after.session (max (counted_moment before.session) moment) made left → Answers gives (tree_queue before.session.tree) old.queues (newly before.session after.session) new.queues
+    → new.senders ≡ old.senders → new.tallies ≡ old.tallies → new.paths ≡ old.paths → new.evicted ≡ old.evicted → DeviceDrainsShort setup d moment made events
+stops-short calls setup events old new d moment made left before after at set kept is bound short answers senders tallies paths evicted =
+    let here = device-here setup events old d before at set.was in
+    let all = is ∙ its-left setup events d before here in
     record {
+      tree = here.tree;
+      its = here.its;
       closing = short.drained.more;
-      can_happen = (IsAt-closed calls setup events old new moment made short.given at short.drained answers senders tallies accepted evicted).can_happen;
+      can_happen = (IsAt-closed calls setup events old new d moment made short.given before after at set kept short.drained answers senders tallies paths evicted).can_happen;
       made_are = short.drained.made_are;
-      bound = bound ∙ ap₂ closing_bound at.tree (is ∙ its-left setup events old at);
-      fewer = let l = is ∙ its-left setup events old at in let g = short.drained.given_are in let f = short.fewer in omega (arith, l, g, f);
+      bound = bound ∙ ap₂ closing_bound here.is.tree_is all;
+      fewer = let g = short.drained.given_are in let f = short.fewer in omega (arith, all, g, f);
     }
 
--- why the drain of a session stopped is why the router's did
-pub stops-at : CallsAreHistory → (old new : Router) (moment left : ℕ) (fault : Fault) → left ≡ old.accepted - length old.evicted.items - length (emitted old.session.log)
-    → StopsAt old.session new.session (max (counted_moment old.session) moment) left fault → Answers gives (tree_queue old.session.tree) old.queues (newly old.session new.session) new.queues
-    → new.senders ≡ old.senders → new.tallies ≡ old.tallies → new.accepted ≡ old.accepted → new.evicted ≡ old.evicted → (fault ≡ Memory) ⊎ StopsDrain old moment fault
-stops-at calls old new moment left Memory is stops answers senders tallies accepted evicted = inl refl
-stops-at calls old new moment left (TooManyPulls made) is stops answers senders tallies accepted evicted =
-    inr (λ setup events at. stops-short calls setup events old new moment made left at is stops.0 stops.1 answers senders tallies accepted evicted)
-stops-at calls old new moment left fault is stops answers senders tallies accepted evicted = absurd stops
+-- a device whose numbers are those of a script is there
+pub steady-within : (devices : List Device) (d : ℕ) → IsSteadyAt (slice_get devices d) → d < length devices
+steady-within [] d steady = absurd steady
+steady-within (device ∷ devices) zero steady = omega arith
+steady-within (device ∷ devices) (suc d) steady = let below = steady-within devices d steady in omega (arith, below)
+
+-- why the drain of a session stopped is why the device's did
+pub stops-at : CallsAreHistory → (old new : Router) (d moment left : ℕ) (before after : Device) (fault : Fault) → IsSetAt old.devices.items d before after new.devices.items → after.kept ≡ before.kept
+    → left ≡ before.kept - length (emitted before.session.log) → StopsAt before.session after.session (max (counted_moment before.session) moment) left fault
+    → Answers gives (tree_queue before.session.tree) old.queues (newly before.session after.session) new.queues → new.senders ≡ old.senders → new.tallies ≡ old.tallies → new.paths ≡ old.paths → new.evicted ≡ old.evicted
+    → (fault ≡ Memory) ⊎ StopsDrain old d moment fault
+stops-at calls old new d moment left before after Memory set kept is stops answers senders tallies paths evicted = inl refl
+stops-at calls old new d moment left before after (TooManyPulls made) set kept is stops answers senders tallies paths evicted =
+    inr (λ setup events at. stops-short calls setup events old new d moment made left before after at set kept is stops.0 stops.1 answers senders tallies paths evicted)
+stops-at calls old new d moment left before after fault set kept is stops answers senders tallies paths evicted = absurd stops
 
 -- what the device's visits of a pull write, if they are one
-abbrev written : Visit → List ℕ
-written v = if v.passed then given_text v.moment v.got else []
+module _ (several : Bool) (d : ℕ) where
+  abbrev written : Visit → List ℕ
+  written v = if v.passed then given_text several d v.moment v.got else []
 
-device-lines : (visits : List Visit) → flat_map visit_text visits ≡ flat_map written (visits_of 0 visits)
-device-lines [] = refl
-device-lines (v ∷ visits) = by_test (v.node == 0) refl (device-lines visits)
+  device-lines : (visits : List Visit) → flat_map (visit_text several d) visits ≡ flat_map written (visits_of 0 visits)
+  device-lines [] = refl
+  device-lines (v ∷ visits) = by_test (v.node == 0) refl (device-lines visits)
+    where
+      by_test : (b : Bool) → (v.node == 0) ≡ b → flat_map (visit_text several d) visits ≡ flat_map written (visits_of 0 visits) → flat_map (visit_text several d) (v ∷ visits) ≡ flat_map written (visits_of 0 (v ∷ visits))
+      by_test true e rest = rw e (ap (λ l. written v ++ l) rest)
+      by_test false e rest = rw e rest
+
+  one-line : (moment : ℕ) (visits : List Visit) → UpToFirst (0 ∷ []) visits → AllByRecursion (λ (v : Visit). v.moment ≡ moment) visits → flat_map written visits ≡ given_text several d moment (result_of visits)
+  one-line moment [] device at = absurd device
+  one-line moment (v ∷ []) device at = append-nil (written v) ∙ by_passed v.passed
+    where
+      by_passed : (b : Bool) → (if b then given_text several d v.moment v.got else []) ≡ given_text several d moment (if b then v.got else None)
+      by_passed true = ap (λ m. given_text several d m v.got) at.0
+      by_passed false = refl
+  one-line moment (v ∷ w ∷ visits) device at = absurd (omega (arith, ap length (alone v (w ∷ visits) device)))
+
+  all-filtered : {X : Type 0} (P : X → Type 0) (f : X → Bool) (xs : List X) → AllByRecursion P xs → AllByRecursion P (filter f xs)
+  all-filtered P f [] h = tt
+  all-filtered P f (x ∷ xs) h = by_test (f x) refl (all-filtered P f xs h.1)
+    where
+      by_test : (b : Bool) → f x ≡ b → AllByRecursion P (filter f xs) → AllByRecursion P (filter f (x ∷ xs))
+      by_test true e rest = rw e (h.0, rest)
+      by_test false e rest = rw e rest
+
+  -- what the visits of closing pulls write is what the pulls write
+  closing-lines : (tree : Tree) (done : List Event) (t : ℕ) (more : List (List Visit)) → RunsTree tree (done ++ pulls_from d t more) → fold max 0 (filter_map moment_in done) ≤ t
+      → flat_map (visit_text several d) (flat_map (λ pull. pull) more) ≡ flat_map (closing_text several) (pulls_from d t more)
+  closing-lines tree done t [] can below = refl
+  closing-lines tree done t (pull ∷ more) can below =
+      flat_map-append (visit_text several d) pull (flat_map (λ p. p) more)
+      ∙ ap₂ (λ a b. a ++ b)
+      (device-lines pull ∙ one-line t (visits_of 0 pull) device.in_order (subst (λ m. AllByRecursion (λ (v : Visit). v.moment ≡ m) (visits_of 0 pull)) at (all-filtered _ (λ (v : Visit). v.node == 0) pull its_moment)))
+      (closing-lines tree (done ++ pulled d t pull ∷ []) (t + 1) more (rw append_assoc can) later)
+    where
+      turns : pulls (log_of (done ++ pulls_from d t (pull ∷ more))) ≡ filter_map pull_in done ++ pull ∷ filter_map pull_in (pulls_from d (t + 1) more)
+      turns = can.pull_by_pull ∙ filter_map-append pull_in done (pulls_from d t (pull ∷ more))
+
+      device : AsksInOrder (0 ∷ []) (visits_of 0 pull)
+      device =
+          member-between IsDeviceTurn (map (turn 0) (filter_map pull_in done)) (turn 0 pull) (map (turn 0) (filter_map pull_in (pulls_from d (t + 1) more)))
+          (subst (AllByRecursion IsDeviceTurn) (ap (map (turn 0)) turns ∙ map-append (turn 0) (filter_map pull_in done) (pull ∷ filter_map pull_in (pulls_from d (t + 1) more))) can.run.device)
+
+      its_moment : HasOneMoment pull
+      its_moment = member-between HasOneMoment (filter_map pull_in done) pull (filter_map pull_in (pulls_from d (t + 1) more)) (subst (AllByRecursion HasOneMoment) turns can.run.shape.one_moment)
+
+      at : moment_of pull ≡ t
+      at = let e = its-moment tree done d t pull (pulls_from d (t + 1) more) can in omega (arith, e, below)
+
+      later : fold max 0 (filter_map moment_in (done ++ pulled d t pull ∷ [])) ≤ t + 1
+      later = let e = ap (fold max 0) (filter_map-append moment_in done (pulled d t pull ∷ [])) ∙ fold-more 0 (filter_map moment_in done) t in omega (arith, e, below)
+
+-- What the visits of a device's closing write is what its pulls write.
+pub drain-written : (setup : Setup) (events : List Event) (old new : Router) (device moment start : ℕ) (before after : Device) → IsAt setup events old → (drain : LeadsOnByDrain setup new device moment events)
+    → slice_get old.devices.items device ≡ Some before → start ≡ length (device_log before) → slice_get new.devices.items device ≡ Some after
+    → flat_map (visit_text (has_several setup) device) (drop start (device_log after)) ≡ flat_map (closing_text (has_several setup)) drain.last
+drain-written setup events old new device moment start before after at drain was first is =
+    ap (flat_map (visit_text (has_several setup) device)) visits
+    ∙ closing-lines (has_several setup) device there.tree its t more (subst (RunsTree there.tree) (ap (λ l. events_at setup device (events ++ l)) drain.closes.are ∙ events-pulls setup device events t more) there.runs) (omega arith)
+    ∙ ap (flat_map (closing_text (has_several setup))) (sym drain.closes.are)
   where
-    by_test : (b : Bool) → (v.node == 0) ≡ b → flat_map visit_text visits ≡ flat_map written (visits_of 0 visits) → flat_map visit_text (v ∷ visits) ≡ flat_map written (visits_of 0 (v ∷ visits))
-    by_test true e rest = rw e (ap (λ l. written v ++ l) rest)
-    by_test false e rest = rw e rest
+    its : List Event
+    its = events_at setup device events
 
-one-line : (moment : ℕ) (visits : List Visit) → UpToFirst (0 ∷ []) visits → AllByRecursion (λ (v : Visit). v.moment ≡ moment) visits → flat_map written visits ≡ given_text moment (result_of visits)
-one-line moment [] device at = absurd device
-one-line moment (v ∷ []) device at = append-nil (written v) ∙ by_passed v.passed
-  where
-    by_passed : (b : Bool) → (if b then given_text v.moment v.got else []) ≡ given_text moment (if b then v.got else None)
-    by_passed true = ap (λ m. given_text m v.got) at.0
-    by_passed false = refl
-one-line moment (v ∷ w ∷ visits) device at = absurd (omega (arith, ap length (alone v (w ∷ visits) device)))
-
-all-filtered : {X : Type 0} (P : X → Type 0) (f : X → Bool) (xs : List X) → AllByRecursion P xs → AllByRecursion P (filter f xs)
-all-filtered P f [] h = tt
-all-filtered P f (x ∷ xs) h = by_test (f x) refl (all-filtered P f xs h.1)
-  where
-    by_test : (b : Bool) → f x ≡ b → AllByRecursion P (filter f xs) → AllByRecursion P (filter f (x ∷ xs))
-    by_test true e rest = rw e (h.0, rest)
-    by_test false e rest = rw e rest
-
--- what the visits of closing pulls write is what the pulls write
-pub closing-lines : (setup : Setup) (done : List Event) (t : ℕ) (more : List (List Visit)) → CanHappen setup (done ++ pulls_from t more) → fold max 0 (filter_map moment_in done) ≤ t
-    → flat_map visit_text (flat_map (λ pull. pull) more) ≡ flat_map closing_text (pulls_from t more)
-closing-lines setup done t [] can below = refl
-closing-lines setup done t (pull ∷ more) can below =
-    flat_map-append visit_text pull (flat_map (λ p. p) more)
-    ∙ ap₂ (λ a b. a ++ b)
-    (device-lines pull ∙ one-line t (visits_of 0 pull) device.in_order (subst (λ m. AllByRecursion (λ (v : Visit). v.moment ≡ m) (visits_of 0 pull)) at (all-filtered _ (λ (v : Visit). v.node == 0) pull its_moment)))
-    (closing-lines setup (done ++ pulled t pull ∷ []) (t + 1) more (rw append_assoc can) later)
-  where
-    turns : pulls (log_of (done ++ pulls_from t (pull ∷ more))) ≡ filter_map pull_in done ++ pull ∷ filter_map pull_in (pulls_from (t + 1) more)
-    turns = can.pull_by_pull ∙ filter_map-append pull_in done (pulls_from t (pull ∷ more))
-
-    device : AsksInOrder (0 ∷ []) (visits_of 0 pull)
-    device =
-        member-between IsDeviceTurn (map (turn 0) (filter_map pull_in done)) (turn 0 pull) (map (turn 0) (filter_map pull_in (pulls_from (t + 1) more)))
-        (subst (AllByRecursion IsDeviceTurn) (ap (map (turn 0)) turns ∙ map-append (turn 0) (filter_map pull_in done) (pull ∷ filter_map pull_in (pulls_from (t + 1) more))) can.run.device)
-
-    its_moment : HasOneMoment pull
-    its_moment = member-between HasOneMoment (filter_map pull_in done) pull (filter_map pull_in (pulls_from (t + 1) more)) (subst (AllByRecursion HasOneMoment) turns can.run.shape.one_moment)
-
-    at : moment_of pull ≡ t
-    at = let e = its-moment setup done t pull (pulls_from (t + 1) more) can in omega (arith, e, below)
-
-    later : fold max 0 (filter_map moment_in (done ++ pulled t pull ∷ [])) ≤ t + 1
-    later = let e = ap (fold max 0) (filter_map-append moment_in done (pulled t pull ∷ [])) ∙ fold-more 0 (filter_map moment_in done) t in omega (arith, e, below)
-
--- What the visits of a closing write is what its pulls write.
-pub closing-written : (setup : Setup) (events : List Event) (old new : Router) (moment start : ℕ) → IsAt setup events old → (closing : LeadsOnByClosing setup new moment events) → start ≡ length old.session.log
-    → flat_map visit_text (drop start new.session.log) ≡ flat_map closing_text closing.closed
-closing-written setup events old new moment start at closing first =
-    ap (flat_map visit_text) (visits ∙ ap log_of closing.closes.are ∙ pulls-log t more)
-    ∙ closing-lines setup events t more (subst (λ l. CanHappen setup (events ++ l)) closing.closes.are closing.leads.can_happen) (omega arith)
-    ∙ ap (flat_map closing_text) (sym closing.closes.are)
-  where
     more : List (List Visit)
-    more = closing.closes.closing
+    more = drain.closes.closing
 
     t : ℕ
-    t = max (fold max 0 (filter_map moment_in events)) moment + 1
+    t = max (fold max 0 (filter_map moment_in its)) moment + 1
 
-    visits : drop start new.session.log ≡ log_of closing.closed
+    here : IsHere setup events device before
+    here = device-here setup events old device before at was
+
+    there : IsHere setup (events ++ drain.last) device after
+    there = device-here setup (events ++ drain.last) new device after drain.leads is
+
+    log : device_log after ≡ log_of its ++ flat_map (λ pull. pull) more
+    log =
+        there.is.log ∙ ap log_of (ap (λ l. events_at setup device (events ++ l)) drain.closes.are ∙ events-pulls setup device events t more) ∙ flat_map-append visits_in its (pulls_from device t more)
+        ∙ ap (λ l. log_of its ++ l) (pulls-log device t more)
+
+    visits : drop start (device_log after) ≡ flat_map (λ pull. pull) more
     visits =
-        ap (λ n. drop n new.session.log) (first ∙ ap length at.log) ∙ ap (drop (length (log_of events))) (closing.leads.log ∙ flat_map-append visits_in events closing.closed)
-        ∙ drop-append_seam (log_of events) (log_of closing.closed)
+        ap (λ n. drop n (device_log after)) (first ∙ ap length here.is.log) ∙ ap (drop (length (log_of its))) log
+        ∙ drop-append_seam (log_of its) (flat_map (λ pull. pull) more)

@@ -5,6 +5,7 @@ pub mod LineLemmas
 pub mod PlainLines
 pub mod Alike
 pub mod EventLemmas
+pub mod DrainLemmas
 pub mod SenderLemmas
 pub mod RouterLemmas
 pub mod TallyLemmas
@@ -15,5 +16,10 @@ pub mod RowLemmas
 pub mod PassLemmas
 pub mod AnswerLemmas
 pub mod OneMeaning
+pub mod OneDevice
+pub mod OneTree
+pub mod Apart
+pub mod PlanLemmas
 pub mod ScriptLemmas
 pub mod RefusalLemmas
+pub mod RunningLemmas

@@ -4,9 +4,9 @@ use Rattle.std.specs.List.{AllByRecursion, filter, slice_split}
 use Rattle.std.proofs.lemmas.Bool.{false≢true}
 use Rattle.clickpull.specs.declared.script.Line.TheVariants as line
 use Rattle.clk_packet.specs.Limits.{most_sender, most_length}
-use Rattle.clickpull.specs.declared.script.Command.TheVariants.{Send}
+use Rattle.clickpull.specs.declared.script.Command.TheVariants.{Send, Pull}
 use Rattle.clk_packet.specs.Numbers.{has_bytes, number_in}
-use Rattle.clickpull.specs.Script.{is_blank, fields, only_moment, line_of_fields, most_moment}
+use Rattle.clickpull.specs.Script.{is_blank, fields, only_moment, line_of_fields, most_moment, most_device}
 use Rattle.clickpull.specs.Fields.{field_at}
 
 pub record HaveBytes (all : List (List ℕ)) : Type 0 where
@@ -64,3 +64,19 @@ line-send (sender ∷ []) s l h e f none = absurd (cc f)
 line-send (sender ∷ size ∷ []) s l h e f none = rw (e, f) refl
 line-send (sender ∷ size ∷ [] ∷ more) s l h e f none = absurd (false≢true h.each.1.1.0)
 line-send (sender ∷ size ∷ (byte ∷ bytes) ∷ more) s l h e f none = absurd (omega arith)
+
+-- `pull` and a number, and `pull` and two
+pub line-pull : (all : List (List ℕ)) (moment : ℕ) → HaveBytes all → number_in 0 most_moment (field_at all 0) ≡ Some moment → length (field_at all 1) ≡ 0
+    → line_of_fields (codes "pull" ∷ all) ≡ line.Command (Pull 0 moment)
+line-pull [] m h e none = absurd (cc e)
+line-pull (moment ∷ []) m h e none = rw e refl
+line-pull (moment ∷ [] ∷ more) m h e none = absurd (false≢true h.each.1.0)
+line-pull (moment ∷ (byte ∷ bytes) ∷ more) m h e none = absurd (omega arith)
+
+pub line-pull-of : (all : List (List ℕ)) (moment device : ℕ) → HaveBytes all → number_in 0 most_moment (field_at all 0) ≡ Some moment → number_in 0 most_device (field_at all 1) ≡ Some device
+    → length (field_at all 2) ≡ 0 → line_of_fields (codes "pull" ∷ all) ≡ line.Command (Pull device moment)
+line-pull-of [] m d h e f none = absurd (cc e)
+line-pull-of (moment ∷ []) m d h e f none = absurd (cc f)
+line-pull-of (moment ∷ device ∷ []) m d h e f none = rw (e, f) refl
+line-pull-of (moment ∷ device ∷ [] ∷ more) m d h e f none = absurd (false≢true h.each.1.1.0)
+line-pull-of (moment ∷ device ∷ (byte ∷ bytes) ∷ more) m d h e f none = absurd (omega arith)

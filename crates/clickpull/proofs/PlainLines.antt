@@ -155,7 +155,7 @@ fields-two a b c d first second e f g h are also =
     ∙ rw (are.some, also.some) refl
 
 -- `pull M` and a line feed
-pub plain-pull : (text : List ℕ) (moment : ℕ) (rest : List ℕ) → BeginsWithNumber text 10 0 most_moment moment rest → lines_of (codes "pull " ++ text) ≡ line.Command (Pull moment) ∷ lines_of rest
+pub plain-pull : (text : List ℕ) (moment : ℕ) (rest : List ℕ) → BeginsWithNumber text 10 0 most_moment moment rest → lines_of (codes "pull " ++ text) ≡ line.Command (Pull 0 moment) ∷ lines_of rest
 plain-pull text moment rest h =
     ap (λ t. lines_of (codes "pull " ++ t)) h.text_is ∙ ap (map line_of) (lines-plain (codes "pull " ++ h.digits) rest (word-fails (λ b. b == 10) refl refl refl refl refl no-feed) (word-fails (λ b. b == 13) refl refl refl refl refl no-return))
     ∙ ap (λ l. l ∷ lines_of rest) is
@@ -166,7 +166,7 @@ plain-pull text moment rest h =
     word-fails : (p : ℕ → Bool) → p 112 ≡ false → p 117 ≡ false → p 108 ≡ false → p 108 ≡ false → p 32 ≡ false → ((d : ℕ) → is_ascii_digit d ≡ true → p d ≡ false) → All (λ x. p x ≡ false) (codes "pull " ++ h.digits)
     word-fails p a b c d e fails = all-append p (codes "pull") (32 ∷ h.digits) (all-four p 112 117 108 108 a b c d) (all-cons p 32 h.digits e (each-fails p fails h.digits digits.all))
 
-    is : line_of (codes "pull " ++ h.digits) ≡ line.Command (Pull moment)
+    is : line_of (codes "pull " ++ h.digits) ≡ line.Command (Pull 0 moment)
     is = ap line_of_fields (fields-one 112 117 108 108 h.digits refl refl refl refl digits) ∙ rw h.number_is refl
 
 -- `send S L` and a line feed

@@ -11,7 +11,7 @@ use Rattle.clickpull.specs.declared.script.Line.{Line}
 use Rattle.clickpull.specs.declared.script.Line.TheVariants as line
 use Rattle.clickpull.specs.declared.rows.Row.{Row}
 use Rattle.clickpull.specs.declared.reading.Script.{Script}
-use Rattle.clickpull.specs.Script.{lines_of, command_in, commands_of, drain_in, is_drain, closing_moment, line_fault, fault_at, first_fault, script_fault, most_bytes, most_lines}
+use Rattle.clickpull.specs.Script.{Names, lines_of, command_in, commands_of, drain_in, is_drain, closing_moment, line_fault, fault_at, first_fault, script_fault, most_bytes, most_lines}
 use Rattle.clickpull.specs.Router.{IsReadable, IsSound}
 use Rattle.clickpull.specs.Rows.{row_asked, rows_in, IsToDo, IsReadFrom, CanBeRun}
 use Rattle.clickpull.proofs.ScriptLemmas.{readable-first, readable-drain, readable-commands, each-command-sound}
@@ -29,21 +29,21 @@ closing_on : (rest after : List ℕ) (l : Line) → lines_of rest ≡ l ∷ line
 closing_on rest after l e f = rw (e, f) refl
 
 -- lines that are all blank hold no commands
-blank-commands : (senders : List ℕ) (n : ℕ) (ls : List Line) → first_fault senders true n ls ≡ None → filter_map command_in ls ≡ []
-blank-commands senders n [] e = refl
-blank-commands senders n (l ∷ ls) e = by_fault (fault_at senders true n l) refl (blank-commands senders (n + 1) ls)
+blank-commands : (names : Names) (n : ℕ) (ls : List Line) → first_fault names true n ls ≡ None → filter_map command_in ls ≡ []
+blank-commands names n [] e = refl
+blank-commands names n (l ∷ ls) e = by_fault (fault_at names true n l) refl (blank-commands names (n + 1) ls)
   where
-    by_line : (m : Line) → line_fault senders true n m ≡ None → command_in m ≡ None
+    by_line : (m : Line) → line_fault names true n m ≡ None → command_in m ≡ None
     by_line line.Blank f = refl
     by_line line.Malformed f = refl
     by_line (line.Command command) f = absurd (cc)
     by_line (line.Drain moment) f = refl
 
-    by_few : (b : Bool) → nat_lt most_lines n ≡ b → fault_at senders true n l ≡ None → command_in l ≡ None
+    by_few : (b : Bool) → nat_lt most_lines n ≡ b → fault_at names true n l ≡ None → command_in l ≡ None
     by_few true g f = let no = rw g at f in absurd (cc)
     by_few false g f = by_line l (rw g at f)
 
-    by_fault : (o : Option Fault) → fault_at senders true n l ≡ o → (first_fault senders true (n + 1) ls ≡ None → filter_map command_in ls ≡ []) → filter_map command_in (l ∷ ls) ≡ []
+    by_fault : (o : Option Fault) → fault_at names true n l ≡ o → (first_fault names true (n + 1) ls ≡ None → filter_map command_in ls ≡ []) → filter_map command_in (l ∷ ls) ≡ []
     by_fault None f rest = rw (by_few (nat_lt most_lines n) refl f) (rest (rw f at e))
     by_fault (Some fault) f rest = let no = rw f at e in absurd (cc)
 
@@ -66,23 +66,23 @@ is-no_drain (line.Command command) e = refl
 is-no_drain (line.Drain m) e = absurd (cc)
 
 -- the first fault of the lines of a text from the n-th on
-abbrev pub fault_from : List ℕ → Bool → ℕ → List ℕ → Option Fault
-fault_from senders drained n text = first_fault senders drained n (lines_of text)
+abbrev pub fault_from : Names → Bool → ℕ → List ℕ → Option Fault
+fault_from names drained n text = first_fault names drained n (lines_of text)
 
 -- The lines of a text that were read have rows, no fault and no drain, and what is left follows them.
-pub record HasRead (senders text rest : List ℕ) (number : ℕ) (rows : List Row) : Type 0 where
-  pub fault : fault_from senders false (number + 1) rest ≡ fault_from senders false 1 text
+pub record HasRead (names : Names) (text rest : List ℕ) (number : ℕ) (rows : List Row) : Type 0 where
+  pub fault : fault_from names false (number + 1) rest ≡ fault_from names false 1 text
   pub theirs : rows ++ map row_asked (commands_of rest) ≡ map row_asked (commands_of text)
   pub closing : closing_moment rest ≡ closing_moment text
   pub few : length rows ≤ number
 
-pub HasRead-none : (senders text : List ℕ) (rows : List Row) → rows ≡ [] → HasRead senders text text 0 rows
-HasRead-none senders text rows none = record { fault = refl; theirs = ap (λ l. l ++ map row_asked (commands_of text)) none; closing = refl; few = omega (arith, ap length none) }
+pub HasRead-none : (names : Names) (text : List ℕ) (rows : List Row) → rows ≡ [] → HasRead names text text 0 rows
+HasRead-none names text rows none = record { fault = refl; theirs = ap (λ l. l ++ map row_asked (commands_of text)) none; closing = refl; few = omega (arith, ap length none) }
 
 -- a line without a fault
-fault-later : (senders rest after : List ℕ) (l : Line) (n : ℕ) (drained : Bool) → lines_of rest ≡ l ∷ lines_of after → fault_at senders false n l ≡ None → is_drain l ≡ drained
-    → fault_from senders false n rest ≡ fault_from senders drained (n + 1) after
-fault-later senders rest after l n drained e f is = rw (e, f) (ap (λ b. fault_from senders b (n + 1) after) is)
+fault-later : (names : Names) (rest after : List ℕ) (l : Line) (n : ℕ) (drained : Bool) → lines_of rest ≡ l ∷ lines_of after → fault_at names false n l ≡ None → is_drain l ≡ drained
+    → fault_from names false n rest ≡ fault_from names drained (n + 1) after
+fault-later names rest after l n drained e f is = rw (e, f) (ap (λ b. fault_from names b (n + 1) after) is)
 
 -- the rows with those of one line more
 rows-more : (text rest after : List ℕ) (l : Line) (before rows : List Row) → before ++ map row_asked (commands_of rest) ≡ map row_asked (commands_of text) → lines_of rest ≡ l ∷ lines_of after
@@ -91,11 +91,11 @@ rows-more text rest after l before rows theirs e more =
     ap (λ l. l ++ map row_asked (commands_of after)) more ∙ append_assoc before (rows_in l) (map row_asked (commands_of after))
     ∙ ap (λ l. before ++ l) (sym (ap (map row_asked) (commands_on rest after l e) ∙ map-append row_asked (cons_option (command_in l) []) (commands_of after))) ∙ theirs
 
-pub HasRead-line : (senders text rest after : List ℕ) (l : Line) (number : ℕ) (before rows : List Row) → HasRead senders text rest number before → lines_of rest ≡ l ∷ lines_of after
-    → fault_at senders false (number + 1) l ≡ None → drain_in l ≡ None → rows ≡ before ++ rows_in l → HasRead senders text after (number + 1) rows
-HasRead-line senders text rest after l number before rows h e sound undrained more =
+pub HasRead-line : (names : Names) (text rest after : List ℕ) (l : Line) (number : ℕ) (before rows : List Row) → HasRead names text rest number before → lines_of rest ≡ l ∷ lines_of after
+    → fault_at names false (number + 1) l ≡ None → drain_in l ≡ None → rows ≡ before ++ rows_in l → HasRead names text after (number + 1) rows
+HasRead-line names text rest after l number before rows h e sound undrained more =
     record {
-      fault = sym (fault-later senders rest after l (number + 1) false e sound (is-no_drain l undrained)) ∙ h.fault;
+      fault = sym (fault-later names rest after l (number + 1) false e sound (is-no_drain l undrained)) ∙ h.fault;
       theirs = rows-more text rest after l before rows h.theirs e more;
       closing = sym (closing_on rest after l e undrained) ∙ h.closing;
       few =
@@ -110,59 +110,59 @@ HasRead-line senders text rest after l number before rows h e sound undrained mo
     at_most (Some command) = omega arith
 
 -- what is wrong with what is left is wrong with the script
-fault-whole : (senders text rest : List ℕ) (drained : Bool) (n : ℕ) (o : Option Fault) → length text ≤ most_bytes → fault_from senders drained n rest ≡ fault_from senders false 1 text
-    → fault_from senders drained n rest ≡ o → script_fault senders text ≡ o
-fault-whole senders text rest drained n o small e f =
+fault-whole : (names : Names) (text rest : List ℕ) (drained : Bool) (n : ℕ) (o : Option Fault) → length text ≤ most_bytes → fault_from names drained n rest ≡ fault_from names false 1 text
+    → fault_from names drained n rest ≡ o → script_fault names text ≡ o
+fault-whole names text rest drained n o small e f =
     let no : nat_lt most_bytes (length text) ≡ false = grind (arith, nat_tests) in
     rw no (sym e ∙ f)
 
 -- the first line that has a fault decides
-pub line-refused : (senders text rest after : List ℕ) (l : Line) (number : ℕ) (rows : List Row) (fault : Fault) → length text ≤ most_bytes → HasRead senders text rest number rows → lines_of rest ≡ l ∷ lines_of after
-    → (fault ≡ Memory) ⊎ (fault_at senders false (number + 1) l ≡ Some fault) → (fault ≡ Memory) ⊎ (script_fault senders text ≡ Some fault)
-line-refused senders text rest after l number rows fault small h e (inl memory) = inl memory
-line-refused senders text rest after l number rows fault small h e (inr is) = inr (fault-whole senders text rest false (number + 1) (Some fault) small h.fault (rw (e, is) refl))
+pub line-refused : (names : Names) (text rest after : List ℕ) (l : Line) (number : ℕ) (rows : List Row) (fault : Fault) → length text ≤ most_bytes → HasRead names text rest number rows → lines_of rest ≡ l ∷ lines_of after
+    → (fault ≡ Memory) ⊎ (fault_at names false (number + 1) l ≡ Some fault) → (fault ≡ Memory) ⊎ (script_fault names text ≡ Some fault)
+line-refused names text rest after l number rows fault small h e (inl memory) = inl memory
+line-refused names text rest after l number rows fault small h e (inr is) = inr (fault-whole names text rest false (number + 1) (Some fault) small h.fault (rw (e, is) refl))
 
-pub later-refused : (senders text rest after : List ℕ) (l : Line) (number moment : ℕ) (rows : List Row) (o : Option Fault) → length text ≤ most_bytes → HasRead senders text rest number rows → lines_of rest ≡ l ∷ lines_of after
-    → fault_at senders false (number + 1) l ≡ None → drain_in l ≡ Some moment → fault_from senders true (number + 1 + 1) after ≡ o → script_fault senders text ≡ o
-later-refused senders text rest after l number moment rows o small h e sound drains is =
-    fault-whole senders text rest false (number + 1) o small h.fault (fault-later senders rest after l (number + 1) true e sound (is-drain l moment drains) ∙ is)
+pub later-refused : (names : Names) (text rest after : List ℕ) (l : Line) (number moment : ℕ) (rows : List Row) (o : Option Fault) → length text ≤ most_bytes → HasRead names text rest number rows → lines_of rest ≡ l ∷ lines_of after
+    → fault_at names false (number + 1) l ≡ None → drain_in l ≡ Some moment → fault_from names true (number + 1 + 1) after ≡ o → script_fault names text ≡ o
+later-refused names text rest after l number moment rows o small h e sound drains is =
+    fault-whole names text rest false (number + 1) o small h.fault (fault-later names rest after l (number + 1) true e sound (is-drain l moment drains) ∙ is)
 
 -- the commands of a script that has no fault can be carried out
-to_do : (senders : List ℕ) (commands : List Command) → AllByRecursion (IsSound senders) commands → AllByRecursion IsReadable commands → AllByRecursion (IsToDo senders) (map row_asked commands)
-to_do senders [] sound readable = tt
-to_do senders (Send sender length ∷ commands) sound readable = (sound.0, to_do senders commands sound.1 readable.1)
-to_do senders (Pull moment ∷ commands) sound readable = (readable.0, to_do senders commands sound.1 readable.1)
+to_do : (names : Names) (commands : List Command) → AllByRecursion (IsSound names) commands → AllByRecursion IsReadable commands → AllByRecursion (IsToDo names) (map row_asked commands)
+to_do names [] sound readable = tt
+to_do names (Send sender length ∷ commands) sound readable = (sound.0, to_do names commands sound.1 readable.1)
+to_do names (Pull device moment ∷ commands) sound readable = ((sound.0, readable.0), to_do names commands sound.1 readable.1)
 
-pub rows-to_do : (senders text : List ℕ) (rows : List Row) → script_fault senders text ≡ None → rows ≡ map row_asked (commands_of text) → AllByRecursion (IsToDo senders) rows
-rows-to_do senders text rows sound are = subst (AllByRecursion (IsToDo senders)) (sym are) (to_do senders (commands_of text) (each-command-sound senders text sound) (readable-commands text))
+pub rows-to_do : (names : Names) (text : List ℕ) (rows : List Row) → script_fault names text ≡ None → rows ≡ map row_asked (commands_of text) → AllByRecursion (IsToDo names) rows
+rows-to_do names text rows sound are = subst (AllByRecursion (IsToDo names)) (sym are) (to_do names (commands_of text) (each-command-sound names text sound) (readable-commands text))
 
 -- A script that ended, without a drain and with one.
-pub record IsRead (senders text : List ℕ) (script : Script) : Type 0 where
-  pub sound : script_fault senders text ≡ None
+pub record IsRead (names : Names) (text : List ℕ) (script : Script) : Type 0 where
+  pub sound : script_fault names text ≡ None
   pub holds : IsReadFrom text script
-  pub can_be_run : CanBeRun senders script
+  pub can_be_run : CanBeRun names script
 
-pub IsRead-ended : (senders text rest : List ℕ) (number : ℕ) (script : Script) → length text ≤ most_bytes → HasRead senders text rest number script.rows.items → number ≤ most_lines → length rest ≡ 0
-    → script.closing ≡ None → IsRead senders text script
-IsRead-ended senders text (byte ∷ rest) number script small h bound none closing = absurd (omega arith)
-IsRead-ended senders text [] number script small h bound none closing =
-    let sound = fault-whole senders text [] false (number + 1) None small h.fault refl in
+pub IsRead-ended : (names : Names) (text rest : List ℕ) (number : ℕ) (script : Script) → length text ≤ most_bytes → HasRead names text rest number script.rows.items → number ≤ most_lines → length rest ≡ 0
+    → script.closing ≡ None → IsRead names text script
+IsRead-ended names text (byte ∷ rest) number script small h bound none closing = absurd (omega arith)
+IsRead-ended names text [] number script small h bound none closing =
+    let sound = fault-whole names text [] false (number + 1) None small h.fault refl in
     let are = sym (append-nil script.rows.items) ∙ h.theirs in
     record {
       sound = sound;
       holds = record { rows = are; closing = closing ∙ h.closing };
-      can_be_run = record { to_do = rows-to_do senders text script.rows.items sound are; few = let few = h.few in omega (arith, few, bound); closing = rw closing tt };
+      can_be_run = record { to_do = rows-to_do names text script.rows.items sound are; few = let few = h.few in omega (arith, few, bound); closing = rw closing tt };
     }
 
-pub IsRead-drained : (senders text rest after : List ℕ) (l : Line) (number moment : ℕ) (before : List Row) (script : Script) → length text ≤ most_bytes → HasRead senders text rest number before → number + 1 ≤ most_lines
-    → lines_of rest ≡ l ∷ lines_of after → fault_at senders false (number + 1) l ≡ None → drain_in l ≡ Some moment → script.rows.items ≡ before ++ rows_in l
-    → fault_from senders true (number + 1 + 1) after ≡ None → script.closing ≡ Some moment → IsRead senders text script
-IsRead-drained senders text rest after l number moment before script small h bound e sound drains more blank closing =
+pub IsRead-drained : (names : Names) (text rest after : List ℕ) (l : Line) (number moment : ℕ) (before : List Row) (script : Script) → length text ≤ most_bytes → HasRead names text rest number before → number + 1 ≤ most_lines
+    → lines_of rest ≡ l ∷ lines_of after → fault_at names false (number + 1) l ≡ None → drain_in l ≡ Some moment → script.rows.items ≡ before ++ rows_in l
+    → fault_from names true (number + 1 + 1) after ≡ None → script.closing ≡ Some moment → IsRead names text script
+IsRead-drained names text rest after l number moment before script small h bound e sound drains more blank closing =
     record {
       sound = whole;
       holds = record { rows = are; closing = closing ∙ sym (rw (e, drains) refl) ∙ h.closing };
       can_be_run = record {
-        to_do = rows-to_do senders text script.rows.items whole are;
+        to_do = rows-to_do names text script.rows.items whole are;
         few = let few = h.few in let same = ap length rows in omega (arith, few, same, bound);
         closing = rw closing (readable-drain l moment (readable-first rest l (lines_of after) e) drains);
       };
@@ -171,11 +171,11 @@ IsRead-drained senders text rest after l number moment before script small h bou
     rows : script.rows.items ≡ before
     rows = more ∙ ap (λ o. before ++ map row_asked (cons_option o [])) (no-command l moment drains) ∙ append-nil before
 
-    whole : script_fault senders text ≡ None
-    whole = later-refused senders text rest after l number moment before None small h e sound drains blank
+    whole : script_fault names text ≡ None
+    whole = later-refused names text rest after l number moment before None small h e sound drains blank
 
     none : commands_of after ≡ []
-    none = blank-commands senders (number + 1 + 1) (lines_of after) blank
+    none = blank-commands names (number + 1 + 1) (lines_of after) blank
 
     are : script.rows.items ≡ map row_asked (commands_of text)
     are =

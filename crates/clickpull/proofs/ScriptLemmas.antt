@@ -1,5 +1,5 @@
 -- What a script with no fault is, and what faults a script may have.
-use Rattle.std.proofs.Common.{◌≡◌, ℕ, ◌+◌, ◌≤◌, ◌&&◌, ◌||◌, ◌==◌, Bool, true, false, cond, nat_lt, nat_le, List, [], ◌∷◌, length, map, codes, if◌then◌else◌, Option, Some, None, refl, ap, subst, IfSome, arith}
+use Rattle.std.proofs.Common.{◌≡◌, ℕ, ◌+◌, ◌<◌, ◌≤◌, ◌&&◌, ◌||◌, ◌==◌, Bool, true, false, cond, nat_lt, nat_le, List, [], ◌∷◌, length, map, codes, if◌then◌else◌, Option, Some, None, refl, ap, subst, IfSome, arith}
 use Rattle.std.specs.List.{filter_map, AllByRecursion, list_any}
 use Rattle.std.specs.Str.{all_ascii_digits, bytes_eq}
 use Rattle.std.specs.Str.Parse.{digits_value}
@@ -12,7 +12,7 @@ use Rattle.clickpull.specs.declared.script.Command.TheVariants.{Send, Pull}
 use Rattle.clickpull.specs.declared.script.Line.{Line}
 use Rattle.clickpull.specs.declared.script.Line.TheVariants as line
 use Rattle.clk_packet.specs.Numbers.{has_bytes, number_in}
-use Rattle.clickpull.specs.Script.{most_bytes, send_of, pull_of, drain_of, sender_and_length, only_moment, line_of_fields, line_of, fields, line_fault, fault_at, is_drain, first_fault, lines_of, script_fault, command_in, commands_of, drain_in, most_lines, most_moment}
+use Rattle.clickpull.specs.Script.{Names, most_bytes, send_of, pull_of, drain_of, sender_and_length, moment_and_device, only_moment, line_of_fields, line_of, fields, line_fault, fault_at, is_drain, first_fault, lines_of, script_fault, command_in, commands_of, drain_in, most_lines, most_moment, most_device}
 use Rattle.clickpull.specs.Router.{IsReadable, IsReadableLine, IsSound}
 
 -- a test that answers with its number
@@ -44,16 +44,26 @@ sends_arguments (sender ∷ []) = tt
 sends_arguments (sender ∷ length ∷ []) = sends_of (number_in 0 most_sender sender) (number_in 1 most_length length) (number_in-least length (number_in 1 most_length length) refl)
 sends_arguments (sender ∷ length ∷ third ∷ more) = tt
 
--- a moment that stands alone is one of a script
-moment-most : (arguments : List (List ℕ)) (o : Option ℕ) → only_moment arguments ≡ o → IfSome o (λ m. m ≤ most_moment)
-moment-most arguments None e = tt
-moment-most [] (Some m) e = absurd (cc e)
-moment-most (moment ∷ []) (Some m) e = number_in-most 0 most_moment moment m e
-moment-most (moment ∷ next ∷ more) (Some m) e = absurd (cc e)
+-- a moment that was read is one of a script
+moment-most : (digits : List ℕ) (o : Option ℕ) → number_in 0 most_moment digits ≡ o → IfSome o (λ m. m ≤ most_moment)
+moment-most digits None e = tt
+moment-most digits (Some m) e = number_in-most 0 most_moment digits m e
 
-pulls_arguments : (o : Option ℕ) → IfSome o (λ m. m ≤ most_moment) → IsReadableLine (pull_of o)
-pulls_arguments None h = tt
-pulls_arguments (Some m) h = h
+alone-most : (arguments : List (List ℕ)) → IfSome (only_moment arguments) (λ m. m ≤ most_moment)
+alone-most [] = tt
+alone-most (moment ∷ []) = moment-most moment (number_in 0 most_moment moment) refl
+alone-most (moment ∷ next ∷ more) = tt
+
+pulls_of : (moment device : Option ℕ) → IfSome moment (λ m. m ≤ most_moment) → IsReadableLine (pull_of moment device)
+pulls_of None device h = tt
+pulls_of (Some m) None h = tt
+pulls_of (Some m) (Some d) h = h
+
+pulls_arguments : (arguments : List (List ℕ)) → IsReadableLine (moment_and_device arguments)
+pulls_arguments [] = tt
+pulls_arguments (moment ∷ []) = pulls_of (number_in 0 most_moment moment) (Some 0) (moment-most moment (number_in 0 most_moment moment) refl)
+pulls_arguments (moment ∷ device ∷ []) = pulls_of (number_in 0 most_moment moment) (number_in 0 most_device device) (moment-most moment (number_in 0 most_moment moment) refl)
+pulls_arguments (moment ∷ device ∷ third ∷ more) = tt
 
 drains_arguments : (o : Option ℕ) → IfSome o (λ m. m ≤ most_moment) → IsReadableLine (drain_of o)
 drains_arguments None h = tt
@@ -63,10 +73,10 @@ reads_fields : (all : List (List ℕ)) → IsReadableLine (line_of_fields all)
 reads_fields [] = tt
 reads_fields (word ∷ arguments) = by_word (bytes_eq word (codes "send")) (bytes_eq word (codes "pull")) (bytes_eq word (codes "drain"))
   where
-    by_word : (send pull drain : Bool) → IsReadableLine (if send then sender_and_length arguments else (if pull then pull_of (only_moment arguments) else (if drain then drain_of (only_moment arguments) else line.Malformed)))
+    by_word : (send pull drain : Bool) → IsReadableLine (if send then sender_and_length arguments else (if pull then moment_and_device arguments else (if drain then drain_of (only_moment arguments) else line.Malformed)))
     by_word true pull drain = sends_arguments arguments
-    by_word false true drain = pulls_arguments (only_moment arguments) (moment-most arguments (only_moment arguments) refl)
-    by_word false false true = drains_arguments (only_moment arguments) (moment-most arguments (only_moment arguments) refl)
+    by_word false true drain = pulls_arguments arguments
+    by_word false false true = drains_arguments (only_moment arguments) (alone-most arguments)
     by_word false false false = tt
 
 -- a first line is readable
@@ -106,44 +116,48 @@ pub readable-commands : (script : List ℕ) → AllByRecursion IsReadable (comma
 readable-commands script = readable-texts (lines script)
 
 -- a line with no fault can be carried out
-line_sound : (senders : List ℕ) (drained : Bool) (number : ℕ) (l : Line) → IsReadableLine l → line_fault senders drained number l ≡ None → IfSome (command_in l) (IsSound senders)
-line_sound senders drained number line.Blank s e = tt
-line_sound senders drained number line.Malformed s e = tt
-line_sound senders drained number (line.Drain moment) s e = tt
-line_sound senders true number (line.Command command) s e = absurd (cc)
-line_sound senders false number (line.Command (Pull moment)) s e = tt
-line_sound senders false number (line.Command (Send sender size)) s e = by_test (list_any (λ x. x == sender) senders) refl
+line_sound : (names : Names) (drained : Bool) (number : ℕ) (l : Line) → IsReadableLine l → line_fault names drained number l ≡ None → IfSome (command_in l) (IsSound names)
+line_sound names drained number line.Blank s e = tt
+line_sound names drained number line.Malformed s e = tt
+line_sound names drained number (line.Drain moment) s e = tt
+line_sound names true number (line.Command command) s e = absurd (cc)
+line_sound names false number (line.Command (Pull device moment)) s e = by_test (nat_lt device names.devices) refl
   where
-    by_test : (b : Bool) → list_any (λ x. x == sender) senders ≡ b → (list_any (λ x. x == sender) senders ≡ true) × (1 ≤ size)
+    by_test : (b : Bool) → nat_lt device names.devices ≡ b → device < names.devices
+    by_test true f = grind (arith, nat_tests)
+    by_test false f = let no = rw f at e in absurd (cc)
+line_sound names false number (line.Command (Send sender size)) s e = by_test (list_any (λ x. x == sender) names.senders) refl
+  where
+    by_test : (b : Bool) → list_any (λ x. x == sender) names.senders ≡ b → (list_any (λ x. x == sender) names.senders ≡ true) × (1 ≤ size)
     by_test true f = (f, s)
     by_test false f = let no = rw f at e in absurd (cc)
 
-at_sound : (senders : List ℕ) (drained : Bool) (n : ℕ) (l : Line) → IsReadableLine l → fault_at senders drained n l ≡ None → IfSome (command_in l) (IsSound senders)
-at_sound senders drained n l s e = by_test (nat_lt most_lines n) refl
+at_sound : (names : Names) (drained : Bool) (n : ℕ) (l : Line) → IsReadableLine l → fault_at names drained n l ≡ None → IfSome (command_in l) (IsSound names)
+at_sound names drained n l s e = by_test (nat_lt most_lines n) refl
   where
-    by_test : (b : Bool) → nat_lt most_lines n ≡ b → IfSome (command_in l) (IsSound senders)
+    by_test : (b : Bool) → nat_lt most_lines n ≡ b → IfSome (command_in l) (IsSound names)
     by_test true f = let no = rw f at e in absurd (cc)
-    by_test false f = line_sound senders drained n l s (rw f at e)
+    by_test false f = line_sound names drained n l s (rw f at e)
 
-texts_sound : (senders : List ℕ) (drained : Bool) (n : ℕ) (texts : List (List ℕ)) → first_fault senders drained n (map line_of texts) ≡ None → AllByRecursion (IsSound senders) (filter_map command_in (map line_of texts))
-texts_sound senders drained n [] e = tt
-texts_sound senders drained n (text ∷ texts) e = by_fault (fault_at senders drained n (line_of text)) refl (texts_sound senders (drained || is_drain (line_of text)) (n + 1) texts)
+texts_sound : (names : Names) (drained : Bool) (n : ℕ) (texts : List (List ℕ)) → first_fault names drained n (map line_of texts) ≡ None → AllByRecursion (IsSound names) (filter_map command_in (map line_of texts))
+texts_sound names drained n [] e = tt
+texts_sound names drained n (text ∷ texts) e = by_fault (fault_at names drained n (line_of text)) refl (texts_sound names (drained || is_drain (line_of text)) (n + 1) texts)
   where
-    by_command : (o : Option Command) → command_in (line_of text) ≡ o → IfSome (command_in (line_of text)) (IsSound senders) → AllByRecursion (IsSound senders) (filter_map command_in (map line_of texts))
-        → AllByRecursion (IsSound senders) (filter_map command_in (map line_of (text ∷ texts)))
+    by_command : (o : Option Command) → command_in (line_of text) ≡ o → IfSome (command_in (line_of text)) (IsSound names) → AllByRecursion (IsSound names) (filter_map command_in (map line_of texts))
+        → AllByRecursion (IsSound names) (filter_map command_in (map line_of (text ∷ texts)))
     by_command None f sound rest = rw f rest
     by_command (Some command) f sound rest = rw f ((rw f at sound), rest)
 
-    by_fault : (o : Option Fault) → fault_at senders drained n (line_of text) ≡ o
-        → (first_fault senders (drained || is_drain (line_of text)) (n + 1) (map line_of texts) ≡ None → AllByRecursion (IsSound senders) (filter_map command_in (map line_of texts)))
-        → AllByRecursion (IsSound senders) (filter_map command_in (map line_of (text ∷ texts)))
-    by_fault None f rest = by_command (command_in (line_of text)) refl (at_sound senders drained n (line_of text) (reads_fields (fields text)) f) (rest (rw f at e))
+    by_fault : (o : Option Fault) → fault_at names drained n (line_of text) ≡ o
+        → (first_fault names (drained || is_drain (line_of text)) (n + 1) (map line_of texts) ≡ None → AllByRecursion (IsSound names) (filter_map command_in (map line_of texts)))
+        → AllByRecursion (IsSound names) (filter_map command_in (map line_of (text ∷ texts)))
+    by_fault None f rest = by_command (command_in (line_of text)) refl (at_sound names drained n (line_of text) (reads_fields (fields text)) f) (rest (rw f at e))
     by_fault (Some fault) f rest = let no = rw f at e in absurd (cc)
 
 -- so can a script
-pub each-command-sound : (senders script : List ℕ) → script_fault senders script ≡ None → AllByRecursion (IsSound senders) (commands_of script)
-each-command-sound senders script e = by_test (nat_lt most_bytes (length script)) refl
+pub each-command-sound : (names : Names) (script : List ℕ) → script_fault names script ≡ None → AllByRecursion (IsSound names) (commands_of script)
+each-command-sound names script e = by_test (nat_lt most_bytes (length script)) refl
   where
-    by_test : (b : Bool) → nat_lt most_bytes (length script) ≡ b → AllByRecursion (IsSound senders) (commands_of script)
+    by_test : (b : Bool) → nat_lt most_bytes (length script) ≡ b → AllByRecursion (IsSound names) (commands_of script)
     by_test true f = let no = rw f at e in absurd (cc)
-    by_test false f = texts_sound senders false 1 (lines script) (rw f at e)
+    by_test false f = texts_sound names false 1 (lines script) (rw f at e)

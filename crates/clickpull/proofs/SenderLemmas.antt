@@ -1,6 +1,6 @@
 -- The senders of a router after one event more.
-use Rattle.std.proofs.Common.{◌≡◌, ℕ, ◌+◌, ◌<◌, ◌==◌, ◌||◌, zero, suc, Bool, true, false, List, [], ◌∷◌, ◌++◌, length, map, set, Some, slice_get, get_or, refl, sym, ap, ap₂, ◌∙◌, subst, arith}
-use Rattle.std.specs.List.{AllByRecursion}
+use Rattle.std.proofs.Common.{◌≡◌, ℕ, ◌+◌, ◌<◌, ◌==◌, ◌&&◌, ◌||◌, zero, suc, Bool, true, false, List, [], ◌∷◌, ◌++◌, length, map, set, Some, slice_get, get_or, refl, sym, ap, ap₂, ◌∙◌, subst, arith}
+use Rattle.std.specs.List.{AllByRecursion, list_any}
 use Rattle.std.proofs.lemmas.List.{append-nil, length-append, length-map}
 use Rattle.std.proofs.lemmas.List.Elements.{filter_map-append}
 use Rattle.std.proofs.lemmas.Option.{slice_get_read}
@@ -24,16 +24,16 @@ numbers-sent s events p outcome e = rw (filter_map-append (number_from s) events
 numbers-other : (s : ℕ) (events : List Event) (p : Packet) (outcome : Offered) → (p.sender == s) ≡ false → length (numbers_of s (events ++ offered p outcome ∷ [])) ≡ length (numbers_of s events)
 numbers-other s events p outcome e = rw (filter_map-append (number_from s) events (offered p outcome ∷ []), e, append-nil) refl
 
-numbers-pulled : (s : ℕ) (events : List Event) (moment : ℕ) (visits : List Visit) → length (numbers_of s (events ++ pulled moment visits ∷ [])) ≡ length (numbers_of s events)
-numbers-pulled s events moment visits = ap length (filter_map-append (number_from s) events (pulled moment visits ∷ []) ∙ append-nil (numbers_of s events))
+numbers-pulled : (s : ℕ) (events : List Event) (d moment : ℕ) (visits : List Visit) → length (numbers_of s (events ++ pulled d moment visits ∷ [])) ≡ length (numbers_of s events)
+numbers-pulled s events d moment visits = ap length (filter_map-append (number_from s) events (pulled d moment visits ∷ []) ∙ append-nil (numbers_of s events))
 
 -- a sender that has sent so many
 abbrev has : SenderSpec → ℕ → Sender
 has spec n = record { number = spec.number; queue = spec.queue; sent = n }
 
 -- a sender after a pull, after an offer of another, and after one of its own
-pub sender-pulled : (events : List Event) (moment : ℕ) (visits : List Visit) (spec : SenderSpec) → sender_after (events ++ pulled moment visits ∷ []) spec ≡ sender_after events spec
-sender-pulled events moment visits spec = ap (has spec) (numbers-pulled spec.number events moment visits)
+pub sender-pulled : (events : List Event) (d moment : ℕ) (visits : List Visit) (spec : SenderSpec) → sender_after (events ++ pulled d moment visits ∷ []) spec ≡ sender_after events spec
+sender-pulled events d moment visits spec = ap (has spec) (numbers-pulled spec.number events d moment visits)
 
 sender-other : (events : List Event) (p : Packet) (outcome : Offered) (spec : SenderSpec) → (p.sender == spec.number) ≡ false → sender_after (events ++ offered p outcome ∷ []) spec ≡ sender_after events spec
 sender-other events p outcome spec e = ap (has spec) (numbers-other spec.number events p outcome e)
@@ -42,15 +42,15 @@ sender-own : (events : List Event) (p : Packet) (outcome : Offered) (spec : Send
     → sender_after (events ++ offered p outcome ∷ []) spec ≡ sent_one_more (sender_after events spec)
 sender-own events p outcome spec e = ap (has spec) (numbers-sent spec.number events p outcome e)
 
-pub senders-pulled : (events : List Event) (moment : ℕ) (visits : List Visit) (specs : List SenderSpec) → map (sender_after events) specs ≡ map (sender_after (events ++ pulled moment visits ∷ [])) specs
-senders-pulled events moment visits [] = refl
-senders-pulled events moment visits (spec ∷ specs) = ap₂ (λ (s : Sender) ss. s ∷ ss) (sym (sender-pulled events moment visits spec)) (senders-pulled events moment visits specs)
+pub senders-pulled : (events : List Event) (d moment : ℕ) (visits : List Visit) (specs : List SenderSpec) → map (sender_after events) specs ≡ map (sender_after (events ++ pulled d moment visits ∷ [])) specs
+senders-pulled events d moment visits [] = refl
+senders-pulled events d moment visits (spec ∷ specs) = ap₂ (λ (s : Sender) ss. s ∷ ss) (sym (sender-pulled events d moment visits spec)) (senders-pulled events d moment visits specs)
 
 -- and after pulls one tick apart
-pub senders-closed : (events : List Event) (t : ℕ) (more : List (List Visit)) (specs : List SenderSpec) → map (sender_after events) specs ≡ map (sender_after (events ++ pulls_from t more)) specs
-senders-closed events t more [] = refl
-senders-closed events t more (spec ∷ specs) =
-    ap₂ (λ (s : Sender) ss. s ∷ ss) (ap (λ l. has spec (length l)) (sym (pulls-add_none (number_from spec.number) (λ n visits. refl) events t more))) (senders-closed events t more specs)
+pub senders-closed : (events : List Event) (d t : ℕ) (more : List (List Visit)) (specs : List SenderSpec) → map (sender_after events) specs ≡ map (sender_after (events ++ pulls_from d t more)) specs
+senders-closed events d t more [] = refl
+senders-closed events d t more (spec ∷ specs) =
+    ap₂ (λ (s : Sender) ss. s ∷ ss) (ap (λ l. has spec (length l)) (sym (pulls-add_none (number_from spec.number) (λ k n visits. refl) events d t more))) (senders-closed events d t more specs)
 
 -- senders of greater numbers are others
 senders-other : (events : List Event) (p : Packet) (outcome : Offered) (specs : List SenderSpec) → AllByRecursion (λ m. p.sender < m) (map number_of specs)
@@ -82,33 +82,41 @@ senders-sent events p outcome (s ∷ specs) (suc i) spec rising e theirs =
     let other : (p.sender == s.number) ≡ false = grind (arith, nat_tests) in
     ap₂ (λ (t : Sender) ss. t ∷ ss) (sym (sender-other events p outcome s other)) (senders-sent events p outcome specs i spec rising.1 e theirs)
 
--- no sender of greater number sends for this one
-none-sends : (n q : ℕ) (specs : List SenderSpec) → AllByRecursion (λ m. n < m) (map number_of specs) → sends_to specs n q ≡ false
-none-sends n q [] greater = refl
-none-sends n q (s ∷ specs) greater =
+-- whether a sender of this number is one that passes a test
+abbrev one_passes : (SenderSpec → Bool) → List SenderSpec → ℕ → Bool
+one_passes test specs n = list_any (λ (s : SenderSpec). (s.number == n) && test s) specs
+
+-- no sender of greater number is this one
+none-passes : (test : SenderSpec → Bool) (n : ℕ) (specs : List SenderSpec) → AllByRecursion (λ m. n < m) (map number_of specs) → one_passes test specs n ≡ false
+none-passes test n [] greater = refl
+none-passes test n (s ∷ specs) greater =
     let above = greater.0 in
     let other : (s.number == n) ≡ false = grind (arith, nat_tests) in
-    rw other (none-sends n q specs greater.1)
+    rw other (none-passes test n specs greater.1)
 
--- a sender sends to its own queue alone
-pub sends-its : (q : ℕ) (specs : List SenderSpec) (i : ℕ) (spec : SenderSpec) → AreRising (map number_of specs) → slice_get specs i ≡ Some spec → sends_to specs spec.number q ≡ (spec.queue == q)
-sends-its q [] i spec rising e = absurd (cc)
-sends-its q (s ∷ specs) zero spec rising e =
+-- a test of a sender is that of its own spec alone
+pub passes-its : (test : SenderSpec → Bool) (specs : List SenderSpec) (i : ℕ) (spec : SenderSpec) → AreRising (map number_of specs) → slice_get specs i ≡ Some spec → one_passes test specs spec.number ≡ test spec
+passes-its test [] i spec rising e = absurd (cc)
+passes-its test (s ∷ specs) zero spec rising e =
     let same : s ≡ spec = cc in
-    subst (λ (t : SenderSpec). sends_to (s ∷ specs) t.number q ≡ (t.queue == q)) same here
+    subst (λ (t : SenderSpec). one_passes test (s ∷ specs) t.number ≡ test t) same here
   where
     or_false : (b : Bool) → (b || false) ≡ b
     or_false true = refl
     or_false false = refl
 
-    here : sends_to (s ∷ specs) s.number q ≡ (s.queue == q)
+    here : one_passes test (s ∷ specs) s.number ≡ test s
     here =
         let mine : (s.number == s.number) ≡ true = grind (arith, nat_tests) in
-        rw (mine, none-sends s.number q specs rising.0) (or_false (s.queue == q))
-sends-its q (s ∷ specs) (suc i) spec rising e =
+        rw (mine, none-passes test s.number specs rising.0) (or_false (test s))
+passes-its test (s ∷ specs) (suc i) spec rising e =
     let below : s.number < spec.number = at-place (λ m. s.number < m) specs i spec rising.0 e in
     let other : (s.number == spec.number) ≡ false = grind (arith, nat_tests) in
-    rw other (sends-its q specs i spec rising.1 e)
+    rw other (passes-its test specs i spec rising.1 e)
+
+-- a sender sends to its own queue alone
+pub sends-its : (q : ℕ) (specs : List SenderSpec) (i : ℕ) (spec : SenderSpec) → AreRising (map number_of specs) → slice_get specs i ≡ Some spec → sends_to specs spec.number q ≡ (spec.queue == q)
+sends-its q specs i spec rising e = passes-its (λ (s : SenderSpec). s.queue == q) specs i spec rising e
 
 -- the numbers of a router's senders, and those of its tallies
 map-numbers : (events : List Event) (specs : List SenderSpec) → map sender_number (map (sender_after events) specs) ≡ map number_of specs

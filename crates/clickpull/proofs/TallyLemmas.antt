@@ -48,21 +48,21 @@ pub tallies-offered : (events : List Event) (p : Packet) (outcome : Offered) (nu
 tallies-offered events p outcome [] = refl
 tallies-offered events p outcome (s ∷ numbers) = ap₂ (λ (t : Tally) ts. t ∷ ts) (sym (tally-offered events p outcome s)) (tallies-offered events p outcome numbers)
 
-pub tallies-pulled : (events : List Event) (moment : ℕ) (visits : List Visit) (numbers : List ℕ) → map (tally_after events) numbers ≡ map (tally_after (events ++ pulled moment visits ∷ [])) numbers
-tallies-pulled events moment visits [] = refl
-tallies-pulled events moment visits (s ∷ numbers) =
-    let e = pulled moment visits in
-    ap₂ (λ (t : Tally) ts. t ∷ ts) (sym (with-same s _ _ _ _ _ _ (its-same accepted_in s events e refl) (its-same refused_in s events e refl) (its-same evicted_in s events e refl))) (tallies-pulled events moment visits numbers)
+pub tallies-pulled : (events : List Event) (d moment : ℕ) (visits : List Visit) (numbers : List ℕ) → map (tally_after events) numbers ≡ map (tally_after (events ++ pulled d moment visits ∷ [])) numbers
+tallies-pulled events d moment visits [] = refl
+tallies-pulled events d moment visits (s ∷ numbers) =
+    let e = pulled d moment visits in
+    ap₂ (λ (t : Tally) ts. t ∷ ts) (sym (with-same s _ _ _ _ _ _ (its-same accepted_in s events e refl) (its-same refused_in s events e refl) (its-same evicted_in s events e refl))) (tallies-pulled events d moment visits numbers)
 
-pub tallies-closed : (events : List Event) (t : ℕ) (more : List (List Visit)) (numbers : List ℕ) → map (tally_after events) numbers ≡ map (tally_after (events ++ pulls_from t more)) numbers
-tallies-closed events t more [] = refl
-tallies-closed events t more (s ∷ numbers) =
+pub tallies-closed : (events : List Event) (d t : ℕ) (more : List (List Visit)) (numbers : List ℕ) → map (tally_after events) numbers ≡ map (tally_after (events ++ pulls_from d t more)) numbers
+tallies-closed events d t more [] = refl
+tallies-closed events d t more (s ∷ numbers) =
     ap₂ (λ (t : Tally) ts. t ∷ ts)
-    (with-same s _ _ _ _ _ _ (same accepted_in (λ n visits. refl)) (same refused_in (λ n visits. refl)) (same evicted_in (λ n visits. refl)))
-    (tallies-closed events t more numbers)
+    (with-same s _ _ _ _ _ _ (same accepted_in (λ k n visits. refl)) (same refused_in (λ k n visits. refl)) (same evicted_in (λ k n visits. refl)))
+    (tallies-closed events d t more numbers)
   where
-    same : (f : Event → Option Packet) → ((n : ℕ) (visits : List Visit) → f (pulled n visits) ≡ None) → packets_from s (filter_map f events) ≡ packets_from s (filter_map f (events ++ pulls_from t more))
-    same f none = ap (packets_from s) (sym (pulls-add_none f none events t more))
+    same : (f : Event → Option Packet) → ((k n : ℕ) (visits : List Visit) → f (pulled k n visits) ≡ None) → packets_from s (filter_map f events) ≡ packets_from s (filter_map f (events ++ pulls_from d t more))
+    same f none = ap (packets_from s) (sym (pulls-add_none f none events d t more))
 
 -- what changes the tallies of one sender alone, where the sender is another
 abbrev ChangesIts : ℕ → (Tally → Tally) → Type 0

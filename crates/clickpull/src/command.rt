@@ -8,15 +8,17 @@ ghost use Rattle.clk_packet.specs.Bytes.{read_failures, write_failures};
 use crate::builtin;
 use crate::files::{open_file, read_plan, write_visits};
 use crate::run::{run_plan, run_script};
+use crate::running::run_trace;
 use crate::words::{Asked, asked_by};
 use clap::Error;
 use clap::error::ErrorKind;
 use clk_packet::{Fault, Sink, Source, write_all};
+use clk_sched::Visit;
 use clk_tree::Plan;
 use std::alloc::Global;
 use std::rt::Files;
-use std::slice;
 use std::sync::Wait;
+use std::thread::Threads;
 
 /// Does what the words after the program's name ask for, and answers the status that the program ends with: 0 where it
 /// is done, 2 where the words are wrong, which `errors` is told. Help and the version are written to `writer`.
@@ -25,13 +27,24 @@ use std::sync::Wait;
 /// - `check TREE`: the canonical text of the tree in the file TREE is written to `writer`.
 /// - `script TREE SCRIPT [--visits FILE]`: the script in the file SCRIPT runs over the tree in the file TREE, which is read
 ///   and checked before SCRIPT is opened. After the answer its visits are written to FILE, as CSV, where that is named.
+/// - `run TREE TRACE [--step N] [--limit N] [--visits FILE]`: the trace in the file TRACE runs over the tree in the file TREE, which
+///   is read and checked before TRACE is opened, from a thread for each sender, and the report is written to `writer`. While they
+///   run a device is pulled once each `--step` ticks, `--limit` times at most. The visits go to FILE as those of a script do.
+///
+/// `rt` has the files and starts the threads, and `wait` waits for their queues.
 ///
 /// # Errors
 ///
-/// 1 where memory is refused, of the visits after the whole answer; 19 where a file can't be opened, or it or `reader` can't
-/// be read; 20 where `writer` or `errors` fails or, after the whole answer, FILE can't be made or written; else those of the
-/// tree, and then those of the script.
-pub fn command<H: Files + AllocGlobal, P: Wait, R: Source, W: Sink, E: Sink>(
+/// 1 where memory or a thread is refused, of the visits after the whole answer; 19 where a file can't be opened, or it or `reader`
+/// can't be read; 20 where `writer` or `errors` fails or, after the whole answer, FILE can't be made or written; else those of the
+/// tree, and then those of the script, or of the trace and its run.
+pub fn command<
+    H: Files + AllocGlobal + Threads + Wait,
+    P: Wait + Sync,
+    R: Source,
+    W: Sink,
+    E: Sink,
+>(
     rt: &H,
     wait: &P,
     words: Vec<String>,
@@ -52,10 +65,9 @@ pub fn command<H: Files + AllocGlobal, P: Wait, R: Source, W: Sink, E: Sink>(
     ensures read_failures { (R.Source.failures reader.new ≡ R.Source.failures reader.old)
         ⊎ (R.Source.failures reader.new ≡ read_failures result (R.Source.failures reader.old)) }
 {
-    let _ = wait;
     match asked_by(rt.alloc(), &words) {
         Ok(asked) => {
-            perform(rt, asked, reader, writer)?;
+            perform(rt, wait, asked, reader, writer)?;
             Ok(0)
         }
         Err(error) => tell(rt.alloc(), &error, writer, errors),
@@ -63,8 +75,9 @@ pub fn command<H: Files + AllocGlobal, P: Wait, R: Source, W: Sink, E: Sink>(
 }
 
 /// Does what the words ask for.
-fn perform<H: Files + AllocGlobal, R: Source, W: Sink>(
+fn perform<H: Files + AllocGlobal + Threads + Wait, P: Wait + Sync, R: Source, W: Sink>(
     rt: &H,
+    wait: &P,
     asked: Asked<'_>,
     reader: &mut R,
     writer: &mut W,
@@ -92,11 +105,34 @@ fn perform<H: Files + AllocGlobal, R: Source, W: Sink>(
         } => {
             let plan = read_plan(rt, alloc, tree)?;
             let past = run_plan(alloc, &mut open_file(rt, script)?, writer, &plan)?;
-            match visits {
-                Some(path) => write_visits(rt, alloc, path, slice::from_ref(&past.log)),
-                None => Ok(()),
-            }
+            keep_visits(rt, alloc, visits, &past.logs)
         }
+        Asked::Run {
+            tree,
+            trace,
+            pace,
+            visits,
+        } => {
+            let plan = read_plan(rt, alloc, tree)?;
+            let mut trace = open_file(rt, trace)?;
+            let logs = run_trace(rt, alloc, wait, &plan, &mut trace, writer, pace)?;
+            keep_visits(rt, alloc, visits, &logs)
+        }
+    }
+}
+
+/// Writes the logs of devices to a file, where one is named.
+fn keep_visits<H: Files>(
+    rt: &H,
+    alloc: Global,
+    path: Option<&str>,
+    logs: &[Vec<Visit>],
+) -> Result<(), Fault>
+    ensures fault { IfErr result (λ fault. (fault ≡ Memory) ⊎ (fault ≡ Write)) }
+{
+    match path {
+        Some(path) => write_visits(rt, alloc, path, logs),
+        None => Ok(()),
     }
 }
 

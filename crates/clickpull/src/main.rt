@@ -1,20 +1,23 @@
-//! Runs a script of sends and pulls over queues and a pull scheduler.
+//! Runs scripts of sends and pulls, and traces from producers on threads, over queues and pull schedulers.
 #![tactic(auto)]
 
 mod answer;
 mod builtin;
 mod command;
+mod devices;
 mod faults;
 mod fields;
 mod files;
 mod laws;
 mod lines;
+mod pace;
 mod past;
 mod queues;
 mod reading;
 mod router;
 mod rows;
 mod run;
+mod running;
 mod script;
 mod senders;
 mod tallies;
@@ -26,12 +29,15 @@ use clk_packet::{Fault, FromRead, Sink, ToWrite, write_all};
 pub use command::command;
 pub use faults::fault_line;
 pub use laws::{
-    closing_examples, script_examples, scripts_have_at_most_one_meaning, word_examples,
+    closing_examples, devices_of_plans_stand_apart, devices_stand_apart,
+    one_device_needs_no_number, plans_have_at_most_one_meaning, script_examples,
+    scripts_have_at_most_one_meaning, word_examples,
 };
 pub use run::run_script;
 use std::process::ExitCode;
 use std::rt::{Env, Runtime};
 use std::sync::Wait;
+use std::thread::Threads;
 use std::{env, io};
 
 fn main(rt: HostRuntime) -> ExitCode {
@@ -46,7 +52,7 @@ fn main(rt: HostRuntime) -> ExitCode {
 }
 
 /// Does what the words of the program ask for, and answers the status that it ends with.
-fn run_words<H: Runtime + AllocGlobal + Wait, E: Sink>(
+fn run_words<H: Runtime + AllocGlobal + Threads + Wait + Sync, E: Sink>(
     rt: &H,
     errors: &mut E,
 ) -> Result<u8, Fault> {

@@ -6,10 +6,12 @@ use clk_sched::Visit;
 /// All that a router did, once nothing more is asked of it.
 #[derive(Drop)]
 pub struct Past {
-    /// Every visit, in order.
-    pub log: Vec<Visit>,
-    /// The packets that came out at the device, in order.
-    pub came_out: Vec<Packet>,
+    /// Every visit of each device, in order.
+    pub logs: Vec<Vec<Visit>>,
+    /// The packets that came out at each device, in order.
+    pub came_out: Vec<Vec<Packet>>,
+    /// Where there are several devices, the packets that pulls gave before the closing, in order.
+    pub given: Vec<Packet>,
     /// The packets that queues put out for later ones, in order.
     pub put_out: Vec<Packet>,
     /// What became of the packets of each sender.

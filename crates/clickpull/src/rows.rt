@@ -11,18 +11,18 @@ use clk_packet::{Offered, Packet};
 pub enum Row {
     /// The sender is to offer its next packet, of this length in bytes.
     Send { sender: u16, length: u16 },
-    /// A pull is to be made, at this moment in ticks.
-    Pull { moment: u64 },
+    /// A device is to be pulled, at this moment in ticks.
+    Pull { device: u16, moment: u64 },
     /// The packet was offered, and accepted.
     Accepted(Packet),
     /// It was refused.
     Refused(Packet),
     /// It was accepted, and its queue put out a packet for it.
     Evicting(Packet),
-    /// The pull at this moment gave a packet.
-    Gave { moment: u64 },
+    /// The pull of the device at this moment gave a packet.
+    Gave { device: u16, moment: u64 },
     /// It gave none.
-    GaveNone { moment: u64 },
+    GaveNone { device: u16, moment: u64 },
 }
 
 impl Row {
@@ -34,7 +34,7 @@ impl Row {
     {
         match command {
             Command::Send { sender, length } => Row::Send { sender, length },
-            Command::Pull { moment } => Row::Pull { moment },
+            Command::Pull { device, moment } => Row::Pull { device, moment },
         }
     }
 
@@ -49,13 +49,13 @@ impl Row {
         }
     }
 
-    /// Of a pull at this moment in ticks.
-    pub fn pulled(moment: u64, got: Option<Packet>) -> Row
-        ensures { result ≡ row_pulled moment got }
+    /// Of a pull of a device at this moment in ticks.
+    pub fn pulled(device: u16, moment: u64, got: Option<Packet>) -> Row
+        ensures { result ≡ row_pulled device moment got }
     {
         match got {
-            Some(_) => Row::Gave { moment },
-            None => Row::GaveNone { moment },
+            Some(_) => Row::Gave { device, moment },
+            None => Row::GaveNone { device, moment },
         }
     }
 }

@@ -1,14 +1,15 @@
 //! One script, over a plan.
 
-ghost use Rattle.std.specs.Prelude.{◌≡◌, ◌≢◌, ◌≤◌, ◌+◌, ◌++◌, ◌∷◌, [], true, map, length, IfOk, IfSome, IfErr, OnOk, IsErrOf};
+ghost use Rattle.std.specs.Prelude.{◌≡◌, ◌≢◌, ◌≤◌, ◌+◌, ◌++◌, ◌∷◌, [], true, map, length, IfOk, IfSome, IfErr, OnOk, IsErrOf, IsOkUnless};
 ghost use Rattle.std.specs.List.{AllByRecursion};
 ghost use Rattle.std.specs.Io.KnownBytes.{Appends, Keeps};
 ghost use Rattle.clk_packet.specs.Bytes.{Takes, AppendsFront, Wrote, read_failures, write_failures};
-ghost use Rattle.clk_packet.specs.declared.fault.Fault.TheVariants.{Write};
-ghost use Rattle.clk_sched.specs.Tree.{root, leaves_distinct};
-ghost use Rattle.clk_sched.specs.Session.{elements};
+ghost use Rattle.clk_packet.specs.declared.fault.Fault.TheVariants.{Memory, Write};
 ghost use Rattle.clk_sched.specs.Limits.{most_elements};
-ghost use Rattle.clk_tree.specs.PlanParts.{queued, number_of, AreRising, HasCapacity, SendsWithin};
+ghost use Rattle.clk_tree.specs.PlanParts.{queued, HasCapacity};
+ghost use Rattle.clk_tree.specs.Shares.{AreTreesOf};
+ghost use Rattle.clk_report.specs.Devices.{lists_of};
+ghost use Rattle.clickpull.specs.Router.{CanStand, IsWhole};
 ghost use Rattle.clickpull.specs.Script.{most_bytes};
 ghost use Rattle.clickpull.specs.Meaning.{IsMeaning, MeansWith, Explains, setup_of, MeansOver, MeansOverWith, ExplainsPlan};
 
@@ -29,8 +30,8 @@ use std::alloc::Global;
 /// # Errors
 ///
 /// In this order: 1 at any refused growth of memory; 19 where the reader fails; 18 for a script of more than 33,554,432
-/// bytes; then by lines 16 for one that is no command, 15 for a sender that isn't there, and 18 at line 1,000,001; 20
-/// where the writer fails, which has then taken a front of what the script writes.
+/// bytes; then by lines 16 for one that is no command or names a device that isn't there, 15 for a sender that isn't
+/// there, and 18 at line 1,000,001; 20 where the writer fails, which has then taken a front of what the script writes.
 pub fn run_script<R: Source, W: Sink>(
     alloc: Global,
     reader: &mut R,
@@ -55,7 +56,7 @@ pub fn run_script<R: Source, W: Sink>(
     Ok(())
 }
 
-/// The same, with the same faults. Answers what was done, with the log of all visits.
+/// The same, with the same faults. Answers what was done, with the log of each device.
 pub fn run_plan<R: Source, W: Sink>(
     alloc: Global,
     reader: &mut R,
@@ -63,7 +64,7 @@ pub fn run_plan<R: Source, W: Sink>(
     plan: &Plan,
 ) -> Result<Past, Fault>
     ensures written { IfOk result (λ past. IfSome (R.Source.remaining reader.old) (λ script.
-        (text : _) × MeansOverWith plan.now script text past.log.items × Appends (W.Sink.taken writer.old) (W.Sink.taken writer.new) text)) }
+        (text : _) × MeansOverWith plan.now script text (lists_of past.logs.items) × Appends (W.Sink.taken writer.old) (W.Sink.taken writer.new) text)) }
     ensures front { IsErrOf result Fault.Write → IfSome (R.Source.remaining reader.old) (λ script.
         (text : _) × MeansOver plan.now script text × AppendsFront (W.Sink.taken writer.old) (W.Sink.taken writer.new) text) }
     ensures nothing { IfErr result (λ fault. fault ≢ Write → Keeps (W.Sink.taken writer.old) (W.Sink.taken writer.new)) }
@@ -72,41 +73,52 @@ pub fn run_plan<R: Source, W: Sink>(
     ensures write_failures { W.Sink.failures writer.new ≡ write_failures result (W.Sink.failures writer.old) }
     ensures limit { Takes (most_bytes + 1) (R.Source.remaining reader.old) (R.Source.remaining reader.new) }
 {
-    // A plan has a device.
-    let _devices = plan.devices();
-    let tree = plan.tree(alloc, 0)?;
-    run_parts(alloc, reader, writer, tree, plan.queues(), plan.senders())
+    let trees = trees_of(alloc, plan)?;
+    run_parts(alloc, reader, writer, trees, plan.queues(), plan.senders())
 }
 
-/// The same over the tree, the queues and the senders of a plan, with the same faults.
+/// The tree of each device of a plan. Fault 1 where memory is refused.
+fn trees_of(alloc: Global, plan: &Plan) -> Result<Vec<Tree>, Fault>
+    ensures trees { IfOk result (λ trees. AreTreesOf plan.now trees.items) }
+    ensures each { IfOk result (λ trees. AllByRecursion CanStand trees.items) }
+    ensures some { IfOk result (λ trees. 1 ≤ length trees.items) }
+    ensures few { IfOk result (λ trees. length trees.items ≤ most_elements) }
+    ensures fault { IsOkUnless result Memory }
+{
+    let mut trees = Vec::new(alloc);
+    for device in 0..plan.devices() {
+        trees.push(plan.tree(alloc, device)?)?;
+    }
+    Ok(trees)
+}
+
+/// The same over the trees, the queues and the senders of a plan, with the same faults.
 fn run_parts<R: Source, W: Sink>(
     alloc: Global,
     reader: &mut R,
     writer: &mut W,
-    tree: Tree,
+    trees: Vec<Tree>,
     queues: &[QueueSpec],
     senders: &[SenderSpec],
 ) -> Result<Past, Fault>
-    requires distinct { leaves_distinct tree ≡ true }
-    requires fits { 1 + elements (root tree) ≤ most_elements }
+    requires trees { AllByRecursion CanStand trees.items }
     requires capacities { AllByRecursion HasCapacity (map queued queues.now) }
-    requires rising { AreRising (map number_of senders.now) }
-    requires wired { AllByRecursion (SendsWithin (length (map queued queues.now))) senders.now }
+    requires whole { IsWhole (setup_of trees.items (map queued queues.now) senders.now) }
     ensures written { IfOk result (λ past. IfSome (R.Source.remaining reader.old) (λ script.
-        (text : _) × MeansWith (setup_of tree (map queued queues.now) senders.now) script text past.log.items × Appends (W.Sink.taken writer.old) (W.Sink.taken writer.new) text)) }
+        (text : _) × MeansWith (setup_of trees.items (map queued queues.now) senders.now) script text (lists_of past.logs.items) × Appends (W.Sink.taken writer.old) (W.Sink.taken writer.new) text)) }
     ensures front { IsErrOf result Fault.Write → IfSome (R.Source.remaining reader.old) (λ script.
-        (text : _) × IsMeaning (setup_of tree (map queued queues.now) senders.now) script text × AppendsFront (W.Sink.taken writer.old) (W.Sink.taken writer.new) text) }
+        (text : _) × IsMeaning (setup_of trees.items (map queued queues.now) senders.now) script text × AppendsFront (W.Sink.taken writer.old) (W.Sink.taken writer.new) text) }
     ensures nothing { IfErr result (λ fault. fault ≢ Write → Keeps (W.Sink.taken writer.old) (W.Sink.taken writer.new)) }
-    ensures fault { IfErr result (Explains (setup_of tree (map queued queues.now) senders.now) (R.Source.remaining reader.old)) }
+    ensures fault { IfErr result (Explains (setup_of trees.items (map queued queues.now) senders.now) (R.Source.remaining reader.old)) }
     ensures read_failures { R.Source.failures reader.new ≡ read_failures result (R.Source.failures reader.old) }
     ensures write_failures { W.Sink.failures writer.new ≡ write_failures result (W.Sink.failures writer.old) }
     ensures limit { Takes (most_bytes + 1) (R.Source.remaining reader.old) (R.Source.remaining reader.new) }
 {
-    let router = Router::new(alloc, tree, queues, senders)?;
+    let router = Router::new(alloc, trees, queues, senders)?;
     let text = read_up_to(alloc, reader, MAX_BYTES + 1)?;
-    let script = read_script(alloc, &router.tallies, &text)?;
+    let script = read_script(alloc, &router.tallies, router.devices.len(), &text)?;
     let_go(text);
-    let answer = answer_script(router, script)?;
+    let answer = answer_script(alloc, router, script)?;
     write_answer(&answer, writer)?;
     Ok(answer.past)
 }

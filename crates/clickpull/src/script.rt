@@ -16,8 +16,8 @@ const MAX_MOMENT: u64 = (1 << 40) - 1;
 pub enum Command {
     /// The sender offers its next packet, of this length, to its queue.
     Send { sender: u16, length: u16 },
-    /// One pull, at this moment in ticks.
-    Pull { moment: u64 },
+    /// One pull of a device, at this moment in ticks.
+    Pull { device: u16, moment: u64 },
 }
 
 /// What a line of a script says.
@@ -64,7 +64,7 @@ impl Line {
         ensures { IfSome result (λ r. (lines_of (codes "pull " ++ text.now) ≡ r.0 ∷ lines_of r.1.now) × (length r.1.now < length text.now)) }
     {
         let (moment, rest) = number_before(text, b'\n', 0, MAX_MOMENT)?;
-        Some((Line::Command(Command::Pull { moment }), rest))
+        Some((Line::Command(Command::Pull { device: 0, moment }), rest))
     }
 
     /// The line `send S L` of what follows its word and a space, where one space and a line feed are all else that it has, and what
@@ -102,14 +102,28 @@ impl Line {
         Line::Malformed
     }
 
-    /// The line `pull M`, of what follows its word.
+    /// The line `pull M` or `pull M D`, of what follows its word.
     fn pull(text: &[u8]) -> Line
         ensures { result ≡ line_of_fields (codes "pull" ∷ fields text.now) }
     {
-        match Line::only_moment(text) {
-            Some(moment) => Line::Command(Command::Pull { moment }),
-            None => Line::Malformed,
+        let Some((moment, rest)) = first_number(text, 0, MAX_MOMENT) else {
+            return Line::Malformed;
+        };
+        let (device, _) = first_field(rest);
+        if device.is_empty() {
+            return Line::Command(Command::Pull { device: 0, moment });
         }
+        let Some((device, rest)) = first_number(rest, 0, 65_535) else {
+            return Line::Malformed;
+        };
+        let (more, _) = first_field(rest);
+        if !more.is_empty() {
+            return Line::Malformed;
+        }
+        Line::Command(Command::Pull {
+            device: device as u16,
+            moment,
+        })
     }
 
     /// The line `drain M`, of what follows its word.

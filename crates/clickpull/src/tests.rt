@@ -3,6 +3,7 @@
 mod closing;
 mod command;
 mod deficit;
+mod devices;
 mod examples;
 mod failures;
 mod fault_lines;
@@ -11,6 +12,7 @@ mod in_order;
 mod limits;
 mod queues;
 mod row;
+mod running;
 mod shaper;
 mod stride;
 mod trees;
@@ -32,7 +34,7 @@ fn answer(alloc: Global, script: &[u8]) -> Result<(Result<(), Fault>, Vec<u8>), 
 }
 
 /// Scripts, and what each writes.
-const SCRIPTS: [(&[u8], &[u8]); 6] = [
+const SCRIPTS: [(&[u8], &[u8]); 7] = [
     (b"", b""),
     (
         b"send 0 100\nsend 1 50\npull 0\npull 0\npull 0\n",
@@ -40,6 +42,11 @@ const SCRIPTS: [(&[u8], &[u8]); 6] = [
     ),
     (b"pull 1099511627775\n", b"pull 1099511627775: none\n"),
     (b"pull 0 \r\n", b"pull 0: none\n"),
+    // The one device may be named.
+    (
+        b"send 0 10\npull 3 0\npull\t2  00000 \r\n",
+        b"0#0 10 accepted\npull 3: 0#0 10\npull 2: none\n",
+    ),
     // A queue of two packets refuses the third, which takes a number all the same.
     (
         b"send 0 10\nsend 0 20\nsend 0 30\nsend 1 5\npull 1\npull 1\npull 1\nsend 0 40\n",
@@ -80,7 +87,7 @@ fn spaces_zeros_and_line_ends_may_vary(rt: HostRuntime) -> Result<(), Fail> {
 }
 
 /// Scripts whose first line is no command.
-const MALFORMED: [&[u8]; 27] = [
+const MALFORMED: [&[u8]; 32] = [
     b"pull 1099511627776\n",
     b"send 0 0\n",
     b"send 0 65536\n",
@@ -88,7 +95,12 @@ const MALFORMED: [&[u8]; 27] = [
     b"pull -1\n",
     b"pull +1\n",
     b"pull 0x1\n",
-    b"pull 1 2\n",
+    b"pull 0 65536\n",
+    b"pull 0 -1\n",
+    b"pull 0 x\n",
+    b"pull x 0\n",
+    b"pull 0 0 0\n",
+    b"pull 0 1 2\n",
     b"push 0\n",
     b"PULL 0\n",
     b"drain\n",
@@ -114,7 +126,7 @@ const MALFORMED: [&[u8]; 27] = [
 ];
 
 /// Other scripts, and why each is refused.
-const REFUSED: [(&[u8], Fault); 7] = [
+const REFUSED: [(&[u8], Fault); 11] = [
     (b"send 0 10\npull\n", Fault::BadScript { line: 2 }),
     // After a drain no line may have a field.
     (b"drain 0\npull 0\n", Fault::BadScript { line: 2 }),
@@ -125,8 +137,13 @@ const REFUSED: [(&[u8], Fault); 7] = [
         Fault::BadScript { line: 5 },
     ),
     (b"send 7 10\n", Fault::UnknownSender { sender: 7 }),
+    // There is no device but device 0.
+    (b"pull 0 1\n", Fault::BadScript { line: 1 }),
+    (b"send 0 10\npull 0 65535\n", Fault::BadScript { line: 2 }),
     // The first line that is wrong decides.
     (b"send 7 10\npull\n", Fault::UnknownSender { sender: 7 }),
+    (b"send 7 10\npull 0 1\n", Fault::UnknownSender { sender: 7 }),
+    (b"pull 0 1\nsend 7 10\n", Fault::BadScript { line: 1 }),
 ];
 
 #[test]

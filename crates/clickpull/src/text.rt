@@ -1,7 +1,7 @@
 //! The lines that a script writes. Each is put from its end to its front.
 
 ghost use Rattle.std.specs.Prelude.{◌≡◌, ◌+◌, ◌≤◌, ◌++◌, decimal, drop, length};
-ghost use Rattle.clickpull.specs.Meaning.{name_text, packet_text, outcome_text, result_text, pull_text, event_text, offered};
+ghost use Rattle.clickpull.specs.Meaning.{name_text, packet_text, outcome_text, result_text, device_text, pull_text, offer_text};
 
 use clk_packet::{Offered, Packet};
 
@@ -13,7 +13,7 @@ pub const LINE: usize = 128;
 pub fn put_offer(line: &mut [u8], packet: Packet, outcome: Offered, end: usize) -> usize
     requires room { 122 ≤ end }
     requires within { end ≤ length line.old }
-    ensures piece { drop result line.new ≡ event_text (offered packet outcome) ++ drop end line.old }
+    ensures piece { drop result line.new ≡ offer_text packet outcome ++ drop end line.old }
     ensures before { result ≤ end }
 {
     let end = put(line, b"\n", end);
@@ -21,19 +21,43 @@ pub fn put_offer(line: &mut [u8], packet: Packet, outcome: Offered, end: usize) 
     put_packet(line, packet, end)
 }
 
-/// Puts the line of a pull at the moment that was handed in, in ticks.
+/// Puts the line of a pull of a device at the moment that was handed in, in ticks, where there are several devices or one.
 #[inline(always)]
-pub fn put_pull(line: &mut [u8], moment: u64, got: Option<Packet>, end: usize) -> usize
-    requires room { 90 ≤ end }
+pub fn put_pull(
+    line: &mut [u8],
+    several: bool,
+    device: u16,
+    moment: u64,
+    got: Option<Packet>,
+    end: usize,
+) -> usize
+    requires room { 122 ≤ end }
     requires within { end ≤ length line.old }
-    ensures piece { drop result line.new ≡ pull_text moment got ++ drop end line.old }
+    ensures piece { drop result line.new ≡ pull_text several device moment got ++ drop end line.old }
     ensures before { result ≤ end }
 {
     let end = put(line, b"\n", end);
     let end = put_result(line, got, end);
     let end = put(line, b": ", end);
+    let end = put_device(line, several, device, end);
     let end = put_number(line, moment, end);
     put(line, b"pull ", end)
+}
+
+/// Puts the number of a device, where there are several.
+#[inline(always)]
+fn put_device(line: &mut [u8], several: bool, device: u16, end: usize) -> usize
+    requires room { 21 ≤ end }
+    requires within { end ≤ length line.old }
+    ensures piece { drop result line.new ≡ device_text several device ++ drop end line.old }
+    ensures near { end ≤ result + 21 }
+    ensures before { result ≤ end }
+{
+    if !several {
+        return end;
+    }
+    let end = put_number(line, u64::from(device), end);
+    put(line, b" ", end)
 }
 
 /// Puts ` accepted`, ` refused` or ` accepted evicted S#n`.

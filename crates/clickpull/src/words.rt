@@ -1,6 +1,9 @@
 //! The words of the program: its commands, what they ask for, and the help.
 
-use clap::{Arg, ArgMatches, Command, Error};
+ghost use Rattle.std.specs.Prelude.{◌≤◌};
+
+use crate::pace::{MAX_LIMIT, MAX_STEP, Pace};
+use clap::{Arg, ArgMatches, Command, Error, value_parser};
 use std::alloc::{AllocError, Global};
 
 /// What the words ask for. A file is named by its path.
@@ -19,6 +22,17 @@ pub enum Asked<'a> {
         tree: &'a str,
         /// The file of the script.
         script: &'a str,
+        /// The file that its visits are written to, if one is named.
+        visits: Option<&'a str>,
+    },
+    /// A trace over a tree.
+    Run {
+        /// The file of the tree.
+        tree: &'a str,
+        /// The file of the trace.
+        trace: &'a str,
+        /// How devices are pulled while the producers run.
+        pace: Pace,
         /// The file that its visits are written to, if one is named.
         visits: Option<&'a str>,
     },
@@ -44,6 +58,12 @@ fn asked_of<'a>(matches: &ArgMatches<'a>) -> Asked<'a> {
             script: path_of(found, SCRIPT),
             visits: found.get_str(VISITS),
         },
+        Some(("run", found)) => Asked::Run {
+            tree: path_of(found, TREE),
+            trace: path_of(found, TRACE),
+            pace: pace_of(found),
+            visits: found.get_str(VISITS),
+        },
         _ => Asked::Builtin,
     }
 }
@@ -53,14 +73,37 @@ fn path_of<'a>(matches: &ArgMatches<'a>, name: &str) -> &'a str {
     matches.get_str(name).unwrap_or_default()
 }
 
+/// The pace that two options gave.
+fn pace_of(matches: &ArgMatches<'_>) -> Pace {
+    Pace {
+        step: number_of(matches, STEP, MAX_STEP),
+        limit: number_of(matches, LIMIT, MAX_LIMIT),
+    }
+}
+
+/// The number from 1 to `most` that an option gave, or its default. clap lets no other through.
+fn number_of(matches: &ArgMatches<'_>, name: &str, most: u32) -> u32
+    requires { 1 ≤ most }
+    ensures some { 1 ≤ result }
+    ensures within { result ≤ most }
+{
+    matches.get_one(name).unwrap_or(1).clamp(1, most)
+}
+
 const TREE: &str = "TREE";
 
 const SCRIPT: &str = "SCRIPT";
 
+const TRACE: &str = "TRACE";
+
+const STEP: &str = "step";
+
+const LIMIT: &str = "limit";
+
 const VISITS: &str = "visits";
 
 const ABOUT: &str =
-    "Runs scripts of sends and pulls through queues and pull schedulers, as a Click router's link pulls them";
+    "Runs packets through queues and pull schedulers, as a Click router's link pulls them";
 
 const MORE: &str = "\
 Without a command, the script on standard input runs over a built-in tree: senders 0 and 1, each with a
@@ -70,6 +113,7 @@ Examples:
   printf 'send 0 100\\npull 0\\n' | clickpull
   clickpull check uplink.click
   clickpull script uplink.click morning.script
+  clickpull run uplink.click morning.trace
 
 Exit status:
   0  done
@@ -85,7 +129,8 @@ fn program<'a>(alloc: Global) -> Result<Command<'a>, AllocError> {
         .about(ABOUT)
         .after_help(MORE)
         .subcommand(check(alloc)?)?
-        .subcommand(script(alloc)?)
+        .subcommand(script(alloc)?)?
+        .subcommand(run(alloc)?)
 }
 
 const TREE_MEANS: &str =
@@ -106,14 +151,18 @@ fn check<'a>(alloc: Global) -> Result<Command<'a>, AllocError> {
 }
 
 const SCRIPT_MEANS: &str =
-    "A file with a command a line: 'send S L', 'pull M', or at the end 'drain M'";
+    "A file with a command a line: 'send S L', 'pull M' or 'pull M D', or at the end 'drain M'";
 
 const SCRIPT_MORE: &str = "\
 Commands of a script:
   send S L  sender S offers its next packet, of L bytes (1 to 65535), to its queue
   pull M    the link pulls at moment M, in ticks (0 to 1099511627775)
+  pull M D  pulls device D (from 0, in order of declaration) at moment M; 'pull M' pulls device 0
   drain M   the link pulls one tick apart until every packet is out, first one tick after M, or after the moment so
             far where that is later; then each sender is accounted for
+
+Of a tree with several devices the line of a pull names the device, as 'pull 3 1: none', and a drain empties them
+one after the other, each first one tick after M, or after its own moment so far where that is later.
 
 The tree is read and checked before the script is opened, and the whole script before anything is printed.
 With --visits FILE the log of its pulls is written to FILE after the answer, as CSV with a row for each visit
@@ -131,12 +180,59 @@ fn script<'a>(alloc: Global) -> Result<Command<'a>, AllocError> {
         .after_help(SCRIPT_MORE)
         .arg(file(alloc, TREE, TREE_MEANS))?
         .arg(file(alloc, SCRIPT, SCRIPT_MEANS))?
-        .arg(
-            Arg::new(alloc, VISITS)
-                .long("visits")
-                .value_name("FILE")
-                .help(VISITS_MEANS),
-        )
+        .arg(visits(alloc))
+}
+
+const TRACE_MEANS: &str = "A file with a record a line, 'S,L': sender S sends a packet of L bytes";
+
+const STEP_MEANS: &str = "Pulls each link once every N ticks while senders send: 1 to 1000";
+
+const LIMIT_MEANS: &str = "Pulls each link N times at most while senders send: 1 to 1000000";
+
+const RUN_MORE: &str = "\
+Each sender has a thread of its own, and offers its packets of the trace in order, as fast as it can. Meanwhile
+the link pulls, first at moment N of --step, until all have sent what they send or it pulled as often as --limit
+lets it. Then it pulls one tick apart until every packet is out, and each sender is accounted for.
+
+How the senders' packets mix, and which of them a full queue refuses or drops, may differ from run to run. Where
+the queues have room for all that is sent, the report is the same in each.
+
+A record of the trace has sender S (0 to 65535) send a packet of L bytes (1 to 65535). The tree is read and
+checked before the trace is opened, and the whole trace before anything is sent. With --visits FILE the log of
+the pulls is written to FILE after the report, as CSV with a row for each visit that a scheduler or the link
+made. A file that is there is overwritten.
+
+Examples:
+  clickpull run uplink.click morning.trace
+  clickpull run --step 10 --limit 100000 --visits morning.csv uplink.click morning.trace";
+
+fn run<'a>(alloc: Global) -> Result<Command<'a>, AllocError> {
+    Command::new(alloc, "run")
+        .about("Runs a trace over a tree, each sender on a thread, and accounts for each")
+        .after_help(RUN_MORE)
+        .arg(file(alloc, TREE, TREE_MEANS))?
+        .arg(file(alloc, TRACE, TRACE_MEANS))?
+        .arg(number(alloc, STEP, MAX_STEP, "1", STEP_MEANS))?
+        .arg(number(alloc, LIMIT, MAX_LIMIT, "1000", LIMIT_MEANS))?
+        .arg(visits(alloc))
+}
+
+/// The option that names a file for the visits.
+fn visits<'a>(alloc: Global) -> Arg<'a> {
+    Arg::new(alloc, VISITS)
+        .long(VISITS)
+        .value_name("FILE")
+        .help(VISITS_MEANS)
+}
+
+/// An option that is a number from 1 to `most`.
+fn number<'a>(alloc: Global, name: &'a str, most: u32, default: &'a str, help: &'a str) -> Arg<'a> {
+    Arg::new(alloc, name)
+        .long(name)
+        .value_name("N")
+        .value_parser(value_parser!(u32).range(1..=i64::from(most)))
+        .default_value(default)
+        .help(help)
 }
 
 /// A word that names a file.

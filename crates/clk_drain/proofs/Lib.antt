@@ -26,7 +26,6 @@ mod RisingSenders
 mod JoinSteps
 mod Joining
 mod ClosingSteps
-mod Built
 mod Rooms
 mod HandSteps
 mod Handing
@@ -37,3 +36,4 @@ mod PlanDevices
 mod Refused
 mod WholeRun
 mod Known
+mod WorkedMoments

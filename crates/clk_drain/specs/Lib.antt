@@ -13,3 +13,4 @@ pub mod Run
 pub mod Devices
 pub mod Laws
 pub mod Examples
+pub mod RunExamples

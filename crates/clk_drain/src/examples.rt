@@ -1,9 +1,11 @@
-//! What the definition of a settled outcome says of worked examples: which outcomes are settled, and which aren't. The function
-//! does nothing.
+//! What the definitions of a settled outcome, and of what a run comes to, say of worked examples: which outcomes are settled, which
+//! lists a run may come to, and which aren't and never. The functions do nothing.
 
 ghost use Rattle.std.specs.Prelude.{[], ◌∷◌};
 ghost use Rattle.clk_drain.specs.Outcome.{IsSettledOutcome};
 ghost use Rattle.clk_drain.specs.Examples.{sent, device_a, device_b, tallies, emitted_twice, given_twice, refused_emitted, emitted_none, asks_beside, moment_falls, below_capacity, head_held, other_held, other_emitted, packet_lost, other_evicted, packet_forgotten, tally_missing, tallies_turned, tally_twice, sender_unknown, never_sent, with_never_sent, queue_evicts, with_first_evicted, front_drop_refuses, with_last_refused, both_out, with_both, swapped_by_device, swapped_by_queue, senders_swapped, with_none_evicted, device_ab, other_gave};
+ghost use Rattle.clk_drain.specs.Moments.{HasMoments};
+ghost use Rattle.clk_drain.specs.RunExamples.{plan, wider_plan, MayComeTo, NeverComesTo, log_a, log_b, only_closing, pull_too_many, step_skipped, closing_late, closing_pauses, run_lists, device_missing, device_too_many, log_missing, emitted_missing, logs_swapped, devices_swapped, in_other_list, tally_left_out, with_pull_too_many, with_closing_late};
 
 /// Which outcomes of worked examples are settled.
 pub fn outcome_examples()
@@ -34,4 +36,31 @@ pub fn outcome_examples()
     ensures not_swapped_by_queue { ¬ (IsSettledOutcome sent (swapped_by_queue ∷ device_b ∷ []) with_both) }
     ensures not_senders_swapped { ¬ (IsSettledOutcome sent (device_a ∷ senders_swapped ∷ []) with_none_evicted) }
     ensures not_other_gave { ¬ (IsSettledOutcome sent (other_gave ∷ []) tallies) }
+{}
+
+/// Which logs have the moments of a run with a pull each three ticks and two at most.
+pub fn moment_examples()
+    ensures is_two_steps { HasMoments 3 2 log_a }
+    ensures is_step_and_closing { HasMoments 3 2 log_b }
+    ensures is_only_closing { HasMoments 3 2 only_closing }
+    ensures not_pull_too_many { ¬ (HasMoments 3 2 pull_too_many) }
+    ensures not_step_skipped { ¬ (HasMoments 3 2 step_skipped) }
+    ensures not_closing_late { ¬ (HasMoments 3 2 closing_late) }
+    ensures not_closing_pauses { ¬ (HasMoments 3 2 closing_pauses) }
+{}
+
+/// Which lists a run of a worked plan with two devices may come to.
+pub fn run_examples()
+    ensures is_run { MayComeTo plan run_lists }
+    ensures not_of_wider_plan { NeverComesTo wider_plan run_lists }
+    ensures not_device_missing { NeverComesTo plan device_missing }
+    ensures not_device_too_many { NeverComesTo plan device_too_many }
+    ensures not_log_missing { NeverComesTo plan log_missing }
+    ensures not_emitted_missing { NeverComesTo plan emitted_missing }
+    ensures not_logs_swapped { NeverComesTo plan logs_swapped }
+    ensures not_devices_swapped { NeverComesTo plan devices_swapped }
+    ensures not_in_other_list { NeverComesTo plan in_other_list }
+    ensures not_tally_missing { NeverComesTo plan tally_left_out }
+    ensures not_pull_too_many { NeverComesTo plan with_pull_too_many }
+    ensures not_closing_late { NeverComesTo plan with_closing_late }
 {}

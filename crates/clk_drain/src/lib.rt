@@ -11,12 +11,10 @@ mod line;
 mod lines;
 mod outcome;
 mod running;
-#[cfg(test)]
-mod tests;
 
 pub use closing::close_and_drain;
 pub use drained::Drained;
-pub use examples::outcome_examples;
+pub use examples::{moment_examples, outcome_examples, run_examples};
 pub use gate::{Free, Gate};
 pub use laws::taps_take_what_leaves_give;
 pub use line::Line;

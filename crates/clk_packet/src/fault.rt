@@ -60,12 +60,12 @@ pub enum Fault {
     /// No device is declared.
     #[error("fault 11: NoDevice")]
     NoDevice,
-    /// The device at this byte is declared after another.
+    /// The device at this byte is declared after another. Not answered any more: a text may have several devices.
     #[error("fault 12: ManyDevices {offset}")]
     ManyDevices {
         offset: u32,
     },
-    /// The outputs from the element at this byte don't lead to the device.
+    /// The outputs from the element at this byte don't lead to a device.
     #[error("fault 13: NotATree {offset}")]
     NotATree {
         offset: u32,

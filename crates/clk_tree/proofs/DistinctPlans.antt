@@ -6,7 +6,7 @@ use Rattle.std.specs.Option.{option_or, option_map}
 use Rattle.std.specs.List.{AllByRecursion, range_with_len, cons_option}
 use Rattle.std.proofs.lemmas.Bool.{cases_eq, and_parts, or_parts, not-false, false≢true, both_ways, ltb-false}
 use Rattle.std.proofs.lemmas.Option.{same_Some}
-use Rattle.clk_packet.specs.declared.fault.Fault.TheVariants.{BadPort, PortTwice, PortMissing, NoDevice, ManyDevices, NotATree, TooLarge}
+use Rattle.clk_packet.specs.declared.fault.Fault.TheVariants.{BadPort, PortTwice, PortMissing, NoDevice, NotATree, TooLarge}
 use Rattle.clk_sched.specs.Limits.{most_elements}
 use Rattle.clk_sched.specs.Session as session
 use Rattle.clk_sched.specs.Tree.{Tree, root, are_distinct, leaves_distinct}
@@ -19,7 +19,7 @@ use Rattle.clk_tree.specs.Classes.{Class, role_of}
 use Rattle.clk_tree.specs.Source.{Element, Wire}
 use Rattle.clk_tree.specs.Declarations.{first_after, fails_at, class_of}
 use Rattle.clk_tree.specs.Ports as ports
-use Rattle.clk_tree.specs.Ports.{role_at, uses_output, uses_input, all_connected, inputs_of, output_connected, bad_port, port_twice, port_missing, port_missing_from, has_device, many_devices, not_a_tree, next}
+use Rattle.clk_tree.specs.Ports.{role_at, uses_output, uses_input, all_connected, inputs_of, output_connected, bad_port, port_twice, port_missing, port_missing_from, has_device, not_a_tree, next}
 use Rattle.clk_tree.specs.Size.{too_large, some_too_large}
 use Rattle.clk_tree.specs.Faults as faults
 use Rattle.clk_tree.specs.Faults.{nodes_of, links_of, naming_fault, port_fault, shape_fault, nodes_fault, fault_of}
@@ -375,8 +375,7 @@ some-not false x e = refl
 
 few-nodes : (nodes : List Node) (links : List Link) → shape_fault nodes links ≡ None → length nodes ≤ most_elements
 few-nodes nodes links none =
-    let devices = (or-none (if has_device nodes then None else Some NoDevice) _ none).1 in
-    let shape = (or-none (option_map ManyDevices (many_devices nodes)) _ devices).1 in
+    let shape = (or-none (if has_device nodes then None else Some NoDevice) _ none).1 in
     let size = (or-none (option_map NotATree (not_a_tree nodes links)) _ shape).1 in
     let tests = or_parts (nat_lt most_elements (length nodes)) (some_too_large 0 nodes nodes links) (some-not (too_large nodes links) TooLarge size) in
     ltb-false most_elements (length nodes) tests.0

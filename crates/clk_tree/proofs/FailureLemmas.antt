@@ -1,12 +1,12 @@
 -- The first failure of a list, one member after another.
-use Rattle.std.proofs.Common.{◌≡◌, ℕ, ◌<◌, zero, suc, false, ◌&&◌, List, [], ◌∷◌, length, get_or, Option, Some, refl, sym, ap, arith}
+use Rattle.std.proofs.Common.{◌≡◌, ℕ, ◌<◌, zero, suc, List, [], ◌∷◌, length, get_or, Option, refl, sym, ap, arith}
 use Rattle.std.specs.Option.{option_or}
 use Rattle.std.specs.List.{AllByRecursion}
 use Rattle.clk_tree.specs.declared.node.Node.{Node}
 use Rattle.clk_tree.specs.declared.node.Link.{Link}
-use Rattle.clk_tree.specs.Declarations.{first_after, fails_at}
-use Rattle.clk_tree.specs.Ports.{has_device, is_device, bad_port, wrong_kind, many_devices}
-use Rattle.clk_tree.specs.Checks.{first_of, bad_link, mixed_link, devices_after}
+use Rattle.clk_tree.specs.Declarations.{first_after}
+use Rattle.clk_tree.specs.Ports.{bad_port, wrong_kind}
+use Rattle.clk_tree.specs.Checks.{first_of, bad_link, mixed_link}
 
 -- a failure that doesn't depend on what came before
 pub first-of : {A : Type 0} (fails : A → Option ℕ) (earlier xs : List A) → first_after (λ e x. fails x) earlier xs ≡ first_of fails xs
@@ -18,13 +18,6 @@ bad-port-first nodes links = sym (first-of (bad_link nodes) [] links)
 
 pub wrong-kind-first : (nodes : List Node) (links : List Link) → first_of (mixed_link nodes) links ≡ wrong_kind nodes links
 wrong-kind-first nodes links = sym (first-of (mixed_link nodes) [] links)
-
-pub devices-after : (earlier nodes : List Node) → first_after (λ e (n : Node). fails_at (is_device (Some n.role) && has_device e) n.place) earlier nodes ≡ devices_after (has_device earlier) nodes
-devices-after earlier [] = refl
-devices-after earlier (n ∷ nodes) = ap (option_or (fails_at (is_device (Some n.role) && has_device earlier) n.place)) (devices-after (n ∷ earlier) nodes)
-
-pub many-devices-first : (nodes : List Node) → devices_after false nodes ≡ many_devices nodes
-many-devices-first nodes = sym (devices-after [] nodes)
 
 -- what holds of all holds of the one at a place
 pub all-at : {A : Type 0} (P : A → Type 0) (xs : List A) (i : ℕ) (d : A) → i < length xs → AllByRecursion P xs → P (get_or xs i d)

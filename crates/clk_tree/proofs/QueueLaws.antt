@@ -1,5 +1,5 @@
 -- A plan has no more queues than elements, and the senders of each queue have rising numbers.
-use Rattle.std.proofs.Common.{◌≡◌, ℕ, ◌+◌, ◌<◌, ◌≤◌, ◌==◌, Bool, true, false, if◌then◌else◌, List, [], ◌∷◌, length, map, take, filter, suc, arith}
+use Rattle.std.proofs.Common.{ℕ, ◌+◌, ◌<◌, ◌≤◌, ◌==◌, Bool, true, false, if◌then◌else◌, List, [], ◌∷◌, length, map, take, filter, suc, arith}
 use Rattle.std.specs.List.{AllByRecursion, cons_option}
 use Rattle.clk_sched.specs.Limits.{most_elements}
 use Rattle.clk_tree.specs.declared.plan.parts.SenderSpec.{SenderSpec}

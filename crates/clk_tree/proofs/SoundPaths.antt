@@ -4,13 +4,13 @@ use Rattle.std.proofs.Common.{◌≡◌, ℕ, ◌+◌, ◌<◌, ◌≤◌, ◌==
 use Rattle.std.specs.List.{AllByRecursion}
 use Rattle.std.proofs.lemmas.Bool.{and_parts, false≢true, cases_lt, cases_eq}
 use Rattle.clk_packet.specs.declared.fault.Fault.{Fault}
-use Rattle.clk_packet.specs.declared.fault.Fault.TheVariants.{BadPort, PortTwice, PortMissing, WrongKind, NoDevice, ManyDevices, NotATree, TooLarge}
+use Rattle.clk_packet.specs.declared.fault.Fault.TheVariants.{BadPort, PortTwice, PortMissing, WrongKind, NoDevice, NotATree, TooLarge}
 use Rattle.clk_sched.specs.Limits.{most_elements, most_levels}
 use Rattle.clk_tree.specs.declared.class.Role.{Role}
 use Rattle.clk_tree.specs.declared.class.Role.TheVariants as role
 use Rattle.clk_tree.specs.declared.node.Node.{Node}
 use Rattle.clk_tree.specs.declared.node.Link.{Link}
-use Rattle.clk_tree.specs.Ports.{role_at, is_source, is_queue, is_device, is_scheduler, has_output, uses_input, inputs_of, all_connected, next, follow, leads, bad_port, port_twice, port_missing, wrong_kind, has_device, many_devices, not_a_tree}
+use Rattle.clk_tree.specs.Ports.{role_at, is_source, is_queue, is_device, is_scheduler, has_output, uses_input, inputs_of, all_connected, next, follow, leads, bad_port, port_twice, port_missing, wrong_kind, has_device, not_a_tree}
 use Rattle.clk_tree.specs.Size.{levels_from, some_too_large, too_large}
 use Rattle.clk_tree.specs.Faults.{port_fault, shape_fault, nodes_fault}
 use Rattle.clk_tree.specs.Plan.{source_at}
@@ -38,7 +38,6 @@ pub record AreFaultless (nodes : List Node) (links : List Link) : Type 0 where
   pub missing : port_missing nodes links ≡ None
   pub kinds : wrong_kind nodes links ≡ None
   pub device : (if has_device nodes then None else Some NoDevice) ≡ None
-  pub devices : many_devices nodes ≡ None
   pub tree : not_a_tree nodes links ≡ None
   pub size : (if too_large nodes links then Some TooLarge else None) ≡ None
 
@@ -49,15 +48,13 @@ each-check nodes links e =
     let twice = neither (option_map PortTwice (port_twice nodes links)) _ ports.1 in
     let missing = neither (option_map PortMissing (port_missing nodes links)) _ twice.1 in
     let devices = neither (if has_device nodes then None else Some NoDevice) _ all.1 in
-    let many = neither (option_map ManyDevices (many_devices nodes)) _ devices.1 in
-    let trees = neither (option_map NotATree (not_a_tree nodes links)) _ many.1 in
+    let trees = neither (option_map NotATree (not_a_tree nodes links)) _ devices.1 in
     record {
       ports = none-of BadPort (bad_port nodes links) ports.0;
       twice = none-of PortTwice (port_twice nodes links) twice.0;
       missing = none-of PortMissing (port_missing nodes links) missing.0;
       kinds = none-of WrongKind (wrong_kind nodes links) missing.1;
       device = devices.0;
-      devices = none-of ManyDevices (many_devices nodes) many.0;
       tree = none-of NotATree (not_a_tree nodes links) trees.0;
       size = trees.1;
     }

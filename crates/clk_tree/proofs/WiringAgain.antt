@@ -1,16 +1,16 @@
 -- Connections in another order, and elements and connections at other places, have no fault where these have none.
 use Rattle.std.proofs.Common.{◌≡◌, if◌then◌else◌, List, Some, None, option_map, ap, ◌∙◌}
-use Rattle.clk_packet.specs.declared.fault.Fault.TheVariants.{BadPort, PortTwice, PortMissing, WrongKind, NoDevice, ManyDevices, NotATree, TooLarge}
+use Rattle.clk_packet.specs.declared.fault.Fault.TheVariants.{BadPort, PortTwice, PortMissing, WrongKind, NoDevice, NotATree, TooLarge}
 use Rattle.clk_tree.specs.declared.node.Node.{Node}
 use Rattle.clk_tree.specs.declared.node.Link.{Link}
 use Rattle.clk_tree.specs.Source.{Element, Wire}
-use Rattle.clk_tree.specs.Ports.{bad_port, port_twice, port_missing, has_device, many_devices, not_a_tree}
+use Rattle.clk_tree.specs.Ports.{bad_port, port_twice, port_missing, has_device, not_a_tree}
 use Rattle.clk_tree.specs.Faults.{nodes_of, links_of, naming_fault, port_fault, shape_fault, nodes_fault, fault_of}
 use Rattle.clk_tree.proofs.SoundChecks.{neither}
 use Rattle.clk_tree.proofs.SoundPaths.{AreFaultless, each-check}
 use Rattle.clk_tree.proofs.SameWiring.{IsRewired, AreSameNodes}
 use Rattle.clk_tree.proofs.WiringAgainPorts.{both-none, links-right, none-twice, none-missing}
-use Rattle.clk_tree.proofs.WiringAgainShape.{same-device, one-device, is-tree, same-large}
+use Rattle.clk_tree.proofs.WiringAgainShape.{same-device, is-tree, same-large}
 
 every-check : (nodes : List Node) (links : List Link) → AreFaultless nodes links → nodes_fault nodes links ≡ None
 every-check nodes links all =
@@ -19,8 +19,7 @@ every-check nodes links all =
     (both-none (option_map PortTwice (port_twice nodes links)) _ (ap (option_map PortTwice) all.twice)
     (both-none (option_map PortMissing (port_missing nodes links)) _ (ap (option_map PortMissing) all.missing) (ap (option_map WrongKind) all.kinds))))
     (both-none (if has_device nodes then None else Some NoDevice) _ all.device
-    (both-none (option_map ManyDevices (many_devices nodes)) _ (ap (option_map ManyDevices) all.devices)
-    (both-none (option_map NotATree (not_a_tree nodes links)) _ (ap (option_map NotATree) all.tree) all.size)))
+    (both-none (option_map NotATree (not_a_tree nodes links)) _ (ap (option_map NotATree) all.tree) all.size))
 
 pub rewired-faultless : (nodes others : List Node) (links rewired : List Link) → AreSameNodes nodes others → IsRewired links rewired → nodes_fault nodes links ≡ None
     → nodes_fault others rewired ≡ None
@@ -33,7 +32,6 @@ rewired-faultless nodes others links rewired same is none =
       missing = none-missing links rewired is 0 nodes others same all.missing;
       kinds = right.1;
       device = ap (λ b. if b then None else Some NoDevice) (same-device nodes others same) ∙ all.device;
-      devices = one-device nodes others same all.devices;
       tree = is-tree links rewired is nodes others same 0 nodes others same all.tree;
       size = ap (λ b. if b then Some TooLarge else None) (same-large links rewired is nodes others same) ∙ all.size;
     })

@@ -1,13 +1,11 @@
 -- Connections in another order, and elements at other places, pass the checks of the tree and of sizes.
-use Rattle.std.proofs.Common.{◌≡◌, ℕ, ◌+◌, ◌&&◌, ◌||◌, nat_lt, zero, suc, Bool, false, not, if◌then◌else◌, List, [], ◌∷◌, length, Some, None, refl, sym, ap, ap₂, ◌∙◌}
+use Rattle.std.proofs.Common.{◌≡◌, ℕ, ◌+◌, ◌&&◌, ◌||◌, nat_lt, zero, suc, not, if◌then◌else◌, List, [], ◌∷◌, length, Some, None, refl, ap, ap₂, ◌∙◌}
 use Rattle.clk_sched.specs.Limits.{most_inputs, most_levels, most_elements}
 use Rattle.clk_tree.specs.declared.node.Node.{Node}
 use Rattle.clk_tree.specs.declared.node.Link.{Link}
 use Rattle.clk_tree.specs.Declarations.{fails_at}
-use Rattle.clk_tree.specs.Ports.{role_at, is_device, is_scheduler, inputs_of, has_device, many_devices, next, follow, leads, not_a_tree_from}
+use Rattle.clk_tree.specs.Ports.{role_at, is_device, is_scheduler, inputs_of, has_device, next, follow, leads, not_a_tree_from}
 use Rattle.clk_tree.specs.Size.{levels_from, is_too_large, some_too_large, too_large}
-use Rattle.clk_tree.specs.Checks.{devices_after}
-use Rattle.clk_tree.proofs.FailureLemmas.{many-devices-first}
 use Rattle.clk_tree.proofs.SoundChecks.{neither, fails-not}
 use Rattle.clk_tree.proofs.SameWiring.{IsRewired, AreSameNodes}
 use Rattle.clk_tree.proofs.WiringAgainTests.{same-next}
@@ -19,7 +17,7 @@ same-length [] (o ∷ others) same = absurd (cc)
 same-length (n ∷ nodes) [] same = absurd (cc)
 same-length (n ∷ nodes) (o ∷ others) same = ap suc (same-length nodes others (first-roles n o nodes others same).1)
 
--- One device is declared.
+-- A device is declared.
 pub same-device : (nodes others : List Node) → AreSameNodes nodes others → has_device others ≡ has_device nodes
 same-device [] [] same = refl
 same-device [] (o ∷ others) same = absurd (cc)
@@ -27,20 +25,6 @@ same-device (n ∷ nodes) [] same = absurd (cc)
 same-device (n ∷ nodes) (o ∷ others) same =
     let roles = first-roles n o nodes others same in
     ap₂ (λ r b. is_device (Some r) || b) roles.0 (same-device nodes others roles.1)
-
-one-after : (found : Bool) (nodes others : List Node) → AreSameNodes nodes others → devices_after found nodes ≡ None → devices_after found others ≡ None
-one-after found [] [] same none = refl
-one-after found [] (o ∷ others) same none = absurd (cc)
-one-after found (n ∷ nodes) [] same none = absurd (cc)
-one-after found (n ∷ nodes) (o ∷ others) same none =
-    let roles = first-roles n o nodes others same in
-    let parts = neither (fails_at (is_device (Some n.role) && found) n.place) (devices_after (is_device (Some n.role) || found) nodes) none in
-    both-none (fails_at (is_device (Some o.role) && found) o.place) (devices_after (is_device (Some o.role) || found) others)
-    (passes-at (is_device (Some o.role) && found) o.place (ap (λ r. is_device (Some r) && found) roles.0 ∙ fails-not (is_device (Some n.role) && found) n.place parts.0))
-    (ap (λ r. devices_after (is_device (Some r) || found) others) roles.0 ∙ one-after (is_device (Some n.role) || found) nodes others roles.1 parts.1)
-
-pub one-device : (nodes others : List Node) → AreSameNodes nodes others → many_devices nodes ≡ None → many_devices others ≡ None
-one-device nodes others same none = sym (many-devices-first others) ∙ one-after false nodes others same (many-devices-first nodes ∙ none)
 
 module _ (links rewired : List Link) (is : IsRewired links rewired) where
   same-follow : (n i : ℕ) → follow rewired n i ≡ follow links n i

@@ -1,5 +1,5 @@
--- The checks of ports and of the tree as the code makes them: what they find at one connection or element, and their tables.
-use Rattle.std.specs.Prelude.{ℕ, ◌+◌, ◌<◌, ◌≤◌, ◌≡◌, ◌==◌, List, [], ◌∷◌, length, get_or, max, Bool, true, false, not, ◌&&◌, ◌||◌, if◌then◌else◌, Option, Some, None}
+-- The checks of ports and of trees as the code makes them: what they find at one connection or element, and their tables.
+use Rattle.std.specs.Prelude.{ℕ, ◌+◌, ◌<◌, ◌≤◌, ◌≡◌, ◌==◌, List, [], ◌∷◌, length, get_or, max, Bool, true, false, not, ◌&&◌, if◌then◌else◌, Option, None}
 use Rattle.std.specs.Option.{option_or, is_some}
 use Rattle.std.specs.List.{AllByRecursion}
 use Rattle.clk_tree.specs.declared.class.Role.{Role}
@@ -11,7 +11,7 @@ use Rattle.clk_tree.specs.declared.tables.Graph.{Graph}
 use Rattle.clk_tree.specs.Limits.{most_bytes}
 use Rattle.clk_tree.specs.Within.{IsLinkWithin}
 use Rattle.clk_tree.specs.Declarations.{fails_at}
-use Rattle.clk_tree.specs.Ports.{role_at, target, has_output, has_input, is_source, is_queue, is_device, differ, inputs_used, inputs_of, output_connected, all_connected, follow}
+use Rattle.clk_tree.specs.Ports.{role_at, target, has_output, has_input, is_source, is_queue, differ, inputs_used, inputs_of, output_connected, all_connected, follow}
 
 -- the first failure among some, each of which fails or not by itself
 abbrev pub first_of : {A : Type 0} → (A → Option ℕ) → List A → Option ℕ
@@ -24,11 +24,6 @@ bad_link nodes c =
 
 abbrev pub mixed_link : List Node → Link → Option ℕ
 mixed_link nodes c = fails_at (differ (is_source (role_at nodes c.from)) (is_queue (role_at nodes c.to))) c.from_place
-
--- the first device among some, where there was one before, and else the second
-abbrev pub devices_after : Bool → List Node → Option ℕ
-devices_after found [] = None
-devices_after found (n ∷ more) = option_or (fails_at (is_device (Some n.role) && found) n.place) (devices_after (is_device (Some n.role) || found) more)
 
 -- where a connection uses a port that was used, by what tables say of outputs and inputs
 abbrev pub again : List Node → List Bool → (ℕ → ℕ → Bool) → Link → Option ℕ

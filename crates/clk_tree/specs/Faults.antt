@@ -4,7 +4,7 @@ use Rattle.std.specs.Option.{option_or, option_map}
 use Rattle.std.specs.List.{filter_map, position_or_len}
 use Rattle.std.specs.Str.{bytes_eq}
 use Rattle.clk_packet.specs.declared.fault.Fault.{Fault}
-use Rattle.clk_packet.specs.declared.fault.Fault.TheVariants.{BadText, UnknownClass, BadArgument, NameTwice, UnknownName, BadPort, PortTwice, PortMissing, WrongKind, NoDevice, ManyDevices, NotATree, TooLarge}
+use Rattle.clk_packet.specs.declared.fault.Fault.TheVariants.{BadText, UnknownClass, BadArgument, NameTwice, UnknownName, BadPort, PortTwice, PortMissing, WrongKind, NoDevice, NotATree, TooLarge}
 use Rattle.clk_tree.specs.declared.token.Token.{Token}
 use Rattle.clk_tree.specs.declared.node.Node.{Node}
 use Rattle.clk_tree.specs.declared.node.Link.{Link}
@@ -14,7 +14,7 @@ use Rattle.clk_tree.specs.Diagram.{start, wrong_from}
 use Rattle.clk_tree.specs.Classes.{Class, role_of}
 use Rattle.clk_tree.specs.Source.{Element, Wire}
 use Rattle.clk_tree.specs.Declarations.{class_of, name_twice, unknown_class, bad_argument, unknown_name}
-use Rattle.clk_tree.specs.Ports.{bad_port, port_twice, port_missing, wrong_kind, has_device, many_devices, not_a_tree}
+use Rattle.clk_tree.specs.Ports.{bad_port, port_twice, port_missing, wrong_kind, has_device, not_a_tree}
 use Rattle.clk_tree.specs.Size.{too_large}
 
 -- where a text is wrong that ends here, by what is left from the first token on that can't stand where it does
@@ -61,7 +61,8 @@ naming_fault elements wires =
     (option_or (option_map BadArgument (bad_argument elements))
     (option_map UnknownName (unknown_name elements wires))))
 
--- 7 to 13, and 18: what is wrong with ports, the tree and its size
+-- 7 to 10, and 11, 13 and 18: what is wrong with ports, and with devices, trees and sizes. Fault 12 was that of a second device, and is
+-- not used any more.
 abbrev pub port_fault : List Node → List Link → Option Fault
 port_fault nodes links =
     option_or (option_map BadPort (bad_port nodes links))
@@ -72,9 +73,8 @@ port_fault nodes links =
 abbrev pub shape_fault : List Node → List Link → Option Fault
 shape_fault nodes links =
     option_or (if has_device nodes then None else Some NoDevice)
-    (option_or (option_map ManyDevices (many_devices nodes))
     (option_or (option_map NotATree (not_a_tree nodes links))
-    (if too_large nodes links then Some TooLarge else None)))
+    (if too_large nodes links then Some TooLarge else None))
 
 abbrev pub nodes_fault : List Node → List Link → Option Fault
 nodes_fault nodes links = option_or (port_fault nodes links) (shape_fault nodes links)

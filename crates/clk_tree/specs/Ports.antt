@@ -1,5 +1,5 @@
--- The checks of ports and of the tree, each with the place at which it fails first (Click's rules of connections, and a tree of pull
--- outputs as this project chose it). Elements are named by their places in the list of all.
+-- The checks of ports and of trees, each with the place at which it fails first (Click's rules of connections, and trees of pull outputs
+-- as this project chose them). Elements are named by their places in the list of all.
 use Rattle.std.specs.Prelude.{ℕ, ◌+◌, List, [], ◌∷◌, length, Bool, true, false, not, ◌==◌, ◌&&◌, nat_lt, nat_le, max, if◌then◌else◌, Option, Some, None, suc, zero, slice_get}
 use Rattle.std.specs.Option.{option_or, option_map}
 use Rattle.std.specs.List.{list_any}
@@ -104,10 +104,6 @@ wrong_kind nodes links = first_failure (λ earlier (c : Link).
 -- 11: no device is declared
 abbrev pub has_device : List Node → Bool
 has_device nodes = list_any (λ (n : Node). is_device (Some n.role)) nodes
-
--- 12: a device is declared after another
-abbrev pub many_devices : List Node → Option ℕ
-many_devices nodes = first_failure (λ earlier (n : Node). fails_at (is_device (Some n.role) && has_device earlier) n.place) nodes
 
 -- where the first connection from an element leads, if one does
 abbrev pub target : ℕ → List Link → Option ℕ

@@ -6,7 +6,7 @@ ghost use Rattle.clk_tree.specs.Faults.{port_fault, shape_fault, nodes_fault};
 ghost use Rattle.clk_tree.specs.Checks.{IsTabled};
 
 use crate::ports::{bad_port, port_missing, port_twice, wrong_kind};
-use crate::shape::{has_device, many_devices, not_a_tree, too_large};
+use crate::shape::{has_device, not_a_tree, too_large};
 use crate::tables::Graph;
 use clk_packet::Fault;
 use std::alloc::Global;
@@ -33,8 +33,8 @@ fn check_ports(alloc: Global, graph: &Graph) -> Result<(), Fault>
     Ok(())
 }
 
-/// Whether all lead to one device, and not too many. Faults 11 to 13 and 18 where they don't, the first in this order, and fault 1 where
-/// memory is refused.
+/// Whether there is a device, all lead to one, and nothing is too large. Faults 11, 13 and 18 where it isn't so, the first in this order,
+/// and fault 1 where memory is refused.
 fn check_shape(alloc: Global, graph: &Graph) -> Result<(), Fault>
     requires { IsTabled graph.now }
     ensures good { OnOk result (shape_fault graph.now.nodes.now graph.now.links.now ≡ None) }
@@ -42,9 +42,6 @@ fn check_shape(alloc: Global, graph: &Graph) -> Result<(), Fault>
 {
     if !has_device(graph.nodes) {
         return Err(Fault::NoDevice);
-    }
-    if let Some(offset) = many_devices(graph.nodes) {
-        return Err(Fault::ManyDevices { offset });
     }
     if let Some(offset) = not_a_tree(alloc, graph)? {
         return Err(Fault::NotATree { offset });
@@ -55,8 +52,8 @@ fn check_shape(alloc: Global, graph: &Graph) -> Result<(), Fault>
     Ok(())
 }
 
-/// Whether elements and connections make up a tree. Faults 7 to 13 and 18 where they don't, the first in this order, and fault 1 where
-/// memory is refused.
+/// Whether elements and connections make up trees, one for each device. Faults 7 to 11, 13 and 18 where they don't, the first in this
+/// order, and fault 1 where memory is refused.
 pub fn check_graph(alloc: Global, graph: &Graph) -> Result<(), Fault>
     requires { IsTabled graph.now }
     ensures good { OnOk result (nodes_fault graph.now.nodes.now graph.now.links.now ≡ None) }

@@ -31,7 +31,7 @@ pub use parts::{QueueSpec, SenderSpec};
 use std::alloc::Global;
 use std::marker::Model;
 
-/// A tree of schedulers over queues with their senders, as a text in Click's language declares and connects it.
+/// Trees of schedulers over queues with their senders, one for each device, as a text in Click's language declares and connects them.
 #[derive(Drop)]
 pub struct Plan {
     elements: Vec<Element>,
@@ -69,13 +69,14 @@ impl Plan {
     ghost use Rattle.clk_tree.specs.Shares.{AreTreesOf, AreSharedOut};
     ghost use Rattle.clk_tree.specs.Canonical.{canonical_text};
 
-    /// Reads a tree text: the plan that it denotes, where it keeps to the grammar of Click's language, and declares and connects a tree of
-    /// schedulers over queues with senders that ends at one device.
+    /// Reads a tree text: the plan that it denotes, where it keeps to the grammar of Click's language, and declares and connects trees of
+    /// schedulers over queues with senders, each of which ends at a device of its own.
     ///
     /// # Errors
     ///
     /// Fault 1 where memory is refused; else 18 for a text of more than 1,048,576 bytes, 2 for one that breaks the grammar, and then 5, 3, 4,
-    /// 6, 7, 8, 9, 10, 11, 12, 13 and 18, the first in this order that the text has, at its first place.
+    /// 6, 7, 8, 9, 10, 11, 13 and 18, the first in this order that the text has, at its first place. A text may have several devices, so
+    /// fault 12 is never answered.
     pub fn read(alloc: Global, text: &[u8]) -> Result<Plan, Fault>
         ensures denotes { IfOk result (Denotes text.now) }
         ensures fault { IfErr result (λ fault. (fault ≡ Memory) ⊎ HasFault text.now fault) }

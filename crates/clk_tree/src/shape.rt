@@ -1,9 +1,9 @@
-//! The checks of devices, of the tree and of its size.
+//! The checks of devices, of trees and of sizes.
 
 ghost use Rattle.std.specs.Prelude.{◌≡◌, ◌<◌, ◌≤◌, length, Some, IfOk, IsOkUnless, if◌then◌else◌};
 ghost use Rattle.clk_packet.specs.declared.fault.Fault.TheVariants.{Memory};
 ghost use Rattle.clk_sched.specs.Limits.{most_elements};
-ghost use Rattle.clk_tree.specs.Ports.{is_scheduler, has_device, many_devices, not_a_tree};
+ghost use Rattle.clk_tree.specs.Ports.{is_scheduler, has_device, not_a_tree};
 ghost use Rattle.clk_tree.specs.Size.{levels, is_too_large, too_large};
 ghost use Rattle.clk_tree.specs.Checks.{IsTabled};
 
@@ -28,22 +28,6 @@ pub fn has_device(nodes: &[Node]) -> bool
     ensures { result ≡ has_device nodes.now }
 {
     nodes.iter().any(|node| node.role.is_device())
-}
-
-/// Where a device is declared after another, in bytes of the text.
-pub fn many_devices(nodes: &[Node]) -> Option<u32>
-    ensures { result ≡ many_devices nodes.now }
-{
-    let mut found = false;
-    for node in nodes {
-        if node.role.is_device() {
-            if found {
-                return Some(node.place);
-            }
-            found = true;
-        }
-    }
-    None
 }
 
 /// Where a scheduler or Shaper is declared from which the outputs don't lead to a device, in bytes of the text. Fault 1 where memory is

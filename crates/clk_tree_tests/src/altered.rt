@@ -1,7 +1,7 @@
 //! Texts that are cut off, and texts in which a byte is another.
 
 use crate::parts::told_parts;
-use crate::sound::TWO_QUEUES;
+use crate::sound::{TWO_DEVICES, TWO_QUEUES};
 use clk_sched::Session;
 use clk_tree::Plan;
 use std::alloc::{AllocError, Global};
@@ -29,13 +29,16 @@ fn assert_plan(rt: &impl Abort, alloc: Global, plan: &Plan) {
     }
 }
 
-// A text is that of a plan, or has a fault of a text.
+// A text is that of a plan, or has a fault of a text. Fault 12 is none of them.
 fn assert_plan_or_fault(rt: &impl Abort, alloc: Global, text: &[u8]) {
     match Plan::read(alloc, text) {
         Ok(plan) => assert_plan(rt, alloc, &plan),
         Err(fault) => {
             let number = fault.number();
-            assert!(rt; (number >= 2 && number <= 13) || number == 18, "{fault}");
+            assert!(rt;
+                (number >= 2 && number <= 11) || number == 13 || number == 18,
+                "{fault}"
+            );
         }
     }
 }
@@ -71,10 +74,12 @@ fn assert_bytes(rt: &impl Abort, alloc: Global, text: &[u8]) {
 fn fronts_of_a_text_are_answered(rt: HostRuntime) {
     assert_fronts(&rt, rt.alloc(), TWO_QUEUES.as_bytes());
     assert_fronts(&rt, rt.alloc(), COMMENTED.as_bytes());
+    assert_fronts(&rt, rt.alloc(), TWO_DEVICES.as_bytes());
 }
 
 #[test]
 fn texts_with_another_byte_are_answered(rt: HostRuntime) {
     assert_bytes(&rt, rt.alloc(), TWO_QUEUES.as_bytes());
     assert_bytes(&rt, rt.alloc(), COMMENTED.as_bytes());
+    assert_bytes(&rt, rt.alloc(), TWO_DEVICES.as_bytes());
 }

@@ -1,11 +1,12 @@
 //! The canonical texts of plans.
 
+use crate::sound::TWO_DEVICES;
 use clk_tree::Plan;
 use std::alloc::Global;
 use std::process::Abort;
 
 /// Texts, and the canonical texts of their plans.
-const TEXTS: [(&str, &str); 3] = [
+const TEXTS: [(&str, &str); 5] = [
     (
         "s :: Sender(0); q :: Queue; sh :: Shaper(5); d :: ToDevice(eth0); s -> q -> sh /* 5 per tick */ -> d;",
         "s :: Sender(0);
@@ -23,6 +24,33 @@ sh [0] -> [0] d;
         "q :: Queue(1000);
 d :: ToDevice(x);
 q [0] -> [0] d;
+",
+    ),
+    (
+        TWO_DEVICES,
+        "s :: Sender(0);
+t :: Sender(1);
+p :: Queue(1000);
+q :: Queue(1000);
+a :: ToDevice(x);
+b :: ToDevice(x);
+s [0] -> [0] p;
+t [0] -> [0] q;
+p [0] -> [0] a;
+q [0] -> [0] b;
+",
+    ),
+    // Connections stand in order of the devices, which are declared before and after the queues.
+    (
+        "a :: ToDevice(x); p -> b; q -> a; p, q :: Queue; s :: Sender(0); b :: ToDevice(y_2); s -> q",
+        "a :: ToDevice(x);
+p :: Queue(1000);
+q :: Queue(1000);
+s :: Sender(0);
+b :: ToDevice(y_2);
+q [0] -> [0] a;
+s [0] -> [0] q;
+p [0] -> [0] b;
 ",
     ),
 ];

@@ -2,8 +2,8 @@
 
 use crate::row::assert_answers;
 
-/// A text of each fault, and those in which more than one place could be told.
-const FAULTS: [(&str, &str); 13] = [
+/// A text of each fault, and those in which more than one place could be told. A second ToDevice is no fault.
+const FAULTS: [(&str, &str); 17] = [
     ("d :: ToDevice(x); /* cut", "fault 2: BadText 18"),
     ("q :: Que;", "fault 3: UnknownClass 5"),
     ("q :: Queue(0);", "fault 4: BadArgument 5"),
@@ -26,13 +26,26 @@ const FAULTS: [(&str, &str); 13] = [
         "fault 10: WrongKind 34",
     ),
     ("", "fault 11: NoDevice"),
+    ("a, b :: ToDevice(x); p, q :: Queue; p -> a; q -> b;", ""),
     (
-        "a, b :: ToDevice(x); p, q :: Queue; p -> a; q -> b;",
-        "fault 12: ManyDevices 3",
+        "a, b :: ToDevice(x); q :: Queue; q -> a;",
+        "fault 9: PortMissing 3",
+    ),
+    (
+        "a, b :: ToDevice(x); q :: Queue; q -> a; q -> b;",
+        "fault 8: PortTwice 41",
+    ),
+    (
+        "a, b :: ToDevice(x); q :: Queue; q -> a -> b;",
+        "fault 7: BadPort 38",
     ),
     (
         "r :: RoundRobinSched; q :: Queue; d :: ToDevice(x); q -> d; r -> r;",
         "fault 13: NotATree 0",
+    ),
+    (
+        "a, b :: ToDevice(x); p, q :: Queue; r :: RoundRobinSched; p -> a; q -> b; r -> r;",
+        "fault 13: NotATree 36",
     ),
     (
         "s :: Sender(0); q :: Queue; d :: ToDevice(x); s -> q -> d; s -> q;",

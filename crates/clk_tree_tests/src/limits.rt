@@ -104,6 +104,32 @@ fn shapers_are_64_at_most_on_a_path(rt: HostRuntime) -> Result<(), Fail> {
     Ok(())
 }
 
+/// So many trees, each a queue that leads to a device.
+fn trees(alloc: Global, count: u32) -> Result<String, AllocError> {
+    let mut text = String::new(alloc);
+    for place in 0..count {
+        write!(
+            text,
+            "q{place} :: Queue; d{place} :: ToDevice(l); q{place} -> d{place};"
+        )?;
+    }
+    Ok(text)
+}
+
+// Elements of all trees count together.
+#[test]
+fn trees_are_128_at_most(rt: HostRuntime) -> Result<(), Fail> {
+    let alloc = rt.alloc();
+    assert_answer(&rt, alloc, trees(alloc, 128)?.as_bytes(), "");
+    assert_answer(
+        &rt,
+        alloc,
+        trees(alloc, 129)?.as_bytes(),
+        "fault 18: TooLarge",
+    );
+    Ok(())
+}
+
 #[test]
 fn elements_are_256_at_most(rt: HostRuntime) -> Result<(), Fail> {
     let alloc = rt.alloc();

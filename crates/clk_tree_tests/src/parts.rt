@@ -1,17 +1,19 @@
 //! The queues and the senders of plans.
 
+use crate::sound::TWO_DEVICES;
 use clk_packet::Kind;
 use clk_tree::Plan;
 use std::alloc::{AllocError, Global};
 
 /// Texts, and the queues and senders of their plans.
-const TEXTS: [(&str, &str); 3] = [
+const TEXTS: [(&str, &str); 7] = [
     // Senders that aren't declared in order of their numbers, before and after the queues, and queues that aren't connected in order.
     (
         "t :: Sender(9); a :: FrontDropQueue(5); s :: Sender(2); b, c :: Queue; d :: ToDevice(x); p :: PrioSched;
 u :: Sender(65535); v :: Sender(0); w :: Sender(10);
 c -> p -> d; b -> [1] p; a -> [2] p; u -> a; t -> c; s -> c; v -> a; w -> c;",
-        "TailDrop or FrontDrop, capacity, device: senders
+        "devices: 1
+TailDrop or FrontDrop, capacity, device: senders
 FrontDrop 5 0: 0 65535
 TailDrop 1000 0:
 TailDrop 1000 0: 2 9 10
@@ -25,7 +27,8 @@ sender: queue
     ),
     (
         "s :: Sender(7); q :: Queue(1000000); d :: ToDevice(x); s -> q -> d;",
-        "TailDrop or FrontDrop, capacity, device: senders
+        "devices: 1
+TailDrop or FrontDrop, capacity, device: senders
 TailDrop 1000000 0: 7
 sender: queue
 7: 0
@@ -33,9 +36,55 @@ sender: queue
     ),
     (
         "d :: ToDevice(x); q -> d; q :: FrontDropQueue",
-        "TailDrop or FrontDrop, capacity, device: senders
+        "devices: 1
+TailDrop or FrontDrop, capacity, device: senders
 FrontDrop 1000 0:
 sender: queue
+",
+    ),
+    (
+        TWO_DEVICES,
+        "devices: 2
+TailDrop or FrontDrop, capacity, device: senders
+TailDrop 1000 0: 0
+TailDrop 1000 1: 1
+sender: queue
+0: 0
+1: 1
+",
+    ),
+    (
+        "a, b :: ToDevice(x); p, q :: Queue; p -> a; q -> b;",
+        "devices: 2
+TailDrop or FrontDrop, capacity, device: senders
+TailDrop 1000 0:
+TailDrop 1000 1:
+sender: queue
+",
+    ),
+    // The first sender's queue leads to the second device, on a longer path, and the other way round.
+    (
+        "s :: Sender(0); t :: Sender(1); p, q :: Queue; a, b :: ToDevice(x); h :: Shaper(1); s -> p -> h -> b; t -> q -> a;",
+        "devices: 2
+TailDrop or FrontDrop, capacity, device: senders
+TailDrop 1000 1: 0
+TailDrop 1000 0: 1
+sender: queue
+0: 0
+1: 1
+",
+    ),
+    // A device of which no queue has a sender.
+    (
+        "a, b, c :: ToDevice(x); p, q, r :: Queue; s :: Sender(5); t :: Sender(3); s -> p -> a; q -> b; t -> r -> c;",
+        "devices: 3
+TailDrop or FrontDrop, capacity, device: senders
+TailDrop 1000 0: 5
+TailDrop 1000 1:
+TailDrop 1000 2: 3
+sender: queue
+3: 2
+5: 0
 ",
     ),
 ];
@@ -48,9 +97,10 @@ fn kind_name(kind: Kind) -> &'static str {
     }
 }
 
-/// The queues of a plan by their numbers, and its senders with the numbers of their queues, each in a line.
+/// How many devices a plan has, its queues by their numbers, and its senders with the numbers of their queues, each in a line.
 pub fn told_parts(alloc: Global, plan: &Plan) -> Result<String, AllocError> {
-    let mut told = format!(in alloc; "TailDrop or FrontDrop, capacity, device: senders\n")?;
+    let mut told = format!(in alloc; "devices: {}\n", plan.devices())?;
+    told.push_str("TailDrop or FrontDrop, capacity, device: senders\n")?;
     for queue in plan.queues() {
         write!(
             told,

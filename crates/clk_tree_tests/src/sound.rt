@@ -11,9 +11,23 @@ s0 -> q0 -> p -> out;
 s1 -> q1 -> [1] p;
 ";
 
+/// Two trees, each of a sender with a queue.
+pub const TWO_DEVICES: &str =
+    "s :: Sender(0); t :: Sender(1); p, q :: Queue; a, b :: ToDevice(x); s -> p -> a; t -> q -> b;";
+
 /// Texts of trees.
-const TEXTS: [(&str, &str); 7] = [
+const TEXTS: [(&str, &str); 10] = [
     (TWO_QUEUES, ""),
+    (TWO_DEVICES, ""),
+    // Devices that are declared after their chains, and no Sender.
+    (
+        "a::ToDevice(x);p->a;q->b;p,q::Queue;b::ToDevice(x);r::FrontDropQueue;r->c;c::ToDevice(9)",
+        "",
+    ),
+    (
+        "a, b, c :: ToDevice(x); p, q, r :: Queue; h :: Shaper(1); p -> a; q -> h -> b; r -> [0] c;",
+        "",
+    ),
     (
         "s :: Sender(0); q :: Queue; sh :: Shaper(5); d :: ToDevice(eth0); s -> q -> sh /* 5 per tick */ -> d;",
         "",

@@ -1,5 +1,6 @@
 //! The trees of plans.
 
+use crate::sound::TWO_DEVICES;
 use clk_packet::Packet;
 use clk_sched::{Ask, Session};
 use clk_tree::Plan;
@@ -47,20 +48,47 @@ fn quanta_of_a_text_bound_the_closing_pulls(rt: HostRuntime) {
     assert_eq!(rt; session.bound(1), 660);
 }
 
+/// Texts, and when each queue of theirs is asked in a pull of each device, 0 where it isn't.
+const ASKED: [(&str, &[[u32; 3]]); 4] = [
+    // c, b and a.
+    (
+        "a :: Queue; s :: Sender(4); b, c :: FrontDropQueue(3); p, r :: PrioSched; d :: ToDevice(x);
+s -> b; b -> [1] p; a -> [2] p -> d; r -> p; c -> r;",
+        &[[3, 2, 1]],
+    ),
+    (TWO_DEVICES, &[[1, 0, 0], [0, 1, 0]]),
+    // The first sender's queue leads to the second device.
+    (
+        "s :: Sender(0); t :: Sender(1); p, q :: Queue; a, b :: ToDevice(x); s -> p -> b; t -> q -> a;",
+        &[[0, 1, 0], [1, 0, 0]],
+    ),
+    // r and p lead to the second device, and no sender to any.
+    (
+        "p, q, r :: Queue; h :: PrioSched; a, b :: ToDevice(x); q -> a; r -> h -> b; p -> [1] h;",
+        &[[0, 1, 0], [2, 0, 1]],
+    ),
+];
+
+/// Each device of a plan pulls queues in this order.
+fn assert_asked(rt: &impl Abort, alloc: Global, text: &str, orders: &[[u32; 3]]) {
+    let plan = Plan::read(alloc, text.as_bytes()).expect(rt, "a plan");
+    assert_eq!(rt; usize::from(plan.devices()), orders.len());
+    for device in 0..plan.devices() {
+        let tree = plan.tree(alloc, device).expect(rt, "memory");
+        let mut session = Session::new(alloc, tree).expect(rt, "a session");
+        let mut asked = Asked {
+            order: [0; 3],
+            count: 0,
+        };
+        assert_eq!(rt; session.pull(&mut asked, 0), Ok(None));
+        assert_eq!(rt; Some(&asked.order), orders.get(usize::from(device)));
+    }
+}
+
 // A queue's number is its place among the queues as they are declared, and inputs are asked as they are connected.
 #[test]
 fn queues_are_asked_by_their_numbers(rt: HostRuntime) {
-    let mut session = session(
-        &rt,
-        rt.alloc(),
-        "a :: Queue; s :: Sender(4); b, c :: FrontDropQueue(3); p, r :: PrioSched; d :: ToDevice(x);
-s -> b; b -> [1] p; a -> [2] p -> d; r -> p; c -> r;",
-    );
-    let mut asked = Asked {
-        order: [0; 3],
-        count: 0,
-    };
-    assert_eq!(rt; session.pull(&mut asked, 0), Ok(None));
-    // c, b and a.
-    assert_eq!(rt; asked.order, [3, 2, 1]);
+    for (text, orders) in &ASKED {
+        assert_asked(&rt, rt.alloc(), text, orders);
+    }
 }

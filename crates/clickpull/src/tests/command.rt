@@ -8,6 +8,7 @@ use std::process::Abort;
 use std::rt::Files;
 use std::sync::Wait;
 use std::test::Fail;
+use std::thread::Threads;
 use std::{fs, str};
 
 /// What words answer, and what they write to standard output and to standard error.
@@ -21,7 +22,7 @@ pub struct Answered {
 // What words, with a space between them, answer to the script on standard input, where standard output takes `room` bytes
 // and standard error `errors_room` before they fail.
 pub fn answer_within(
-    rt: &(impl Files + AllocGlobal + Wait),
+    rt: &(impl Files + AllocGlobal + Threads + Wait + Sync),
     words: &str,
     room: usize,
     errors_room: usize,
@@ -44,7 +45,7 @@ pub fn answer_within(
 
 // Fails unless words answer this, write this to standard output, and say nothing else.
 pub fn assert_writes(
-    rt: &(impl Files + AllocGlobal + Wait + Abort),
+    rt: &(impl Files + AllocGlobal + Threads + Wait + Sync + Abort),
     words: &str,
     outcome: Result<u8, Fault>,
     expected: &[u8],
@@ -74,9 +75,8 @@ fn no_words_run_standard_input_over_the_built_in_tree(rt: HostRuntime) {
 }
 
 /// Words that are refused, and a part of what is said of each.
-const REFUSED: [(&str, &str); 11] = [
+const REFUSED: [(&str, &str); 19] = [
     ("frob", "unrecognized subcommand 'frob'"),
-    ("run a b", "unrecognized subcommand 'run'"),
     ("check", "<TREE>"),
     ("check a b", "unexpected argument 'b' found"),
     ("check --quick a", "unexpected argument '--quick' found"),
@@ -88,6 +88,15 @@ const REFUSED: [(&str, &str); 11] = [
     ),
     ("script a b --visits", "--visits <FILE>"),
     ("check a --visits b", "unexpected argument '--visits' found"),
+    ("run", "<TREE>"),
+    ("run a", "<TRACE>"),
+    ("run a b c", "Usage: clickpull run [OPTIONS] <TREE> <TRACE>"),
+    ("run a b --step 0", "0 is not in 1..=1000"),
+    ("run a b --step 1001", "1001 is not in 1..=1000"),
+    ("run a b --step x", "invalid digit found in string"),
+    ("run a b --limit 0", "0 is not in 1..=1000000"),
+    ("run a b --limit 1000001", "1000001 is not in 1..=1000000"),
+    ("run a b --limit", "--limit <N>"),
     ("help frob", "unrecognized subcommand 'frob'"),
 ];
 
@@ -104,7 +113,7 @@ fn wrong_words_are_told_on_standard_error(rt: HostRuntime) -> Result<(), Fail> {
 }
 
 /// Words that ask for help or the version, and a part of what they get.
-const HELPED: [(&str, &str); 10] = [
+const HELPED: [(&str, &str); 13] = [
     ("--help", "Usage: clickpull [COMMAND]"),
     ("-h", "clickpull script uplink.click morning.script"),
     ("help", "Exit status:"),
@@ -121,6 +130,12 @@ const HELPED: [(&str, &str); 10] = [
         "Usage: clickpull script [OPTIONS] <TREE> <SCRIPT>",
     ),
     ("help script", "send S L"),
+    (
+        "run --help",
+        "Usage: clickpull run [OPTIONS] <TREE> <TRACE>",
+    ),
+    ("help run", "[default: 1000]"),
+    ("help script", "pull M D"),
 ];
 
 #[test]

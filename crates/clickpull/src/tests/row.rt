@@ -34,19 +34,19 @@ pub fn assert_visits(rt: &impl Abort, alloc: Global, tree: &str, script: &str, r
 }
 
 fn csv_of(alloc: Global, tree: &str, script: &str) -> Result<Vec<u8>, Fault> {
-    let logs = [log_of(alloc, tree, script)?];
+    let logs = logs_of(alloc, tree, script)?;
     let mut sink = FailingSink::new(vec![in alloc; 0; AMPLE]?);
     visits_csv(alloc, &logs, &mut sink)?;
     Ok(sink.taken().to_vec(alloc)?)
 }
 
-/// The visits that a script makes over a tree.
-pub fn log_of(alloc: Global, tree: &str, script: &str) -> Result<Vec<Visit>, Fault> {
+/// The visits that a script makes over a tree, of each device.
+pub fn logs_of(alloc: Global, tree: &str, script: &str) -> Result<Vec<Vec<Visit>>, Fault> {
     let plan = Plan::read(alloc, tree.as_bytes())?;
     let mut reader = FailingSource::new(script.as_bytes().to_vec(alloc)?, usize::MAX);
     let mut writer = FailingSink::new(vec![in alloc; 0; AMPLE]?);
     let past = run_plan(alloc, &mut reader, &mut writer, &plan)?;
-    Ok(past.log)
+    Ok(past.logs)
 }
 
 /// How a run of a script over a tree ends, and what it wrote, where neither the reader nor the writer fails.

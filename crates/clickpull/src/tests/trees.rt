@@ -118,6 +118,24 @@ pub const STRIDE_OVER_DEFICIT: &str =
     "s :: Sender(0); t :: Sender(1); q, r :: Queue; y :: DRRSched(10); x :: StrideSched(1, 1); d :: ToDevice(l);
 t -> r -> x -> d; s -> q -> y -> [1] x;";
 
+/// Two devices, each with a queue and a sender of its own.
+pub const TWO_DEVICES: &str =
+    "s :: Sender(0); t :: Sender(1); p, q :: Queue; a, b :: ToDevice(x); s -> p -> a; t -> q -> b;";
+
+/// The same where the first sender's queue goes to the second device, and the second sender's to the first.
+pub const CROSSED_DEVICES: &str =
+    "s :: Sender(0); p :: Queue; t :: Sender(1); q :: Queue; a, b :: ToDevice(x); s -> p -> b; t -> q -> a;";
+
+/// Three devices, of which the second has a queue without a sender.
+pub const THREE_DEVICES: &str =
+    "s :: Sender(0); t :: Sender(1); p, n, q :: Queue; a, b, c :: ToDevice(x);
+s -> p -> a; n -> b; t -> q -> c;";
+
+/// A FrontDropQueue of two packets, to which two senders send, at one device, and a queue of one packet at another.
+pub const FULL_AT_TWO_DEVICES: &str = "s :: Sender(7); t :: Sender(3); u :: Sender(5);
+p :: FrontDropQueue(2); q :: Queue(1); a, b :: ToDevice(x);
+s -> p -> a; u -> p; t -> q -> b;";
+
 /// A PrioSched over four, over which so many queues are spread, with a sender to the first. With the device these are seven elements
 /// more than queues.
 pub fn wide(alloc: Global, queues: u32) -> Result<String, AllocError> {

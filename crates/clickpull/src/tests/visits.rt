@@ -3,11 +3,13 @@
 use super::AMPLE;
 use super::command::{answer_within, assert_writes};
 use super::files::write;
-use super::row::log_of;
+use super::row::logs_of;
 use clk_packet::{Fault, Packet};
 use clk_sched::Visit;
 use csv::{Reader, StringRecord};
 use std::fs;
+use std::process::Abort;
+use std::rt::Files;
 use std::test::Fail;
 
 const TREE: &str = "v, b :: Queue(3); s :: Sender(4); t :: Sender(70);
@@ -55,6 +57,19 @@ fn visit_of(row: &StringRecord) -> Option<Visit> {
     })
 }
 
+/// The visits in a file of one device's.
+pub fn read_back(rt: &(impl Files + AllocGlobal + Abort), path: &str) -> Result<Vec<Visit>, Fail> {
+    let alloc = rt.alloc();
+    let text = fs::read(rt, path)?;
+    let mut visits = Vec::new(alloc);
+    for row in Reader::from_reader(alloc, text.as_slice()).records() {
+        let row = row.expect(rt, "a row");
+        assert_eq!(rt; row.len(), 9);
+        visits.push(visit_of(&row).expect(rt, "a visit"))?;
+    }
+    Ok(visits)
+}
+
 #[test]
 fn visits_are_read_back(rt: HostRuntime) -> Result<(), Fail> {
     let alloc = rt.alloc();
@@ -63,17 +78,10 @@ fn visits_are_read_back(rt: HostRuntime) -> Result<(), Fail> {
     let words = "script out/read_back.click out/read_back.script --visits out/read_back.csv";
     let answered = answer_within(&rt, words, AMPLE, AMPLE).expect(&rt, "ample memory");
     assert_eq!(rt; answered.outcome, Ok(0));
-    let text = fs::read(&rt, "out/read_back.csv")?;
-    let mut rows = Reader::from_reader(alloc, text.as_slice());
-    let mut row = StringRecord::new(alloc);
-    let log = log_of(alloc, TREE, SCRIPT).expect(&rt, "ample memory");
+    let mut logs = logs_of(alloc, TREE, SCRIPT).expect(&rt, "ample memory");
+    let log = logs.pop().expect(&rt, "a device");
     assert!(rt; log.len() > 10);
-    for visit in &log {
-        assert!(rt; rows.read_record(&mut row).expect(&rt, "a row"));
-        assert_eq!(rt; visit_of(&row), Some(*visit));
-        assert_eq!(rt; row.len(), 9);
-    }
-    assert!(rt; !rows.read_record(&mut row).expect(&rt, "the end"));
+    assert_eq!(rt; read_back(&rt, "out/read_back.csv")?, log);
     Ok(())
 }
 

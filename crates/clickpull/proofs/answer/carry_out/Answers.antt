@@ -4,11 +4,13 @@ use Rattle.clickpull.proofs.answer.carry_out.Goals as goal
 
 pub carry_out_one-requires-clause-ready : goal.carry_out_one-requires-clause-ready
 carry_out_one-requires-clause-ready c =
-    (IsCarriedTo-ready c.args.router.now c.loop-i.router c.args.rows.now c.loop-i.rows c.loop-i.i c.index-rows-i.result c.requires.fresh c.requires.to_do c.requires.few c.loop-i.invariant c.loop-i-test.true c.index-rows-i.is).0
+    (IsCarriedTo-ready c.requires.fresh.0 c.args.router.now c.loop-i.router c.args.rows.now c.loop-i.rows c.loop-i.i c.index-rows-i.result c.requires.fresh.1 c.requires.to_do c.requires.few c.loop-i.invariant
+    c.loop-i-test.true c.index-rows-i.is).0
 
 pub carry_out_one-requires-clause-to_do : goal.carry_out_one-requires-clause-to_do
 carry_out_one-requires-clause-to_do c =
-    (IsCarriedTo-ready c.args.router.now c.loop-i.router c.args.rows.now c.loop-i.rows c.loop-i.i c.index-rows-i.result c.requires.fresh c.requires.to_do c.requires.few c.loop-i.invariant c.loop-i-test.true c.index-rows-i.is).1
+    (IsCarriedTo-ready c.requires.fresh.0 c.args.router.now c.loop-i.router c.args.rows.now c.loop-i.rows c.loop-i.i c.index-rows-i.result c.requires.fresh.1 c.requires.to_do c.requires.few c.loop-i.invariant
+    c.loop-i-test.true c.index-rows-i.is).1
 
 pub loop-i-preserved : goal.loop-i-preserved
 loop-i-preserved c =

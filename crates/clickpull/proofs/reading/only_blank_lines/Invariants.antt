@@ -1,12 +1,12 @@
-use Rattle.std.proofs.Common.{◌≡◌, ◌+◌, ◌≤◌, ℕ, List, true, length}
-use Rattle.clickpull.specs.Script.{most_lines}
+use Rattle.std.proofs.Common.{◌≡◌, ◌+◌, ◌≤◌, true, length}
+use Rattle.clickpull.specs.Script.{Names, most_lines}
 use Rattle.clickpull.proofs.ReadingLemmas.{fault_from}
 use Rattle.clickpull.proofs.reading.only_blank_lines.Given as goal
 
 -- the first fault is in what is left
 abbrev pub invariant-loop-rest : goal.invariant-loop-rest
 invariant-loop-rest l = record {
-  fault : (senders : List ℕ) → fault_from senders true (l.number + 1) l.rest ≡ fault_from senders true (l.drain + 1) l.text;
+  fault : (names : Names) → fault_from names true (l.number + 1) l.rest ≡ fault_from names true (l.drain + 1) l.text;
   bound : l.number ≤ most_lines;
 }
 

@@ -1,13 +1,13 @@
-use Rattle.std.proofs.Common.{◌≤◌, map, length}
+use Rattle.std.proofs.Common.{◌≤◌, length}
 use Rattle.clickpull.specs.Script.{most_lines}
-use Rattle.clickpull.specs.Router.{tally_sender}
+use Rattle.clickpull.specs.Router.{named_by}
 use Rattle.clickpull.proofs.ReadingLemmas.{HasRead}
 use Rattle.clickpull.proofs.reading.read_script.Given as goal
 
 -- the lines so far are read, and what is left follows them
 abbrev pub invariant-loop-rest : goal.invariant-loop-rest
 invariant-loop-rest l = record {
-  read : HasRead (map tally_sender l.tallies) l.text l.rest l.number l.rows.items;
+  read : HasRead (named_by l.tallies l.devices) l.text l.rest l.number l.rows.items;
   bound : l.number ≤ most_lines;
 }
 

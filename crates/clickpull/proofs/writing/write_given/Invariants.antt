@@ -8,6 +8,6 @@ use Rattle.clickpull.proofs.writing.write_given.Given as goal
 abbrev pub invariant-loop-visit : goal.invariant-loop-visit
 invariant-loop-visit g l = record {
   passed : HasPassed (g.W.Sink.taken l.fn.writer) (g.W.Sink.taken l.writer) (g.W.Sink.failures l.fn.writer) (g.W.Sink.failures l.writer)
-      l.fn.lines.held.items (flat_map visit_text l.visits) (flat_map visit_text (drop l.visit-index l.visits)) l.lines.held.items;
+      l.fn.lines.held.items (flat_map (visit_text l.fn.several l.fn.device) l.visits) (flat_map (visit_text l.fn.several l.fn.device) (drop l.visit-index l.visits)) l.lines.held.items;
   room : length l.line ≡ 128;
 }

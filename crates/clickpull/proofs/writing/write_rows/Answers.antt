@@ -10,8 +10,8 @@ returns-in_err-add g c =
     let p = err_from_is_err_and c.from_residual.result c.from_residual.ensures.1 in
     let given = c.loop-row.given.now in
     let fronts = c.loop-row.fronts.now in
-    let line = line-alone c.put_row.result.0 c.put_row.new.line c.loop-row.line (row_text c.row-item.result given fronts) c.loop-row.invariant.room (c.put_row.auto.line ∙ c.loop-row.invariant.room) c.put_row.ensures.piece in
-    let left = rows-left c.args.rows.now c.loop-row.row-index c.row-item.result given fronts (omega arith) c.row-item.is in
+    let line = line-alone c.put_row.result.0 c.put_row.new.line c.loop-row.line (row_text c.args.several c.row-item.result given fronts) c.loop-row.invariant.room (c.put_row.auto.line ∙ c.loop-row.invariant.room) c.put_row.ensures.piece in
+    let left = rows-left c.args.several c.args.rows.now c.loop-row.row-index c.row-item.result given fronts (omega arith) c.row-item.is in
     let failed = rw line at c.in_err-add.ensures in
     rw (p.1, p.2) (HasPassed-cut _ _ _ _ _ _ _ _ _ _ _ _ _ _ c.loop-row.invariant.passed failed left)
 
@@ -22,7 +22,7 @@ loop-row-preserved g c =
     let rows = c.args.rows.now in
     let i = c.loop-row.row-index in
     let row = c.row-item.result in
-    let line = line-alone c.put_row.result.0 c.put_row.new.line c.loop-row.line (row_text row given fronts) c.loop-row.invariant.room (c.put_row.auto.line ∙ c.loop-row.invariant.room) c.put_row.ensures.piece in
-    let left = rows-left rows i row given fronts (omega arith) c.row-item.is ∙ ap₂ (λ g f. row_text row given fronts ++ rows_text (drop (i + 1) rows) g f) (sym c.put_row.ensures.given) (sym c.put_row.ensures.fronts) in
+    let line = line-alone c.put_row.result.0 c.put_row.new.line c.loop-row.line (row_text c.args.several row given fronts) c.loop-row.invariant.room (c.put_row.auto.line ∙ c.loop-row.invariant.room) c.put_row.ensures.piece in
+    let left = rows-left c.args.several rows i row given fronts (omega arith) c.row-item.is ∙ ap₂ (λ g f. row_text c.args.several row given fronts ++ rows_text c.args.several (drop (i + 1) rows) g f) (sym c.put_row.ensures.given) (sym c.put_row.ensures.fronts) in
     let passed = rw line at c.in_ok-add.ensures in
     record { passed = HasPassed-more _ _ _ _ _ _ _ _ _ _ _ _ _ _ c.loop-row.invariant.passed passed left; room = c.put_row.auto.line ∙ c.loop-row.invariant.room }

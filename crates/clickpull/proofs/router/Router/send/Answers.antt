@@ -1,7 +1,7 @@
-use Rattle.std.proofs.Common.{ap, set, slice_get, refl, sym, subst}
-use Rattle.clickpull.specs.Router.{IsNumber}
+use Rattle.std.proofs.Common.{length, ap, set, slice_get, refl, sym, subst, arith}
+use Rattle.clickpull.specs.Router.{IsNumber, CanSend}
 use Rattle.clickpull.proofs.SenderLemmas.{sender-at}
-use Rattle.clickpull.proofs.RouterLemmas.{IsAt-sent}
+use Rattle.clickpull.proofs.RouterLemmas.{member-at, all-there, IsAt-sent}
 use Rattle.clickpull.proofs.router.Router.send.Goals as goal
 
 pub note-requires-clause-here : goal.note-requires-clause-here
@@ -22,6 +22,11 @@ returns-clause-leads c =
     let sender = c.index_mut-sender.result.now in
     let packet = c.next_packet-packet.result in
     let its = sender-at old.senders.items old.tallies.items c.args.place sender c.requires.ready.alike c.requires.is_there c.index_mut-sender.ensures.value in
+    let can = all-there (CanSend (length old.queues.rings.items)) old.senders.items c.args.place sender c.requires.ready.can_send its.here in
+    let path = member-at old.paths.items sender.queue (let count = c.requires.ready.path_count in let queue = can.0 in omega (arith, count, queue)) in
     let sent = ap (set old.senders.items c.args.place) c.next_packet-packet.ensures.counted in
-    λ setup events at. IsAt-sent c.calls_are_history.ensures setup events old _ _ c.args.place sender packet c.offer-outcome.result (c.in_ok-count.ensures.counted packet) at c.requires.ready.rising its.here c.next_packet-packet.ensures.number
-    c.next_packet-packet.ensures.sender (rw c.next_packet-packet.ensures.counted at c.offer-outcome.ensures) sent c.in_ok-note.ensures.kept refl refl refl
+    λ setup events at. IsAt-sent c.calls_are_history.ensures setup events old _ _ c.args.place path.member sender packet c.offer-outcome.result (c.in_ok-count.ensures.counted packet) at c.requires.ready.rising path.here its.here
+    c.next_packet-packet.ensures.number c.next_packet-packet.ensures.sender c.offer-outcome.ensures sent c.in_ok-note.ensures.kept refl refl refl
+
+pub returns-clause-given : goal.returns-clause-given
+returns-clause-given c = (c.in_ok-count.ensures.counted c.next_packet-packet.result).given

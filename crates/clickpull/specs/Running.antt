@@ -1,0 +1,38 @@
+-- What running a trace over a plan writes, and why it is refused (this project's own definition).
+use Rattle.std.specs.Prelude.{◌≡◌, ◌⊎◌, ℕ, List, Option, None, IfSome}
+use Rattle.clk_packet.specs.declared.packet.Packet.{Packet}
+use Rattle.clk_packet.specs.declared.fault.Fault.{Fault}
+use Rattle.clk_packet.specs.declared.fault.Fault.TheVariants.{Write}
+use Rattle.clk_packet.specs.Trace.{ExplainsTrace, pairs_of, sent, sent_by, shown, trace_fault}
+use Rattle.clk_sched.specs.declared.visit.Visit.{Visit}
+use Rattle.clk_tree.specs.Plan.{Planned}
+use Rattle.clk_drain.specs.declared.outcome.Outcome.{Outcome}
+use Rattle.clk_drain.specs.Run.{IsFaultOfRun, IsRunOutcome}
+use Rattle.clk_report.specs.Devices.{came_out, lists_of}
+use Rattle.clk_report.specs.Report.{report_text}
+use Rattle.clickpull.specs.declared.pace.Pace.{Pace}
+
+-- Nothing is wrong with a trace, and this is what each sender sends by it.
+pub record Tells (trace : List ℕ) (traces : List (List Packet)) : Type 0 where
+  pub sound : trace_fault trace ≡ None
+  pub sent : (s : ℕ) → shown (sent_by traces s) ≡ sent s (pairs_of trace)
+
+-- Running a trace over a plan writes this text and leaves these logs, one a device: they are the report and the logs of what a run
+-- of the plan over what the trace tells came to.
+pub record RunWrites (plan : List Planned) (pace : Pace) (trace text : List ℕ) (logs : List (List Visit)) : Type 0 where
+  pub traces : List (List Packet)
+  pub tells : Tells trace traces
+  pub outcome : Outcome
+  pub came_to : IsRunOutcome plan traces pace.step pace.limit outcome
+  pub reported : text ≡ report_text (came_out outcome.emitted.items) outcome.tallies.items
+  pub logged : logs ≡ lists_of outcome.logs.items
+
+-- A run of the plan over what the trace tells is refused with this fault.
+pub record RefusesRun (plan : List Planned) (trace : Option (List ℕ)) (fault : Fault) : Type 0 where
+  pub traces : List (List Packet)
+  pub tells : IfSome trace (λ text. Tells text traces)
+  pub refused : IsFaultOfRun plan traces fault
+
+-- Why running a trace over a plan is refused with a fault: the writer failed, or the reader or the trace has it, or the run.
+abbrev pub ExplainsRun : List Planned → Option (List ℕ) → Fault → Type 0
+ExplainsRun plan trace fault = (fault ≡ Write) ⊎ (ExplainsTrace trace fault ⊎ RefusesRun plan trace fault)

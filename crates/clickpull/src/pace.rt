@@ -1,0 +1,23 @@
+//! The pace of a run.
+
+ghost use Rattle.std.specs.Prelude.{◌≤◌};
+ghost use Rattle.clk_drain.specs.Limits.{most_limit, most_step};
+
+/// How many ticks lie between two pulls of a device at most.
+pub const MAX_STEP: u32 = 1000;
+
+/// How often a device may be pulled at most while producers run.
+pub const MAX_LIMIT: u32 = 1_000_000;
+
+/// How devices are pulled while producers run.
+#[derive(Clone, Copy, Debug, PartialEq, Eq)]
+pub struct Pace {
+    /// How many ticks lie between two pulls of a device, from 1 to 1,000.
+    pub step: u32,
+    /// How often a device is pulled at most, from 1 to 1,000,000.
+    pub limit: u32,
+    ghost some_step: { 1 ≤ step },
+    ghost step_within: { step ≤ most_step },
+    ghost some_limit: { 1 ≤ limit },
+    ghost limit_within: { limit ≤ most_limit },
+}

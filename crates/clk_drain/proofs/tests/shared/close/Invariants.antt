@@ -1,5 +1,0 @@
-use Rattle.clk_drain.specs.Line.{AreLinesOf}
-use Rattle.clk_drain.proofs.tests.shared.close.Given as goal
-
-abbrev pub invariant-loop-packet : goal.invariant-loop-packet
-invariant-loop-packet g l = AreLinesOf l.session l.lines

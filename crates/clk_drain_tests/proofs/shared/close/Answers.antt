@@ -1,0 +1,27 @@
+use Rattle.std.proofs.Common.{◌≡◌, List, [], ◌∷◌, sym, ap, ◌∙◌, subst}
+use Rattle.std.specs.List.{AllByRecursion}
+use Rattle.clk_sched.specs.Tree.{root, leaves, stands_in}
+use Rattle.clk_sched.specs.Results.{leaf_packets}
+use Rattle.clk_sched.specs.Session.{Progress}
+use Rattle.clk_drain.specs.Senders.{Rise}
+use Rattle.clk_drain.specs.Line.{LineLists, leaves_of, AreLinesOf}
+use Rattle.clk_drain_tests.proofs.shared.close.Goals as goal
+
+-- Before the first pull nothing was taken, at any leaf.
+none-taken : (session : Progress) (lines : List LineLists) → session.log ≡ [] → AllByRecursion (λ (l : LineLists). l.tap.taken ≡ []) lines → AllByRecursion (λ (l : LineLists). l.tap.taken ≡ leaf_packets session.tree l.leaf session.log) lines
+none-taken session [] log h = tt
+none-taken session (l ∷ lines) log h = (h.0 ∙ ap (leaf_packets session.tree l.leaf) (sym log), none-taken session lines log h.1)
+
+lines-of-new : (session : Progress) (lines : List LineLists) → session.log ≡ [] → leaves_of lines ≡ leaves (root session.tree) → Rise (leaves_of lines) → AllByRecursion (λ (l : LineLists). l.tap.taken ≡ []) lines → AreLinesOf session lines
+lines-of-new session lines log same rise fresh = record {
+  rise = rise;
+  leaves = λ q. ap (stands_in q) same;
+  taken = none-taken session lines log fresh;
+}
+
+pub loop-packet-init : goal.loop-packet-init
+loop-packet-init g c =
+    let made = c.in_ok-session.ensures.made in
+    let tree = ap (λ t. leaves (root t)) (sym made.0) in
+    subst (AreLinesOf c.in_ok-session.session) (sym c.new-lines.ensures)
+    (lines-of-new c.in_ok-session.session c.args.lines.items made.1 (c.requires.leaves ∙ tree) (subst Rise (sym c.requires.leaves) c.requires.rise) c.requires.fresh)

@@ -1,0 +1,5 @@
+use Rattle.clk_drain.specs.Line.{AreLinesOf}
+use Rattle.clk_drain_tests.proofs.shared.close.Given as goal
+
+abbrev pub invariant-loop-packet : goal.invariant-loop-packet
+invariant-loop-packet g l = AreLinesOf l.session l.lines

@@ -1,0 +1,138 @@
+//! Runs of plans with several devices.
+
+ghost use Rattle.std.specs.Prelude.{◌≤◌};
+
+use crate::gates::{Calls, DevicesMeet};
+use crate::running::{assert_all_accounted, records, run_text, traces};
+use clk_drain::{Free, Outcome};
+use clk_packet::Fault;
+use std::alloc::Global;
+use std::process::Abort;
+
+/// Two devices, each fed by a queue that may hold a thousand packets, with four senders each.
+const FOUR_AT_EACH: &str =
+    "s0 :: Sender(0); s1 :: Sender(1); s2 :: Sender(2); s3 :: Sender(3); q :: Queue(1000); a :: ToDevice(link); s0 -> q; s1 -> q; s2 -> q; s3 -> q; q -> a;
+    s4 :: Sender(4); s5 :: Sender(5); s6 :: Sender(6); s7 :: Sender(7); r :: Queue(1000); b :: ToDevice(link); s4 -> r; s5 -> r; s6 -> r; s7 -> r; r -> b;";
+
+/// Two devices with a sender each.
+const ONE_AT_EACH: &str =
+    "s :: Sender(0); t :: Sender(1); p, q :: Queue; a, b :: ToDevice(x); s -> p -> a; t -> q -> b;";
+
+/// How many devices there are where there are many, how many senders each has, and how many packets each of these sends.
+const DEVICES: u16 = 8;
+
+const SENDERS: u16 = 8;
+
+const PACKETS: u32 = 3;
+
+/// How often many devices run.
+const ROUNDS: u32 = 20;
+
+// Many devices with a queue and senders each.
+fn many_devices(alloc: Global) -> Result<String, Fault> {
+    let mut text = String::new(alloc);
+    for device in 0..DEVICES {
+        let queue = format!(in alloc;
+            "q{device} :: Queue(100); d{device} :: ToDevice(link); q{device} -> d{device};\n"
+        )?;
+        text.push_str(&queue)?;
+        for place in 0..SENDERS {
+            let number = device * SENDERS + place;
+            let sender = format!(in alloc;
+                "s{number} :: Sender({number}); s{number} -> q{device};\n"
+            )?;
+            text.push_str(&sender)?;
+        }
+    }
+    Ok(text)
+}
+
+// Some packets from each of their senders.
+fn many_records(alloc: Global) -> Result<Vec<u8>, Fault> {
+    let mut text = Vec::new(alloc);
+    for number in 0..DEVICES * SENDERS {
+        for _ in 0..PACKETS {
+            let record = format!(in alloc; "{number},64\n")?;
+            text.extend_from_slice(record.as_bytes())?;
+        }
+    }
+    Ok(text)
+}
+
+// Fails unless there are so many devices, and each emits packets of its own senders alone, so many of which follow those of the
+// device before.
+fn assert_own_senders(rt: &impl Abort, outcome: &Outcome, devices: u16, senders: u16)
+    requires { 1 ≤ senders }
+{
+    let mut device = 0;
+    for emitted in &outcome.emitted {
+        for packet in emitted {
+            assert_eq!(rt; packet.sender / senders, device);
+        }
+        assert!(rt; device < devices);
+        device += 1;
+    }
+    assert_eq!(rt; device, devices);
+}
+
+// Fails unless the packets that a device emits are those that it got in its log.
+fn assert_logged(rt: &impl Abort, alloc: Global, outcome: &Outcome) -> Result<(), Fault> {
+    let mut logged = Vec::new(alloc);
+    for log in &outcome.logs {
+        let mut given = Vec::new(alloc);
+        for visit in log {
+            if visit.node == 0 && visit.passed {
+                if let Some(packet) = visit.got {
+                    given.push(packet)?;
+                }
+            }
+        }
+        logged.push(given)?;
+    }
+    assert_eq!(rt; logged, outcome.emitted);
+    Ok(())
+}
+
+#[test]
+fn two_devices_run(rt: HostRuntime) -> Result<(), Fault> {
+    let alloc = rt.alloc();
+    let traces = traces(alloc, records(alloc, b"01234567", 100)?)?;
+    let outcome = run_text(&rt, alloc, FOUR_AT_EACH, &traces, 1000, &Free)?;
+    assert_all_accounted(&rt, alloc, &traces, &outcome, 8)?;
+    for tally in &outcome.tallies {
+        assert_eq!(rt; tally.accepted.as_slice().len(), 100);
+    }
+    assert_own_senders(&rt, &outcome, 2, 4);
+    assert_logged(&rt, alloc, &outcome)
+}
+
+#[test]
+fn two_devices_threads(rt: HostRuntime) -> Result<(), Fault> {
+    let alloc = rt.alloc();
+    let traces = traces(alloc, records(alloc, b"01", 1)?)?;
+    let gate = DevicesMeet {
+        pulls: Calls::none(),
+    };
+    let outcome = run_text(&rt, alloc, ONE_AT_EACH, &traces, 1000, &gate)?;
+    assert!(rt;
+        gate.pulls.came(),
+        "the first pulls of two devices wait for one another, and a producer for both"
+    );
+    assert_all_accounted(&rt, alloc, &traces, &outcome, 2)?;
+    assert_own_senders(&rt, &outcome, 2, 1);
+    Ok(())
+}
+
+#[test]
+fn many_devices_many_rounds(rt: HostRuntime) -> Result<(), Fault> {
+    let alloc = rt.alloc();
+    let text = many_devices(alloc)?;
+    let traces = traces(alloc, many_records(alloc)?)?;
+    for _ in 0..ROUNDS {
+        let outcome = run_text(&rt, alloc, &text, &traces, 1000, &Free)?;
+        assert_all_accounted(&rt, alloc, &traces, &outcome, 64)?;
+        assert_own_senders(&rt, &outcome, DEVICES, SENDERS);
+        assert_logged(&rt, alloc, &outcome)?;
+    }
+    Ok(())
+}

@@ -1,0 +1,82 @@
+//! A run where memory is refused. tests/refuse-memory has each allocation of the test refused in turn.
+
+use crate::gates::{Calls, Counted};
+use crate::running::{EIGHT_SENDERS, records, traces};
+use clk_drain::{Outcome, run};
+use clk_packet::{Fault, Traces};
+use clk_tree::Plan;
+use std::alloc::Global;
+use std::process::Abort;
+use std::sync::Wait;
+use std::thread::Threads;
+
+/// What is called, and may be refused.
+#[derive(Clone, Copy, Debug, PartialEq, Eq)]
+enum Call {
+    Run,
+    // What the test itself makes for the run.
+    Setup,
+}
+
+// The first refusal is the only one, since it is one allocation that fails.
+#[test]
+fn a_refused_call_is_made_again(rt: HostRuntime) {
+    let refused = met_refusal(&rt, rt.alloc());
+    assert_eq!(rt; refused, None);
+}
+
+// Runs eight senders, and again where the run was refused, and answers what was refused.
+fn met_refusal<R: Threads + Wait + Abort + Sync>(rt: &R, alloc: Global) -> Option<Call> {
+    match eight_senders(alloc) {
+        Ok((plan, traces)) => refused_run(rt, alloc, &plan, &traces),
+        Err(fault) => {
+            assert_eq!(rt; fault, Fault::Memory);
+            Some(Call::Setup)
+        }
+    }
+}
+
+// A plan of eight senders, and what they send.
+fn eight_senders(alloc: Global) -> Result<(Plan, Traces), Fault> {
+    let plan = Plan::read(alloc, EIGHT_SENDERS.as_bytes())?;
+    let traces = traces(alloc, records(alloc, b"01234567", 100)?)?;
+    Ok((plan, traces))
+}
+
+// Once a run was refused all its threads have ended, so that none calls its gate. With one pull at most a run always asks for memory as
+// often.
+fn refused_run<R: Threads + Wait + Abort + Sync>(
+    rt: &R,
+    alloc: Global,
+    plan: &Plan,
+    traces: &Traces,
+) -> Option<Call> {
+    let gate = Counted {
+        calls: Calls::none(),
+    };
+    match run(rt, alloc, rt, plan, traces, 1, 1, &gate) {
+        Ok(outcome) => {
+            assert_all_came_out(rt, &outcome);
+            None
+        }
+        Err(fault) => {
+            assert!(rt; gate.calls.have_ended(), "no thread goes on");
+            assert_eq!(rt; fault, Fault::Memory);
+            let again = run(rt, alloc, rt, plan, traces, 1, 1, &gate);
+            assert_all_came_out(rt, &again.expect(rt, "memory"));
+            Some(Call::Run)
+        }
+    }
+}
+
+// Fails unless all packets of the eight senders were accepted and came out.
+fn assert_all_came_out(rt: &impl Abort, outcome: &Outcome) {
+    assert_eq!(rt; outcome.emitted.len(), 1);
+    for emitted in &outcome.emitted {
+        assert_eq!(rt; emitted.len(), 800);
+    }
+    assert_eq!(rt; outcome.tallies.len(), 8);
+    for tally in &outcome.tallies {
+        assert_eq!(rt; tally.accepted.as_slice().len(), 100);
+    }
+}

@@ -1,0 +1,235 @@
+//! Runs of plans over traces, on threads.
+
+ghost use Rattle.std.specs.Prelude.{◌≤◌};
+ghost use Rattle.clk_drain.specs.Limits.{most_limit};
+
+use crate::gates::{AllMeet, Calls, Counted, InTurns};
+use clk_drain::{Free, Gate, Outcome, run};
+use clk_packet::{FailingSource, Fault, Packet, Tally, Traces};
+use clk_tree::Plan;
+use std::alloc::Global;
+use std::process::Abort;
+use std::sync::Wait;
+use std::test::Fail;
+use std::thread::Threads;
+
+/// Eight senders, all of which send to a queue that may hold a thousand packets.
+pub const EIGHT_SENDERS: &str =
+    "s0 :: Sender(0); s1 :: Sender(1); s2 :: Sender(2); s3 :: Sender(3); s4 :: Sender(4); s5 :: Sender(5); s6 :: Sender(6); s7 :: Sender(7); q :: Queue(1000); d :: ToDevice(link); s0 -> q; s1 -> q; s2 -> q; s3 -> q; s4 -> q; s5 -> q; s6 -> q; s7 -> q; q -> d;";
+
+const FOUR_AT_A_QUEUE: &str =
+    "s0 :: Sender(0); s1 :: Sender(1); s2 :: Sender(2); s3 :: Sender(3); q :: Queue(1); d :: ToDevice(link); s0 -> q; s1 -> q; s2 -> q; s3 -> q; q -> d;";
+
+const FOUR_AT_A_FRONT_DROP_QUEUE: &str =
+    "s0 :: Sender(0); s1 :: Sender(1); s2 :: Sender(2); s3 :: Sender(3); q :: FrontDropQueue(1); d :: ToDevice(link); s0 -> q; s1 -> q; s2 -> q; s3 -> q; q -> d;";
+
+const DRR_OVER_TWO: &str =
+    "s0 :: Sender(0); q0 :: Queue; s1 :: Sender(1); q1 :: Queue; x :: DRRSched(500); d :: ToDevice(link); s0 -> q0 -> [0] x; s1 -> q1 -> [1] x; x -> d;";
+
+const PRIO_OVER_TWO: &str =
+    "s0 :: Sender(0); q0 :: Queue; s1 :: Sender(1); q1 :: Queue; x :: PrioSched; d :: ToDevice(link); s0 -> q0 -> [0] x; s1 -> q1 -> [1] x; x -> d;";
+
+const ONE_AT_A_QUEUE: &str = "s :: Sender(0); q :: Queue(1); d :: ToDevice(link); s -> q -> d;";
+
+/// The records of so many packets of 64 bytes from each of these senders, each named by a digit.
+pub fn records(alloc: Global, senders: &[u8], packets: u32) -> Result<Vec<u8>, Fault> {
+    let mut text = Vec::new(alloc);
+    for sender in senders {
+        for _ in 0..packets {
+            text.push(*sender)?;
+            text.extend_from_slice(b",64\n")?;
+        }
+    }
+    Ok(text)
+}
+
+/// The traces of these records.
+pub fn traces(alloc: Global, text: Vec<u8>) -> Result<Traces, Fault> {
+    Traces::read_csv(alloc, &mut FailingSource::new(text, usize::MAX))
+}
+
+/// Runs the plan of a text over traces, a tick between two pulls.
+pub fn run_text<R: Threads + Wait + Sync, G: Gate + Sync>(
+    rt: &R,
+    alloc: Global,
+    text: &str,
+    traces: &Traces,
+    limit: u32,
+    gate: &G,
+) -> Result<Outcome, Fault>
+    requires limit { (1 ≤ limit) × (limit ≤ most_limit) }
+{
+    let plan = Plan::read(alloc, text.as_bytes())?;
+    run(rt, alloc, rt, &plan, traces, 1, limit, gate)
+}
+
+// All that a sender sends, in order.
+fn sent_by(alloc: Global, traces: &Traces, sender: u16) -> Result<Vec<Packet>, Fault> {
+    let mut sent = Vec::new(alloc);
+    for number in 0..traces.count(sender) {
+        if let Some(packet) = traces.sent(sender, number) {
+            sent.push(packet)?;
+        }
+    }
+    Ok(sent)
+}
+
+// The packets of two lists, by number.
+fn merged(alloc: Global, some: &[Packet], more: &[Packet]) -> Result<Vec<Packet>, Fault> {
+    let mut all = some.to_vec(alloc)?;
+    all.extend_from_slice(more)?;
+    all.sort_unstable_by_key(|packet| packet.number);
+    Ok(all)
+}
+
+// The packets of a sender that came out, in order.
+fn came_out(alloc: Global, outcome: &Outcome, sender: u16) -> Result<Vec<Packet>, Fault> {
+    let mut packets = Vec::new(alloc);
+    for emitted in &outcome.emitted {
+        for packet in emitted {
+            if packet.sender == sender {
+                packets.push(*packet)?;
+            }
+        }
+    }
+    Ok(packets)
+}
+
+// Fails unless a tally shares out all that its sender sends, and all that was accepted and not evicted came out, in order.
+fn assert_accounted(
+    rt: &impl Abort,
+    alloc: Global,
+    traces: &Traces,
+    outcome: &Outcome,
+    tally: &Tally,
+) -> Result<(), Fault> {
+    let (accepted, refused, evicted) = (
+        tally.accepted.as_slice(),
+        tally.refused.as_slice(),
+        tally.evicted.as_slice(),
+    );
+    assert_eq!(rt;
+        merged(alloc, accepted, refused)?,
+        sent_by(alloc, traces, tally.sender)?
+    );
+    let came = came_out(alloc, outcome, tally.sender)?;
+    assert_eq!(rt; merged(alloc, &came, evicted)?, accepted.to_vec(alloc)?);
+    assert!(rt; came.is_sorted_by_key(|packet| packet.number));
+    Ok(())
+}
+
+/// Fails unless each of so many senders is accounted for.
+pub fn assert_all_accounted(
+    rt: &impl Abort,
+    alloc: Global,
+    traces: &Traces,
+    outcome: &Outcome,
+    senders: usize,
+) -> Result<(), Fault> {
+    assert_eq!(rt; outcome.tallies.len(), senders);
+    for tally in &outcome.tallies {
+        assert_accounted(rt, alloc, traces, outcome, tally)?;
+    }
+    Ok(())
+}
+
+#[test]
+fn eight_senders_one_queue(rt: HostRuntime) -> Result<(), Fault> {
+    let alloc = rt.alloc();
+    let traces = traces(alloc, records(alloc, b"01234567", 100)?)?;
+    let outcome = run_text(&rt, alloc, EIGHT_SENDERS, &traces, 1000, &Free)?;
+    assert_all_accounted(&rt, alloc, &traces, &outcome, 8)?;
+    for tally in &outcome.tallies {
+        assert_eq!(rt; tally.accepted.as_slice().len(), 100);
+        assert!(rt; tally.refused.as_slice().is_empty());
+        assert!(rt; tally.evicted.as_slice().is_empty());
+    }
+    Ok(())
+}
+
+#[test]
+fn contended_capacity_one(rt: HostRuntime) -> Result<(), Fault> {
+    let alloc = rt.alloc();
+    let traces = traces(alloc, records(alloc, b"0123", 50)?)?;
+    let outcome = run_text(&rt, alloc, FOUR_AT_A_QUEUE, &traces, 1000, &Free)?;
+    assert_all_accounted(&rt, alloc, &traces, &outcome, 4)?;
+    let outcome = run_text(&rt, alloc, FOUR_AT_A_FRONT_DROP_QUEUE, &traces, 1000, &Free)?;
+    assert_all_accounted(&rt, alloc, &traces, &outcome, 4)?;
+    for tally in &outcome.tallies {
+        assert!(rt; tally.refused.as_slice().is_empty());
+    }
+    Ok(())
+}
+
+#[test]
+fn empty_trace_two_queues(rt: HostRuntime) -> Result<(), Fault> {
+    let alloc = rt.alloc();
+    let traces = traces(alloc, Vec::new(alloc))?;
+    let outcome = run_text(&rt, alloc, DRR_OVER_TWO, &traces, 1000, &Free)?;
+    assert_all_accounted(&rt, alloc, &traces, &outcome, 2)?;
+    assert_eq!(rt; outcome.emitted, vec![in alloc; Vec::new(alloc)]?);
+    Ok(())
+}
+
+#[test]
+fn threads_really_run(rt: HostRuntime) -> Result<(), Fault> {
+    let alloc = rt.alloc();
+    let traces = traces(alloc, records(alloc, b"01", 3)?)?;
+    let gate = AllMeet {
+        calls: Calls::none(),
+    };
+    let outcome = run_text(&rt, alloc, PRIO_OVER_TWO, &traces, 1000, &gate)?;
+    assert!(rt;
+        gate.calls.came(),
+        "two producers and the consumer wait for one another"
+    );
+    assert_eq!(rt; gate.calls.count(), 3);
+    assert_all_accounted(&rt, alloc, &traces, &outcome, 2)
+}
+
+// The consumer asks the queue while the producer runs: the queue of one place has room for the second packet.
+#[test]
+fn queues_are_asked_while_producers_run(rt: HostRuntime) -> Result<(), Fault> {
+    let alloc = rt.alloc();
+    let traces = traces(alloc, records(alloc, b"0", 2)?)?;
+    let gate = InTurns {
+        offers: Calls::none(),
+        pulls: Calls::none(),
+    };
+    let outcome = run_text(&rt, alloc, ONE_AT_A_QUEUE, &traces, 1000, &gate)?;
+    assert!(rt;
+        gate.offers.came() && gate.pulls.came(),
+        "the producer and the consumer go on in turns"
+    );
+    assert_all_accounted(&rt, alloc, &traces, &outcome, 1)?;
+    for log in &outcome.logs {
+        let first = log.iter().find(|visit| visit.got.is_some());
+        assert!(rt; first.is_some_and(|visit| visit.pull <= 1));
+    }
+    for tally in &outcome.tallies {
+        assert!(rt; tally.refused.as_slice().is_empty());
+    }
+    Ok(())
+}
+
+#[test]
+fn unknown_senders_are_refused(rt: HostRuntime) -> Result<(), Fail> {
+    let alloc = rt.alloc();
+    let traces = traces(alloc, records(alloc, b"19", 1)?)?;
+    let gate = Counted {
+        calls: Calls::none(),
+    };
+    let refused = run_text(&rt, alloc, ONE_AT_A_QUEUE, &traces, 1000, &gate);
+    assert!(rt; matches!(refused, Err(Fault::UnknownSender { sender: 1 })));
+    // No thread was started.
+    assert_eq!(rt; gate.calls.count(), 0);
+    Ok(())
+}
+
+#[test]
+fn one_pull_while_producers_run(rt: HostRuntime) -> Result<(), Fault> {
+    let alloc = rt.alloc();
+    let traces = traces(alloc, records(alloc, b"01234567", 100)?)?;
+    let outcome = run_text(&rt, alloc, EIGHT_SENDERS, &traces, 1, &Free)?;
+    assert_all_accounted(&rt, alloc, &traces, &outcome, 8)
+}
