@@ -5,7 +5,7 @@ use Rattle.clk_packet.specs.declared.packet.Packet.{Packet}
 use Rattle.clk_packet.specs.declared.packet.Offered.{Offered}
 use Rattle.clk_packet.specs.declared.packet.Offered.TheVariants.{Accepted, Refused, Evicted}
 use Rattle.clk_ruled.specs.declared.view.Setup.{Setup}
-use Rattle.clk_ruled.specs.Queue.{Queue, SeatLists, TapLists, ClosedLists, closed_with, IsTapOf, IsSeatOf, IsOpened, IsOffered, IsPulled, empty_seat, empty_tap, queue_of, taking, gathering}
+use Rattle.clk_ruled.specs.Queue.{Queue, SeatLists, TapLists, ClosedLists, closed_with, IsSeatOf, IsOpened, IsOffered, IsPulled, empty_seat, empty_tap, queue_of, taking, gathering}
 use Rattle.clk_ruled.specs.Settle.{AreTogether, AreOpenedTogether, AreOfTap, IsOfTap, closing, lists_of}
 use Rattle.clk_ruled.specs.Laws.{KeepsTogether}
 use Rattle.clk_ruled.proofs.Gathering.{of-tap-at, of-tap-more, of-tap-gathered}

@@ -1,5 +1,5 @@
 -- Packets are looked up by sender and number in a sorted list.
-use Rattle.std.proofs.Common.{◌≡◌, ℕ, ◌&&◌, ◌||◌, List, [], ◌∷◌, length, map, refl, sym, ap, ◌∙◌, ⊎_elim, Result, Ok, Err, arith}
+use Rattle.std.proofs.Common.{◌≡◌, ℕ, ◌-◌, ◌<◌, ◌≤◌, ◌&&◌, ◌||◌, false, List, [], ◌∷◌, length, map, slice_index_or, refl, sym, subst, ap, ◌∙◌, ⊎_elim, Result, Ok, Err, Less, Equal, Greater, arith}
 use Rattle.std.proofs.lemmas.Bool.{cases_lt}
 use Rattle.std.proofs.lemmas.Cmp.{then_total, nat_cmp_total}
 use Rattle.std.proofs.lemmas.List.Folds.{list_any_at, list_any_none}
@@ -7,11 +7,12 @@ use Rattle.std.proofs.lemmas.List.Sorted.{searchable_from_sorted, list_any-IsPer
 use Rattle.std.specs.Cmp.{IsTotalOrder, on_total, tied_then, unsigned_ties}
 use Rattle.std.specs.List.{list_any}
 use Rattle.std.specs.List.Sorted.{IsBinarySearchResult, IsSearchInRange}
-use Rattle.std.specs.Ordering.{nat_cmp, is_eq}
+use Rattle.std.specs.Ordering.{nat_cmp, is_eq, ordering_index}
+use Rattle.std.specs.declared.cmp.Ordering.{Ordering}
 use Rattle.std.specs.Result.{is_ok}
 use Rattle.clk_packet.specs.declared.packet.Packet.{Packet}
 use Rattle.clk_ruled.specs.Lists.{has_packet}
-use Rattle.clk_ruled.specs.Keys.{key_of, key_cmp, AreSorted, AreKeysOf, is_key, has_key}
+use Rattle.clk_ruled.specs.Keys.{key_of, key_cmp, AreSorted, AreKeysOf, IsAfterKey, is_key, has_key}
 use Rattle.clk_ruled.proofs.Counts.{eq-turned}
 
 key_cmp_total : IsTotalOrder key_cmp
@@ -26,6 +27,30 @@ pub key-searched : (keys : List (ℕ × ℕ)) (p : Packet) (r : Result ℕ ℕ) 
 key-searched keys p (Ok i) sorted within found = sym (list_any_at (is_key p) keys i (0, 0) within (key-tied p _ ∙ ap is_eq (found (0, 0))))
 key-searched keys p (Err i) sorted within found = let parts = found (searchable_from_sorted key_cmp_total (λ k. k) keys (key_of p) sorted) in
     sym (list_any_none (is_key p) keys (λ k d lt. ⊎_elim (λ before. key-tied p _ ∙ ap is_eq (parts.0 k d (omega arith) before)) (λ after. key-tied p _ ∙ ap is_eq (parts.1 k d after lt)) (cases_lt k i)))
+
+-- An answer that is `Less` is 0 of three, and one that is `Greater` is 2.
+less-first : (o : Ordering) → ordering_index o ≤ 0 → o ≡ Less
+less-first Less h = refl
+less-first Equal h = absurd (omega arith)
+less-first Greater h = absurd (omega arith)
+
+greater-last : (o : Ordering) → 2 ≤ ordering_index o → o ≡ Greater
+greater-last Less h = absurd (omega arith)
+greater-last Equal h = absurd (omega arith)
+greater-last Greater h = refl
+
+-- A key that isn't at a place, but comes after what stands before it, parts the keys there, as a binary search finds.
+pub key-parted : (keys : List (ℕ × ℕ)) (place : ℕ) (key : ℕ × ℕ) → IsAfterKey keys place key → ((d : ℕ × ℕ) → place < length keys → key_cmp (slice_index_or keys place d) key ≡ Greater)
+    → IsBinarySearchResult (λ k. key_cmp k key) keys (Err place)
+key-parted keys place key after there rise = (
+  λ k d low lt. less-first _ (subst (λ o. ordering_index (key_cmp (slice_index_or keys k d) key) ≤ ordering_index o) (after.1 (place - 1) d (omega (arith, lt))) (rise k (place - 1) d (omega (arith, lt)) (let within = after.0 in omega (arith, lt, within)))),
+  λ k d le lt. greater-last _ (subst (λ o. ordering_index o ≤ ordering_index (key_cmp (slice_index_or keys k d) key)) (there d (omega (arith, le, lt))) (rise place k d le lt)),
+)
+
+-- so a packet's key isn't among them
+pub key-absent : (keys : List (ℕ × ℕ)) (p : Packet) (place : ℕ) → AreSorted keys → IsAfterKey keys place (key_of p) → ((d : ℕ × ℕ) → place < length keys → key_cmp (slice_index_or keys place d) (key_of p) ≡ Greater)
+    → false ≡ has_key keys p
+key-absent keys p place sorted after there = key-searched keys p (Err place) sorted after.0 (key-parted keys place (key_of p) after there)
 
 any-key : (p : Packet) (packets : List Packet) → list_any (is_key p) (map key_of packets) ≡ has_packet packets p
 any-key p [] = refl

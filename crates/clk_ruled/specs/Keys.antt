@@ -1,8 +1,9 @@
 -- Packets by sender and number, which tell one from another.
-use Rattle.std.specs.Prelude.{ℕ, ◌==◌, ◌&&◌, Bool, List, map}
-use Rattle.std.specs.List.{list_any}
+use Rattle.std.specs.Prelude.{◌≡◌, ℕ, ◌+◌, ◌≤◌, ◌==◌, ◌&&◌, Bool, List, length, map}
+use Rattle.std.specs.List.{list_any, slice_index_or}
 use Rattle.std.specs.List.Sorted.{IsSorted, IsPermutation}
 use Rattle.std.specs.declared.cmp.Ordering.{Ordering}
+use Rattle.std.specs.declared.cmp.Ordering.TheVariants.{Less}
 use Rattle.std.specs.Ordering.{nat_cmp, ordering_then}
 use Rattle.clk_packet.specs.declared.packet.Packet.{Packet}
 
@@ -26,3 +27,7 @@ is_key p k = (p.sender == k.0) && (p.number == k.1)
 -- whether the packet's key stands in the list
 abbrev pub has_key : List (ℕ × ℕ) → Packet → Bool
 has_key keys p = list_any (is_key p) keys
+
+-- the key before this place, if there is one, is less than this one
+abbrev pub IsAfterKey : List (ℕ × ℕ) → ℕ → ℕ × ℕ → Type 0
+IsAfterKey keys place key = (place ≤ length keys) × ((k : ℕ) (d : ℕ × ℕ) → k + 1 ≡ place → key_cmp (slice_index_or keys k d) key ≡ Less)
