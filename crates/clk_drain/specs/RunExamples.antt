@@ -6,7 +6,7 @@ use Rattle.clk_packet.specs.declared.tally.Tally.{Tally}
 use Rattle.clk_sched.specs.declared.visit.Visit.{Visit}
 use Rattle.clk_sched.specs.Log.{asking}
 use Rattle.clk_sched.specs.Examples.Priority.{p0_0, p1_0}
-use Rattle.clk_tree.specs.Classes.{Class, sender, queue, device}
+use Rattle.clk_tree.specs.Classes.{Class, sender, queue, prio, device}
 use Rattle.clk_tree.specs.Plan.{Planned}
 use Rattle.clk_drain.specs.declared.outcome.Outcome.{Outcome}
 use Rattle.clk_drain.specs.Examples.{p0_1, tally}
@@ -16,19 +16,24 @@ use Rattle.clk_drain.specs.Run.{IsRunOutcome}
 abbrev planned : List ℕ → Class → List ℕ → Planned
 planned name class sources = record { name = name; class = class; sources = sources }
 
--- Two senders, each with a Queue and a device of its own: the first Queue holds so many packets, the second two.
-abbrev plan_with : ℕ → List Planned
-plan_with capacity =
+-- Two senders, each with a Queue and a device of its own: the first Queue holds so many packets, the second two. The first device's input
+-- comes from the element at this place, and these elements are the last.
+abbrev plan_with : ℕ → ℕ → List Planned → List Planned
+plan_with capacity top more =
     planned (codes "s") (sender 0) [] ∷ planned (codes "t") (sender 1) [] ∷
     planned (codes "p") (queue TailDrop capacity) (0 ∷ []) ∷ planned (codes "q") (queue TailDrop 2) (1 ∷ []) ∷
-    planned (codes "a") (device (codes "x")) (2 ∷ []) ∷ planned (codes "b") (device (codes "x")) (3 ∷ []) ∷ []
+    planned (codes "a") (device (codes "x")) (top ∷ []) ∷ planned (codes "b") (device (codes "x")) (3 ∷ []) ∷ more
 
 abbrev pub plan : List Planned
-plan = plan_with 1
+plan = plan_with 1 2 []
 
 -- the same where the first Queue holds three packets
 abbrev pub wider_plan : List Planned
-wider_plan = plan_with 3
+wider_plan = plan_with 3 2 []
+
+-- the same with a PrioSched between the first Queue and its device
+abbrev pub scheduled_plan : List Planned
+scheduled_plan = plan_with 1 6 (planned (codes "o") prio (2 ∷ []) ∷ [])
 
 -- the first sender sends two packets, and the second one
 abbrev pub traces : List (List Packet)

@@ -5,7 +5,7 @@ ghost use Rattle.std.specs.Prelude.{[], ◌∷◌};
 ghost use Rattle.clk_drain.specs.Outcome.{IsSettledOutcome};
 ghost use Rattle.clk_drain.specs.Examples.{sent, device_a, device_b, tallies, emitted_twice, given_twice, refused_emitted, emitted_none, asks_beside, moment_falls, below_capacity, head_held, other_held, other_emitted, packet_lost, other_evicted, packet_forgotten, tally_missing, tallies_turned, tally_twice, sender_unknown, never_sent, with_never_sent, queue_evicts, with_first_evicted, front_drop_refuses, with_last_refused, both_out, with_both, swapped_by_device, swapped_by_queue, senders_swapped, with_none_evicted, device_ab, other_gave};
 ghost use Rattle.clk_drain.specs.Moments.{HasMoments};
-ghost use Rattle.clk_drain.specs.RunExamples.{plan, wider_plan, MayComeTo, NeverComesTo, log_a, log_b, only_closing, pull_too_many, step_skipped, closing_late, closing_pauses, run_lists, device_missing, device_too_many, log_missing, emitted_missing, logs_swapped, devices_swapped, in_other_list, tally_left_out, with_pull_too_many, with_closing_late};
+ghost use Rattle.clk_drain.specs.RunExamples.{plan, wider_plan, scheduled_plan, MayComeTo, NeverComesTo, log_a, log_b, only_closing, pull_too_many, step_skipped, closing_late, closing_pauses, run_lists, device_missing, device_too_many, log_missing, emitted_missing, logs_swapped, devices_swapped, in_other_list, tally_left_out, with_pull_too_many, with_closing_late};
 
 /// Which outcomes of worked examples are settled.
 pub fn outcome_examples()
@@ -53,6 +53,7 @@ pub fn moment_examples()
 pub fn run_examples()
     ensures is_run { MayComeTo plan run_lists }
     ensures not_of_wider_plan { NeverComesTo wider_plan run_lists }
+    ensures not_of_scheduled_plan { NeverComesTo scheduled_plan run_lists }
     ensures not_device_missing { NeverComesTo plan device_missing }
     ensures not_device_too_many { NeverComesTo plan device_too_many }
     ensures not_log_missing { NeverComesTo plan log_missing }

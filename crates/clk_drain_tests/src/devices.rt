@@ -1,13 +1,17 @@
 //! Runs of plans with several devices.
 
 ghost use Rattle.std.specs.Prelude.{◌≤◌};
+ghost use Rattle.clk_drain.specs.Limits.{most_limit};
 
 use crate::gates::{Calls, DevicesMeet};
-use crate::running::{assert_all_accounted, records, run_text, traces};
-use clk_drain::{Free, Outcome};
+use crate::running::{assert_all_accepted, assert_all_accounted, records, run_text, traces};
+use clk_drain::{Free, Outcome, run};
 use clk_packet::Fault;
+use clk_tree::Plan;
 use std::alloc::Global;
 use std::process::Abort;
+use std::sync::Wait;
+use std::thread::Threads;
 
 /// Two devices, each fed by a queue that may hold a thousand packets, with four senders each.
 const FOUR_AT_EACH: &str =
@@ -25,8 +29,8 @@ const SENDERS: u16 = 8;
 
 const PACKETS: u32 = 3;
 
-/// How often many devices run.
-const ROUNDS: u32 = 20;
+/// How often many devices run with the same limit of pulls.
+const ROUNDS: u32 = 200;
 
 // Many devices with a queue and senders each.
 fn many_devices(alloc: Global) -> Result<String, Fault> {
@@ -102,6 +106,7 @@ fn two_devices_run(rt: HostRuntime) -> Result<(), Fault> {
     for tally in &outcome.tallies {
         assert_eq!(rt; tally.accepted.as_slice().len(), 100);
     }
+    assert_all_accepted(&rt, alloc, &traces, &outcome)?;
     assert_own_senders(&rt, &outcome, 2, 4);
     assert_logged(&rt, alloc, &outcome)
 }
@@ -111,28 +116,63 @@ fn two_devices_threads(rt: HostRuntime) -> Result<(), Fault> {
     let alloc = rt.alloc();
     let traces = traces(alloc, records(alloc, b"01", 1)?)?;
     let gate = DevicesMeet {
-        pulls: Calls::none(),
+        first: Calls::none(),
+        second: Calls::none(),
     };
     let outcome = run_text(&rt, alloc, ONE_AT_EACH, &traces, 1000, &gate)?;
     assert!(rt;
-        gate.pulls.came(),
+        gate.first.came() && gate.second.came(),
         "the first pulls of two devices wait for one another, and a producer for both"
     );
+    assert_eq!(rt; (gate.first.count(), gate.second.count()), (1, 1));
     assert_all_accounted(&rt, alloc, &traces, &outcome, 2)?;
+    assert_all_accepted(&rt, alloc, &traces, &outcome)?;
     assert_own_senders(&rt, &outcome, 2, 1);
     Ok(())
 }
 
-#[test]
-fn many_devices_many_rounds(rt: HostRuntime) -> Result<(), Fault> {
-    let alloc = rt.alloc();
-    let text = many_devices(alloc)?;
+// Runs many devices round after round, each pulled so often at most while producers run. Fails unless in each round all that is sent
+// is accepted, and comes out at its own device.
+fn assert_rounds<R: Threads + Wait + Abort + Sync>(
+    rt: &R,
+    alloc: Global,
+    limit: u32,
+) -> Result<(), Fault>
+    requires limit { (1 ≤ limit) × (limit ≤ most_limit) }
+{
+    let plan = Plan::read(alloc, many_devices(alloc)?.as_bytes())?;
     let traces = traces(alloc, many_records(alloc)?)?;
     for _ in 0..ROUNDS {
-        let outcome = run_text(&rt, alloc, &text, &traces, 1000, &Free)?;
-        assert_all_accounted(&rt, alloc, &traces, &outcome, 64)?;
-        assert_own_senders(&rt, &outcome, DEVICES, SENDERS);
-        assert_logged(&rt, alloc, &outcome)?;
+        let outcome = run(rt, alloc, rt, &plan, &traces, 1, limit, &Free)?;
+        assert_all_accounted(rt, alloc, &traces, &outcome, 64)?;
+        assert_all_accepted(rt, alloc, &traces, &outcome)?;
+        assert_own_senders(rt, &outcome, DEVICES, SENDERS);
+        assert_logged(rt, alloc, &outcome)?;
     }
     Ok(())
+}
+
+#[test]
+fn many_devices_with_one_pull_each(rt: HostRuntime) -> Result<(), Fault> {
+    assert_rounds(&rt, rt.alloc(), 1)
+}
+
+#[test]
+fn many_devices_with_ten_pulls_each(rt: HostRuntime) -> Result<(), Fault> {
+    assert_rounds(&rt, rt.alloc(), 10)
+}
+
+#[test]
+fn many_devices_with_a_hundred_pulls_each(rt: HostRuntime) -> Result<(), Fault> {
+    assert_rounds(&rt, rt.alloc(), 100)
+}
+
+#[test]
+fn many_devices_with_a_thousand_pulls_each(rt: HostRuntime) -> Result<(), Fault> {
+    assert_rounds(&rt, rt.alloc(), 1000)
+}
+
+#[test]
+fn many_devices_with_a_million_pulls_each(rt: HostRuntime) -> Result<(), Fault> {
+    assert_rounds(&rt, rt.alloc(), 1_000_000)
 }

@@ -127,23 +127,35 @@ impl Gate for InTurns {
     }
 }
 
-/// The first pulls of two devices wait for each other, and the first offer of sender 0 waits for both.
+/// The first pull of device 0 and the first of device 1 wait for each other, and the first offer of sender 0 waits for both.
 #[derive(Drop)]
 pub struct DevicesMeet {
-    pub pulls: Calls,
+    pub first: Calls,
+    pub second: Calls,
+}
+
+impl DevicesMeet {
+    fn wait_for_both(&self) {
+        self.first.wait_for(1);
+        self.second.wait_for(1);
+    }
 }
 
 impl Gate for DevicesMeet {
     fn before(&self, sender: u16, number: u32) {
         if sender == 0 && number == 0 {
-            self.pulls.wait_for(2);
+            self.wait_for_both();
         }
     }
 
-    fn pulled(&self, _device: u16, n: u64) {
+    fn pulled(&self, device: u16, n: u64) {
         if n == 1 {
-            self.pulls.add();
-            self.pulls.wait_for(2);
+            match device {
+                0 => self.first.add(),
+                1 => self.second.add(),
+                _ => {}
+            }
+            self.wait_for_both();
         }
     }
 }

@@ -9,6 +9,8 @@ mod devices;
 #[cfg(test)]
 mod gates;
 #[cfg(test)]
+mod library;
+#[cfg(test)]
 mod memory;
 #[cfg(test)]
 mod running;

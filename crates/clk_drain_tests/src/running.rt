@@ -133,6 +133,35 @@ pub fn assert_all_accounted(
     Ok(())
 }
 
+// Fails unless a tally has all that its sender sends as accepted, and nothing as refused or evicted.
+fn assert_accepted(
+    rt: &impl Abort,
+    alloc: Global,
+    traces: &Traces,
+    tally: &Tally,
+) -> Result<(), Fault> {
+    assert_eq!(rt;
+        tally.accepted.as_slice().to_vec(alloc)?,
+        sent_by(alloc, traces, tally.sender)?
+    );
+    assert!(rt; tally.refused.as_slice().is_empty());
+    assert!(rt; tally.evicted.as_slice().is_empty());
+    Ok(())
+}
+
+/// Fails unless all that each sender sends was accepted, and nothing was evicted.
+pub fn assert_all_accepted(
+    rt: &impl Abort,
+    alloc: Global,
+    traces: &Traces,
+    outcome: &Outcome,
+) -> Result<(), Fault> {
+    for tally in &outcome.tallies {
+        assert_accepted(rt, alloc, traces, tally)?;
+    }
+    Ok(())
+}
+
 #[test]
 fn eight_senders_one_queue(rt: HostRuntime) -> Result<(), Fault> {
     let alloc = rt.alloc();
@@ -141,10 +170,8 @@ fn eight_senders_one_queue(rt: HostRuntime) -> Result<(), Fault> {
     assert_all_accounted(&rt, alloc, &traces, &outcome, 8)?;
     for tally in &outcome.tallies {
         assert_eq!(rt; tally.accepted.as_slice().len(), 100);
-        assert!(rt; tally.refused.as_slice().is_empty());
-        assert!(rt; tally.evicted.as_slice().is_empty());
     }
-    Ok(())
+    assert_all_accepted(&rt, alloc, &traces, &outcome)
 }
 
 #[test]

@@ -9,6 +9,9 @@ use std::marker::Model;
 use std::sync::Wait;
 use std::thread;
 
+/// How many turns a consumer that found nothing leaves to other threads before it looks again.
+const TURNS: u32 = 64;
+
 /// A device's session, with the inlets over which it is pulled.
 #[derive(Drop)]
 pub struct Consumer<'a, W: Wait> {
@@ -68,8 +71,15 @@ impl<'a, W: Wait> Consumer<'a, W> {
         let got = self.inlets.pull(&mut self.session, moment)?;
         course.gate.pulled(self.device, u64::from(number));
         if got.is_none() {
-            thread::yield_now();
+            leave_turns();
         }
         Ok(())
+    }
+}
+
+// Lets other threads go first, for some turns.
+fn leave_turns() {
+    for _ in 0..TURNS {
+        thread::yield_now();
     }
 }

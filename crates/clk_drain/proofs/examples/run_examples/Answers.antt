@@ -5,16 +5,17 @@ use Rattle.clk_packet.specs.declared.packet.Packet.{Packet}
 use Rattle.clk_packet.specs.declared.packet.Kind.TheVariants.{TailDrop}
 use Rattle.clk_packet.specs.Trace.{sent_by}
 use Rattle.clk_ruled.specs.Lists.{has_sender}
-use Rattle.clk_sched.specs.Tree.{queue}
+use Rattle.clk_sched.specs.Tree.{Tree, queue, scheduler}
+use Rattle.clk_sched.specs.Run.{IsRun}
 use Rattle.clk_sched.specs.Results.{emitted}
 use Rattle.clk_sched.specs.Examples.Priority.{p0_0, p1_0}
 use Rattle.clk_tree.specs.Plan.{Planned}
-use Rattle.clk_tree.specs.PlanTree.{device_count}
+use Rattle.clk_tree.specs.PlanTree.{IsTreeOf, device_count}
 use Rattle.clk_drain.specs.declared.outcome.Outcome.{Outcome}
 use Rattle.clk_drain.specs.Moments.{HasMoments}
 use Rattle.clk_drain.specs.Outcome.{SharedQueue, Device, senders_to, IsSettledOutcome, IsQueueSettled}
 use Rattle.clk_drain.specs.Run.{IsDeviceOf, AreDevicesFrom, IsRunOutcome}
-use Rattle.clk_drain.specs.RunExamples.{plan, wider_plan, traces, Lists, HasLists, log_a, log_b, pull_too_many, closing_late, run_lists, device_missing, device_too_many, log_missing, emitted_missing, logs_swapped, devices_swapped, in_other_list, tally_left_out, with_pull_too_many, with_closing_late}
+use Rattle.clk_drain.specs.RunExamples.{plan, wider_plan, scheduled_plan, traces, Lists, HasLists, log_a, log_b, pull_too_many, closing_late, run_lists, device_missing, device_too_many, log_missing, emitted_missing, logs_swapped, devices_swapped, in_other_list, tally_left_out, with_pull_too_many, with_closing_late}
 use Rattle.clk_drain.proofs.WorkedMoments.{too-many, late}
 use Rattle.clk_drain.proofs.examples.run_examples.Goals as goal
 
@@ -149,6 +150,17 @@ returns-clause-not_of_wider_plan c =
     let t = of-two wider_plan run_lists outcome refl h o in
     let queues = subst (AllByRecursion (IsQueueSettled (sent_by traces) run_lists.tallies t.a)) t.is_a.queues t.settled.settled.0.queues in
     let full = queues.0.reached (lit≤ tt) in absurd (omega (arith, full))
+
+-- A scheduler that gave a packet was visited.
+unvisited : (tree : Tree) → IsTreeOf scheduled_plan 0 tree → IsRun tree log_a → ⊥
+unvisited (queue n) is run = let number = is.0 in absurd (cc)
+unvisited (scheduler class inputs) is run = let got = run.below.1.1.0.0 in absurd (cc)
+
+pub returns-clause-not_of_scheduled_plan : goal.returns-clause-not_of_scheduled_plan
+returns-clause-not_of_scheduled_plan c =
+    λ outcome h o.
+    let t = of-two scheduled_plan run_lists outcome refl h o in
+    unvisited t.a.tree t.is_a.tree (subst (IsRun t.a.tree) (sym (first-log scheduled_plan run_lists t)) t.settled.settled.0.run)
 
 pub returns-clause-not_device_missing : goal.returns-clause-not_device_missing
 returns-clause-not_device_missing c = λ outcome h o. let counts = ap length (of-two plan device_missing outcome refl h o).logged in absurd (omega (arith, counts))
