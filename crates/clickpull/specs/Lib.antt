@@ -1,11 +1,2 @@
--- What a script and its answer are.
-pub mod Script
-pub mod Meaning
-pub mod Fields
-pub mod Router
-pub mod Rows
-pub mod Lines
-pub mod OneMeaning
+-- What a run writes.
 pub mod Running
-pub mod OneDevice
-pub mod Examples

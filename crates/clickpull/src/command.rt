@@ -7,13 +7,13 @@ ghost use Rattle.clk_packet.specs.Bytes.{read_failures, write_failures};
 
 use crate::builtin;
 use crate::files::{open_file, read_plan, write_visits};
-use crate::run::{run_plan, run_script};
 use crate::running::run_trace;
 use crate::words::{Asked, asked_by};
 use clap::Error;
 use clap::error::ErrorKind;
 use clk_packet::{Fault, Sink, Source, write_all};
 use clk_sched::Visit;
+use clk_script::{run_script, run_script_logged};
 use clk_tree::Plan;
 use std::alloc::Global;
 use std::rt::Files;
@@ -104,8 +104,9 @@ fn perform<H: Files + AllocGlobal + Threads + Wait, P: Wait + Sync, R: Source, W
             visits,
         } => {
             let plan = read_plan(rt, alloc, tree)?;
-            let past = run_plan(alloc, &mut open_file(rt, script)?, writer, &plan)?;
-            keep_visits(rt, alloc, visits, &past.logs)
+            let mut script = open_file(rt, script)?;
+            let logs = run_script_logged(alloc, &mut script, writer, &plan)?;
+            keep_visits(rt, alloc, visits, &logs)
         }
         Asked::Run {
             tree,

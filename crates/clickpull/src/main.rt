@@ -1,39 +1,18 @@
 //! Runs scripts of sends and pulls, and traces from producers on threads, over queues and pull schedulers.
 #![tactic(auto)]
 
-mod answer;
 mod builtin;
 mod command;
-mod devices;
 mod faults;
-mod fields;
 mod files;
-mod laws;
-mod lines;
 mod pace;
-mod past;
-mod queues;
-mod reading;
-mod router;
-mod rows;
-mod run;
 mod running;
-mod script;
-mod senders;
-mod tallies;
-mod text;
 mod words;
-mod writing;
 
 use clk_packet::{Fault, FromRead, Sink, ToWrite, write_all};
+pub use clk_script::run_script;
 pub use command::command;
 pub use faults::fault_line;
-pub use laws::{
-    closing_examples, devices_of_plans_stand_apart, devices_stand_apart,
-    one_device_needs_no_number, plans_have_at_most_one_meaning, script_examples,
-    scripts_have_at_most_one_meaning, word_examples,
-};
-pub use run::run_script;
 use std::process::ExitCode;
 use std::rt::{Env, Runtime};
 use std::sync::Wait;

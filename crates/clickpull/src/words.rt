@@ -185,21 +185,22 @@ fn script<'a>(alloc: Global) -> Result<Command<'a>, AllocError> {
 
 const TRACE_MEANS: &str = "A file with a record a line, 'S,L': sender S sends a packet of L bytes";
 
-const STEP_MEANS: &str = "Pulls each link once every N ticks while senders send: 1 to 1000";
+const STEP_MEANS: &str = "Pulls each device once every N ticks while senders send: 1 to 1000";
 
-const LIMIT_MEANS: &str = "Pulls each link N times at most while senders send: 1 to 1000000";
+const LIMIT_MEANS: &str = "Pulls each device N times at most while senders send: 1 to 1000000";
 
 const RUN_MORE: &str = "\
 Each sender has a thread of its own, and offers its packets of the trace in order, as fast as it can. Meanwhile
-the link pulls, first at moment N of --step, until all have sent what they send or it pulled as often as --limit
-lets it. Then it pulls one tick apart until every packet is out, and each sender is accounted for.
+each device is pulled, first at moment N of --step, until all have sent what they send or it was pulled as often
+as --limit lets it. Then the devices are emptied one after the other, each pulled one tick apart until every
+packet is out, and each sender is accounted for. Most trees have one device, the link.
 
 How the senders' packets mix, and which of them a full queue refuses or drops, may differ from run to run. Where
 the queues have room for all that is sent, the report is the same in each.
 
 A record of the trace has sender S (0 to 65535) send a packet of L bytes (1 to 65535). The tree is read and
 checked before the trace is opened, and the whole trace before anything is sent. With --visits FILE the log of
-the pulls is written to FILE after the report, as CSV with a row for each visit that a scheduler or the link
+the pulls is written to FILE after the report, as CSV with a row for each visit that a scheduler or a device
 made. A file that is there is overwritten.
 
 Examples:

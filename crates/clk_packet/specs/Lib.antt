@@ -7,4 +7,5 @@ pub mod Lengths
 pub mod Limits
 pub mod Numbers
 pub mod Packets
+pub mod Plain
 pub mod Trace

@@ -45,3 +45,11 @@ pub fn write_all<W: Sink>(writer: &mut W, text: &[u8]) -> Result<(), Fault>
     }
     Ok(())
 }
+
+/// Gives the memory of a text back. The block is made small before it is freed: the C library takes a large block that is freed as a
+/// sign that such blocks come and go, and from then on grows a log of up to that size by copies.
+pub fn let_go(text: Vec<u8>) {
+    let mut text = text;
+    text.clear();
+    text.shrink_to(1);
+}

@@ -14,13 +14,13 @@ mod packets;
 mod tally;
 mod traces;
 
-pub use bytes::{read_up_to, write_all};
+pub use bytes::{let_go, read_up_to, write_all};
 pub use failing::{FailingSink, FailingSource};
 pub use failures::Failures;
 pub use fault::Fault;
 pub use from_std::{FromRead, ToWrite};
 pub use io::{Failed, Sink, Source};
-pub use number::number_in;
+pub use number::{number_before, number_in};
 pub use packet::{Kind, Offered, Packet};
 pub use packets::Packets;
 pub use tally::Tally;

@@ -1,8 +1,9 @@
 //! Traces: what each sender sends, in order.
 
+mod plain;
 mod records;
 
-use crate::bytes::read_up_to;
+use crate::bytes::{let_go, read_up_to};
 use crate::fault::Fault;
 use crate::io::Source;
 use crate::lengths::{Length, Lengths};
@@ -59,7 +60,9 @@ impl Traces {
         ensures limit { Takes (most_trace_bytes + 1) (R.Source.remaining reader.old) (R.Source.remaining reader.new) }
     {
         let text = read_up_to(alloc, reader, MAX_BYTES + 1)?;
-        read_text(alloc, &text)
+        let traces = read_text(alloc, &text);
+        let_go(text);
+        traces
     }
 
     /// How many packets a sender sends; all senders together send at most 1,000,000. Takes the same time whatever the trace.

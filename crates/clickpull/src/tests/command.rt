@@ -27,12 +27,23 @@ pub fn answer_within(
     room: usize,
     errors_room: usize,
 ) -> Result<Answered, Fault> {
+    answer_to(rt, words, SCRIPT, room, errors_room)
+}
+
+// The same to another script on standard input.
+fn answer_to(
+    rt: &(impl Files + AllocGlobal + Threads + Wait + Sync),
+    words: &str,
+    script: &[u8],
+    room: usize,
+    errors_room: usize,
+) -> Result<Answered, Fault> {
     let alloc = rt.alloc();
     let mut list = Vec::new(alloc);
     for word in words.split_ascii_whitespace() {
         list.push(String::from_str(alloc, word)?)?;
     }
-    let mut reader = FailingSource::new(SCRIPT.to_vec(alloc)?, usize::MAX);
+    let mut reader = FailingSource::new(script.to_vec(alloc)?, usize::MAX);
     let mut writer = FailingSink::new(vec![in alloc; 0; room]?);
     let mut errors = FailingSink::new(vec![in alloc; 0; errors_room]?);
     let outcome = command(rt, rt, list, &mut reader, &mut writer, &mut errors);
@@ -72,6 +83,14 @@ const LINES: &[u8] =
 #[test]
 fn no_words_run_standard_input_over_the_built_in_tree(rt: HostRuntime) {
     assert_writes(&rt, "", Ok(0), LINES);
+}
+
+#[test]
+fn an_empty_script_writes_nothing(rt: HostRuntime) {
+    let answered = answer_to(&rt, "", b"", AMPLE, AMPLE).expect(&rt, "ample memory");
+    assert_eq!(rt; answered.outcome, Ok(0));
+    assert!(rt; answered.written.is_empty());
+    assert!(rt; answered.told.is_empty());
 }
 
 /// Words that are refused, and a part of what is said of each.

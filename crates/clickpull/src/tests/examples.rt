@@ -1,9 +1,7 @@
 //! The examples: each script or trace over its tree is answered as it is said to be. `tests/examples` makes this file.
 
-use super::AMPLE;
-use super::command::answer_within;
+use super::command::assert_writes;
 use super::files::write;
-use super::row::assert_writes;
 use super::running::assert_reports;
 use std::fs;
 use std::test::Fail;
@@ -72,25 +70,16 @@ const RUNS: [(&str, &str, &str); 1] = [
 ];
 
 #[test]
-fn scripts_are_answered(rt: HostRuntime) {
-    for (tree, script, answer, _) in &SCRIPTS {
-        assert_writes(&rt, rt.alloc(), tree, script, answer);
-    }
-}
-
-#[test]
-fn visits_of_scripts_are_written(rt: HostRuntime) -> Result<(), Fail> {
-    for (tree, script, _, visits) in SCRIPTS {
-        if visits.is_empty() {
-            continue;
-        }
+fn scripts_are_answered(rt: HostRuntime) -> Result<(), Fail> {
+    for (tree, script, answer, visits) in SCRIPTS {
         write(&rt, "out/example.click", tree)?;
         write(&rt, "out/example.script", script)?;
         let words = "script out/example.click out/example.script --visits out/example.csv";
-        let answered = answer_within(&rt, words, AMPLE, AMPLE).expect(&rt, "ample memory");
-        assert_eq!(rt; answered.outcome, Ok(0));
-        let text = fs::read(&rt, "out/example.csv")?;
-        assert_eq!(rt; text.as_slice(), visits.as_bytes());
+        assert_writes(&rt, words, Ok(0), answer.as_bytes());
+        if !visits.is_empty() {
+            let text = fs::read(&rt, "out/example.csv")?;
+            assert_eq!(rt; text.as_slice(), visits.as_bytes());
+        }
     }
     Ok(())
 }

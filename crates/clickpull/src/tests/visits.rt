@@ -3,10 +3,12 @@
 use super::AMPLE;
 use super::command::{answer_within, assert_writes};
 use super::files::write;
-use super::row::logs_of;
-use clk_packet::{Fault, Packet};
+use clk_packet::{FailingSink, FailingSource, Fault, Packet};
 use clk_sched::Visit;
+use clk_script::run_script_logged;
+use clk_tree::Plan;
 use csv::{Reader, StringRecord};
+use std::alloc::Global;
 use std::fs;
 use std::process::Abort;
 use std::rt::Files;
@@ -68,6 +70,14 @@ pub fn read_back(rt: &(impl Files + AllocGlobal + Abort), path: &str) -> Result<
         visits.push(visit_of(&row).expect(rt, "a visit"))?;
     }
     Ok(visits)
+}
+
+/// The visits that a script makes over a tree, of each device.
+fn logs_of(alloc: Global, tree: &str, script: &str) -> Result<Vec<Vec<Visit>>, Fault> {
+    let plan = Plan::read(alloc, tree.as_bytes())?;
+    let mut reader = FailingSource::new(script.as_bytes().to_vec(alloc)?, usize::MAX);
+    let mut writer = FailingSink::new(vec![in alloc; 0; AMPLE]?);
+    run_script_logged(alloc, &mut reader, &mut writer, &plan)
 }
 
 #[test]

@@ -9,6 +9,7 @@ use crate::fault::Fault;
 use crate::lengths::Length;
 use crate::number::number_in;
 use crate::traces::Traces;
+use crate::traces::plain::read_plain;
 use csv::{ByteRecord, ReaderBuilder};
 use std::alloc::Global;
 
@@ -16,9 +17,10 @@ use std::alloc::Global;
 pub const MAX_BYTES: usize = 33_554_432;
 
 /// How many records a trace may have.
-const MAX_RECORDS: u32 = 1_000_000;
+pub const MAX_RECORDS: u32 = 1_000_000;
 
-/// Reads the text of a trace. Fault 1 where memory is refused, and otherwise what is wrong with the text.
+/// Reads the text of a trace: by plain lines, where all of its lines are plain, and otherwise as `csv` reads it. Fault 1 where memory
+/// is refused, and otherwise what is wrong with the text.
 pub fn read_text(alloc: Global, text: &[u8]) -> Result<Traces, Fault>
     ensures { MatchResult result
         (λ traces. (trace_fault text.now ≡ None) × ((s : _) → shown (sent_by traces s) ≡ sent s (pairs_of text.now)) × (packets_in traces ≤ most_records))
@@ -26,6 +28,9 @@ pub fn read_text(alloc: Global, text: &[u8]) -> Result<Traces, Fault>
 {
     if text.len() > MAX_BYTES {
         return Err(Fault::TooLarge);
+    }
+    if let Some(traces) = read_plain(alloc, text)? {
+        return Ok(traces);
     }
     let mut reader = ReaderBuilder::new()
         .has_headers(false)

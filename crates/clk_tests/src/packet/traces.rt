@@ -17,6 +17,12 @@ const FORTY: &[u8] = b"0,1\n1,65535\n2,64\n3,1500\n65535,9\n0,2\n0,3\n\"7\",\"8\
     0,1\n1,65535\n2,64\n3,1500\n65535,9\n0,2\n0,3\n\"7\",\"8\"\n10,11\r\n12,13\n\
     0,1\n1,65535\n2,64\n3,1500\n65535,9\n0,2\n0,3\n\"7\",\"8\"\n10,11\r\n12,13";
 
+/// Forty records of senders with small numbers, which take less time to read.
+const SMALL: &[u8] = b"0,1\n1,65535\n2,64\n3,1500\n4,9\n0,2\n0,3\n\"7\",\"8\"\n10,11\r\n12,13\n\
+    0,1\n1,65535\n2,64\n3,1500\n4,9\n0,2\n0,3\n\"7\",\"8\"\n10,11\r\n12,13\n\
+    0,1\n1,65535\n2,64\n3,1500\n4,9\n0,2\n0,3\n\"7\",\"8\"\n10,11\r\n12,13\n\
+    0,1\n1,65535\n2,64\n3,1500\n4,9\n0,2\n0,3\n\"7\",\"8\"\n10,11\r\n12,13";
+
 fn read(alloc: Global, text: &[u8]) -> Result<Traces, Fault> {
     Traces::read_csv(alloc, &mut FromRead::new(text))
 }
@@ -49,7 +55,7 @@ fn assert_sends(rt: &impl Abort, traces: &Traces, sender: u16, lengths: &[u16]) 
 }
 
 /// Traces with a bad record, and which it is.
-const BAD: [(&[u8], u32); 9] = [
+const BAD: [(&[u8], u32); 14] = [
     (b"1,2\n3", 2),
     (b"1,2,3", 1),
     (b"1,2\n\n3,4\n5,\n", 3),
@@ -59,6 +65,11 @@ const BAD: [(&[u8], u32); 9] = [
     (b"0, 5", 1),
     (b"3,10\n3,0", 2),
     (b"99999999999999999999,1", 1),
+    (b"1,2\n3,0\n", 2),
+    (b"1,2\n3,65536\n", 2),
+    (b"1,2\n,5\n", 2),
+    (b"1,2\n3,4x\n", 2),
+    (b"0,1\n70000,1\n", 2),
 ];
 
 #[test]
@@ -104,6 +115,39 @@ fn records_are_as_csv_reads_them(rt: HostRuntime) -> Result<(), Fail> {
     Ok(())
 }
 
+/// Traces that say the same: the lines of the first are two numbers in digits alone, and a line feed, and the second has more to be
+/// read past.
+const ALIKE: [(&[u8], &[u8]); 9] = [
+    (b"1,2\n3,4\n1,5\n", b"\"1\",2\n3,\"4\"\n\"1\",\"5\"\n"),
+    (b"1,2\n3,4\n1,5\n", b"1,2\r\n3,4\r\n1,5\r\n"),
+    (b"1,2\n3,4\n1,5\n", b"1,2\n3,4\r1,5\n"),
+    (b"1,2\n3,4\n1,5\n", b"\n1,2\n\n\n3,4\n1,5\n\n"),
+    (b"1,2\n3,4\n1,5\n", b"1,2\n3,4\n1,5"),
+    (b"1,2\n3,4\n1,5\n", b"\xEF\xBB\xBF1,2\n3,4\n1,5\n"),
+    (b"001,0002\n03,4\n1,00005\n", b"1,2\n3,4\n1,5"),
+    (b"1,2\n3,4\n1,5\n", b"01,2\n003,\"04\"\n1,000005"),
+    (b"2,65535\n0,1\n3,65535\n", b"2,\"65535\"\n0,1\n3,65535\n"),
+];
+
+// Fails unless two traces send the same, of senders below 4, and sender 3 sends something.
+fn assert_alike(rt: &impl Abort, one: &Traces, other: &Traces) {
+    assert!(rt; one.sent(3, 0).is_some());
+    for sender in 0..4 {
+        assert_eq!(rt; one.count(sender), other.count(sender));
+        for number in 0..3 {
+            assert_eq!(rt; told(one, sender, number), told(other, sender, number));
+        }
+    }
+}
+
+#[test]
+fn plain_lines_say_what_other_lines_do(rt: HostRuntime) -> Result<(), Fail> {
+    for (plain, other) in ALIKE {
+        assert_alike(&rt, &read(rt.alloc(), plain)?, &read(rt.alloc(), other)?);
+    }
+    Ok(())
+}
+
 // Whether a trace was read, or a record of it is bad.
 fn is_read_or_bad(outcome: Result<Traces, Fault>) -> bool {
     match outcome {
@@ -114,17 +158,11 @@ fn is_read_or_bad(outcome: Result<Traces, Fault>) -> bool {
 
 #[test]
 fn a_front_of_a_trace_is_one_or_has_a_bad_record(rt: HostRuntime) {
-    for end in 0..=FORTY.len() {
-        let (front, _) = FORTY.split_at(end);
+    for end in 0..=SMALL.len() {
+        let (front, _) = SMALL.split_at(end);
         assert!(rt; is_read_or_bad(read(rt.alloc(), front)), "{end} bytes");
     }
 }
-
-/// Forty records of senders with small numbers, which take less time to read.
-const SMALL: &[u8] = b"0,1\n1,65535\n2,64\n3,1500\n4,9\n0,2\n0,3\n\"7\",\"8\"\n10,11\r\n12,13\n\
-    0,1\n1,65535\n2,64\n3,1500\n4,9\n0,2\n0,3\n\"7\",\"8\"\n10,11\r\n12,13\n\
-    0,1\n1,65535\n2,64\n3,1500\n4,9\n0,2\n0,3\n\"7\",\"8\"\n10,11\r\n12,13\n\
-    0,1\n1,65535\n2,64\n3,1500\n4,9\n0,2\n0,3\n\"7\",\"8\"\n10,11\r\n12,13";
 
 /// The bytes that are put in the place of each byte of a trace.
 const OTHERS: [u8; 8] = [b'x', b'9', b',', b'"', b'\n', b'\r', 200, 0];
@@ -160,11 +198,13 @@ fn a_failing_reader_is_told(rt: HostRuntime) -> Result<(), Fail> {
     Ok(())
 }
 
-// Each allocation is refused in turn by tests/refuse-memory.
+// Each allocation is refused in turn by tests/refuse-memory: by plain lines, and by `csv`.
 #[test]
 fn reading_takes_memory(rt: HostRuntime) {
-    let refused = read(rt.alloc(), b"0,1\n3,10\n0,2\n").err();
-    assert_eq!(rt; refused, None);
+    for text in [b"0,1\n3,10\n0,2\n".as_slice(), b"0,1\n3,\"10\"\n0,2\n"] {
+        let refused = read(rt.alloc(), text).err();
+        assert_eq!(rt; refused, None);
+    }
 }
 
 // A part, so many times.
@@ -204,6 +244,15 @@ fn a_trace_may_not_have_a_record_more(rt: HostRuntime) -> Result<(), Fail> {
     let mut text = million(rt.alloc())?;
     text.extend_from_slice(b"0,1\n")?;
     assert_refused(&rt, rt.alloc(), &text, Fault::TooLarge);
+    Ok(())
+}
+
+#[test]
+fn empty_lines_may_follow_a_million_records(rt: HostRuntime) -> Result<(), Fail> {
+    let mut text = million(rt.alloc())?;
+    text.extend_from_slice(b"\n\r\n\n")?;
+    let traces = read(rt.alloc(), &text)?;
+    assert_eq!(rt; traces.count(0), RECORDS);
     Ok(())
 }
 

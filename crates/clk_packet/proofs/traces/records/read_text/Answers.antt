@@ -1,4 +1,4 @@
-use Rattle.std.proofs.Common.{Bor, List, ℕ, Some, ◌∙◌, inl, inr, refl, sym, subst, rules, arith}
+use Rattle.std.proofs.Common.{Bor, List, ℕ, Some, ◌∙◌, inl, inr, sym, subst, rules, arith}
 use Rattle.std.proofs.lemmas.Result.{err_from_is_err_and}
 use Rattle.csv.specs.Reading.{default_config}
 use Rattle.csv.specs.Records.{fields_of}
@@ -30,7 +30,7 @@ returns-then-not-found c =
 
 pub returns-in_err-sender : goal.returns-in_err-sender
 returns-in_err-sender c =
-    let p = err_from_is_err_and c.from_residual.result c.from_residual.ensures.1 in
+    let p = err_from_is_err_and c.from_residual-in_err-sender.result c.from_residual-in_err-sender.ensures.1 in
     let inv = c.loop-row.invariant in
     let stands = inv.stands in
     let read = rw c.if-not-found.false at (c.in-Ok.ensures.reads inv.plain inv.ready) in

@@ -1,9 +1,0 @@
-use Rattle.std.proofs.Common.{◌-◌, length}
-use Rattle.clickpull.proofs.AnswerLemmas.{IsCarriedTo}
-use Rattle.clickpull.proofs.answer.carry_out.Given as goal
-
-abbrev pub invariant-loop-i : goal.invariant-loop-i
-invariant-loop-i l = IsCarriedTo l.fn.router l.router l.fn.rows l.rows l.i
-
-abbrev pub decreases-loop-i : goal.decreases-loop-i
-decreases-loop-i l = length l.rows - l.i

@@ -1,6 +1,0 @@
-use Rattle.std.proofs.Common.{◌≡◌, ◌≤◌, drop}
-use Rattle.clickpull.proofs.NumberLemmas.{Reads}
-use Rattle.clickpull.proofs.fields.first_number.Given as goal
-
-abbrev pub invariant-loop-byte : goal.invariant-loop-byte
-invariant-loop-byte l = record { reads : Reads l.text l.number (drop l.byte-index l.field); small : l.number ≤ l.most; len : l.len ≡ l.byte-index }

@@ -1,6 +1,0 @@
-use Rattle.clickpull.proofs.Apart.{devices-apart}
-use Rattle.clickpull.proofs.laws.devices_stand_apart.Goals as goal
-
-pub returns : goal.returns
-returns c = λ setup wired apart.
-    devices-apart setup wired apart c.histories_leave_no_choice.ensures c.runs_leave_no_choice.ensures.pulls (λ tree. (c.runs_go_on.ensures tree).start)

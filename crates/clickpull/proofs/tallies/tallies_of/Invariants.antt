@@ -1,6 +1,0 @@
-use Rattle.std.proofs.Common.{◌≡◌, map, take}
-use Rattle.clickpull.specs.Router.{tally_made}
-use Rattle.clickpull.proofs.tallies.tallies_of.Given as goal
-
-abbrev pub invariant-loop-spec : goal.invariant-loop-spec
-invariant-loop-spec l = l.tallies.items ≡ map tally_made (take l.spec-index l.specs)

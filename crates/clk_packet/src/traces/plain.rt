@@ -1,0 +1,49 @@
+//! Traces all of whose lines are plain: a sender's number, a comma, a length and a line feed, in digits alone.
+
+ghost use Rattle.std.specs.Prelude.{◌≡◌, ◌≤◌, None, IfSome, MatchResult};
+ghost use Rattle.clk_packet.specs.declared.fault.Fault.TheVariants.{Memory};
+ghost use Rattle.clk_packet.specs.Plain.{IsPlainLine};
+ghost use Rattle.clk_packet.specs.Trace.{first_fault, most_records, packets_in, pairs_of, records_of, sent, sent_by, shown};
+
+use crate::fault::Fault;
+use crate::lengths::Length;
+use crate::number::number_before;
+use crate::traces::Traces;
+use crate::traces::records::MAX_RECORDS;
+use std::alloc::Global;
+
+/// Reads the text of a trace by plain lines. None where a line isn't plain, or where there are too many of them. Fault 1 where memory
+/// is refused.
+pub fn read_plain(alloc: Global, text: &[u8]) -> Result<Option<Traces>, Fault>
+    ensures { MatchResult result
+        (λ found. IfSome found
+        (λ traces. (first_fault 1 (records_of text.now) ≡ None) × ((s : _) → shown (sent_by traces s) ≡ sent s (pairs_of text.now)) × (packets_in traces ≤ most_records)))
+        (λ fault. fault ≡ Memory) }
+{
+    let mut traces = Traces::new(alloc);
+    let mut rest = text;
+    for _ in 0..MAX_RECORDS {
+        let Some((sender, length, after)) = plain_record(rest) else {
+            break;
+        };
+        traces.add(alloc, sender, length)?;
+        rest = after;
+    }
+    if !rest.is_empty() {
+        return Ok(None);
+    }
+    Ok(Some(traces))
+}
+
+/// The sender and the length that a plain line at the front of a text says, and what follows the line. None where no plain line is
+/// there.
+fn plain_record(text: &[u8]) -> Option<(u16, Length, &[u8])>
+    ensures { IfSome result (λ r. IsPlainLine text.now r.0 r.1.bytes r.2.now) }
+{
+    let (sender, text) = number_before(text, b',', 0, 65_535)?;
+    let (length, rest) = number_before(text, b'\n', 1, 65_535)?;
+    let length = Length {
+        bytes: length as u16,
+    };
+    Some((sender as u16, length, rest))
+}

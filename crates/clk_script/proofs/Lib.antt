@@ -1,0 +1,24 @@
+-- Lemmas that answers cite.
+pub mod FieldLemmas
+pub mod NumberLemmas
+pub mod LineLemmas
+pub mod PlainLines
+pub mod Alike
+pub mod EventLemmas
+pub mod DrainLemmas
+pub mod SenderLemmas
+pub mod RouterLemmas
+pub mod TallyLemmas
+pub mod ClosingLemmas
+pub mod PlaceLemmas
+pub mod ReadingLemmas
+pub mod RowLemmas
+pub mod PassLemmas
+pub mod AnswerLemmas
+pub mod OneMeaning
+pub mod OneDevice
+pub mod OneTree
+pub mod Apart
+pub mod PlanLemmas
+pub mod ScriptLemmas
+pub mod RefusalLemmas

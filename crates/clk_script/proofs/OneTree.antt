@@ -1,0 +1,230 @@
+-- A plan has one tree for each device, and these stand over its queues.
+use Rattle.std.proofs.Common.{◌≡◌, ℕ, ◌+◌, ◌<◌, ◌==◌, ◌&&◌, ◌||◌, ◌++◌, List, [], ◌∷◌, length, map, nat_lt, zero, suc, not, Bool, true, false, if◌then◌else◌, Option, Some, None, IsSome, IfSome, MatchOption, slice_get, refl, sym, ap, ap₂, ◌∙◌, subst, arith}
+use Rattle.std.specs.Bool.{⊤}
+use Rattle.std.specs.Option.{option_or, option_map}
+use Rattle.std.specs.List.{AllByRecursion}
+use Rattle.std.proofs.lemmas.Bool.{false≢true}
+use Rattle.std.proofs.lemmas.Bool.Decides.{nat_tests}
+use Rattle.std.proofs.lemmas.Option.{slice_get-map}
+use Rattle.clk_sched.specs.Tree as sched
+use Rattle.clk_sched.specs.Tree.{Row, end, leaf, node, Tree, root, nodes, queue_in, queue_at, leaves, stands_in, are_distinct}
+use Rattle.clk_tree.specs.declared.plan.parts.SenderSpec.{SenderSpec}
+use Rattle.clk_tree.specs.Classes.{Class, sender, queue, prio, round_robin, drr, stride, shaper, device}
+use Rattle.clk_tree.specs.Plan.{Planned}
+use Rattle.clk_tree.specs.PlanTree.{is_queue, number_if, scheduler_over, sources_at, sources_of_device, device_count, IsNode, IsRowOf, IsTreeOf}
+use Rattle.clk_tree.specs.PlanParts.{Queued, queues_of, senders_of, number_of, AreRising, SendsWithin}
+use Rattle.clk_tree.specs.Shares.{AreTreesOf, AreSharedOut, all_leaves}
+use Rattle.clk_script.specs.Meaning.{Room, room_of, plan_setup, IsMeaning, MeansOver}
+use Rattle.clk_script.specs.OneMeaning.{IsWired, IsApart, HasAtMostOneMeaning}
+
+-- a queue is no scheduler
+no-scheduler : (n q inputs : ℕ) (over : sched.Class) (class : Class) → (if is_queue class then Some n else None) ≡ Some q → scheduler_over class inputs ≡ Some over → ⊥
+no-scheduler n q inputs over (sender m) is over_inputs = absurd (cc)
+no-scheduler n q inputs over (queue kind capacity) is over_inputs = absurd (cc)
+no-scheduler n q inputs over prio is over_inputs = absurd (cc)
+no-scheduler n q inputs over round_robin is over_inputs = absurd (cc)
+no-scheduler n q inputs over (drr quanta) is over_inputs = absurd (cc)
+no-scheduler n q inputs over (stride tickets) is over_inputs = absurd (cc)
+no-scheduler n q inputs over (shaper rate burst) is over_inputs = absurd (cc)
+no-scheduler n q inputs over (device word) is over_inputs = absurd (cc)
+
+not-both : (n q : ℕ) (over : sched.Class) (o : Option Planned) → number_if n o ≡ Some q → IsNode over o → ⊥
+not-both n q over None is over_inputs = over_inputs
+not-both n q over (Some e) is over_inputs = no-scheduler n q (length e.sources) over e.class is over_inputs
+
+-- an element is a scheduler of one class
+one-class : (a b : sched.Class) (o : Option Planned) → IsNode a o → IsNode b o → a ≡ b
+one-class a b None x y = absurd x
+one-class a b (Some e) x y = let same : Some a ≡ Some b = sym x ∙ y in cc
+
+-- at the same inputs stands the same row
+one-row : (plan : List Planned) (sources : List ℕ) (a b : Row) → IsRowOf plan sources a → IsRowOf plan sources b → a ≡ b
+one-row plan [] end end x y = refl
+one-row plan [] end (leaf q b) x y = absurd y
+one-row plan [] end (node class inputs b) x y = absurd y
+one-row plan [] (leaf p a) b x y = absurd x
+one-row plan [] (node class inputs a) b x y = absurd x
+one-row plan (s ∷ more) end b x y = absurd x
+one-row plan (s ∷ more) (leaf p a) end x y = absurd y
+one-row plan (s ∷ more) (leaf p a) (leaf q b) x y =
+    let same : Some p ≡ Some q = sym x.0 ∙ y.0 in
+    let number : p ≡ q = cc in
+    ap₂ leaf number (one-row plan more a b x.1 y.1)
+one-row plan (s ∷ more) (leaf p a) (node class inputs b) x y = absurd (not-both _ p class (slice_get plan s) x.0 y.0)
+one-row plan (s ∷ more) (node class inputs a) end x y = absurd y
+one-row plan (s ∷ more) (node class inputs a) (leaf q b) x y = absurd (not-both _ q class (slice_get plan s) y.0 x.0)
+one-row plan (s ∷ more) (node class inputs a) (node other lower b) x y =
+    let same : class ≡ other = one-class class other (slice_get plan s) x.0 y.0 in
+    let below : inputs ≡ lower = one-row plan (sources_at (slice_get plan s)) inputs lower x.1 y.1 in
+    let after : a ≡ b = one-row plan more a b x.2 y.2 in
+    cc
+
+one-root : (t u : Tree) → root t ≡ root u → t ≡ u
+one-root (sched.queue p) (sched.queue q) e = let same : p ≡ q = cc in ap sched.queue same
+one-root (sched.queue p) (sched.scheduler class inputs) e = absurd (cc)
+one-root (sched.scheduler class inputs) (sched.queue q) e = absurd (cc)
+one-root (sched.scheduler class inputs) (sched.scheduler other lower) e =
+    let same : class ≡ other = cc in
+    let below : inputs ≡ lower = cc in
+    ap₂ sched.scheduler same below
+
+-- a device of a plan has one tree
+one-tree : (plan : List Planned) (d : ℕ) (t u : Tree) → IsTreeOf plan d t → IsTreeOf plan d u → t ≡ u
+one-tree plan d t u x y = one-root t u (one-row plan (sources_of_device plan d) (root t) (root u) x y)
+
+-- lists that agree at each place
+same-lists : {X : Type 0} (xs ys : List X) → length xs ≡ length ys → ((i : ℕ) (x y : X) → slice_get xs i ≡ Some x → slice_get ys i ≡ Some y → x ≡ y) → xs ≡ ys
+same-lists [] [] e each = refl
+same-lists [] (y ∷ ys) e each = absurd (omega (arith, e))
+same-lists (x ∷ xs) [] e each = absurd (omega (arith, e))
+same-lists (x ∷ xs) (y ∷ ys) e each = ap₂ (λ z zs. z ∷ zs) (each 0 x y refl refl) (same-lists xs ys (omega (arith, e)) (λ i a b at other. each (suc i) a b at other))
+
+-- a plan has one list of trees
+pub one-trees : (plan : List Planned) (one other : List Tree) → AreTreesOf plan one → AreTreesOf plan other → one ≡ other
+one-trees plan one other a b = same-lists one other (a.count ∙ sym b.count) (λ d t u at there. one-tree plan d t u (a.each d t at) (b.each d u there))
+
+-- what is a leaf of a part is one of the whole
+or-later : (b c : Bool) → c ≡ true → (b || c) ≡ true
+or-later true c e = refl
+or-later false c e = e
+
+stands-left : (q : ℕ) (xs ys : List ℕ) → stands_in q xs ≡ true → stands_in q (xs ++ ys) ≡ true
+stands-left q [] ys e = absurd (false≢true e)
+stands-left q (x ∷ xs) ys e = by_here (x == q) e (stands-left q xs ys)
+  where
+    by_here : (b : Bool) → (b || stands_in q xs) ≡ true → (stands_in q xs ≡ true → stands_in q (xs ++ ys) ≡ true) → (b || stands_in q (xs ++ ys)) ≡ true
+    by_here true e rest = refl
+    by_here false e rest = rest e
+
+stands-right : (q : ℕ) (xs ys : List ℕ) → stands_in q ys ≡ true → stands_in q (xs ++ ys) ≡ true
+stands-right q [] ys e = e
+stands-right q (x ∷ xs) ys e = or-later (x == q) (stands_in q (xs ++ ys)) (stands-right q xs ys e)
+
+-- a queue that is at an input of a row is a leaf of it
+queue-stands : (above first next : ℕ) (row : Row) (x input q : ℕ) → queue_in above first next row x input ≡ Some q → stands_in q (leaves row) ≡ true
+queue-stands above first next end x input q e = absurd (cc)
+queue-stands above first next (leaf p row) x input q e = by_here ((above == x) && (first == input)) e (queue-stands above (suc first) next row x input q)
+  where
+    by_here : (b : Bool) → (if b then Some p else queue_in above (suc first) next row x input) ≡ Some q
+        → (queue_in above (suc first) next row x input ≡ Some q → stands_in q (leaves row) ≡ true) → ((p == q) || stands_in q (leaves row)) ≡ true
+    by_here true e rest = let number : p ≡ q = cc in let same : (p == q) ≡ true = grind (arith, nat_tests) in rw same refl
+    by_here false e rest = or-later (p == q) (stands_in q (leaves row)) (rest e)
+queue-stands above first next (node class inputs row) x input q e =
+    by_below (queue_in next 0 (suc next) inputs x input) e (queue-stands next 0 (suc next) inputs x input q) (queue-stands above (suc first) (suc (next + nodes inputs)) row x input q)
+  where
+    by_below : (o : Option ℕ) → option_or o (queue_in above (suc first) (suc (next + nodes inputs)) row x input) ≡ Some q → (o ≡ Some q → stands_in q (leaves inputs) ≡ true)
+        → (queue_in above (suc first) (suc (next + nodes inputs)) row x input ≡ Some q → stands_in q (leaves row) ≡ true) → stands_in q (leaves inputs ++ leaves row) ≡ true
+    by_below None e below after = stands-right q (leaves inputs) (leaves row) (after e)
+    by_below (Some p) e below after = stands-left q (leaves inputs) (leaves row) (below e)
+
+-- and of all the trees
+stands-among : (trees : List Tree) (d : ℕ) (tree : Tree) (q : ℕ) → slice_get trees d ≡ Some tree → stands_in q (leaves (root tree)) ≡ true → stands_in q (all_leaves trees) ≡ true
+stands-among [] d tree q at here = absurd (cc)
+stands-among (t ∷ trees) zero tree q at here = let same : tree ≡ t = cc in stands-left q (leaves (root t)) (all_leaves trees) (subst (λ (x : Tree). stands_in q (leaves (root x)) ≡ true) same here)
+stands-among (t ∷ trees) (suc d) tree q at here = stands-right q (leaves (root t)) (all_leaves trees) (stands-among trees d tree q at here)
+
+-- there is a room for each queue
+room-there : (queues : List Queued) (q : ℕ) → q < length queues → IsSome (slice_get (map room_of queues) q)
+room-there [] q within = absurd (omega (arith, within))
+room-there (x ∷ queues) zero within = refl
+room-there (x ∷ queues) (suc q) within = room-there queues q (omega (arith, within))
+
+rooms-there : (queues : List Queued) (senders : List SenderSpec) → AllByRecursion (SendsWithin (length queues)) senders
+    → AllByRecursion (λ (s : SenderSpec). IsSome (slice_get (map room_of queues) s.queue)) senders
+rooms-there queues [] h = tt
+rooms-there queues (s ∷ senders) h = (room-there queues s.queue h.0, rooms-there queues senders h.1)
+
+-- the setup of a plan is wired
+pub plan-wired : (plan : List Planned) (trees : List Tree) → AreSharedOut (queues_of plan) trees → AllByRecursion (SendsWithin (length (queues_of plan))) (senders_of plan)
+    → IsWired (plan_setup trees plan)
+plan-wired plan trees shared senders = record { senders = rooms-there (queues_of plan) (senders_of plan) senders; leaves = at_device }
+  where
+    at_leaf : (d : ℕ) (tree : Tree) (o : Option ℕ) (x input : ℕ) → slice_get trees d ≡ Some tree → queue_at tree x input ≡ o → IfSome o (λ q. IsSome (slice_get (map room_of (queues_of plan)) q))
+    at_leaf d tree None x input at e = tt
+    at_leaf d tree (Some q) x input at e =
+        let among : stands_in q (all_leaves trees) ≡ true = stands-among trees d tree q at (queue-stands 0 0 1 (root tree) x input q e) in
+        let within : nat_lt q (length (queues_of plan)) ≡ true = sym (shared.all q) ∙ among in
+        room-there (queues_of plan) q (grind (arith, nat_tests))
+
+    at_tree : (d x input : ℕ) (o : Option Tree) → slice_get trees d ≡ o → MatchOption o ⊤ (λ tree. IfSome (queue_at tree x input) (λ q. IsSome (slice_get (map room_of (queues_of plan)) q)))
+    at_tree d x input None e = tt
+    at_tree d x input (Some tree) e = at_leaf d tree (queue_at tree x input) x input e refl
+
+    at_device : (d x input : ℕ) → MatchOption (slice_get trees d) ⊤ (λ tree. IfSome (queue_at tree x input) (λ q. IsSome (slice_get (map room_of (queues_of plan)) q)))
+    at_device d x input = at_tree d x input (slice_get trees d) refl
+
+-- a script has one meaning over a plan
+pub plan-one_meaning : (plan : List Planned) (script one other : List ℕ) → ((trees : List Tree) → AreTreesOf plan trees → HasAtMostOneMeaning (plan_setup trees plan)) → MeansOver plan script one
+    → MeansOver plan script other → one ≡ other
+plan-one_meaning plan script one other law a b =
+    law a.trees a.are script one other a.means (subst (λ trees. IsMeaning (plan_setup trees plan) script other) (one-trees plan b.trees a.trees b.are a.are) b.means)
+
+-- no leaf stands in two trees
+both-true : (b c : Bool) → (b && c) ≡ true → (b ≡ true) × (c ≡ true)
+both-true true c e = (refl, e)
+both-true false c e = absurd (false≢true e)
+
+distinct-right : (xs ys : List ℕ) → are_distinct (xs ++ ys) ≡ true → are_distinct ys ≡ true
+distinct-right [] ys e = e
+distinct-right (x ∷ xs) ys e = let parts = both-true (not (stands_in x (xs ++ ys))) (are_distinct (xs ++ ys)) e in distinct-right xs ys parts.1
+
+distinct-apart : (xs ys : List ℕ) (q : ℕ) → are_distinct (xs ++ ys) ≡ true → stands_in q xs ≡ true → stands_in q ys ≡ true → ⊥
+distinct-apart [] ys q distinct a b = absurd (false≢true a)
+distinct-apart (x ∷ xs) ys q distinct a b =
+    let parts = both-true (not (stands_in x (xs ++ ys))) (are_distinct (xs ++ ys)) distinct in
+    by_here (x == q) refl a parts.0 (distinct-apart xs ys q parts.1)
+  where
+    by_here : (t : Bool) → (x == q) ≡ t → (t || stands_in q xs) ≡ true → not (stands_in x (xs ++ ys)) ≡ true → (stands_in q xs ≡ true → stands_in q ys ≡ true → ⊥) → ⊥
+    by_here false e a alone rest = rest a b
+    by_here true e a alone rest =
+        let same : q ≡ x = grind (arith, nat_tests) in
+        let again : stands_in x (xs ++ ys) ≡ true = stands-right x xs ys (subst (λ n. stands_in n ys ≡ true) same b) in
+        absurd (false≢true (ap not (sym again) ∙ alone))
+
+one-place : (trees : List Tree) (d e : ℕ) (t u : Tree) (q : ℕ) → are_distinct (all_leaves trees) ≡ true → slice_get trees d ≡ Some t → slice_get trees e ≡ Some u → stands_in q (leaves (root t)) ≡ true
+    → stands_in q (leaves (root u)) ≡ true → d ≡ e
+one-place [] d e t u q distinct at there a b = absurd (cc)
+one-place (x ∷ trees) zero zero t u q distinct at there a b = refl
+one-place (x ∷ trees) zero (suc e) t u q distinct at there a b =
+    let same : t ≡ x = cc in
+    absurd (distinct-apart (leaves (root x)) (all_leaves trees) q distinct (subst (λ (y : Tree). stands_in q (leaves (root y)) ≡ true) same a) (stands-among trees e u q there b))
+one-place (x ∷ trees) (suc d) zero t u q distinct at there a b =
+    let same : u ≡ x = cc in
+    absurd (distinct-apart (leaves (root x)) (all_leaves trees) q distinct (subst (λ (y : Tree). stands_in q (leaves (root y)) ≡ true) same b) (stands-among trees d t q at a))
+one-place (x ∷ trees) (suc d) (suc e) t u q distinct at there a b =
+    ap suc (one-place trees d e t u q (distinct-right (leaves (root x)) (all_leaves trees) distinct) at there a b)
+
+-- a device that is there has a tree, and a queue of a plan is of such a device
+tree-there : (trees : List Tree) (d : ℕ) → d < length trees → (t : Tree) × (slice_get trees d ≡ Some t)
+tree-there [] d within = absurd (omega (arith, within))
+tree-there (t ∷ trees) zero within = (t, refl)
+tree-there (t ∷ trees) (suc d) within = tree-there trees d (omega (arith, within))
+
+path-there : (n : ℕ) (queues : List Queued) (q : ℕ) (x : Queued) → AllByRecursion (λ (y : Queued). y.device < n) queues → slice_get queues q ≡ Some x → x.device < n
+path-there n [] q x h at = absurd (cc)
+path-there n (y ∷ queues) zero x h at = let same : y ≡ x = cc in subst (λ (z : Queued). z.device < n) same h.0
+path-there n (y ∷ queues) (suc q) x h at = path-there n queues q x h.1 at
+
+-- the devices of a plan stand apart
+pub plan-apart : (plan : List Planned) (trees : List Tree) → AreTreesOf plan trees → AreSharedOut (queues_of plan) trees → AreRising (map number_of (senders_of plan))
+    → AllByRecursion (λ (q : Queued). q.device < device_count plan) (queues_of plan) → IsApart (plan_setup trees plan)
+plan-apart plan trees are shared rising paths = record { senders = rising; leaves = λ d x input. at_tree d x input (slice_get trees d) refl }
+  where
+    at_queue : (d q : ℕ) (tree : Tree) (o : Option Queued) → slice_get trees d ≡ Some tree → stands_in q (leaves (root tree)) ≡ true → slice_get (queues_of plan) q ≡ o
+        → IfSome (option_map room_of o) (λ (room : Room). room.device ≡ d)
+    at_queue d q tree None at stands is = tt
+    at_queue d q tree (Some x) at stands is =
+        let within : x.device < length trees = subst (λ n. x.device < n) (sym are.count) (path-there (device_count plan) (queues_of plan) q x paths is) in
+        let its = tree-there trees x.device within in
+        one-place trees x.device d its.0 tree q shared.once its.1 at (shared.own q x its.0 is its.1) stands
+
+    at_leaf : (d : ℕ) (tree : Tree) (o : Option ℕ) (x input : ℕ) → slice_get trees d ≡ Some tree → queue_at tree x input ≡ o
+        → IfSome o (λ q. IfSome (slice_get (map room_of (queues_of plan)) q) (λ (room : Room). room.device ≡ d))
+    at_leaf d tree None x input at e = tt
+    at_leaf d tree (Some q) x input at e =
+        rw (slice_get-map room_of (queues_of plan) q) (at_queue d q tree (slice_get (queues_of plan) q) at (queue-stands 0 0 1 (root tree) x input q e) refl)
+
+    at_tree : (d x input : ℕ) (o : Option Tree) → slice_get trees d ≡ o
+        → MatchOption o ⊤ (λ tree. IfSome (queue_at tree x input) (λ q. IfSome (slice_get (map room_of (queues_of plan)) q) (λ (room : Room). room.device ≡ d)))
+    at_tree d x input None e = tt
+    at_tree d x input (Some tree) e = at_leaf d tree (queue_at tree x input) x input e refl

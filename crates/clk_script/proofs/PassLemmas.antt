@@ -1,0 +1,127 @@
+-- Lines that are passed on one after another.
+use Rattle.std.proofs.Common.{◌≡◌, ℕ, ◌+◌, ◌-◌, ◌<◌, List, [], ◌++◌, length, take, drop, get_or, Option, Result, Ok, Err, refl, sym, ap, subst, ◌∙◌, append_assoc, append-nil, arith}
+use Rattle.std.specs.List.{flat_map}
+use Rattle.std.specs.Io.KnownBytes.{Appends}
+use Rattle.std.proofs.Math.Seq.{drop-length}
+use Rattle.std.proofs.lemmas.List.{drop_more, take_all, length-drop}
+use Rattle.clk_packet.specs.declared.fault.Fault.{Fault}
+use Rattle.clk_packet.specs.Bytes.{Wrote, AppendsFront}
+use Rattle.clk_packet.proofs.BytesLemmas.{Appends-append, Appends-none, Wrote-cut}
+use Rattle.clk_script.specs.Lines.{Passes}
+
+-- Nothing was passed on.
+pub Passes-none : (old : Option (List ℕ)) (f : ℕ) (held : List ℕ) → Passes old old f f (Ok tt) held [] held
+Passes-none old f held = record { passed = ([], append-nil held, Appends-none old); front = tt; fault = tt; succeeds = refl; fails = tt }
+
+-- What was held and a text were written, and nothing is held.
+pub Passes-wrote : (old new : Option (List ℕ)) (f g : ℕ) (r : Result (Unit {0}) Fault) (held text holds : List ℕ) → Wrote old new f g r (held ++ text) → holds ≡ [] → Passes old new f g r held text holds
+Passes-wrote old new f g (Ok x) held text holds w none =
+    record { passed = (held ++ text, sym (append-nil (held ++ text)) ∙ ap (λ l. (held ++ text) ++ l) (sym none), w.whole); front = tt; fault = tt; succeeds = w.succeeds; fails = tt }
+Passes-wrote old new f g (Err fault) held text holds w none = record { passed = tt; front = w.front; fault = w.fault; succeeds = tt; fails = w.fails }
+
+-- What was held was cut short.
+pub Passes-failed : (old new : Option (List ℕ)) (f g : ℕ) (fault : Fault) (held text holds : List ℕ) → Wrote old new f g (Err fault) held → Passes old new f g (Err fault) held text holds
+Passes-failed old new f g fault held text holds w =
+    let cut = Wrote-cut old new f g fault held text w in
+    record { passed = tt; front = cut.front; fault = cut.fault; succeeds = tt; fails = cut.fails }
+
+-- a front of a text, after one that was written
+front-after : (a b c : Option (List ℕ)) (written text : List ℕ) → Appends a b written → AppendsFront b c text → AppendsFront a c (written ++ text)
+front-after a b c written text h k = (written ++ k.0, k.1, ap (λ l. written ++ l) k.2 ∙ sym (append_assoc written k.0 k.1), Appends-append a b c written k.0 h k.3)
+
+-- A text after another that was passed on.
+pub Passes-then : (a b c : Option (List ℕ)) (f g h : ℕ) (x : Unit {0}) (r : Result (Unit {0}) Fault) (held xs mid ys holds : List ℕ) → Passes a b f g (Ok x) held xs mid → Passes b c g h r mid ys holds
+    → Passes a c f h r held (xs ++ ys) holds
+Passes-then a b c f g h x (Ok y) held xs mid ys holds first p =
+    record {
+      passed = (first.passed.0 ++ p.passed.0, joined, Appends-append a b c first.passed.0 p.passed.0 first.passed.2 p.passed.2);
+      front = tt;
+      fault = tt;
+      succeeds = p.succeeds ∙ first.succeeds;
+      fails = tt;
+    }
+  where
+    joined : held ++ (xs ++ ys) ≡ (first.passed.0 ++ p.passed.0) ++ holds
+    joined =
+        sym (append_assoc held xs ys) ∙ ap (λ l. l ++ ys) first.passed.1 ∙ append_assoc first.passed.0 mid ys ∙ ap (λ l. first.passed.0 ++ l) p.passed.1
+        ∙ sym (append_assoc first.passed.0 p.passed.0 holds)
+Passes-then a b c f g h x (Err fault) held xs mid ys holds first p =
+    record {
+      passed = tt;
+      front =
+          subst (λ (l : List ℕ). AppendsFront a c l) (sym (sym (append_assoc held xs ys) ∙ ap (λ l. l ++ ys) first.passed.1 ∙ append_assoc first.passed.0 mid ys))
+          (front-after a b c first.passed.0 (mid ++ ys) first.passed.2 p.front);
+      fault = p.fault;
+      succeeds = tt;
+      fails = p.fails ∙ ap (λ n. n + 1) first.succeeds;
+    }
+
+-- A text that was cut short, before more.
+pub Passes-cut : (a b : Option (List ℕ)) (f g : ℕ) (fault : Fault) (held xs ys holds : List ℕ) → Passes a b f g (Err fault) held xs holds → Passes a b f g (Err fault) held (xs ++ ys) holds
+Passes-cut a b f g fault held xs ys holds p =
+    record {
+      passed = tt;
+      front = (p.front.0, p.front.1 ++ ys, sym (append_assoc held xs ys) ∙ ap (λ l. l ++ ys) p.front.2 ∙ append_assoc p.front.0 p.front.1 ys, p.front.3);
+      fault = p.fault;
+      succeeds = tt;
+      fails = p.fails;
+    }
+
+-- A part of a text was passed on, and the rest is left.
+pub record HasPassed (old new : Option (List ℕ)) (before after : ℕ) (held text rest holds : List ℕ) : Type 0 where
+  pub part : List ℕ
+  pub split : text ≡ part ++ rest
+  pub passes : Passes old new before after (Ok tt) held part holds
+
+pub HasPassed-none : (old : Option (List ℕ)) (f : ℕ) (held text : List ℕ) → HasPassed old old f f held text text held
+HasPassed-none old f held text = record { part = []; split = refl; passes = Passes-none old f held }
+
+pub HasPassed-more : (a b c : Option (List ℕ)) (f g h : ℕ) (x : Unit {0}) (held text rest mid piece after holds : List ℕ) → HasPassed a b f g held text rest mid → Passes b c g h (Ok x) mid piece holds → rest ≡ piece ++ after
+    → HasPassed a c f h held text after holds
+HasPassed-more a b c f g h tt held text rest mid piece after holds has more is =
+    record { part = has.part ++ piece; split = has.split ∙ ap (λ l. has.part ++ l) is ∙ sym (append_assoc has.part piece after); passes = Passes-then a b c f g h tt (Ok tt) held has.part mid piece holds has.passes more }
+
+pub HasPassed-cut : (a b c : Option (List ℕ)) (f g h : ℕ) (fault : Fault) (held text rest mid piece after holds : List ℕ) → HasPassed a b f g held text rest mid → Passes b c g h (Err fault) mid piece holds → rest ≡ piece ++ after
+    → Passes a c f h (Err fault) held text holds
+HasPassed-cut a b c f g h fault held text rest mid piece after holds has more is =
+    subst (λ (l : List ℕ). Passes a c f h (Err fault) held l holds) (append_assoc has.part piece after ∙ ap (λ l. has.part ++ l) (sym is) ∙ sym has.split)
+    (Passes-cut a c f h fault held (has.part ++ piece) after holds (Passes-then a b c f g h tt (Err fault) held has.part mid piece holds has.passes more))
+
+pub HasPassed-all : (a b : Option (List ℕ)) (f g : ℕ) (held text rest holds : List ℕ) → HasPassed a b f g held text rest holds → rest ≡ [] → Passes a b f g (Ok tt) held text holds
+HasPassed-all a b f g held text rest holds has none =
+    subst (λ (l : List ℕ). Passes a b f g (Ok tt) held l holds) (sym (has.split ∙ ap (λ l. has.part ++ l) none ∙ append-nil has.part)) has.passes
+
+-- What was passed on and then written.
+pub Wrote-passed : (a b c : Option (List ℕ)) (f g h : ℕ) (x : Unit {0}) (r : Result (Unit {0}) Fault) (text mid : List ℕ) → Passes a b f g (Ok x) [] text mid → Wrote b c g h r mid → Wrote a c f h r text
+Wrote-passed a b c f g h x (Ok y) text mid first w =
+    record {
+      whole = subst (λ (l : List ℕ). Appends a c l) (sym first.passed.1) (Appends-append a b c first.passed.0 mid first.passed.2 w.whole);
+      front = tt;
+      fault = tt;
+      succeeds = w.succeeds ∙ first.succeeds;
+      fails = tt;
+    }
+Wrote-passed a b c f g h x (Err fault) text mid first w =
+    record {
+      whole = tt;
+      front = subst (λ (l : List ℕ). AppendsFront a c l) (sym first.passed.1) (front-after a b c first.passed.0 mid first.passed.2 w.front);
+      fault = w.fault;
+      succeeds = tt;
+      fails = w.fails ∙ ap (λ n. n + 1) first.succeeds;
+    }
+
+-- a text that was cut short as it was passed on
+pub Wrote-front : (a b : Option (List ℕ)) (f g : ℕ) (fault : Fault) (text rest holds : List ℕ) → Passes a b f g (Err fault) [] text holds → Wrote a b f g (Err fault) (text ++ rest)
+Wrote-front a b f g fault text rest holds p =
+    let cut = Passes-cut a b f g fault [] text rest holds p in
+    record { whole = tt; front = cut.front; fault = cut.fault; succeeds = tt; fails = cut.fails }
+
+-- a line that was put at the end of its room
+pub line-alone : (start : ℕ) (new old text : List ℕ) → length old ≡ 128 → length new ≡ 128 → drop start new ≡ text ++ drop 128 old → take (128 - start) (drop start new) ≡ text
+line-alone start new old text room same is =
+    let rest = length-drop start new in
+    take_all (128 - start) (drop start new) (omega (arith, rest, same)) ∙ is ∙ ap (λ l. text ++ l) (ap (λ n. drop n old) (sym room) ∙ drop-length old) ∙ append-nil text
+
+-- the piece at a place, and those after it
+pub pieces-left : {X : Type 0} (f : X → List ℕ) (xs : List X) (i : ℕ) (x : X) → i < length xs → x ≡ get_or xs i x → flat_map f (drop i xs) ≡ f x ++ flat_map f (drop (i + 1) xs)
+pieces-left f xs i x within is = ap (flat_map f) (drop_more xs i x within) ∙ ap (λ y. f y ++ flat_map f (drop (i + 1) xs)) (sym is)

@@ -1,0 +1,183 @@
+-- How the reading of a script goes on by one line.
+use Rattle.std.proofs.Common.{◌≡◌, ℕ, ◌+◌, ◌≤◌, List, [], ◌∷◌, ◌++◌, length, map, Option, Some, None, ◌⊎◌, inl, inr, nat_lt, Bool, true, false, refl, sym, ap, subst, ◌∙◌, append_assoc, append-nil, length-append, arith}
+use Rattle.std.specs.List.{filter_map, cons_option, AllByRecursion}
+use Rattle.std.proofs.lemmas.Bool.Decides.{nat_tests}
+use Rattle.std.proofs.lemmas.List.{map-append}
+use Rattle.clk_packet.specs.declared.fault.Fault.{Fault}
+use Rattle.clk_packet.specs.declared.fault.Fault.TheVariants.{Memory}
+use Rattle.clk_script.specs.declared.script.Command.{Command}
+use Rattle.clk_script.specs.declared.script.Command.TheVariants.{Send, Pull}
+use Rattle.clk_script.specs.declared.script.Line.{Line}
+use Rattle.clk_script.specs.declared.script.Line.TheVariants as line
+use Rattle.clk_script.specs.declared.rows.Row.{Row}
+use Rattle.clk_script.specs.declared.reading.Script.{Script}
+use Rattle.clk_script.specs.Script.{Names, lines_of, command_in, commands_of, drain_in, is_drain, closing_moment, line_fault, fault_at, first_fault, script_fault, most_bytes, most_lines}
+use Rattle.clk_script.specs.Router.{IsReadable, IsSound}
+use Rattle.clk_script.specs.Rows.{row_asked, rows_in, IsToDo, IsReadFrom, CanBeRun}
+use Rattle.clk_script.proofs.ScriptLemmas.{readable-first, readable-drain, readable-commands, each-command-sound}
+
+-- the commands of what is left, by its first line
+commands_on : (rest after : List ℕ) (l : Line) → lines_of rest ≡ l ∷ lines_of after → commands_of rest ≡ cons_option (command_in l) [] ++ commands_of after
+commands_on rest after l e = by_command (command_in l) refl
+  where
+    by_command : (o : Option Command) → command_in l ≡ o → commands_of rest ≡ cons_option (command_in l) [] ++ commands_of after
+    by_command None f = rw (e, f) refl
+    by_command (Some command) f = rw (e, f) refl
+
+-- a line that is no drain leaves the closing to what follows
+closing_on : (rest after : List ℕ) (l : Line) → lines_of rest ≡ l ∷ lines_of after → drain_in l ≡ None → closing_moment rest ≡ closing_moment after
+closing_on rest after l e f = rw (e, f) refl
+
+-- lines that are all blank hold no commands
+blank-commands : (names : Names) (n : ℕ) (ls : List Line) → first_fault names true n ls ≡ None → filter_map command_in ls ≡ []
+blank-commands names n [] e = refl
+blank-commands names n (l ∷ ls) e = by_fault (fault_at names true n l) refl (blank-commands names (n + 1) ls)
+  where
+    by_line : (m : Line) → line_fault names true n m ≡ None → command_in m ≡ None
+    by_line line.Blank f = refl
+    by_line line.Malformed f = refl
+    by_line (line.Command command) f = absurd (cc)
+    by_line (line.Drain moment) f = refl
+
+    by_few : (b : Bool) → nat_lt most_lines n ≡ b → fault_at names true n l ≡ None → command_in l ≡ None
+    by_few true g f = let no = rw g at f in absurd (cc)
+    by_few false g f = by_line l (rw g at f)
+
+    by_fault : (o : Option Fault) → fault_at names true n l ≡ o → (first_fault names true (n + 1) ls ≡ None → filter_map command_in ls ≡ []) → filter_map command_in (l ∷ ls) ≡ []
+    by_fault None f rest = rw (by_few (nat_lt most_lines n) refl f) (rest (rw f at e))
+    by_fault (Some fault) f rest = let no = rw f at e in absurd (cc)
+
+no-command : (l : Line) (moment : ℕ) → drain_in l ≡ Some moment → command_in l ≡ None
+no-command line.Blank moment e = refl
+no-command line.Malformed moment e = refl
+no-command (line.Command command) moment e = absurd (cc)
+no-command (line.Drain m) moment e = refl
+
+is-drain : (l : Line) (moment : ℕ) → drain_in l ≡ Some moment → is_drain l ≡ true
+is-drain line.Blank moment e = absurd (cc)
+is-drain line.Malformed moment e = absurd (cc)
+is-drain (line.Command command) moment e = absurd (cc)
+is-drain (line.Drain m) moment e = refl
+
+is-no_drain : (l : Line) → drain_in l ≡ None → is_drain l ≡ false
+is-no_drain line.Blank e = refl
+is-no_drain line.Malformed e = refl
+is-no_drain (line.Command command) e = refl
+is-no_drain (line.Drain m) e = absurd (cc)
+
+-- the first fault of the lines of a text from the n-th on
+abbrev pub fault_from : Names → Bool → ℕ → List ℕ → Option Fault
+fault_from names drained n text = first_fault names drained n (lines_of text)
+
+-- The lines of a text that were read have rows, no fault and no drain, and what is left follows them.
+pub record HasRead (names : Names) (text rest : List ℕ) (number : ℕ) (rows : List Row) : Type 0 where
+  pub fault : fault_from names false (number + 1) rest ≡ fault_from names false 1 text
+  pub theirs : rows ++ map row_asked (commands_of rest) ≡ map row_asked (commands_of text)
+  pub closing : closing_moment rest ≡ closing_moment text
+  pub few : length rows ≤ number
+
+pub HasRead-none : (names : Names) (text : List ℕ) (rows : List Row) → rows ≡ [] → HasRead names text text 0 rows
+HasRead-none names text rows none = record { fault = refl; theirs = ap (λ l. l ++ map row_asked (commands_of text)) none; closing = refl; few = omega (arith, ap length none) }
+
+-- a line without a fault
+fault-later : (names : Names) (rest after : List ℕ) (l : Line) (n : ℕ) (drained : Bool) → lines_of rest ≡ l ∷ lines_of after → fault_at names false n l ≡ None → is_drain l ≡ drained
+    → fault_from names false n rest ≡ fault_from names drained (n + 1) after
+fault-later names rest after l n drained e f is = rw (e, f) (ap (λ b. fault_from names b (n + 1) after) is)
+
+-- the rows with those of one line more
+rows-more : (text rest after : List ℕ) (l : Line) (before rows : List Row) → before ++ map row_asked (commands_of rest) ≡ map row_asked (commands_of text) → lines_of rest ≡ l ∷ lines_of after
+    → rows ≡ before ++ rows_in l → rows ++ map row_asked (commands_of after) ≡ map row_asked (commands_of text)
+rows-more text rest after l before rows theirs e more =
+    ap (λ l. l ++ map row_asked (commands_of after)) more ∙ append_assoc before (rows_in l) (map row_asked (commands_of after))
+    ∙ ap (λ l. before ++ l) (sym (ap (map row_asked) (commands_on rest after l e) ∙ map-append row_asked (cons_option (command_in l) []) (commands_of after))) ∙ theirs
+
+pub HasRead-line : (names : Names) (text rest after : List ℕ) (l : Line) (number : ℕ) (before rows : List Row) → HasRead names text rest number before → lines_of rest ≡ l ∷ lines_of after
+    → fault_at names false (number + 1) l ≡ None → drain_in l ≡ None → rows ≡ before ++ rows_in l → HasRead names text after (number + 1) rows
+HasRead-line names text rest after l number before rows h e sound undrained more =
+    record {
+      fault = sym (fault-later names rest after l (number + 1) false e sound (is-no_drain l undrained)) ∙ h.fault;
+      theirs = rows-more text rest after l before rows h.theirs e more;
+      closing = sym (closing_on rest after l e undrained) ∙ h.closing;
+      few =
+          let few = h.few in
+          let longer = ap length more ∙ length-append before (rows_in l) in
+          let one = at_most (command_in l) in
+          omega (arith, few, longer, one);
+    }
+  where
+    at_most : (o : Option Command) → length (map row_asked (cons_option o [])) ≤ 1
+    at_most None = omega arith
+    at_most (Some command) = omega arith
+
+-- what is wrong with what is left is wrong with the script
+fault-whole : (names : Names) (text rest : List ℕ) (drained : Bool) (n : ℕ) (o : Option Fault) → length text ≤ most_bytes → fault_from names drained n rest ≡ fault_from names false 1 text
+    → fault_from names drained n rest ≡ o → script_fault names text ≡ o
+fault-whole names text rest drained n o small e f =
+    let no : nat_lt most_bytes (length text) ≡ false = grind (arith, nat_tests) in
+    rw no (sym e ∙ f)
+
+-- the first line that has a fault decides
+pub line-refused : (names : Names) (text rest after : List ℕ) (l : Line) (number : ℕ) (rows : List Row) (fault : Fault) → length text ≤ most_bytes → HasRead names text rest number rows → lines_of rest ≡ l ∷ lines_of after
+    → (fault ≡ Memory) ⊎ (fault_at names false (number + 1) l ≡ Some fault) → (fault ≡ Memory) ⊎ (script_fault names text ≡ Some fault)
+line-refused names text rest after l number rows fault small h e (inl memory) = inl memory
+line-refused names text rest after l number rows fault small h e (inr is) = inr (fault-whole names text rest false (number + 1) (Some fault) small h.fault (rw (e, is) refl))
+
+pub later-refused : (names : Names) (text rest after : List ℕ) (l : Line) (number moment : ℕ) (rows : List Row) (o : Option Fault) → length text ≤ most_bytes → HasRead names text rest number rows → lines_of rest ≡ l ∷ lines_of after
+    → fault_at names false (number + 1) l ≡ None → drain_in l ≡ Some moment → fault_from names true (number + 1 + 1) after ≡ o → script_fault names text ≡ o
+later-refused names text rest after l number moment rows o small h e sound drains is =
+    fault-whole names text rest false (number + 1) o small h.fault (fault-later names rest after l (number + 1) true e sound (is-drain l moment drains) ∙ is)
+
+-- the commands of a script that has no fault can be carried out
+to_do : (names : Names) (commands : List Command) → AllByRecursion (IsSound names) commands → AllByRecursion IsReadable commands → AllByRecursion (IsToDo names) (map row_asked commands)
+to_do names [] sound readable = tt
+to_do names (Send sender length ∷ commands) sound readable = (sound.0, to_do names commands sound.1 readable.1)
+to_do names (Pull device moment ∷ commands) sound readable = ((sound.0, readable.0), to_do names commands sound.1 readable.1)
+
+pub rows-to_do : (names : Names) (text : List ℕ) (rows : List Row) → script_fault names text ≡ None → rows ≡ map row_asked (commands_of text) → AllByRecursion (IsToDo names) rows
+rows-to_do names text rows sound are = subst (AllByRecursion (IsToDo names)) (sym are) (to_do names (commands_of text) (each-command-sound names text sound) (readable-commands text))
+
+-- A script that ended, without a drain and with one.
+pub record IsRead (names : Names) (text : List ℕ) (script : Script) : Type 0 where
+  pub sound : script_fault names text ≡ None
+  pub holds : IsReadFrom text script
+  pub can_be_run : CanBeRun names script
+
+pub IsRead-ended : (names : Names) (text rest : List ℕ) (number : ℕ) (script : Script) → length text ≤ most_bytes → HasRead names text rest number script.rows.items → number ≤ most_lines → length rest ≡ 0
+    → script.closing ≡ None → IsRead names text script
+IsRead-ended names text (byte ∷ rest) number script small h bound none closing = absurd (omega arith)
+IsRead-ended names text [] number script small h bound none closing =
+    let sound = fault-whole names text [] false (number + 1) None small h.fault refl in
+    let are = sym (append-nil script.rows.items) ∙ h.theirs in
+    record {
+      sound = sound;
+      holds = record { rows = are; closing = closing ∙ h.closing };
+      can_be_run = record { to_do = rows-to_do names text script.rows.items sound are; few = let few = h.few in omega (arith, few, bound); closing = rw closing tt };
+    }
+
+pub IsRead-drained : (names : Names) (text rest after : List ℕ) (l : Line) (number moment : ℕ) (before : List Row) (script : Script) → length text ≤ most_bytes → HasRead names text rest number before → number + 1 ≤ most_lines
+    → lines_of rest ≡ l ∷ lines_of after → fault_at names false (number + 1) l ≡ None → drain_in l ≡ Some moment → script.rows.items ≡ before ++ rows_in l
+    → fault_from names true (number + 1 + 1) after ≡ None → script.closing ≡ Some moment → IsRead names text script
+IsRead-drained names text rest after l number moment before script small h bound e sound drains more blank closing =
+    record {
+      sound = whole;
+      holds = record { rows = are; closing = closing ∙ sym (rw (e, drains) refl) ∙ h.closing };
+      can_be_run = record {
+        to_do = rows-to_do names text script.rows.items whole are;
+        few = let few = h.few in let same = ap length rows in omega (arith, few, same, bound);
+        closing = rw closing (readable-drain l moment (readable-first rest l (lines_of after) e) drains);
+      };
+    }
+  where
+    rows : script.rows.items ≡ before
+    rows = more ∙ ap (λ o. before ++ map row_asked (cons_option o [])) (no-command l moment drains) ∙ append-nil before
+
+    whole : script_fault names text ≡ None
+    whole = later-refused names text rest after l number moment before None small h e sound drains blank
+
+    none : commands_of after ≡ []
+    none = blank-commands names (number + 1 + 1) (lines_of after) blank
+
+    are : script.rows.items ≡ map row_asked (commands_of text)
+    are =
+        sym (append-nil script.rows.items) ∙ ap (λ cs. script.rows.items ++ map row_asked cs) (sym none)
+        ∙ rows-more text rest after l before script.rows.items h.theirs e more

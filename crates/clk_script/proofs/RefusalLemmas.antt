@@ -1,0 +1,182 @@
+-- How a script's meaning and its faults follow from those of its first bytes.
+use Rattle.std.proofs.Common.{◌+◌, ◌≡◌, ◌≤◌, ◌≢◌, ℕ, ◌==◌, ◌||◌, Bool, true, false, nat_lt, List, [], ◌∷◌, length, take, Option, Some, None, Err, refl, sym, ap, subst, ◌∙◌, ◌⊎◌, inl, inr, IfSome, arith}
+use Rattle.std.specs.Bool.{⊤}
+use Rattle.std.specs.List.{list_any}
+use Rattle.std.proofs.lemmas.Bool.Decides.{nat_tests}
+use Rattle.std.proofs.lemmas.List.{take_all, length-take}
+use Rattle.clk_packet.specs.declared.fault.Fault.{Fault}
+use Rattle.clk_packet.specs.declared.fault.Fault.TheVariants.{Memory, UnknownSender, BadScript, TooManyPulls, TooLarge, Write}
+use Rattle.clk_sched.specs.declared.visit.Visit.{Visit}
+use Rattle.clk_sched.specs.Tree.{Tree}
+use Rattle.clk_tree.specs.Plan.{Planned}
+use Rattle.clk_tree.specs.Shares.{AreTreesOf}
+use Rattle.clk_script.specs.declared.script.Command.{Command}
+use Rattle.clk_script.specs.declared.script.Command.TheVariants.{Send, Pull}
+use Rattle.clk_script.specs.declared.script.Line.{Line}
+use Rattle.clk_script.specs.declared.script.Line.TheVariants as line
+use Rattle.clk_script.specs.Script.{Names, most_lines, command_fault, line_fault, fault_at, is_drain, first_fault, lines_of, script_fault, commands_of, closing_moment, most_bytes}
+use Rattle.clk_packet.specs.Bytes.{read_failures, write_failures}
+use Rattle.clk_script.specs.Meaning.{Setup, plan_setup, names_of, WritesWith, IsMeaning, MeansWith, MeansOver, MeansOverWith, CannotClose, Explains}
+use Rattle.clk_script.specs.declared.router.Router.{Router}
+use Rattle.clk_script.specs.Router.{names_in, Starts}
+use Rattle.clk_script.specs.Rows.{StopsCommands}
+use Rattle.clk_script.proofs.AnswerLemmas.{names-its}
+
+-- one byte past the limit is enough to tell what is wrong
+fault-cut : (names : Names) (all : List ℕ) → script_fault names (take (most_bytes + 1) all) ≡ script_fault names all
+fault-cut names all = by_test (nat_lt most_bytes (length all)) refl
+  where
+    by_test : (b : Bool) → nat_lt most_bytes (length all) ≡ b → script_fault names (take (most_bytes + 1) all) ≡ script_fault names all
+    by_test true e =
+        let cut : nat_lt most_bytes (length (take (most_bytes + 1) all)) ≡ true = rw length-take (grind (arith, nat_tests)) in
+        rw (cut, e) refl
+    by_test false e = ap (script_fault names) (take_all 33554433 all (grind (arith, nat_tests)))
+
+-- a script that isn't too long is read whole
+whole : (names : Names) (all : List ℕ) → script_fault names (take (most_bytes + 1) all) ≡ None → take (most_bytes + 1) all ≡ all
+whole names all e = by_test (nat_lt most_bytes (length all)) refl
+  where
+    by_test : (b : Bool) → nat_lt most_bytes (length all) ≡ b → take (most_bytes + 1) all ≡ all
+    by_test true f =
+        let too_large : script_fault names all ≡ Some TooLarge = rw f refl in
+        let none = sym (fault-cut names all) ∙ e in
+        absurd (cc)
+    by_test false f = take_all 33554433 all (grind (arith, nat_tests))
+
+-- the meaning over a setup of a script whose first bytes were read
+pub meaning-known : (setup : Setup) (router : Router) → Starts setup router → (known : Option (List ℕ)) (bytes text : List ℕ) (logs : List (List Visit)) (P : List ℕ → Type 0)
+    → IfSome known (λ all. bytes ≡ take (most_bytes + 1) all) → script_fault (names_in router) bytes ≡ None → WritesWith setup (commands_of bytes) (closing_moment bytes) text logs → P text
+    → IfSome known (λ script. (t : List ℕ) × MeansWith setup script t logs × P t)
+meaning-known setup router starts None bytes text logs P is e w p = tt
+meaning-known setup router starts (Some all) bytes text logs P is e w p =
+    let here : script_fault (names_of setup) bytes ≡ None = subst (λ names. script_fault names bytes ≡ None) (names-its setup [] router starts.leads) e in
+    let sound = rw is at here in
+    let all_of_it : bytes ≡ all = is ∙ whole (names_of setup) all sound in (
+      text,
+      record {
+        sound = sym (fault-cut (names_of setup) all) ∙ sound;
+        written = subst (λ (script : List ℕ). WritesWith setup (commands_of script) (closing_moment script) text logs) all_of_it w;
+      },
+      p,
+    )
+
+-- what is known of a text and logs, of the text alone
+pub meaning-alone : (setup : Setup) (known : Option (List ℕ)) (logs : List (List Visit)) (P : List ℕ → Type 0) → IfSome known (λ script. (t : List ℕ) × MeansWith setup script t logs × P t)
+    → IfSome known (λ script. (t : List ℕ) × IsMeaning setup script t × P t)
+meaning-alone setup None logs P h = tt
+meaning-alone setup (Some script) logs P h = (h.0, record { sound = h.1.sound; written = h.1.written.writes }, h.2)
+
+-- the meaning over a plan
+pub meaning-over : (plan : List Planned) (trees : List Tree) (setup : Setup) → AreTreesOf plan trees → setup ≡ plan_setup trees plan → (known : Option (List ℕ)) (logs : List (List Visit)) (P : List ℕ → Type 0)
+    → IfSome known (λ script. (t : List ℕ) × MeansWith setup script t logs × P t) → IfSome known (λ script. (t : List ℕ) × MeansOverWith plan script t logs × P t)
+meaning-over plan trees setup are same None logs P h = tt
+meaning-over plan trees setup are same (Some script) logs P h =
+    (h.0, record { trees = trees; are = are; means = subst (λ (s : Setup). MeansWith s script h.0 logs) same h.1 }, h.2)
+
+pub meaning-over-alone : (plan : List Planned) (known : Option (List ℕ)) (logs : List (List Visit)) (P : List ℕ → Type 0) → IfSome known (λ script. (t : List ℕ) × MeansOverWith plan script t logs × P t)
+    → IfSome known (λ script. (t : List ℕ) × MeansOver plan script t × P t)
+meaning-over-alone plan None logs P h = tt
+meaning-over-alone plan (Some script) logs P h =
+    (h.0, record { trees = h.1.trees; are = h.1.are; means = record { sound = h.1.means.sound; written = h.1.means.written.writes } }, h.2)
+
+-- the faults that a script may have
+abbrev IsOfScript : Fault → Type 0
+IsOfScript TooLarge = ⊤
+IsOfScript (BadScript number) = ⊤
+IsOfScript (UnknownSender sender) = ⊤
+IsOfScript fault = ⊥
+
+of_command : (names : Names) (number : ℕ) (command : Command) → IfSome (command_fault names number command) IsOfScript
+of_command names number (Pull device moment) = by_test (nat_lt device names.devices) refl
+  where
+    by_test : (b : Bool) → nat_lt device names.devices ≡ b → IfSome (command_fault names number (Pull device moment)) IsOfScript
+    by_test true e = rw e tt
+    by_test false e = rw e tt
+of_command names number (Send sender size) = by_test (list_any (λ s. s == sender) names.senders) refl
+  where
+    by_test : (b : Bool) → list_any (λ s. s == sender) names.senders ≡ b → IfSome (command_fault names number (Send sender size)) IsOfScript
+    by_test true e = rw e tt
+    by_test false e = rw e tt
+
+of_line : (names : Names) (drained : Bool) (number : ℕ) (l : Line) → IfSome (line_fault names drained number l) IsOfScript
+of_line names drained number line.Blank = tt
+of_line names drained number line.Malformed = tt
+of_line names true number (line.Command command) = tt
+of_line names false number (line.Command command) = of_command names number command
+of_line names true number (line.Drain moment) = tt
+of_line names false number (line.Drain moment) = tt
+
+of_at : (names : Names) (drained : Bool) (number : ℕ) (l : Line) → IfSome (fault_at names drained number l) IsOfScript
+of_at names drained number l = by_test (nat_lt most_lines number) refl
+  where
+    by_test : (b : Bool) → nat_lt most_lines number ≡ b → IfSome (fault_at names drained number l) IsOfScript
+    by_test true e = rw e tt
+    by_test false e = rw e (of_line names drained number l)
+
+of_first : (names : Names) (drained : Bool) (number : ℕ) (ls : List Line) → IfSome (first_fault names drained number ls) IsOfScript
+of_first names drained number [] = tt
+of_first names drained number (l ∷ ls) = by_fault (fault_at names drained number l) refl (of_at names drained number l) (of_first names (drained || is_drain l) (number + 1) ls)
+  where
+    by_fault : (o : Option Fault) → fault_at names drained number l ≡ o → IfSome (fault_at names drained number l) IsOfScript → IfSome (first_fault names (drained || is_drain l) (number + 1) ls) IsOfScript
+        → IfSome (first_fault names drained number (l ∷ ls)) IsOfScript
+    by_fault None e here rest = rw e rest
+    by_fault (Some fault) e here rest = rw e (rw e at here)
+
+of_script : (names : Names) (script : List ℕ) → IfSome (script_fault names script) IsOfScript
+of_script names script = by_test (nat_lt most_bytes (length script)) refl
+  where
+    by_test : (b : Bool) → nat_lt most_bytes (length script) ≡ b → IfSome (script_fault names script) IsOfScript
+    by_test true e = rw e tt
+    by_test false e = rw e (of_first names false 1 (lines_of script))
+
+-- what a refusal of the script's first bytes says
+pub record IsRefusal (setup : Setup) (known : Option (List ℕ)) (fault : Fault) : Type 0 where
+  pub explains : Explains setup known fault
+  pub reads : (n : ℕ) → read_failures {T = Unit {0}} (Err fault) n ≡ n
+  pub writes : (n : ℕ) → write_failures {T = Unit {0}} (Err fault) n ≡ n
+  pub not_write : fault ≢ Write
+
+named : (names : Names) (known : Option (List ℕ)) (bytes : List ℕ) (fault : Fault) → IfSome known (λ all. bytes ≡ take (most_bytes + 1) all) → script_fault names bytes ≡ Some fault
+    → IfSome known (λ all. script_fault names all ≡ Some fault)
+named names None bytes fault is e = tt
+named names (Some all) bytes fault is e = sym (fault-cut names all) ∙ ap (script_fault names) (sym is) ∙ e
+
+by_kind : (setup : Setup) (known : Option (List ℕ)) (fault : Fault) → IsOfScript fault → IfSome known (λ all. script_fault (names_of setup) all ≡ Some fault) → IsRefusal setup known fault
+by_kind setup known TooLarge kind h = record { explains = h; reads = λ n. refl; writes = λ n. refl; not_write = λ e. cc }
+by_kind setup known (BadScript number) kind h = record { explains = h; reads = λ n. refl; writes = λ n. refl; not_write = λ e. cc }
+by_kind setup known (UnknownSender sender) kind h = record { explains = h; reads = λ n. refl; writes = λ n. refl; not_write = λ e. cc }
+by_kind setup known fault kind h = absurd kind
+
+-- a drain that stops short is the whole script's
+closes_short : (setup : Setup) (known : Option (List ℕ)) (bytes : List ℕ) (made : ℕ) → IfSome known (λ all. bytes ≡ take (most_bytes + 1) all) → CannotClose setup bytes made
+    → IfSome known (λ all. CannotClose setup all made)
+closes_short setup None bytes made is short = tt
+closes_short setup (Some all) bytes made is short =
+    let sound : script_fault (names_of setup) (take (most_bytes + 1) all) ≡ None = ap (script_fault (names_of setup)) (sym is) ∙ short.sound in
+    subst (λ (script : List ℕ). CannotClose setup script made) (is ∙ whole (names_of setup) all sound) short
+
+-- memory may run out at any growth
+of-memory : (setup : Setup) (known : Option (List ℕ)) (fault : Fault) → fault ≡ Memory → IsRefusal setup known fault
+of-memory setup known fault e = subst (λ (f : Fault). IsRefusal setup known f) (sym e) (record { explains = tt; reads = λ n. refl; writes = λ n. refl; not_write = λ d. cc })
+
+-- why a script is refused as it is read, and as it is run
+pub IsRefusal-read : (setup : Setup) (router : Router) → Starts setup router → (known : Option (List ℕ)) (bytes : List ℕ) (fault : Fault) → IfSome known (λ all. bytes ≡ take (most_bytes + 1) all)
+    → (fault ≡ Memory) ⊎ (script_fault (names_in router) bytes ≡ Some fault) → IsRefusal setup known fault
+IsRefusal-read setup router starts known bytes fault is (inl e) = of-memory setup known fault e
+IsRefusal-read setup router starts known bytes fault is (inr e) =
+    let here : script_fault (names_of setup) bytes ≡ Some fault = subst (λ names. script_fault names bytes ≡ Some fault) (names-its setup [] router starts.leads) e in
+    let kind : IsOfScript fault = rw here at (of_script (names_of setup) bytes) in
+    by_kind setup known fault kind (named (names_of setup) known bytes fault is here)
+
+pub IsRefusal-run : (setup : Setup) (router : Router) → Starts setup router → (known : Option (List ℕ)) (bytes : List ℕ) (fault : Fault) → IfSome known (λ all. bytes ≡ take (most_bytes + 1) all)
+    → script_fault (names_in router) bytes ≡ None → (fault ≡ Memory) ⊎ StopsCommands setup (commands_of bytes) (closing_moment bytes) fault → IsRefusal setup known fault
+IsRefusal-run setup router starts known bytes fault is sound (inl e) = of-memory setup known fault e
+IsRefusal-run setup router starts known bytes (TooManyPulls made) is sound (inr short) =
+    let here : script_fault (names_of setup) bytes ≡ None = subst (λ names. script_fault names bytes ≡ None) (names-its setup [] router starts.leads) sound in
+    let stops : CannotClose setup bytes made = record { sound = here; short = short } in
+    record { explains = closes_short setup known bytes made is stops; reads = λ n. refl; writes = λ n. refl; not_write = λ e. cc }
+IsRefusal-run setup router starts known bytes fault is sound (inr short) = absurd short
+
+-- the devices of a router are as many as its trees
+pub few-devices : (setup : Setup) (router : Router) (n : ℕ) → Starts setup router → n ≡ length router.devices.items → n ≤ 65535
+few-devices setup router n starts e = omega (arith, starts.leads.device_count, starts.whole.few, e)

@@ -1,0 +1,15 @@
+use Rattle.std.proofs.Common.{length, map, subst}
+use Rattle.std.specs.List.{AllByRecursion}
+use Rattle.clk_tree.specs.PlanParts.{queues_of, number_of, AreRising, SendsWithin}
+use Rattle.clk_script.specs.Meaning.{plan_setup}
+use Rattle.clk_script.proofs.OneTree.{plan-wired, plan-apart}
+use Rattle.clk_script.proofs.laws.devices_of_plans_stand_apart.Goals as goal
+
+pub returns : goal.returns
+returns c =
+    let plan = c.args.plan.now in
+    let wired = subst (AllByRecursion (SendsWithin (length (queues_of plan)))) c.senders-senders.ensures.senders c.senders-senders.ensures.wired in
+    let rising = subst (λ senders. AreRising (map number_of senders)) c.senders-senders.ensures.senders c.senders-senders.ensures.rising in
+    λ trees are.
+    let shared = c.trees_share_queues.ensures trees are in
+    c.devices_stand_apart.ensures (plan_setup trees plan) (plan-wired plan trees shared wired) (plan-apart plan trees are shared rising c.queues-queues.ensures.devices)

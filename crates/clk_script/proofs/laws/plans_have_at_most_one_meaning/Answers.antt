@@ -1,0 +1,14 @@
+use Rattle.std.proofs.Common.{subst, length}
+use Rattle.std.specs.List.{AllByRecursion}
+use Rattle.clk_tree.specs.PlanParts.{queues_of, SendsWithin}
+use Rattle.clk_script.specs.Meaning.{plan_setup}
+use Rattle.clk_script.proofs.OneTree.{plan-wired, plan-one_meaning}
+use Rattle.clk_script.proofs.laws.plans_have_at_most_one_meaning.Goals as goal
+
+pub returns : goal.returns
+returns c =
+    let plan = c.args.plan.now in
+    let wired = subst (AllByRecursion (SendsWithin (length (queues_of plan)))) c.senders-senders.ensures.senders c.senders-senders.ensures.wired in
+    λ script one other a b.
+    plan-one_meaning plan script one other
+    (λ trees are. c.scripts_have_at_most_one_meaning.ensures.wired (plan_setup trees plan) (plan-wired plan trees (c.trees_share_queues.ensures trees are) wired)) a b

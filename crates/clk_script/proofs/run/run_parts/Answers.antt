@@ -1,0 +1,111 @@
+use Rattle.std.proofs.Common.{◌∙◌, [], sym, subst, map}
+use Rattle.std.specs.Io.KnownBytes.{Appends}
+use Rattle.std.proofs.lemmas.Result.{err_from_is_err_and}
+use Rattle.clk_packet.specs.Bytes.{AppendsFront}
+use Rattle.clk_report.specs.Devices.{lists_of}
+use Rattle.clk_tree.specs.PlanParts.{queued, AreRising}
+use Rattle.clk_script.specs.Meaning.{setup_of}
+use Rattle.clk_script.specs.Rows.{answer_text}
+use Rattle.clk_script.proofs.SenderLemmas.{numbers-its}
+use Rattle.clk_script.proofs.RefusalLemmas.{IsRefusal-read, IsRefusal-run, meaning-known, meaning-alone, few-devices}
+use Rattle.clk_script.proofs.run.run_parts.Goals as goal
+
+pub read_script-requires : goal.read_script-requires
+read_script-requires g c =
+    let numbers = numbers-its (setup_of c.args.trees.items (map queued c.args.queues.now) c.args.senders.now) [] c.in_ok-router.router c.in_ok-router.ensures.made.leads in
+    record { rising = rw c.deref.ensures.value (subst AreRising (sym numbers) c.requires.whole.rising) }
+
+pub answer_script-requires-clause-sound : goal.answer_script-requires-clause-sound
+answer_script-requires-clause-sound g c = rw (c.deref.ensures.value, c.len.ensures ∙ c.in_ok-router.router.devices.ok.0) at c.in_ok-script.ensures.2
+
+-- a report takes as many devices as there are
+pub write_answer-requires-clause-few : goal.write_answer-requires-clause-few
+write_answer-requires-clause-few g c =
+    few-devices (setup_of c.args.trees.items (map queued c.args.queues.now) c.args.senders.now) c.in_ok-router.router _ c.in_ok-router.ensures.made c.in_ok-answer.ensures.devices.1
+
+pub write_answer-requires-clause-logs : goal.write_answer-requires-clause-logs
+write_answer-requires-clause-logs g c =
+    few-devices (setup_of c.args.trees.items (map queued c.args.queues.now) c.args.senders.now) c.in_ok-router.router _ c.in_ok-router.ensures.made c.in_ok-answer.ensures.devices.0
+
+-- what is wrong with the script
+pub returns-in_err-script-clause-front : goal.returns-in_err-script-clause-front
+returns-in_err-script-clause-front g c =
+    let p = err_from_is_err_and c.from_residual-in_err-script.result c.from_residual-in_err-script.ensures.1 in
+    let why = rw (c.deref.ensures.value, c.len.ensures ∙ c.in_ok-router.router.devices.ok.0, c.deref-2.ensures.value) at c.in_err-script.ensures in
+    let refusal = IsRefusal-read (setup_of c.args.trees.items (map queued c.args.queues.now) c.args.senders.now) c.in_ok-router.router c.in_ok-router.ensures.made _ c.in_ok-text.text.items c.in_err-script.field-0.0 c.in_ok-text.ensures.bytes why in
+    λ e. absurd (refusal.not_write (cc))
+
+pub returns-in_err-script-clause-fault : goal.returns-in_err-script-clause-fault
+returns-in_err-script-clause-fault g c =
+    let p = err_from_is_err_and c.from_residual-in_err-script.result c.from_residual-in_err-script.ensures.1 in
+    let why = rw (c.deref.ensures.value, c.len.ensures ∙ c.in_ok-router.router.devices.ok.0, c.deref-2.ensures.value) at c.in_err-script.ensures in
+    rw (p.1, p.2)
+    (IsRefusal-read (setup_of c.args.trees.items (map queued c.args.queues.now) c.args.senders.now) c.in_ok-router.router c.in_ok-router.ensures.made _ c.in_ok-text.text.items c.in_err-script.field-0.0 c.in_ok-text.ensures.bytes why).explains
+
+pub returns-in_err-script-clause-read_failures : goal.returns-in_err-script-clause-read_failures
+returns-in_err-script-clause-read_failures g c =
+    let p = err_from_is_err_and c.from_residual-in_err-script.result c.from_residual-in_err-script.ensures.1 in
+    let why = rw (c.deref.ensures.value, c.len.ensures ∙ c.in_ok-router.router.devices.ok.0, c.deref-2.ensures.value) at c.in_err-script.ensures in
+    let refusal = IsRefusal-read (setup_of c.args.trees.items (map queued c.args.queues.now) c.args.senders.now) c.in_ok-router.router c.in_ok-router.ensures.made _ c.in_ok-text.text.items c.in_err-script.field-0.0 c.in_ok-text.ensures.bytes why in
+    rw (p.1, p.2) (c.in_ok-text.ensures.fault ∙ sym (refusal.reads _))
+
+pub returns-in_err-script-clause-write_failures : goal.returns-in_err-script-clause-write_failures
+returns-in_err-script-clause-write_failures g c =
+    let p = err_from_is_err_and c.from_residual-in_err-script.result c.from_residual-in_err-script.ensures.1 in
+    let why = rw (c.deref.ensures.value, c.len.ensures ∙ c.in_ok-router.router.devices.ok.0, c.deref-2.ensures.value) at c.in_err-script.ensures in
+    let refusal = IsRefusal-read (setup_of c.args.trees.items (map queued c.args.queues.now) c.args.senders.now) c.in_ok-router.router c.in_ok-router.ensures.made _ c.in_ok-text.text.items c.in_err-script.field-0.0 c.in_ok-text.ensures.bytes why in
+    rw (p.1, p.2) (sym (refusal.writes _))
+
+-- why its closing stops short
+pub returns-in_err-answer-clause-fault : goal.returns-in_err-answer-clause-fault
+returns-in_err-answer-clause-fault g c =
+    let setup = setup_of c.args.trees.items (map queued c.args.queues.now) c.args.senders.now in
+    let p = err_from_is_err_and c.from_residual-in_err-answer.result c.from_residual-in_err-answer.ensures.1 in
+    let read = rw (c.deref.ensures.value, c.len.ensures ∙ c.in_ok-router.router.devices.ok.0, c.deref-2.ensures.value) at c.in_ok-script.ensures in
+    let why = rw read.1.closing at (c.in_err-answer.ensures.means setup _ c.in_ok-router.ensures.made read.1.rows) in
+    rw (p.1, p.2) (IsRefusal-run setup c.in_ok-router.router c.in_ok-router.ensures.made _ c.in_ok-text.text.items c.in_err-answer.field-0.0 c.in_ok-text.ensures.bytes read.0 why).explains
+
+pub returns-in_err-answer-clause-front : goal.returns-in_err-answer-clause-front
+returns-in_err-answer-clause-front g c =
+    let setup = setup_of c.args.trees.items (map queued c.args.queues.now) c.args.senders.now in
+    let p = err_from_is_err_and c.from_residual-in_err-answer.result c.from_residual-in_err-answer.ensures.1 in
+    let read = rw (c.deref.ensures.value, c.len.ensures ∙ c.in_ok-router.router.devices.ok.0, c.deref-2.ensures.value) at c.in_ok-script.ensures in
+    let why = rw read.1.closing at (c.in_err-answer.ensures.means setup _ c.in_ok-router.ensures.made read.1.rows) in
+    let refusal = IsRefusal-run setup c.in_ok-router.router c.in_ok-router.ensures.made _ c.in_ok-text.text.items c.in_err-answer.field-0.0 c.in_ok-text.ensures.bytes read.0 why in
+    λ e. absurd (refusal.not_write (cc))
+
+pub returns-in_err-answer-clause-read_failures : goal.returns-in_err-answer-clause-read_failures
+returns-in_err-answer-clause-read_failures g c =
+    let setup = setup_of c.args.trees.items (map queued c.args.queues.now) c.args.senders.now in
+    let p = err_from_is_err_and c.from_residual-in_err-answer.result c.from_residual-in_err-answer.ensures.1 in
+    let read = rw (c.deref.ensures.value, c.len.ensures ∙ c.in_ok-router.router.devices.ok.0, c.deref-2.ensures.value) at c.in_ok-script.ensures in
+    let why = rw read.1.closing at (c.in_err-answer.ensures.means setup _ c.in_ok-router.ensures.made read.1.rows) in
+    let refusal = IsRefusal-run setup c.in_ok-router.router c.in_ok-router.ensures.made _ c.in_ok-text.text.items c.in_err-answer.field-0.0 c.in_ok-text.ensures.bytes read.0 why in
+    rw (p.1, p.2) (c.in_ok-text.ensures.fault ∙ sym (refusal.reads _))
+
+pub returns-in_err-answer-clause-write_failures : goal.returns-in_err-answer-clause-write_failures
+returns-in_err-answer-clause-write_failures g c =
+    let setup = setup_of c.args.trees.items (map queued c.args.queues.now) c.args.senders.now in
+    let p = err_from_is_err_and c.from_residual-in_err-answer.result c.from_residual-in_err-answer.ensures.1 in
+    let read = rw (c.deref.ensures.value, c.len.ensures ∙ c.in_ok-router.router.devices.ok.0, c.deref-2.ensures.value) at c.in_ok-script.ensures in
+    let why = rw read.1.closing at (c.in_err-answer.ensures.means setup _ c.in_ok-router.ensures.made read.1.rows) in
+    let refusal = IsRefusal-run setup c.in_ok-router.router c.in_ok-router.ensures.made _ c.in_ok-text.text.items c.in_err-answer.field-0.0 c.in_ok-text.ensures.bytes read.0 why in
+    rw (p.1, p.2) (sym (refusal.writes _))
+
+-- What a router's answer means, with what it wrote.
+pub returns-clause-written : goal.returns-clause-written
+returns-clause-written g c =
+    let setup = setup_of c.args.trees.items (map queued c.args.queues.now) c.args.senders.now in
+    let read = rw (c.deref.ensures.value, c.len.ensures ∙ c.in_ok-router.router.devices.ok.0, c.deref-2.ensures.value) at c.in_ok-script.ensures in
+    let means = rw read.1.closing at (c.in_ok-answer.ensures.means setup _ c.in_ok-router.ensures.made read.1.rows) in
+    meaning-known setup c.in_ok-router.router c.in_ok-router.ensures.made _ c.in_ok-text.text.items (answer_text c.in_ok-answer.answer) (lists_of c.in_ok-answer.answer.past.logs.items)
+    (Appends (g.W.Sink.taken c.args.writer.now) (g.W.Sink.taken c.write_answer.new.writer)) c.in_ok-text.ensures.bytes read.0 means c.in_ok-write_answer.ensures.whole
+
+pub returns-in_err-write_answer-clause-front : goal.returns-in_err-write_answer-clause-front
+returns-in_err-write_answer-clause-front g c =
+    let setup = setup_of c.args.trees.items (map queued c.args.queues.now) c.args.senders.now in
+    let read = rw (c.deref.ensures.value, c.len.ensures ∙ c.in_ok-router.router.devices.ok.0, c.deref-2.ensures.value) at c.in_ok-script.ensures in
+    let means = rw read.1.closing at (c.in_ok-answer.ensures.means setup _ c.in_ok-router.ensures.made read.1.rows) in
+    λ e. meaning-alone setup _ _ _
+    (meaning-known setup c.in_ok-router.router c.in_ok-router.ensures.made _ c.in_ok-text.text.items (answer_text c.in_ok-answer.answer) (lists_of c.in_ok-answer.answer.past.logs.items)
+    (AppendsFront (g.W.Sink.taken c.args.writer.now) (g.W.Sink.taken c.write_answer.new.writer)) c.in_ok-text.ensures.bytes read.0 means c.in_err-write_answer.ensures.front)

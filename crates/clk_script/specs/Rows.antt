@@ -1,0 +1,176 @@
+-- What is kept of each command of a script, and what is written of it.
+use Rattle.std.specs.Prelude.{◌≡◌, ℕ, ◌≤◌, ◌==◌, List, [], ◌∷◌, ◌++◌, length, map, take, drop, ◌+◌, nat_lt, Bool, true, if◌then◌else◌, Option, Some, None, IfSome, MatchOption, Vec, slice_get}
+use Rattle.std.specs.List.{flat_map, filter_map, cons_option, AllByRecursion}
+use Rattle.std.specs.declared.alloc.Global.{Global}
+use Rattle.clk_packet.specs.declared.packet.Packet.{Packet}
+use Rattle.clk_packet.specs.declared.packet.Offered.{Offered}
+use Rattle.clk_packet.specs.declared.packet.Offered.TheVariants.{Accepted, Refused, Evicted}
+use Rattle.clk_packet.specs.declared.fault.Fault.{Fault}
+use Rattle.clk_packet.specs.declared.fault.Fault.TheVariants.{TooManyPulls}
+use Rattle.clk_sched.specs.declared.visit.Visit.{Visit}
+use Rattle.clk_sched.specs.Log.{visits_of, result_of}
+use Rattle.clk_report.specs.Report.{report_text}
+use Rattle.clk_report.specs.Devices.{lists_of, came_out}
+use Rattle.clk_script.specs.declared.script.Command.{Command}
+use Rattle.clk_script.specs.declared.script.Command.TheVariants.{Send, Pull}
+use Rattle.clk_script.specs.declared.script.Line.{Line}
+use Rattle.clk_script.specs.declared.rows.Row.{Row}
+use Rattle.clk_script.specs.declared.rows.Row.TheVariants as row
+use Rattle.clk_script.specs.declared.reading.Script.{Script}
+use Rattle.clk_script.specs.declared.answer.Answer.{Answer}
+use Rattle.clk_script.specs.declared.past.Past.{Past}
+use Rattle.clk_script.specs.declared.router.Router.{Router}
+use Rattle.clk_script.specs.Script.{Names, command_in, commands_of, closing_moment, most_lines, most_moment}
+use Rattle.clk_script.specs.Meaning.{Setup, has_several, Event, offered, pulled, command_of, offer_text, pull_text, given_text, closing_text, DrainsShort, StopsShort}
+use Rattle.clk_script.specs.Router.{IsAt, IsSound, device_log, LeadsOnByClosing}
+
+-- what is kept of a command that is to be carried out, of an offer, and of a pull
+abbrev pub row_asked : Command → Row
+row_asked (Send sender length) = row.Send sender length
+row_asked (Pull device moment) = row.Pull device moment
+
+abbrev pub row_offered : Packet → Offered → Row
+row_offered p Accepted = row.Accepted p
+row_offered p (Refused q) = row.Refused p
+row_offered p (Evicted front) = row.Evicting p
+
+abbrev pub row_pulled : ℕ → ℕ → Option Packet → Row
+row_pulled device moment None = row.GaveNone device moment
+row_pulled device moment (Some p) = row.Gave device moment
+
+-- what is kept of an event
+abbrev pub row_of : Event → Row
+row_of (offered p outcome) = row_offered p outcome
+row_of (pulled device moment visits) = row_pulled device moment (result_of (visits_of 0 visits))
+
+-- the packet that a pull gave
+abbrev pub given_by : Event → Option Packet
+given_by (offered p outcome) = None
+given_by (pulled device moment visits) = result_of (visits_of 0 visits)
+
+-- the row of the command that a line holds, if it holds one
+abbrev pub rows_in : Line → List Row
+rows_in l = map row_asked (cons_option (command_in l) [])
+
+-- a command that names what is there, and whose numbers are those of a script
+abbrev pub IsToDo : Names → Row → Type 0
+IsToDo names (row.Send sender length) = IsSound names (Send sender length)
+IsToDo names (row.Pull device moment) = IsSound names (Pull device moment) × (moment ≤ most_moment)
+IsToDo names r = ⊥
+
+-- The script holds what a text says.
+pub record IsReadFrom (text : List ℕ) (script : Script) : Type 0 where
+  pub rows : script.rows.items ≡ map row_asked (commands_of text)
+  pub closing : script.closing ≡ closing_moment text
+
+-- A script names what is there.
+pub record CanBeRun (names : Names) (script : Script) : Type 0 where
+  pub to_do : AllByRecursion (IsToDo names) script.rows.items
+  pub few : length script.rows.items ≤ most_lines
+  pub closing : IfSome script.closing (λ moment. moment ≤ most_moment)
+
+-- More events led on from these: they are of the commands that were asked for, the rows are theirs, and where there are several devices
+-- what the pulls gave was added to these packets.
+pub record CarriesOut (setup : Setup) (before : List Packet) (new : Router) (asked done : List Row) (events : List Event) : Type 0 where
+  pub more : List Event
+  pub theirs : map (λ e. row_asked (command_of e)) more ≡ asked
+  pub rows : done ≡ map row_of more
+  pub given : has_several setup ≡ true → new.given.items ≡ before ++ filter_map given_by more
+  pub leads : IsAt setup (events ++ more) new
+
+-- whatever events led to the router
+abbrev pub AnswersRows : Router → Router → List Row → List Row → Type 0
+AnswersRows old new asked done = (setup : Setup) (events : List Event) → IsAt setup events old → CarriesOut setup old.given.items new asked done events
+
+-- Why closing a router stops short, and why the closing after some commands does.
+abbrev pub StopsClosing : Router → Option ℕ → Fault → Type 0
+StopsClosing old (Some moment) (TooManyPulls made) = (setup : Setup) (events : List Event) → IsAt setup events old → DrainsShort setup moment made events
+StopsClosing old drain fault = ⊥
+
+abbrev pub StopsCommands : Setup → List Command → Option ℕ → Fault → Type 0
+StopsCommands setup commands drain (TooManyPulls made) = MatchOption drain ⊥ (StopsShort setup commands made)
+StopsCommands setup commands drain fault = ⊥
+
+-- the line of a row, where these packets come out from it on, and these are put out
+abbrev pub evicting_text : Packet → Option Packet → List ℕ
+evicting_text p None = offer_text p Accepted
+evicting_text p (Some front) = offer_text p (Evicted front)
+
+abbrev pub row_text : Bool → Row → List Packet → List Packet → List ℕ
+row_text several (row.Accepted p) given fronts = offer_text p Accepted
+row_text several (row.Refused p) given fronts = offer_text p (Refused p)
+row_text several (row.Evicting p) given fronts = evicting_text p (slice_get fronts 0)
+row_text several (row.Gave device moment) given fronts = pull_text several device moment (slice_get given 0)
+row_text several (row.GaveNone device moment) given fronts = pull_text several device moment None
+row_text several r given fronts = []
+
+-- what comes out after a row, and what is put out
+abbrev pub given_after : Row → List Packet → List Packet
+given_after (row.Gave device moment) given = drop 1 given
+given_after r given = given
+
+abbrev pub fronts_after : Row → List Packet → List Packet
+fronts_after (row.Evicting p) fronts = drop 1 fronts
+fronts_after r fronts = fronts
+
+-- the lines of some rows
+abbrev pub rows_text : Bool → List Row → List Packet → List Packet → List ℕ
+rows_text several [] given fronts = []
+rows_text several (r ∷ rows) given fronts = row_text several r given fronts ++ rows_text several rows (given_after r given) (fronts_after r fronts)
+
+-- what a visit of a device writes while a script closes
+abbrev pub visit_text : Bool → ℕ → Visit → List ℕ
+visit_text several device v = if v.node == 0 then (if v.passed then given_text several device v.moment v.got else []) else []
+
+-- what the closings of devices write, from this number on, whose visits begin at these places of their logs
+abbrev pub closings_text : Bool → ℕ → List ℕ → List (List Visit) → List ℕ
+closings_text several device (start ∷ starts) (log ∷ logs) =
+    flat_map (visit_text several device) (drop start log) ++ closings_text several (device + 1) starts logs
+closings_text several device starts logs = []
+
+-- The first so many devices of a router were closed from a moment on, after these events: the visits of their closings, which begin at these
+-- places of their logs, write what the closing pulls do.
+pub record ClosesFirst (setup : Setup) (new : Router) (moment devices : ℕ) (starts : List ℕ) (events : List Event) : Type 0 where
+  pub closing : LeadsOnByClosing setup new moment devices events
+  pub lines : flat_map (closing_text (has_several setup)) closing.closed ≡ closings_text (has_several setup) 0 starts (map device_log (take devices new.devices.items))
+
+-- The devices of a router were closed from a moment on, and the visits of each one's closing begin at this place of its log.
+pub record IsClosedAt (old new : Router) (moment : ℕ) (starts : List ℕ) : Type 0 where
+  pub count : length new.devices.items ≡ length old.devices.items
+  pub given : new.given ≡ old.given
+  pub closes : (setup : Setup) (events : List Event) → IsAt setup events old → ClosesFirst setup new moment (length old.devices.items) starts events
+
+-- They were closed if there is a moment.
+abbrev pub IsClosedFrom : Router → Router → Option ℕ → Option (List ℕ) → Type 0
+IsClosedFrom old new None None = new ≡ old
+IsClosedFrom old new None (Some starts) = ⊥
+IsClosedFrom old new (Some moment) None = ⊥
+IsClosedFrom old new (Some moment) (Some starts) = IsClosedAt old new moment starts
+
+-- where closings begin
+abbrev pub starts_of : Option (Vec ℕ Global) → Option (List ℕ)
+starts_of None = None
+starts_of (Some starts) = Some starts.items
+
+-- whether there are several devices
+abbrev pub are_several : Past → Bool
+are_several past = nat_lt 1 (length past.came_out.items)
+
+-- what the pulls of the script's commands gave, in order: where there is one device it is what came out of it
+abbrev pub given_first : List (List Packet) → List Packet → List Packet
+given_first (only ∷ []) given = only
+given_first devices given = given
+
+abbrev pub given_of : Past → List Packet
+given_of past = given_first (lists_of past.came_out.items) past.given.items
+
+-- what the closing writes whose visits begin at these places of the logs, if there is one, and then the report
+abbrev pub ending_of : Past → Option (List ℕ) → List ℕ
+ending_of past None = []
+ending_of past (Some starts) =
+    closings_text (are_several past) 0 starts (lists_of past.logs.items) ++ report_text (came_out past.came_out.items) past.tallies.items
+
+-- all that an answer writes
+abbrev pub answer_text : Answer → List ℕ
+answer_text answer =
+    rows_text (are_several answer.past) answer.rows.items (given_of answer.past) answer.past.put_out.items ++ ending_of answer.past (starts_of answer.closing)

@@ -1,0 +1,131 @@
+-- The lines of a script, and what is wrong with it (this project's own format).
+use Rattle.std.specs.Prelude.{ℕ, ◌+◌, ◌-◌, ◌^◌, List, [], ◌∷◌, length, map, filter, Bool, true, false, ◌==◌, ◌||◌, nat_lt, if◌then◌else◌, Option, Some, None, codes, slice_get}
+use Rattle.std.specs.Option.{option_or}
+use Rattle.std.specs.List.{slice_split, filter_map, list_any}
+use Rattle.std.specs.Str.{bytes_eq}
+use Rattle.std.specs.Str.Lines.{lines}
+use Rattle.clk_packet.specs.Limits.{most_sender, most_length}
+use Rattle.clk_packet.specs.Numbers.{has_bytes, number_in}
+use Rattle.clk_packet.specs.declared.fault.Fault.{Fault}
+use Rattle.clk_packet.specs.declared.fault.Fault.TheVariants.{TooLarge, BadScript, UnknownSender}
+use Rattle.clk_script.specs.declared.script.Command.{Command}
+use Rattle.clk_script.specs.declared.script.Command.TheVariants.{Send, Pull}
+use Rattle.clk_script.specs.declared.script.Line.{Line}
+use Rattle.clk_script.specs.declared.script.Line.TheVariants as line
+
+-- how many bytes and lines a script may have, and the greatest moment that it may name, in ticks
+abbrev pub most_bytes : ℕ
+most_bytes = 33554432
+
+abbrev pub most_lines : ℕ
+most_lines = 1000000
+
+abbrev pub most_moment : ℕ
+most_moment = 2 ^ 40 - 1
+
+-- the greatest number of a device that a line may hold
+abbrev pub most_device : ℕ
+most_device = 65535
+
+-- a space or a tab
+abbrev pub is_blank : ℕ → Bool
+is_blank byte = (byte == 32) || (byte == 9)
+
+-- the parts between blanks, without the empty ones
+abbrev pub fields : List ℕ → List (List ℕ)
+fields text = filter has_bytes (slice_split is_blank text)
+
+-- what follows the word `send` or another, where it is numbers in range
+abbrev pub send_of : Option ℕ → Option ℕ → Line
+send_of None length = line.Malformed
+send_of (Some sender) None = line.Malformed
+send_of (Some sender) (Some length) = line.Command (Send sender length)
+
+abbrev pub pull_of : Option ℕ → Option ℕ → Line
+pull_of None device = line.Malformed
+pull_of (Some moment) None = line.Malformed
+pull_of (Some moment) (Some device) = line.Command (Pull device moment)
+
+abbrev pub drain_of : Option ℕ → Line
+drain_of None = line.Malformed
+drain_of (Some moment) = line.Drain moment
+
+abbrev pub sender_and_length : List (List ℕ) → Line
+sender_and_length (sender ∷ length ∷ []) = send_of (number_in 0 most_sender sender) (number_in 1 most_length length)
+sender_and_length arguments = line.Malformed
+
+-- a moment, and a device: the first where none is named
+abbrev pub moment_and_device : List (List ℕ) → Line
+moment_and_device (moment ∷ []) = pull_of (number_in 0 most_moment moment) (Some 0)
+moment_and_device (moment ∷ device ∷ []) = pull_of (number_in 0 most_moment moment) (number_in 0 most_device device)
+moment_and_device arguments = line.Malformed
+
+abbrev pub only_moment : List (List ℕ) → Option ℕ
+only_moment (moment ∷ []) = number_in 0 most_moment moment
+only_moment arguments = None
+
+-- What the fields of a line say: `send S L`, `pull M`, `pull M D` or `drain M`.
+abbrev pub line_of_fields : List (List ℕ) → Line
+line_of_fields [] = line.Blank
+line_of_fields (word ∷ arguments) =
+    if bytes_eq word (codes "send") then sender_and_length arguments
+    else if bytes_eq word (codes "pull") then moment_and_device arguments
+    else if bytes_eq word (codes "drain") then drain_of (only_moment arguments)
+    else line.Malformed
+
+abbrev pub line_of : List ℕ → Line
+line_of text = line_of_fields (fields text)
+
+-- what the commands of a script may name: these senders, and so many devices
+pub record Names : Type 0 where
+  pub senders : List ℕ
+  pub devices : ℕ
+
+-- what is wrong with the command in the line of a number
+abbrev pub command_fault : Names → ℕ → Command → Option Fault
+command_fault names number (Send sender length) = if list_any (λ s. s == sender) names.senders then None else Some (UnknownSender sender)
+command_fault names number (Pull device moment) = if nat_lt device names.devices then None else Some (BadScript number)
+
+-- what is wrong with the line of a number: after a drain only lines without fields may follow
+abbrev pub line_fault : Names → Bool → ℕ → Line → Option Fault
+line_fault names drained number line.Blank = None
+line_fault names drained number line.Malformed = Some (BadScript number)
+line_fault names drained number (line.Command command) = if drained then Some (BadScript number) else command_fault names number command
+line_fault names drained number (line.Drain moment) = if drained then Some (BadScript number) else None
+
+abbrev pub fault_at : Names → Bool → ℕ → Line → Option Fault
+fault_at names drained number l = if nat_lt most_lines number then Some TooLarge else line_fault names drained number l
+
+abbrev pub is_drain : Line → Bool
+is_drain (line.Drain moment) = true
+is_drain l = false
+
+-- What is wrong with the first of some lines that has something wrong. They are counted from a number on, and a drain may have
+-- come before them.
+abbrev pub first_fault : Names → Bool → ℕ → List Line → Option Fault
+first_fault names drained number [] = None
+first_fault names drained number (l ∷ more) =
+    option_or (fault_at names drained number l) (first_fault names (drained || is_drain l) (number + 1) more)
+
+abbrev pub lines_of : List ℕ → List Line
+lines_of script = map line_of (lines script)
+
+-- What is wrong with a script: it has too many bytes, or else what is wrong with the first line that has something wrong.
+abbrev pub script_fault : Names → List ℕ → Option Fault
+script_fault names script = if nat_lt most_bytes (length script) then Some TooLarge else first_fault names false 1 (lines_of script)
+
+abbrev pub command_in : Line → Option Command
+command_in (line.Command command) = Some command
+command_in l = None
+
+-- the commands of a script, in order
+abbrev pub commands_of : List ℕ → List Command
+commands_of script = filter_map command_in (lines_of script)
+
+abbrev pub drain_in : Line → Option ℕ
+drain_in (line.Drain moment) = Some moment
+drain_in l = None
+
+-- the moment from which a script closes, where it has a drain
+abbrev pub closing_moment : List ℕ → Option ℕ
+closing_moment script = slice_get (filter_map drain_in (lines_of script)) 0

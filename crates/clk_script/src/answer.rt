@@ -1,0 +1,129 @@
+//! The answer to a script.
+
+ghost use Rattle.std.specs.Prelude.{◌≡◌, ◌≤◌, ◌∷◌, ◌⊎◌, [], IfOk, IfErr, IfSome, OnOk, MatchResult, IsOkUnless, Some, length, map};
+ghost use Rattle.std.specs.List.{AllByRecursion};
+ghost use Rattle.clk_packet.specs.declared.fault.Fault.TheVariants.{Memory};
+ghost use Rattle.clk_report.specs.Devices.{lists_of};
+ghost use Rattle.clk_script.specs.Script.{most_lines, most_moment};
+ghost use Rattle.clk_script.specs.Meaning.{Setup, WritesWith};
+ghost use Rattle.clk_script.specs.Router.{names_in, IsReady, Starts};
+ghost use Rattle.clk_script.specs.Rows.{row_asked, answer_text, IsToDo, CanBeRun, AnswersRows, IsClosedFrom, IsClosedAt, starts_of, StopsClosing, StopsCommands};
+
+use crate::past::Past;
+use crate::reading::Script;
+use crate::router::Router;
+use crate::rows::Row;
+use clk_packet::Fault;
+use std::alloc::Global;
+
+/// What a script comes to.
+#[derive(Drop)]
+pub struct Answer {
+    /// What its commands came to, in order.
+    pub rows: Vec<Row>,
+    /// Where the visits of each device's closing begin in its log, if it closes: then the report follows.
+    pub closing: Option<Vec<usize>>,
+    /// What the router did.
+    pub past: Past,
+}
+
+/// What a script comes to over a router to which nothing has happened.
+///
+/// # Errors
+///
+/// Fault 1 where memory is refused, and 17 where the drain of a device stops short.
+pub fn answer_script(alloc: Global, router: Router, script: Script) -> Result<Answer, Fault>
+    requires fresh { (setup : Setup) × Starts setup router }
+    requires sound { CanBeRun (names_in router) script }
+    ensures means { (setup : Setup) (commands : _) → Starts setup router → script.rows.items ≡ map row_asked commands → MatchResult result
+        (λ answer. WritesWith setup commands script.closing (answer_text answer) (lists_of answer.past.logs.items))
+        (λ fault. (fault ≡ Memory) ⊎ StopsCommands setup commands script.closing fault) }
+    ensures devices { IfOk result (λ answer. (length answer.past.logs.items ≡ length router.devices.items) × (length answer.past.came_out.items ≡ length router.devices.items)) }
+{
+    let mut router = router;
+    let mut rows = script.rows;
+    carry_out(&mut router, &mut rows)?;
+    let closing = close(alloc, &mut router, script.closing)?;
+    Ok(Answer {
+        rows,
+        closing,
+        past: router.into_past(alloc)?,
+    })
+}
+
+/// Carries out the commands of some rows, and puts what each came to in its place. Fault 1 where memory is refused.
+fn carry_out(router: &mut Router, rows: &mut [Row]) -> Result<(), Fault>
+    requires fresh { (setup : Setup) × Starts setup router.old }
+    requires to_do { AllByRecursion (IsToDo (names_in router.old)) rows.old }
+    requires few { length rows.old ≤ most_lines }
+    ensures done { OnOk result (AnswersRows router.old router.new rows.old rows.new) }
+    ensures fault { IsOkUnless result Fault.Memory }
+{
+    let mut i = 0;
+    while i < rows.len() {
+        rows[i] = carry_out_one(router, rows[i])?;
+        i += 1;
+    }
+    Ok(())
+}
+
+/// Carries out the command of a row, and gives what it came to. Fault 1 where memory is refused.
+fn carry_out_one(router: &mut Router, row: Row) -> Result<Row, Fault>
+    requires ready { IsReady router.old }
+    requires to_do { IsToDo (names_in router.old) row }
+    ensures done { IfOk result (λ done. AnswersRows router.old router.new (row ∷ []) (done ∷ [])) }
+    ensures fault { IsOkUnless result Fault.Memory }
+{
+    match row {
+        Row::Send { sender, length } => {
+            let Some(place) = router.place_of(sender) else {
+                unreachable!()
+            };
+            let (packet, outcome) = router.send(place, length)?;
+            Ok(Row::offered(packet, outcome))
+        }
+        Row::Pull { device, moment } => {
+            let got = router.pull(device, moment)?;
+            Ok(Row::pulled(device, moment, got))
+        }
+        _ => unreachable!(),
+    }
+}
+
+/// Closes a router from this moment on, in ticks, if there is one. Answers where the visits of each device's closing begin in its log.
+///
+/// # Errors
+///
+/// Fault 1 where memory is refused, and 17 where the pulls that the closing of a device is given are not enough.
+fn close(
+    alloc: Global,
+    router: &mut Router,
+    moment: Option<u64>,
+) -> Result<Option<Vec<usize>>, Fault>
+    requires ready { IsReady router.old }
+    requires moment { IfSome moment (λ m. m ≤ most_moment) }
+    ensures closed { IfOk result (λ starts. IsClosedFrom router.old router.new moment (starts_of starts)) }
+    ensures fault { IfErr result (λ fault. (fault ≡ Memory) ⊎ StopsClosing router.old moment fault) }
+{
+    match moment {
+        Some(moment) => Ok(Some(drain_all(alloc, router, moment)?)),
+        None => Ok(None),
+    }
+}
+
+/// Drains the devices one after the other, each from this moment on, and answers where the visits of each one's closing begin in its
+/// log. The same faults.
+fn drain_all(alloc: Global, router: &mut Router, moment: u64) -> Result<Vec<usize>, Fault>
+    requires ready { IsReady router.old }
+    requires moment { moment ≤ most_moment }
+    ensures closed { IfOk result (λ starts. IsClosedAt router.old router.new moment starts.items) }
+    ensures fault { IfErr result (λ fault. (fault ≡ Memory) ⊎ StopsClosing router.old (Some moment) fault) }
+{
+    let mut starts = Vec::new(alloc);
+    let mut device = 0;
+    while usize::from(device) < router.devices.len() {
+        starts.push(router.drain(device, moment)?)?;
+        device += 1;
+    }
+    Ok(starts)
+}

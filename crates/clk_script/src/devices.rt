@@ -1,0 +1,35 @@
+//! The devices of a router.
+
+ghost use Rattle.std.specs.Prelude.{◌≡◌, ◌+◌, ◌≤◌, [], true, map, IfOk, IsOkUnless};
+ghost use Rattle.std.specs.List.{AllByRecursion};
+ghost use Rattle.clk_packet.specs.declared.fault.Fault.TheVariants.{Memory};
+ghost use Rattle.clk_script.specs.Router.{device_made, CanStand};
+
+use clk_packet::Fault;
+use clk_sched::{Session, Tree};
+use std::alloc::Global;
+
+/// A device, and what was done at it.
+#[derive(Drop)]
+pub struct Device {
+    /// Its tree, with the log of its pulls.
+    pub session: Session,
+    /// How many packets its queues took and didn't put out for later ones.
+    pub kept: u64,
+}
+
+/// A device for each of these trees, before it is pulled. Fault 1 where memory is refused.
+pub fn devices_of(alloc: Global, trees: Vec<Tree>) -> Result<Vec<Device>, Fault>
+    requires each { AllByRecursion CanStand trees.items }
+    ensures made { IfOk result (λ devices. devices.items ≡ map device_made trees.items) }
+    ensures fault { IsOkUnless result Fault.Memory }
+{
+    let mut devices = Vec::new(alloc);
+    for tree in trees {
+        devices.push(Device {
+            session: Session::new(alloc, tree)?,
+            kept: 0,
+        })?;
+    }
+    Ok(devices)
+}

@@ -1,0 +1,104 @@
+//! What the definitions of scripts say: each law is a function that does nothing and whose contract is the law.
+
+ghost use Rattle.std.specs.Prelude.{◌≡◌, ℕ, List, [], ◌∷◌, Some, codes};
+ghost use Rattle.clk_packet.specs.Bytes.{Takes, AppendsFront};
+ghost use Rattle.clk_packet.specs.declared.fault.Fault.TheVariants.{TooLarge};
+ghost use Rattle.clk_sched.specs.Tree.{Tree};
+ghost use Rattle.clk_tree.specs.Shares.{AreTreesOf};
+ghost use Rattle.clk_script.specs.Meaning.{CanHappen, Closes, CloseFirst, IsMeaning, MeansOver, Explains, ExplainsPlan, plan_setup};
+ghost use Rattle.clk_script.specs.OneMeaning.{IsWired, IsApart, HasAtMostOneMeaning, DevicesAreApart};
+ghost use Rattle.clk_script.specs.OneDevice.{HasOneDevice, IsMeaningAlone};
+ghost use Rattle.clk_script.specs.Examples.{two_queues, two_devices, shaped, moment_not_counted, moment_ahead, second_first, number_left_out, refused_early, never_sent, other_refused, swapped, moment_shared, no_device, one_left, closed_at_once, closed_without_a_pull, closed_a_tick_early, closed_a_pull_late, one_at_each, closed_in_turn, closed_last_first, closed_on};
+
+use clk_ring::histories_leave_no_choice;
+use clk_sched::{runs_go_on, runs_leave_no_choice};
+use clk_tree::Plan;
+
+/// A script has at most one meaning over a setup whose senders send to queues that are there, and whose trees stand over such:
+/// what its commands make happen follows, one after another, and so does the text. Two queues with a sender each, below a
+/// PrioSched, are such a setup.
+pub fn scripts_have_at_most_one_meaning()
+    ensures wired { (setup : _) → IsWired setup → HasAtMostOneMeaning setup }
+    ensures two_queues { HasAtMostOneMeaning two_queues }
+{
+    // By the laws of what the meaning is made of, which do nothing.
+    histories_leave_no_choice();
+    runs_leave_no_choice();
+}
+
+/// A script has at most one meaning over a plan, since that has one tree for each device. What `run_script` writes, where it succeeds,
+/// is therefore settled by the script and the plan.
+pub fn plans_have_at_most_one_meaning(plan: &Plan)
+    ensures { (script one other : List ℕ) → MeansOver plan.now script one → MeansOver plan.now script other → one ≡ other }
+{
+    // Its senders send to its queues, which its trees share out.
+    let _senders = plan.senders();
+    plan.trees_share_queues();
+    scripts_have_at_most_one_meaning();
+}
+
+/// Over one device, as over two queues below a PrioSched, a script means what it does without numbers of devices: its pulls are a run
+/// of the one tree, and their lines are `pull M: ..`.
+pub fn one_device_needs_no_number()
+    ensures alone { (setup : _) (tree : _) → HasOneDevice setup tree → (script text : List ℕ) → IsMeaning setup script text → IsMeaningAlone setup tree script text }
+    ensures all { (setup : _) (tree : _) → HasOneDevice setup tree → (script text : List ℕ) → IsMeaningAlone setup tree script text → IsMeaning setup script text }
+    ensures two_queues { (tree : _) × HasOneDevice two_queues tree }
+{}
+
+/// What happens at a device, and so each of its lines, follows from the commands of its own, over a setup whose senders and devices
+/// stand apart: no pull of another device and no packet that is sent to one changes it.
+pub fn devices_stand_apart()
+    ensures { (setup : _) → IsWired setup → IsApart setup → DevicesAreApart setup }
+{
+    // What happens at a device can happen alone. The rest is by these laws, which do nothing.
+    runs_go_on();
+    histories_leave_no_choice();
+    runs_leave_no_choice();
+}
+
+/// Over a plan they stand apart: what happens at a device of it follows from the commands of its own.
+pub fn devices_of_plans_stand_apart(plan: &Plan)
+    ensures { (trees : List Tree) → AreTreesOf plan.now trees → DevicesAreApart (plan_setup trees plan.now) }
+{
+    // Its senders rise and send to its queues, which its trees share out.
+    let _senders = plan.senders();
+    let _queues = plan.queues();
+    plan.trees_share_queues();
+    devices_stand_apart();
+}
+
+/// Which events cannot happen over two queues below a PrioSched, over one below a Shaper, or over two devices with a queue each, and
+/// that a script with a fault has no meaning.
+pub fn script_examples()
+    ensures not_moment_not_counted { ¬ (CanHappen shaped moment_not_counted) }
+    ensures not_moment_ahead { ¬ (CanHappen shaped moment_ahead) }
+    ensures not_second_first { ¬ (CanHappen two_queues second_first) }
+    ensures not_number_left_out { ¬ (CanHappen two_queues number_left_out) }
+    ensures not_refused_early { ¬ (CanHappen two_queues refused_early) }
+    ensures not_never_sent { ¬ (CanHappen two_queues never_sent) }
+    ensures not_other_refused { ¬ (CanHappen two_queues other_refused) }
+    ensures not_swapped { ¬ (CanHappen two_devices swapped) }
+    ensures not_moment_shared { ¬ (CanHappen two_devices moment_shared) }
+    ensures not_no_device { ¬ (CanHappen two_devices no_device) }
+    ensures not_faulty { (text : _) → ¬ (IsMeaning two_queues (codes "pull\n") text) }
+{}
+
+/// Which pulls close a script from moment 4 on where one packet is left, and where one is left at each of two devices.
+pub fn closing_examples()
+    ensures at_once { Closes 0 4 one_left closed_at_once }
+    ensures not_without_a_pull { ¬ (Closes 0 4 one_left closed_without_a_pull) }
+    ensures not_a_tick_early { ¬ (Closes 0 4 one_left closed_a_tick_early) }
+    ensures not_a_pull_late { ¬ (Closes 0 4 one_left closed_a_pull_late) }
+    ensures in_turn { CloseFirst two_devices 4 2 one_at_each closed_in_turn }
+    ensures not_last_first { ¬ (CloseFirst two_devices 4 2 one_at_each closed_last_first) }
+    ensures not_on { ¬ (CloseFirst two_devices 4 2 one_at_each closed_on) }
+{}
+
+/// What the words of `run_script`'s contract don't let through: more bytes read than the limit, bytes written that are no
+/// front of the text, and a fault of another script.
+pub fn word_examples()
+    ensures not_taken { ¬ (Takes 1 (Some (65 ∷ 66 ∷ [])) (Some [])) }
+    ensures not_front { ¬ (AppendsFront (Some []) (Some (66 ∷ [])) (65 ∷ 66 ∷ [])) }
+    ensures not_too_large { ¬ (Explains two_queues (Some (codes "pull 0\n")) TooLarge) }
+    ensures not_too_large_over_a_plan { (plan : _) → ¬ (ExplainsPlan plan (Some (codes "pull 0\n")) TooLarge) }
+{}

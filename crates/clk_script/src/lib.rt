@@ -1,0 +1,26 @@
+//! Runs scripts of sends and pulls over the queues and pull schedulers of a plan.
+#![tactic(auto)]
+
+mod answer;
+mod devices;
+mod fields;
+mod laws;
+mod lines;
+mod past;
+mod queues;
+mod reading;
+mod router;
+mod rows;
+mod run;
+mod script;
+mod senders;
+mod tallies;
+mod text;
+mod writing;
+
+pub use laws::{
+    closing_examples, devices_of_plans_stand_apart, devices_stand_apart,
+    one_device_needs_no_number, plans_have_at_most_one_meaning, script_examples,
+    scripts_have_at_most_one_meaning, word_examples,
+};
+pub use run::{run_script, run_script_logged};

@@ -1,0 +1,155 @@
+//! The reading of a script.
+
+ghost use Rattle.std.specs.Prelude.{◌≡◌, ◌≤◌, ◌+◌, ◌++◌, ◌⊎◌, true, false, map, None, Some, MatchResult, OnOk};
+ghost use Rattle.clk_packet.specs.declared.fault.Fault.TheVariants.{Memory};
+ghost use Rattle.clk_tree.specs.PlanParts.{AreRising};
+ghost use Rattle.clk_script.specs.Script.{lines_of, drain_in, command_fault, fault_at, first_fault, script_fault, most_lines};
+ghost use Rattle.clk_script.specs.Router.{tally_sender, named_by};
+ghost use Rattle.clk_script.specs.Rows.{rows_in, IsReadFrom, CanBeRun};
+
+use crate::rows::Row;
+use crate::script::{Command, Line, MAX_BYTES, MAX_LINES};
+use crate::tallies::place_of;
+use clk_packet::{Fault, Tally};
+use std::alloc::Global;
+
+/// A script that was read.
+#[derive(Drop)]
+pub struct Script {
+    /// Its commands, in order.
+    pub rows: Vec<Row>,
+    /// The moment of its drain in ticks, if it has one.
+    pub closing: Option<u64>,
+}
+
+/// Reads a script over the senders of these tallies, and so many devices.
+///
+/// # Errors
+///
+/// Fault 1 where memory is refused; 18 for more than 33,554,432 bytes; then the fault of the first line that has one.
+pub fn read_script(
+    alloc: Global,
+    tallies: &[Tally],
+    devices: usize,
+    text: &[u8],
+) -> Result<Script, Fault>
+    requires rising { AreRising (map tally_sender tallies.now) }
+    ensures { MatchResult result
+        (λ script. (script_fault (named_by tallies.now devices) text.now ≡ None)
+        × IsReadFrom text.now script × CanBeRun (named_by tallies.now devices) script)
+        (λ fault. (fault ≡ Memory) ⊎ (script_fault (named_by tallies.now devices) text.now ≡ Some fault)) }
+{
+    if text.len() > MAX_BYTES {
+        return Err(Fault::TooLarge);
+    }
+    let mut rows = Vec::new(alloc);
+    let mut number = 0;
+    let mut rest = text;
+    while !rest.is_empty() {
+        let (line, after) = Line::next(rest);
+        number += 1;
+        if let Some(moment) = read_line(tallies, devices, number, line, &mut rows)? {
+            only_blank_lines(number, after)?;
+            return Ok(Script {
+                rows,
+                closing: Some(moment),
+            });
+        }
+        rest = after;
+    }
+    Ok(Script {
+        rows,
+        closing: None,
+    })
+}
+
+/// Adds a row for the line of this number, counted from 1, if it holds a command, and answers the moment of a drain. The line is one
+/// of the first 1,000,000 (fault 18), a command or blank (16), and names a sender (15) and a device (16) that are there. Fault 1 where
+/// memory is refused.
+fn read_line(
+    tallies: &[Tally],
+    devices: usize,
+    number: u32,
+    line: Line,
+    rows: &mut Vec<Row>,
+) -> Result<Option<u64>, Fault>
+    requires rising { AreRising (map tally_sender tallies.now) }
+    ensures exact { MatchResult result
+        (λ drain. (fault_at (named_by tallies.now devices) false number line ≡ None)
+        × (drain ≡ drain_in line)
+        × (rows.new.items ≡ rows.old.items ++ rows_in line))
+        (λ fault. (fault ≡ Memory) ⊎ (fault_at (named_by tallies.now devices) false number line ≡ Some fault)) }
+    ensures within { OnOk result (number ≤ most_lines) }
+{
+    if number > MAX_LINES {
+        return Err(Fault::TooLarge);
+    }
+    match line {
+        Line::Blank => Ok(None),
+        Line::Malformed => Err(Fault::BadScript { line: number }),
+        Line::Drain { moment } => Ok(Some(moment)),
+        Line::Command(command) => {
+            check_names(tallies, devices, number, command)?;
+            rows.push(Row::asked(command))?;
+            Ok(None)
+        }
+    }
+}
+
+/// Whether the sender that the command in a line names has one of these tallies, or its device is one of so many. Fault 15 or 16 where
+/// it isn't.
+fn check_names(
+    tallies: &[Tally],
+    devices: usize,
+    number: u32,
+    command: Command,
+) -> Result<(), Fault>
+    requires rising { AreRising (map tally_sender tallies.now) }
+    ensures { MatchResult result
+        (λ known. command_fault (named_by tallies.now devices) number command ≡ None)
+        (λ fault. command_fault (named_by tallies.now devices) number command ≡ Some fault) }
+{
+    match command {
+        Command::Pull { device, .. } if usize::from(device) < devices => Ok(()),
+        Command::Pull { .. } => Err(Fault::BadScript { line: number }),
+        Command::Send { sender, .. } => match place_of(tallies, sender) {
+            Some(_) => Ok(()),
+            None => Err(Fault::UnknownSender { sender }),
+        },
+    }
+}
+
+/// Whether the lines of a text, which come after a drain that is the line of this number, have no fields. Fault 16 for the first that
+/// has one, and 18 for line 1,000,001.
+fn only_blank_lines(drain: u32, text: &[u8]) -> Result<(), Fault>
+    requires { drain ≤ most_lines }
+    ensures { (names : _) → MatchResult result
+        (λ blank. first_fault names true (drain + 1) (lines_of text.now) ≡ None)
+        (λ fault. first_fault names true (drain + 1) (lines_of text.now) ≡ Some fault) }
+{
+    let mut number = drain;
+    let mut rest = text;
+    while !rest.is_empty() {
+        let (line, after) = Line::next(rest);
+        number += 1;
+        blank_line(number, line)?;
+        rest = after;
+    }
+    Ok(())
+}
+
+/// Whether the line of this number, which comes after a drain, has no fields.
+fn blank_line(number: u32, line: Line) -> Result<(), Fault>
+    ensures fault { (names : _) → MatchResult result
+        (λ blank. fault_at names true number line ≡ None)
+        (λ fault. fault_at names true number line ≡ Some fault) }
+    ensures within { OnOk result (number ≤ most_lines) }
+{
+    if number > MAX_LINES {
+        return Err(Fault::TooLarge);
+    }
+    match line {
+        Line::Blank => Ok(()),
+        _ => Err(Fault::BadScript { line: number }),
+    }
+}

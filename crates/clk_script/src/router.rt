@@ -1,0 +1,211 @@
+//! The router that a script runs over: senders, queues, and for each device a session of its tree over the queues.
+
+ghost use Rattle.std.specs.Prelude.{◌≡◌, map, IfOk, IsOkUnless};
+ghost use Rattle.clk_packet.specs.declared.fault.Fault.TheVariants.{Memory};
+ghost use Rattle.clk_tree.specs.PlanParts.{queued};
+ghost use Rattle.clk_script.specs.Router.{path_made};
+
+use crate::devices::{Device, devices_of};
+use crate::past::Past;
+use crate::queues::Queues;
+use crate::senders::{Sender, senders_of};
+use crate::tallies::{note, place_of, tallies_of};
+use clk_packet::{Fault, Offered, Packet, Tally};
+use clk_ring::calls_are_history;
+use clk_sched::{Tree, runs_go_on};
+use clk_tree::{QueueSpec, SenderSpec};
+use std::alloc::Global;
+
+/// The router, and all that it has done.
+#[derive(Drop)]
+pub struct Router {
+    /// The devices, by number.
+    pub devices: Vec<Device>,
+    queues: Queues,
+    /// The device that the packets of each queue go to.
+    paths: Vec<u16>,
+    /// The senders, by rising numbers.
+    senders: Vec<Sender>,
+    /// What became of the packets of each, at its place.
+    pub tallies: Vec<Tally>,
+    /// Where there are several devices, the packets that pulls gave, closing pulls aside, in order. A device alone has them itself.
+    given: Vec<Packet>,
+    /// The packets that queues put out for later ones, in order.
+    evicted: Vec<Packet>,
+}
+
+impl Router {
+    ghost use Rattle.std.specs.Prelude.{◌≡◌, ◌+◌, ◌^◌, ◌<◌, ◌≤◌, ◌==◌, ◌++◌, ◌∷◌, ◌⊎◌, [], true, false, None, map, length, slice_get, IfOk, IfErr, OnOk, IfSome, IsOkUnless};
+    ghost use Rattle.std.specs.List.{AllByRecursion, list_any};
+    ghost use Rattle.clk_packet.specs.declared.packet.Packet.{Packet};
+    ghost use Rattle.clk_packet.specs.declared.fault.Fault.TheVariants.{Memory};
+    ghost use Rattle.clk_tree.specs.PlanParts.{queued, HasCapacity};
+    ghost use Rattle.clk_script.specs.Script.{most_lines, most_moment};
+    ghost use Rattle.clk_script.specs.Meaning.{Setup, Event, offered, setup_of};
+    ghost use Rattle.clk_script.specs.Router.{CanStand, ChangesDevice, numbers_in, IsSteady, IsPlace, IsPlaceOf, IsSentFrom, IsReady, IsSteadyAt, IsWhole, IsAt, IsPastOf, Starts, Counts, ChangesGiven, given_kept, LeadsOnByPull, LeadsOnByDrain, StopsDrain, device_log};
+
+    /// The router over these parts before anything has happened. Fault 1 where memory is refused.
+    pub fn new(
+        alloc: Global,
+        trees: Vec<Tree>,
+        queues: &[QueueSpec],
+        senders: &[SenderSpec],
+    ) -> Result<Router, Fault>
+        requires trees { AllByRecursion CanStand trees.items }
+        requires capacities { AllByRecursion HasCapacity (map queued queues.now) }
+        requires whole { IsWhole (setup_of trees.items (map queued queues.now) senders.now) }
+        ensures made { IfOk result (Starts (setup_of trees.items (map queued queues.now) senders.now)) }
+        ensures fault { IsOkUnless result Fault.Memory }
+    {
+        // The empty log is a run, and the queues lead on from here, by these laws, which do nothing.
+        runs_go_on();
+        calls_are_history();
+        Ok(Router {
+            devices: devices_of(alloc, trees)?,
+            queues: Queues::new(alloc, queues)?,
+            paths: paths_of(alloc, queues)?,
+            senders: senders_of(alloc, senders)?,
+            tallies: tallies_of(alloc, senders)?,
+            given: Vec::new(alloc),
+            evicted: Vec::new(alloc),
+        })
+    }
+
+    /// The place of the sender of this number, if it is there.
+    pub fn place_of(&self, number: u16) -> Option<usize>
+        requires ready { IsReady self.now }
+        ensures found { IfSome result (IsPlaceOf self.now.tallies.items number) }
+        ensures missing { result ≡ None → list_any (λ s. s == number) (numbers_in self.now) ≡ false }
+    {
+        place_of(&self.tallies, number)
+    }
+
+    /// The sender at this place offers its next packet, of this length in bytes, to its queue. Fault 1 where memory is refused.
+    pub fn send(&mut self, place: usize, length: u16) -> Result<(Packet, Offered), Fault>
+        requires ready { IsReady self.old }
+        requires is_there { IsPlace self.old.tallies.items place }
+        requires has_length { 1 ≤ length }
+        ensures sent { IfOk result (λ r. IsSentFrom self.old.tallies.items place r.0 × (r.0.length ≡ length)) }
+        ensures leads { IfOk result (λ r. (setup : Setup) (events : _) → IsAt setup events self.old → IsAt setup (events ++ offered r.0 r.1 ∷ []) self.new) }
+        ensures given { OnOk result (self.new.given ≡ self.old.given) }
+        ensures fault { IsOkUnless result Fault.Memory }
+    {
+        // What happened to the queue stays a history of it by this law, which does nothing.
+        calls_are_history();
+        let sender = &mut self.senders[place];
+        let queue = sender.queue;
+        let packet = sender.next_packet(length);
+        let outcome = self.queues.offer(queue, packet);
+        note(&mut self.tallies, place, packet, outcome)?;
+        self.count(queue, outcome)?;
+        Ok((packet, outcome))
+    }
+
+    /// Counts what became of a packet at a queue, and keeps one that was put out for it. Fault 1 where memory is refused.
+    fn count(&mut self, queue: u16, outcome: Offered) -> Result<(), Fault>
+        requires there { queue < length self.old.paths.items }
+        requires paths { AllByRecursion (λ d. d < length self.old.devices.items) self.old.paths.items }
+        requires few { AllByRecursion IsSteady self.old.devices.items }
+        ensures counted { OnOk result ((packet : Packet) → Counts self.old queue packet outcome self.new) }
+        ensures fault { IsOkUnless result Fault.Memory }
+    {
+        match outcome {
+            Offered::Refused(_) => {}
+            Offered::Accepted => {
+                let device = self.paths[usize::from(queue)];
+                self.devices[usize::from(device)].kept += 1;
+            }
+            Offered::Evicted(front) => self.evicted.push(front)?,
+        }
+        Ok(())
+    }
+
+    /// Pulls a device once, at this moment in ticks or, where that is later, at the greatest so far. Fault 1 where memory is refused.
+    pub fn pull(&mut self, device: u16, moment: u64) -> Result<Option<Packet>, Fault>
+        requires device { device < length self.old.devices.items }
+        requires moment { moment < 2 ^ 44 }
+        ensures leads { IfOk result (λ got. (setup : Setup) (events : _) → IsAt setup events self.old → LeadsOnByPull setup self.new device moment got events) }
+        ensures given { IfOk result (λ got. self.new.given.items ≡ given_kept self.old got) }
+        ensures fault { IsOkUnless result Fault.Memory }
+    {
+        // What happened to the queues stays a history of each by this law, which does nothing.
+        calls_are_history();
+        let session = &mut self.devices[usize::from(device)].session;
+        let got = session.pull(&mut self.queues, moment)?;
+        self.keep(got)?;
+        Ok(got)
+    }
+
+    /// Keeps what a pull gave, where there are several devices. Fault 1 where memory is refused.
+    #[inline(always)]
+    fn keep(&mut self, got: Option<Packet>) -> Result<(), Fault>
+        ensures given { OnOk result (self.new.given.items ≡ given_kept self.old got) }
+        ensures others { OnOk result (ChangesGiven self.old self.new) }
+        ensures fault { IsOkUnless result Fault.Memory }
+    {
+        if self.devices.len() > 1 {
+            if let Some(packet) = got {
+                self.given.push(packet)?;
+            }
+        }
+        Ok(())
+    }
+
+    /// Pulls a device, one tick apart and the first time one tick after the greater of this moment and the greatest so far, until all
+    /// packets that are left for it in queues and heads came out. Answers how many visits it had logged before.
+    ///
+    /// # Errors
+    ///
+    /// Fault 1 where memory is refused, and 17 where the pulls that a session gives to its closing were not enough.
+    pub fn drain(&mut self, device: u16, moment: u64) -> Result<usize, Fault>
+        requires steady { IsSteadyAt (slice_get self.old.devices.items device) }
+        requires moment { moment ≤ most_moment }
+        ensures start { IfOk result (λ start. IfSome (slice_get self.old.devices.items device) (λ d. start ≡ length (device_log d))) }
+        ensures others { OnOk result (ChangesDevice self.old.devices.items device self.new.devices.items) }
+        ensures given { OnOk result (self.new.given ≡ self.old.given) }
+        ensures leads { OnOk result ((setup : Setup) (events : _) → IsAt setup events self.old → LeadsOnByDrain setup self.new device moment events) }
+        ensures fault { IfErr result (λ fault. (fault ≡ Memory) ⊎ StopsDrain self.old device moment fault) }
+    {
+        // What happened to the queues stays a history of each by this law, which does nothing.
+        calls_are_history();
+        let device = &mut self.devices[usize::from(device)];
+        let logged = device.session.log().len();
+        let emitted = device.session.came_out().len() as u64;
+        let left = device.kept.saturating_sub(emitted);
+        device.session.drain(&mut self.queues, left, moment)?;
+        Ok(logged)
+    }
+
+    /// All that it did, without copies. Fault 1 where memory is refused to the lists of the devices.
+    pub fn into_past(self, alloc: Global) -> Result<Past, Fault>
+        ensures past { IfOk result (IsPastOf self) }
+        ensures fault { IsOkUnless result Fault.Memory }
+    {
+        let mut logs = Vec::new(alloc);
+        let mut came_out = Vec::new(alloc);
+        for device in self.devices {
+            let (visits, packets) = device.session.into_parts();
+            logs.push(visits)?;
+            came_out.push(packets)?;
+        }
+        Ok(Past {
+            logs,
+            came_out,
+            given: self.given,
+            put_out: self.evicted,
+            tallies: self.tallies,
+        })
+    }
+}
+
+/// The devices that the packets of these queues go to. Fault 1 where memory is refused.
+fn paths_of(alloc: Global, specs: &[QueueSpec]) -> Result<Vec<u16>, Fault>
+    ensures made { IfOk result (λ paths. paths.items ≡ map path_made (map queued specs.now)) }
+    ensures fault { IsOkUnless result Fault.Memory }
+{
+    let mut paths = Vec::new(alloc);
+    for spec in specs {
+        paths.push(spec.device)?;
+    }
+    Ok(paths)
+}

@@ -1,0 +1,125 @@
+//! One script, over a plan.
+
+ghost use Rattle.std.specs.Prelude.{◌≡◌, ◌≢◌, ◌≤◌, ◌+◌, ◌++◌, ◌∷◌, [], true, map, length, IfOk, IfSome, IfErr, OnOk, IsErrOf, IsOkUnless};
+ghost use Rattle.std.specs.List.{AllByRecursion};
+ghost use Rattle.std.specs.Io.KnownBytes.{Appends, Keeps};
+ghost use Rattle.clk_packet.specs.Bytes.{Takes, AppendsFront, Wrote, read_failures, write_failures};
+ghost use Rattle.clk_packet.specs.declared.fault.Fault.TheVariants.{Memory, Write};
+ghost use Rattle.clk_sched.specs.Limits.{most_elements};
+ghost use Rattle.clk_tree.specs.PlanParts.{queued, HasCapacity};
+ghost use Rattle.clk_tree.specs.Shares.{AreTreesOf};
+ghost use Rattle.clk_report.specs.Devices.{lists_of};
+ghost use Rattle.clk_script.specs.Router.{CanStand, IsWhole};
+ghost use Rattle.clk_script.specs.Script.{most_bytes};
+ghost use Rattle.clk_script.specs.Meaning.{IsMeaning, MeansWith, Explains, setup_of, MeansOver, MeansOverWith, ExplainsPlan};
+
+use crate::answer::answer_script;
+use crate::past::Past;
+use crate::reading::read_script;
+use crate::router::Router;
+use crate::script::MAX_BYTES;
+use crate::writing::write_answer;
+use clk_packet::{Fault, Sink, Source, let_go, read_up_to};
+use clk_sched::{Tree, Visit};
+use clk_tree::{Plan, QueueSpec, SenderSpec};
+use std::alloc::Global;
+
+/// Reads a script to its end, runs it over a plan, and writes what it writes. The script is read and checked whole before
+/// anything is written.
+///
+/// # Errors
+///
+/// In this order: 1 at any refused growth of memory; 19 where the reader fails; 18 for a script of more than 33,554,432
+/// bytes; then by lines 16 for one that is no command or names a device that isn't there, 15 for a sender that isn't
+/// there, and 18 at line 1,000,001; 20 where the writer fails, which has then taken a front of what the script writes.
+pub fn run_script<R: Source, W: Sink>(
+    alloc: Global,
+    reader: &mut R,
+    writer: &mut W,
+    plan: &Plan,
+) -> Result<(), Fault>
+    ensures written { OnOk result (IfSome (R.Source.remaining reader.old) (λ script.
+        (text : _) × MeansOver plan.now script text × Appends (W.Sink.taken writer.old) (W.Sink.taken writer.new) text)) }
+    ensures front { IsErrOf result Fault.Write → IfSome (R.Source.remaining reader.old) (λ script.
+        (text : _) × MeansOver plan.now script text × AppendsFront (W.Sink.taken writer.old) (W.Sink.taken writer.new) text) }
+    ensures nothing { IfErr result (λ fault. fault ≢ Write → Keeps (W.Sink.taken writer.old) (W.Sink.taken writer.new)) }
+
+    // Each fault has its cause.
+    ensures fault { IfErr result (ExplainsPlan plan.now (R.Source.remaining reader.old)) }
+    ensures read_failures { R.Source.failures reader.new ≡ read_failures result (R.Source.failures reader.old) }
+    ensures write_failures { W.Sink.failures writer.new ≡ write_failures result (W.Sink.failures writer.old) }
+
+    // The reader is read to one byte past the limit at most.
+    ensures limit { Takes (most_bytes + 1) (R.Source.remaining reader.old) (R.Source.remaining reader.new) }
+{
+    run_script_logged(alloc, reader, writer, plan)?;
+    Ok(())
+}
+
+/// The same, with the same faults. Answers the log of each device.
+pub fn run_script_logged<R: Source, W: Sink>(
+    alloc: Global,
+    reader: &mut R,
+    writer: &mut W,
+    plan: &Plan,
+) -> Result<Vec<Vec<Visit>>, Fault>
+    ensures written { IfOk result (λ logs. IfSome (R.Source.remaining reader.old) (λ script.
+        (text : _) × MeansOverWith plan.now script text (lists_of logs.items) × Appends (W.Sink.taken writer.old) (W.Sink.taken writer.new) text)) }
+    ensures front { IsErrOf result Fault.Write → IfSome (R.Source.remaining reader.old) (λ script.
+        (text : _) × MeansOver plan.now script text × AppendsFront (W.Sink.taken writer.old) (W.Sink.taken writer.new) text) }
+    ensures nothing { IfErr result (λ fault. fault ≢ Write → Keeps (W.Sink.taken writer.old) (W.Sink.taken writer.new)) }
+    ensures fault { IfErr result (ExplainsPlan plan.now (R.Source.remaining reader.old)) }
+    ensures read_failures { R.Source.failures reader.new ≡ read_failures result (R.Source.failures reader.old) }
+    ensures write_failures { W.Sink.failures writer.new ≡ write_failures result (W.Sink.failures writer.old) }
+    ensures limit { Takes (most_bytes + 1) (R.Source.remaining reader.old) (R.Source.remaining reader.new) }
+{
+    let trees = trees_of(alloc, plan)?;
+    let past = run_parts(alloc, reader, writer, trees, plan.queues(), plan.senders())?;
+    Ok(past.logs)
+}
+
+/// The tree of each device of a plan. Fault 1 where memory is refused.
+fn trees_of(alloc: Global, plan: &Plan) -> Result<Vec<Tree>, Fault>
+    ensures trees { IfOk result (λ trees. AreTreesOf plan.now trees.items) }
+    ensures each { IfOk result (λ trees. AllByRecursion CanStand trees.items) }
+    ensures some { IfOk result (λ trees. 1 ≤ length trees.items) }
+    ensures few { IfOk result (λ trees. length trees.items ≤ most_elements) }
+    ensures fault { IsOkUnless result Memory }
+{
+    let mut trees = Vec::new(alloc);
+    for device in 0..plan.devices() {
+        trees.push(plan.tree(alloc, device)?)?;
+    }
+    Ok(trees)
+}
+
+/// The same over the trees, the queues and the senders of a plan, with the same faults.
+fn run_parts<R: Source, W: Sink>(
+    alloc: Global,
+    reader: &mut R,
+    writer: &mut W,
+    trees: Vec<Tree>,
+    queues: &[QueueSpec],
+    senders: &[SenderSpec],
+) -> Result<Past, Fault>
+    requires trees { AllByRecursion CanStand trees.items }
+    requires capacities { AllByRecursion HasCapacity (map queued queues.now) }
+    requires whole { IsWhole (setup_of trees.items (map queued queues.now) senders.now) }
+    ensures written { IfOk result (λ past. IfSome (R.Source.remaining reader.old) (λ script.
+        (text : _) × MeansWith (setup_of trees.items (map queued queues.now) senders.now) script text (lists_of past.logs.items) × Appends (W.Sink.taken writer.old) (W.Sink.taken writer.new) text)) }
+    ensures front { IsErrOf result Fault.Write → IfSome (R.Source.remaining reader.old) (λ script.
+        (text : _) × IsMeaning (setup_of trees.items (map queued queues.now) senders.now) script text × AppendsFront (W.Sink.taken writer.old) (W.Sink.taken writer.new) text) }
+    ensures nothing { IfErr result (λ fault. fault ≢ Write → Keeps (W.Sink.taken writer.old) (W.Sink.taken writer.new)) }
+    ensures fault { IfErr result (Explains (setup_of trees.items (map queued queues.now) senders.now) (R.Source.remaining reader.old)) }
+    ensures read_failures { R.Source.failures reader.new ≡ read_failures result (R.Source.failures reader.old) }
+    ensures write_failures { W.Sink.failures writer.new ≡ write_failures result (W.Sink.failures writer.old) }
+    ensures limit { Takes (most_bytes + 1) (R.Source.remaining reader.old) (R.Source.remaining reader.new) }
+{
+    let router = Router::new(alloc, trees, queues, senders)?;
+    let text = read_up_to(alloc, reader, MAX_BYTES + 1)?;
+    let script = read_script(alloc, &router.tallies, router.devices.len(), &text)?;
+    let_go(text);
+    let answer = answer_script(alloc, router, script)?;
+    write_answer(&answer, writer)?;
+    Ok(answer.past)
+}

@@ -1,0 +1,168 @@
+//! The lines of a script.
+
+use crate::fields::{first_field, first_line, first_number};
+use clk_packet::number_before;
+
+/// How many bytes a script may have.
+pub const MAX_BYTES: usize = 33_554_432;
+
+/// How many lines a script may have.
+pub const MAX_LINES: u32 = 1_000_000;
+
+/// The greatest moment that a script may name, in ticks.
+const MAX_MOMENT: u64 = (1 << 40) - 1;
+
+/// What a line of a script asks for.
+#[derive(Clone, Copy, Debug, PartialEq, Eq)]
+pub enum Command {
+    /// The sender offers its next packet, of this length, to its queue.
+    Send { sender: u16, length: u16 },
+    /// One pull of a device, at this moment in ticks.
+    Pull { device: u16, moment: u64 },
+}
+
+/// What a line of a script says.
+#[derive(Clone, Copy, Debug, PartialEq, Eq)]
+pub enum Line {
+    /// It has no fields.
+    Blank,
+    /// It isn't a line of a script.
+    Malformed,
+    Command(Command),
+    /// The closing drain, from this moment on in ticks, and then the report. Nothing follows it.
+    Drain { moment: u64 },
+}
+
+impl Line {
+    ghost use Rattle.std.specs.Prelude.{◌≡◌, ◌<◌, ◌∷◌, ◌++◌, codes, length, IfSome};
+    ghost use Rattle.clk_script.specs.Script.{fields, line_of, lines_of, line_of_fields, only_moment};
+
+    /// Reads the first line of a text that isn't empty, and gives what follows it.
+    #[inline(always)]
+    pub fn next(text: &[u8]) -> (Line, &[u8])
+        requires { 0 < length text.now }
+        ensures line { lines_of text.now ≡ result.0 ∷ lines_of result.1.now }
+        ensures rest { length result.1.now < length text.now }
+    {
+        // Most lines are plain: one space between fields, and a line feed right after the last. These are read in one pass.
+        if let [b'p', b'u', b'l', b'l', b' ', rest @ ..] = text {
+            if let Some((line, rest)) = Line::plain_pull(rest) {
+                return (line, rest);
+            }
+        }
+        if let [b's', b'e', b'n', b'd', b' ', rest @ ..] = text {
+            if let Some((line, rest)) = Line::plain_send(rest) {
+                return (line, rest);
+            }
+        }
+        let (line, rest) = first_line(text);
+        (Line::read(line), rest)
+    }
+
+    /// The line `pull M` of what follows its word and a space, where a line feed is all else that it has, and what follows it.
+    #[inline(always)]
+    fn plain_pull(text: &[u8]) -> Option<(Line, &[u8])>
+        ensures { IfSome result (λ r. (lines_of (codes "pull " ++ text.now) ≡ r.0 ∷ lines_of r.1.now) × (length r.1.now < length text.now)) }
+    {
+        let (moment, rest) = number_before(text, b'\n', 0, MAX_MOMENT)?;
+        Some((Line::Command(Command::Pull { device: 0, moment }), rest))
+    }
+
+    /// The line `send S L` of what follows its word and a space, where one space and a line feed are all else that it has, and what
+    /// follows it.
+    #[inline(always)]
+    fn plain_send(text: &[u8]) -> Option<(Line, &[u8])>
+        ensures { IfSome result (λ r. (lines_of (codes "send " ++ text.now) ≡ r.0 ∷ lines_of r.1.now) × (length r.1.now < length text.now)) }
+    {
+        let (sender, rest) = number_before(text, b' ', 0, 65_535)?;
+        let (length, rest) = number_before(rest, b'\n', 1, 65_535)?;
+        let line = Line::Command(Command::Send {
+            sender: sender as u16,
+            length: length as u16,
+        });
+        Some((line, rest))
+    }
+
+    /// Reads a line, which is given without its end.
+    fn read(text: &[u8]) -> Line
+        ensures { result ≡ line_of text.now }
+    {
+        let (word, rest) = first_field(text);
+        if word.is_empty() {
+            return Line::Blank;
+        }
+        if word == b"pull".as_slice() {
+            return Line::pull(rest);
+        }
+        if word == b"send".as_slice() {
+            return Line::send(rest);
+        }
+        if word == b"drain".as_slice() {
+            return Line::drain(rest);
+        }
+        Line::Malformed
+    }
+
+    /// The line `pull M` or `pull M D`, of what follows its word.
+    fn pull(text: &[u8]) -> Line
+        ensures { result ≡ line_of_fields (codes "pull" ∷ fields text.now) }
+    {
+        let Some((moment, rest)) = first_number(text, 0, MAX_MOMENT) else {
+            return Line::Malformed;
+        };
+        let (device, _) = first_field(rest);
+        if device.is_empty() {
+            return Line::Command(Command::Pull { device: 0, moment });
+        }
+        let Some((device, rest)) = first_number(rest, 0, 65_535) else {
+            return Line::Malformed;
+        };
+        let (more, _) = first_field(rest);
+        if !more.is_empty() {
+            return Line::Malformed;
+        }
+        Line::Command(Command::Pull {
+            device: device as u16,
+            moment,
+        })
+    }
+
+    /// The line `drain M`, of what follows its word.
+    fn drain(text: &[u8]) -> Line
+        ensures { result ≡ line_of_fields (codes "drain" ∷ fields text.now) }
+    {
+        match Line::only_moment(text) {
+            Some(moment) => Line::Drain { moment },
+            None => Line::Malformed,
+        }
+    }
+
+    /// The moment that stands alone in a text, if one does.
+    fn only_moment(text: &[u8]) -> Option<u64>
+        ensures { result ≡ only_moment (fields text.now) }
+    {
+        let (moment, rest) = first_number(text, 0, MAX_MOMENT)?;
+        let (more, _) = first_field(rest);
+        if more.is_empty() { Some(moment) } else { None }
+    }
+
+    /// The line `send S L`, of what follows its word.
+    fn send(text: &[u8]) -> Line
+        ensures { result ≡ line_of_fields (codes "send" ∷ fields text.now) }
+    {
+        let Some((sender, rest)) = first_number(text, 0, 65_535) else {
+            return Line::Malformed;
+        };
+        let Some((length, rest)) = first_number(rest, 1, 65_535) else {
+            return Line::Malformed;
+        };
+        let (more, _) = first_field(rest);
+        if !more.is_empty() {
+            return Line::Malformed;
+        }
+        Line::Command(Command::Send {
+            sender: sender as u16,
+            length: length as u16,
+        })
+    }
+}

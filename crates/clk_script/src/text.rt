@@ -1,0 +1,143 @@
+//! The lines that a script writes. Each is put from its end to its front.
+
+ghost use Rattle.std.specs.Prelude.{◌≡◌, ◌+◌, ◌≤◌, ◌++◌, decimal, drop, length};
+ghost use Rattle.clk_script.specs.Meaning.{name_text, packet_text, outcome_text, result_text, device_text, pull_text, offer_text};
+
+use clk_packet::{Offered, Packet};
+
+/// How many bytes a line has at most.
+pub const LINE: usize = 128;
+
+/// Puts the line of an offer before this place, and gives where it starts.
+#[inline(always)]
+pub fn put_offer(line: &mut [u8], packet: Packet, outcome: Offered, end: usize) -> usize
+    requires room { 122 ≤ end }
+    requires within { end ≤ length line.old }
+    ensures piece { drop result line.new ≡ offer_text packet outcome ++ drop end line.old }
+    ensures before { result ≤ end }
+{
+    let end = put(line, b"\n", end);
+    let end = put_outcome(line, outcome, end);
+    put_packet(line, packet, end)
+}
+
+/// Puts the line of a pull of a device at the moment that was handed in, in ticks, where there are several devices or one.
+#[inline(always)]
+pub fn put_pull(
+    line: &mut [u8],
+    several: bool,
+    device: u16,
+    moment: u64,
+    got: Option<Packet>,
+    end: usize,
+) -> usize
+    requires room { 122 ≤ end }
+    requires within { end ≤ length line.old }
+    ensures piece { drop result line.new ≡ pull_text several device moment got ++ drop end line.old }
+    ensures before { result ≤ end }
+{
+    let end = put(line, b"\n", end);
+    let end = put_result(line, got, end);
+    let end = put(line, b": ", end);
+    let end = put_device(line, several, device, end);
+    let end = put_number(line, moment, end);
+    put(line, b"pull ", end)
+}
+
+/// Puts the number of a device, where there are several.
+#[inline(always)]
+fn put_device(line: &mut [u8], several: bool, device: u16, end: usize) -> usize
+    requires room { 21 ≤ end }
+    requires within { end ≤ length line.old }
+    ensures piece { drop result line.new ≡ device_text several device ++ drop end line.old }
+    ensures near { end ≤ result + 21 }
+    ensures before { result ≤ end }
+{
+    if !several {
+        return end;
+    }
+    let end = put_number(line, u64::from(device), end);
+    put(line, b" ", end)
+}
+
+/// Puts ` accepted`, ` refused` or ` accepted evicted S#n`.
+fn put_outcome(line: &mut [u8], outcome: Offered, end: usize) -> usize
+    requires room { 59 ≤ end }
+    requires within { end ≤ length line.old }
+    ensures piece { drop result line.new ≡ outcome_text outcome ++ drop end line.old }
+    ensures near { end ≤ result + 59 }
+    ensures before { result ≤ end }
+{
+    match outcome {
+        Offered::Accepted => put(line, b" accepted", end),
+        Offered::Refused(_) => put(line, b" refused", end),
+        Offered::Evicted(front) => {
+            let end = put_name(line, front, end);
+            put(line, b" accepted evicted ", end)
+        }
+    }
+}
+
+/// Puts `S#n L` or `none`.
+fn put_result(line: &mut [u8], got: Option<Packet>, end: usize) -> usize
+    requires room { 62 ≤ end }
+    requires within { end ≤ length line.old }
+    ensures piece { drop result line.new ≡ result_text got ++ drop end line.old }
+    ensures near { end ≤ result + 62 }
+    ensures before { result ≤ end }
+{
+    match got {
+        Some(packet) => put_packet(line, packet, end),
+        None => put(line, b"none", end),
+    }
+}
+
+/// Puts `S#n L`.
+fn put_packet(line: &mut [u8], packet: Packet, end: usize) -> usize
+    requires room { 62 ≤ end }
+    requires within { end ≤ length line.old }
+    ensures piece { drop result line.new ≡ packet_text packet ++ drop end line.old }
+    ensures near { end ≤ result + 62 }
+    ensures before { result ≤ end }
+{
+    let end = put_number(line, u64::from(packet.length), end);
+    let end = put(line, b" ", end);
+    put_name(line, packet, end)
+}
+
+/// Puts `S#n`.
+fn put_name(line: &mut [u8], packet: Packet, end: usize) -> usize
+    requires room { 41 ≤ end }
+    requires within { end ≤ length line.old }
+    ensures piece { drop result line.new ≡ name_text packet ++ drop end line.old }
+    ensures near { end ≤ result + 41 }
+    ensures before { result ≤ end }
+{
+    let end = put_number(line, u64::from(packet.number), end);
+    let end = put(line, b"#", end);
+    put_number(line, u64::from(packet.sender), end)
+}
+
+/// Puts a number, which has at most 20 digits.
+fn put_number(line: &mut [u8], number: u64, end: usize) -> usize
+    requires room { 20 ≤ end }
+    requires within { end ≤ length line.old }
+    ensures piece { drop result line.new ≡ decimal number ++ drop end line.old }
+    ensures near { end ≤ result + 20 }
+    ensures before { result ≤ end }
+{
+    itoa::write_digits(number, line, end)
+}
+
+/// Puts some bytes.
+#[inline(always)]
+fn put(line: &mut [u8], piece: &[u8], end: usize) -> usize
+    requires room { length piece.now ≤ end }
+    requires within { end ≤ length line.old }
+    ensures piece { drop result line.new ≡ piece.now ++ drop end line.old }
+    ensures start { result + length piece.now ≡ end }
+{
+    let start = end - piece.len();
+    line[start..end].copy_from_slice(piece);
+    start
+}

@@ -1,0 +1,214 @@
+//! The writing of an answer, which takes no memory.
+
+ghost use Rattle.std.specs.Prelude.{◌≡◌, ◌≤◌, ◌+◌, ◌++◌, drop, length, slice_get};
+ghost use Rattle.std.specs.List.{flat_map};
+ghost use Rattle.clk_packet.specs.Bytes.{Wrote};
+ghost use Rattle.clk_report.specs.Devices.{lists_of};
+ghost use Rattle.clk_script.specs.Lines.{Passes};
+ghost use Rattle.clk_script.specs.Rows.{row_text, rows_text, are_several, given_of, given_after, fronts_after, visit_text, closings_text, answer_text};
+
+use crate::answer::Answer;
+use crate::lines::Lines;
+use crate::past::Past;
+use crate::rows::Row;
+use crate::text::{LINE, put_offer, put_pull};
+use clk_packet::{Fault, Offered, Packet, Sink};
+use clk_report::{MAX_DEVICES, report};
+use clk_sched::Visit;
+
+/// The node number of the device.
+const DEVICE: u16 = 0;
+
+/// Writes the lines of an answer, and the report where the router was closed.
+///
+/// # Errors
+///
+/// Fault 20 where the sink fails. It has taken a front of these then.
+pub fn write_answer<W: Sink>(answer: &Answer, writer: &mut W) -> Result<(), Fault>
+    requires few { length answer.now.past.came_out.items ≤ MAX_DEVICES }
+    requires logs { length answer.now.past.logs.items ≤ MAX_DEVICES }
+    ensures { Wrote (W.Sink.taken writer.old) (W.Sink.taken writer.new)
+        (W.Sink.failures writer.old) (W.Sink.failures writer.new) result (answer_text answer.now) }
+{
+    let past = &answer.past;
+    let several = are_several(past);
+    let mut lines = Lines::new();
+    write_rows(
+        &mut lines,
+        several,
+        &answer.rows,
+        given_of(past),
+        &past.put_out,
+        writer,
+    )?;
+    let Some(starts) = &answer.closing else {
+        return lines.write(writer);
+    };
+    write_closings(&mut lines, several, 0, starts, &past.logs, writer)?;
+    lines.write(writer)?;
+    report(&past.tallies, &past.came_out, writer)
+}
+
+/// Whether there are several devices.
+fn are_several(past: &Past) -> bool
+    ensures { result ≡ are_several past.now }
+{
+    past.came_out.len() > 1
+}
+
+/// The packets that pulls gave before the closing, in order, and perhaps more.
+fn given_of(past: &Past) -> &[Packet]
+    ensures { result.now ≡ given_of past.now }
+{
+    match past.came_out.as_slice() {
+        [only] => only,
+        _ => &past.given,
+    }
+}
+
+/// Adds the lines of some rows, where these packets came out from the first of them on, and these were put out.
+fn write_rows<W: Sink>(
+    lines: &mut Lines,
+    several: bool,
+    rows: &[Row],
+    came_out: &[Packet],
+    put_out: &[Packet],
+    writer: &mut W,
+) -> Result<(), Fault>
+    ensures { Passes (W.Sink.taken writer.old) (W.Sink.taken writer.new)
+        (W.Sink.failures writer.old) (W.Sink.failures writer.new) result
+        lines.old.held.items (rows_text several rows.now came_out.now put_out.now) lines.new.held.items }
+{
+    let mut line = [0; LINE];
+    let mut given = came_out;
+    let mut fronts = put_out;
+    for row in rows {
+        let start;
+        (start, given, fronts) = put_row(&mut line, several, *row, given, fronts);
+        lines.add(&line[start..], writer)?;
+    }
+    Ok(())
+}
+
+/// Puts the line of a row, and gives where it starts, and what is left of these packets that came out and that were put out.
+#[inline(always)]
+fn put_row<'a>(
+    line: &mut [u8],
+    several: bool,
+    row: Row,
+    given: &'a [Packet],
+    fronts: &'a [Packet],
+) -> (usize, &'a [Packet], &'a [Packet])
+    requires within { 128 ≤ length line.old }
+    ensures piece { drop result.0 line.new ≡ row_text several row given.now fronts.now ++ drop 128 line.old }
+    ensures before { result.0 ≤ 128 }
+    ensures given { result.1.now ≡ given_after row given.now }
+    ensures fronts { result.2.now ≡ fronts_after row fronts.now }
+{
+    match row {
+        Row::Accepted(packet) => (
+            put_offer(line, packet, Offered::Accepted, LINE),
+            given,
+            fronts,
+        ),
+        Row::Refused(packet) => (
+            put_offer(line, packet, Offered::Refused(packet), LINE),
+            given,
+            fronts,
+        ),
+        Row::Evicting(packet) => {
+            let (front, fronts) = first(fronts);
+            let outcome = front.map_or(Offered::Accepted, Offered::Evicted);
+            (put_offer(line, packet, outcome, LINE), given, fronts)
+        }
+        Row::Gave { device, moment } => {
+            let (got, given) = first(given);
+            (
+                put_pull(line, several, device, moment, got, LINE),
+                given,
+                fronts,
+            )
+        }
+        Row::GaveNone { device, moment } => (
+            put_pull(line, several, device, moment, None, LINE),
+            given,
+            fronts,
+        ),
+        Row::Send { .. } | Row::Pull { .. } => (LINE, given, fronts),
+    }
+}
+
+/// The first of some packets, if there is one, and those after it.
+fn first(packets: &[Packet]) -> (Option<Packet>, &[Packet])
+    ensures first { result.0 ≡ slice_get packets.now 0 }
+    ensures rest { result.1.now ≡ drop 1 packets.now }
+{
+    match packets {
+        [] => (None, packets),
+        [first, rest @ ..] => (Some(*first), rest),
+    }
+}
+
+/// Adds the lines of the closings of devices, from this number on, whose visits begin at these places of their logs.
+fn write_closings<W: Sink>(
+    lines: &mut Lines,
+    several: bool,
+    device: u16,
+    starts: &[usize],
+    logs: &[Vec<Visit>],
+    writer: &mut W,
+) -> Result<(), Fault>
+    requires { device + length logs.now ≤ MAX_DEVICES }
+    ensures { Passes (W.Sink.taken writer.old) (W.Sink.taken writer.new)
+        (W.Sink.failures writer.old) (W.Sink.failures writer.new) result
+        lines.old.held.items (closings_text several device starts.now (lists_of logs.now)) lines.new.held.items }
+{
+    let [start, starts @ ..] = starts else {
+        return Ok(());
+    };
+    let [log, logs @ ..] = logs else {
+        return Ok(());
+    };
+    let visits = &log[(*start).min(log.len())..];
+    write_given(lines, several, device, visits, writer)?;
+    write_closings(lines, several, device + 1, starts, logs, writer)
+}
+
+/// Adds a line for each packet that came out by these visits.
+fn write_given<W: Sink>(
+    lines: &mut Lines,
+    several: bool,
+    device: u16,
+    visits: &[Visit],
+    writer: &mut W,
+) -> Result<(), Fault>
+    ensures { Passes (W.Sink.taken writer.old) (W.Sink.taken writer.new)
+        (W.Sink.failures writer.old) (W.Sink.failures writer.new) result
+        lines.old.held.items (flat_map (visit_text several device) visits.now) lines.new.held.items }
+{
+    let mut line = [0; LINE];
+    for visit in visits {
+        let start = put_visit(&mut line, several, device, visit);
+        lines.add(&line[start..], writer)?;
+    }
+    Ok(())
+}
+
+/// Puts the line of the packet that came out at the device by a visit, if one did, and gives where it starts.
+#[inline(always)]
+fn put_visit(line: &mut [u8], several: bool, device: u16, visit: &Visit) -> usize
+    requires within { 128 ≤ length line.old }
+    ensures piece { drop result line.new ≡ visit_text several device visit.now ++ drop 128 line.old }
+    ensures before { result ≤ 128 }
+{
+    if visit.node != DEVICE {
+        return LINE;
+    }
+    if !visit.passed {
+        return LINE;
+    }
+    let Some(packet) = visit.got else {
+        return LINE;
+    };
+    put_pull(line, several, device, visit.moment, Some(packet), LINE)
+}

@@ -1,0 +1,27 @@
+//! Tests of clk_script, by its public calls alone: what scripts over trees write.
+#![tactic(auto)]
+
+#[cfg(test)]
+mod closing;
+#[cfg(test)]
+mod deficit;
+#[cfg(test)]
+mod devices;
+#[cfg(test)]
+mod failures;
+#[cfg(test)]
+mod in_order;
+#[cfg(test)]
+mod limits;
+#[cfg(test)]
+mod queues;
+#[cfg(test)]
+mod row;
+#[cfg(test)]
+mod scripts;
+#[cfg(test)]
+mod shaper;
+#[cfg(test)]
+mod stride;
+#[cfg(test)]
+mod trees;

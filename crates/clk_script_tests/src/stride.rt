@@ -1,0 +1,154 @@
+//! Inputs with tickets.
+
+use crate::row::{Row, assert_rows, run_within};
+use crate::trees::{STRIDE_1_1, STRIDE_2_1, STRIDE_3_1, STRIDE_32768_1, STRIDE_OVER_DEFICIT};
+use std::alloc::{AllocError, Global};
+use std::test::Fail;
+
+/// Scripts, and what they write.
+const ROWS: [Row; 6] = [
+    Row {
+        name: "tickets give turns",
+        tree: STRIDE_2_1,
+        script: "send 0 10\nsend 0 10\nsend 0 10\nsend 0 10\nsend 1 20\nsend 1 20\npull 0\npull 0\n\
+        pull 0\npull 0\npull 0\npull 0\n",
+        written: "0#0 10 accepted\n0#1 10 accepted\n0#2 10 accepted\n0#3 10 accepted\n\
+        1#0 20 accepted\n1#1 20 accepted\n\
+        pull 0: 0#0 10\npull 0: 1#0 20\npull 0: 0#1 10\npull 0: 0#2 10\npull 0: 1#1 20\n\
+        pull 0: 0#3 10\n",
+        visits: "0,1,0,1,0,0,10,1,0\n0,0,0,1,0,0,10,1,0\n\
+        1,1,1,1,1,0,20,1,0\n1,0,0,1,1,0,20,1,0\n\
+        2,1,0,1,0,1,10,1,0\n2,0,0,1,0,1,10,1,0\n\
+        3,1,0,1,0,2,10,1,0\n3,0,0,1,0,2,10,1,0\n\
+        4,1,1,1,1,1,20,1,0\n4,0,0,1,1,1,20,1,0\n\
+        5,1,0,1,0,3,10,1,0\n5,0,0,1,0,3,10,1,0\n",
+    },
+    Row {
+        name: "an idle input earns nothing",
+        tree: STRIDE_2_1,
+        script: "send 0 10\nsend 0 10\nsend 0 10\npull 0\npull 0\nsend 1 20\npull 0\npull 0\n",
+        written: "0#0 10 accepted\n0#1 10 accepted\n0#2 10 accepted\n\
+        pull 0: 0#0 10\npull 0: 0#1 10\n\
+        1#0 20 accepted\n\
+        pull 0: 1#0 20\npull 0: 0#2 10\n",
+        visits: "0,1,0,1,0,0,10,1,0\n0,0,0,1,0,0,10,1,0\n\
+        1,1,1,1,,,,0,0\n1,1,0,1,0,1,10,1,0\n1,0,0,1,0,1,10,1,0\n\
+        2,1,1,1,1,0,20,1,0\n2,0,0,1,1,0,20,1,0\n\
+        3,1,0,1,0,2,10,1,0\n3,0,0,1,0,2,10,1,0\n",
+    },
+    Row {
+        name: "an idle input gets the pass of the winner",
+        tree: STRIDE_1_1,
+        script: "send 0 1\nsend 0 1\nsend 0 1\nsend 0 1\nsend 0 1\npull 0\npull 0\npull 0\nsend 1 1\n\
+        send 1 1\nsend 1 1\npull 0\npull 0\npull 0\npull 0\npull 0\n",
+        written: "0#0 1 accepted\n0#1 1 accepted\n0#2 1 accepted\n0#3 1 accepted\n0#4 1 accepted\n\
+        pull 0: 0#0 1\npull 0: 0#1 1\npull 0: 0#2 1\n\
+        1#0 1 accepted\n1#1 1 accepted\n1#2 1 accepted\n\
+        pull 0: 1#0 1\npull 0: 0#3 1\npull 0: 1#1 1\npull 0: 0#4 1\npull 0: 1#2 1\n",
+        visits: "0,1,0,1,0,0,1,1,0\n0,0,0,1,0,0,1,1,0\n\
+        1,1,1,1,,,,0,0\n1,1,0,1,0,1,1,1,0\n1,0,0,1,0,1,1,1,0\n\
+        2,1,1,1,,,,0,0\n2,1,0,1,0,2,1,1,0\n2,0,0,1,0,2,1,1,0\n\
+        3,1,1,1,1,0,1,1,0\n3,0,0,1,1,0,1,1,0\n\
+        4,1,0,1,0,3,1,1,0\n4,0,0,1,0,3,1,1,0\n\
+        5,1,1,1,1,1,1,1,0\n5,0,0,1,1,1,1,1,0\n\
+        6,1,0,1,0,4,1,1,0\n6,0,0,1,0,4,1,1,0\n\
+        7,1,1,1,1,2,1,1,0\n7,0,0,1,1,2,1,1,0\n",
+    },
+    Row {
+        name: "a pull that finds nothing changes no pass",
+        tree: STRIDE_1_1,
+        script: "pull 0\nsend 0 1\nsend 1 1\npull 0\n",
+        written: "pull 0: none\n\
+        0#0 1 accepted\n1#0 1 accepted\n\
+        pull 0: 0#0 1\n",
+        visits: "0,1,0,1,,,,0,0\n0,1,1,1,,,,0,0\n0,0,0,1,,,,0,0\n\
+        1,1,0,1,0,0,1,1,0\n1,0,0,1,0,0,1,1,0\n",
+    },
+    Row {
+        name: "an input that holds a head back is idle",
+        tree: STRIDE_OVER_DEFICIT,
+        script: "send 0 25\nsend 0 5\nsend 1 5\nsend 1 5\nsend 1 5\nsend 1 5\nsend 1 5\npull 0\n\
+        pull 0\npull 0\npull 0\npull 0\npull 0\npull 0\n",
+        written: "0#0 25 accepted\n0#1 5 accepted\n1#0 5 accepted\n1#1 5 accepted\n1#2 5 accepted\n\
+        1#3 5 accepted\n1#4 5 accepted\n\
+        pull 0: 1#0 5\npull 0: 1#1 5\npull 0: 1#2 5\npull 0: 0#0 25\npull 0: 1#3 5\npull 0: 0#1 5\n\
+        pull 0: 1#4 5\n",
+        visits: "0,1,0,1,1,0,5,1,0\n0,0,0,1,1,0,5,1,0\n\
+        1,2,0,1,0,0,25,0,0\n1,1,1,1,,,,0,0\n1,1,0,1,1,1,5,1,0\n1,0,0,1,1,1,5,1,0\n\
+        2,2,0,0,0,0,25,0,0\n2,1,1,1,,,,0,0\n2,1,0,1,1,2,5,1,0\n2,0,0,1,1,2,5,1,0\n\
+        3,2,0,0,0,0,25,1,0\n3,1,1,1,0,0,25,1,0\n3,0,0,1,0,0,25,1,0\n\
+        4,1,0,1,1,3,5,1,0\n4,0,0,1,1,3,5,1,0\n\
+        5,2,0,1,0,1,5,1,0\n5,1,1,1,0,1,5,1,0\n5,0,0,1,0,1,5,1,0\n\
+        6,1,0,1,1,4,5,1,0\n6,0,0,1,1,4,5,1,0\n",
+    },
+    Row {
+        name: "strides are rounded down",
+        tree: STRIDE_3_1,
+        script: "send 0 1\nsend 0 1\nsend 0 1\nsend 0 1\nsend 0 1\nsend 1 1\nsend 1 1\npull 0\n\
+        pull 0\npull 0\npull 0\npull 0\npull 0\npull 0\n",
+        written: "0#0 1 accepted\n0#1 1 accepted\n0#2 1 accepted\n0#3 1 accepted\n0#4 1 accepted\n\
+        1#0 1 accepted\n1#1 1 accepted\n\
+        pull 0: 0#0 1\npull 0: 1#0 1\npull 0: 0#1 1\npull 0: 0#2 1\npull 0: 0#3 1\npull 0: 1#1 1\n\
+        pull 0: 0#4 1\n",
+        visits: "0,1,0,1,0,0,1,1,0\n0,0,0,1,0,0,1,1,0\n\
+        1,1,1,1,1,0,1,1,0\n1,0,0,1,1,0,1,1,0\n\
+        2,1,0,1,0,1,1,1,0\n2,0,0,1,0,1,1,1,0\n\
+        3,1,0,1,0,2,1,1,0\n3,0,0,1,0,2,1,1,0\n\
+        4,1,0,1,0,3,1,1,0\n4,0,0,1,0,3,1,1,0\n\
+        5,1,1,1,1,1,1,1,0\n5,0,0,1,1,1,1,1,0\n\
+        6,1,0,1,0,4,1,1,0\n6,0,0,1,0,4,1,1,0\n",
+    },
+];
+
+#[test]
+fn rows_are_written(rt: HostRuntime) {
+    assert_rows(&rt, rt.alloc(), &ROWS);
+}
+
+/// How many packets sender 0 sends where tickets are far apart, and the last pull.
+const MANY: u32 = 32_769;
+const LAST: u32 = 32_770;
+
+// Sender 0 sends many packets and sender 1 two; then each is pulled.
+fn script_of_many(alloc: Global) -> Result<String, AllocError> {
+    let mut script = String::new(alloc);
+    for _ in 0..MANY {
+        script.push_str("send 0 10\n")?;
+    }
+    script.push_str("send 1 10\nsend 1 10\n")?;
+    for _ in 0..=LAST {
+        script.push_str("pull 0\n")?;
+    }
+    Ok(script)
+}
+
+// What that script writes: pull 1 and the last give the packets of sender 1, and all others those of sender 0.
+fn lines_of_many(alloc: Global) -> Result<String, AllocError> {
+    let mut lines = String::new(alloc);
+    for number in 0..MANY {
+        write!(lines, "0#{number} 10 accepted\n")?;
+    }
+    lines.push_str("1#0 10 accepted\n1#1 10 accepted\npull 0: 0#0 10\npull 0: 1#0 10\n")?;
+    for number in 1..MANY {
+        write!(lines, "pull 0: 0#{number} 10\n")?;
+    }
+    lines.push_str("pull 0: 1#1 10\n")?;
+    Ok(lines)
+}
+
+// Before the last pull but one both passes are 65,536, and the first input is asked first.
+#[test]
+fn tickets_may_be_far_apart(rt: HostRuntime) -> Result<(), Fail> {
+    let script = script_of_many(rt.alloc())?;
+    let expected = lines_of_many(rt.alloc())?;
+    let (outcome, written) = run_within(
+        rt.alloc(),
+        STRIDE_32768_1,
+        script.as_bytes().to_vec(rt.alloc())?,
+        usize::MAX,
+        2_000_000,
+    )?;
+    assert_eq!(rt; outcome, Ok(()));
+    assert!(rt; written.as_slice() == expected.as_bytes());
+    Ok(())
+}

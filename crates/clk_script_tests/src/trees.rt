@@ -1,0 +1,170 @@
+//! The trees of the rows.
+
+use std::alloc::{AllocError, Global};
+
+/// A queue.
+pub const ONE: &str = "s0 :: Sender(0); q0 :: Queue; d :: ToDevice(link); s0 -> q0 -> d;";
+
+/// A PrioSched over a queue.
+pub const PRIO_OVER_ONE: &str = "s0 :: Sender(0); q0 :: Queue; x :: PrioSched; d :: ToDevice(link);
+s0 -> q0 -> [0] x; x -> d;";
+
+/// A PrioSched over two queues.
+pub const PRIO_OVER_TWO: &str =
+    "s0 :: Sender(0); q0 :: Queue; s1 :: Sender(1); q1 :: Queue; x :: PrioSched; d :: ToDevice(link);
+s0 -> q0 -> [0] x; s1 -> q1 -> [1] x; x -> d;";
+
+/// A PrioSched over a queue of one packet.
+pub const PRIO_OVER_ROOM_FOR_ONE: &str =
+    "s0 :: Sender(0); q0 :: Queue(1); x :: PrioSched; d :: ToDevice(link);
+s0 -> q0 -> [0] x; x -> d;";
+
+/// A PrioSched over two queues of two packets.
+pub const PRIO_OVER_ROOM_FOR_TWO: &str = "s0 :: Sender(0); s1 :: Sender(1);
+q0 :: Queue(2); q1 :: Queue(2);
+p :: PrioSched;
+out :: ToDevice(link);
+s0 -> q0 -> p -> out;
+s1 -> q1 -> [1] p;";
+
+/// A PrioSched over a FrontDropQueue of two packets.
+pub const PRIO_OVER_FRONT_DROP: &str =
+    "s0 :: Sender(0); q0 :: FrontDropQueue(2); x :: PrioSched; d :: ToDevice(link);
+s0 -> q0 -> [0] x; x -> d;";
+
+/// A FrontDropQueue of one packet, to which two senders send.
+pub const SHARED_FRONT_DROP: &str =
+    "s :: Sender(0); t :: Sender(1); q :: FrontDropQueue(1); d :: ToDevice(link);
+s -> q -> d; t -> q;";
+
+/// A queue of two packets, to which the senders of the least and the greatest number send.
+pub const SHARED_BY_FIRST_AND_LAST: &str =
+    "t :: Sender(65535); s :: Sender(0); q :: Queue(2); d :: ToDevice(link);
+t -> q -> d; s -> q;";
+
+/// A RoundRobinSched over two queues.
+pub const ROUND_ROBIN_OVER_TWO: &str =
+    "s0 :: Sender(0); q0 :: Queue; s1 :: Sender(1); q1 :: Queue; x :: RoundRobinSched; d :: ToDevice(link);
+s0 -> q0 -> [0] x; s1 -> q1 -> [1] x; x -> d;";
+
+/// A RoundRobinSched over three queues.
+pub const ROUND_ROBIN_OVER_THREE: &str =
+    "s0 :: Sender(0); q0 :: Queue; s1 :: Sender(1); q1 :: Queue; s2 :: Sender(2); q2 :: Queue;
+x :: RoundRobinSched; d :: ToDevice(link);
+s0 -> q0 -> [0] x; s1 -> q1 -> [1] x; s2 -> q2 -> [2] x; x -> d;";
+
+/// A DRRSched of quantum 500 over a queue.
+pub const DRR_500_OVER_ONE: &str =
+    "s0 :: Sender(0); q0 :: Queue; x :: DRRSched(500); d :: ToDevice(link);
+s0 -> q0 -> [0] x; x -> d;";
+
+/// A DRRSched of quantum 1 over a queue.
+pub const DRR_1_OVER_ONE: &str =
+    "s0 :: Sender(0); q0 :: Queue; x :: DRRSched(1); d :: ToDevice(link);
+s0 -> q0 -> [0] x; x -> d;";
+
+/// A DRRSched over two queues, of quantum 500 for each.
+pub const DRR_500_OVER_TWO: &str =
+    "s0 :: Sender(0); q0 :: Queue; s1 :: Sender(1); q1 :: Queue; x :: DRRSched(500); d :: ToDevice(link);
+s0 -> q0 -> [0] x; s1 -> q1 -> [1] x; x -> d;";
+
+/// The same with a quantum of 500 for the first, and of 1000 for the second.
+pub const DRR_500_1000: &str =
+    "s0 :: Sender(0); q0 :: Queue; s1 :: Sender(1); q1 :: Queue; x :: DRRSched(500, 1000); d :: ToDevice(link);
+s0 -> q0 -> [0] x; s1 -> q1 -> [1] x; x -> d;";
+
+/// The same with a quantum of 500 for the first, and of 1 for the second.
+pub const DRR_500_1: &str =
+    "s0 :: Sender(0); q0 :: Queue; s1 :: Sender(1); q1 :: Queue; x :: DRRSched(500, 1); d :: ToDevice(link);
+s0 -> q0 -> [0] x; s1 -> q1 -> [1] x; x -> d;";
+
+/// A DRRSched of quantum 500 over one of quantum 300 over a queue.
+pub const DRR_OVER_DRR: &str =
+    "s :: Sender(0); q :: Queue; y :: DRRSched(300); x :: DRRSched(500); d :: ToDevice(link);
+s -> q -> y -> x -> d;";
+
+/// A DRRSched of quantum 500 over a Shaper of rate 1 and burst 1 over a queue.
+pub const DRR_OVER_SHAPER: &str =
+    "s :: Sender(0); q :: Queue; x :: DRRSched(500); y :: Shaper(1, 1); d :: ToDevice(l);
+s -> q -> y -> x -> d;";
+
+/// A Shaper of rate 1 and burst 1 over a queue.
+pub const SHAPER_1_1: &str =
+    "s0 :: Sender(0); q0 :: Queue; x :: Shaper(1, 1); d :: ToDevice(link); s0 -> q0 -> [0] x; x -> d;";
+
+/// The same of burst 2.
+pub const SHAPER_1_2: &str =
+    "s0 :: Sender(0); q0 :: Queue; x :: Shaper(1, 2); d :: ToDevice(link); s0 -> q0 -> [0] x; x -> d;";
+
+/// The same of burst 3.
+pub const SHAPER_1_3: &str =
+    "s0 :: Sender(0); q0 :: Queue; x :: Shaper(1, 3); d :: ToDevice(link); s0 -> q0 -> [0] x; x -> d;";
+
+/// The same of rate 2 and burst 2.
+pub const SHAPER_2_2: &str =
+    "s0 :: Sender(0); q0 :: Queue; x :: Shaper(2, 2); d :: ToDevice(link); s0 -> q0 -> [0] x; x -> d;";
+
+/// The same of rate 5 and burst 2.
+pub const SHAPER_5_2: &str =
+    "s0 :: Sender(0); q0 :: Queue; x :: Shaper(5, 2); d :: ToDevice(link); s0 -> q0 -> [0] x; x -> d;";
+
+/// A StrideSched over two queues, with a ticket for each.
+pub const STRIDE_1_1: &str =
+    "s0 :: Sender(0); q0 :: Queue; s1 :: Sender(1); q1 :: Queue; x :: StrideSched(1, 1); d :: ToDevice(link);
+s0 -> q0 -> [0] x; s1 -> q1 -> [1] x; x -> d;";
+
+/// The same with two tickets for the first.
+pub const STRIDE_2_1: &str =
+    "s0 :: Sender(0); q0 :: Queue; s1 :: Sender(1); q1 :: Queue; x :: StrideSched(2, 1); d :: ToDevice(link);
+s0 -> q0 -> [0] x; s1 -> q1 -> [1] x; x -> d;";
+
+/// The same with three tickets for the first.
+pub const STRIDE_3_1: &str =
+    "s0 :: Sender(0); q0 :: Queue; s1 :: Sender(1); q1 :: Queue; x :: StrideSched(3, 1); d :: ToDevice(link);
+s0 -> q0 -> [0] x; s1 -> q1 -> [1] x; x -> d;";
+
+/// The same over two queues of 40,000 packets, with as many tickets for the first as there may be.
+pub const STRIDE_32768_1: &str =
+    "s0 :: Sender(0); q0 :: Queue(40000); s1 :: Sender(1); q1 :: Queue(40000); x :: StrideSched(32768, 1); d :: ToDevice(link);
+s0 -> q0 -> [0] x; s1 -> q1 -> [1] x; x -> d;";
+
+/// A StrideSched with a ticket for queue 1 and one for a DRRSched of quantum 10 over queue 0.
+pub const STRIDE_OVER_DEFICIT: &str =
+    "s :: Sender(0); t :: Sender(1); q, r :: Queue; y :: DRRSched(10); x :: StrideSched(1, 1); d :: ToDevice(l);
+t -> r -> x -> d; s -> q -> y -> [1] x;";
+
+/// Two devices, each with a queue and a sender of its own.
+pub const TWO_DEVICES: &str =
+    "s :: Sender(0); t :: Sender(1); p, q :: Queue; a, b :: ToDevice(x); s -> p -> a; t -> q -> b;";
+
+/// The same where the first sender's queue goes to the second device, and the second sender's to the first.
+pub const CROSSED_DEVICES: &str =
+    "s :: Sender(0); p :: Queue; t :: Sender(1); q :: Queue; a, b :: ToDevice(x); s -> p -> b; t -> q -> a;";
+
+/// Three devices, of which the second has a queue without a sender.
+pub const THREE_DEVICES: &str =
+    "s :: Sender(0); t :: Sender(1); p, n, q :: Queue; a, b, c :: ToDevice(x);
+s -> p -> a; n -> b; t -> q -> c;";
+
+/// A FrontDropQueue of two packets, to which two senders send, at one device, and a queue of one packet at another.
+pub const FULL_AT_TWO_DEVICES: &str = "s :: Sender(7); t :: Sender(3); u :: Sender(5);
+p :: FrontDropQueue(2); q :: Queue(1); a, b :: ToDevice(x);
+s -> p -> a; u -> p; t -> q -> b;";
+
+/// A PrioSched over four, over which so many queues are spread, with a sender to the first. With the device these are seven elements
+/// more than queues.
+pub fn wide(alloc: Global, queues: u32) -> Result<String, AllocError> {
+    let mut text = format!(in alloc;
+        "s :: Sender(0); x :: PrioSched; d :: ToDevice(link); x -> d;"
+    )?;
+    for place in 0..4 {
+        write!(text, "x{place} :: PrioSched; x{place} -> [{place}] x;")?;
+    }
+    for queue in 0..queues {
+        let above = queue % 4;
+        let input = queue / 4;
+        write!(text, "q{queue} :: Queue; q{queue} -> [{input}] x{above};")?;
+    }
+    text.push_str("s -> q0;")?;
+    Ok(text)
+}
