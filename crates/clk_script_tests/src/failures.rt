@@ -147,7 +147,13 @@ fn a_report_may_be_cut_off(rt: HostRuntime) {
 #[test]
 fn a_writer_may_have_just_enough_room(rt: HostRuntime) -> Result<(), Fail> {
     let script = CLOSED.to_vec(rt.alloc())?;
-    let (outcome, written) = run_within(rt.alloc(), PRIO_OVER_ROOM_FOR_ONE, script, usize::MAX, 122)?;
+    let (outcome, written) = run_within(
+        rt.alloc(),
+        PRIO_OVER_ROOM_FOR_ONE,
+        script,
+        usize::MAX,
+        122,
+    )?;
     assert_eq!(rt; outcome, Ok(()));
     assert_eq!(rt; written.as_slice(), REPORTED);
     Ok(())

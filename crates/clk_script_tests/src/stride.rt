@@ -107,6 +107,7 @@ fn rows_are_written(rt: HostRuntime) {
 
 /// How many packets sender 0 sends where tickets are far apart, and the last pull.
 const MANY: u32 = 32_769;
+
 const LAST: u32 = 32_770;
 
 // Sender 0 sends many packets and sender 1 two; then each is pulled.
