@@ -2,6 +2,7 @@
 #![tactic(auto)]
 
 mod bytes;
+mod examples;
 mod failing;
 mod failures;
 mod fault;
@@ -15,6 +16,7 @@ mod tally;
 mod traces;
 
 pub use bytes::{let_go, read_up_to, write_all};
+pub use examples::writing_examples;
 pub use failing::{FailingSink, FailingSource};
 pub use failures::Failures;
 pub use fault::Fault;

@@ -17,4 +17,5 @@ mod Gathering
 mod InUse
 mod Settlement
 mod TapSteps
+mod Worked
 pub mod Closing

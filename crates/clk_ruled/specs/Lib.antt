@@ -8,3 +8,5 @@ pub mod Keys
 pub mod Settle
 pub mod Closing
 pub mod Laws
+pub mod Examples
+pub mod SettleExamples

@@ -3,6 +3,7 @@
 #![tactic(auto)]
 
 mod closed;
+mod examples;
 mod laws;
 mod open;
 mod protocol;
@@ -15,6 +16,7 @@ mod tests;
 mod view;
 
 pub use closed::ClosedSeat;
+pub use examples::{account_examples, fault_examples, settled_examples};
 pub use laws::{calls_keep_together, queues_keep_account};
 pub use open::Opened;
 pub use queue::RuledQueue;

@@ -1,0 +1,72 @@
+use Rattle.std.proofs.Common.{◌≡◌, false, List, [], ◌∷◌, ◌++◌, get_or, refl, lit≤, inl, inr, ap, Bool, arith, length}
+use Rattle.clk_packet.specs.declared.packet.Packet.{Packet}
+use Rattle.clk_ruled.specs.Lists.{without}
+use Rattle.clk_ruled.specs.Examples.{p0_0, p0_1, p1_0, p1_1, put_out, pulled, held}
+use Rattle.clk_ruled.proofs.Worked.{by-senders, of_these, of_seats, front-account-by-seats, tail-account, not-last}
+use Rattle.clk_ruled.proofs.examples.settled_examples.Goals as goal
+
+-- what the queue took from a sender
+abbrev accepted : Bool → Bool → List Packet
+accepted a b = of_seats a b (p0_0 ∷ p0_1 ∷ []) (p1_0 ∷ p1_1 ∷ [])
+
+pub returns-clause-is_front_dropped : goal.returns-clause-is_front_dropped
+returns-clause-is_front_dropped c =
+    λ id settled taken tallies. record {
+      taken = taken;
+      tallies = tallies;
+      held = held;
+      account = front-account-by-seats;
+      left = by-senders (λ a b. (before : List Packet) × (accepted a b ≡ before ++ without (without (accepted a b) put_out) pulled)) (p0_0 ∷ p0_1 ∷ [], refl) ([], refl) ([], refl);
+      all_taken = λ many. absurd (omega (arith, many));
+      within = lit≤ tt;
+      shared = (
+        record {
+          within = lit≤ tt;
+          shared = record { offered = p0_0 ∷ p0_1 ∷ []; count = refl; numbers = (refl, refl, (refl, refl, tt)); dealt = inl (p0_1 ∷ [], refl, inl ([], refl, (refl, refl))) };
+          front_drop = λ _. refl;
+        },
+        (
+          record {
+            within = lit≤ tt;
+            shared = record { offered = p1_0 ∷ p1_1 ∷ []; count = refl; numbers = (refl, refl, (refl, refl, tt)); dealt = inl (p1_1 ∷ [], refl, inl ([], refl, (refl, refl))) };
+            front_drop = λ _. refl;
+          },
+          tt,
+        ),
+      );
+      reached = λ lost. lit≤ tt;
+    }
+
+-- what the Queue took from a sender
+abbrev accepted_alone : Bool → Bool → List Packet
+accepted_alone a b = of_seats a false (p0_0 ∷ []) []
+
+pub returns-clause-is_tail_dropped : goal.returns-clause-is_tail_dropped
+returns-clause-is_tail_dropped c =
+    λ id settled took told. record {
+      taken = took;
+      tallies = told;
+      held = [];
+      account = tail-account;
+      left = by-senders (λ a b. (before : List Packet) × (accepted_alone a b ≡ before ++ without (without (accepted_alone a b) []) (p0_0 ∷ []))) (p0_0 ∷ [], refl) ([], refl) ([], refl);
+      all_taken = λ many. by-senders (λ a b. without (accepted_alone a b) [] ≡ of_these a b (p0_0 ∷ [])) refl refl refl;
+      within = lit≤ tt;
+      shared = (
+        record {
+          within = lit≤ tt;
+          shared = record { offered = p0_0 ∷ p0_1 ∷ []; count = refl; numbers = (refl, refl, (refl, refl, tt)); dealt = inl ([], refl, inr ([], refl, (refl, refl))) };
+          front_drop = λ e. absurd (cc);
+        },
+        tt,
+      );
+      reached = λ _. lit≤ tt;
+    }
+
+pub returns-clause-not_newer_first : goal.returns-clause-not_newer_first
+returns-clause-not_newer_first c = λ id settled taken tallies s. let numbers = ap (λ (l : List Packet). (get_or l 0 p0_0).number) (s.account.balances 1) in absurd (omega (arith, numbers))
+
+pub returns-clause-not_older_left : goal.returns-clause-not_older_left
+returns-clause-not_older_left c = λ id settled taken tallies s. absurd (not-last p0_0 p0_1 refl refl (s.left 0).0 (s.left 0).1)
+
+pub returns-clause-not_one_left : goal.returns-clause-not_one_left
+returns-clause-not_one_left c = λ id settled taken tallies s. let counts = ap length (s.all_taken refl 0) in absurd (omega (arith, counts))
