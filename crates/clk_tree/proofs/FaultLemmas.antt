@@ -18,7 +18,7 @@ use Rattle.clk_tree.specs.Plan.{Planned, all_known, planned_from, plan_of, Denot
 use Rattle.clk_tree.proofs.DistinctPlans.{nodes-known}
 use Rattle.clk_tree.specs.Reading.{HasFault, HasStatementFault, IsFaultless, IsNamedText}
 
-not-less : (m n : ℕ) → n ≤ m → nat_lt m n ≡ false
+pub not-less : (m n : ℕ) → n ≤ m → nat_lt m n ≡ false
 not-less m n l = grind (arith, nat_tests)
 
 -- a text that isn't too long, and in which no token is wrong, has statements

@@ -26,6 +26,10 @@ pub mod Rests
 pub mod TextLemmas
 pub mod TextLengths
 pub mod FaultLemmas
+pub mod MemoryLemmas
+pub mod OneMeaning
+pub mod Told
+pub mod SpaceLemmas
 pub mod WithinLemmas
 pub mod MixedLemmas
 pub mod StatementLemmas

@@ -253,7 +253,7 @@ read-text (s ∷ earlier) last sound is =
     ∙ ap (option_map (λ (l : List Statement). statement_at r.place r.so_far ∷ l)) (read-text earlier last sound.1 is)
     ∙ ap (λ (t : Statement). Some (t ∷ (earlier ++ last ∷ []))) r.is
 
-reading : (tokens : List Token) (statements : List Statement) → IsText tokens statements → read start blank (map bare tokens) ≡ Some statements
+pub reading : (tokens : List Token) (statements : List Statement) → IsText tokens statements → read start blank (map bare tokens) ≡ Some statements
 reading tokens statements text =
     let sound = subst (AllByRecursion IsStatement) text.are text.sound in
     ap (read start blank) text.written_so

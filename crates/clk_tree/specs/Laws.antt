@@ -1,8 +1,12 @@
--- What the grammar of a tree text and its diagram say of each other.
-use Rattle.std.specs.Prelude.{◌≡◌, List, [], ◌∷◌, ◌++◌, None, Some}
+-- What the grammar of a tree text and its diagram say of each other, and what a text says as a whole.
+use Rattle.std.specs.Prelude.{◌≡◌, ◌⊎◌, ℕ, List, [], ◌∷◌, ◌++◌, None, Some}
+use Rattle.clk_packet.specs.declared.fault.Fault.{Fault}
+use Rattle.clk_packet.specs.declared.fault.Fault.TheVariants.{Memory}
 use Rattle.clk_tree.specs.declared.token.Token.{Token}
 use Rattle.clk_tree.specs.Diagram.{start, wrong_from}
 use Rattle.clk_tree.specs.Grammar.{Statement, IsText}
+use Rattle.clk_tree.specs.Reading.{HasFault}
+use Rattle.clk_tree.specs.Plan.{Planned, Denotes}
 
 -- no token of a text of statements is wrong
 abbrev pub TextsCanBeRead : Type 0
@@ -30,3 +34,15 @@ CannotGoOn before (token ∷ others) = (more : List Token) (statements : List St
 abbrev pub WrongTokensCannotBeMended : Type 0
 WrongTokensCannotBeMended = (tokens wrong : List Token) → wrong_from start tokens ≡ Some wrong
     → (before : List Token) × (tokens ≡ before ++ wrong) × CanGoOn before × CannotGoOn before wrong
+
+-- A text has one meaning: it denotes a plan or has a fault, never both, and no second plan or fault. That memory was refused is never what
+-- is wrong with a text.
+pub record HasOneMeaning (text : List ℕ) : Type 0 where
+  pub some : ((plan : List Planned) × Denotes text plan) ⊎ ((fault : Fault) × HasFault text fault)
+  pub not_both : (plan : List Planned) (fault : Fault) → Denotes text plan → ¬ (HasFault text fault)
+  pub one_plan : (plan other : List Planned) → Denotes text plan → Denotes text other → plan ≡ other
+  pub one_fault : (fault other : Fault) → HasFault text fault → HasFault text other → fault ≡ other
+  pub not_memory : ¬ (HasFault text Memory)
+
+abbrev pub TextsHaveOneMeaning : Type 0
+TextsHaveOneMeaning = (text : List ℕ) → HasOneMeaning text

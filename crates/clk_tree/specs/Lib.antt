@@ -23,5 +23,6 @@ pub mod Canonical
 pub mod Checks
 pub mod Used
 pub mod Laws
+pub mod Examples
 pub mod Lex
 pub mod Parse

@@ -3,6 +3,7 @@
 
 mod checks;
 mod class;
+mod examples;
 mod laws;
 mod lexer;
 mod names;
@@ -21,8 +22,9 @@ mod tables;
 mod token;
 mod used;
 
+pub use examples::{fault_examples, order_examples};
 pub use laws::{
-    right_tokens_are_texts, texts_can_be_read, texts_have_one_reading,
+    right_tokens_are_texts, texts_can_be_read, texts_have_one_meaning, texts_have_one_reading,
     wrong_tokens_cannot_be_mended,
 };
 pub use plan::{Plan, QueueSpec, SenderSpec};

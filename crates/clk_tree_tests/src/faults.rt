@@ -1,6 +1,7 @@
 //! Texts with a fault, and its line.
 
-use crate::row::assert_answers;
+use crate::row::{assert_answer, assert_answers};
+use std::test::Fail;
 
 /// A text of each fault, and those in which more than one place could be told. A second ToDevice is no fault.
 const FAULTS: [(&str, &str); 17] = [
@@ -120,6 +121,60 @@ const ORDERS: [(&str, &str); 13] = [
     ("// x\r?", "fault 11: NoDevice"),
 ];
 
+/// Texts with two faults that stand next to each other in the order of faults. Of a pair the first row has the fault that is told before
+/// the other, and the second row behind it. A broken grammar is the last fault in a text, since nothing behind it is read; NoDevice and
+/// TooLarge have no place. Too many bytes that break the grammar, too, are among the limits.
+const PAIRS: [(&str, &str); 17] = [
+    // A name is declared twice, and the grammar is broken.
+    ("q :: Queue; q :: Queue; ?", "fault 2: BadText 24"),
+    // A name is declared twice, and its class is unknown.
+    ("q, q :: Que;", "fault 5: NameTwice 3"),
+    ("q :: Que; q :: Queue;", "fault 5: NameTwice 10"),
+    // A class is unknown, and an argument is bad.
+    ("r :: Que; q :: Queue(0);", "fault 3: UnknownClass 5"),
+    ("q :: Queue(0); r :: Que;", "fault 3: UnknownClass 20"),
+    // An argument is bad, and a name is unknown.
+    ("q :: Queue(0); a -> b;", "fault 4: BadArgument 5"),
+    ("a -> b; q :: Queue(0);", "fault 4: BadArgument 13"),
+    // A name is unknown, and a port is bad.
+    ("q :: Queue; a -> q; q [1] -> q;", "fault 6: UnknownName 12"),
+    ("q :: Queue; q [1] -> q; a -> q;", "fault 6: UnknownName 24"),
+    // A port is bad, and an output is used twice.
+    (
+        "q :: Queue; r :: PrioSched; q [1] -> r; q -> [1] r; q -> [2] r;",
+        "fault 7: BadPort 28",
+    ),
+    (
+        "q :: Queue; r :: PrioSched; q -> r; q -> [1] r; q [1] -> r;",
+        "fault 7: BadPort 48",
+    ),
+    // An output is used twice, and another isn't connected.
+    (
+        "q -> r; q -> [1] r; q :: Queue; r :: PrioSched;",
+        "fault 8: PortTwice 8",
+    ),
+    (
+        "q :: Queue; r :: PrioSched; q -> r; q -> [1] r;",
+        "fault 8: PortTwice 36",
+    ),
+    // An output isn't connected, and a Sender is connected to a device.
+    (
+        "q :: Queue; s :: Sender(0); d :: ToDevice(x); s -> d;",
+        "fault 9: PortMissing 0",
+    ),
+    (
+        "s :: Sender(0); d :: ToDevice(x); s -> d; q :: Queue;",
+        "fault 9: PortMissing 42",
+    ),
+    // A Sender is connected to a scheduler, and there is no device.
+    (
+        "s :: Sender(0); r :: PrioSched; s -> r -> [1] r;",
+        "fault 10: WrongKind 32",
+    ),
+    // There is no device, and a scheduler leads to itself.
+    ("r :: PrioSched; r -> r;", "fault 11: NoDevice"),
+];
+
 #[test]
 fn each_fault_has_its_line(rt: HostRuntime) {
     assert_answers(&rt, rt.alloc(), &FAULTS);
@@ -133,4 +188,23 @@ fn texts_that_break_the_grammar(rt: HostRuntime) {
 #[test]
 fn the_first_fault_in_order_is_told(rt: HostRuntime) {
     assert_answers(&rt, rt.alloc(), &ORDERS);
+}
+
+#[test]
+fn of_two_faults_the_first_in_order_is_told(rt: HostRuntime) {
+    assert_answers(&rt, rt.alloc(), &PAIRS);
+}
+
+// A scheduler leads to itself, and there are too many elements.
+#[test]
+fn a_scheduler_without_a_device_is_told_before_sizes(rt: HostRuntime) -> Result<(), Fail> {
+    let alloc = rt.alloc();
+    let mut text = format!(in alloc;
+        "r :: PrioSched; r -> r; q :: Queue; d :: ToDevice(l); q -> d;"
+    )?;
+    for place in 3..257 {
+        write!(text, "s{place} :: Sender({place}); s{place} -> q;")?;
+    }
+    assert_answer(&rt, alloc, text.as_bytes(), "fault 13: NotATree 0");
+    Ok(())
 }
