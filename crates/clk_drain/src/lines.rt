@@ -69,9 +69,13 @@ impl<'a, W: Wait> Lines<'a, W> {
 }
 
 impl<'a, W: Wait> Ask for Lines<'a, W> {
+    ghost use Rattle.std.specs.Prelude.{[]};
     ghost use Rattle.clk_drain.specs.Line.{PullsAt, has_line};
 
     ghost has = { has_line };
+
+    // What a shared queue holds is known by no one alone.
+    ghost holds = { λ s leaf. [] };
 
     ghost gives = { PullsAt };
 

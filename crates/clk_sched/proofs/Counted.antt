@@ -6,8 +6,8 @@ use Rattle.std.specs.List.{AllByRecursion, cons_option, filter_map, flat_map}
 use Rattle.clk_packet.specs.declared.packet.Packet.{Packet}
 use Rattle.clk_sched.specs.declared.visit.Visit.{Visit}
 use Rattle.clk_sched.specs.Log.{visits_of}
-use Rattle.clk_sched.specs.Tree.{Row, Tree, root, leaves, is_number, stands_in, are_distinct, leaves_distinct}
-use Rattle.clk_sched.specs.Results.{Traced, traced, origin_in, traced_emitted, traced_heads, leaf_packets, emitted, heads}
+use Rattle.clk_sched.specs.Tree.{Tree, root, leaves, is_number, stands_in, are_distinct, leaves_distinct}
+use Rattle.clk_sched.specs.Results.{Traced, traced, origin_in, traced_emitted, traced_heads, leaf_packets}
 use Rattle.clk_sched.specs.Conservation.{from_queue, given_in_all, IsAmong, IsConserved, CameFrom, ConservesCounts}
 use Rattle.clk_sched.proofs.CameFrom.{makes-nothing}
 use Rattle.clk_sched.proofs.Conserved.{conserves-packets}
@@ -28,7 +28,7 @@ abbrev counted : List ℕ → List Traced → ℕ
 counted [] ts = 0
 counted (q ∷ qs) ts = length (from_queue q ts) + counted qs ts
 
-and-both : (a b : Bool) → (a && b) ≡ true → (a ≡ true) × (b ≡ true)
+pub and-both : (a b : Bool) → (a && b) ≡ true → (a ≡ true) × (b ≡ true)
 and-both true b e = (refl, e)
 and-both false b e = absurd (true≢false (sym e))
 

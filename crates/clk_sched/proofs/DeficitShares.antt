@@ -12,23 +12,23 @@ use Rattle.clk_sched.specs.Service.{arrivals_in, bytes_in, AlwaysGets, Near, Sha
 use Rattle.clk_sched.proofs.Allowed.{onto, onto-reverse, each-split}
 
 -- a visit as a DRRSched has it
-abbrev IsDeficitVisit : List ℕ → ℕ → List Visit → Visit → Type 0
+abbrev pub IsDeficitVisit : List ℕ → ℕ → List Visit → Visit → Type 0
 IsDeficitVisit quanta inputs earlier v = LooksAtHeads (next_input inputs) (deficit_covers quanta) earlier v
 
 -- what was passed is covered by the quanta, and no more than this is left over
-abbrev Covers : (quantum bytes arrived spare : ℕ) → Type 0
+abbrev pub Covers : (quantum bytes arrived spare : ℕ) → Type 0
 Covers quantum bytes arrived spare = (bytes ≤ quantum * arrived) × (quantum * arrived ≤ bytes + (65534 + spare))
 
 -- a quantum may be left over at the input whose visit passed last
-abbrev spare : ℕ → ℕ → List Visit → ℕ
+abbrev pub spare : ℕ → ℕ → List Visit → ℕ
 spare quantum i [] = 0
 spare quantum i (v ∷ earlier) = if v.passed && (v.input == i) then quantum else 0
 
-abbrev IsCovered : List ℕ → List Visit → Type 0
+abbrev pub IsCovered : List ℕ → List Visit → Type 0
 IsCovered quanta earlier = (i : ℕ) → Covers (quantum_at quanta i) (passed_bytes i earlier) (arrivals i earlier) (spare (quantum_at quanta i) i earlier)
 
 -- at a visit to the input whose turn it is
-deficit-bound : (quantum inputs : ℕ) (earlier : List Visit) (i : ℕ) → i ≡ next_input inputs earlier → Covers quantum (passed_bytes i earlier) (arrivals i earlier) (spare quantum i earlier)
+pub deficit-bound : (quantum inputs : ℕ) (earlier : List Visit) (i : ℕ) → i ≡ next_input inputs earlier → Covers quantum (passed_bytes i earlier) (arrivals i earlier) (spare quantum i earlier)
     → (passed_bytes i earlier ≤ quantum * (arrives earlier + arrivals i earlier)) × (quantum * (arrives earlier + arrivals i earlier) ≤ passed_bytes i earlier + (quantum + 65534))
 deficit-bound quantum inputs [] i e h = (omega arith, omega arith)
 deficit-bound quantum inputs (u ∷ earlier) i e h = by_passed u.passed e h.0 h.1
@@ -58,7 +58,7 @@ spare-none quantum inputs (u ∷ earlier) v i e d = by_passed u.passed (u.input 
     by_passed true false f k = refl
     by_passed true true f k = let same : (v.input == i) ≡ true = grind (arith, nat_tests) in absurd (false≢true (sym d ∙ same))
 
-covers-visit : (quanta : List ℕ) (inputs : ℕ) (earlier : List Visit) (v : Visit) → IsDeficitVisit quanta inputs earlier v → IsCovered quanta earlier → IsCovered quanta (v ∷ earlier)
+pub covers-visit : (quanta : List ℕ) (inputs : ℕ) (earlier : List Visit) (v : Visit) → IsDeficitVisit quanta inputs earlier v → IsCovered quanta earlier → IsCovered quanta (v ∷ earlier)
 covers-visit quanta inputs earlier v law h i = by_cases (v.input == i) v.passed v.got refl law.passes
   where
     p : ℕ
@@ -87,7 +87,7 @@ covers-visit quanta inputs earlier v law h i = by_cases (v.input == i) v.passed 
         let short = x.is_within in
         (omega (arith, bound), omega (arith, longer, short))
 
-covers-all : (quanta : List ℕ) (inputs : ℕ) (earlier visits : List Visit) → EachAfter (IsDeficitVisit quanta inputs) earlier visits → IsCovered quanta earlier → IsCovered quanta (onto visits earlier)
+pub covers-all : (quanta : List ℕ) (inputs : ℕ) (earlier visits : List Visit) → EachAfter (IsDeficitVisit quanta inputs) earlier visits → IsCovered quanta earlier → IsCovered quanta (onto visits earlier)
 covers-all quanta inputs earlier [] law h = h
 covers-all quanta inputs earlier (v ∷ visits) law h = covers-all quanta inputs (v ∷ earlier) visits law.1 (covers-visit quanta inputs earlier v law.0 h)
 

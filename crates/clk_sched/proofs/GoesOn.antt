@@ -1,5 +1,5 @@
 -- A run goes on by one pull.
-use Rattle.std.proofs.Common.{◌≡◌, ◌≢◌, ℕ, zero, suc, ◌+◌, ◌<◌, ◌≤◌, ◌==◌, Bool, true, false, if◌then◌else◌, List, [], ◌∷◌, ◌++◌, length, map, filter, reverse, refl, sym, ap, ap₂, ◌∙◌, subst, append-nil, length-append, arith}
+use Rattle.std.proofs.Common.{◌≡◌, ◌≢◌, ℕ, zero, suc, ◌+◌, ◌<◌, ◌≤◌, ◌==◌, Bool, true, false, if◌then◌else◌, List, [], ◌∷◌, ◌++◌, length, map, filter, reverse, refl, sym, ap, ap₂, ◌∙◌, subst, append-nil, append_assoc, length-append, arith}
 use Rattle.std.specs.List.{flat_map, range_with_len, AllByRecursion, list_any}
 use Rattle.std.proofs.lemmas.List.{map-append, reverse-append, length-reverse, append_cancel_right}
 use Rattle.std.proofs.lemmas.List.Concat.{flat_map-append}
@@ -12,7 +12,7 @@ use Rattle.clk_sched.specs.Log.{visits_of, in_pull, pulls, block, moment_of, Has
 use Rattle.clk_sched.specs.Laws.{AllowsTurn, Obeys}
 use Rattle.clk_sched.specs.Laws.Device.{IsDeviceTurn}
 use Rattle.clk_sched.specs.Run.{GetsResult, EachObeys, IsRun}
-use Rattle.clk_sched.specs.Step.{EachAllows, IsNextPull, IsOnePullMore, GoesOn, IsOnePullLess}
+use Rattle.clk_sched.specs.Step.{EachAllows, IsNextPull, IsOnePullMore, GoesOn, IsOnePullLess, IsRunOf}
 use Rattle.clk_sched.proofs.Members.{all-append, all-weaker, filter-all, filter-none, all-split, of-all}
 use Rattle.clk_sched.proofs.Allowed.{onto, onto-reverse, each-split, each-join, each-allowed, device-visit}
 use Rattle.clk_sched.proofs.PullByPull.{in_pull-number, IsNumbered, each-numbered, each-whole}
@@ -26,7 +26,7 @@ each-more P xs x h k = each-join P [] xs (x ∷ []) h (subst (λ e. P e x) (sym 
 reverse-more : {X : Type 0} (x : X) (xs : List X) → reverse (x ∷ xs) ≡ reverse xs ++ x ∷ []
 reverse-more x xs = reverse-append (x ∷ []) xs
 
-filter-reverse : {X : Type 0} (test : X → Bool) (xs : List X) → filter test (reverse xs) ≡ reverse (filter test xs)
+pub filter-reverse : {X : Type 0} (test : X → Bool) (xs : List X) → filter test (reverse xs) ≡ reverse (filter test xs)
 filter-reverse test [] = refl
 filter-reverse test (x ∷ xs) = ap (filter test) (reverse-more x xs) ∙ filter-append test (reverse xs) (x ∷ []) ∙ ap (λ l. l ++ filter test (x ∷ [])) (filter-reverse test xs) ∙ by_test (test x)
   where
@@ -34,7 +34,7 @@ filter-reverse test (x ∷ xs) = ap (filter test) (reverse-more x xs) ∙ filter
     by_test true = sym (reverse-more x (filter test xs))
     by_test false = append-nil (reverse (filter test xs))
 
-map-reverse : {X Y : Type 0} (f : X → Y) (xs : List X) → map f (reverse xs) ≡ reverse (map f xs)
+pub map-reverse : {X Y : Type 0} (f : X → Y) (xs : List X) → map f (reverse xs) ≡ reverse (map f xs)
 map-reverse f [] = refl
 map-reverse f (x ∷ xs) = ap (map f) (reverse-more x xs) ∙ map-append f (reverse xs) (x ∷ []) ∙ ap (λ l. l ++ f x ∷ []) (map-reverse f xs) ∙ sym (reverse-more (f x) (map f xs))
 
@@ -169,18 +169,65 @@ never-less : (least : ℕ) (ms later : List ℕ) → NeverFalls least (ms ++ lat
 never-less least [] later h = tt
 never-less least (m ∷ ms) later h = (h.0, never-less m ms later h.1)
 
-one-less : (tree : Tree) (log pull : List Visit) → IsOnePullMore tree log pull → IsOnePullLess tree log pull
-one-less tree log pull more =
+-- pulls that are numbered one after another, and in each of which the device has its turn, are those of the log that they are joined to
+joined-more : (tree : Tree) (before more : List (List Visit)) → pulls (flat_map (λ p. p) before) ≡ before → AllByRecursion (λ (v : Visit). v.pull < length before) (flat_map (λ p. p) before) → EachAfter (IsNumbered tree) (reverse before) more
+    → AllByRecursion IsDeviceTurn (map (turn 0) more) → pulls (flat_map (λ p. p) (before ++ more)) ≡ before ++ more
+joined-more tree before [] are below numbered devices = subst (λ ps. pulls (flat_map (λ p. p) ps) ≡ ps) (sym (append-nil before)) are
+joined-more tree before (pull ∷ more) are below numbered devices =
+    subst (λ ps. pulls (flat_map (λ p. p) ps) ≡ ps) (append_assoc before (pull ∷ []) more)
+    (joined-more tree (before ++ pull ∷ []) more (ap pulls log ∙ last ∙ ap (λ ps. ps ++ pull ∷ []) are) (subst (AllByRecursion (λ (v : Visit). v.pull < length (before ++ pull ∷ []))) (sym log) numbers)
+    (subst (λ e. EachAfter (IsNumbered tree) e more) (sym (reverse-append before (pull ∷ []))) numbered.1) devices.1)
+  where
+    earlier : List Visit
+    earlier = flat_map (λ p. p) before
+
+    log : flat_map (λ p. p) (before ++ pull ∷ []) ≡ earlier ++ pull
+    log = flat_map-append (λ p. p) before (pull ∷ []) ∙ ap (λ l. earlier ++ l) (append-nil pull)
+
+    number : AllByRecursion (λ (v : Visit). v.pull ≡ length before) pull
+    number = subst (λ n. AllByRecursion (λ (v : Visit). v.pull ≡ n) pull) (length-reverse before) numbered.0.number
+
+    last : pulls (earlier ++ pull) ≡ pulls earlier ++ pull ∷ []
+    last =
+        pulls-more earlier pull (length before) (sym (ap length are) ∙ length-map-range_with_len (λ k. in_pull k earlier) 0 (length (visits_of 0 earlier))) below number
+        (ap length (device-visit (visits_of 0 pull) devices.0).only)
+
+    numbers : AllByRecursion (λ (v : Visit). v.pull < length (before ++ pull ∷ [])) (earlier ++ pull)
+    numbers =
+        let long = length-append before (pull ∷ []) in
+        all-append (λ (v : Visit). v.pull < length (before ++ pull ∷ [])) earlier pull
+        (all-weaker (λ (v : Visit). v.pull < length before) (λ (v : Visit). v.pull < length (before ++ pull ∷ [])) earlier (λ v l. omega (arith, long, l)) below)
+        (all-weaker (λ (v : Visit). v.pull ≡ length before) (λ (v : Visit). v.pull < length (before ++ pull ∷ [])) pull (λ v e. omega (arith, long, e)) number)
+
+-- what comes before some pulls of a run
+pub front : (tree : Tree) (log : List Visit) (before after : List (List Visit)) → IsRun tree log → pulls log ≡ before ++ after → IsRunOf tree (flat_map (λ p. p) before) before
+front tree log before after run are =
     record {
       run = record {
         shape = record {
-          blocks = log_is ∙ flat_map-same (λ p. p) (block tree) (pulls log) (λ p m. of-all (λ r. r ≡ block tree r) p (pulls log) wholes.0 m);
-          one_moment = (all-split HasOneMoment (pulls log) (pull ∷ []) (subst (AllByRecursion HasOneMoment) more.last more.run.shape.one_moment)).0;
-          moments = never-less 0 (map moment_of (pulls log)) (moment_of pull ∷ []) (subst (NeverFalls 0) (map-append moment_of (pulls log) (pull ∷ [])) moments);
+          blocks = flat_map-same (λ p. p) (block tree) before (λ p m. of-all (λ r. r ≡ block tree r) p before wholes m) ∙ ap (flat_map (block tree)) (sym them);
+          one_moment = subst (AllByRecursion HasOneMoment) (sym them) (all-split HasOneMoment before after (subst (AllByRecursion HasOneMoment) are run.shape.one_moment)).0;
+          moments = subst (λ ps. NeverFalls 0 (map moment_of ps)) (sym them) (never-less 0 (map moment_of before) (map moment_of after) (subst (NeverFalls 0) (ap (map moment_of) are ∙ map-append moment_of before after) run.shape.moments));
         };
-        device = devices.0;
-        below = each-less (root tree) 0 0 1 (pulls log) (pull ∷ []) (subst (λ ps. EachObeys 0 ps 0 1 (root tree)) more.last more.run.below);
+        device = subst (λ ps. AllByRecursion IsDeviceTurn (map (turn 0) ps)) (sym them) devices;
+        below = subst (λ ps. EachObeys 0 ps 0 1 (root tree)) (sym them) (each-less (root tree) 0 0 1 before after (subst (λ ps. EachObeys 0 ps 0 1 (root tree)) are run.below));
       };
+      are = them;
+    }
+  where
+    wholes : AllByRecursion (λ p. p ≡ block tree p) before
+    wholes = (all-split (λ p. p ≡ block tree p) before after (subst (AllByRecursion (λ p. p ≡ block tree p)) are (each-whole tree log run.shape))).0
+
+    devices : AllByRecursion IsDeviceTurn (map (turn 0) before)
+    devices = (all-split IsDeviceTurn (map (turn 0) before) (map (turn 0) after) (subst (AllByRecursion IsDeviceTurn) (ap (map (turn 0)) are ∙ map-append (turn 0) before after) run.device)).0
+
+    them : pulls (flat_map (λ p. p) before) ≡ before
+    them = joined-more tree [] before refl tt (each-split (IsNumbered tree) [] before after (subst (EachAfter (IsNumbered tree) []) are (each-numbered tree log run.shape))).0 devices
+
+one-less : (tree : Tree) (log pull : List Visit) → IsOnePullMore tree log pull → IsOnePullLess tree log pull
+one-less tree log pull more =
+    record {
+      run = subst (IsRun tree) (sym log_is) (front tree (log ++ pull) (pulls log) (pull ∷ []) more.run more.last).run;
       next = record {
         number = subst (λ n. AllByRecursion (λ (v : Visit). v.pull ≡ n) pull) (ap length (onto-reverse (pulls log)) ∙ length-reverse (pulls log)) numbered.number;
         whole = numbered.whole;
@@ -194,9 +241,6 @@ one-less tree log pull more =
       };
     }
   where
-    wholes : AllByRecursion (λ p. p ≡ block tree p) (pulls log) × AllByRecursion (λ p. p ≡ block tree p) (pull ∷ [])
-    wholes = all-split (λ p. p ≡ block tree p) (pulls log) (pull ∷ []) (subst (AllByRecursion (λ p. p ≡ block tree p)) more.last (each-whole tree (log ++ pull) more.run.shape))
-
     log_is : log ≡ flat_map (λ p. p) (pulls log)
     log_is =
         append_cancel_right log (flat_map (λ p. p) (pulls log)) pull
@@ -219,4 +263,5 @@ goes-on tree =
       start = record { shape = record { blocks = refl; one_moment = tt; moments = tt }; device = tt; below = each-none (root tree) 0 0 1 };
       step = one-more tree;
       back = one-less tree;
+      fronts = front tree;
     }

@@ -55,4 +55,6 @@ pub mod Shares
 pub mod Held
 pub mod TreeBound
 pub mod SessionPull
+pub mod Closing
 pub mod SessionDrain
+pub mod WorkedPulls

@@ -3,12 +3,13 @@ use Rattle.std.proofs.Common.{◌≡◌, ℕ, ◌+◌, ◌*◌, ◌≤◌, mul_a
 use Rattle.std.specs.Bool.{⊤}
 use Rattle.std.specs.List.{AllByRecursion}
 use Rattle.clk_sched.specs.Limits.{most_quantum}
-use Rattle.clk_sched.specs.Tree.{Class, prio, round_robin, drr, stride, shaper, Row, end, leaf, node, Tree, queue, scheduler, root, width, height, HasArguments, IsWellFormed}
+use Rattle.clk_sched.specs.Tree.{Class, prio, round_robin, drr, stride, shaper, Row, end, leaf, node, Tree, queue, scheduler, root, width, height, HasArguments, IsWellFormed, IsSound}
 use Rattle.clk_sched.specs.Built.{levels}
+use Rattle.clk_sched.proofs.TreeLemmas.{sound-formed}
 use Rattle.clk_sched.specs.Bound.{lesser, least, quanta_of, least_quantum, rounds, closing_bound}
 
 -- where there is a number it is at least 1
-abbrev IsPositive : Option ℕ → Type 0
+abbrev pub IsPositive : Option ℕ → Type 0
 IsPositive None = ⊤
 IsPositive (Some n) = 1 ≤ n
 
@@ -28,7 +29,7 @@ positive-class (drr quanta) inputs h = positive-least quanta h.1
 positive-class (stride tickets) inputs h = tt
 positive-class (shaper rate burst) inputs h = tt
 
-positive-row : (r : Row) → IsWellFormed r → IsPositive (least_quantum r)
+pub positive-row : (r : Row) → IsSound r → IsPositive (least_quantum r)
 positive-row end h = tt
 positive-row (leaf q r) h = positive-row r h
 positive-row (node class inputs r) h =
@@ -42,7 +43,7 @@ levels-root (scheduler class inputs) = omega arith
 
 -- the least quantum of a well-formed tree can be divided by
 pub quantum-positive : (tree : Tree) (o : Option ℕ) (quantum : ℕ) → IsWellFormed (root tree) → o ≡ least_quantum (root tree) → o ≡ Some quantum → 1 ≤ quantum
-quantum-positive tree o quantum h e f = subst IsPositive (sym e ∙ f) (positive-row (root tree) h)
+quantum-positive tree o quantum h e f = subst IsPositive (sym e ∙ f) (positive-row (root tree) (sound-formed (root tree) h))
 
 -- the closing's bound is a number of pulls for each packet
 pub bound-each : (tree : Tree) (left high many : ℕ) → high ≡ levels tree → many ≡ rounds (least_quantum (root tree)) → closing_bound tree left ≡ left * ((high + 1) * many)

@@ -1,4 +1,4 @@
--- Packets and visits of worked examples, and the examples by class.
+-- Packets and visits of worked examples, and the examples by class, and of sessions.
 use Rattle.std.specs.Prelude.{ℕ, Bool, Option, List, map, filter, nat_lt}
 use Rattle.clk_packet.specs.declared.packet.Packet.{Packet}
 use Rattle.clk_sched.specs.declared.visit.Visit.{Visit}
@@ -9,6 +9,8 @@ pub mod Deficit
 pub mod Stride
 pub mod Shaper
 pub mod Nested
+pub mod Draining
+pub mod Largest
 
 -- a visit of pull k at moment t, by node x to input i
 abbrev pub look : (k t x i : ℕ) → Bool → Option Packet → Bool → Visit

@@ -28,3 +28,4 @@ pub mod Bound
 pub mod Service
 pub mod Choice
 pub mod Conservation
+pub mod Closing

@@ -1,6 +1,6 @@
 -- What one more pull of a tree may be, after those of a run.
 use Rattle.std.specs.Prelude.{◌≡◌, ℕ, ◌+◌, true, List, [], ◌∷◌, ◌++◌, length, map, reverse, suc, Option, IfSome, ⊤}
-use Rattle.std.specs.List.{AllByRecursion, list_any}
+use Rattle.std.specs.List.{AllByRecursion, flat_map, list_any}
 use Rattle.clk_packet.specs.declared.packet.Packet.{Packet}
 use Rattle.clk_sched.specs.declared.visit.Visit.{Visit}
 use Rattle.clk_sched.specs.Tree.{Row, end, leaf, node, Tree, root, width, nodes, queue_at, IsSound}
@@ -41,11 +41,17 @@ pub record IsOnePullLess (tree : Tree) (log pull : List Visit) : Type 0 where
   pub run : IsRun tree log
   pub next : IsNextPull tree log pull
 
--- The empty log is a run, and a run goes on by each pull that may follow it, and by no other.
+-- a log is a run, of these pulls
+pub record IsRunOf (tree : Tree) (log : List Visit) (pulled : List (List Visit)) : Type 0 where
+  pub run : IsRun tree log
+  pub are : pulls log ≡ pulled
+
+-- The empty log is a run, and a run goes on by each pull that may follow it, and by no other. The first pulls of a run are a run.
 pub record GoesOn (tree : Tree) : Type 0 where
   pub start : IsRun tree []
   pub step : (log pull : List Visit) → IsRun tree log → IsNextPull tree log pull → IsOnePullMore tree log pull
   pub back : (log pull : List Visit) → IsOnePullMore tree log pull → IsOnePullLess tree log pull
+  pub fronts : (log : List Visit) (before after : List (List Visit)) → IsRun tree log → pulls log ≡ before ++ after → IsRunOf tree (flat_map (λ pull. pull) before) before
 
 -- A pull that may follow a run, at this counted moment, in which each visit that asks a queue gets what is answered at that input
 -- of that node.

@@ -1,12 +1,15 @@
-//! What the definitions say of worked examples: which logs are runs and which are none, and what went in and came out. Each
-//! function does nothing.
+//! What the definitions say of worked examples: which logs are runs and which are none, what went in and came out, and what a
+//! session's pull and its drain are. Each function does nothing.
 
-ghost use Rattle.std.specs.Prelude.{◌≡◌, List, [], ◌∷◌, map, Some};
+ghost use Rattle.std.specs.Prelude.{◌≡◌, List, [], ◌∷◌, map, Some, None};
 ghost use Rattle.clk_sched.specs.Tree.{root};
 ghost use Rattle.clk_sched.specs.Run.{IsRun};
 ghost use Rattle.clk_sched.specs.Results.{Traced, emitted, heads, leaf_packets, traced_emitted, traced_heads};
 ghost use Rattle.clk_sched.specs.Conservation.{IsConserved};
 ghost use Rattle.clk_sched.specs.Bound.{closing_bound};
+ghost use Rattle.clk_sched.specs.LaidOut.{IsRefused};
+ghost use Rattle.clk_sched.specs.Session.{IsPulledOnce, IsDrained, GivesAll, StopsAt};
+ghost use Rattle.clk_packet.specs.declared.fault.Fault.TheVariants.{Memory, TooManyPulls, TooLarge};
 ghost use Rattle.clk_sched.specs.Examples.{names, first_pulls};
 ghost use Rattle.clk_sched.specs.Examples.Device.{one_queue, one_queue_tree, device_keeps, device_asks_beside, device_asks_twice, moment_falls, moment_falls_later, pull_left_out, unknown_node};
 ghost use Rattle.clk_sched.specs.Examples.Priority.{two_queues, visit_left_out, visit_doubled, passed_turned, other_result, two_queues_tree, other_moment, prio_goes_on, prio_stops_early, prio_asks_beside, prio_unasked, result_lost, third_gives, third_gives_tree, third_left_out};
@@ -15,6 +18,9 @@ ghost use Rattle.clk_sched.specs.Examples.Deficit.{two_deficits, held_at_close, 
 ghost use Rattle.clk_sched.specs.Examples.Stride.{two_to_one, idle_input, idle_pass, pass_left_behind, lowest_index_first, two_to_one_tree, idle_input_tree, idle_pass_tree, none_changes_no_pass, none_changes_no_pass_tree, rounds_down, rounds_down_tree, over_held_head, over_held_head_tree, rounds_up, three_strides, three_strides_tree, least_alone_first, stride_asks_beside, stride_asks_beside_tree};
 ghost use Rattle.clk_sched.specs.Examples.Shaper.{burst_of_two, late_burst, below_deficit, fills_without_cap, asks_without_room, burst_of_two_tree, late_burst_tree, below_deficit_tree, none_costs_nothing, none_costs_nothing_tree, two_a_tick, two_a_tick_tree, two_ticks_at_once, two_ticks_at_once_tree, burst_below_rate, burst_below_rate_tree, rate_above};
 ghost use Rattle.clk_sched.specs.Examples.Nested.{p0_0_5, p1_0_10, p2_0_5, p2_1, two_levels, two_levels_tree, outer_first, inner_disobeys, made_from_nothing, last_result_lost, last_disobeys, three_heads, three_heads_tree, number_skipped, last_gives, last_of_five, last_of_five_tree, each_holds, each_holds_tree, passed_later, passed_later_tree, side_by_side_tree, uneven_tree, turned_tree};
+ghost use Rattle.clk_sched.specs.Examples.Priority.{p0_0, p1_0};
+ghost use Rattle.clk_sched.specs.Examples.Draining.{never_pulled, pulled_twice, pulls_turned, pulled_again, pulled_at_greatest, other_tree_pulled, pulled_without_prio, drained, other_tree_drained, drained_without_prio, drained_at_once, drained_late, drain_pauses, drain_goes_on, drained_past_bound, stopped_at_first, stopped_at_bound, stopped_past_bound, CountFollows};
+ghost use Rattle.clk_sched.specs.Examples.Largest.{largest, larger};
 
 /// Which logs of a worked example of the device are runs.
 pub fn device_examples()
@@ -166,4 +172,72 @@ pub fn result_examples()
     ensures bound_turned { closing_bound turned_tree 1 ≡ 880 }
     ensures bound_least_last { closing_bound least_last_tree 1 ≡ 131072 }
     ensures bound_least_first { closing_bound least_first_tree 1 ≡ 131072 }
+{}
+
+/// Which changes of a worked session are one pull of it, and which aren't.
+pub fn pull_examples()
+    ensures is_pulled_again { IsPulledOnce pulled_twice pulled_again 6 (Some p1_0) }
+    ensures is_pulled_at_greatest { IsPulledOnce pulled_twice pulled_at_greatest 2 (Some p1_0) }
+    ensures not_other_tree { ¬ (IsPulledOnce pulled_twice other_tree_pulled 6 (Some p1_0)) }
+    ensures not_pulls_turned { ¬ (IsPulledOnce pulls_turned pulled_again 6 (Some p1_0)) }
+    ensures not_unpulled { ¬ (IsPulledOnce never_pulled never_pulled 0 None) }
+    ensures not_two_pulls { ¬ (IsPulledOnce pulled_twice drained 6 (Some p1_0)) }
+    ensures not_without_prio { ¬ (IsPulledOnce pulled_twice pulled_without_prio 6 (Some p1_0)) }
+    ensures not_too_early { ¬ (IsPulledOnce pulled_twice pulled_again 7 (Some p1_0)) }
+    ensures not_too_late { ¬ (IsPulledOnce pulled_twice pulled_again 2 (Some p1_0)) }
+    ensures not_result_lost { ¬ (IsPulledOnce pulled_twice pulled_again 6 None) }
+    ensures not_other_result { ¬ (IsPulledOnce pulled_twice pulled_again 6 (Some p0_0)) }
+{}
+
+/// Which changes of a worked session are a drain after moment 5, by how many pulls it made and how many packets came out, and which
+/// aren't.
+pub fn drain_examples()
+    ensures is_drained { IsDrained pulled_twice drained 5 2 1 }
+    ensures is_stopped { IsDrained pulled_twice stopped_at_first 5 1 0 }
+    ensures is_not_begun { IsDrained pulled_twice pulled_twice 5 0 0 }
+    ensures not_other_tree { ¬ (IsDrained pulled_twice other_tree_drained 5 2 1) }
+    ensures not_pulls_turned { ¬ (IsDrained pulls_turned drained 5 2 1) }
+    ensures not_pulls_joined { ¬ (IsDrained pulled_twice drained 5 1 1) }
+    ensures not_without_prio { ¬ (IsDrained pulled_twice drained_without_prio 5 2 1) }
+    ensures not_at_once { ¬ (IsDrained pulled_twice drained_at_once 5 2 1) }
+    ensures not_late { ¬ (IsDrained pulled_twice drained_late 5 2 1) }
+    ensures not_pauses { ¬ (IsDrained pulled_twice drain_pauses 5 2 1) }
+    ensures not_none_given { ¬ (IsDrained pulled_twice drained 5 2 0) }
+    ensures not_both_given { ¬ (IsDrained pulled_twice drained 5 2 2) }
+    ensures made_follow { CountFollows }
+{}
+
+/// Which drains of a worked session gave all of so many packets that were left, and which didn't.
+pub fn full_drain_examples()
+    ensures is_drained { GivesAll pulled_twice drained 5 2 1 }
+    ensures is_pulled_again { GivesAll pulled_twice pulled_again 5 1 1 }
+    ensures is_none_left { GivesAll pulled_twice pulled_twice 5 0 0 }
+    ensures not_past_bound { ¬ (GivesAll pulled_twice drained_past_bound 5 3 1) }
+    ensures not_pauses { ¬ (GivesAll pulled_twice drain_pauses 5 2 1) }
+    ensures not_one_left { ¬ (GivesAll pulled_twice drained 5 2 2) }
+    ensures not_goes_on { ¬ (GivesAll pulled_twice drain_goes_on 5 2 1) }
+{}
+
+/// Why drains of a worked session stopped before as many packets came out as were left, and which didn't stop so.
+pub fn short_drain_examples()
+    ensures is_memory { StopsAt pulled_twice stopped_at_first 5 1 Memory }
+    ensures is_memory_at_bound { StopsAt pulled_twice stopped_at_bound 5 1 Memory }
+    ensures is_bound { StopsAt pulled_twice stopped_at_bound 5 1 (TooManyPulls 2) }
+    ensures is_memory_with_one_left { StopsAt pulled_twice drained 5 2 Memory }
+    ensures not_memory_past_bound { ¬ (StopsAt pulled_twice stopped_past_bound 5 1 Memory) }
+    ensures not_memory_with_none_left { ¬ (StopsAt pulled_twice drained 5 1 Memory) }
+    ensures not_memory_in_pauses { ¬ (StopsAt pulled_twice drain_pauses 5 2 Memory) }
+    ensures not_below_bound { ¬ (StopsAt pulled_twice stopped_at_first 5 1 (TooManyPulls 1)) }
+    ensures not_bound_with_none_left { ¬ (StopsAt pulled_twice drained 5 1 (TooManyPulls 2)) }
+    ensures not_too_large { ¬ (StopsAt pulled_twice stopped_at_first 5 1 TooLarge) }
+{}
+
+/// How a session of the largest tree may be refused, and how that of a tree with one queue more is.
+pub fn refusal_examples()
+    ensures is_memory { IsRefused largest Memory }
+    ensures is_too_large { IsRefused larger TooLarge }
+    ensures not_too_large { ¬ (IsRefused largest TooLarge) }
+    ensures not_memory { ¬ (IsRefused larger Memory) }
+    ensures not_too_many_pulls { ¬ (IsRefused largest (TooManyPulls 0)) }
+    ensures not_too_many_pulls_of_larger { ¬ (IsRefused larger (TooManyPulls 0)) }
 {}

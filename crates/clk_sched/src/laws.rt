@@ -1,11 +1,12 @@
 //! The laws of every run of a tree: each is a function that does nothing and whose contract is the law.
 
 ghost use Rattle.std.specs.Prelude.{◌≡◌, true};
-ghost use Rattle.clk_sched.specs.Tree.{leaves_distinct};
+ghost use Rattle.clk_sched.specs.Tree.{root, leaves_distinct, IsSound};
 ghost use Rattle.clk_sched.specs.Step.{GoesOn, CanGoOn};
 ghost use Rattle.clk_sched.specs.Choice.{LeavesNoChoice, PullsLeaveNoChoice};
 ghost use Rattle.clk_sched.specs.Conservation.{ConservesPackets, ConservesCounts, MakesNothing};
 ghost use Rattle.clk_sched.specs.Service.{SharesOut};
+ghost use Rattle.clk_sched.specs.Closing.{BoundIsEnough};
 
 /// How a run of a tree begins, and goes on by one pull.
 pub fn runs_go_on()
@@ -35,4 +36,10 @@ pub fn runs_conserve_packets()
 /// In each run of a tree each DRRSched and each StrideSched gives the shares that its quanta or its tickets say, within bounds.
 pub fn runs_share_out()
     ensures { (tree : _) → SharesOut tree }
+{}
+
+/// Closing pulls, one tick apart, over queues that lose nothing give all that queues and heads hold before there are as many as the
+/// closing bound.
+pub fn closing_bound_is_enough()
+    ensures { (tree : _) → IsSound (root tree) → leaves_distinct tree ≡ true → BoundIsEnough tree }
 {}

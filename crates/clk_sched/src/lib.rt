@@ -10,11 +10,13 @@ mod visit;
 
 pub use ask::Ask;
 pub use examples::{
-    deficit_examples, device_examples, nested_examples, priority_examples, result_examples,
-    round_robin_examples, shaper_examples, stride_examples,
+    deficit_examples, device_examples, drain_examples, full_drain_examples, nested_examples,
+    priority_examples, pull_examples, refusal_examples, result_examples, round_robin_examples,
+    shaper_examples, short_drain_examples, stride_examples,
 };
 pub use laws::{
-    runs_can_go_on, runs_conserve_packets, runs_go_on, runs_leave_no_choice, runs_share_out,
+    closing_bound_is_enough, runs_can_go_on, runs_conserve_packets, runs_go_on,
+    runs_leave_no_choice, runs_share_out,
 };
 pub use session::Session;
 pub use tree::Tree;

@@ -48,27 +48,29 @@ impl Model for Session {
 }
 
 impl Session {
-    ghost use Rattle.std.specs.Prelude.{◌≡◌, ◌+◌, ◌-◌, ◌<◌, ◌≤◌, ◌^◌, true, [], Ok, max, IfOk, IfErr, OnOk, OnErr, IsOkUnless};
-    ghost use Rattle.clk_sched.specs.Tree.{root, leaves_distinct};
+    ghost use Rattle.std.specs.Prelude.{◌≡◌, ◌+◌, ◌-◌, ◌<◌, ◌≤◌, ◌^◌, true, [], Ok, Err, max, IfOk, IfErr, OnOk, OnErr, IsOkUnless};
+    ghost use Rattle.clk_sched.specs.Tree.{root, leaves_distinct, IsSound};
     ghost use Rattle.clk_sched.specs.Limits.{most_elements, most_left, end_of_moments, end_of_drains};
     ghost use Rattle.clk_sched.specs.LaidOut.{IsRefused};
     ghost use Rattle.clk_sched.specs.Run.{IsRun};
     ghost use Rattle.clk_sched.specs.Bound.{closing_bound};
     ghost use Rattle.clk_sched.specs.Results.{emitted, heads};
-    ghost use Rattle.clk_packet.specs.declared.fault.Fault.TheVariants.{Memory};
+    ghost use Rattle.clk_packet.specs.declared.fault.Fault.TheVariants.{Memory, TooLarge};
     ghost use Rattle.clk_sched.specs.Places.{Answers};
+    ghost use Rattle.clk_sched.specs.Closing.{LosesNothing, left_in};
     ghost use Rattle.clk_sched.specs.Session.{IsPulledOnce, GivesAll, StopsAt, counted_moment, elements, newly, tree_queue};
 
     /// A session of this tree, in which no queue stands twice, before its first pull.
     ///
     /// # Errors
     ///
-    /// Fault 1 where memory is refused, and fault 18 for a tree of more than 256 nodes and queues, the device counted.
+    /// Fault 18 for a tree of more than 256 nodes and queues, the device counted; else fault 1 where memory is refused.
     pub fn new(alloc: Global, tree: Tree) -> Result<Session, Fault>
         requires distinct { leaves_distinct tree ≡ true }
         ensures made { IfOk result (λ session. (session.tree ≡ tree) × (session.log ≡ [])) }
         ensures fits { IfOk result (λ session. 1 + elements (root tree) ≤ most_elements) }
         ensures refused { IfErr result (λ fault. IsRefused tree fault) }
+        ensures too_large { most_elements < 1 + elements (root tree) → result ≡ Err Fault.TooLarge }
     {
         let nodes = tree.lay_out(alloc)?;
         Ok(Session {
@@ -109,13 +111,15 @@ impl Session {
     /// # Errors
     ///
     /// Fault 1 where memory is refused, and fault 17 with the number of pulls after `bound(left)` pulls that gave fewer packets. The
-    /// session then holds the pulls that were made.
+    /// session then holds the pulls that were made. Fault 17 never comes where `q` loses nothing, and its leaves of the tree hold,
+    /// together with the heads, exactly `left` packets.
     pub fn drain<Q: Ask>(&mut self, q: &mut Q, left: u64, moment: u64) -> Result<u64, Fault>
         requires left { left ≤ most_left }
         requires moment { max (counted_moment self.old) moment < end_of_drains }
         ensures all { IfOk result (λ made. GivesAll self.old self.new (max (counted_moment self.old) moment) made left) }
         ensures none_left { left ≡ 0 → (result ≡ Ok 0) × (self.new ≡ self.old) × (q.new ≡ q.old) }
         ensures short { IfErr result (StopsAt self.old self.new (max (counted_moment self.old) moment) left) }
+        ensures ends { LosesNothing Q.gives Q.holds → left ≡ left_in self.old.tree self.old.log (Q.holds q.old) → IsOkUnless result Fault.Memory }
         ensures answers { Answers Q.gives (tree_queue self.old.tree) q.old (newly self.old self.new) q.new }
     {
         // That the log is a run is known where a field is read.
@@ -144,7 +148,10 @@ impl Session {
         requires { left ≤ most_left }
         ensures value { result ≡ closing_bound self.now.tree left }
         ensures limit { result < 2 ^ 42 }
+        ensures sound { IsSound (root self.now.tree) }
     {
+        // A law, which does nothing.
+        self.tree.schedulers_are_sound();
         left * self.tree.pulls_per_packet()
     }
 

@@ -28,7 +28,7 @@ or-first true c isnt e = refl
 or-first false c isnt e = absurd (false≢true (sym isnt ∙ e))
 
 -- no sender of a greater number is of this one
-none-later : (senders : List SenderSpec) (s n : ℕ) (P : SenderSpec → Bool) → n ≡ s → AllByRecursion (λ m. n < m) (map number_of senders)
+pub none-later : (senders : List SenderSpec) (s n : ℕ) (P : SenderSpec → Bool) → n ≡ s → AllByRecursion (λ m. n < m) (map number_of senders)
     → list_any (λ (x : SenderSpec). (x.number == s) && P x) senders ≡ false
 none-later [] s n P e h = refl
 none-later (x ∷ senders) s n P e h =
@@ -67,7 +67,7 @@ sent-here queues (x ∷ senders) s q d at e = by_entry (x.number == s) (x.queue 
     by_entry false u f e rest = rest e
 
 -- a device's pulls ask no queue that isn't its own
-no-answers : (o : Option Tree) (q : ℕ) (visits : List Visit) → MatchOption o ⊤ (λ tree. (x input : ℕ) → queue_at tree x input ≡ Some q → ⊥) → answers_in o q visits ≡ []
+pub no-answers : (o : Option Tree) (q : ℕ) (visits : List Visit) → MatchOption o ⊤ (λ tree. (x input : ℕ) → queue_at tree x input ≡ Some q → ⊥) → answers_in o q visits ≡ []
 no-answers None q visits never = refl
 no-answers (Some tree) q [] never = refl
 no-answers (Some tree) q (v ∷ visits) never = rw (not_asked v.fresh (queue_at tree v.node v.input) refl) (no-answers (Some tree) q visits never)
@@ -83,7 +83,7 @@ no-answers (Some tree) q (v ∷ visits) never = rw (not_asked v.fresh (queue_at 
             let same : k ≡ q = grind (arith, nat_tests) in
             absurd (never v.node v.input (e ∙ ap Some same))
 
-never-asks : (setup : Setup) → IsApart setup → (d q : ℕ) (room : Room) → slice_get setup.queues q ≡ Some room → (room.device == d) ≡ false
+pub never-asks : (setup : Setup) → IsApart setup → (d q : ℕ) (room : Room) → slice_get setup.queues q ≡ Some room → (room.device == d) ≡ false
     → MatchOption (slice_get setup.trees d) ⊤ (λ tree. (x input : ℕ) → queue_at tree x input ≡ Some q → ⊥)
 never-asks setup apart d q room is other = by_tree (slice_get setup.trees d) (apart.leaves d)
   where
@@ -96,7 +96,7 @@ never-asks setup apart d q room is other = by_tree (slice_get setup.trees d) (ap
         absurd (grind (arith, nat_tests, device, other))
 
 -- what happens elsewhere is nothing to a queue of a device, and what happens there is nothing to one of another
-elsewhere : (setup : Setup) → IsApart setup → (d q : ℕ) (room : Room) → slice_get setup.queues q ≡ Some room → (room.device == d) ≡ true → (e : Event) → happens_at setup d e ≡ false → at_queue setup q e ≡ []
+pub elsewhere : (setup : Setup) → IsApart setup → (d q : ℕ) (room : Room) → slice_get setup.queues q ≡ Some room → (room.device == d) ≡ true → (e : Event) → happens_at setup d e ≡ false → at_queue setup q e ≡ []
 elsewhere setup apart d q room is here (offered p outcome) isnt = by_sends (sends_to setup.senders p.sender q) refl
   where
     by_sends : (b : Bool) → sends_to setup.senders p.sender q ≡ b → at_queue setup q (offered p outcome) ≡ []

@@ -23,8 +23,8 @@ use Rattle.clk_sched.specs.Bound.{closing_bound}
 use Rattle.clk_sched.specs.Session.{IsDrained, GivesAll, StopsShort as StopsSession, StopsAt, newly, latest_moment, counted_moment, tree_queue}
 use Rattle.clk_script.specs.declared.devices.Device.{Device}
 use Rattle.clk_script.specs.declared.router.Router.{Router}
-use Rattle.clk_script.specs.Meaning.{Setup, sender_numbers, has_several, Event, pulled, happens_at, events_at, moment_in, pull_in, accepted_in, evicted_in, visits_in, log_of, at_queue, history, RunsTree, pulls_from, closing_pulls, given_text, closing_text, left_after, DeviceDrainsShort}
-use Rattle.clk_script.specs.Router.{AreQueuesAt, IsDeviceAt, AreDevicesAt, IsAt, device_log, IsSteadyAt, LeadsOnByDrain, StopsDrain}
+use Rattle.clk_script.specs.Meaning.{Setup, sender_numbers, has_several, Event, pulled, happens_at, events_at, moment_in, pull_in, accepted_in, evicted_in, visits_in, log_of, at_queue, history, RunsTree, pulls_from, closing_pulls, given_text, closing_text, left_after}
+use Rattle.clk_script.specs.Router.{AreQueuesAt, IsDeviceAt, AreDevicesAt, IsAt, device_log, IsSteadyAt, LeadsOnByDrain, StopsDrain, DeviceDrainsShort}
 use Rattle.clk_script.specs.Rows.{visit_text}
 use Rattle.clk_script.proofs.Alike.{member-between, its-moment}
 use Rattle.clk_script.proofs.EventLemmas.{fold-more, events-pulls, pulls-elsewhere, pulls-log, pulls-add_none, pulls-history, latest-moment, RunsTree-pulls, CanHappen-pulls}

@@ -221,11 +221,11 @@ pulls-history setup q d moment t more = by_tree (slice_get setup.trees d) refl t
         ∙ sym (flat_map-append (λ (v : Visit). if asks_queue tree q v then pull_event v.got ∷ [] else []) visits (flat_map (λ pull. pull) ps)))
 
 -- counted moments of two lists, and those of a range that lies above what came before
-counted-append : (before : ℕ) (ms ks : List ℕ) → counted before (ms ++ ks) ≡ counted before ms ++ counted (fold max before ms) ks
+pub counted-append : (before : ℕ) (ms ks : List ℕ) → counted before (ms ++ ks) ≡ counted before ms ++ counted (fold max before ms) ks
 counted-append before [] ks = refl
 counted-append before (m ∷ ms) ks = ap (λ l. max before m ∷ l) (counted-append (max before m) ms ks)
 
-counted-range : (before t n : ℕ) → before ≤ t → counted before (range_with_len t n) ≡ range_with_len t n
+pub counted-range : (before t n : ℕ) → before ≤ t → counted before (range_with_len t n) ≡ range_with_len t n
 counted-range before t zero above = refl
 counted-range before t (suc n) above =
     let greater : max before t ≡ t = omega (arith, above) in

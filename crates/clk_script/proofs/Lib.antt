@@ -19,6 +19,8 @@ pub mod OneMeaning
 pub mod OneDevice
 pub mod OneTree
 pub mod Apart
+pub mod QueueCounts
+pub mod NeverShort
 pub mod PlanLemmas
 pub mod ScriptLemmas
 pub mod RefusalLemmas

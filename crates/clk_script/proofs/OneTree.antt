@@ -14,7 +14,7 @@ use Rattle.clk_tree.specs.Plan.{Planned}
 use Rattle.clk_tree.specs.PlanTree.{is_queue, number_if, scheduler_over, sources_at, sources_of_device, device_count, IsNode, IsRowOf, IsTreeOf}
 use Rattle.clk_tree.specs.PlanParts.{Queued, queues_of, senders_of, number_of, AreRising, SendsWithin}
 use Rattle.clk_tree.specs.Shares.{AreTreesOf, AreSharedOut, all_leaves}
-use Rattle.clk_script.specs.Meaning.{Room, room_of, plan_setup, IsMeaning, MeansOver}
+use Rattle.clk_script.specs.Meaning.{Room, room_of, is_at, plan_setup, IsMeaning, MeansOver}
 use Rattle.clk_script.specs.OneMeaning.{IsWired, IsApart, HasAtMostOneMeaning}
 
 -- a queue is no scheduler
@@ -101,7 +101,7 @@ stands-right q [] ys e = e
 stands-right q (x ∷ xs) ys e = or-later (x == q) (stands_in q (xs ++ ys)) (stands-right q xs ys e)
 
 -- a queue that is at an input of a row is a leaf of it
-queue-stands : (above first next : ℕ) (row : Row) (x input q : ℕ) → queue_in above first next row x input ≡ Some q → stands_in q (leaves row) ≡ true
+pub queue-stands : (above first next : ℕ) (row : Row) (x input q : ℕ) → queue_in above first next row x input ≡ Some q → stands_in q (leaves row) ≡ true
 queue-stands above first next end x input q e = absurd (cc)
 queue-stands above first next (leaf p row) x input q e = by_here ((above == x) && (first == input)) e (queue-stands above (suc first) next row x input q)
   where
@@ -228,3 +228,29 @@ plan-apart plan trees are shared rising paths = record { senders = rising; leave
         → MatchOption o ⊤ (λ tree. IfSome (queue_at tree x input) (λ q. IfSome (slice_get (map room_of (queues_of plan)) q) (λ (room : Room). room.device ≡ d)))
     at_tree d x input None e = tt
     at_tree d x input (Some tree) e = at_leaf d tree (queue_at tree x input) x input e refl
+
+-- the leaves of a device's tree are the queues of that device
+pub leaves-at : (plan : List Planned) (trees : List Tree) → AreTreesOf plan trees → AreSharedOut (queues_of plan) trees → AllByRecursion (λ (q : Queued). q.device < device_count plan) (queues_of plan)
+    → (d : ℕ) (tree : Tree) → slice_get trees d ≡ Some tree → (q : ℕ) → stands_in q (leaves (root tree)) ≡ is_at d (slice_get (map room_of (queues_of plan)) q)
+leaves-at plan trees are shared paths d tree at q = rw (slice_get-map room_of (queues_of plan) q) (by_queue (slice_get (queues_of plan) q) refl (stands_in q (leaves (root tree))) refl)
+  where
+    by_device : (x : Queued) (b : Bool) → slice_get (queues_of plan) q ≡ Some x → (x.device == d) ≡ b → stands_in q (leaves (root tree)) ≡ false → b ≡ false
+    by_device x false is e not_there = refl
+    by_device x true is e not_there =
+        let same : x.device ≡ d = grind (arith, nat_tests) in
+        absurd (false≢true (sym not_there ∙ shared.own q x tree is (ap (slice_get trees) same ∙ at)))
+
+    by_queue : (o : Option Queued) → slice_get (queues_of plan) q ≡ o → (b : Bool) → stands_in q (leaves (root tree)) ≡ b → b ≡ is_at d (option_map room_of o)
+    by_queue None is false e = refl
+    by_queue None is true e =
+        let among : stands_in q (all_leaves trees) ≡ true = stands-among trees d tree q at e in
+        let within : nat_lt q (length (queues_of plan)) ≡ true = sym (shared.all q) ∙ among in
+        let there : IsSome (slice_get (map room_of (queues_of plan)) q) = room-there (queues_of plan) q (grind (arith, nat_tests)) in
+        absurd (false≢true (subst IsSome (slice_get-map room_of (queues_of plan) q ∙ ap (option_map room_of) is) there))
+    by_queue (Some x) is false e = sym (by_device x (x.device == d) is refl e)
+    by_queue (Some x) is true e =
+        let within : x.device < length trees = subst (λ n. x.device < n) (sym are.count) (path-there (device_count plan) (queues_of plan) q x paths is) in
+        let its = tree-there trees x.device within in
+        let same : x.device ≡ d = one-place trees x.device d its.0 tree q shared.once its.1 at (shared.own q x its.0 is its.1) e in
+        let yes : (x.device == d) ≡ true = grind (arith, nat_tests) in
+        sym yes

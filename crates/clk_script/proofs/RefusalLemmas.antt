@@ -1,5 +1,5 @@
 -- How a script's meaning and its faults follow from those of its first bytes.
-use Rattle.std.proofs.Common.{◌+◌, ◌≡◌, ◌≤◌, ◌≢◌, ℕ, ◌==◌, ◌||◌, Bool, true, false, nat_lt, List, [], ◌∷◌, length, take, Option, Some, None, Err, refl, sym, ap, subst, ◌∙◌, ◌⊎◌, inl, inr, IfSome, arith}
+use Rattle.std.proofs.Common.{◌+◌, ◌≡◌, ◌≤◌, ◌≢◌, ℕ, ◌==◌, ◌||◌, Bool, true, false, nat_lt, List, [], ◌∷◌, length, take, Option, Some, None, MatchOption, Err, refl, sym, ap, subst, ◌∙◌, ◌⊎◌, inl, inr, IfSome, arith}
 use Rattle.std.specs.Bool.{⊤}
 use Rattle.std.specs.List.{list_any}
 use Rattle.std.proofs.lemmas.Bool.Decides.{nat_tests}
@@ -16,9 +16,9 @@ use Rattle.clk_script.specs.declared.script.Line.{Line}
 use Rattle.clk_script.specs.declared.script.Line.TheVariants as line
 use Rattle.clk_script.specs.Script.{Names, most_lines, command_fault, line_fault, fault_at, is_drain, first_fault, lines_of, script_fault, commands_of, closing_moment, most_bytes}
 use Rattle.clk_packet.specs.Bytes.{read_failures, write_failures}
-use Rattle.clk_script.specs.Meaning.{Setup, plan_setup, names_of, WritesWith, IsMeaning, MeansWith, MeansOver, MeansOverWith, CannotClose, Explains}
+use Rattle.clk_script.specs.Meaning.{Setup, plan_setup, names_of, WritesWith, IsMeaning, MeansWith, MeansOver, MeansOverWith, Explains}
 use Rattle.clk_script.specs.declared.router.Router.{Router}
-use Rattle.clk_script.specs.Router.{names_in, Starts}
+use Rattle.clk_script.specs.Router.{names_in, Starts, StopsShort}
 use Rattle.clk_script.specs.Rows.{StopsCommands}
 use Rattle.clk_script.proofs.AnswerLemmas.{names-its}
 
@@ -147,14 +147,6 @@ by_kind setup known (BadScript number) kind h = record { explains = h; reads = �
 by_kind setup known (UnknownSender sender) kind h = record { explains = h; reads = λ n. refl; writes = λ n. refl; not_write = λ e. cc }
 by_kind setup known fault kind h = absurd kind
 
--- a drain that stops short is the whole script's
-closes_short : (setup : Setup) (known : Option (List ℕ)) (bytes : List ℕ) (made : ℕ) → IfSome known (λ all. bytes ≡ take (most_bytes + 1) all) → CannotClose setup bytes made
-    → IfSome known (λ all. CannotClose setup all made)
-closes_short setup None bytes made is short = tt
-closes_short setup (Some all) bytes made is short =
-    let sound : script_fault (names_of setup) (take (most_bytes + 1) all) ≡ None = ap (script_fault (names_of setup)) (sym is) ∙ short.sound in
-    subst (λ (script : List ℕ). CannotClose setup script made) (is ∙ whole (names_of setup) all sound) short
-
 -- memory may run out at any growth
 of-memory : (setup : Setup) (known : Option (List ℕ)) (fault : Fault) → fault ≡ Memory → IsRefusal setup known fault
 of-memory setup known fault e = subst (λ (f : Fault). IsRefusal setup known f) (sym e) (record { explains = tt; reads = λ n. refl; writes = λ n. refl; not_write = λ d. cc })
@@ -168,14 +160,11 @@ IsRefusal-read setup router starts known bytes fault is (inr e) =
     let kind : IsOfScript fault = rw here at (of_script (names_of setup) bytes) in
     by_kind setup known fault kind (named (names_of setup) known bytes fault is here)
 
-pub IsRefusal-run : (setup : Setup) (router : Router) → Starts setup router → (known : Option (List ℕ)) (bytes : List ℕ) (fault : Fault) → IfSome known (λ all. bytes ≡ take (most_bytes + 1) all)
-    → script_fault (names_in router) bytes ≡ None → (fault ≡ Memory) ⊎ StopsCommands setup (commands_of bytes) (closing_moment bytes) fault → IsRefusal setup known fault
-IsRefusal-run setup router starts known bytes fault is sound (inl e) = of-memory setup known fault e
-IsRefusal-run setup router starts known bytes (TooManyPulls made) is sound (inr short) =
-    let here : script_fault (names_of setup) bytes ≡ None = subst (λ names. script_fault names bytes ≡ None) (names-its setup [] router starts.leads) sound in
-    let stops : CannotClose setup bytes made = record { sound = here; short = short } in
-    record { explains = closes_short setup known bytes made is stops; reads = λ n. refl; writes = λ n. refl; not_write = λ e. cc }
-IsRefusal-run setup router starts known bytes fault is sound (inr short) = absurd short
+pub IsRefusal-run : (setup : Setup) (known : Option (List ℕ)) (commands : List Command) (drain : Option ℕ) (fault : Fault) → ((made : ℕ) → MatchOption drain ⊥ (StopsShort setup commands made) → ⊥)
+    → (fault ≡ Memory) ⊎ StopsCommands setup commands drain fault → IsRefusal setup known fault
+IsRefusal-run setup known commands drain fault never (inl e) = of-memory setup known fault e
+IsRefusal-run setup known commands drain (TooManyPulls made) never (inr short) = absurd (never made short)
+IsRefusal-run setup known commands drain fault never (inr short) = absurd short
 
 -- the devices of a router are as many as its trees
 pub few-devices : (setup : Setup) (router : Router) (n : ℕ) → Starts setup router → n ≡ length router.devices.items → n ≤ 65535

@@ -6,5 +6,6 @@ pub mod Router
 pub mod Rows
 pub mod Lines
 pub mod OneMeaning
+pub mod Closable
 pub mod OneDevice
 pub mod Examples

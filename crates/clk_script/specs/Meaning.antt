@@ -7,14 +7,13 @@ use Rattle.clk_packet.specs.declared.packet.Offered.{Offered}
 use Rattle.clk_packet.specs.declared.packet.Offered.TheVariants.{Accepted, Refused, Evicted}
 use Rattle.clk_packet.specs.declared.tally.Tally.{Tally}
 use Rattle.clk_packet.specs.declared.fault.Fault.{Fault}
-use Rattle.clk_packet.specs.declared.fault.Fault.TheVariants.{Memory, UnknownSender, BadScript, TooManyPulls, TooLarge, Read, Write}
+use Rattle.clk_packet.specs.declared.fault.Fault.TheVariants.{Memory, UnknownSender, BadScript, TooLarge, Read, Write}
 use Rattle.clk_script.specs.declared.script.Command.{Command}
 use Rattle.clk_script.specs.declared.script.Command.TheVariants.{Send, Pull}
 use Rattle.clk_sched.specs.declared.visit.Visit.{Visit}
 use Rattle.clk_ring.specs.QueueHistory.{QueueEvent, offer_events, pull_event, NamesOffer, IsQueueHistory}
 use Rattle.clk_sched.specs.Tree.{Tree}
 use Rattle.clk_sched.specs.Session.{given_in, LastGives}
-use Rattle.clk_sched.specs.Bound.{closing_bound}
 use Rattle.clk_sched.specs.Log.{visits_of, pulls, moment_of, counted, result_of}
 use Rattle.clk_sched.specs.Run.{IsRun}
 use Rattle.clk_sched.specs.Results.{asks_queue, emitted}
@@ -286,37 +285,8 @@ pub record MeansWith (setup : Setup) (script text : List ℕ) (logs : List (List
   pub sound : script_fault (names_of setup) script ≡ None
   pub written : WritesWith setup (commands_of script) (closing_moment script) text logs
 
--- The closing drain of a device after some events, from a moment on, stops short: it made this many pulls, which are all that it is given,
--- and fewer packets came out than were left.
-pub record DeviceDrainsShort (setup : Setup) (device moment made : ℕ) (events : List Event) : Type 0 where
-  pub tree : Tree
-  pub its : slice_get setup.trees device ≡ Some tree
-  pub closing : List (List Visit)
-  pub can_happen : CanHappen setup (events ++ closing_pulls device moment (events_at setup device events) closing)
-  pub made_are : length closing ≡ made
-  pub bound : made ≡ closing_bound tree (left_after (events_at setup device events))
-  pub fewer : length (given_in closing) < left_after (events_at setup device events)
-
--- The closing drain after some events stops short: that of a device does, after those before it were closed.
-pub record DrainsShort (setup : Setup) (moment made : ℕ) (events : List Event) : Type 0 where
-  pub device : ℕ
-  pub before : List Event
-  pub closes : CloseFirst setup moment device events before
-  pub short : DeviceDrainsShort setup device moment made (events ++ before)
-
--- The closing drain after some commands stops short.
-pub record StopsShort (setup : Setup) (commands : List Command) (made moment : ℕ) : Type 0 where
-  pub events : List Event
-  pub theirs : map command_of events ≡ commands
-  pub short : DrainsShort setup moment made events
-
--- Nothing is wrong with the script, but its drain stops short after this many pulls.
-pub record CannotClose (setup : Setup) (script : List ℕ) (made : ℕ) : Type 0 where
-  pub sound : script_fault (names_of setup) script ≡ None
-  pub short : MatchOption (closing_moment script) ⊥ (StopsShort setup (commands_of script) made)
-
 -- Why running a script is refused with a fault: memory may run out at any growth, the reader and the writer may fail, and
--- otherwise it is what is wrong with the script, or that its drain stops short, where its bytes are known.
+-- otherwise it is what is wrong with the script, where its bytes are known. Its drain never stops short.
 abbrev pub Explains : Setup → Option (List ℕ) → Fault → Type 0
 Explains setup script Memory = ⊤
 Explains setup script Read = ⊤
@@ -324,7 +294,6 @@ Explains setup script Write = ⊤
 Explains setup script TooLarge = IfSome script (λ bytes. script_fault (names_of setup) bytes ≡ Some TooLarge)
 Explains setup script (BadScript line) = IfSome script (λ bytes. script_fault (names_of setup) bytes ≡ Some (BadScript line))
 Explains setup script (UnknownSender sender) = IfSome script (λ bytes. script_fault (names_of setup) bytes ≡ Some (UnknownSender sender))
-Explains setup script (TooManyPulls made) = IfSome script (λ bytes. CannotClose setup bytes made)
 Explains setup script fault = ⊥
 
 -- The text is the meaning of the script over a plan: it is its meaning over the setup that the plan is, with its trees.

@@ -21,8 +21,8 @@ use Rattle.clk_script.specs.declared.answer.Answer.{Answer}
 use Rattle.clk_script.specs.declared.past.Past.{Past}
 use Rattle.clk_script.specs.declared.router.Router.{Router}
 use Rattle.clk_script.specs.Script.{Names, command_in, commands_of, closing_moment, most_lines, most_moment}
-use Rattle.clk_script.specs.Meaning.{Setup, has_several, Event, offered, pulled, command_of, offer_text, pull_text, given_text, closing_text, DrainsShort, StopsShort}
-use Rattle.clk_script.specs.Router.{IsAt, IsSound, device_log, LeadsOnByClosing}
+use Rattle.clk_script.specs.Meaning.{Setup, has_several, Event, offered, pulled, command_of, offer_text, pull_text, given_text, closing_text}
+use Rattle.clk_script.specs.Router.{IsAt, IsSound, device_log, LeadsOnByClosing, DrainsShort, StopsShort}
 
 -- what is kept of a command that is to be carried out, of an offer, and of a pull
 abbrev pub row_asked : Command → Row

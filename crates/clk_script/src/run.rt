@@ -10,6 +10,7 @@ ghost use Rattle.clk_tree.specs.PlanParts.{queued, HasCapacity};
 ghost use Rattle.clk_tree.specs.Shares.{AreTreesOf};
 ghost use Rattle.clk_report.specs.Devices.{lists_of};
 ghost use Rattle.clk_script.specs.Router.{CanStand, IsWhole};
+ghost use Rattle.clk_script.specs.Closable.{IsClosable};
 ghost use Rattle.clk_script.specs.Script.{most_bytes};
 ghost use Rattle.clk_script.specs.Meaning.{IsMeaning, MeansWith, Explains, setup_of, MeansOver, MeansOverWith, ExplainsPlan};
 
@@ -20,7 +21,7 @@ use crate::router::Router;
 use crate::script::MAX_BYTES;
 use crate::writing::write_answer;
 use clk_packet::{Fault, Sink, Source, let_go, read_up_to};
-use clk_sched::{Tree, Visit};
+use clk_sched::{Tree, Visit, closing_bound_is_enough, runs_conserve_packets, runs_go_on};
 use clk_tree::{Plan, QueueSpec, SenderSpec};
 use std::alloc::Global;
 
@@ -73,6 +74,8 @@ pub fn run_script_logged<R: Source, W: Sink>(
     ensures write_failures { W.Sink.failures writer.new ≡ write_failures result (W.Sink.failures writer.old) }
     ensures limit { Takes (most_bytes + 1) (R.Source.remaining reader.old) (R.Source.remaining reader.new) }
 {
+    // Its trees share out its queues, by this law.
+    plan.trees_share_queues();
     let trees = trees_of(alloc, plan)?;
     let past = run_parts(alloc, reader, writer, trees, plan.queues(), plan.senders())?;
     Ok(past.logs)
@@ -88,7 +91,10 @@ fn trees_of(alloc: Global, plan: &Plan) -> Result<Vec<Tree>, Fault>
 {
     let mut trees = Vec::new(alloc);
     for device in 0..plan.devices() {
-        trees.push(plan.tree(alloc, device)?)?;
+        let tree = plan.tree(alloc, device)?;
+        // A law, which does nothing.
+        tree.schedulers_are_sound();
+        trees.push(tree)?;
     }
     Ok(trees)
 }
@@ -105,6 +111,7 @@ fn run_parts<R: Source, W: Sink>(
     requires trees { AllByRecursion CanStand trees.items }
     requires capacities { AllByRecursion HasCapacity (map queued queues.now) }
     requires whole { IsWhole (setup_of trees.items (map queued queues.now) senders.now) }
+    requires closable { IsClosable (setup_of trees.items (map queued queues.now) senders.now) }
     ensures written { IfOk result (λ past. IfSome (R.Source.remaining reader.old) (λ script.
         (text : _) × MeansWith (setup_of trees.items (map queued queues.now) senders.now) script text (lists_of past.logs.items) × Appends (W.Sink.taken writer.old) (W.Sink.taken writer.new) text)) }
     ensures front { IsErrOf result Fault.Write → IfSome (R.Source.remaining reader.old) (λ script.
@@ -115,6 +122,10 @@ fn run_parts<R: Source, W: Sink>(
     ensures write_failures { W.Sink.failures writer.new ≡ write_failures result (W.Sink.failures writer.old) }
     ensures limit { Takes (most_bytes + 1) (R.Source.remaining reader.old) (R.Source.remaining reader.new) }
 {
+    // That its closing never stops short is by these laws, which do nothing.
+    closing_bound_is_enough();
+    runs_go_on();
+    runs_conserve_packets();
     let router = Router::new(alloc, trees, queues, senders)?;
     let text = read_up_to(alloc, reader, MAX_BYTES + 1)?;
     let script = read_script(alloc, &router.tallies, router.devices.len(), &text)?;

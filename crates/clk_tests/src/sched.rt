@@ -1,6 +1,7 @@
 //! Trees of schedulers: their limits, and worked rows of a session, each a tree, the steps that are taken with it, and the text that
 //! they show.
 
+mod closing;
 mod constructors;
 mod limits;
 mod memory;

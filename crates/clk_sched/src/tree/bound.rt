@@ -1,7 +1,7 @@
 //! How many pulls the closing of a tree is given.
 
 ghost use Rattle.std.specs.Prelude.{◌≡◌, ◌+◌, ◌*◌, ◌≤◌, ℕ, drop};
-ghost use Rattle.clk_sched.specs.Tree.{root};
+ghost use Rattle.clk_sched.specs.Tree.{root, IsSound};
 ghost use Rattle.clk_sched.specs.Built.{row};
 ghost use Rattle.clk_sched.specs.Bound.{lesser, least, least_quantum};
 
@@ -14,6 +14,14 @@ impl Tree {
     ghost use Rattle.clk_sched.specs.Limits.{most_levels};
     ghost use Rattle.clk_sched.specs.Bound.{rounds, closing_bound};
     ghost use Rattle.clk_packet.specs.Limits.{most_length};
+
+    /// A law: each scheduler of a tree has an input at least, and arguments within their limits.
+    pub fn schedulers_are_sound(&self)
+        ensures { IsSound (root self.now) }
+    {
+        // That the tree is well formed is known where a field is read.
+        let _ = &self.node;
+    }
 
     /// How many pulls the closing gives for each packet that is left.
     pub(crate) fn pulls_per_packet(&self) -> u64

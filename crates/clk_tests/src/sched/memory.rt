@@ -70,9 +70,11 @@ struct Stock {
 }
 
 impl Ask for Stock {
-    ghost use Rattle.std.specs.Prelude.{true};
+    ghost use Rattle.std.specs.Prelude.{true, []};
 
     ghost has = { λ s leaf. true };
+
+    ghost holds = { λ s leaf. [] };
 
     ghost gives = { λ s leaf got t. Unit };
 

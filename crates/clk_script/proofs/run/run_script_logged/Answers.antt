@@ -1,9 +1,11 @@
-use Rattle.std.proofs.Common.{map, ap₂}
+use Rattle.std.proofs.Common.{map, sym, ap₂, subst}
 use Rattle.std.specs.Io.KnownBytes.{Appends}
-use Rattle.clk_tree.specs.PlanParts.{queued}
+use Rattle.clk_tree.specs.PlanParts.{queued, number_of, AreRising}
 use Rattle.clk_report.specs.Devices.{lists_of}
 use Rattle.clk_script.specs.Meaning.{setup_of}
+use Rattle.clk_script.specs.Closable.{IsClosable}
 use Rattle.clk_script.proofs.PlanLemmas.{plan-whole}
+use Rattle.clk_script.proofs.NeverShort.{plan-closable}
 use Rattle.clk_script.proofs.RefusalLemmas.{meaning-over}
 use Rattle.clk_script.proofs.run.run_script_logged.Goals as goal
 
@@ -11,6 +13,14 @@ pub run_parts-requires-clause-whole : goal.run_parts-requires-clause-whole
 run_parts-requires-clause-whole g c =
     plan-whole c.args.plan.now c.in_ok-trees.trees.items (map queued c.queues.result.now) c.senders.result.now c.in_ok-trees.ensures.trees c.in_ok-trees.ensures.some c.in_ok-trees.ensures.few c.queues.ensures.queues c.senders.ensures.rising
     c.senders.ensures.wired c.queues.ensures.devices
+
+pub run_parts-requires-clause-closable : goal.run_parts-requires-clause-closable
+run_parts-requires-clause-closable g c =
+    let plan = c.args.plan.now in
+    let trees = c.in_ok-trees.trees.items in
+    let rising = subst (λ senders. AreRising (map number_of senders)) c.senders.ensures.senders c.senders.ensures.rising in
+    subst IsClosable (sym (ap₂ (setup_of trees) c.queues.ensures.queues c.senders.ensures.senders))
+    (plan-closable plan trees c.in_ok-trees.ensures.trees (c.trees_share_queues.ensures trees c.in_ok-trees.ensures.trees) rising c.queues.ensures.devices c.in_ok-trees.ensures.each)
 
 pub returns-clause-written : goal.returns-clause-written
 returns-clause-written g c =

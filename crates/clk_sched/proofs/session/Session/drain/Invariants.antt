@@ -1,9 +1,11 @@
 use Rattle.std.proofs.Common.{◌-◌, ◌≤◌}
-use Rattle.clk_sched.proofs.SessionDrain.{IsDraining}
+use Rattle.clk_sched.proofs.SessionDrain.{IsDraining, Empties}
 use Rattle.clk_sched.proofs.session.Session.drain.Given as goal
 
 abbrev pub invariant-loop-given : goal.invariant-loop-given
-invariant-loop-given g l = (l.made ≤ l.bound) × IsDraining g.Q.Ask.gives l.initial.self l.self l.initial.q l.q l.start l.made l.given l.left
+invariant-loop-given g l =
+    (l.made ≤ l.bound) × IsDraining g.Q.Ask.gives l.initial.self l.self l.initial.q l.q l.start l.made l.given l.left
+    × Empties g.Q.Ask.gives g.Q.Ask.holds l.initial.self l.self l.initial.q l.q l.made l.given l.left
 
 abbrev pub decreases-loop-given : goal.decreases-loop-given
 decreases-loop-given g l = l.bound - l.made

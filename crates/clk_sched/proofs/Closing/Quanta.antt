@@ -1,0 +1,67 @@
+-- The rounds of the closing bound are enough for each quantum in a tree.
+use Rattle.std.proofs.Common.{◌≡◌, ℕ, ◌+◌, ◌*◌, ◌-◌, ◌/◌, ◌<◌, ◌≤◌, List, [], ◌∷◌, Option, Some, None, refl, ap, ◌∙◌, mul-add, add-mul, arith}
+use Rattle.std.specs.List.{AllByRecursion}
+use Rattle.std.proofs.Math.Nat.{lt-mul-div-succ}
+use Rattle.clk_sched.specs.Tree.{Class, prio, round_robin, drr, stride, shaper, Row, end, leaf, node, IsSound}
+use Rattle.clk_sched.specs.Bound.{lesser, least, quanta_of, least_quantum, rounds}
+use Rattle.clk_sched.proofs.Members.{all-weaker}
+use Rattle.clk_sched.proofs.TreeBound.{IsPositive, positive-row}
+use Rattle.clk_sched.proofs.Closing.Rows.{AreEnough, EachIsEnough}
+
+-- a number that is no less than one, which is there
+abbrev AtLeast : Option ℕ → ℕ → Type 0
+AtLeast None n = ⊥
+AtLeast (Some least) n = least ≤ n
+
+lesser-left : (a b : Option ℕ) (n : ℕ) → AtLeast a n → AtLeast (lesser a b) n
+lesser-left None b n h = absurd h
+lesser-left (Some a) None n h = h
+lesser-left (Some a) (Some b) n h = omega (arith, h)
+
+lesser-right : (a b : Option ℕ) (n : ℕ) → AtLeast b n → AtLeast (lesser a b) n
+lesser-right None b n h = h
+lesser-right (Some a) None n h = absurd h
+lesser-right (Some a) (Some b) n h = omega (arith, h)
+
+least-at_least : (ns : List ℕ) → AllByRecursion (AtLeast (least ns)) ns
+least-at_least [] = tt
+least-at_least (n ∷ ns) =
+    (lesser-left (Some n) (least ns) n (omega arith), all-weaker (AtLeast (least ns)) (AtLeast (lesser (Some n) (least ns))) ns (λ m h. lesser-right (Some n) (least ns) m h) (least-at_least ns))
+
+-- the rounds of the closing bound but one
+abbrev pub rounds_less : Option ℕ → ℕ
+rounds_less None = 0
+rounds_less (Some quantum) = (65535 + (quantum - 1)) / quantum
+
+pub rounds-more : (o : Option ℕ) → rounds o ≡ rounds_less o + 1
+rounds-more None = refl
+rounds-more (Some quantum) = omega arith
+
+enough-least : (o : Option ℕ) (n : ℕ) → IsPositive o → AtLeast o n → 65535 ≤ n * rounds_less o
+enough-least None n some h = absurd h
+enough-least (Some least) n some h =
+    let k : ℕ = (65535 + (least - 1)) / least in
+    let past : 65535 + (least - 1) < least * (k + 1) = lt-mul-div-succ (65535 + (least - 1)) (let s : 0 < least = omega (arith, some) in s) in
+    let whole = mul-add least k 1 in
+    let is : n ≡ least + (n - least) = omega (arith, h) in
+    let more = ap (λ m. m * k) is ∙ add-mul least (n - least) k in
+    omega (arith, past, whole, more, some)
+
+class-enough : (class : Class) (o : Option ℕ) → IsPositive o → ((n : ℕ) → AtLeast (least (quanta_of class)) n → AtLeast o n) → AreEnough (rounds_less o) class
+class-enough prio o some h = tt
+class-enough round_robin o some h = tt
+class-enough (drr quanta) o some h = all-weaker (AtLeast (least quanta)) (λ n. 65535 ≤ n * rounds_less o) quanta (λ n l. enough-least o n some (h n l)) (least-at_least quanta)
+class-enough (stride tickets) o some h = tt
+class-enough (shaper rate burst) o some h = tt
+
+row-enough : (row : Row) (o : Option ℕ) → IsPositive o → ((n : ℕ) → AtLeast (least_quantum row) n → AtLeast o n) → EachIsEnough (rounds_less o) row
+row-enough end o some h = tt
+row-enough (leaf q row) o some h = row-enough row o some h
+row-enough (node class inputs row) o some h = (
+  class-enough class o some (λ n l. h n (lesser-left (least (quanta_of class)) (lesser (least_quantum inputs) (least_quantum row)) n l)),
+  row-enough inputs o some (λ n l. h n (lesser-right (least (quanta_of class)) (lesser (least_quantum inputs) (least_quantum row)) n (lesser-left (least_quantum inputs) (least_quantum row) n l))),
+  row-enough row o some (λ n l. h n (lesser-right (least (quanta_of class)) (lesser (least_quantum inputs) (least_quantum row)) n (lesser-right (least_quantum inputs) (least_quantum row) n l))),
+)
+
+pub each-enough : (row : Row) → IsSound row → EachIsEnough (rounds_less (least_quantum row)) row
+each-enough row sound = row-enough row (least_quantum row) (positive-row row sound) (λ n l. l)

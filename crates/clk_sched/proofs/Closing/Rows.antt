@@ -1,0 +1,263 @@
+-- What is left in the rows of a tree, and what it may cost yet; and what one more pull does to both.
+use Rattle.std.proofs.Common.{◌≡◌, ℕ, zero, suc, ◌+◌, ◌*◌, ◌<◌, ◌≤◌, ◌==◌, Bool, true, false, List, [], ◌∷◌, ◌++◌, length, map, filter, reverse, Option, None, refl, sym, ap, ◌∙◌, subst, arith}
+use Rattle.std.specs.List.{AllByRecursion, list_any}
+use Rattle.std.specs.Bool.{⊤}
+use Rattle.std.proofs.lemmas.Bool.{false≢true}
+use Rattle.std.proofs.lemmas.List.{reverse-append}
+use Rattle.std.proofs.lemmas.List.Elements.{filter-append}
+use Rattle.clk_packet.specs.declared.packet.Packet.{Packet}
+use Rattle.clk_sched.specs.declared.visit.Visit.{Visit}
+use Rattle.clk_sched.specs.Tree.{Class, prio, round_robin, drr, stride, shaper, Row, end, leaf, node, width, nodes, HasArguments, IsSound}
+use Rattle.clk_sched.specs.Turns.{Turn, EachAfter, all_visits, visits_before}
+use Rattle.clk_sched.specs.Heads.{LooksAtHeads}
+use Rattle.clk_sched.specs.Log.{visits_of, moment_of, turn, asks, pulls_below, result_of}
+use Rattle.clk_sched.specs.Laws.{AllowsTurn, Obeys}
+use Rattle.clk_sched.specs.Laws.Deficit.{next_input, quantum_at, deficit_covers}
+use Rattle.clk_sched.specs.Run.{EachObeys}
+use Rattle.clk_sched.specs.Step.{EachAllows}
+use Rattle.clk_sched.specs.Closing.{GivesOut}
+use Rattle.clk_sched.proofs.Members.{all-filter}
+use Rattle.clk_sched.proofs.Allowed.{onto, onto-append, onto-reverse, each-follows, turns-look}
+use Rattle.clk_sched.proofs.Blocks.{Owns, owns-after_leaf, owns-after_node, owns-self, owns-inputs}
+use Rattle.clk_sched.proofs.Pulled.{IsPulledIn, pulled-after_leaf, pulled-after_node, pulled-inputs, turns-visits, copies-unasked}
+use Rattle.clk_sched.proofs.GoesOn.{filter-reverse, map-reverse}
+use Rattle.clk_sched.proofs.DeficitShares.{IsCovered, covers-all}
+use Rattle.clk_sched.proofs.Closing.Turned.{IsTurn, is-turn, MayAsk, all-visited}
+use Rattle.clk_sched.proofs.Closing.Room.{EachBefore, each-before, may-ask}
+use Rattle.clk_sched.proofs.Closing.Costs.{CostsAt, KeepsDeficits, TurnLaw, onto-joined}
+
+-- the visits of a node, the latest first
+abbrev pub latest : List Visit → ℕ → List Visit
+latest log x = reverse (visits_of x log)
+
+pub latest-more : (log pull : List Visit) (x : ℕ) → latest (log ++ pull) x ≡ onto (visits_of x pull) (latest log x)
+latest-more log pull x = ap reverse (filter-append (λ (v : Visit). v.node == x) log pull) ∙ reverse-append (visits_of x log) (visits_of x pull) ∙ sym (onto-append (visits_of x pull) (latest log x))
+
+-- what is left somewhere, and its work
+pub record Amount : Type 0 where
+  pub left : ℕ
+  pub work : ℕ
+
+-- a sum of what is at one input and at those after it
+pub record IsSum (left work : ℕ) : Type 0 where
+  pub here : Amount
+  pub rest : Amount
+  pub left_is : left ≡ here.left + rest.left
+  pub work_is : work ≡ here.work + rest.work
+
+abbrev pub sum_of : (here rest : Amount) → IsSum (here.left + rest.left) (here.work + rest.work)
+sum_of here rest = record { here = here; rest = rest; left_is = refl; work_is = refl }
+
+-- What is left in a row, and its work, where queues hold so many packets: the sum over its inputs. It stands at the inputs of node `above`,
+-- of this class, from `first` on, and its schedulers are numbered from `next` on.
+abbrev pub Costs : (k : ℕ) → (ℕ → List Packet) → List Visit → Class → (above first next : ℕ) → Row → ℕ → ℕ → Type 0
+Costs k held log class above first next end left work = (left ≡ 0) × (work ≡ 0)
+Costs k held log class above first next (leaf q row) left work =
+    (s : IsSum left work) × CostsAt k class (latest log above) first (length (held q)) 0 s.here.left s.here.work × Costs k held log class above (suc first) next row s.rest.left s.rest.work
+Costs k held log class above first next (node c inputs row) left work =
+    (s : IsSum left work) × (below : Amount) × Costs k held log c next 0 (suc next) inputs below.left below.work × CostsAt k class (latest log above) first below.left below.work s.here.left s.here.work
+    × Costs k held log class above (suc first) (suc (next + nodes inputs)) row s.rest.left s.rest.work
+
+-- what the queues in a row answered in a pull, where it stands
+abbrev pub answers_at : ℕ → ℕ → List Visit → List (Option Packet)
+answers_at above first pull = map (λ (v : Visit). v.got) (filter (asks first) (visits_of above pull))
+
+abbrev pub EachGives : (old new : ℕ → List Packet) → List Visit → (above first next : ℕ) → Row → Type 0
+EachGives old new pull above first next end = ⊤
+EachGives old new pull above first next (leaf q row) = GivesOut (old q) (answers_at above first pull) (new q) × EachGives old new pull above (suc first) next row
+EachGives old new pull above first next (node c inputs row) = EachGives old new pull next 0 (suc next) inputs × EachGives old new pull above (suc first) (suc (next + nodes inputs)) row
+
+-- each quantum is enough for the longest packet in k arrivals
+abbrev pub AreEnough : ℕ → Class → Type 0
+AreEnough k (drr quanta) = AllByRecursion (λ n. 65535 ≤ n * k) quanta
+AreEnough k class = ⊤
+
+abbrev pub EachIsEnough : ℕ → Row → Type 0
+EachIsEnough k end = ⊤
+EachIsEnough k (leaf q row) = EachIsEnough k row
+EachIsEnough k (node class inputs row) = AreEnough k class × EachIsEnough k inputs × EachIsEnough k row
+
+-- A row stands in a run, after which comes one more pull, later than those before.
+pub record IsPulledMore (k : ℕ) (old new : ℕ → List Packet) (log pull : List Visit) (above first next : ℕ) (row : Row) (pulled : List (List Visit)) : Type 0 where
+  pub inside : IsPulledIn log above first next row pulled
+  pub obeys : EachObeys above pulled first next row
+  pub allows : EachAllows above first next row (reverse pulled) pull
+  pub owns : (y : ℕ) → next ≤ y → y < next + nodes row → Owns y pull above first next row
+  pub sound : IsSound row
+  pub enough : EachIsEnough k row
+  pub later : AllByRecursion (λ p. moment_of p < moment_of pull) pulled
+  pub gives : EachGives old new pull above first next row
+
+pub more-after_leaf : (k : ℕ) (old new : ℕ → List Packet) (log pull : List Visit) (above first next q : ℕ) (row : Row) (pulled : List (List Visit)) → IsPulledMore k old new log pull above first next (leaf q row) pulled
+    → IsPulledMore k old new log pull above (suc first) next row pulled
+more-after_leaf k old new log pull above first next q row pulled h =
+    record {
+      inside = pulled-after_leaf log above first next q row pulled h.inside;
+      obeys = h.obeys;
+      allows = h.allows;
+      owns = λ y l m. owns-after_leaf y pull above first next q row (h.owns y l m);
+      sound = h.sound;
+      enough = h.enough;
+      later = h.later;
+      gives = h.gives.1;
+    }
+
+pub more-after_node : (k : ℕ) (old new : ℕ → List Packet) (log pull : List Visit) (above first next : ℕ) (class : Class) (inputs row : Row) (pulled : List (List Visit))
+    → IsPulledMore k old new log pull above first next (node class inputs row) pulled → IsPulledMore k old new log pull above (suc first) (suc (next + nodes inputs)) row pulled
+more-after_node k old new log pull above first next class inputs row pulled h =
+    record {
+      inside = pulled-after_node log above first next class inputs row pulled h.inside;
+      obeys = h.obeys.3;
+      allows = h.allows.2;
+      owns = λ y l m. owns-after_node y pull above first next class inputs row l (h.owns y (omega arith) (omega arith));
+      sound = h.sound.3;
+      enough = h.enough.2;
+      later = h.later;
+      gives = h.gives.1;
+    }
+
+-- a scheduler that isn't asked has no visits
+pub unasked-none : (k : ℕ) (old new : ℕ → List Packet) (log pull : List Visit) (above first next : ℕ) (class : Class) (inputs row : Row) (pulled : List (List Visit))
+    → IsPulledMore k old new log pull above first next (node class inputs row) pulled → list_any (asks first) (visits_of above pull) ≡ false → visits_of next pull ≡ []
+unasked-none k old new log pull above first next class inputs row pulled h e =
+    owns-self pull above first next class inputs row (h.owns next (omega arith) (omega arith)) ∙ copies-unasked (asks first) (visits_of next pull) (visits_of above pull) e
+
+none-allows : (above first next : ℕ) (row : Row) (earlier : List (List Visit)) (pull : List Visit) → visits_of above pull ≡ [] → EachAllows above first next row earlier pull
+none-allows above first next end earlier pull e = tt
+none-allows above first next (leaf q row) earlier pull e = none-allows above (suc first) next row earlier pull e
+none-allows above first next (node class inputs row) earlier pull e = (
+  (λ asked. absurd (false≢true (sym (ap (list_any (asks first)) e) ∙ asked))),
+  subst (λ vs. AllByRecursion (λ (v : Visit). v.got ≡ result_of (visits_of next pull)) (filter (asks first) vs)) (sym e) tt,
+  none-allows above (suc first) (suc (next + nodes inputs)) row earlier pull e,
+)
+
+pub more-inputs : (k : ℕ) (old new : ℕ → List Packet) (log pull : List Visit) (above first next : ℕ) (class : Class) (inputs row : Row) (pulled : List (List Visit))
+    → IsPulledMore k old new log pull above first next (node class inputs row) pulled → IsPulledMore k old new log pull next 0 (suc next) inputs (pulls_below above first pulled)
+more-inputs k old new log pull above first next class inputs row pulled h =
+    record {
+      inside = pulled-inputs log above first next class inputs row pulled h.inside;
+      obeys = h.obeys.2;
+      allows = by_asked (list_any (asks first) (visits_of above pull)) refl;
+      owns = λ y l m. owns-inputs y pull above first next class inputs row l (omega arith) (h.owns next (omega arith) (omega arith)) (h.owns y (omega arith) (omega arith));
+      sound = h.sound.2;
+      enough = h.enough.1;
+      later = all-filter (λ p. moment_of p < moment_of pull) (λ p. list_any (asks first) (visits_of above p)) pulled h.later;
+      gives = h.gives.0;
+    }
+  where
+    by_asked : (b : Bool) → list_any (asks first) (visits_of above pull) ≡ b → EachAllows next 0 (suc next) inputs (reverse (pulls_below above first pulled)) pull
+    by_asked true e =
+        subst (λ ps. EachAllows next 0 (suc next) inputs ps pull) (filter-reverse (λ p. list_any (asks first) (visits_of above p)) pulled) (h.allows.0 e).1
+    by_asked false e = none-allows next 0 (suc next) inputs (reverse (pulls_below above first pulled)) pull (unasked-none k old new log pull above first next class inputs row pulled h e)
+
+-- A scheduler's visits in one more pull, after those before.
+pub record IsTurnMore (k w : ℕ) (class : Class) (earlier visits : List Visit) (asked : Bool) : Type 0 where
+  pub law : TurnLaw k w class earlier visits
+  pub is_turn : IsTurn w visits
+  pub all : asked ≡ true → result_of visits ≡ None → length visits ≡ w
+
+pub enough-at : (k i : ℕ) (quanta : List ℕ) → AllByRecursion (λ n. 65535 ≤ n * k) quanta → i < length quanta → 65535 ≤ quantum_at quanta i * k
+enough-at k i [] h l = absurd (omega arith)
+enough-at k zero (n ∷ quanta) h l = h.0
+enough-at k (suc i) (n ∷ quanta) h l = enough-at k i quanta h.1 (omega arith)
+
+all-onto : {X : Type 0} (P : X → Type 0) (xs earlier : List X) → AllByRecursion P xs → AllByRecursion P earlier → AllByRecursion P (onto xs earlier)
+all-onto P [] earlier h k = k
+all-onto P (x ∷ xs) earlier h k = all-onto P xs (x ∷ earlier) h.1 (h.0, k)
+
+visits-before_onto : (ts earlier : List Turn) → visits_before (onto ts earlier) ≡ onto (all_visits ts) (visits_before earlier)
+visits-before_onto [] earlier = refl
+visits-before_onto (t ∷ ts) earlier =
+    visits-before_onto ts (t ∷ earlier) ∙ ap (onto (all_visits ts)) (sym (onto-append t.visits (visits_before earlier))) ∙ sym (onto-joined t.visits (all_visits ts) (visits_before earlier))
+
+-- the turns before, and the visits in them
+record AreTurnsBefore (class : Class) (w x : ℕ) (log : List Visit) (moment : ℕ) (turns : List Turn) : Type 0 where
+  obeys : Obeys class w turns
+  visits : onto (all_visits turns) [] ≡ latest log x
+  later : AllByRecursion (λ (t : Turn). t.moment < moment) turns
+
+deficits-keep : (k w x : ℕ) (quanta : List ℕ) (log visits : List Visit) (moment : ℕ) (turns : List Turn) → AreTurnsBefore (drr quanta) w x log moment turns → AreEnough k (drr quanta) → length quanta ≡ w
+    → EachAfter (LooksAtHeads (next_input w) (deficit_covers quanta)) (latest log x) visits → KeepsDeficits k w quanta (latest log x) visits
+deficits-keep k w x quanta log visits moment turns before enough width looks =
+    record {
+      looks = looks;
+      covered = subst (IsCovered quanta) before.visits
+          (covers-all quanta w [] (all_visits turns) (turns-look (next_input w) (deficit_covers quanta) w [] turns (each-follows (drr quanta) w turns before.obeys)) (λ i. (omega arith, omega arith)));
+      enough = λ i l. enough-at k i quanta enough (omega (arith, width, l));
+    }
+
+-- of a scheduler that was asked
+turn-asked : (k w x : ℕ) (class : Class) (log pull : List Visit) (turns : List Turn) → AreTurnsBefore class w x log (moment_of pull) turns → 1 ≤ w → HasArguments class w → AreEnough k class
+    → AllowsTurn class w (reverse turns) (turn x pull) → IsTurnMore k w class (latest log x) (visits_of x pull) true
+turn-asked k w x class log pull turns before some args enough allows =
+    record {
+      law = law class before args enough allows;
+      is_turn = is-turn class w (reverse turns) (turn x pull) some args allows;
+      all = λ _ none. all-visited class w (reverse turns) (turn x pull) args may allows none;
+    }
+  where
+    back : onto turns [] ≡ reverse turns
+    back = onto-reverse turns
+
+    may : MayAsk class (reverse turns) (moment_of pull)
+    may =
+        may-ask class w (moment_of pull) (reverse turns) args (subst (EachBefore (AllowsTurn class w)) back (each-before (AllowsTurn class w) [] turns before.obeys tt))
+        (subst (AllByRecursion (λ (t : Turn). t.moment < moment_of pull)) back (all-onto (λ (t : Turn). t.moment < moment_of pull) turns [] before.later tt))
+
+    seen : visits_before (reverse turns) ≡ latest log x
+    seen = ap visits_before (sym back) ∙ visits-before_onto turns [] ∙ before.visits
+
+    law : (c : Class) → AreTurnsBefore c w x log (moment_of pull) turns → HasArguments c w → AreEnough k c → AllowsTurn c w (reverse turns) (turn x pull) → TurnLaw k w c (latest log x) (visits_of x pull)
+    law prio b a e h = h.follows.plain
+    law round_robin b a e h = h.follows.plain
+    law (drr quanta) b a e h =
+        deficits-keep k w x quanta log (visits_of x pull) (moment_of pull) turns b e a.0
+        (subst (λ l. EachAfter (LooksAtHeads (next_input w) (deficit_covers quanta)) l (visits_of x pull)) seen h.follows.0)
+    law (stride tickets) b a e h = h.follows.plain
+    law (shaper rate burst) b a e h = h.follows.plain
+
+-- of one that wasn't
+turn-unasked : (k w x : ℕ) (class : Class) (log visits : List Visit) (moment : ℕ) (turns : List Turn) → AreTurnsBefore class w x log moment turns → HasArguments class w → AreEnough k class → visits ≡ []
+    → IsTurnMore k w class (latest log x) visits false
+turn-unasked k w x class log visits moment turns before args enough none =
+    subst (λ vs. IsTurnMore k w class (latest log x) vs false) (sym none)
+    (record { law = law class before args enough; is_turn = record { within = tt; apart = tt; passed = refl }; all = λ e _. absurd (false≢true e) })
+  where
+    law : (c : Class) → AreTurnsBefore c w x log moment turns → HasArguments c w → AreEnough k c → TurnLaw k w c (latest log x) []
+    law prio b a e = tt
+    law round_robin b a e = tt
+    law (drr quanta) b a e = deficits-keep k w x quanta log [] moment turns b e a.0 tt
+    law (stride tickets) b a e = tt
+    law (shaper rate burst) b a e = tt
+
+pub turn-more : (k : ℕ) (old new : ℕ → List Packet) (log pull : List Visit) (above first next : ℕ) (class : Class) (inputs row : Row) (pulled : List (List Visit))
+    → IsPulledMore k old new log pull above first next (node class inputs row) pulled
+    → IsTurnMore k (width inputs) class (latest log next) (visits_of next pull) (list_any (asks first) (visits_of above pull))
+turn-more k old new log pull above first next class inputs row pulled h = by_asked (list_any (asks first) (visits_of above pull)) refl
+  where
+    asked : List Visit → Bool
+    asked p = list_any (asks first) (visits_of above p)
+
+    turns : List Turn
+    turns = map (turn next) (pulls_below above first pulled)
+
+    turned : (ps : List (List Visit)) → AllByRecursion (λ p. moment_of p < moment_of pull) ps → AllByRecursion (λ (t : Turn). t.moment < moment_of pull) (map (turn next) ps)
+    turned [] l = tt
+    turned (p ∷ ps) l = (l.0, turned ps l.1)
+
+    before : AreTurnsBefore class (width inputs) next log (moment_of pull) turns
+    before =
+        record {
+          obeys = h.obeys.0;
+          visits = onto-reverse (all_visits turns) ∙ ap reverse (turns-visits log above first next class inputs row pulled h.inside);
+          later = turned (pulls_below above first pulled) (all-filter (λ p. moment_of p < moment_of pull) asked pulled h.later);
+        }
+
+    back : map (turn next) (pulls_below above first (reverse pulled)) ≡ reverse turns
+    back = ap (map (turn next)) (filter-reverse asked pulled) ∙ map-reverse (turn next) (pulls_below above first pulled)
+
+    by_asked : (b : Bool) → asked pull ≡ b → IsTurnMore k (width inputs) class (latest log next) (visits_of next pull) b
+    by_asked true e =
+        turn-asked k (width inputs) next class log pull turns before h.sound.0 h.sound.1 h.enough.0 (subst (λ ts. AllowsTurn class (width inputs) ts (turn next pull)) back (h.allows.0 e).0)
+    by_asked false e =
+        turn-unasked k (width inputs) next class log (visits_of next pull) (moment_of pull) turns before h.sound.1 h.enough.0 (unasked-none k old new log pull above first next class inputs row pulled h e)

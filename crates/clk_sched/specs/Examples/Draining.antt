@@ -1,0 +1,97 @@
+-- A worked session before a pull and after, and before a drain and after, and changes of it that are neither.
+use Rattle.std.specs.Prelude.{◌≡◌, ℕ, ◌+◌, List, [], ◌∷◌, ◌++◌, length, map, Option, Some, None}
+use Rattle.std.specs.List.{range_with_len}
+use Rattle.clk_packet.specs.declared.packet.Packet.{Packet}
+use Rattle.clk_sched.specs.declared.visit.Visit.{Visit}
+use Rattle.clk_sched.specs.Tree.{Tree, end, leaf, scheduler, prio}
+use Rattle.clk_sched.specs.Log.{asking, moment_of}
+use Rattle.clk_sched.specs.Session.{Progress}
+use Rattle.clk_sched.specs.Examples.Priority.{p0_0, p1_0}
+
+-- The tree of these examples is a PrioSched over one queue, so that its closing is given two pulls for each packet that is left.
+abbrev pub over_queue : ℕ → Tree
+over_queue q = scheduler prio (leaf q end)
+
+-- pull k of it, at moment t, in which the queue gave this
+abbrev pub pull_giving : (k t : ℕ) → Option Packet → List Visit
+pull_giving k t o = asking k t 1 0 o ∷ asking k t 0 0 o ∷ []
+
+-- It was pulled at moments 3 and 5, and its queue gave a packet in the first of these pulls.
+abbrev pub first_two : List Visit
+first_two = pull_giving 0 3 (Some p0_0) ++ pull_giving 1 5 None
+
+-- a session with this log, and one that was pulled twice and then made these visits
+abbrev with_log : List Visit → Progress
+with_log log = record { tree = over_queue 0; log = log }
+
+abbrev going_on : List Visit → Progress
+going_on visits = with_log (first_two ++ visits)
+
+abbrev pub never_pulled : Progress
+never_pulled = with_log []
+
+abbrev pub pulled_twice : Progress
+pulled_twice = with_log first_two
+
+-- the log has the second pull before the first
+abbrev pub pulls_turned : Progress
+pulls_turned = with_log (pull_giving 1 5 None ++ pull_giving 0 3 (Some p0_0))
+
+-- Pulled once more: the queue gave a packet, at moment 6, or at 5 as before.
+abbrev pub pulled_again : Progress
+pulled_again = going_on (pull_giving 2 6 (Some p1_0))
+
+abbrev pub pulled_at_greatest : Progress
+pulled_at_greatest = going_on (pull_giving 2 5 (Some p1_0))
+
+-- the same over another queue
+abbrev pub other_tree_pulled : Progress
+other_tree_pulled = record { tree = over_queue 1; log = pulled_again.log }
+
+-- the same where the PrioSched made no visit
+abbrev pub pulled_without_prio : Progress
+pulled_without_prio = going_on (asking 2 6 0 0 (Some p1_0) ∷ [])
+
+-- Pulled twice more, at moments 6 and 7: the queue gave none, and then a packet.
+abbrev pub drained : Progress
+drained = going_on (pull_giving 2 6 None ++ pull_giving 3 7 (Some p1_0))
+
+-- the same over another queue
+abbrev pub other_tree_drained : Progress
+other_tree_drained = record { tree = over_queue 1; log = drained.log }
+
+-- the same where the PrioSched made no visit in the first of these pulls
+abbrev pub drained_without_prio : Progress
+drained_without_prio = going_on (asking 2 6 0 0 None ∷ pull_giving 3 7 (Some p1_0))
+
+-- the same at moments 5 and 6, 7 and 8, and 6 and 8
+abbrev pub drained_at_once : Progress
+drained_at_once = going_on (pull_giving 2 5 None ++ pull_giving 3 6 (Some p1_0))
+
+abbrev pub drained_late : Progress
+drained_late = going_on (pull_giving 2 7 None ++ pull_giving 3 8 (Some p1_0))
+
+abbrev pub drain_pauses : Progress
+drain_pauses = going_on (pull_giving 2 6 None ++ pull_giving 3 8 (Some p1_0))
+
+-- the last packet came out, and it was pulled once more
+abbrev pub drain_goes_on : Progress
+drain_goes_on = going_on (pull_giving 2 6 (Some p1_0) ++ pull_giving 3 7 None)
+
+-- The last packet came out in the third pull, though the closing of one packet is given two.
+abbrev pub drained_past_bound : Progress
+drained_past_bound = going_on (pull_giving 2 6 None ++ pull_giving 3 7 None ++ pull_giving 4 8 (Some p1_0))
+
+-- Pulled once, twice or three times more: the queue gave none.
+abbrev pub stopped_at_first : Progress
+stopped_at_first = going_on (pull_giving 2 6 None)
+
+abbrev pub stopped_at_bound : Progress
+stopped_at_bound = going_on (pull_giving 2 6 None ++ pull_giving 3 7 None)
+
+abbrev pub stopped_past_bound : Progress
+stopped_past_bound = going_on (pull_giving 2 6 None ++ pull_giving 3 7 None ++ pull_giving 4 8 None)
+
+-- How many pulls a drain made follows from their moments, so that none is wrong in that alone.
+abbrev pub CountFollows : Type 0
+CountFollows = (more : List (List Visit)) (moment made : ℕ) → map moment_of more ≡ range_with_len (moment + 1) made → length more ≡ made

@@ -1,0 +1,62 @@
+//! Drains that stop at the bound, since what they pull from hides a packet, or has fewer than are told to be left.
+
+use super::row::{Step, assert_shows};
+use clk_packet::{Fault, Packet};
+use clk_sched::{Ask, Session, Tree};
+
+// It has one packet at leaf 0, and yet gives none when it is asked first.
+#[derive(Drop)]
+struct Hidden {
+    packet: Option<Packet>,
+    asked: bool,
+}
+
+impl Ask for Hidden {
+    ghost use Rattle.std.specs.Prelude.{true, []};
+
+    ghost has = { λ s leaf. true };
+
+    ghost holds = { λ s leaf. [] };
+
+    ghost gives = { λ s leaf got t. Unit };
+
+    fn ask(&mut self, _leaf: u16) -> Option<Packet> {
+        if self.asked {
+            return self.packet.take();
+        }
+        self.asked = true;
+        None
+    }
+}
+
+#[test]
+fn a_packet_that_was_hidden_does_not_come_out(rt: HostRuntime) -> Result<(), Fault> {
+    let packet = Packet {
+        number: 0,
+        sender: 0,
+        length: 10,
+    };
+    let mut queue = Hidden {
+        packet: Some(packet),
+        asked: false,
+    };
+    let mut session = Session::new(rt.alloc(), Tree::leaf(0))?;
+    assert_eq!(rt;
+        session.drain(&mut queue, 1, 0),
+        Err(Fault::TooManyPulls { pulls: 1 })
+    );
+    assert!(rt; queue.packet.is_some(), "it still has the packet");
+    Ok(())
+}
+
+#[test]
+fn more_than_is_left_does_not_come_out(rt: HostRuntime) {
+    let steps = [Step::Send(0, &[10]), Step::Drain(2, 0)];
+    assert_shows(
+        &rt,
+        rt.alloc(),
+        Ok(Tree::leaf(0)),
+        &steps,
+        "drain: fault 17: TooManyPulls 2\n",
+    );
+}
