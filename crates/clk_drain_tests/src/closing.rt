@@ -43,6 +43,33 @@ fn close_and_drain_one(rt: HostRuntime) -> Result<(), Fault> {
     Ok(())
 }
 
+// It is closed at the last moment that a script may name, after a sender that sent nothing.
+#[test]
+fn a_late_moment_is_drained(rt: HostRuntime) -> Result<(), Fault> {
+    let alloc = rt.alloc();
+    let sent = [packet(0, 0, 10), packet(0, 1, 20)];
+    let senders = [(0, 5), (1, 0)];
+    let line = line(
+        &rt,
+        alloc,
+        0,
+        Kind::TailDrop,
+        10,
+        &senders,
+        &[(0, 10), (0, 20)],
+    )?;
+    let last = 1_099_511_627_775;
+    let drained = close(&rt, alloc, Tree::leaf(0), vec![in alloc; line]?, &[], last)?;
+    let log = [
+        Visit::asking(0, 1_099_511_627_776, 0, 0, Some(sent[0])),
+        Visit::asking(1, 1_099_511_627_777, 0, 0, Some(sent[1])),
+    ];
+    let none = &[][..];
+    let tallies = [(0, &sent[..], none, none), (1, none, none, none)];
+    assert_drained(&rt, &drained, &sent, &log, &tallies);
+    Ok(())
+}
+
 #[test]
 fn each_evicted_packet_is_its_own_senders(rt: HostRuntime) -> Result<(), Fault> {
     let alloc = rt.alloc();

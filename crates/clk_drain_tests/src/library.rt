@@ -16,10 +16,8 @@ fn a_trace_runs_over_a_tree(rt: HostRuntime) -> Result<(), Fault> {
     // Each sender has a thread. Meanwhile the device is pulled once a tick, 1,000 times at most, and then all that is left comes out.
     let outcome = run(&rt, alloc, &rt, &plan, &traces, 1, 1000, &Free)?;
     for tally in &outcome.tallies {
-        assert_eq!(rt;
-            tally.accepted.as_slice().len() as u32,
-            traces.count(tally.sender)
-        );
+        let accepted = tally.accepted.as_slice().len();
+        assert_eq!(rt; accepted, traces.count(tally.sender) as usize);
     }
     for emitted in &outcome.emitted {
         assert_eq!(rt; emitted.len(), 3);

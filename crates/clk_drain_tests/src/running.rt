@@ -29,6 +29,11 @@ const DRR_OVER_TWO: &str =
 const PRIO_OVER_TWO: &str =
     "s0 :: Sender(0); q0 :: Queue; s1 :: Sender(1); q1 :: Queue; x :: PrioSched; d :: ToDevice(link); s0 -> q0 -> [0] x; s1 -> q1 -> [1] x; x -> d;";
 
+const NO_SENDER: &str = "q :: Queue; d :: ToDevice(x); q -> d;";
+
+const DRR_1: &str =
+    "s :: Sender(0); q :: Queue; x :: DRRSched(1); d :: ToDevice(link); s -> q -> x -> d;";
+
 const ONE_AT_A_QUEUE: &str = "s :: Sender(0); q :: Queue(1); d :: ToDevice(link); s -> q -> d;";
 
 /// The records of so many packets of 64 bytes from each of these senders, each named by a digit.
@@ -259,4 +264,28 @@ fn one_pull_while_producers_run(rt: HostRuntime) -> Result<(), Fault> {
     let traces = traces(alloc, records(alloc, b"01234567", 100)?)?;
     let outcome = run_text(&rt, alloc, EIGHT_SENDERS, &traces, 1, &Free)?;
     assert_all_accounted(&rt, alloc, &traces, &outcome, 8)
+}
+
+#[test]
+fn a_plan_without_senders_runs(rt: HostRuntime) -> Result<(), Fault> {
+    let alloc = rt.alloc();
+    let traces = traces(alloc, Vec::new(alloc))?;
+    let outcome = run_text(&rt, alloc, NO_SENDER, &traces, 1000, &Free)?;
+    assert!(rt; outcome.tallies.is_empty());
+    assert_eq!(rt; outcome.emitted, vec![in alloc; Vec::new(alloc)]?);
+    Ok(())
+}
+
+// The longest packet waits for 65,535 quanta of a byte, nearly all of them after the one pull while its producer runs.
+#[test]
+fn a_drain_may_take_long(rt: HostRuntime) -> Result<(), Fault> {
+    let alloc = rt.alloc();
+    let traces = traces(alloc, b"0,65535\n".to_vec(alloc)?)?;
+    let outcome = run_text(&rt, alloc, DRR_1, &traces, 1, &Free)?;
+    assert_all_accounted(&rt, alloc, &traces, &outcome, 1)?;
+    assert_all_accepted(&rt, alloc, &traces, &outcome)?;
+    for log in &outcome.logs {
+        assert!(rt; log.last().is_some_and(|visit| visit.pull <= 131_072));
+    }
+    Ok(())
 }
