@@ -7,7 +7,9 @@ use Rattle.std.specs.List.{AllByRecursion}
 use Rattle.clk_sched.specs.declared.visit.Visit.{Visit}
 use Rattle.clk_sched.specs.Tree.{Tree, root, leaves, stands_in, are_distinct, leaves_distinct}
 use Rattle.clk_sched.specs.Conservation.{given_in_all, ConservesCounts}
-use Rattle.clk_sched.specs.Results.{heads, leaf_packets}
+use Rattle.clk_sched.specs.Closing.{held_in_all}
+use Rattle.clk_sched.specs.Results.{emitted, heads, leaf_packets}
+use Rattle.clk_sched.specs.Run.{IsRun}
 use Rattle.clk_sched.specs.Session.{Progress, IsDrained}
 use Rattle.clk_drain.specs.Closing.{accepted_over, evicted_over, left_over}
 use Rattle.clk_drain.specs.Line.{LineLists, leaves_of, AreLinesOf}
@@ -30,7 +32,7 @@ below-apart n (m ∷ ns) h =
     let other : (m == n) ≡ false = grind (arith, nat_tests, h.0) in
     ap (λ b. b || stands_in n ns) other ∙ below-apart n ns h.1
 
-rise-distinct : (ns : List ℕ) → Rise ns → are_distinct ns ≡ true
+pub rise-distinct : (ns : List ℕ) → Rise ns → are_distinct ns ≡ true
 rise-distinct [] h = refl
 rise-distinct (n ∷ ns) h = and-are (stands_in n ns) (are_distinct ns) (below-apart n ns h.0) (rise-distinct ns h.1)
 
@@ -77,29 +79,33 @@ distinct-dropped x (y ∷ ys) d = by_test (y == x) (distinct-dropped x ys parts.
     by_test true again = parts.1
     by_test false again = and-are (stands_in y (drop_one x ys)) (are_distinct (drop_one x ys)) (stands-dropped y x ys parts.1 ∙ ap (λ b. b && not (x == y)) parts.0) again
 
--- What all queues gave is what one of them gave, and the others.
-given-dropped : (tree : Tree) (log : List Visit) (x : ℕ) (ys : List ℕ) → stands_in x ys ≡ true → given_in_all tree ys log ≡ length (leaf_packets tree x log) + given_in_all tree (drop_one x ys) log
-given-dropped tree log x [] s = absurd (true≢false (sym s))
-given-dropped tree log x (y ∷ ys) s = by_test (y == x) refl s (given-dropped tree log x ys)
+-- A sum over numbers is that of one of them, and of the others.
+sum-dropped : (f : ℕ → ℕ) (x : ℕ) (ys : List ℕ) → stands_in x ys ≡ true → held_in_all f ys ≡ f x + held_in_all f (drop_one x ys)
+sum-dropped f x [] s = absurd (true≢false (sym s))
+sum-dropped f x (y ∷ ys) s = by_test (y == x) refl s (sum-dropped f x ys)
   where
-    by_test : (b : Bool) → (y == x) ≡ b → (b || stands_in x ys) ≡ true → (stands_in x ys ≡ true → given_in_all tree ys log ≡ length (leaf_packets tree x log) + given_in_all tree (drop_one x ys) log)
-        → length (leaf_packets tree y log) + given_in_all tree ys log ≡ length (leaf_packets tree x log) + given_in_all tree (if b then ys else y ∷ drop_one x ys) log
-    by_test true t k again = ap (λ n. length (leaf_packets tree n log) + given_in_all tree ys log) (eqb-true y x t)
+    by_test : (b : Bool) → (y == x) ≡ b → (b || stands_in x ys) ≡ true → (stands_in x ys ≡ true → held_in_all f ys ≡ f x + held_in_all f (drop_one x ys)) → f y + held_in_all f ys ≡ f x + held_in_all f (if b then ys else y ∷ drop_one x ys)
+    by_test true t k again = ap (λ n. f n + held_in_all f ys) (eqb-true y x t)
     by_test false t k again = let rest = again k in omega (arith, rest)
 
--- The same queues, each once on both sides, gave as much in all.
-given-same : (tree : Tree) (log : List Visit) (xs ys : List ℕ) → are_distinct xs ≡ true → are_distinct ys ≡ true → ((q : ℕ) → stands_in q xs ≡ stands_in q ys) → given_in_all tree xs log ≡ given_in_all tree ys log
-given-same tree log [] [] c d same = refl
-given-same tree log [] (y ∷ ys) c d same = absurd (true≢false (sym (same y ∙ ap (λ b. b || stands_in y ys) (eq-eqb y y refl))))
-given-same tree log (x ∷ xs) ys c d same =
+-- Over the same numbers, each once on both sides, it is the same.
+pub sum-same : (f : ℕ → ℕ) (xs ys : List ℕ) → are_distinct xs ≡ true → are_distinct ys ≡ true → ((q : ℕ) → stands_in q xs ≡ stands_in q ys) → held_in_all f xs ≡ held_in_all f ys
+sum-same f [] [] c d same = refl
+sum-same f [] (y ∷ ys) c d same = absurd (true≢false (sym (same y ∙ ap (λ b. b || stands_in y ys) (eq-eqb y y refl))))
+sum-same f (x ∷ xs) ys c d same =
     let parts = and-both (stands_in x xs) (are_distinct xs) c in
     let here : stands_in x ys ≡ true = sym (same x) ∙ ap (λ b. b || stands_in x xs) (eq-eqb x x refl) in
-    let rest = given-same tree log xs (drop_one x ys) parts.1 (distinct-dropped x ys d) (λ q. stands-behind q x xs parts.0 ∙ ap (λ b. b && not (x == q)) (same q) ∙ sym (stands-dropped q x ys d)) in
-    let all = given-dropped tree log x ys here in
+    let rest = sum-same f xs (drop_one x ys) parts.1 (distinct-dropped x ys d) (λ q. stands-behind q x xs parts.0 ∙ ap (λ b. b && not (x == q)) (same q) ∙ sym (stands-dropped q x ys d)) in
+    let all = sum-dropped f x ys here in
     omega (arith, rest, all)
 
+-- what all queues gave is such a sum
+given-sum : (tree : Tree) (log : List Visit) (qs : List ℕ) → given_in_all tree qs log ≡ held_in_all (λ q. length (leaf_packets tree q log)) qs
+given-sum tree log [] = refl
+given-sum tree log (q ∷ qs) = ap (λ n. length (leaf_packets tree q log) + n) (given-sum tree log qs)
+
 -- how many packets the taps of lines took in all
-abbrev taken_over : List LineLists → ℕ
+abbrev pub taken_over : List LineLists → ℕ
 taken_over [] = 0
 taken_over (l ∷ lines) = length l.tap.taken + taken_over lines
 
@@ -107,7 +113,7 @@ given-taken : (tree : Tree) (log : List Visit) (lines : List LineLists) → AllB
 given-taken tree log [] h = refl
 given-taken tree log (l ∷ lines) h = let here = ap length h.0 in let rest = given-taken tree log lines h.1 in omega (arith, here, rest)
 
-all-within : (lines : List LineLists) → AllByRecursion IsWithin lines → evicted_over lines + taken_over lines ≤ accepted_over lines
+pub all-within : (lines : List LineLists) → AllByRecursion IsWithin lines → evicted_over lines + taken_over lines ≤ accepted_over lines
 all-within [] h = omega arith
 all-within (l ∷ lines) h = let here : IsWithin l = h.0 in let rest = all-within lines h.1 in omega (arith, here, rest)
 
@@ -118,15 +124,21 @@ each-taken (l ∷ lines) h all =
     let here : IsWithin l = h.0 in let rest = all-within lines h.1 in
     (omega (arith, here, rest, all), each-taken lines h.1 (omega (arith, here, rest, all)))
 
+-- What the taps of a session's lines took is what came out of it and what its heads hold.
+pub taken-counts : (session : Progress) (lines : List LineLists) → leaves_distinct session.tree ≡ true → ConservesCounts session.tree → IsRun session.tree session.log → AreLinesOf session lines
+    → taken_over lines ≡ length (emitted session.log) + length (heads session.tree session.log)
+taken-counts session lines distinct conserves run own =
+    sym (given-taken session.tree session.log lines own.taken) ∙ given-sum session.tree session.log (leaves_of lines)
+    ∙ sum-same (λ q. length (leaf_packets session.tree q session.log)) (leaves_of lines) (leaves (root session.tree)) (rise-distinct (leaves_of lines) own.rise) distinct own.leaves
+    ∙ sym (given-sum session.tree session.log (leaves (root session.tree))) ∙ conserves session.log run
+
 -- A drain that gave all that was left leaves no head held, and each line has all taken.
 pub all-given : (old new : Progress) (lines : List LineLists) (moment made : ℕ) → leaves_distinct new.tree ≡ true → ConservesCounts new.tree → IsDrained old new moment made (left_over old lines) → AreLinesOf new lines
     → AllByRecursion IsWithin lines → (heads new.tree new.log ≡ []) × AllByRecursion HasAllTaken lines
 all-given old new lines moment made distinct conserves drained own within =
     let out = emitted-more old new moment made (left_over old lines) drained in
-    let all = conserves new.log drained.run in
-    let same = given-same new.tree new.log (leaves_of lines) (leaves (root new.tree)) (rise-distinct (leaves_of lines) own.rise) distinct own.leaves in
-    let taken = given-taken new.tree new.log lines own.taken in
+    let taken = taken-counts new lines distinct conserves drained.run own in
     let most = all-within lines within in
-    let none : length (heads new.tree new.log) ≡ 0 = omega (arith, out, all, same, taken, most) in
-    let least : accepted_over lines ≤ evicted_over lines + taken_over lines = omega (arith, out, all, same, taken) in
+    let none : length (heads new.tree new.log) ≡ 0 = omega (arith, out, taken, most) in
+    let least : accepted_over lines ≤ evicted_over lines + taken_over lines = omega (arith, out, taken) in
     (nil_from_length (heads new.tree new.log) none, each-taken lines within least)

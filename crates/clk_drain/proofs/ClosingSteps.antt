@@ -100,11 +100,11 @@ next-ready terms all done left before f outcome next h ready =
     ready-behind terms done left f (subst (AllByRecursion (IsReadyToClose terms)) (sym h.all_are ∙ ap (λ rest. done ++ rest) next) ready)
 
 -- Why a device isn't closed.
-fault-behind : (done left : List Feed) (f : Feed) (fault : Fault) → IsFaultOfDrain f.session f.lines 0 fault → IsFaultOfClosing (done ++ f ∷ left) fault
+fault-behind : (done left : List Feed) (f : Feed) (fault : Fault) → IsFaultOfDrain f.lines fault → IsFaultOfClosing (done ++ f ∷ left) fault
 fault-behind [] left f fault is = inl is
 fault-behind (g ∷ done) left f fault is = inr (fault-behind done left f fault is)
 
-pub next-fault : (terms : Terms) (all done left before : List Feed) (f : Feed) (outcome : Outcome) (fault : Fault) → before ≡ f ∷ left → AreClosing terms all done before outcome → IsFaultOfDrain f.session f.lines 0 fault → IsFaultOfClosing all fault
+pub next-fault : (terms : Terms) (all done left before : List Feed) (f : Feed) (outcome : Outcome) (fault : Fault) → before ≡ f ∷ left → AreClosing terms all done before outcome → IsFaultOfDrain f.lines fault → IsFaultOfClosing all fault
 next-fault terms all done left before f outcome fault next h is =
     subst (λ feeds. IsFaultOfClosing feeds fault) (ap (λ rest. done ++ rest) (sym next) ∙ h.all_are) (fault-behind done left f fault is)
 

@@ -1,28 +1,74 @@
 -- What is left to a drain, and why it isn't given.
-use Rattle.std.proofs.Common.{◌≡◌, ◌⊎◌, ℕ, ◌+◌, ◌-◌, List, length, ◌∙◌, subst, inl, inr}
+use Rattle.std.proofs.Common.{◌≡◌, ◌⊎◌, ℕ, ◌+◌, ◌-◌, ◌≤◌, ◌==◌, true, false, List, [], ◌∷◌, length, refl, sym, ap, ◌∙◌, inl, inr, arith, if◌then◌else◌}
+use Rattle.std.proofs.lemmas.Bool.Decides.{nat_tests}
+use Rattle.std.specs.List.{AllByRecursion}
 use Rattle.clk_packet.specs.declared.fault.Fault.{Fault}
 use Rattle.clk_packet.specs.declared.fault.Fault.TheVariants.{Memory}
+use Rattle.clk_sched.specs.Tree.{root, leaves, leaves_distinct}
+use Rattle.clk_sched.specs.Closing.{held_in_all, left_in}
+use Rattle.clk_sched.specs.Conservation.{ConservesCounts}
 use Rattle.clk_sched.specs.Results.{emitted}
+use Rattle.clk_sched.specs.Run.{IsRun}
 use Rattle.clk_sched.specs.Session.{Progress}
-use Rattle.clk_drain.specs.Line.{LineLists}
+use Rattle.clk_drain.specs.Senders.{IsBelowAll, Rise}
+use Rattle.clk_drain.specs.Line.{LineLists, leaves_of, AreLinesOf}
 use Rattle.clk_drain.specs.Closing.{accepted_over, evicted_over, left_over, HasUnsettled, IsFaultOfDrain}
-use Rattle.clk_drain.specs.Parts.{AreGatheredFrom, IsDrainOf, HasStopped}
+use Rattle.clk_drain.specs.Parts.{AreGatheredFrom, IsDrainOf, IsGathered, IsWithin, held_of, held_at}
 use Rattle.clk_drain.proofs.Still.{still-accepted, still-evicted, still-unsettled}
+use Rattle.clk_drain.proofs.AllGiven.{taken_over, taken-counts, sum-same, rise-distinct}
 
--- What was to be drained from the gathered lines, where so many packets had been emitted.
+-- how many packets the queues of lines hold in all
+abbrev held_over : List LineLists → ℕ
+held_over [] = 0
+held_over (l ∷ lines) = held_of l + held_over lines
+
+-- That is what is held at their leaves.
+held-behind : (l : LineLists) (lines : List LineLists) (qs : List ℕ) → IsBelowAll l.leaf qs → held_in_all (held_at (l ∷ lines)) qs ≡ held_in_all (held_at lines) qs
+held-behind l lines [] h = refl
+held-behind l lines (q ∷ qs) h =
+    let other : (l.leaf == q) ≡ false = grind (arith, nat_tests, h.0) in
+    let here : held_at (l ∷ lines) q ≡ held_at lines q = ap (λ b. if b then held_of l else held_at lines q) other in
+    let rest = held-behind l lines qs h.1 in omega (arith, here, rest)
+
+held-sum : (lines : List LineLists) → Rise (leaves_of lines) → held_in_all (held_at lines) (leaves_of lines) ≡ held_over lines
+held-sum [] rise = refl
+held-sum (l ∷ lines) rise =
+    let same : (l.leaf == l.leaf) ≡ true = grind (arith, nat_tests) in
+    let here : held_at (l ∷ lines) l.leaf ≡ held_of l = ap (λ b. if b then held_of l else held_at lines l.leaf) same in
+    let rest = held-behind l lines (leaves_of lines) rise.0 ∙ held-sum lines rise.1 in omega (arith, here, rest)
+
+-- What was accepted was evicted, or taken, or is held.
+held-counts : (lines : List LineLists) → AllByRecursion IsWithin lines → evicted_over lines + taken_over lines + held_over lines ≡ accepted_over lines
+held-counts [] h = refl
+held-counts (l ∷ lines) h = let here : IsWithin l = h.0 in let rest = held-counts lines h.1 in omega (arith, here, rest)
+
+each-within : (lines : List LineLists) → AllByRecursion IsGathered lines → AllByRecursion IsWithin lines
+each-within [] h = tt
+each-within (l ∷ lines) h = (h.0.within, each-within lines h.1)
+
+-- What was evicted and what came out is within what was accepted, and the rest is what queues and heads hold.
+pub record IsRest (session : Progress) (lines : List LineLists) : Type 0 where
+  pub within : evicted_over lines + length (emitted session.log) ≤ accepted_over lines
+  pub held : left_over session lines ≡ left_in session.tree session.log (held_at lines)
+
+pub rest-held : (session : Progress) (lines : List LineLists) → leaves_distinct session.tree ≡ true → ConservesCounts session.tree → IsRun session.tree session.log → AreLinesOf session lines → AllByRecursion IsGathered lines
+    → IsRest session lines
+rest-held session lines distinct conserves run own gathered =
+    let taken = taken-counts session lines distinct conserves run own in
+    let all = held-counts lines (each-within lines gathered) in
+    let at_leaves = sum-same (held_at lines) (leaves (root session.tree)) (leaves_of lines) distinct (rise-distinct (leaves_of lines) own.rise) (λ q. sym (own.leaves q)) ∙ held-sum lines own.rise in
+    record { within = omega (arith, taken, all); held = omega (arith, taken, all, at_leaves) }
+
+-- What was to be drained from the gathered lines.
 pub record IsLeft (session : Progress) (lines gathered : List LineLists) (left : ℕ) : Type 0 where
   pub gathers : AreGatheredFrom lines gathered
-  pub left_is : left ≡ accepted_over gathered - (evicted_over gathered + length (emitted session.log))
+  pub left_is : left ≡ left_over session gathered
 
 pub left-is : (session : Progress) (lines gathered : List LineLists) (left : ℕ) → IsLeft session lines gathered left → left ≡ left_over session lines
 left-is session lines gathered left h =
     h.left_is ∙ (λ i. still-accepted lines gathered h.gathers.still i - (still-evicted lines gathered h.gathers.still i + length (emitted session.log)))
 
--- why it isn't drained
-pub fault-stopped : (session : Progress) (lines gathered : List LineLists) (moment left : ℕ) (fault : Fault) → IsLeft session lines gathered left → HasStopped session moment left fault → IsFaultOfDrain session lines moment fault
-fault-stopped session lines gathered moment left fault h stopped = inr (inl (subst (λ n. HasStopped session moment n fault) (left-is session lines gathered left h) stopped))
-
-pub fault-unsettled : (session new : Progress) (lines gathered after : List LineLists) (moment left : ℕ) (fault : Fault) → IsLeft session lines gathered left → IsDrainOf session gathered moment left new after → (fault ≡ Memory) ⊎ HasUnsettled after fault
-    → IsFaultOfDrain session lines moment fault
-fault-unsettled session new lines gathered after moment left fault h drained (inl memory) = inl memory
-fault-unsettled session new lines gathered after moment left fault h drained (inr unsettled) = inr (inr (still-unsettled lines after fault (drained.still ∙ h.gathers.still) unsettled))
+-- why it isn't settled
+pub fault-unsettled : (session new : Progress) (lines gathered after : List LineLists) (moment left : ℕ) (fault : Fault) → AreGatheredFrom lines gathered → IsDrainOf session gathered moment left new after → (fault ≡ Memory) ⊎ HasUnsettled after fault → IsFaultOfDrain lines fault
+fault-unsettled session new lines gathered after moment left fault gathers drained (inl memory) = inl memory
+fault-unsettled session new lines gathered after moment left fault gathers drained (inr unsettled) = inr (still-unsettled lines after fault (drained.still ∙ gathers.still) unsettled)

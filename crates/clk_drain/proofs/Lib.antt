@@ -2,6 +2,7 @@
 mod Truths
 mod Growing
 mod Placing
+mod Taking
 mod Still
 mod GatherSteps
 mod LineSteps

@@ -11,11 +11,11 @@ use Rattle.clk_drain.specs.Line.{LineLists, leaves_of, pulling, pulling_all, pac
 use Rattle.clk_drain.proofs.Truths.{or-here, or-there}
 use Rattle.clk_drain.proofs.Growing.{pulling-none, all-none}
 
-other-are : (m n : ℕ) → m < n → ((m == n) ≡ false) × ((n == m) ≡ false)
+pub other-are : (m n : ℕ) → m < n → ((m == n) ≡ false) × ((n == m) ≡ false)
 other-are m n lt = (grind (arith, nat_tests, lt), grind (arith, nat_tests, lt))
 
 -- a line of another leaf stays
-stays : (leaf : ℕ) (got : Option Packet) (l : LineLists) → (leaf == l.leaf) ≡ false → pulling l (answered leaf got l.leaf) ≡ l
+pub stays : (leaf : ℕ) (got : Option Packet) (l : LineLists) → (leaf == l.leaf) ≡ false → pulling l (answered leaf got l.leaf) ≡ l
 stays leaf got l e = ap (λ b. pulling l (if b then packets_of got else [])) e ∙ pulling-none l
 
 all-stay : (leaf : ℕ) (got : Option Packet) (lines : List LineLists) → IsBelowAll leaf (leaves_of lines) → pulling_all (answered leaf got) lines ≡ lines
@@ -23,7 +23,7 @@ all-stay leaf got [] h = refl
 all-stay leaf got (l ∷ lines) h = λ i. stays leaf got l (other-are leaf l.leaf h.0).0 i ∷ all-stay leaf got lines h.1 i
 
 -- a leaf below all is not that at a place
-below-at : (n : ℕ) (lines : List LineLists) (i : ℕ) (d : LineLists) → i < length lines → IsBelowAll n (leaves_of lines) → n < (get_or lines i d).leaf
+pub below-at : (n : ℕ) (lines : List LineLists) (i : ℕ) (d : LineLists) → i < length lines → IsBelowAll n (leaves_of lines) → n < (get_or lines i d).leaf
 below-at n [] i d lt h = absurd (omega arith)
 below-at n (l ∷ lines) zero d lt h = h.0
 below-at n (l ∷ lines) (suc i) d lt h = below-at n lines i d (omega arith) h.1

@@ -1,12 +1,12 @@
 -- The lines of a session that is pulled over them.
-use Rattle.std.proofs.Common.{◌≡◌, ℕ, List, ◌++◌, length, drop, map, max, Option, Result, Ok, Err, IfOk, OnOk, OnErr, sym, ap, ◌∙◌, subst}
+use Rattle.std.proofs.Common.{◌≡◌, ℕ, List, ◌++◌, length, drop, map, max, [], ◌∷◌, Option, Some, None, Result, Ok, Err, IfOk, OnOk, OnErr, sym, ap, ◌∙◌, subst}
 use Rattle.std.specs.List.{flat_map}
 use Rattle.std.proofs.Math.Seq.{drop-append_seam}
 use Rattle.clk_packet.specs.declared.packet.Packet.{Packet}
 use Rattle.clk_packet.specs.declared.fault.Fault.{Fault}
 use Rattle.clk_sched.specs.declared.visit.Visit.{Visit}
 use Rattle.clk_sched.specs.Tree.{Tree}
-use Rattle.clk_sched.specs.Places.{Answers}
+use Rattle.clk_sched.specs.Places.{at_queue, Answers}
 use Rattle.clk_sched.specs.Results.{leaf_packets}
 use Rattle.clk_sched.specs.Session.{Progress, newly, counted_moment, tree_queue, IsPulledOnce, IsDrained, GivesAll}
 use Rattle.clk_drain.specs.Line.{LineLists, PullsAt, pulling_all, AreLinesOf, lasting_of, AreStill}
@@ -32,6 +32,16 @@ still-answered tree before more after answers = ap (map lasting_of) (grown tree 
 pub lines-stay : (tree : Tree) (before : List LineLists) (more : List Visit) (after : List LineLists) (result : Result (Option Packet) Fault) → OnOk result (Answers PullsAt (tree_queue tree) before more after) → OnErr result (after ≡ before) → AreStill before after
 lines-stay tree before more after (Ok got) answers same = still-answered tree before more after answers
 lines-stay tree before more after (Err fault) answers same = ap (map lasting_of) same
+
+-- What was answered so was also answered in a way that says less.
+pub answers-weaker : {S : Type 0} (gives less : S → ℕ → Option Packet → S → Type 0) → ((a : S) (q : ℕ) (got : Option Packet) (b : S) → gives a q got b → less a q got b) → (asked : Visit → Option ℕ) (visits : List Visit) (a b : S) → Answers gives asked a visits b
+    → Answers less asked a visits b
+answers-weaker gives less weaker asked [] a b h = h
+answers-weaker {S = S} gives less weaker asked (v ∷ visits) a b h = by_queue (asked v) h (λ c. answers-weaker gives less weaker asked visits c b)
+  where
+    by_queue : (o : Option ℕ) → at_queue gives o v.got a (λ c. Answers gives asked c visits b) → ((c : S) → Answers gives asked c visits b → Answers less asked c visits b) → at_queue less o v.got a (λ c. Answers less asked c visits b)
+    by_queue None k again = again a k
+    by_queue (Some q) k again = (k.0, weaker a q v.got k.0 k.1, again k.0 k.2)
 
 -- A drain's visits are what its log goes on by.
 log-goes-on : (old new : Progress) (moment made given : ℕ) → IsDrained old new moment made given → new.log ≡ old.log ++ newly old new

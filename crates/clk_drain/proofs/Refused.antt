@@ -1,12 +1,11 @@
 -- Why a run is refused.
-use Rattle.std.proofs.Common.{◌≡◌, ℕ, ◌<◌, List, [], ◌∷◌, refl, sym, subst, ⊎_elim}
+use Rattle.std.proofs.Common.{◌≡◌, ◌<◌, List, [], ◌∷◌, refl, sym, subst, ⊎_elim}
 use Rattle.std.specs.List.{AllByRecursion}
 use Rattle.clk_packet.specs.declared.packet.Packet.{Packet}
 use Rattle.clk_packet.specs.declared.fault.Fault.{Fault}
-use Rattle.clk_packet.specs.declared.fault.Fault.TheVariants.{Memory, TooManyPulls, Unsettled}
+use Rattle.clk_packet.specs.declared.fault.Fault.TheVariants.{Memory, Unsettled}
 use Rattle.clk_packet.specs.Trace.{sent_by}
 use Rattle.clk_ruled.specs.Settle.{accepted_count, lost_count, IsFaultOfSettle}
-use Rattle.clk_sched.specs.Session.{Progress, StopsAt}
 use Rattle.clk_tree.specs.Plan.{Planned}
 use Rattle.clk_drain.specs.Line.{LineLists, seats_of, seats_in}
 use Rattle.clk_drain.specs.Closing.{HasSent, HasUnsettled, IsFaultOfDrain}
@@ -14,12 +13,6 @@ use Rattle.clk_drain.specs.Threads.{Terms, Feed}
 use Rattle.clk_drain.specs.Handed.{IsReadyToClose, IsFaultOfClosing}
 use Rattle.clk_drain.specs.Run.{senders_in, AreKnown, IsFaultOfRun}
 use Rattle.clk_drain.proofs.Tallies.{all-split}
-
--- A drain that stopped short.
-stopped : (plan : List Planned) (traces : List (List Packet)) → AreKnown (senders_in plan) traces → (old new : Progress) (moment left : ℕ) (fault : Fault) → StopsAt old new moment left fault → IsFaultOfRun plan traces fault
-stopped plan traces known old new moment left Memory h = tt
-stopped plan traces known old new moment left (TooManyPulls made) h = known
-stopped plan traces known old new moment left fault h = absurd h
 
 -- A queue that isn't settled.
 unsettled-line : (plan : List Planned) (traces : List (List Packet)) → AreKnown (senders_in plan) traces → (l : LineLists) (fault : Fault) → AllByRecursion (HasSent (sent_by traces)) (seats_of l) → IsFaultOfSettle l.tap l.closed l.leaf fault → IsFaultOfRun plan traces fault
@@ -35,10 +28,10 @@ unsettled plan traces known (l ∷ lines) fault sent h =
     let both = all-split (HasSent (sent_by traces)) (seats_of l) (seats_in lines) sent in
     ⊎_elim (unsettled-line plan traces known l fault both.0) (λ x. unsettled plan traces known lines fault both.1 x.1) h
 
-undrained : (plan : List Planned) (traces : List (List Packet)) → AreKnown (senders_in plan) traces → (f : Feed) (fault : Fault) → AllByRecursion (HasSent (sent_by traces)) (seats_in f.lines) → IsFaultOfDrain f.session f.lines 0 fault → IsFaultOfRun plan traces fault
+undrained : (plan : List Planned) (traces : List (List Packet)) → AreKnown (senders_in plan) traces → (f : Feed) (fault : Fault) → AllByRecursion (HasSent (sent_by traces)) (seats_in f.lines) → IsFaultOfDrain f.lines fault → IsFaultOfRun plan traces fault
 undrained plan traces known f fault sent h = ⊎_elim
     (λ (e : fault ≡ Memory). subst (IsFaultOfRun plan traces) (sym e) tt)
-    (⊎_elim (λ x. stopped plan traces known f.session x.0 _ _ fault x.1) (unsettled plan traces known f.lines fault sent))
+    (unsettled plan traces known f.lines fault sent)
     h
 
 -- A device that isn't closed.

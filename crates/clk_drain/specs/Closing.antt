@@ -6,7 +6,7 @@ use Rattle.clk_packet.specs.declared.fault.Fault.{Fault}
 use Rattle.clk_packet.specs.declared.fault.Fault.TheVariants.{Memory}
 use Rattle.clk_ruled.specs.Queue.{SeatLists, AreNumbered, IsDealt}
 use Rattle.clk_ruled.specs.Settle.{accepted_count, evicted_count, lost_count, IsFaultOfSettle}
-use Rattle.clk_sched.specs.Session.{Progress, counted_moment, GivesAll, StopsAt}
+use Rattle.clk_sched.specs.Session.{Progress, counted_moment, GivesAll}
 use Rattle.clk_sched.specs.Results.{emitted}
 use Rattle.clk_drain.specs.declared.drained.Drained.{Drained}
 use Rattle.clk_drain.specs.Line.{LineLists, seats_of, seats_in, senders_at}
@@ -62,7 +62,6 @@ abbrev pub HasUnsettled : List LineLists → Fault → Type 0
 HasUnsettled [] fault = ⊥
 HasUnsettled (l ∷ lines) fault = IsFaultOfSettle l.tap l.closed l.leaf fault ⊎ (HasReached l × HasUnsettled lines fault)
 
--- Why a session isn't drained over its lines: memory was refused, the drain stopped short, or the queue of a line isn't settled.
-abbrev pub IsFaultOfDrain : Progress → List LineLists → ℕ → Fault → Type 0
-IsFaultOfDrain session lines moment fault =
-    (fault ≡ Memory) ⊎ ((new : Progress) × StopsAt session new (max (counted_moment session) moment) (left_over session lines) fault) ⊎ HasUnsettled lines fault
+-- Why a session isn't drained over its lines: memory was refused, or the queue of a line isn't settled.
+abbrev pub IsFaultOfDrain : List LineLists → Fault → Type 0
+IsFaultOfDrain lines fault = (fault ≡ Memory) ⊎ HasUnsettled lines fault

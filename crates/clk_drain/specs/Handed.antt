@@ -151,4 +151,4 @@ pub record AreSettledTogether (terms : Terms) (feeds : List Feed) (outcome : Out
 -- Why some device isn't closed: memory was refused, or its session isn't drained over its lines.
 abbrev pub IsFaultOfClosing : List Feed → Fault → Type 0
 IsFaultOfClosing [] fault = fault ≡ Memory
-IsFaultOfClosing (f ∷ feeds) fault = IsFaultOfDrain f.session f.lines 0 fault ⊎ IsFaultOfClosing feeds fault
+IsFaultOfClosing (f ∷ feeds) fault = IsFaultOfDrain f.lines fault ⊎ IsFaultOfClosing feeds fault

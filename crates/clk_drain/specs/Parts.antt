@@ -1,14 +1,13 @@
 -- What the parts of a closing say to one another.
-use Rattle.std.specs.Prelude.{◌≡◌, ℕ, ◌+◌, ◌≤◌, true, List, length, map, max}
+use Rattle.std.specs.Prelude.{◌≡◌, ℕ, ◌+◌, ◌-◌, ◌==◌, true, List, [], ◌∷◌, length, map, max, if◌then◌else◌}
 use Rattle.std.specs.List.{flat_map, AllByRecursion}
 use Rattle.std.specs.List.Sorted.{IsPermutation, IsNonDecreasingBy}
 use Rattle.clk_packet.specs.declared.packet.Packet.{Packet}
 use Rattle.clk_packet.specs.declared.tally.Tally.{Tally}
-use Rattle.clk_packet.specs.declared.fault.Fault.{Fault}
 use Rattle.clk_ruled.specs.declared.settling.Settled.{Settled}
 use Rattle.clk_ruled.specs.Queue.{ClosedLists}
-use Rattle.clk_ruled.specs.Settle.{AreTogether, IsSettled, tally_of, all_evicted, accepted_count, evicted_count}
-use Rattle.clk_sched.specs.Session.{Progress, counted_moment, GivesAll, StopsAt}
+use Rattle.clk_ruled.specs.Settle.{AreTogether, IsSettled, IsTakenWithin, IsAllTaken, tally_of, all_evicted, accepted_count, evicted_count}
+use Rattle.clk_sched.specs.Session.{Progress, counted_moment, GivesAll}
 use Rattle.clk_drain.specs.Line.{LineLists, seats_of, lasting_of, AreStill, AreLinesOf}
 
 -- what was taken at a leaf
@@ -19,16 +18,36 @@ taken_at l = (l.leaf, l.tap.taken)
 abbrev pub HasGathered : LineLists → Type 0
 HasGathered l = AllByRecursion (λ (c : ClosedLists). c.is_gathered ≡ true) l.closed
 
+-- no more was taken than was accepted and not evicted, and just as much
+abbrev pub IsWithin : LineLists → Type 0
+IsWithin l = IsTakenWithin l.tap l.closed
+
+abbrev pub HasAllTaken : LineLists → Type 0
+HasAllTaken l = IsAllTaken l.tap l.closed
+
+-- A line whose seats are gathered, and whose tap took no more than they accepted and didn't lose.
+pub record IsGathered (l : LineLists) : Type 0 where
+  pub all : HasGathered l
+  pub within : IsWithin l
+
 -- The seats of a line were gathered, and nothing else changed; and so for each of some lines.
 pub record IsGatheredFrom (old new : LineLists) : Type 0 where
   pub still : lasting_of new ≡ lasting_of old
   pub taken : taken_at new ≡ taken_at old
-  pub all : HasGathered new
+  pub all : IsGathered new
 
 pub record AreGatheredFrom (old new : List LineLists) : Type 0 where
   pub still : AreStill old new
   pub taken : map taken_at new ≡ map taken_at old
-  pub all : AllByRecursion HasGathered new
+  pub all : AllByRecursion IsGathered new
+
+-- how many packets the queue of a gathered line holds, and that at a leaf
+abbrev pub held_of : LineLists → ℕ
+held_of l = accepted_count (seats_of l) - (evicted_count (seats_of l) + length l.tap.taken)
+
+abbrev pub held_at : List LineLists → ℕ → ℕ
+held_at [] q = 0
+held_at (l ∷ lines) q = if l.leaf == q then held_of l else held_at lines q
 
 -- A session was drained of so many packets over its lines, from a moment on.
 pub record IsDrainOf (session : Progress) (lines : List LineLists) (moment left : ℕ) (new : Progress) (after : List LineLists) : Type 0 where
@@ -37,22 +56,11 @@ pub record IsDrainOf (session : Progress) (lines : List LineLists) (moment left 
   pub made : ℕ
   pub gives : GivesAll session new (max (counted_moment session) moment) made left
 
--- The drain stopped short.
-abbrev pub HasStopped : Progress → ℕ → ℕ → Fault → Type 0
-HasStopped session moment left fault = (new : Progress) × StopsAt session new (max (counted_moment session) moment) left fault
-
 -- The queue of a line is settled.
 pub record IsSettledLine (l : LineLists) : Type 0 where
   pub together : AreTogether l.tap l.closed
   pub settled : Settled
   pub is : IsSettled l.tap l.closed settled
-
--- no more was taken than was accepted and not evicted, and just as much
-abbrev pub IsWithin : LineLists → Type 0
-IsWithin l = evicted_count (seats_of l) + length l.tap.taken ≤ accepted_count (seats_of l)
-
-abbrev pub HasAllTaken : LineLists → Type 0
-HasAllTaken l = accepted_count (seats_of l) ≡ evicted_count (seats_of l) + length l.tap.taken
 
 -- the tallies of a line, and of all lines
 abbrev pub tallies_of : LineLists → List Tally

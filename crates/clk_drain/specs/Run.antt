@@ -3,7 +3,7 @@ use Rattle.std.specs.Prelude.{◌≡◌, ℕ, ◌==◌, ◌<◌, false, true, Li
 use Rattle.std.specs.List.{AllByRecursion}
 use Rattle.clk_packet.specs.declared.packet.Packet.{Packet}
 use Rattle.clk_packet.specs.declared.fault.Fault.{Fault}
-use Rattle.clk_packet.specs.declared.fault.Fault.TheVariants.{Memory, UnknownSender, TooManyPulls, Unsettled}
+use Rattle.clk_packet.specs.declared.fault.Fault.TheVariants.{Memory, UnknownSender, Unsettled}
 use Rattle.clk_packet.specs.Limits.{most_sender}
 use Rattle.clk_packet.specs.Trace.{sent_by}
 use Rattle.clk_ruled.specs.Lists.{has_sender}
@@ -76,10 +76,9 @@ pub record HasLostBelow (traces : List (List Packet)) (accepted capacity : ℕ) 
   pub below : accepted < capacity
 
 -- Why a run of a plan over a trace is refused: memory or a thread, the least sender that the plan doesn't have, or, with senders that
--- it all has, a drain that stopped short, or a queue that lost packets below its capacity.
+-- it all has, a queue that lost packets below its capacity.
 abbrev pub IsFaultOfRun : List Planned → List (List Packet) → Fault → Type 0
 IsFaultOfRun plan traces Memory = ⊤
 IsFaultOfRun plan traces (UnknownSender s) = IsFirstUnknown (senders_in plan) traces s
-IsFaultOfRun plan traces (TooManyPulls made) = AreKnown (senders_in plan) traces
 IsFaultOfRun plan traces (Unsettled leaf accepted capacity) = AreKnown (senders_in plan) traces × HasLostBelow traces accepted capacity
 IsFaultOfRun plan traces fault = ⊥

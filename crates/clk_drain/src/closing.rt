@@ -3,17 +3,18 @@
 ghost use Rattle.std.specs.Prelude.{◌≡◌, ◌⊎◌, ◌+◌, ◌-◌, ◌<◌, ◌≤◌, ◌++◌, true, max, IfOk, IfErr, OnOk, IsOkUnless};
 ghost use Rattle.std.specs.List.{AllByRecursion};
 ghost use Rattle.clk_packet.specs.declared.fault.Fault.TheVariants.{Memory};
+ghost use Rattle.clk_sched.specs.Closing.{left_in};
 ghost use Rattle.clk_sched.specs.Limits.{most_left, end_of_drains};
 ghost use Rattle.clk_sched.specs.Results.{emitted};
 ghost use Rattle.clk_sched.specs.Session.{counted_moment};
 ghost use Rattle.clk_sched.specs.Tree.{leaves_distinct};
 ghost use Rattle.clk_drain.specs.Line.{AreLinesOf, HaveOwnSenders};
-ghost use Rattle.clk_drain.specs.Closing.{accepted_over, evicted_over, IsDrainedOver, IsFaultOfDrain, HasUnsettled};
-ghost use Rattle.clk_drain.specs.Parts.{HasGathered, AreGatheredFrom, IsDrainOf, HasStopped, IsSettledLine, AreInOrder, tallies_in};
+ghost use Rattle.clk_drain.specs.Closing.{accepted_over, evicted_over, left_over, IsDrainedOver, IsFaultOfDrain, HasUnsettled};
+ghost use Rattle.clk_drain.specs.Parts.{IsGathered, held_at, AreGatheredFrom, IsDrainOf, IsSettledLine, AreInOrder, tallies_in};
 
 use crate::drained::Drained;
 use crate::line::Line;
-use crate::lines::Lines;
+use crate::lines::GatheredLines;
 use clk_packet::{Fault, Packet, Tally};
 use clk_ruled::Settled;
 use clk_sched::{Session, Visit, runs_conserve_packets};
@@ -22,16 +23,15 @@ use std::sync::Wait;
 
 /// Closes a session whose lines are all closed: what is left in their queues and in the tree is drained to the device, one tick
 /// apart, the first time one tick after the later of this moment and the session's, and each queue is settled. Every seat is gathered
-/// before the first pull. `left` is what all queues accepted, less what they evicted and what was emitted.
+/// before the first pull, so that the drain always comes to its end: a tap that answers none has then given all.
 ///
 /// Of each sender just those packets come out, before or now, that its queue accepted and didn't evict, each once, in the order in
 /// which they were sent.
 ///
 /// # Errors
 ///
-/// Fault 1 where memory is refused. Fault 17 with the number of pulls after `bound(left)` pulls that gave fewer packets. Fault 21
-/// with the leaf of the first queue that refused or evicted a packet though it accepted fewer than its capacity. Nothing is handed
-/// back.
+/// Fault 1 where memory is refused. Fault 21 with the leaf of the first queue that refused or evicted a packet though it accepted
+/// fewer than its capacity. Nothing is handed back.
 pub fn close_and_drain<W: Wait>(
     alloc: Global,
     wait: &W,
@@ -44,11 +44,11 @@ pub fn close_and_drain<W: Wait>(
     requires few { accepted_over lines.items ≤ most_left }
     requires moment { max (counted_moment session) moment < end_of_drains }
     ensures drained { IfOk result (IsDrainedOver session lines.items moment) }
-    ensures fault { IfErr result (IsFaultOfDrain session lines.items moment) }
+    ensures fault { IfErr result (IsFaultOfDrain lines.items) }
 {
     runs_conserve_packets();
     let lines = gathered(lines);
-    let left = left(&lines, session.came_out().len() as u64);
+    let left = left(&session, &lines);
     let (session, lines) = drain(wait, session, lines, left, moment)?;
     let tallies = settle_all(alloc, lines)?;
     let (log, emitted) = came_to(session);
@@ -88,7 +88,7 @@ fn gather_all(lines: &mut [Line])
     }
 }
 
-// Drains a session over its lines, whose seats are all gathered, so that a tap that answers none has given all.
+// Drains a session over its lines, whose seats are all gathered, of all that queues and heads hold.
 fn drain<W: Wait>(
     wait: &W,
     session: Session,
@@ -97,24 +97,31 @@ fn drain<W: Wait>(
     moment: u64,
 ) -> Result<(Session, Vec<Line>), Fault>
     requires lines { AreLinesOf session lines.items }
-    requires gathered { AllByRecursion HasGathered lines.items }
-    requires left { left ≤ most_left }
+    requires gathered { AllByRecursion IsGathered lines.items }
+    requires few { left ≤ most_left }
+    requires left { left ≡ left_in session.tree session.log (held_at lines.items) }
     requires moment { max (counted_moment session) moment < end_of_drains }
     ensures drained { IfOk result (λ drained. IsDrainOf session lines.items moment left drained.0 drained.1.items) }
-    ensures fault { IfErr result (HasStopped session moment left) }
+    ensures fault { IsOkUnless result Fault.Memory }
 {
     let mut session = session;
-    let mut lines = Lines::new(wait, lines);
+    let mut lines = GatheredLines::new(wait, lines);
     session.drain(&mut lines, left, moment)?;
     Ok((session, lines.into_vec()))
 }
 
-// How many packets are left, where so many were emitted.
-fn left(lines: &[Line], emitted: u64) -> u64
+// How many packets are left: what all queues accepted, less what they evicted and what was emitted. So many do queues and heads hold.
+fn left(session: &Session, lines: &[Line]) -> u64
+    requires lines { AreLinesOf session.now lines.now }
+    requires gathered { AllByRecursion IsGathered lines.now }
     requires few { accepted_over lines.now ≤ most_left }
-    ensures { result ≡ accepted_over lines.now - (evicted_over lines.now + emitted) }
+    ensures over { result ≡ left_over session.now lines.now }
+    ensures held { result ≡ left_in session.now.tree session.now.log (held_at lines.now) }
 {
-    less_evicted(lines, accepted(lines)).saturating_sub(emitted)
+    runs_conserve_packets();
+    // That no queue stands twice in its tree is known where the log is read.
+    let _ = session.log();
+    accepted(lines) - evicted(lines) - session.came_out().len() as u64
 }
 
 // How many packets the queues accepted.
@@ -129,15 +136,16 @@ fn accepted(lines: &[Line]) -> u64
     accepted
 }
 
-// So many, less those that the queues evicted, or 0 where that is below.
-fn less_evicted(lines: &[Line], packets: u64) -> u64
-    ensures { result ≡ packets - evicted_over lines.now }
+// How many packets the queues evicted.
+fn evicted(lines: &[Line]) -> u64
+    requires few { evicted_over lines.now ≤ most_left }
+    ensures { result ≡ evicted_over lines.now }
 {
-    let mut left = packets;
+    let mut evicted = 0;
     for line in lines {
-        left = line.less_evicted(left);
+        evicted += line.evicted();
     }
-    left
+    evicted
 }
 
 // Settles the lines: a tally for each sender, by rising number.

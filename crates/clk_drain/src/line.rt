@@ -32,12 +32,11 @@ impl Model for Line {
 }
 
 impl Line {
-    ghost use Rattle.std.specs.Prelude.{◌≡◌, ◌+◌, ◌-◌, ◌≤◌, length, None, IfOk, IfErr};
-    ghost use Rattle.clk_ruled.specs.Queue.{AreAllGathered, accepted_in_all, evicted_in_all};
+    ghost use Rattle.std.specs.Prelude.{◌≡◌, ◌≤◌, None, IfOk, IfErr};
     ghost use Rattle.clk_ruled.specs.Settle.{IsSettled, IsFaultOfSettle, AreTogether, accepted_count, evicted_count};
     ghost use Rattle.clk_sched.specs.Limits.{most_left};
     ghost use Rattle.clk_drain.specs.Line.{pulling, packets_of, seats_of};
-    ghost use Rattle.clk_drain.specs.Parts.{IsGatheredFrom};
+    ghost use Rattle.clk_drain.specs.Parts.{HasGathered, IsWithin, HasAllTaken, IsGatheredFrom};
 
     /// The number of its leaf.
     pub fn leaf(&self) -> u16
@@ -49,8 +48,10 @@ impl Line {
     /// Pulls the packet at the front of the queue, or answers none where it found it empty. Takes no memory.
     pub fn pull(&mut self, wait: &impl Wait) -> Option<Packet>
         ensures pulled { self.new ≡ pulling self.old (packets_of result) }
-        // With every seat gathered, none comes only where as many were taken as were accepted, less those evicted.
-        ensures none { result ≡ None → AreAllGathered self.new.tap → length self.new.tap.taken + evicted_in_all self.new.tap.gathered ≡ accepted_in_all self.new.tap.gathered }
+        // With every seat gathered, no more are taken than were accepted, less those evicted, and none comes only where they are as
+        // many.
+        ensures within { HasGathered self.new → IsWithin self.new }
+        ensures none { result ≡ None → HasGathered self.new → HasAllTaken self.new }
     {
         calls_keep_together();
         self.tap.pull(&self.queue, wait)
@@ -61,6 +62,8 @@ impl Line {
         ensures gathered { IsGatheredFrom self.old self.new }
     {
         gather_seats(&self.queue, &mut self.tap, &mut self.closed);
+        // That no more was taken than came is known where it is read.
+        let _ = self.tap.taken();
     }
 
     // How many packets the queue accepted.
@@ -75,15 +78,16 @@ impl Line {
         accepted
     }
 
-    // So many, less those that the queue evicted, or 0 where that is below.
-    pub(crate) fn less_evicted(&self, packets: u64) -> u64
-        ensures { result ≡ packets - evicted_count (seats_of self.now) }
+    // How many packets the queue evicted.
+    pub(crate) fn evicted(&self) -> u64
+        requires few { evicted_count (seats_of self.now) ≤ most_left }
+        ensures { result ≡ evicted_count (seats_of self.now) }
     {
-        let mut left = packets;
+        let mut evicted = 0;
         for seat in &self.closed {
-            left = left.saturating_sub(seat.evicted().len() as u64);
+            evicted += seat.evicted().len() as u64;
         }
-        left
+        evicted
     }
 
     // Settles the queue.

@@ -1,5 +1,12 @@
 //! The lines of a session, as what it pulls from.
 
+ghost use Rattle.std.specs.Prelude.{◌≡◌, false, None};
+ghost use Rattle.std.specs.List.{AllByRecursion};
+ghost use Rattle.clk_sched.specs.Closing.{TakesOne};
+ghost use Rattle.clk_drain.specs.Senders.{Rise};
+ghost use Rattle.clk_drain.specs.Line.{PullsAt, has_line, leaves_of};
+ghost use Rattle.clk_drain.specs.Parts.{IsGathered, held_at};
+
 use crate::line::Line;
 use clk_packet::{Fault, Packet};
 use clk_sched::{Ask, Session};
@@ -69,24 +76,96 @@ impl<'a, W: Wait> Lines<'a, W> {
 }
 
 impl<'a, W: Wait> Ask for Lines<'a, W> {
-    ghost use Rattle.std.specs.Prelude.{[]};
     ghost use Rattle.clk_drain.specs.Line.{PullsAt, has_line};
 
     ghost has = { has_line };
 
-    // What a shared queue holds is known by no one alone.
-    ghost holds = { λ s leaf. [] };
+    // What a shared queue holds is known by no one alone, while producers offer.
+    ghost holds = { λ s leaf. 0 };
 
     ghost gives = { PullsAt };
 
     fn ask(&mut self, leaf: u16) -> Option<Packet> {
-        match self.each.binary_search_by_key(&leaf, |line| line.leaf()) {
-            Ok(place) => {
-                let wait = self.wait;
-                let line = &mut self.each[place];
-                line.pull(wait)
-            }
-            Err(_) => None,
+        pull_at(&mut self.each, self.wait, leaf)
+    }
+}
+
+/// Lines, of rising leaves, whose taps gathered all seats. So it is known how many packets each queue holds, and one that answers none has
+/// given all: they lose nothing.
+#[derive(Drop)]
+pub(crate) struct GatheredLines<'a, W: Wait> {
+    wait: &'a W,
+    each: Vec<Line>,
+}
+
+impl<'a, W: Wait> Model for GatheredLines<'a, W> {
+    ghost use Rattle.std.specs.Prelude.{List};
+    ghost use Rattle.std.specs.List.{AllByRecursion};
+    ghost use Rattle.clk_drain.specs.Senders.{Rise};
+    ghost use Rattle.clk_drain.specs.Line.{LineLists, leaves_of};
+    ghost use Rattle.clk_drain.specs.Parts.{IsGathered};
+
+    ghost Value = { List LineLists };
+
+    ghost view = { λ l. l.each.items };
+
+    ghost invariant = { λ l. Rise (leaves_of l.each.items) × AllByRecursion IsGathered l.each.items };
+}
+
+impl<'a, W: Wait> GatheredLines<'a, W> {
+    ghost use Rattle.std.specs.Prelude.{◌≡◌};
+    ghost use Rattle.std.specs.List.{AllByRecursion};
+    ghost use Rattle.clk_drain.specs.Senders.{Rise};
+    ghost use Rattle.clk_drain.specs.Line.{leaves_of};
+    ghost use Rattle.clk_drain.specs.Parts.{IsGathered};
+
+    // Lines of rising leaves, whose seats are all gathered. `wait` is what their queues wait by.
+    pub(crate) fn new(wait: &'a W, each: Vec<Line>) -> GatheredLines<'a, W>
+        requires rise { Rise (leaves_of each.items) }
+        requires gathered { AllByRecursion IsGathered each.items }
+        ensures { result ≡ each.items }
+    {
+        GatheredLines { wait, each }
+    }
+
+    // The lines, without taking memory.
+    pub(crate) fn into_vec(self) -> Vec<Line>
+        ensures { result.items ≡ self.entry }
+    {
+        self.each
+    }
+}
+
+impl<'a, W: Wait> Ask for GatheredLines<'a, W> {
+    ghost use Rattle.clk_sched.specs.Closing.{TakesOne};
+    ghost use Rattle.clk_drain.specs.Line.{PullsAt, has_line};
+    ghost use Rattle.clk_drain.specs.Parts.{held_at};
+
+    ghost has = { has_line };
+
+    ghost holds = { held_at };
+
+    ghost gives = { λ old leaf got new. PullsAt old leaf got new × TakesOne (held_at old) (held_at new) leaf got };
+
+    fn ask(&mut self, leaf: u16) -> Option<Packet> {
+        pull_at(&mut self.each, self.wait, leaf)
+    }
+}
+
+// Pulls the line of a leaf, if there is one.
+fn pull_at<W: Wait>(lines: &mut Vec<Line>, wait: &W, leaf: u16) -> Option<Packet>
+    requires rise { Rise (leaves_of lines.old.items) }
+    ensures rise { Rise (leaves_of lines.new.items) }
+    ensures pulled { PullsAt lines.old.items leaf result lines.new.items }
+    ensures missing { has_line lines.old.items leaf ≡ false → result ≡ None }
+    ensures gathered { AllByRecursion IsGathered lines.old.items → AllByRecursion IsGathered lines.new.items }
+    ensures takes { AllByRecursion IsGathered lines.old.items → TakesOne (held_at lines.old.items) (held_at lines.new.items) leaf result }
+{
+    match lines.binary_search_by_key(&leaf, |line| line.leaf()) {
+        Ok(place) => {
+            let line = &mut lines[place];
+            line.pull(wait)
         }
+        Err(_) => None,
     }
 }

@@ -47,8 +47,8 @@ use std::thread::Threads;
 /// # Errors
 ///
 /// Fault 1 where memory or a thread is refused. Fault 15 with the least sender that the trace has and the plan hasn't, before anything
-/// is opened. Fault 17 where a drain stops short, and 21 where a queue lost packets though it accepted fewer than its capacity. At
-/// every fault all threads have ended, and nothing is handed back.
+/// is opened. Fault 21 where a queue lost packets though it accepted fewer than its capacity. At every fault all threads have ended,
+/// and nothing is handed back.
 pub fn run<R: Threads + Wait, W: Wait + Sync, G: Gate + Sync>(
     rt: &R,
     alloc: Global,

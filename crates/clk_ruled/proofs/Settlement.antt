@@ -1,8 +1,9 @@
 -- What is known of a queue, once the tap has the lists of all its seats.
-use Rattle.std.proofs.Common.{◌≡◌, ℕ, ◌<◌, ◌≤◌, ◌==◌, Bool, true, false, List, [], ◌∷◌, ◌++◌, length, map, refl, sym, ap, ◌∙◌, subst, ⊎_elim, arith, if◌then◌else◌}
+use Rattle.std.proofs.Common.{◌≡◌, ℕ, ◌+◌, ◌<◌, ◌≤◌, ◌==◌, Bool, true, false, List, [], ◌∷◌, ◌++◌, length, map, refl, sym, ap, ◌∙◌, subst, ⊎_elim, arith, if◌then◌else◌}
 use Rattle.std.proofs.lemmas.List.{append-nil, length-append, nil_from_length}
 use Rattle.std.specs.List.{flat_map, AllByRecursion}
 use Rattle.atomic_table.specs.Seated.{TableId}
+use Rattle.crossbeam_queue.specs.Fifo.{Held}
 use Rattle.clk_packet.specs.declared.packet.Packet.{Packet}
 use Rattle.clk_ruled.specs.declared.settling.Settled.{Settled}
 use Rattle.clk_ruled.specs.declared.view.Gathered.{Gathered}
@@ -13,11 +14,12 @@ use Rattle.clk_ruled.specs.Keys.{AreKeysOf, has_key}
 use Rattle.clk_ruled.specs.Lists.{of_sender, has_sender, without}
 use Rattle.clk_ruled.specs.Parts.{TapKeeps}
 use Rattle.clk_ruled.specs.Queue.{SeatLists, TapLists, ClosedLists, IsSharedOut}
-use Rattle.clk_ruled.specs.Rule.{Books, FitsTap, AreGathered, evicted_by, taken_in, senders_of}
-use Rattle.clk_ruled.specs.Settle.{lists_of, as_gathered, accepted_of, evicted_of, all_evicted, accepted_count, evicted_count, lost_count, IsAmong, AreTogether, HasEach, tally_by, tally_of, IsSettled, IsAccounted}
+use Rattle.clk_ruled.specs.Rule.{Books, FitsTap, IsSound, AreGathered, Knows, evicted_by, taken_in, senders_of}
+use Rattle.clk_ruled.specs.Settle.{lists_of, as_gathered, accepted_of, evicted_of, all_evicted, accepted_count, evicted_count, lost_count, IsAmong, AreOfTap, AreTogether, HasEach, HasAllSeats, IsTakenWithin, IsAllTaken, tally_by, tally_of, IsSettled, IsAccounted}
 use Rattle.clk_ruled.proofs.Account.{account, all-counted, as-many, left-held, evicted_in}
 use Rattle.clk_ruled.proofs.Counts.{true-eq}
 use Rattle.clk_ruled.proofs.KeyLemmas.{key-packet}
+use Rattle.clk_ruled.proofs.TapSteps.{TapKnows, tap-knows, knows-held}
 use Rattle.clk_ruled.proofs.Tally.{times_in_all, senders_named, of-times, named-length, counted, rise-apart, unroomed}
 
 -- what a tap keeps tells that its queue is accounted for
@@ -92,6 +94,56 @@ same-senders (l ∷ seats) = ap (λ k. l.sender ∷ k) (same-senders seats)
 pub tallies-same : (packets : List Packet) (keys : List (ℕ × ℕ)) → AreKeysOf packets keys → (seats : List SeatLists) → map (tally_by (has_key keys)) seats ≡ map (tally_of packets) seats
 tallies-same packets keys same seats = ap (λ (f : Packet → Bool). map (tally_by f) seats) (λ i p. key-packet packets keys same p i)
 
+-- What the books say of seats that are all of their queue's: what each sender's seat had, and how many packets came and were put out in all.
+record AreBooked (b : Books) (seats : List SeatLists) : Type 0 where
+  accepted : (s : ℕ) → of_sender s b.all ≡ accepted_of seats s
+  evicted : (s : ℕ) → evicted_by s b.gone ≡ evicted_of seats s
+  out : evicted_in b ≡ all_evicted seats
+  came : accepted_count seats ≡ length b.all
+
+booked : (b : Books) (held : List Packet) (setup : Setup) (seats : List SeatLists) → IsSound b held → b.setup ≡ setup → map (λ (l : SeatLists). (l.sender, l.room)) seats ≡ setup.rooms → AreFit b seats → AreBooked b seats
+booked b held setup seats sound same rooms fit =
+    let senders : senders_of b.setup ≡ senders_at seats = ap (λ (y : Setup). senders_of y) same ∙ ap (map (λ (r : ℕ × ℕ). r.0)) (sym rooms) ∙ same-senders seats in
+    let unknown : (s : ℕ) → has_sender (senders_at seats) s ≡ false → has_sender (senders_of b.setup) s ≡ false = λ s e. ap (λ l. has_sender l s) senders ∙ e in
+    let none_came : (s : ℕ) → has_sender (senders_at seats) s ≡ false → of_sender s b.all ≡ [] = λ s e. nil_from_length (of_sender s b.all) (unroomed b.setup.rooms s (length (of_sender s b.all)) (sound.room s) (unknown s e)) in
+    let apart = subst (λ (l : List ℕ). (t : ℕ) → has_sender l t ≡ false → length (of_sender t b.all) ≡ 0) (sym senders) (λ t e. ap length (none_came t e)) in record {
+      accepted = λ s. sym (accepted-fits b s seats fit (none_came s));
+      evicted = λ s. sym (evicted-fits b s seats fit (λ e. sound.known s (unknown s e)));
+      out = ap (flat_map (λ s. evicted_by s b.gone)) senders ∙ sym (all-evicted-fit b seats fit);
+      came = accepted-times b seats fit ∙ ap (λ l. times_in_all l (senders_named b.all)) (sym senders)
+          ∙ counted (senders_of b.setup) (senders_named b.all) (rise-apart b.setup.rooms sound.senders_rise) (λ t e. sym (of-times t b.all) ∙ apart t e) ∙ named-length b.all;
+    }
+
+-- What came to a queue was put out, or taken, or is held, by the lists of all its seats.
+seats-balance : (b : Books) (held : List Packet) (tap : TapLists) (seats : List SeatLists) → IsSound b held → tap.taken ≡ taken_in b.gone → AreBooked b seats
+    → evicted_count seats + length tap.taken + length held ≡ accepted_count seats
+seats-balance b held tap seats sound taken is =
+    let all = all-counted b held sound in let came = is.came in
+    let gone = evicted-length seats ∙ ap length (sym is.out) in let mine = ap length taken in omega (arith, all, came, gone, mine)
+
+-- the tap has the lists of seats that are all gathered
+each-had : (tap : TapLists) (closed : List ClosedLists) → AreOfTap tap closed → AllByRecursion (λ (c : ClosedLists). c.is_gathered ≡ true) closed → HasEach tap (lists_of closed)
+each-had tap [] of all = tt
+each-had tap (c ∷ closed) of all = (of.0.had all.0, each-had tap closed of.1 all.1)
+
+-- the tap's queue, by what the books say
+abbrev tap_of : TableId → View → List Packet → TapLists
+tap_of id v taken = record { id = id; setup = v.setup; taken = taken; gathered = v.gathered }
+
+all-seats : (id : TableId) (v : View) (taken held : List Packet) (closed : List ClosedLists) → TapKnows v taken held → HasAllSeats (tap_of id v taken) closed
+    → evicted_count (lists_of closed) + length taken + length held ≡ accepted_count (lists_of closed)
+all-seats id v taken held closed known seats =
+    let tap : TapLists = tap_of id v taken in
+    let fit = each-fit known.books v.given tap (lists_of closed) known.gathered (each-had tap closed seats.together.each seats.gathered) in
+    seats-balance known.books held tap (lists_of closed) known.sound known.taken_is (booked known.books held v.setup (lists_of closed) known.sound (sym known.setup) seats.together.senders fit)
+
+pub seats-within : (id : TableId) (v : View) (taken : List Packet) → TapKeeps v taken → (closed : List ClosedLists) → HasAllSeats (tap_of id v taken) closed → IsTakenWithin (tap_of id v taken) closed
+seats-within id v taken k closed seats = let all = all-seats id v taken k.knows.0 closed (tap-knows v taken k) seats in omega (arith, all)
+
+pub seats-all : (id : TableId) (v : View) (taken : List Packet) → TapKeeps v taken → Held 0 (Knows v) → (closed : List ClosedLists) → HasAllSeats (tap_of id v taken) closed → IsAllTaken (tap_of id v taken) closed
+seats-all id v taken k held closed seats =
+    let all = all-seats id v taken held.0 closed (knows-held v taken held.0 k held.2) seats in let none = held.1 in omega (arith, all, none)
+
 -- The tap has the lists of all seats, and so all is told.
 pub settles : (tap new : TapLists) (closed : List ClosedLists) (settled : Settled) → AreTogether tap closed → (new.setup ≡ tap.setup) × (new.taken ≡ tap.taken) → HasEach new (lists_of closed) → IsAccounted new
     → settled.taken.items ≡ new.taken → settled.tallies.items ≡ map (tally_of (all_evicted (lists_of closed))) (lists_of closed)
@@ -100,28 +152,19 @@ settles tap new closed settled together same has a taken tallies shared reached 
     let b : Books = a.books in let seats : List SeatLists = lists_of closed in
     let setup : b.setup ≡ tap.setup = sym a.setup ∙ same.0 in
     let took : taken_in b.gone ≡ tap.taken = sym a.taken ∙ same.1 in
-    let rise = a.sound.senders_rise in
-    let fit : AreFit b seats = each-fit b a.given new seats a.gathered has in
-    let senders : senders_of b.setup ≡ senders_at seats = ap (λ (y : Setup). senders_of y) setup ∙ ap (map (λ (r : ℕ × ℕ). r.0)) (sym together.senders) ∙ same-senders seats in
-    let unknown : (s : ℕ) → has_sender (senders_at seats) s ≡ false → has_sender (senders_of b.setup) s ≡ false = λ s e. ap (λ l. has_sender l s) senders ∙ e in
-    let none_came : (s : ℕ) → has_sender (senders_at seats) s ≡ false → of_sender s b.all ≡ [] = λ s e. nil_from_length (of_sender s b.all) (unroomed b.setup.rooms s (length (of_sender s b.all)) (a.sound.room s) (unknown s e)) in
-    let accepted : (s : ℕ) → of_sender s b.all ≡ accepted_of seats s = λ s. sym (accepted-fits b s seats fit (none_came s)) in
-    let evicted : (s : ℕ) → evicted_by s b.gone ≡ evicted_of seats s = λ s. sym (evicted-fits b s seats fit (λ e. a.sound.known s (unknown s e))) in
-    let out : evicted_in b ≡ all_evicted seats = ap (flat_map (λ s. evicted_by s b.gone)) senders ∙ sym (all-evicted-fit b seats fit) in
-    let apart = subst (λ (l : List ℕ). (t : ℕ) → has_sender l t ≡ false → length (of_sender t b.all) ≡ 0) (sym senders) (λ t e. ap length (none_came t e)) in
-    let came = accepted-times b seats fit ∙ ap (λ l. times_in_all l (senders_named b.all)) (sym senders) ∙ counted (senders_of b.setup) (senders_named b.all) (rise-apart b.setup.rooms rise) (λ t e. sym (of-times t b.all) ∙ apart t e) ∙ named-length b.all in
-    let gone = evicted-length seats ∙ ap length (sym out) in let mine = ap length took in
+    let is = booked b a.held tap.setup seats a.sound setup together.senders (each-fit b a.given new seats a.gathered has) in
+    let gone = evicted-length seats ∙ ap length (sym is.out) in let came = is.came in let mine = ap length took in
     let whole = account b a.held a.sound in record {
       taken = taken ∙ same.1;
       tallies = tallies;
       held = a.held;
       account = subst (λ (x : Setup × (ℕ → List Packet) × (ℕ → List Packet) × List Packet). IsAccount x.0.kind x.0.capacity (senders_of x.0) x.1 x.2 x.3 a.held)
-          (λ i. (setup i, (λ s. accepted s i), (λ s. evicted s i), took i)) whole;
-      left = λ s. ((whole.is_last s).0, sym (accepted s) ∙ (whole.is_last s).1 ∙ ap (λ l. (whole.is_last s).0 ++ l) (sym (left-held b a.held a.sound s) ∙ (λ i. without (without (accepted s i) (out i)) (took i))));
+          (λ i. (setup i, (λ s. is.accepted s i), (λ s. is.evicted s i), took i)) whole;
+      left = λ s. ((whole.is_last s).0, sym (is.accepted s) ∙ (whole.is_last s).1 ∙ ap (λ l. (whole.is_last s).0 ++ l) (sym (left-held b a.held a.sound s) ∙ (λ i. without (without (is.accepted s i) (is.out i)) (took i))));
       all_taken = λ many s.
           let held : a.held ≡ [] = as-many b a.held a.sound (omega (arith, many, came, gone, mine)) in
-          sym (λ i. without (accepted s i) (out i)) ∙ whole.balances s ∙ (λ i. of_sender s (took i) ++ of_sender s (held i)) ∙ append-nil (of_sender s tap.taken);
-      within = let all = all-counted b a.held a.sound in omega (arith, all, came, gone, mine);
+          sym (λ i. without (is.accepted s i) (is.out i)) ∙ whole.balances s ∙ (λ i. of_sender s (took i) ++ of_sender s (held i)) ∙ append-nil (of_sender s tap.taken);
+      within = let all = seats-balance b a.held tap seats a.sound (sym took) is in omega (arith, all);
       shared = shared;
       reached = reached;
     }

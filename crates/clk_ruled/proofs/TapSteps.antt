@@ -39,18 +39,18 @@ pub keeps-still : (v w : View) (taken : List Packet) → TapKeeps v taken → w 
 keeps-still v w taken k is = subst (λ (u : View). TapKeeps u taken) (sym is) k
 
 -- what the books say that the tap knows of
-record TapKnows (v : View) (taken held : List Packet) : Type 0 where
-  books : Books
-  sound : IsSound books held
-  setup : v.setup ≡ books.setup
-  taken_is : taken ≡ taken_in books.gone
-  gathered : AreGathered books v.given v.gathered
+pub record TapKnows (v : View) (taken held : List Packet) : Type 0 where
+  pub books : Books
+  pub sound : IsSound books held
+  pub setup : v.setup ≡ books.setup
+  pub taken_is : taken ≡ taken_in books.gone
+  pub gathered : AreGathered books v.given v.gathered
 
-knows-held : (v : View) (taken held : List Packet) → TapKeeps v taken → Knows v held → TapKnows v taken held
+pub knows-held : (v : View) (taken held : List Packet) → TapKeeps v taken → Knows v held → TapKnows v taken held
 knows-held v taken held k knows = let fits : FitsTap knows.0 knows.1 v = knows.3.1 k.taps in
     record { books = knows.0; sound = knows.2; setup = fits.setup; taken_is = sym k.taken_is ∙ fits.taken; gathered = fits.gathered }
 
-tap-knows : (v : View) (taken : List Packet) (k : TapKeeps v taken) → TapKnows v taken k.knows.0
+pub tap-knows : (v : View) (taken : List Packet) (k : TapKeeps v taken) → TapKnows v taken k.knows.0
 tap-knows v taken k = knows-held v taken k.knows.0 k k.knows.1
 
 -- What was taken is within all that came.

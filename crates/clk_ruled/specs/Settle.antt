@@ -67,6 +67,18 @@ pub record AreTogether (tap : TapLists) (closed : List ClosedLists) : Type 0 whe
   pub senders : map (λ (l : SeatLists). (l.sender, l.room)) (lists_of closed) ≡ tap.setup.rooms
   pub each : AreOfTap tap closed
 
+-- The closed seats are all that the tap's queue was opened with, and the tap gathered each.
+pub record HasAllSeats (tap : TapLists) (closed : List ClosedLists) : Type 0 where
+  pub together : AreTogether tap closed
+  pub gathered : AllByRecursion (λ (c : ClosedLists). c.is_gathered ≡ true) closed
+
+-- no more was taken than these seats' packets that weren't put out, and just as much
+abbrev pub IsTakenWithin : TapLists → List ClosedLists → Type 0
+IsTakenWithin tap closed = evicted_count (lists_of closed) + length tap.taken ≤ accepted_count (lists_of closed)
+
+abbrev pub IsAllTaken : TapLists → List ClosedLists → Type 0
+IsAllTaken tap closed = accepted_count (lists_of closed) ≡ evicted_count (lists_of closed) + length tap.taken
+
 -- a seat as it would be, closed now
 abbrev pub closing : SeatLists → ClosedLists
 closing l = record { lists = l; is_gathered = false }

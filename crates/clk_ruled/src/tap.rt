@@ -35,11 +35,12 @@ impl Model for Tap {
 }
 
 impl Tap {
-    ghost use Rattle.std.specs.Prelude.{◌≡◌, ℕ, ◌≤◌, ◌+◌, true, false, [], length, None, IfOk, IsOkUnless};
+    ghost use Rattle.std.specs.Prelude.{◌≡◌, ℕ, ◌≤◌, ◌+◌, true, false, List, [], length, None, IfOk, IsOkUnless};
     ghost use Rattle.crossbeam_queue.specs.Passes.{view as known, IsPassOf};
     ghost use Rattle.clk_packet.specs.declared.fault.Fault.TheVariants.{Memory};
     ghost use Rattle.clk_ruled.specs.Lists.{rooms_in_all, of_sender, IsRising};
-    ghost use Rattle.clk_ruled.specs.Queue.{IsTapOf, IsPulled, AreOfSenders, AreAllGathered, accepted_in_all, evicted_in_all, gathering, empty_tap};
+    ghost use Rattle.clk_ruled.specs.Queue.{ClosedLists, IsTapOf, IsPulled, AreOfSenders, AreAllGathered, accepted_in_all, evicted_in_all, gathering, empty_tap};
+    ghost use Rattle.clk_ruled.specs.Settle.{HasAllSeats, IsTakenWithin, IsAllTaken};
 
     // The tap of a queue that is open, with room for so many packets.
     pub(crate) fn fresh(
@@ -73,6 +74,9 @@ impl Tap {
         // where they are as many.
         ensures within { AreAllGathered self.new → length self.new.taken + evicted_in_all self.new.gathered ≤ accepted_in_all self.new.gathered }
         ensures none { result ≡ None → AreAllGathered self.new → length self.new.taken + evicted_in_all self.new.gathered ≡ accepted_in_all self.new.gathered }
+        // The same by the closed seats.
+        ensures seats_within { (closed : List ClosedLists) → HasAllSeats self.new closed → IsTakenWithin self.new closed }
+        ensures seats_none { result ≡ None → (closed : List ClosedLists) → HasAllSeats self.new closed → IsAllTaken self.new closed }
     {
         let pulled = queue.line.pop_as::<Pull, _>(wait, &mut self.pass);
         if let Some(packet) = pulled {
@@ -104,7 +108,9 @@ impl Tap {
 
     /// The packets that it pulled, in order.
     pub fn taken(&self) -> &[Packet]
-        ensures { result.now ≡ self.now.taken }
+        ensures taken { result.now ≡ self.now.taken }
+        // As after a pull.
+        ensures seats_within { (closed : List ClosedLists) → HasAllSeats self.now closed → IsTakenWithin self.now closed }
     {
         self.taken.as_slice()
     }

@@ -18,7 +18,7 @@ use Rattle.clk_sched.specs.Tree.{Tree, root, queue_at, is_number, leaves_distinc
 use Rattle.clk_sched.specs.Results.{asks_queue}
 use Rattle.clk_sched.specs.Choice.{answers_of}
 use Rattle.clk_sched.specs.Places.{at_queue}
-use Rattle.clk_sched.specs.Closing.{GivesOut, TakesFront, LosesNothing, left_in}
+use Rattle.clk_sched.specs.Closing.{GivesOut, TakesOne, LosesNothing, left_in}
 use Rattle.clk_sched.proofs.Numbers.{equal}
 use Rattle.clk_sched.proofs.Asking.{answers-then}
 use Rattle.clk_sched.proofs.Closing.Emptied.{IsClosingPull, IsEmptied, emptied-more}
@@ -124,11 +124,11 @@ draining-all gives old t p r moment made given left h l within =
     subst (λ n. GivesAll old t moment made n) all g
 
 -- what an asker that loses nothing answered, queue by queue
-gives-then : (old mid new : List Packet) (o : Option Packet) (answers : List (Option Packet)) → GivesOut old (o ∷ []) mid → GivesOut mid answers new → GivesOut old (o ∷ answers) new
+gives-then : (old mid new : ℕ) (o : Option Packet) (answers : List (Option Packet)) → GivesOut old (o ∷ []) mid → GivesOut mid answers new → GivesOut old (o ∷ answers) new
 gives-then old mid new None answers h k = (h.0, subst (λ l. GivesOut l answers new) (sym h.1) k)
 gives-then old mid new (Some p) answers h k = (h.0, h.1, subst (λ l. GivesOut l answers new) (sym h.2) k)
 
-answers-give : {S : Type 0} (gives : S → ℕ → Option Packet → S → Type 0) (holds : S → ℕ → List Packet) (tree : Tree) (q : ℕ) → LosesNothing gives holds → (visits : List Visit) (a b : S) → Answers gives (tree_queue tree) a visits b
+answers-give : {S : Type 0} (gives : S → ℕ → Option Packet → S → Type 0) (holds : S → ℕ → ℕ) (tree : Tree) (q : ℕ) → LosesNothing gives holds → (visits : List Visit) (a b : S) → Answers gives (tree_queue tree) a visits b
     → GivesOut (holds a q) (answers_of tree q visits) (holds b q)
 answers-give gives holds tree q keeps [] a b h = ap (λ s. holds s q) h
 answers-give {S = S} gives holds tree q keeps (v ∷ visits) a b h = by_fresh v.fresh (queue_at tree v.node v.input) h (λ s k. answers-give gives holds tree q keeps visits s b k)
@@ -142,7 +142,7 @@ answers-give {S = S} gives holds tree q keeps (v ∷ visits) a b h = by_fresh v.
     Rest : Type 0
     Rest = (s : S) → Answers gives (tree_queue tree) s visits b → GivesOut (holds s q) (told rest) (holds b q)
 
-    by_queue : (p : ℕ) (same : Bool) → (p == q) ≡ same → (c : S) → TakesFront (holds a) (holds c) p v.got → GivesOut (holds c q) (told rest) (holds b q) → GivesOut (holds a q) (told (if same then v ∷ rest else rest)) (holds b q)
+    by_queue : (p : ℕ) (same : Bool) → (p == q) ≡ same → (c : S) → TakesOne (holds a) (holds c) p v.got → GivesOut (holds c q) (told rest) (holds b q) → GivesOut (holds a q) (told (if same then v ∷ rest else rest)) (holds b q)
     by_queue p true e c taken k =
         let at : p ≡ q = grind (arith, nat_tests) in
         gives-then (holds a q) (holds c q) (holds b q) v.got (told rest) (subst (λ n. GivesOut (holds a n) (v.got ∷ []) (holds c n)) at taken.here) k
@@ -156,7 +156,7 @@ answers-give {S = S} gives holds tree q keeps (v ∷ visits) a b h = by_fresh v.
     by_fresh true (Some p) k more = by_queue p (p == q) refl k.0 (keeps a p v.got k.0 k.1) (more k.0 k.2)
 
 -- the closing of a session over an asker that loses nothing: a closing pull
-pub closing-pull : {S : Type 0} (gives : S → ℕ → Option Packet → S → Type 0) (holds : S → ℕ → List Packet) (s t : Progress) (a b : S) (moment : ℕ) (got : Option Packet) → LosesNothing gives holds → counted_moment s ≤ moment
+pub closing-pull : {S : Type 0} (gives : S → ℕ → Option Packet → S → Type 0) (holds : S → ℕ → ℕ) (s t : Progress) (a b : S) (moment : ℕ) (got : Option Packet) → LosesNothing gives holds → counted_moment s ≤ moment
     → IsPulledOnce s t (moment + 1) got → Answers gives (tree_queue s.tree) a (newly s t) b → IsClosingPull s.tree s.log (newly s t) moment (holds a) (holds b)
 closing-pull gives holds s t a b moment got keeps counted once told =
     record {
@@ -166,10 +166,10 @@ closing-pull gives holds s t a b moment got keeps counted once told =
     }
 
 -- A drain so far, over an asker that loses nothing and holds with the heads all that is left.
-abbrev pub Empties : {S : Type 0} → (S → ℕ → Option Packet → S → Type 0) → (S → ℕ → List Packet) → (old now : Progress) → (before after : S) → (made given left : ℕ) → Type 0
+abbrev pub Empties : {S : Type 0} → (S → ℕ → Option Packet → S → Type 0) → (S → ℕ → ℕ) → (old now : Progress) → (before after : S) → (made given left : ℕ) → Type 0
 Empties gives holds old now before after made given left = LosesNothing gives holds → left ≡ left_in old.tree old.log (holds before) → IsEmptied now.tree now.log (holds after) left made given
 
-pub empties-more : {S : Type 0} (gives : S → ℕ → Option Packet → S → Type 0) (holds : S → ℕ → List Packet) (old s t : Progress) (p q r : S) (moment made given left : ℕ) (got : Option Packet) → IsSound (root s.tree) → leaves_distinct s.tree ≡ true
+pub empties-more : {S : Type 0} (gives : S → ℕ → Option Packet → S → Type 0) (holds : S → ℕ → ℕ) (old s t : Progress) (p q r : S) (moment made given left : ℕ) (got : Option Packet) → IsSound (root s.tree) → leaves_distinct s.tree ≡ true
     → IsDraining gives old s p q moment made given left → IsPulledOnce s t (moment + made + 1) got → Answers gives (tree_queue s.tree) q (newly s t) r → Empties gives holds old s p q made given left
     → Empties gives holds old t p r (made + 1) (given + one_if got) left
 empties-more gives holds old s t p q r moment made given left got sound distinct d once told so keeps is =
@@ -179,10 +179,10 @@ empties-more gives holds old s t p q r moment made given left got sound distinct
     (emptied-more s.tree s.log (newly s t) (holds q) (holds r) (moment + made) left made given sound distinct d.drained.run d.counted (closing-pull gives holds s t q r (moment + made) got keeps d.counted once told) (so keeps is))))
 
 -- a drain so far, with what an asker that loses nothing has left
-abbrev pub DrainsSo : {S : Type 0} → (S → ℕ → Option Packet → S → Type 0) → (S → ℕ → List Packet) → (old now : Progress) → (before after : S) → (moment made given left : ℕ) → Type 0
+abbrev pub DrainsSo : {S : Type 0} → (S → ℕ → Option Packet → S → Type 0) → (S → ℕ → ℕ) → (old now : Progress) → (before after : S) → (moment made given left : ℕ) → Type 0
 DrainsSo gives holds old now before after moment made given left = IsDraining gives old now before after moment made given left × Empties gives holds old now before after made given left
 
-pub drain-step : {S : Type 0} (gives : S → ℕ → Option Packet → S → Type 0) (holds : S → ℕ → List Packet) (old s t : Progress) (p q r : S) (moment made given left : ℕ) (got : Option Packet) → IsSound (root old.tree) → leaves_distinct old.tree ≡ true
+pub drain-step : {S : Type 0} (gives : S → ℕ → Option Packet → S → Type 0) (holds : S → ℕ → ℕ) (old s t : Progress) (p q r : S) (moment made given left : ℕ) (got : Option Packet) → IsSound (root old.tree) → leaves_distinct old.tree ≡ true
     → IsDraining gives old s p q moment made given left → Empties gives holds old s p q made given left → given < left → IsPulledOnce s t (moment + made + 1) got → Answers gives (tree_queue s.tree) q (newly s t) r
     → DrainsSo gives holds old t p r moment (made + 1) (given + one_if got) left
 drain-step gives holds old s t p q r moment made given left got sound distinct d so l once told = (
@@ -191,11 +191,11 @@ drain-step gives holds old s t p q r moment made given left got sound distinct d
 )
 
 -- what a packet adds, and what none does
-pub given-one : {S : Type 0} (gives : S → ℕ → Option Packet → S → Type 0) (holds : S → ℕ → List Packet) (old t : Progress) (p r : S) (moment made given left : ℕ) (got : Option Packet) → is_some got ≡ true
+pub given-one : {S : Type 0} (gives : S → ℕ → Option Packet → S → Type 0) (holds : S → ℕ → ℕ) (old t : Progress) (p r : S) (moment made given left : ℕ) (got : Option Packet) → is_some got ≡ true
     → DrainsSo gives holds old t p r moment made (given + one_if got) left → DrainsSo gives holds old t p r moment made (given + 1) left
 given-one gives holds old t p r moment made given left got e h = subst (λ b. DrainsSo gives holds old t p r moment made (given + (if b then 1 else 0)) left) e h
 
-pub given-none : {S : Type 0} (gives : S → ℕ → Option Packet → S → Type 0) (holds : S → ℕ → List Packet) (old t : Progress) (p r : S) (moment made given left : ℕ) (got : Option Packet) → is_some got ≡ false
+pub given-none : {S : Type 0} (gives : S → ℕ → Option Packet → S → Type 0) (holds : S → ℕ → ℕ) (old t : Progress) (p r : S) (moment made given left : ℕ) (got : Option Packet) → is_some got ≡ false
     → DrainsSo gives holds old t p r moment made (given + one_if got) left → DrainsSo gives holds old t p r moment made given left
 given-none gives holds old t p r moment made given left got e h =
     let same : given + 0 ≡ given = omega arith in

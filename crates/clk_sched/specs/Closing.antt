@@ -1,5 +1,5 @@
 -- What the closing bound is enough for: closing pulls over queues that lose nothing.
-use Rattle.std.specs.Prelude.{◌≡◌, ◌≢◌, ℕ, ◌+◌, ◌<◌, ◌≤◌, List, [], ◌∷◌, ◌++◌, length, map, reverse, Option, Some, None}
+use Rattle.std.specs.Prelude.{◌≡◌, ◌≢◌, ℕ, suc, ◌+◌, ◌<◌, ◌≤◌, List, [], ◌∷◌, ◌++◌, length, map, reverse, Option, Some, None}
 use Rattle.std.specs.List.{flat_map, range_with_len}
 use Rattle.clk_packet.specs.declared.packet.Packet.{Packet}
 use Rattle.clk_sched.specs.declared.visit.Visit.{Visit}
@@ -11,41 +11,42 @@ use Rattle.clk_sched.specs.Results.{heads}
 use Rattle.clk_sched.specs.Choice.{answers_of}
 use Rattle.clk_sched.specs.Session.{latest_moment, given_in}
 
--- A queue that loses nothing answers so from these packets on to those: it gives its packets in order, and none only where it holds none.
-abbrev pub GivesOut : List Packet → List (Option Packet) → List Packet → Type 0
+-- A queue that loses nothing answers so, from so many packets held on to so many: each packet that it gives leaves one fewer, and it gives none
+-- only where it holds none.
+abbrev pub GivesOut : ℕ → List (Option Packet) → ℕ → Type 0
 GivesOut held [] rest = held ≡ rest
-GivesOut held (None ∷ answers) rest = (held ≡ []) × GivesOut held answers rest
-GivesOut held (Some p ∷ answers) rest = (more : List Packet) × (held ≡ p ∷ more) × GivesOut more answers rest
+GivesOut held (None ∷ answers) rest = (held ≡ 0) × GivesOut held answers rest
+GivesOut held (Some _ ∷ answers) rest = (fewer : ℕ) × (held ≡ suc fewer) × GivesOut fewer answers rest
 
 -- An answer of one leaf: it loses nothing, and no other leaf changes.
-pub record TakesFront (old new : ℕ → List Packet) (leaf : ℕ) (got : Option Packet) : Type 0 where
+pub record TakesOne (old new : ℕ → ℕ) (leaf : ℕ) (got : Option Packet) : Type 0 where
   pub here : GivesOut (old leaf) (got ∷ []) (new leaf)
   pub others : (other : ℕ) → other ≢ leaf → new other ≡ old other
 
--- What is asked loses nothing, by what it gives and what it holds for each leaf.
-abbrev pub LosesNothing : {S : Type 0} → (S → ℕ → Option Packet → S → Type 0) → (S → ℕ → List Packet) → Type 0
-LosesNothing {S = S} gives holds = (a : S) (leaf : ℕ) (got : Option Packet) (b : S) → gives a leaf got b → TakesFront (holds a) (holds b) leaf got
+-- What is asked loses nothing, by what it gives and how many packets it holds for each leaf.
+abbrev pub LosesNothing : {S : Type 0} → (S → ℕ → Option Packet → S → Type 0) → (S → ℕ → ℕ) → Type 0
+LosesNothing {S = S} gives holds = (a : S) (leaf : ℕ) (got : Option Packet) (b : S) → gives a leaf got b → TakesOne (holds a) (holds b) leaf got
 
 -- how many packets some queues hold in all
-abbrev pub held_in_all : (ℕ → List Packet) → List ℕ → ℕ
+abbrev pub held_in_all : (ℕ → ℕ) → List ℕ → ℕ
 held_in_all held [] = 0
-held_in_all held (q ∷ queues) = length (held q) + held_in_all held queues
+held_in_all held (q ∷ queues) = held q + held_in_all held queues
 
--- A run goes on by closing pulls, one tick apart, the first one tick after this moment, over queues that lose nothing: they held these packets
--- before, and those after.
-pub record IsClosing (tree : Tree) (log : List Visit) (moment : ℕ) (held rest : ℕ → List Packet) (more : List (List Visit)) : Type 0 where
+-- A run goes on by closing pulls, one tick apart, the first one tick after this moment, over queues that lose nothing: they held so many
+-- packets before, and so many after.
+pub record IsClosing (tree : Tree) (log : List Visit) (moment : ℕ) (held rest : ℕ → ℕ) (more : List (List Visit)) : Type 0 where
   pub run : IsRun tree (log ++ flat_map (λ pull. pull) more)
   pub pulls_are : pulls (log ++ flat_map (λ pull. pull) more) ≡ pulls log ++ more
   pub moments : map moment_of more ≡ range_with_len (moment + 1) (length more)
   pub gives : (q : ℕ) → GivesOut (held q) (answers_of tree q (flat_map (λ pull. pull) more)) (rest q)
 
 -- how many packets queues and heads hold when the closing begins
-abbrev pub left_in : Tree → List Visit → (ℕ → List Packet) → ℕ
+abbrev pub left_in : Tree → List Visit → (ℕ → ℕ) → ℕ
 left_in tree log held = held_in_all held (leaves (root tree)) + length (heads tree log)
 
 -- The closing bound is enough: as long as not all packets came out that queues and heads held, the closing pulls are fewer. They begin one
 -- tick after a moment that is no earlier than any before.
 abbrev pub BoundIsEnough : Tree → Type 0
 BoundIsEnough tree =
-    (log : List Visit) (moment : ℕ) (held rest : ℕ → List Packet) (more : List (List Visit)) → IsRun tree log → latest_moment (reverse (pulls log)) ≤ moment → IsClosing tree log moment held rest more
+    (log : List Visit) (moment : ℕ) (held rest : ℕ → ℕ) (more : List (List Visit)) → IsRun tree log → latest_moment (reverse (pulls log)) ≤ moment → IsClosing tree log moment held rest more
     → length (given_in more) < left_in tree log held → length more < closing_bound tree (left_in tree log held)

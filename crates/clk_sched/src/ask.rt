@@ -1,6 +1,6 @@
 //! What a tree pulls from.
 
-ghost use Rattle.std.specs.Prelude.{◌≡◌, ℕ, Bool, List, false, None};
+ghost use Rattle.std.specs.Prelude.{◌≡◌, ℕ, Bool, false, None};
 ghost use Rattle.std.specs.declared.option.Option.{Option};
 ghost use Rattle.clk_packet.specs.declared.packet.Packet.{Packet};
 
@@ -11,8 +11,8 @@ pub trait Ask {
     // Which leaves there are.
     ghost has: { Self → ℕ → Bool };
 
-    // The packets that it holds for each leaf, the next to be given first. What says nothing of them may tell none.
-    ghost holds: { Self → ℕ → List Packet };
+    // How many packets it holds for each leaf. What says nothing of them may tell 0.
+    ghost holds: { Self → ℕ → ℕ };
 
     // Which answers a call may give for a leaf from a state, and what stands afterwards.
     ghost gives: { Self → ℕ → Option Packet → Self → Type 0 };

@@ -1,13 +1,11 @@
 -- How a router goes on by the commands of some rows, and what it comes to.
-use Rattle.std.proofs.Common.{◌≡◌, ℕ, ◌+◌, ◌<◌, ◌≤◌, ◌==◌, zero, suc, nat_lt, Bool, true, false, List, [], ◌∷◌, ◌++◌, length, map, filter, take, drop, set, get_or, reverse, max, fold, Option, Some, None, MatchOption, Vec, slice_get, ◌⊎◌, inl, inr, refl, sym, ap, ap₂, subst, ◌∙◌, append_assoc, append-nil, zero-add, arith}
+use Rattle.std.proofs.Common.{◌≡◌, ℕ, ◌+◌, ◌<◌, ◌≤◌, ◌==◌, zero, suc, nat_lt, Bool, true, false, List, [], ◌∷◌, ◌++◌, length, map, filter, take, drop, set, get_or, reverse, max, fold, Option, Some, None, MatchOption, Vec, slice_get, refl, sym, ap, ap₂, subst, ◌∙◌, append_assoc, append-nil, zero-add, arith}
 use Rattle.std.specs.Bool.{⊤}
 use Rattle.std.specs.List.{flat_map, filter_map, cons_option, range_with_len, AllByRecursion}
 use Rattle.std.specs.declared.alloc.Global.{Global}
 use Rattle.std.proofs.lemmas.List.{map-append, length-map, length-take, take_all, length-set, take-append-drop, take_more, take_more_set, drop_more, drop-set-lt}
 use Rattle.std.proofs.lemmas.List.Elements.{filter_map-append}
 use Rattle.std.proofs.lemmas.Grind.{drop_more_same}
-use Rattle.clk_packet.specs.declared.fault.Fault.{Fault}
-use Rattle.clk_packet.specs.declared.fault.Fault.TheVariants.{Memory, TooManyPulls}
 use Rattle.clk_packet.specs.declared.packet.Packet.{Packet}
 use Rattle.clk_packet.specs.declared.packet.Offered.{Offered}
 use Rattle.clk_packet.specs.declared.tally.Tally.{Tally}
@@ -29,7 +27,8 @@ use Rattle.clk_script.specs.declared.router.Router.{Router}
 use Rattle.clk_script.specs.Script.{Names, most_lines, most_moment}
 use Rattle.clk_script.specs.Meaning.{Room, Setup, sender_numbers, names_of, has_several, Event, offered, pulled, command_of, happens_at, events_at, number_from, moment_in, accepted_in, log_of, tally_after, event_text, RunsTree, CloseFirst, logs_of, WritesWith}
 use Rattle.clk_script.specs.Router.{IsNumber, sender_after, names_in, room_device, IsAt, AreDevicesAt, device_log, device_emitted, IsPastOf, CanSend, IsWhole, Starts, IsSteady, IsReady, given_kept, LeadsOnByPull, IsReadable}
-use Rattle.clk_script.specs.Rows.{row_asked, row_offered, row_pulled, row_of, given_by, IsToDo, CarriesOut, AnswersRows, IsClosedFrom, StopsClosing, StopsCommands, rows_text, closings_text, are_several, given_first, given_of, ending_of}
+use Rattle.clk_script.specs.Closable.{IsClosable, IsClosableRouter}
+use Rattle.clk_script.specs.Rows.{row_asked, row_offered, row_pulled, row_of, given_by, IsToDo, CarriesOut, AnswersRows, IsClosedFrom, rows_text, closings_text, are_several, given_first, given_of, ending_of}
 use Rattle.clk_script.proofs.EventLemmas.{latest-moment}
 use Rattle.clk_script.proofs.SenderLemmas.{numbers-its, alike-its}
 use Rattle.clk_script.proofs.RowLemmas.{rows-written}
@@ -382,12 +381,9 @@ module _ (setup : Setup) (old mid : Router) (commands : List Command) (asked don
         logged = is.logs ∙ logs new past closes.closing.closed at closed.given is;
       }
 
-  -- And why it stops short.
-  pub Stops-answered : (drain : Option ℕ) (fault : Fault) → (fault ≡ Memory) ⊎ StopsClosing mid drain fault → (fault ≡ Memory) ⊎ StopsCommands setup commands drain fault
-  Stops-answered drain fault (inl memory) = inl memory
-  Stops-answered None fault (inr stops) = absurd stops
-  Stops-answered (Some moment) (TooManyPulls made) (inr stops) = inr (record { events = carried.more; theirs = theirs; short = stops setup carried.more carried.leads })
-  Stops-answered (Some moment) fault (inr stops) = absurd stops
+-- A router stands where commands led, and can be closed.
+pub closable-answered : (setup : Setup) (old mid : Router) (asked done : List Row) → Starts setup old → IsClosable setup → AnswersRows old mid asked done → IsClosableRouter mid
+closable-answered setup old mid asked done starts closable answers = let carried = answers setup [] starts.leads in record { setup = setup; closable = closable; events = carried.more; leads = carried.leads }
 
 -- A router has as many devices as before, whatever it did.
 count-closed : (mid new : Router) (drain : Option ℕ) (from : Option (List ℕ)) → IsClosedFrom mid new drain from → length new.devices.items ≡ length mid.devices.items

@@ -229,6 +229,10 @@ no-pulls setup d c (e ∷ events) other = by_first (happens_at setup d e) (is_of
     by_first true h rest = by_second (happens_at setup c e) (h refl) rest
     by_first false h rest = rest
 
+-- what happened to a queue of a device happened there
+pub history-alone : (setup : Setup) → IsApart setup → (d q : ℕ) (room : Room) → slice_get setup.queues q ≡ Some room → (room.device == d) ≡ true → (events : List Event) → history setup q (events_at setup d events) ≡ history setup q events
+history-alone setup apart d q room is e events = flat-all (happens_at setup d) (at_queue setup q) events (elsewhere setup apart d q room is e)
+
 -- what happens at a device can happen alone
 pub alone : (setup : Setup) → IsApart setup → ((tree : Tree) → IsRun tree []) → (d : ℕ) (events : List Event) → CanHappen setup events → CanHappen setup (events_at setup d events)
 alone setup apart start d events can = record {
@@ -267,7 +271,7 @@ alone setup apart start d events can = record {
       where
         by_device : (b : Bool) → (room.device == d) ≡ b → MatchOption (slice_get setup.queues q) ⊤ (λ (r : Room). IsQueueHistory r.kind r.capacity (history setup q (events_at setup d events)))
         by_device true e =
-            subst (λ l. MatchOption (slice_get setup.queues q) ⊤ (λ (r : Room). IsQueueHistory r.kind r.capacity l)) (sym (flat-all (happens_at setup d) (at_queue setup q) events (elsewhere setup apart d q room is e))) (can.histories q)
+            subst (λ l. MatchOption (slice_get setup.queues q) ⊤ (λ (r : Room). IsQueueHistory r.kind r.capacity l)) (sym (history-alone setup apart d q room is e events)) (can.histories q)
         by_device false e =
             subst (λ l. MatchOption (slice_get setup.queues q) ⊤ (λ (r : Room). IsQueueHistory r.kind r.capacity l)) (sym (flat-none (happens_at setup d) (at_queue setup q) events (of-another setup apart d q room is e)))
             (subst (λ o. MatchOption o ⊤ (λ (r : Room). IsQueueHistory r.kind r.capacity [])) (sym is) (record { order = refl; fits = omega arith }))

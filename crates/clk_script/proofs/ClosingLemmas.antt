@@ -1,5 +1,5 @@
 -- How a router closes.
-use Rattle.std.proofs.Common.{◌≡◌, ℕ, ◌+◌, ◌-◌, ◌<◌, ◌≤◌, ◌==◌, zero, suc, Bool, true, false, if◌then◌else◌, List, [], ◌∷◌, ◌++◌, length, drop, filter, map, reverse, max, fold, append-nil, append_assoc, Option, Some, None, MatchOption, slice_get, ◌⊎◌, inl, inr, refl, sym, ap, ap₂, ◌∙◌, subst, arith}
+use Rattle.std.proofs.Common.{◌≡◌, ℕ, ◌+◌, ◌-◌, ◌<◌, ◌≤◌, ◌==◌, zero, suc, Bool, true, false, if◌then◌else◌, List, [], ◌∷◌, ◌++◌, length, drop, filter, map, reverse, max, fold, append-nil, append_assoc, Option, Some, None, MatchOption, slice_get, refl, sym, ap, ap₂, ◌∙◌, subst, arith}
 use Rattle.std.specs.Bool.{⊤}
 use Rattle.std.specs.List.{filter_map, flat_map, range_with_len, AllByRecursion}
 use Rattle.std.proofs.lemmas.List.{map-append}
@@ -8,8 +8,6 @@ use Rattle.std.proofs.Math.Seq.{drop-append_seam}
 use Rattle.std.proofs.lemmas.List.Concat.{flat_map-append}
 use Rattle.std.proofs.lemmas.Option.{slice_get_within}
 use Rattle.std.proofs.lemmas.Bool.Decides.{nat_tests}
-use Rattle.clk_packet.specs.declared.fault.Fault.{Fault}
-use Rattle.clk_packet.specs.declared.fault.Fault.TheVariants.{Memory, TooManyPulls}
 use Rattle.clk_sched.specs.declared.visit.Visit.{Visit}
 use Rattle.clk_ring.specs.Laws.{CallsAreHistory}
 use Rattle.clk_sched.specs.Tree.{Tree}
@@ -19,12 +17,11 @@ use Rattle.clk_sched.specs.Log.{pulls, visits_of, moment_of, result_of, turn, Ha
 use Rattle.clk_sched.specs.Run.{IsRun}
 use Rattle.clk_sched.specs.Places.{Answers}
 use Rattle.clk_sched.specs.Results.{emitted}
-use Rattle.clk_sched.specs.Bound.{closing_bound}
-use Rattle.clk_sched.specs.Session.{IsDrained, GivesAll, StopsShort as StopsSession, StopsAt, newly, latest_moment, counted_moment, tree_queue}
+use Rattle.clk_sched.specs.Session.{IsDrained, GivesAll, newly, latest_moment, counted_moment, tree_queue}
 use Rattle.clk_script.specs.declared.devices.Device.{Device}
 use Rattle.clk_script.specs.declared.router.Router.{Router}
 use Rattle.clk_script.specs.Meaning.{Setup, sender_numbers, has_several, Event, pulled, happens_at, events_at, moment_in, pull_in, accepted_in, evicted_in, visits_in, log_of, at_queue, history, RunsTree, pulls_from, closing_pulls, given_text, closing_text, left_after}
-use Rattle.clk_script.specs.Router.{AreQueuesAt, IsDeviceAt, AreDevicesAt, IsAt, device_log, IsSteadyAt, LeadsOnByDrain, StopsDrain, DeviceDrainsShort}
+use Rattle.clk_script.specs.Router.{AreQueuesAt, IsDeviceAt, AreDevicesAt, IsAt, device_log, IsSteadyAt, LeadsOnByDrain}
 use Rattle.clk_script.specs.Rows.{visit_text}
 use Rattle.clk_script.proofs.Alike.{member-between, its-moment}
 use Rattle.clk_script.proofs.EventLemmas.{fold-more, events-pulls, pulls-elsewhere, pulls-log, pulls-add_none, pulls-history, latest-moment, RunsTree-pulls, CanHappen-pulls}
@@ -38,7 +35,7 @@ its-latest : (setup : Setup) (events : List Event) (d : ℕ) (device : Device) �
 its-latest setup events d device here = ap (λ l. latest_moment (reverse (pulls l))) here.is.log ∙ latest-moment here.tree (events_at setup d events) here.runs
 
 -- how many packets are left, as a device counts them
-its-left : (setup : Setup) (events : List Event) (d : ℕ) (device : Device) → IsHere setup events d device → device.kept - length (emitted device.session.log) ≡ left_after (events_at setup d events)
+pub its-left : (setup : Setup) (events : List Event) (d : ℕ) (device : Device) → IsHere setup events d device → device.kept - length (emitted device.session.log) ≡ left_after (events_at setup d events)
 its-left setup events d device here =
     let kept = here.is.kept in
     let out = ap (λ l. length (emitted l)) here.is.log in
@@ -133,38 +130,11 @@ closes-all calls setup events old new d moment made left before after at set kep
       leads = IsAt-closed calls setup events old new d moment made left before after at set kept all.drained answers senders tallies paths evicted;
     }
 
-stops-short : CallsAreHistory → (setup : Setup) (events : List Event) (old new : Router) (d moment made left : ℕ) (before after : Device) → IsAt setup events old → IsSetAt old.devices.items d before after new.devices.items
-    → after.kept ≡ before.kept → left ≡ before.kept - length (emitted before.session.log) → made ≡ closing_bound before.session.tree left
-    → StopsSession before.session after.session (max (counted_moment before.session) moment) made left → Answers gives (tree_queue before.session.tree) old.queues (newly before.session after.session) new.queues
-    → new.senders ≡ old.senders → new.tallies ≡ old.tallies → new.paths ≡ old.paths → new.evicted ≡ old.evicted → DeviceDrainsShort setup d moment made events
-stops-short calls setup events old new d moment made left before after at set kept is bound short answers senders tallies paths evicted =
-    let here = device-here setup events old d before at set.was in
-    let all = is ∙ its-left setup events d before here in
-    record {
-      tree = here.tree;
-      its = here.its;
-      closing = short.drained.more;
-      can_happen = (IsAt-closed calls setup events old new d moment made short.given before after at set kept short.drained answers senders tallies paths evicted).can_happen;
-      made_are = short.drained.made_are;
-      bound = bound ∙ ap₂ closing_bound here.is.tree_is all;
-      fewer = let g = short.drained.given_are in let f = short.fewer in omega (arith, all, g, f);
-    }
-
 -- a device whose numbers are those of a script is there
 pub steady-within : (devices : List Device) (d : ℕ) → IsSteadyAt (slice_get devices d) → d < length devices
 steady-within [] d steady = absurd steady
 steady-within (device ∷ devices) zero steady = omega arith
 steady-within (device ∷ devices) (suc d) steady = let below = steady-within devices d steady in omega (arith, below)
-
--- why the drain of a session stopped is why the device's did
-pub stops-at : CallsAreHistory → (old new : Router) (d moment left : ℕ) (before after : Device) (fault : Fault) → IsSetAt old.devices.items d before after new.devices.items → after.kept ≡ before.kept
-    → left ≡ before.kept - length (emitted before.session.log) → StopsAt before.session after.session (max (counted_moment before.session) moment) left fault
-    → Answers gives (tree_queue before.session.tree) old.queues (newly before.session after.session) new.queues → new.senders ≡ old.senders → new.tallies ≡ old.tallies → new.paths ≡ old.paths → new.evicted ≡ old.evicted
-    → (fault ≡ Memory) ⊎ StopsDrain old d moment fault
-stops-at calls old new d moment left before after Memory set kept is stops answers senders tallies paths evicted = inl refl
-stops-at calls old new d moment left before after (TooManyPulls made) set kept is stops answers senders tallies paths evicted =
-    inr (λ setup events at. stops-short calls setup events old new d moment made left before after at set kept is stops.0 stops.1 answers senders tallies paths evicted)
-stops-at calls old new d moment left before after fault set kept is stops answers senders tallies paths evicted = absurd stops
 
 -- what the device's visits of a pull write, if they are one
 module _ (several : Bool) (d : ℕ) where

@@ -1,17 +1,16 @@
 -- How the devices of a router are closed one after the other.
-use Rattle.std.proofs.Common.{◌≡◌, ℕ, ◌+◌, ◌<◌, ◌≤◌, ◌==◌, zero, suc, Bool, false, List, [], ◌∷◌, ◌++◌, length, map, take, drop, Option, Some, None, IfSome, slice_get, ◌⊎◌, inl, inr, refl, sym, ap, ap₂, subst, ◌∙◌, append_assoc, append-nil, add-one, arith}
+use Rattle.std.proofs.Common.{◌≡◌, ℕ, ◌+◌, ◌<◌, ◌≤◌, ◌==◌, zero, suc, Bool, false, List, [], ◌∷◌, ◌++◌, length, map, take, drop, Option, Some, None, IfSome, slice_get, refl, sym, ap, ap₂, subst, ◌∙◌, append_assoc, append-nil, add-one, arith}
 use Rattle.std.specs.List.{flat_map, AllByRecursion}
 use Rattle.std.proofs.lemmas.List.{map-append, length-append, length-map, length-take}
 use Rattle.std.proofs.lemmas.List.Concat.{flat_map-append}
 use Rattle.std.proofs.lemmas.Bool.Decides.{nat_tests}
-use Rattle.clk_packet.specs.declared.fault.Fault.{Fault}
-use Rattle.clk_packet.specs.declared.fault.Fault.TheVariants.{Memory, TooManyPulls}
 use Rattle.clk_sched.specs.declared.visit.Visit.{Visit}
 use Rattle.clk_script.specs.declared.devices.Device.{Device}
 use Rattle.clk_script.specs.declared.router.Router.{Router}
 use Rattle.clk_script.specs.Meaning.{Setup, has_several, Event, closing_text}
-use Rattle.clk_script.specs.Router.{IsAt, IsSteady, IsSteadyAt, ChangesDevice, device_log, LeadsOnByDrain, StopsDrain}
-use Rattle.clk_script.specs.Rows.{visit_text, closings_text, ClosesFirst, IsClosedAt, StopsClosing}
+use Rattle.clk_script.specs.Router.{IsAt, IsSteady, IsSteadyAt, ChangesDevice, device_log, LeadsOnByDrain}
+use Rattle.clk_script.specs.Closable.{IsClosableRouter}
+use Rattle.clk_script.specs.Rows.{visit_text, closings_text, ClosesFirst, IsClosedAt}
 use Rattle.clk_script.proofs.RouterLemmas.{IsMember, member-at}
 use Rattle.clk_script.proofs.ClosingLemmas.{drain-written}
 
@@ -73,6 +72,10 @@ pub IsClosedTo-steady : (old new : Router) (moment : ℕ) (starts : List ℕ) (d
     → IsSteadyAt (slice_get new.devices.items d)
 IsClosedTo-steady old new moment starts d closed steady within =
     subst IsSteadyAt (sym (closed.later d (omega arith))) (steady-there old.devices.items d steady (let count = closed.count in omega (arith, count, within)))
+
+pub IsClosedTo-closable : (old new : Router) (moment : ℕ) (starts : List ℕ) (d : ℕ) → IsClosedTo old new moment starts d → IsClosableRouter old → IsClosableRouter new
+IsClosedTo-closable old new moment starts d closed can =
+    let done = (closed.closes can.setup can.events can.leads).closing in record { setup = can.setup; closable = can.closable; events = can.events ++ done.closed; leads = done.leads }
 
 -- a front of a list, and the member after it
 take-here : {X : Type 0} (xs : List X) (i : ℕ) (x : X) → slice_get xs i ≡ Some x → take (suc i) xs ≡ take i xs ++ x ∷ []
@@ -150,13 +153,3 @@ all-closed old new moment starts d closed all =
     let count = closed.count in
     let same : d ≡ length old.devices.items = omega (arith, within, count, all) in
     record { count = count; given = closed.given; closes = subst (λ n. (setup : Setup) (events : List Event) → IsAt setup events old → ClosesFirst setup new moment n starts events) same closed.closes }
-
--- Why the next device stops short is why the closing does.
-pub stops-closing : (old mid : Router) (moment : ℕ) (starts : List ℕ) (d : ℕ) (fault : Fault) → IsClosedTo old mid moment starts d → (fault ≡ Memory) ⊎ StopsDrain mid d moment fault
-    → (fault ≡ Memory) ⊎ StopsClosing old (Some moment) fault
-stops-closing old mid moment starts d fault closed (inl memory) = inl memory
-stops-closing old mid moment starts d (TooManyPulls made) closed (inr stops) =
-    inr (λ setup events at.
-    let done = closed.closes setup events at in
-    record { device = d; before = done.closing.closed; closes = done.closing.closes; short = stops setup (events ++ done.closing.closed) done.closing.leads })
-stops-closing old mid moment starts d fault closed (inr stops) = absurd stops

@@ -1,10 +1,9 @@
 -- How many packets the queues of a device accepted, put out and gave in some events: as many as the events say.
-use Rattle.std.proofs.Common.{◌≡◌, ℕ, ◌+◌, ◌==◌, ◌&&◌, ◌||◌, not, if◌then◌else◌, Bool, true, false, List, [], ◌∷◌, ◌++◌, length, map, drop, append-nil, append_assoc, length-append, Option, Some, None, slice_get, MatchOption, refl, sym, ap, ap₂, ◌∙◌, subst, arith}
+use Rattle.std.proofs.Common.{◌≡◌, ℕ, ◌+◌, ◌==◌, ◌&&◌, ◌||◌, not, if◌then◌else◌, Bool, true, false, List, [], ◌∷◌, ◌++◌, length, map, append-nil, append_assoc, length-append, Option, Some, None, slice_get, MatchOption, refl, sym, ap, ap₂, ◌∙◌, subst, arith}
 use Rattle.std.specs.Bool.{⊤}
 use Rattle.std.specs.List.{filter_map, cons_option, AllByRecursion, list_any}
 use Rattle.std.proofs.lemmas.Bool.{false≢true}
 use Rattle.std.proofs.lemmas.Bool.Decides.{nat_tests}
-use Rattle.std.proofs.lemmas.List.{append_cancel_left}
 use Rattle.std.proofs.lemmas.List.Elements.{filter_map-append}
 use Rattle.clk_packet.specs.declared.packet.Packet.{Packet}
 use Rattle.clk_packet.specs.declared.packet.Kind.{Kind}
@@ -15,10 +14,10 @@ use Rattle.clk_sched.specs.declared.visit.Visit.{Visit}
 use Rattle.clk_sched.specs.Tree.{Tree, root, leaves, stands_in, are_distinct}
 use Rattle.clk_sched.specs.Results.{asks_queue, leaf_packets, emitted, heads}
 use Rattle.clk_sched.specs.Conservation.{given_in_all}
-use Rattle.clk_sched.specs.Closing.{GivesOut, held_in_all, left_in}
+use Rattle.clk_sched.specs.Closing.{held_in_all, left_in}
 use Rattle.clk_tree.specs.declared.plan.parts.SenderSpec.{SenderSpec}
 use Rattle.clk_tree.specs.PlanParts.{number_of, AreRising}
-use Rattle.clk_script.specs.Meaning.{Room, Setup, Event, offered, pulled, is_at, is_of_device, happens_at, log_of, accepted_in, evicted_in, left_after, sends_to, answers_in, at_queue, history}
+use Rattle.clk_script.specs.Meaning.{Room, Setup, Event, offered, pulled, is_at, is_of_device, happens_at, log_of, accepted_in, evicted_in, sends_to, answers_in, at_queue, history}
 use Rattle.clk_script.specs.Closable.{AreQueuesOf}
 use Rattle.clk_script.proofs.Apart.{none-later}
 
@@ -85,60 +84,6 @@ history-counts capacity events h =
     let a = total-accepted events in
     let g = total-gone events in
     omega (arith, order, a, g)
-
--- What a history gives is what a queue gives that loses nothing.
-held-same : (before : List QueueEvent) → held (before ++ empty ∷ []) ≡ held before
-held-same before = ap₂ (λ g a. drop (length g) a) (gone-more before) (accepted-more before)
-  where
-    gone-more : (events : List QueueEvent) → gone (events ++ empty ∷ []) ≡ gone events
-    gone-more [] = refl
-    gone-more (accept p ∷ events) = gone-more events
-    gone-more (refuse p ∷ events) = gone-more events
-    gone-more (evict p ∷ events) = ap (λ l. p ∷ l) (gone-more events)
-    gone-more (give p ∷ events) = ap (λ l. p ∷ l) (gone-more events)
-    gone-more (empty ∷ events) = gone-more events
-
-    accepted-more : (events : List QueueEvent) → accepted (events ++ empty ∷ []) ≡ accepted events
-    accepted-more [] = refl
-    accepted-more (accept p ∷ events) = ap (λ l. p ∷ l) (accepted-more events)
-    accepted-more (refuse p ∷ events) = accepted-more events
-    accepted-more (evict p ∷ events) = accepted-more events
-    accepted-more (give p ∷ events) = accepted-more events
-    accepted-more (empty ∷ events) = accepted-more events
-
-held-given : (capacity : ℕ) (before : List QueueEvent) (p : Packet) → IsInOrder capacity before → IsInOrder capacity (before ++ give p ∷ []) → held before ≡ p ∷ held (before ++ give p ∷ [])
-held-given capacity before p h k =
-    append_cancel_left (gone before) (held before) (p ∷ held (before ++ give p ∷ []))
-    (sym h.order ∙ sym (accepted-more before) ∙ k.order ∙ ap (λ l. l ++ held (before ++ give p ∷ [])) (gone-more before) ∙ append_assoc (gone before) (p ∷ []) (held (before ++ give p ∷ [])))
-  where
-    gone-more : (events : List QueueEvent) → gone (events ++ give p ∷ []) ≡ gone events ++ p ∷ []
-    gone-more [] = refl
-    gone-more (accept q ∷ events) = gone-more events
-    gone-more (refuse q ∷ events) = gone-more events
-    gone-more (evict q ∷ events) = ap (λ l. q ∷ l) (gone-more events)
-    gone-more (give q ∷ events) = ap (λ l. q ∷ l) (gone-more events)
-    gone-more (empty ∷ events) = gone-more events
-
-    accepted-more : (events : List QueueEvent) → accepted (events ++ give p ∷ []) ≡ accepted events
-    accepted-more [] = refl
-    accepted-more (accept q ∷ events) = ap (λ l. q ∷ l) (accepted-more events)
-    accepted-more (refuse q ∷ events) = accepted-more events
-    accepted-more (evict q ∷ events) = accepted-more events
-    accepted-more (give q ∷ events) = accepted-more events
-    accepted-more (empty ∷ events) = accepted-more events
-
-pub history-gives : (answers : List (Option Packet)) (kind : Kind) (capacity : ℕ) (before : List QueueEvent) → EachStands kind capacity before (map pull_event answers) → GivesOut (held before) answers (held (before ++ map pull_event answers))
-history-gives [] kind capacity before h = ap held (sym (append-nil before))
-history-gives (None ∷ answers) kind capacity before h = (
-  h.1,
-  subst (λ l. GivesOut (held before) answers (held l)) (append_assoc before (empty ∷ []) (map pull_event answers))
-      (subst (λ l. GivesOut l answers (held ((before ++ empty ∷ []) ++ map pull_event answers))) (held-same before) (history-gives answers kind capacity (before ++ empty ∷ []) h.3)),
-)
-history-gives (Some p ∷ answers) kind capacity before h = (
-  held (before ++ give p ∷ []),
-  held-given capacity before p h.0 (stands-first kind capacity (before ++ give p ∷ []) (map pull_event answers) h.3),
-  subst (λ l. GivesOut (held (before ++ give p ∷ [])) answers (held l)) (append_assoc before (give p ∷ []) (map pull_event answers)) (history-gives answers kind capacity (before ++ give p ∷ []) h.3),
-)
 
 -- sums over queues
 abbrev pub sum_over : (ℕ → ℕ) → List ℕ → ℕ
@@ -274,9 +219,9 @@ gives-sum : (tree : Tree) (log : List Visit) (qs : List ℕ) → sum_over (λ q.
 gives-sum tree log [] = refl
 gives-sum tree log (q ∷ qs) = ap (λ n. length (leaf_packets tree q log) + n) (gives-sum tree log qs)
 
-held-sum : (held_at : ℕ → List Packet) (qs : List ℕ) → sum_over (λ q. length (held_at q)) qs ≡ held_in_all held_at qs
+held-sum : (held_at : ℕ → ℕ) (qs : List ℕ) → sum_over held_at qs ≡ held_in_all held_at qs
 held-sum held_at [] = refl
-held-sum held_at (q ∷ qs) = ap (λ n. length (held_at q) + n) (held-sum held_at qs)
+held-sum held_at (q ∷ qs) = ap (λ n. held_at q + n) (held-sum held_at qs)
 
 -- what each queue of some took in, put out, gave and holds, together
 counts-all : (setup : Setup) (events : List Event) (qs : List ℕ)
@@ -293,16 +238,16 @@ counts-all setup events (q ∷ qs) h =
     or_later true e = refl
     or_later false e = e
 
--- What queues and heads of a device hold is what its events leave: what was accepted, less what was put out and came out.
+-- What queues and heads of a device hold is what its events leave: what was accepted was put out, or came out, or is held.
 pub left-is : (setup : Setup) (d : ℕ) (tree : Tree) → AreQueuesOf setup d tree → (events : List Event) → AllByRecursion (λ e. happens_at setup d e ≡ true) events
     → ((q : ℕ) → MatchOption (slice_get setup.queues q) ⊤ (λ (room : Room). IsInOrder room.capacity (history setup q events)))
-    → given_in_all tree (leaves (root tree)) (log_of events) ≡ length (emitted (log_of events)) + length (heads tree (log_of events)) → left_in tree (log_of events) (λ q. held (history setup q events)) ≡ left_after events
+    → given_in_all tree (leaves (root tree)) (log_of events) ≡ length (emitted (log_of events)) + length (heads tree (log_of events)) → left_in tree (log_of events) (λ q. length (held (history setup q events))) + length (filter_map evicted_in events) + length (emitted (log_of events)) ≡ length (filter_map accepted_in events)
 left-is setup d tree of events here histories conserved =
     let all = counts-all setup events (leaves (root tree)) each in
     let a = counts-sum is_accept accepted_in (λ p. accepted-one p) pull-none (λ c m v. refl) setup d tree of events here in
     let e = counts-sum is_evict evicted_in (λ p. evicted-one p) evict-none (λ c m v. refl) setup d tree of events here in
     let g = sum-same (λ q. total is_give (history setup q events)) (λ q. length (leaf_packets tree q (log_of events))) (leaves (root tree)) (λ q. gives-log setup d tree of.its q events here) ∙ gives-sum tree (log_of events) (leaves (root tree)) in
-    let h = held-sum (λ q. held (history setup q events)) (leaves (root tree)) in
+    let h = held-sum (λ q. length (held (history setup q events))) (leaves (root tree)) in
     omega (arith, all, a, e, g, h, conserved)
   where
     each : (q : ℕ) → stands_in q (leaves (root tree)) ≡ true → total is_accept (history setup q events) ≡ total is_evict (history setup q events) + total is_give (history setup q events) + length (held (history setup q events))

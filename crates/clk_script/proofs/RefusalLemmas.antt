@@ -1,11 +1,11 @@
 -- How a script's meaning and its faults follow from those of its first bytes.
-use Rattle.std.proofs.Common.{◌+◌, ◌≡◌, ◌≤◌, ◌≢◌, ℕ, ◌==◌, ◌||◌, Bool, true, false, nat_lt, List, [], ◌∷◌, length, take, Option, Some, None, MatchOption, Err, refl, sym, ap, subst, ◌∙◌, ◌⊎◌, inl, inr, IfSome, arith}
+use Rattle.std.proofs.Common.{◌+◌, ◌≡◌, ◌≤◌, ◌≢◌, ℕ, ◌==◌, ◌||◌, Bool, true, false, nat_lt, List, [], ◌∷◌, length, take, Option, Some, None, Err, refl, sym, ap, subst, ◌∙◌, ◌⊎◌, inl, inr, IfSome, arith}
 use Rattle.std.specs.Bool.{⊤}
 use Rattle.std.specs.List.{list_any}
 use Rattle.std.proofs.lemmas.Bool.Decides.{nat_tests}
 use Rattle.std.proofs.lemmas.List.{take_all, length-take}
 use Rattle.clk_packet.specs.declared.fault.Fault.{Fault}
-use Rattle.clk_packet.specs.declared.fault.Fault.TheVariants.{Memory, UnknownSender, BadScript, TooManyPulls, TooLarge, Write}
+use Rattle.clk_packet.specs.declared.fault.Fault.TheVariants.{Memory, UnknownSender, BadScript, TooLarge, Write}
 use Rattle.clk_sched.specs.declared.visit.Visit.{Visit}
 use Rattle.clk_sched.specs.Tree.{Tree}
 use Rattle.clk_tree.specs.Plan.{Planned}
@@ -18,8 +18,7 @@ use Rattle.clk_script.specs.Script.{Names, most_lines, command_fault, line_fault
 use Rattle.clk_packet.specs.Bytes.{read_failures, write_failures}
 use Rattle.clk_script.specs.Meaning.{Setup, plan_setup, names_of, WritesWith, IsMeaning, MeansWith, MeansOver, MeansOverWith, Explains}
 use Rattle.clk_script.specs.declared.router.Router.{Router}
-use Rattle.clk_script.specs.Router.{names_in, Starts, StopsShort}
-use Rattle.clk_script.specs.Rows.{StopsCommands}
+use Rattle.clk_script.specs.Router.{names_in, Starts}
 use Rattle.clk_script.proofs.AnswerLemmas.{names-its}
 
 -- one byte past the limit is enough to tell what is wrong
@@ -151,7 +150,7 @@ by_kind setup known fault kind h = absurd kind
 of-memory : (setup : Setup) (known : Option (List ℕ)) (fault : Fault) → fault ≡ Memory → IsRefusal setup known fault
 of-memory setup known fault e = subst (λ (f : Fault). IsRefusal setup known f) (sym e) (record { explains = tt; reads = λ n. refl; writes = λ n. refl; not_write = λ d. cc })
 
--- why a script is refused as it is read, and as it is run
+-- why a script is refused as it is read
 pub IsRefusal-read : (setup : Setup) (router : Router) → Starts setup router → (known : Option (List ℕ)) (bytes : List ℕ) (fault : Fault) → IfSome known (λ all. bytes ≡ take (most_bytes + 1) all)
     → (fault ≡ Memory) ⊎ (script_fault (names_in router) bytes ≡ Some fault) → IsRefusal setup known fault
 IsRefusal-read setup router starts known bytes fault is (inl e) = of-memory setup known fault e
@@ -159,12 +158,6 @@ IsRefusal-read setup router starts known bytes fault is (inr e) =
     let here : script_fault (names_of setup) bytes ≡ Some fault = subst (λ names. script_fault names bytes ≡ Some fault) (names-its setup [] router starts.leads) e in
     let kind : IsOfScript fault = rw here at (of_script (names_of setup) bytes) in
     by_kind setup known fault kind (named (names_of setup) known bytes fault is here)
-
-pub IsRefusal-run : (setup : Setup) (known : Option (List ℕ)) (commands : List Command) (drain : Option ℕ) (fault : Fault) → ((made : ℕ) → MatchOption drain ⊥ (StopsShort setup commands made) → ⊥)
-    → (fault ≡ Memory) ⊎ StopsCommands setup commands drain fault → IsRefusal setup known fault
-IsRefusal-run setup known commands drain fault never (inl e) = of-memory setup known fault e
-IsRefusal-run setup known commands drain (TooManyPulls made) never (inr short) = absurd (never made short)
-IsRefusal-run setup known commands drain fault never (inr short) = absurd short
 
 -- the devices of a router are as many as its trees
 pub few-devices : (setup : Setup) (router : Router) (n : ℕ) → Starts setup router → n ≡ length router.devices.items → n ≤ 65535

@@ -1,9 +1,11 @@
 -- A setup over which each closing comes to its end.
-use Rattle.std.specs.Prelude.{◌≡◌, ℕ, true, slice_get, Some}
+use Rattle.std.specs.Prelude.{◌≡◌, ℕ, List, true, slice_get, Some}
 use Rattle.clk_sched.specs.Tree.{Tree, root, leaves, stands_in, are_distinct, IsSound}
 use Rattle.clk_tree.specs.PlanParts.{AreRising}
-use Rattle.clk_script.specs.Meaning.{Setup, sender_numbers, is_at}
+use Rattle.clk_script.specs.declared.router.Router.{Router}
+use Rattle.clk_script.specs.Meaning.{Setup, Event, sender_numbers, is_at}
 use Rattle.clk_script.specs.OneMeaning.{IsApart}
+use Rattle.clk_script.specs.Router.{IsAt}
 
 -- the queues of a device over a setup: the leaves of its tree
 pub record AreQueuesOf (setup : Setup) (d : ℕ) (tree : Tree) : Type 0 where
@@ -17,3 +19,10 @@ pub record IsClosable (setup : Setup) : Type 0 where
   pub apart : IsApart setup
   pub queues : (d : ℕ) (tree : Tree) → slice_get setup.trees d ≡ Some tree → AreQueuesOf setup d tree
   pub sound : (d : ℕ) (tree : Tree) → slice_get setup.trees d ≡ Some tree → IsSound (root tree)
+
+-- A router over such a setup, where some events led.
+pub record IsClosableRouter (router : Router) : Type 0 where
+  pub setup : Setup
+  pub closable : IsClosable setup
+  pub events : List Event
+  pub leads : IsAt setup events router

@@ -5,14 +5,11 @@ use Rattle.clk_packet.specs.declared.packet.Packet.{Packet}
 use Rattle.clk_packet.specs.declared.packet.Offered.{Offered}
 use Rattle.clk_packet.specs.declared.packet.Offered.TheVariants.{Accepted, Refused, Evicted}
 use Rattle.clk_packet.specs.declared.tally.Tally.{Tally}
-use Rattle.clk_packet.specs.declared.fault.Fault.{Fault}
-use Rattle.clk_packet.specs.declared.fault.Fault.TheVariants.{TooManyPulls}
 use Rattle.clk_ring.specs.Queue.{Queue, empty_queue, IsOffered, IsPulled}
 use Rattle.clk_ring.specs.QueueHistory.{QueueEvent}
 use Rattle.clk_ring.specs.Laws.{LeadsTo}
 use Rattle.clk_sched.specs.declared.visit.Visit.{Visit}
 use Rattle.clk_sched.specs.Tree.{Tree, root, leaves_distinct, IsSound as AreSchedulersSound}
-use Rattle.clk_sched.specs.Bound.{closing_bound}
 use Rattle.clk_sched.specs.Limits.{most_elements}
 use Rattle.clk_script.specs.declared.script.Command.{Command}
 use Rattle.clk_script.specs.declared.script.Command.TheVariants.{Send, Pull}
@@ -26,11 +23,11 @@ use Rattle.clk_script.specs.declared.devices.Device.{Device}
 use Rattle.clk_script.specs.declared.router.Router.{Router}
 use Rattle.clk_sched.specs.Log.{visits_of, result_of}
 use Rattle.clk_sched.specs.Results.{emitted}
-use Rattle.clk_sched.specs.Session.{counted_moment, elements, given_in}
+use Rattle.clk_sched.specs.Session.{counted_moment, elements}
 use Rattle.clk_script.specs.Script.{Names, most_lines, most_moment, most_device}
 use Rattle.clk_report.specs.Report.{packets_from}
 use Rattle.clk_report.specs.Devices.{lists_of}
-use Rattle.clk_script.specs.Meaning.{Room, Setup, Event, offered, pulled, CanHappen, numbers_of, accepted_in, evicted_in, tally_after, history, log_of, events_at, sender_numbers, left_after, closing_pulls, command_of, Closes, CloseFirst}
+use Rattle.clk_script.specs.Meaning.{Room, Setup, Event, offered, pulled, CanHappen, numbers_of, accepted_in, evicted_in, tally_after, history, log_of, events_at, sender_numbers, Closes, CloseFirst}
 
 -- a queue and a sender as they are made, and what was asked for
 abbrev pub queue_made : Queued → Queue
@@ -299,35 +296,6 @@ pub record LeadsOnByClosing (setup : Setup) (new : Router) (moment devices : ℕ
   pub closed : List Event
   pub closes : CloseFirst setup moment devices events closed
   pub leads : IsAt setup (events ++ closed) new
-
--- The closing drain of a device after some events, from a moment on, stops short: it made this many pulls, which are all that it is given,
--- and fewer packets came out than were left.
-pub record DeviceDrainsShort (setup : Setup) (device moment made : ℕ) (events : List Event) : Type 0 where
-  pub tree : Tree
-  pub its : slice_get setup.trees device ≡ Some tree
-  pub closing : List (List Visit)
-  pub can_happen : CanHappen setup (events ++ closing_pulls device moment (events_at setup device events) closing)
-  pub made_are : length closing ≡ made
-  pub bound : made ≡ closing_bound tree (left_after (events_at setup device events))
-  pub fewer : length (given_in closing) < left_after (events_at setup device events)
-
--- The closing drain after some events stops short: that of a device does, after those before it were closed.
-pub record DrainsShort (setup : Setup) (moment made : ℕ) (events : List Event) : Type 0 where
-  pub device : ℕ
-  pub before : List Event
-  pub closes : CloseFirst setup moment device events before
-  pub short : DeviceDrainsShort setup device moment made (events ++ before)
-
--- The closing drain after some commands stops short.
-pub record StopsShort (setup : Setup) (commands : List Command) (made moment : ℕ) : Type 0 where
-  pub events : List Event
-  pub theirs : map command_of events ≡ commands
-  pub short : DrainsShort setup moment made events
-
--- Why the closing of a device stops short: it made all the pulls that it is given.
-abbrev pub StopsDrain : Router → ℕ → ℕ → Fault → Type 0
-StopsDrain old device moment (TooManyPulls made) = (setup : Setup) (events : List Event) → IsAt setup events old → DeviceDrainsShort setup device moment made events
-StopsDrain old device moment fault = ⊥
 
 -- a command whose numbers are those of a script
 abbrev pub IsReadable : Command → Type 0

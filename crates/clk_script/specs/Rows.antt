@@ -1,12 +1,10 @@
 -- What is kept of each command of a script, and what is written of it.
-use Rattle.std.specs.Prelude.{◌≡◌, ℕ, ◌≤◌, ◌==◌, List, [], ◌∷◌, ◌++◌, length, map, take, drop, ◌+◌, nat_lt, Bool, true, if◌then◌else◌, Option, Some, None, IfSome, MatchOption, Vec, slice_get}
+use Rattle.std.specs.Prelude.{◌≡◌, ℕ, ◌≤◌, ◌==◌, List, [], ◌∷◌, ◌++◌, length, map, take, drop, ◌+◌, nat_lt, Bool, true, if◌then◌else◌, Option, Some, None, IfSome, Vec, slice_get}
 use Rattle.std.specs.List.{flat_map, filter_map, cons_option, AllByRecursion}
 use Rattle.std.specs.declared.alloc.Global.{Global}
 use Rattle.clk_packet.specs.declared.packet.Packet.{Packet}
 use Rattle.clk_packet.specs.declared.packet.Offered.{Offered}
 use Rattle.clk_packet.specs.declared.packet.Offered.TheVariants.{Accepted, Refused, Evicted}
-use Rattle.clk_packet.specs.declared.fault.Fault.{Fault}
-use Rattle.clk_packet.specs.declared.fault.Fault.TheVariants.{TooManyPulls}
 use Rattle.clk_sched.specs.declared.visit.Visit.{Visit}
 use Rattle.clk_sched.specs.Log.{visits_of, result_of}
 use Rattle.clk_report.specs.Report.{report_text}
@@ -22,7 +20,7 @@ use Rattle.clk_script.specs.declared.past.Past.{Past}
 use Rattle.clk_script.specs.declared.router.Router.{Router}
 use Rattle.clk_script.specs.Script.{Names, command_in, commands_of, closing_moment, most_lines, most_moment}
 use Rattle.clk_script.specs.Meaning.{Setup, has_several, Event, offered, pulled, command_of, offer_text, pull_text, given_text, closing_text}
-use Rattle.clk_script.specs.Router.{IsAt, IsSound, device_log, LeadsOnByClosing, DrainsShort, StopsShort}
+use Rattle.clk_script.specs.Router.{IsAt, IsSound, device_log, LeadsOnByClosing}
 
 -- what is kept of a command that is to be carried out, of an offer, and of a pull
 abbrev pub row_asked : Command → Row
@@ -81,15 +79,6 @@ pub record CarriesOut (setup : Setup) (before : List Packet) (new : Router) (ask
 -- whatever events led to the router
 abbrev pub AnswersRows : Router → Router → List Row → List Row → Type 0
 AnswersRows old new asked done = (setup : Setup) (events : List Event) → IsAt setup events old → CarriesOut setup old.given.items new asked done events
-
--- Why closing a router stops short, and why the closing after some commands does.
-abbrev pub StopsClosing : Router → Option ℕ → Fault → Type 0
-StopsClosing old (Some moment) (TooManyPulls made) = (setup : Setup) (events : List Event) → IsAt setup events old → DrainsShort setup moment made events
-StopsClosing old drain fault = ⊥
-
-abbrev pub StopsCommands : Setup → List Command → Option ℕ → Fault → Type 0
-StopsCommands setup commands drain (TooManyPulls made) = MatchOption drain ⊥ (StopsShort setup commands made)
-StopsCommands setup commands drain fault = ⊥
 
 -- the line of a row, where these packets come out from it on, and these are put out
 abbrev pub evicting_text : Packet → Option Packet → List ℕ

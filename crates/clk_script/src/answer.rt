@@ -7,7 +7,8 @@ ghost use Rattle.clk_report.specs.Devices.{lists_of};
 ghost use Rattle.clk_script.specs.Script.{most_lines, most_moment};
 ghost use Rattle.clk_script.specs.Meaning.{Setup, WritesWith};
 ghost use Rattle.clk_script.specs.Router.{names_in, IsReady, Starts};
-ghost use Rattle.clk_script.specs.Rows.{row_asked, answer_text, IsToDo, CanBeRun, AnswersRows, IsClosedFrom, IsClosedAt, starts_of, StopsClosing, StopsCommands};
+ghost use Rattle.clk_script.specs.Rows.{row_asked, answer_text, IsToDo, CanBeRun, AnswersRows, IsClosedFrom, IsClosedAt, starts_of};
+ghost use Rattle.clk_script.specs.Closable.{IsClosable, IsClosableRouter};
 
 use crate::past::Past;
 use crate::reading::Script;
@@ -31,14 +32,14 @@ pub struct Answer {
 ///
 /// # Errors
 ///
-/// Fault 1 where memory is refused, and 17 where the drain of a device stops short.
+/// Fault 1 where memory is refused.
 pub fn answer_script(alloc: Global, router: Router, script: Script) -> Result<Answer, Fault>
-    requires fresh { (setup : Setup) × Starts setup router }
+    requires fresh { (setup : Setup) × Starts setup router × IsClosable setup }
     requires sound { CanBeRun (names_in router) script }
-    ensures means { (setup : Setup) (commands : _) → Starts setup router → script.rows.items ≡ map row_asked commands → MatchResult result
-        (λ answer. WritesWith setup commands script.closing (answer_text answer) (lists_of answer.past.logs.items))
-        (λ fault. (fault ≡ Memory) ⊎ StopsCommands setup commands script.closing fault) }
+    ensures means { IfOk result (λ answer. (setup : Setup) (commands : _) → Starts setup router → script.rows.items ≡ map row_asked commands
+        → WritesWith setup commands script.closing (answer_text answer) (lists_of answer.past.logs.items)) }
     ensures devices { IfOk result (λ answer. (length answer.past.logs.items ≡ length router.devices.items) × (length answer.past.came_out.items ≡ length router.devices.items)) }
+    ensures fault { IsOkUnless result Fault.Memory }
 {
     let mut router = router;
     let mut rows = script.rows;
@@ -91,19 +92,17 @@ fn carry_out_one(router: &mut Router, row: Row) -> Result<Row, Fault>
 }
 
 /// Closes a router from this moment on, in ticks, if there is one. Answers where the visits of each device's closing begin in its log.
-///
-/// # Errors
-///
-/// Fault 1 where memory is refused, and 17 where the pulls that the closing of a device is given are not enough.
+/// Fault 1 where memory is refused.
 fn close(
     alloc: Global,
     router: &mut Router,
     moment: Option<u64>,
 ) -> Result<Option<Vec<usize>>, Fault>
     requires ready { IsReady router.old }
+    requires closable { IsClosableRouter router.old }
     requires moment { IfSome moment (λ m. m ≤ most_moment) }
     ensures closed { IfOk result (λ starts. IsClosedFrom router.old router.new moment (starts_of starts)) }
-    ensures fault { IfErr result (λ fault. (fault ≡ Memory) ⊎ StopsClosing router.old moment fault) }
+    ensures fault { IsOkUnless result Fault.Memory }
 {
     match moment {
         Some(moment) => Ok(Some(drain_all(alloc, router, moment)?)),
@@ -112,12 +111,13 @@ fn close(
 }
 
 /// Drains the devices one after the other, each from this moment on, and answers where the visits of each one's closing begin in its
-/// log. The same faults.
+/// log. Fault 1 where memory is refused.
 fn drain_all(alloc: Global, router: &mut Router, moment: u64) -> Result<Vec<usize>, Fault>
     requires ready { IsReady router.old }
+    requires closable { IsClosableRouter router.old }
     requires moment { moment ≤ most_moment }
     ensures closed { IfOk result (λ starts. IsClosedAt router.old router.new moment starts.items) }
-    ensures fault { IfErr result (λ fault. (fault ≡ Memory) ⊎ StopsClosing router.old (Some moment) fault) }
+    ensures fault { IsOkUnless result Fault.Memory }
 {
     let mut starts = Vec::new(alloc);
     let mut device = 0;

@@ -44,7 +44,7 @@ impl Queues {
 impl Ask for Queues {
     ghost has = { λ s leaf. nat_lt leaf (length s.rings.items) };
 
-    ghost holds = { λ s leaf. packets_at s.rings.items leaf };
+    ghost holds = { λ s leaf. length (packets_at s.rings.items leaf) };
 
     ghost gives = { λ old leaf got new. GivesAt old.rings.items leaf got new.rings.items };
 

@@ -12,7 +12,7 @@ use crate::senders::{Sender, senders_of};
 use crate::tallies::{note, place_of, tallies_of};
 use clk_packet::{Fault, Offered, Packet, Tally};
 use clk_ring::calls_are_history;
-use clk_sched::{Tree, runs_go_on};
+use clk_sched::{Tree, runs_conserve_packets, runs_go_on};
 use clk_tree::{QueueSpec, SenderSpec};
 use std::alloc::Global;
 
@@ -42,7 +42,8 @@ impl Router {
     ghost use Rattle.clk_tree.specs.PlanParts.{queued, HasCapacity};
     ghost use Rattle.clk_script.specs.Script.{most_lines, most_moment};
     ghost use Rattle.clk_script.specs.Meaning.{Setup, Event, offered, setup_of};
-    ghost use Rattle.clk_script.specs.Router.{CanStand, ChangesDevice, numbers_in, IsSteady, IsPlace, IsPlaceOf, IsSentFrom, IsReady, IsSteadyAt, IsWhole, IsAt, IsPastOf, Starts, Counts, ChangesGiven, given_kept, LeadsOnByPull, LeadsOnByDrain, StopsDrain, device_log};
+    ghost use Rattle.clk_script.specs.Router.{CanStand, ChangesDevice, numbers_in, IsSteady, IsPlace, IsPlaceOf, IsSentFrom, IsReady, IsSteadyAt, IsWhole, IsAt, IsPastOf, Starts, Counts, ChangesGiven, given_kept, LeadsOnByPull, LeadsOnByDrain, device_log};
+    ghost use Rattle.clk_script.specs.Closable.{IsClosableRouter};
 
     /// The router over these parts before anything has happened. Fault 1 where memory is refused.
     pub fn new(
@@ -156,22 +157,26 @@ impl Router {
     ///
     /// # Errors
     ///
-    /// Fault 1 where memory is refused, and 17 where the pulls that a session gives to its closing were not enough.
+    /// Fault 1 where memory is refused.
     pub fn drain(&mut self, device: u16, moment: u64) -> Result<usize, Fault>
         requires steady { IsSteadyAt (slice_get self.old.devices.items device) }
+        requires closable { IsClosableRouter self.old }
         requires moment { moment ≤ most_moment }
         ensures start { IfOk result (λ start. IfSome (slice_get self.old.devices.items device) (λ d. start ≡ length (device_log d))) }
         ensures others { OnOk result (ChangesDevice self.old.devices.items device self.new.devices.items) }
         ensures given { OnOk result (self.new.given ≡ self.old.given) }
         ensures leads { OnOk result ((setup : Setup) (events : _) → IsAt setup events self.old → LeadsOnByDrain setup self.new device moment events) }
-        ensures fault { IfErr result (λ fault. (fault ≡ Memory) ⊎ StopsDrain self.old device moment fault) }
+        ensures fault { IsOkUnless result Fault.Memory }
     {
-        // What happened to the queues stays a history of each by this law, which does nothing.
+        // What happened to the queues stays a history of each, and what they hold and the heads is what is left, by these laws, which
+        // do nothing.
         calls_are_history();
+        runs_go_on();
+        runs_conserve_packets();
         let device = &mut self.devices[usize::from(device)];
         let logged = device.session.log().len();
         let emitted = device.session.came_out().len() as u64;
-        let left = device.kept.saturating_sub(emitted);
+        let left = device.kept - emitted;
         device.session.drain(&mut self.queues, left, moment)?;
         Ok(logged)
     }

@@ -21,7 +21,7 @@ use crate::router::Router;
 use crate::script::MAX_BYTES;
 use crate::writing::write_answer;
 use clk_packet::{Fault, Sink, Source, let_go, read_up_to};
-use clk_sched::{Tree, Visit, closing_bound_is_enough, runs_conserve_packets, runs_go_on};
+use clk_sched::{Tree, Visit};
 use clk_tree::{Plan, QueueSpec, SenderSpec};
 use std::alloc::Global;
 
@@ -122,10 +122,6 @@ fn run_parts<R: Source, W: Sink>(
     ensures write_failures { W.Sink.failures writer.new ≡ write_failures result (W.Sink.failures writer.old) }
     ensures limit { Takes (most_bytes + 1) (R.Source.remaining reader.old) (R.Source.remaining reader.new) }
 {
-    // That its closing never stops short is by these laws, which do nothing.
-    closing_bound_is_enough();
-    runs_go_on();
-    runs_conserve_packets();
     let router = Router::new(alloc, trees, queues, senders)?;
     let text = read_up_to(alloc, reader, MAX_BYTES + 1)?;
     let script = read_script(alloc, &router.tallies, router.devices.len(), &text)?;

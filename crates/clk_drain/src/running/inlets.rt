@@ -124,13 +124,12 @@ impl<'a, W: Wait> Inlets<'a, W> {
 }
 
 impl<'a, W: Wait> Ask for Inlets<'a, W> {
-    ghost use Rattle.std.specs.Prelude.{[]};
     ghost use Rattle.clk_drain.specs.Line.{PullsAt, has_line};
 
     ghost has = { has_line };
 
-    // What a shared queue holds is known by no one alone.
-    ghost holds = { λ s leaf. [] };
+    // What a shared queue holds is known by no one alone, while producers offer.
+    ghost holds = { λ s leaf. 0 };
 
     ghost gives = { PullsAt };
 

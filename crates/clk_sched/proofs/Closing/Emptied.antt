@@ -58,7 +58,7 @@ answers-here tree q above first next row pull other only =
     each : (v : Visit) → asks_queue tree q v ≡ ((v.node == above) && asks first v)
     each v = ap (λ b. v.fresh && b) (only-here q tree above first next q row (equal q q refl) other only v.node v.input) ∙ turned v.fresh (v.node == above) (v.input == first)
 
-each-gives : (row : Row) (tree : Tree) (old new : ℕ → List Packet) (pull : List Visit) (above first next : ℕ) → above < next → ((q : ℕ) → stands_in q (leaves row) ≡ true → StandsOnlyIn q tree above first next row)
+each-gives : (row : Row) (tree : Tree) (old new : ℕ → ℕ) (pull : List Visit) (above first next : ℕ) → above < next → ((q : ℕ) → stands_in q (leaves row) ≡ true → StandsOnlyIn q tree above first next row)
     → are_distinct (leaves row) ≡ true → ((q : ℕ) → GivesOut (old q) (answers_of tree q pull) (new q)) → EachGives old new pull above first next row
 each-gives end tree old new pull above first next o only distinct gives = tt
 each-gives (leaf q row) tree old new pull above first next o only distinct gives = (
@@ -102,13 +102,13 @@ each-gives (node class inputs row) tree old new pull above first next o only dis
     other p s true e = absurd (false≢true (sym ((parts p).2 e) ∙ s))
 
 -- a closing pull
-pub record IsClosingPull (tree : Tree) (log pull : List Visit) (moment : ℕ) (held rest : ℕ → List Packet) : Type 0 where
+pub record IsClosingPull (tree : Tree) (log pull : List Visit) (moment : ℕ) (held rest : ℕ → ℕ) : Type 0 where
   pub goes_on : IsOnePullMore tree log pull
   pub at_moment : moment_of pull ≡ moment + 1
   pub gives : (q : ℕ) → GivesOut (held q) (answers_of tree q pull) (rest q)
 
 -- what a queue answered before and after
-gives-split : (xs ys : List (Option Packet)) (held rest : List Packet) → GivesOut held (xs ++ ys) rest → (mid : List Packet) × GivesOut held xs mid × GivesOut mid ys rest
+gives-split : (xs ys : List (Option Packet)) (held rest : ℕ) → GivesOut held (xs ++ ys) rest → (mid : ℕ) × GivesOut held xs mid × GivesOut mid ys rest
 gives-split [] ys held rest h = (held, refl, h)
 gives-split (None ∷ xs) ys held rest h = let k = gives-split xs ys held rest h.1 in (k.0, (h.0, k.1), k.2)
 gives-split (Some p ∷ xs) ys held rest h = let k = gives-split xs ys h.0 rest h.2 in (k.0, (h.0, h.1, k.1), k.2)
@@ -117,12 +117,12 @@ answers-joined : (tree : Tree) (q : ℕ) (us vs : List Visit) → answers_of tre
 answers-joined tree q us vs = ap (map (λ (v : Visit). v.got)) (filter-append (asks_queue tree q) us vs) ∙ map-append (λ (v : Visit). v.got) (filter (asks_queue tree q) us) (filter (asks_queue tree q) vs)
 
 -- the first of some closing pulls, and the others
-record IsFirstOf (tree : Tree) (log pull : List Visit) (moment : ℕ) (held rest : ℕ → List Packet) (more : List (List Visit)) : Type 0 where
-  mid : ℕ → List Packet
+record IsFirstOf (tree : Tree) (log pull : List Visit) (moment : ℕ) (held rest : ℕ → ℕ) (more : List (List Visit)) : Type 0 where
+  mid : ℕ → ℕ
   first : IsClosingPull tree log pull moment held mid
   others : IsClosing tree (log ++ pull) (moment + 1) mid rest more
 
-first-of : (tree : Tree) (log pull : List Visit) (moment : ℕ) (held rest : ℕ → List Packet) (more : List (List Visit)) → IsRun tree log → IsClosing tree log moment held rest (pull ∷ more) → IsFirstOf tree log pull moment held rest more
+first-of : (tree : Tree) (log pull : List Visit) (moment : ℕ) (held rest : ℕ → ℕ) (more : List (List Visit)) → IsRun tree log → IsClosing tree log moment held rest (pull ∷ more) → IsFirstOf tree log pull moment held rest more
 first-of tree log pull moment held rest more run h =
     record {
       mid = λ q. (split q).0;
@@ -151,11 +151,11 @@ first-of tree log pull moment held rest more run h =
     whole : log ++ (pull ++ rests) ≡ (log ++ pull) ++ rests
     whole = sym (append_assoc log pull rests)
 
-    split : (q : ℕ) → (mid : List Packet) × GivesOut (held q) (answers_of tree q pull) mid × GivesOut mid (answers_of tree q rests) (rest q)
+    split : (q : ℕ) → (mid : ℕ) × GivesOut (held q) (answers_of tree q pull) mid × GivesOut mid (answers_of tree q rests) (rest q)
     split q = gives-split (answers_of tree q pull) (answers_of tree q rests) (held q) (rest q) (subst (λ told. GivesOut (held q) told (rest q)) (answers-joined tree q pull rests) (h.gives q))
 
 -- The closing so far: so many pulls were made, and so many packets came out, of those that were left at first.
-pub record IsEmptying (k : ℕ) (tree : Tree) (log : List Visit) (held : ℕ → List Packet) (first all made given : ℕ) : Type 0 where
+pub record IsEmptying (k : ℕ) (tree : Tree) (log : List Visit) (held : ℕ → ℕ) (first all made given : ℕ) : Type 0 where
   pub now : Amount
   pub costs : Costs k held log prio 0 0 1 (root tree) now.left now.work
   pub conserved : now.left + given ≡ first
@@ -165,7 +165,7 @@ pub record IsEmptying (k : ℕ) (tree : Tree) (log : List Visit) (held : ℕ →
 device-turn : (pull : List Visit) → IsDeviceTurn (turn 0 pull) → AllowsTurn prio 1 [] (turn 0 pull)
 device-turn pull h = record { within = let one = device-visit (visits_of 0 pull) h in subst (AllByRecursion (λ (v : Visit). v.input < 1)) (sym one.only) ((let e = one.input in omega (arith, e)), tt); follows = h }
 
-pull-empties : (k : ℕ) (tree : Tree) (log pull : List Visit) (held rest : ℕ → List Packet) (moment first all made given : ℕ) → IsSound (root tree) → leaves_distinct tree ≡ true → EachIsEnough k (root tree) → IsRun tree log
+pull-empties : (k : ℕ) (tree : Tree) (log pull : List Visit) (held rest : ℕ → ℕ) (moment first all made given : ℕ) → IsSound (root tree) → leaves_distinct tree ≡ true → EachIsEnough k (root tree) → IsRun tree log
     → AllByRecursion (λ p. moment_of p ≤ moment) (pulls log) → IsNextPull tree log pull → moment_of pull ≡ moment + 1 → ((q : ℕ) → GivesOut (held q) (answers_of tree q pull) (rest q)) → IsEmptying k tree log held first all made given
     → IsEmptying k tree (log ++ pull) rest first all (made + 1) (given + one_if (is_some (result_of (visits_of 0 pull))))
 pull-empties k tree log pull held rest moment first all made given sound distinct enough run before next at gives h =
@@ -229,7 +229,7 @@ length-option : {X : Type 0} (o : Option X) (xs : List X) → length (cons_optio
 length-option None xs = omega arith
 length-option (Some x) xs = omega arith
 
-closes-within : (more : List (List Visit)) (k : ℕ) (tree : Tree) (log : List Visit) (held rest : ℕ → List Packet) (moment first all made given : ℕ) → IsSound (root tree) → leaves_distinct tree ≡ true → EachIsEnough k (root tree) → IsRun tree log
+closes-within : (more : List (List Visit)) (k : ℕ) (tree : Tree) (log : List Visit) (held rest : ℕ → ℕ) (moment first all made given : ℕ) → IsSound (root tree) → leaves_distinct tree ≡ true → EachIsEnough k (root tree) → IsRun tree log
     → AllByRecursion (λ p. moment_of p ≤ moment) (pulls log) → IsClosing tree log moment held rest more → IsEmptying k tree log held first all made given → given + length (given_in more) < first → made + length more < all
 closes-within [] k tree log held rest moment first all made given sound distinct enough run before closes h short =
     let was = h.conserved in
@@ -258,7 +258,7 @@ rising-latest (p ∷ ps) earlier h =
     ((last, rest.0), omega (arith, last, here))
 
 -- all that is left when the closing begins, and its work, which are within the bound
-pub record IsEmptied (tree : Tree) (log : List Visit) (held : ℕ → List Packet) (left made given : ℕ) : Type 0 where
+pub record IsEmptied (tree : Tree) (log : List Visit) (held : ℕ → ℕ) (left made given : ℕ) : Type 0 where
   pub all : ℕ
   pub within : all ≤ closing_bound tree left
   pub emptying : IsEmptying (rounds_less (least_quantum (root tree))) tree log held left all made given
@@ -273,7 +273,7 @@ bounded left high n =
     let f = mul-add left high 1 in
     omega (arith, a, b, c, d, e, f)
 
-pub emptied-first : (tree : Tree) (log : List Visit) (held : ℕ → List Packet) (left : ℕ) → IsSound (root tree) → IsRun tree log → left ≡ left_in tree log held → IsEmptied tree log held left 0 0
+pub emptied-first : (tree : Tree) (log : List Visit) (held : ℕ → ℕ) (left : ℕ) → IsSound (root tree) → IsRun tree log → left ≡ left_in tree log held → IsEmptied tree log held left 0 0
 emptied-first tree log held left sound run is =
     record {
       all = start.now.left + start.now.work;
@@ -309,7 +309,7 @@ bound-is_enough tree sound distinct log moment held rest more run latest closes 
     omega (arith, fewer, within)
 
 -- one more closing pull
-pub emptied-more : (tree : Tree) (log pull : List Visit) (held rest : ℕ → List Packet) (moment left made given : ℕ) → IsSound (root tree) → leaves_distinct tree ≡ true → IsRun tree log → latest_moment (reverse (pulls log)) ≤ moment
+pub emptied-more : (tree : Tree) (log pull : List Visit) (held rest : ℕ → ℕ) (moment left made given : ℕ) → IsSound (root tree) → leaves_distinct tree ≡ true → IsRun tree log → latest_moment (reverse (pulls log)) ≤ moment
     → IsClosingPull tree log pull moment held rest → IsEmptied tree log held left made given → IsEmptied tree (log ++ pull) rest left (made + 1) (given + one_if (is_some (result_of (visits_of 0 pull))))
 emptied-more tree log pull held rest moment left made given sound distinct run latest closing h =
     record {
@@ -320,7 +320,7 @@ emptied-more tree log pull held rest moment left made given sound distinct run l
     }
 
 -- as long as not all came out, fewer pulls than the bound were made
-pub emptied-within : (tree : Tree) (log : List Visit) (held : ℕ → List Packet) (left made given : ℕ) → IsEmptied tree log held left made given → given < left → made < closing_bound tree left
+pub emptied-within : (tree : Tree) (log : List Visit) (held : ℕ → ℕ) (left made given : ℕ) → IsEmptied tree log held left made given → given < left → made < closing_bound tree left
 emptied-within tree log held left made given h short =
     let was = h.emptying.conserved in
     let some : 0 < h.emptying.now.left = omega (arith, was, short) in

@@ -145,7 +145,7 @@ length-own log x (drr quanta) inputs = length-heads log x inputs 0 (width inputs
 length-own log x (stride tickets) inputs = refl
 length-own log x (shaper rate burst) inputs = refl
 
-held-append : (held : ℕ → List Packet) (ps qs : List ℕ) → held_in_all held (ps ++ qs) ≡ held_in_all held ps + held_in_all held qs
+held-append : (held : ℕ → ℕ) (ps qs : List ℕ) → held_in_all held (ps ++ qs) ≡ held_in_all held ps + held_in_all held qs
 held-append held [] qs = omega arith
 held-append held (p ∷ ps) qs = let rest = held-append held ps qs in omega (arith, rest)
 
@@ -173,13 +173,13 @@ node-near k log above first next class inputs row pulled h obeys args enough = b
     by_class (shaper rate burst) o a e = tt
 
 -- A row at first: what its queues and its heads hold is left, and the work is within so much for each packet.
-pub record IsRowFirst (k n : ℕ) (held : ℕ → List Packet) (log : List Visit) (class : Class) (above first next : ℕ) (row : Row) : Type 0 where
+pub record IsRowFirst (k n : ℕ) (held : ℕ → ℕ) (log : List Visit) (class : Class) (above first next : ℕ) (row : Row) : Type 0 where
   pub now : Amount
   pub costs : Costs k held log class above first next row now.left now.work
   pub left_is : now.left ≡ held_in_all held (leaves row) + (heads_from class (latest log above) first (width row) + length (traced_heads log next row))
   pub bound : now.work ≤ now.left * (n * k + k)
 
-pub row-first : (row : Row) (k n w : ℕ) (held : ℕ → List Packet) (log : List Visit) (class : Class) (above first next : ℕ) (pulled : List (List Visit)) → first + width row ≤ w → height row ≤ n
+pub row-first : (row : Row) (k n w : ℕ) (held : ℕ → ℕ) (log : List Visit) (class : Class) (above first next : ℕ) (pulled : List (List Visit)) → first + width row ≤ w → height row ≤ n
     → IsNear k w class (latest log above) → IsPulledIn log above first next row pulled → EachObeys above pulled first next row → IsSound row → EachIsEnough k row → IsRowFirst k n held log class above first next row
 row-first end k n w held log class above first next pulled within high near inside obeys sound enough = record { now = record { left = 0; work = 0 }; costs = (refl, refl); left_is = let none = no-heads class in omega (arith, none); bound = omega arith }
   where
@@ -190,7 +190,7 @@ row-first end k n w held log class above first next pulled within high near insi
     no-heads (stride tickets) = refl
     no-heads (shaper rate burst) = refl
 row-first (leaf q row) k n w held log class above first next pulled within high near inside obeys sound enough =
-    let here = input-first k w class (latest log above) first (length (held q)) 0 (omega (arith, within)) near in
+    let here = input-first k w class (latest log above) first (held q) 0 (omega (arith, within)) near in
     let rest = row-first row k n w held log class above (suc first) next pulled (omega (arith, within)) high near (pulled-after_leaf log above first next q row pulled inside) obeys sound enough in
     let one = heads-more class (latest log above) first (width row) in
     let a = here.left_is in

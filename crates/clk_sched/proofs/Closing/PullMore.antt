@@ -41,17 +41,17 @@ asked-any : (i : ℕ) (visits : List Visit) (v : Visit) → In v (filter (asks i
 asked-any i visits v m = let its = in-filter (asks i) v visits m in any-in (asks i) v visits its.1 its.0
 
 -- a queue that is asked at an input
-queue-asked : (i : ℕ) (visits : List Visit) (old new : List Packet) → AreApart input_of visits → GivesOut old (map (λ (v : Visit). v.got) (filter (asks i) visits)) new
-    → IsAsked i visits (length old) 0 (length new) 0
+queue-asked : (i : ℕ) (visits : List Visit) (old new : ℕ) → AreApart input_of visits → GivesOut old (map (λ (v : Visit). v.got) (filter (asks i) visits)) new
+    → IsAsked i visits old 0 new 0
 queue-asked i visits old new apart gives = by_asked (asked-one i visits apart)
   where
     answers : List Visit → List (Option Packet)
     answers vs = map (λ (v : Visit). v.got) vs
 
-    by_asked : (filter (asks i) visits ≡ []) ⊎ ((v : Visit) × (filter (asks i) visits ≡ v ∷ [])) → IsAsked i visits (length old) 0 (length new) 0
+    by_asked : (filter (asks i) visits ≡ []) ⊎ ((v : Visit) × (filter (asks i) visits ≡ v ∷ [])) → IsAsked i visits old 0 new 0
     by_asked (inl none) =
         let kept : old ≡ new = subst (λ vs. GivesOut old (answers vs) new) none gives in
-        record { idle = λ _. ap length (sym kept); never_grows = omega arith; gave = λ v m. absurd (subst (In v) none m) }
+        record { idle = λ _. sym kept; never_grows = omega arith; gave = λ v m. absurd (subst (In v) none m) }
     by_asked (inr one) =
         record {
           idle = λ e. absurd (false≢true (sym e ∙ asked-any i visits one.0 (subst (In one.0) (sym one.1) (inl refl))));
@@ -60,18 +60,18 @@ queue-asked i visits old new apart gives = by_asked (asked-one i visits apart)
         }
       where
         Gave : Option Packet → Type 0
-        Gave o = MatchOption o ((length new ≡ length old) × (0 < length old → 0 < 0)) (λ p. length new + 1 ≡ length old)
+        Gave o = MatchOption o ((new ≡ old) × (0 < old → 0 < 0)) (λ p. new + 1 ≡ old)
 
         by_got : (o : Option Packet) → GivesOut old (o ∷ []) new → Gave o
-        by_got None g = (ap length (sym g.1), λ l. let e = ap length g.0 in omega (arith, e, l))
-        by_got (Some p) g = let e = ap length g.1 in let f = ap length g.2 in omega (arith, e, f)
+        by_got None g = (sym g.1, λ l. let e = g.0 in omega (arith, e, l))
+        by_got (Some p) g = let e = g.1 in let f = g.2 in omega (arith, e, f)
 
         by_member : (v : Visit) → In v (one.0 ∷ []) → Gave v.got
         by_member v (inl e) = subst (λ (u : Visit). Gave u.got) e (by_got one.0.got (subst (λ vs. GivesOut old (answers vs) new) one.1 gives))
         by_member v (inr m) = absurd m
 
 -- A row after one more pull: what its node's visits passed is left no more.
-pub record IsRowAfter (k : ℕ) (held : ℕ → List Packet) (log visits : List Visit) (class : Class) (above first next : ℕ) (row : Row) (left work : ℕ) : Type 0 where
+pub record IsRowAfter (k : ℕ) (held : ℕ → ℕ) (log visits : List Visit) (class : Class) (above first next : ℕ) (row : Row) (left work : ℕ) : Type 0 where
   pub now : Amount
   pub costs : Costs k held log class above first next row now.left now.work
   pub conserved : now.left + sum_from (λ j. hits passes j visits) first (width row) ≡ left
@@ -84,7 +84,7 @@ record IsSumAfter (visits : List Visit) (first inputs left work : ℕ) (here res
   never_grows : here.work + rest.work ≤ work
   falls : ((j : ℕ) → first ≤ j → j < first + suc inputs → (hits (λ v. true) j visits ≡ 1) × (hits passes j visits ≡ 0)) → 0 < left → here.work + rest.work < work
 
-sum-after : (k : ℕ) (held : ℕ → List Packet) (log visits earlier : List Visit) (class : Class) (above first next i below work_below left work : ℕ) (row : Row) (s : IsSum left work) → i ≡ first
+sum-after : (k : ℕ) (held : ℕ → ℕ) (log visits earlier : List Visit) (class : Class) (above first next i below work_below left work : ℕ) (row : Row) (s : IsSum left work) → i ≡ first
     → (here : IsInputAfter k class earlier visits first below work_below s.here.left s.here.work) → (rest : IsRowAfter k held log visits class above (suc first) next row s.rest.left s.rest.work)
     → IsSumAfter visits first (width row) left work (record { left = here.new_left; work = here.new_work }) rest.now
 sum-after k held log visits earlier class above first next i below work_below left work row s e here rest =
@@ -134,7 +134,7 @@ all-in_vain w visits turn long none j low high = (
 )
 
 -- a scheduler that is asked at an input of its parent
-node-asked : (k : ℕ) (old new : ℕ → List Packet) (log pull : List Visit) (above first next : ℕ) (class : Class) (inputs row : Row) (pulled : List (List Visit)) (left work : ℕ)
+node-asked : (k : ℕ) (old new : ℕ → ℕ) (log pull : List Visit) (above first next : ℕ) (class : Class) (inputs row : Row) (pulled : List (List Visit)) (left work : ℕ)
     → IsPulledMore k old new log pull above first next (node class inputs row) pulled → (after : IsRowAfter k new (log ++ pull) (visits_of next pull) class next 0 (suc next) inputs left work)
     → IsAsked first (visits_of above pull) left work after.now.left after.now.work
 node-asked k old new log pull above first next class inputs row pulled left work h after =
@@ -170,7 +170,7 @@ node-asked k old new log pull above first next class inputs row pulled left work
         let one = turn.is_turn.passed ∙ ap (λ o. one_if (is_some o)) e in
         omega (arith, a, s, one)
 
-pub row-after : (row : Row) (k w : ℕ) (old new : ℕ → List Packet) (log pull : List Visit) (class : Class) (above first next : ℕ) (pulled : List (List Visit)) (left work : ℕ) → first + width row ≤ w
+pub row-after : (row : Row) (k w : ℕ) (old new : ℕ → ℕ) (log pull : List Visit) (class : Class) (above first next : ℕ) (pulled : List (List Visit)) (left work : ℕ) → first + width row ≤ w
     → TurnLaw k w class (latest log above) (visits_of above pull) → AreApart input_of (visits_of above pull) → IsPulledMore k old new log pull above first next row pulled → Costs k old log class above first next row left work
     → IsRowAfter k new (log ++ pull) (visits_of above pull) class above first next row left work
 row-after end k w old new log pull class above first next pulled left work within law apart h costs =
@@ -185,13 +185,13 @@ row-after end k w old new log pull class above first next pulled left work withi
 row-after (leaf q row) k w old new log pull class above first next pulled left work within law apart h costs =
     let s = costs.0 in
     let rest = row-after row k w old new log pull class above (suc first) next pulled s.rest.left s.rest.work (omega (arith, within)) law apart (more-after_leaf k old new log pull above first next q row pulled h) costs.2 in
-    let here = input-after k w class (latest log above) (visits_of above pull) first (length (old q)) 0 (length (new q)) 0 s.here.left s.here.work (omega (arith, within)) law apart (queue-asked first (visits_of above pull) (old q) (new q) apart h.gives.0) costs.1 in
-    let sum = sum-after k new (log ++ pull) (visits_of above pull) (latest log above) class above first next first (length (new q)) 0 left work row s refl here rest in
+    let here = input-after k w class (latest log above) (visits_of above pull) first (old q) 0 (new q) 0 s.here.left s.here.work (omega (arith, within)) law apart (queue-asked first (visits_of above pull) (old q) (new q) apart h.gives.0) costs.1 in
+    let sum = sum-after k new (log ++ pull) (visits_of above pull) (latest log above) class above first next first (new q) 0 left work row s refl here rest in
     record {
       now = record { left = here.new_left + rest.now.left; work = here.new_work + rest.now.work };
       costs = (
         sum_of (record { left = here.new_left; work = here.new_work }) rest.now,
-        subst (λ e. CostsAt k class e first (length (new q)) 0 here.new_left here.new_work) (sym (latest-more log pull above)) here.costs,
+        subst (λ e. CostsAt k class e first (new q) 0 here.new_left here.new_work) (sym (latest-more log pull above)) here.costs,
         rest.costs,
       );
       conserved = sum.conserved;

@@ -50,10 +50,10 @@ sum_of here rest = record { here = here; rest = rest; left_is = refl; work_is = 
 
 -- What is left in a row, and its work, where queues hold so many packets: the sum over its inputs. It stands at the inputs of node `above`,
 -- of this class, from `first` on, and its schedulers are numbered from `next` on.
-abbrev pub Costs : (k : ℕ) → (ℕ → List Packet) → List Visit → Class → (above first next : ℕ) → Row → ℕ → ℕ → Type 0
+abbrev pub Costs : (k : ℕ) → (ℕ → ℕ) → List Visit → Class → (above first next : ℕ) → Row → ℕ → ℕ → Type 0
 Costs k held log class above first next end left work = (left ≡ 0) × (work ≡ 0)
 Costs k held log class above first next (leaf q row) left work =
-    (s : IsSum left work) × CostsAt k class (latest log above) first (length (held q)) 0 s.here.left s.here.work × Costs k held log class above (suc first) next row s.rest.left s.rest.work
+    (s : IsSum left work) × CostsAt k class (latest log above) first (held q) 0 s.here.left s.here.work × Costs k held log class above (suc first) next row s.rest.left s.rest.work
 Costs k held log class above first next (node c inputs row) left work =
     (s : IsSum left work) × (below : Amount) × Costs k held log c next 0 (suc next) inputs below.left below.work × CostsAt k class (latest log above) first below.left below.work s.here.left s.here.work
     × Costs k held log class above (suc first) (suc (next + nodes inputs)) row s.rest.left s.rest.work
@@ -62,7 +62,7 @@ Costs k held log class above first next (node c inputs row) left work =
 abbrev pub answers_at : ℕ → ℕ → List Visit → List (Option Packet)
 answers_at above first pull = map (λ (v : Visit). v.got) (filter (asks first) (visits_of above pull))
 
-abbrev pub EachGives : (old new : ℕ → List Packet) → List Visit → (above first next : ℕ) → Row → Type 0
+abbrev pub EachGives : (old new : ℕ → ℕ) → List Visit → (above first next : ℕ) → Row → Type 0
 EachGives old new pull above first next end = ⊤
 EachGives old new pull above first next (leaf q row) = GivesOut (old q) (answers_at above first pull) (new q) × EachGives old new pull above (suc first) next row
 EachGives old new pull above first next (node c inputs row) = EachGives old new pull next 0 (suc next) inputs × EachGives old new pull above (suc first) (suc (next + nodes inputs)) row
@@ -78,7 +78,7 @@ EachIsEnough k (leaf q row) = EachIsEnough k row
 EachIsEnough k (node class inputs row) = AreEnough k class × EachIsEnough k inputs × EachIsEnough k row
 
 -- A row stands in a run, after which comes one more pull, later than those before.
-pub record IsPulledMore (k : ℕ) (old new : ℕ → List Packet) (log pull : List Visit) (above first next : ℕ) (row : Row) (pulled : List (List Visit)) : Type 0 where
+pub record IsPulledMore (k : ℕ) (old new : ℕ → ℕ) (log pull : List Visit) (above first next : ℕ) (row : Row) (pulled : List (List Visit)) : Type 0 where
   pub inside : IsPulledIn log above first next row pulled
   pub obeys : EachObeys above pulled first next row
   pub allows : EachAllows above first next row (reverse pulled) pull
@@ -88,7 +88,7 @@ pub record IsPulledMore (k : ℕ) (old new : ℕ → List Packet) (log pull : Li
   pub later : AllByRecursion (λ p. moment_of p < moment_of pull) pulled
   pub gives : EachGives old new pull above first next row
 
-pub more-after_leaf : (k : ℕ) (old new : ℕ → List Packet) (log pull : List Visit) (above first next q : ℕ) (row : Row) (pulled : List (List Visit)) → IsPulledMore k old new log pull above first next (leaf q row) pulled
+pub more-after_leaf : (k : ℕ) (old new : ℕ → ℕ) (log pull : List Visit) (above first next q : ℕ) (row : Row) (pulled : List (List Visit)) → IsPulledMore k old new log pull above first next (leaf q row) pulled
     → IsPulledMore k old new log pull above (suc first) next row pulled
 more-after_leaf k old new log pull above first next q row pulled h =
     record {
@@ -102,7 +102,7 @@ more-after_leaf k old new log pull above first next q row pulled h =
       gives = h.gives.1;
     }
 
-pub more-after_node : (k : ℕ) (old new : ℕ → List Packet) (log pull : List Visit) (above first next : ℕ) (class : Class) (inputs row : Row) (pulled : List (List Visit))
+pub more-after_node : (k : ℕ) (old new : ℕ → ℕ) (log pull : List Visit) (above first next : ℕ) (class : Class) (inputs row : Row) (pulled : List (List Visit))
     → IsPulledMore k old new log pull above first next (node class inputs row) pulled → IsPulledMore k old new log pull above (suc first) (suc (next + nodes inputs)) row pulled
 more-after_node k old new log pull above first next class inputs row pulled h =
     record {
@@ -117,7 +117,7 @@ more-after_node k old new log pull above first next class inputs row pulled h =
     }
 
 -- a scheduler that isn't asked has no visits
-pub unasked-none : (k : ℕ) (old new : ℕ → List Packet) (log pull : List Visit) (above first next : ℕ) (class : Class) (inputs row : Row) (pulled : List (List Visit))
+pub unasked-none : (k : ℕ) (old new : ℕ → ℕ) (log pull : List Visit) (above first next : ℕ) (class : Class) (inputs row : Row) (pulled : List (List Visit))
     → IsPulledMore k old new log pull above first next (node class inputs row) pulled → list_any (asks first) (visits_of above pull) ≡ false → visits_of next pull ≡ []
 unasked-none k old new log pull above first next class inputs row pulled h e =
     owns-self pull above first next class inputs row (h.owns next (omega arith) (omega arith)) ∙ copies-unasked (asks first) (visits_of next pull) (visits_of above pull) e
@@ -131,7 +131,7 @@ none-allows above first next (node class inputs row) earlier pull e = (
   none-allows above (suc first) (suc (next + nodes inputs)) row earlier pull e,
 )
 
-pub more-inputs : (k : ℕ) (old new : ℕ → List Packet) (log pull : List Visit) (above first next : ℕ) (class : Class) (inputs row : Row) (pulled : List (List Visit))
+pub more-inputs : (k : ℕ) (old new : ℕ → ℕ) (log pull : List Visit) (above first next : ℕ) (class : Class) (inputs row : Row) (pulled : List (List Visit))
     → IsPulledMore k old new log pull above first next (node class inputs row) pulled → IsPulledMore k old new log pull next 0 (suc next) inputs (pulls_below above first pulled)
 more-inputs k old new log pull above first next class inputs row pulled h =
     record {
@@ -230,7 +230,7 @@ turn-unasked k w x class log visits moment turns before args enough none =
     law (stride tickets) b a e = tt
     law (shaper rate burst) b a e = tt
 
-pub turn-more : (k : ℕ) (old new : ℕ → List Packet) (log pull : List Visit) (above first next : ℕ) (class : Class) (inputs row : Row) (pulled : List (List Visit))
+pub turn-more : (k : ℕ) (old new : ℕ → ℕ) (log pull : List Visit) (above first next : ℕ) (class : Class) (inputs row : Row) (pulled : List (List Visit))
     → IsPulledMore k old new log pull above first next (node class inputs row) pulled
     → IsTurnMore k (width inputs) class (latest log next) (visits_of next pull) (list_any (asks first) (visits_of above pull))
 turn-more k old new log pull above first next class inputs row pulled h = by_asked (list_any (asks first) (visits_of above pull)) refl

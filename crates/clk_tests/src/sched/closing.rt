@@ -1,6 +1,8 @@
-//! Drains that stop at the bound, since what they pull from hides a packet, or has fewer than are told to be left.
+//! Drains that stop at the bound, since what they pull from hides a packet, or has fewer than are told to be left; and how near others come
+//! to it.
 
 use super::row::{Step, assert_shows};
+use super::trees::{drr_path, shaped_drr_path};
 use clk_packet::{Fault, Packet};
 use clk_sched::{Ask, Session, Tree};
 
@@ -12,11 +14,12 @@ struct Hidden {
 }
 
 impl Ask for Hidden {
-    ghost use Rattle.std.specs.Prelude.{true, []};
+    ghost use Rattle.std.specs.Prelude.{true, length, []};
+    ghost use Rattle.std.specs.List.{cons_option};
 
     ghost has = { λ s leaf. true };
 
-    ghost holds = { λ s leaf. [] };
+    ghost holds = { λ s leaf. length (cons_option s.packet []) };
 
     ghost gives = { λ s leaf got t. Unit };
 
@@ -59,4 +62,27 @@ fn more_than_is_left_does_not_come_out(rt: HostRuntime) {
         &steps,
         "drain: fault 17: TooManyPulls 2\n",
     );
+}
+
+// The longest packet goes past DRRScheds that stand one over another, each of which pulls it once more for each of its quanta: the bound,
+// and the pulls that are made.
+#[test]
+fn drains_come_near_the_bound(rt: HostRuntime) {
+    let cases = [
+        (drr_path(rt.alloc(), 1, 1), "bound: 131072\ndrain: 65535\n"),
+        (drr_path(rt.alloc(), 2, 1), "bound: 196608\ndrain: 131069\n"),
+        (drr_path(rt.alloc(), 3, 1), "bound: 262144\ndrain: 196603\n"),
+        (
+            drr_path(rt.alloc(), 64, 257),
+            "bound: 16640\ndrain: 16257\n",
+        ),
+        (
+            shaped_drr_path(rt.alloc(), 63, 257),
+            "bound: 16640\ndrain: 16003\n",
+        ),
+    ];
+    let steps = [Step::Send(0, &[65_535]), Step::Bound(1), Step::Drain(1, 0)];
+    for (tree, expected) in cases {
+        assert_shows(&rt, rt.alloc(), tree, &steps, expected);
+    }
 }

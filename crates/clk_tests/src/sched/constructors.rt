@@ -88,12 +88,12 @@ fn queues_that_stand_twice_are_told(rt: HostRuntime) {
 struct OnePacket(Option<Packet>);
 
 impl Ask for OnePacket {
-    ghost use Rattle.std.specs.Prelude.{◌≡◌, ◌==◌, None, [], if◌then◌else◌};
+    ghost use Rattle.std.specs.Prelude.{◌≡◌, ◌==◌, length, None, [], if◌then◌else◌};
     ghost use Rattle.std.specs.List.{cons_option};
 
     ghost has = { λ s leaf. leaf == 0 };
 
-    ghost holds = { λ s leaf. if leaf == 0 then cons_option s.0 [] else [] };
+    ghost holds = { λ s leaf. if leaf == 0 then length (cons_option s.0 []) else 0 };
 
     ghost gives = { λ s leaf got t. got ≡ (if leaf == 0 then s.0 else None) };
 

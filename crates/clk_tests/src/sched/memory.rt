@@ -70,11 +70,11 @@ struct Stock {
 }
 
 impl Ask for Stock {
-    ghost use Rattle.std.specs.Prelude.{true, []};
+    ghost use Rattle.std.specs.Prelude.{true};
 
     ghost has = { λ s leaf. true };
 
-    ghost holds = { λ s leaf. [] };
+    ghost holds = { λ s leaf. 0 };
 
     ghost gives = { λ s leaf got t. Unit };
 

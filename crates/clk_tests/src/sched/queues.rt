@@ -75,11 +75,11 @@ impl Queue {
 }
 
 impl Ask for Queues {
-    ghost use Rattle.std.specs.Prelude.{is_some, slice_get, []};
+    ghost use Rattle.std.specs.Prelude.{is_some, slice_get};
 
     ghost has = { λ s leaf. is_some (slice_get s.0.items leaf) };
 
-    ghost holds = { λ s leaf. [] };
+    ghost holds = { λ s leaf. 0 };
 
     ghost gives = { λ s leaf got t. Unit };
 

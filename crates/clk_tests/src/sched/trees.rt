@@ -25,6 +25,24 @@ pub fn drr_over_one(alloc: Global, quantum: u32) -> Result<Tree, Fault>
     drr_over(alloc, quantum, Tree::leaf(0))
 }
 
+/// So many DRRScheds of one quantum, one over another, over queue 0.
+pub fn drr_path(alloc: Global, count: u8, quantum: u32) -> Result<Tree, Fault>
+    requires { (1 ≤ quantum) × (quantum ≤ most_quantum) }
+{
+    let mut tree = Tree::leaf(0);
+    for _ in 0..count {
+        tree = drr_over(alloc, quantum, tree)?;
+    }
+    Ok(tree)
+}
+
+/// The same under a Shaper of one packet each tick.
+pub fn shaped_drr_path(alloc: Global, count: u8, quantum: u32) -> Result<Tree, Fault>
+    requires { (1 ≤ quantum) × (quantum ≤ most_quantum) }
+{
+    Tree::shaper(alloc, 1, 1, drr_path(alloc, count, quantum)?)
+}
+
 /// A DRRSched of quantum 500 over one of quantum 300 over queue 0.
 pub fn drr_over_drr(alloc: Global) -> Result<Tree, Fault> {
     drr_over(alloc, 500, drr_over_one(alloc, 300)?)

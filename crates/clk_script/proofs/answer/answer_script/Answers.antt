@@ -1,11 +1,10 @@
 use Rattle.std.proofs.Common.{rules, ◌≡◌, ◌≤◌, length, sym, subst, ◌∙◌}
 use Rattle.std.specs.List.{AllByRecursion}
 use Rattle.std.proofs.lemmas.List.{with_items_is}
-use Rattle.std.proofs.lemmas.Result.{err_from_is_err_and}
 use Rattle.clk_script.specs.Script.{most_lines}
 use Rattle.clk_script.specs.Router.{names_in}
 use Rattle.clk_script.specs.Rows.{IsToDo, starts_of}
-use Rattle.clk_script.proofs.AnswerLemmas.{IsReady-answered, Writes-answered, Stops-answered, devices-kept}
+use Rattle.clk_script.proofs.AnswerLemmas.{IsReady-answered, closable-answered, Writes-answered, devices-kept}
 use Rattle.clk_script.proofs.answer.answer_script.Goals as goal
 
 pub close-requires-clause-ready : goal.close-requires-clause-ready
@@ -15,12 +14,8 @@ close-requires-clause-ready c =
     let few = subst (λ l. length l ≤ most_lines) (sym rows) c.requires.sound.few in
     (IsReady-answered c.requires.fresh.0 c.args.router c.carry_out.new.router c.deref_mut.result.now c.carry_out.new.rows c.requires.fresh.1 to_do few c.in_ok-carry_out.ensures.done).0
 
-pub returns-in_err-closing-clause-means : goal.returns-in_err-closing-clause-means
-returns-in_err-closing-clause-means c =
-    let p = err_from_is_err_and c.from_residual-in_err-closing.result c.from_residual-in_err-closing.ensures.1 in
-    λ setup commands starts are. rw (p.1, p.2)
-    (Stops-answered setup c.args.router c.carry_out.new.router commands c.deref_mut.result.now c.carry_out.new.rows starts (c.deref_mut.ensures.value ∙ are) c.in_ok-carry_out.ensures.done c.args.script.closing
-    c.in_err-closing.field-0.0 c.in_err-closing.ensures.fault)
+pub close-requires-clause-closable : goal.close-requires-clause-closable
+close-requires-clause-closable c = closable-answered c.requires.fresh.0 c.args.router c.carry_out.new.router c.deref_mut.result.now c.carry_out.new.rows c.requires.fresh.1 c.requires.fresh.2 c.in_ok-carry_out.ensures.done
 
 pub returns-clause-means : goal.returns-clause-means
 returns-clause-means c =

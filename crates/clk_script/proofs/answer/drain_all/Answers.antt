@@ -1,5 +1,5 @@
 use Rattle.std.proofs.Common.{arith}
-use Rattle.clk_script.proofs.DrainLemmas.{IsClosedTo-none, IsClosedTo-steady, IsClosedTo-more, all-closed}
+use Rattle.clk_script.proofs.DrainLemmas.{IsClosedTo-none, IsClosedTo-steady, IsClosedTo-closable, IsClosedTo-more, all-closed}
 use Rattle.clk_script.proofs.answer.drain_all.Goals as goal
 
 pub loop-starts-init : goal.loop-starts-init
@@ -8,6 +8,9 @@ loop-starts-init c = IsClosedTo-none c.args.router.now c.args.moment c.new-start
 pub drain-requires-clause-steady : goal.drain-requires-clause-steady
 drain-requires-clause-steady c =
     IsClosedTo-steady c.args.router.now c.loop-starts.router c.args.moment c.loop-starts.starts.items c.loop-starts.device c.loop-starts.invariant c.requires.ready.steady (omega arith)
+
+pub drain-requires-clause-closable : goal.drain-requires-clause-closable
+drain-requires-clause-closable c = IsClosedTo-closable c.args.router.now c.loop-starts.router c.args.moment c.loop-starts.starts.items c.loop-starts.device c.loop-starts.invariant c.requires.closable
 
 pub overflow_add-device : goal.overflow_add-device
 overflow_add-device c =

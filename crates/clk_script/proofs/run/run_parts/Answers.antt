@@ -7,8 +7,7 @@ use Rattle.clk_tree.specs.PlanParts.{queued, AreRising}
 use Rattle.clk_script.specs.Meaning.{setup_of}
 use Rattle.clk_script.specs.Rows.{answer_text}
 use Rattle.clk_script.proofs.SenderLemmas.{numbers-its}
-use Rattle.clk_script.proofs.RefusalLemmas.{IsRefusal-read, IsRefusal-run, meaning-known, meaning-alone, few-devices}
-use Rattle.clk_script.proofs.NeverShort.{HaveLaws, closes}
+use Rattle.clk_script.proofs.RefusalLemmas.{IsRefusal-read, meaning-known, meaning-alone, few-devices}
 use Rattle.clk_script.proofs.run.run_parts.Goals as goal
 
 pub read_script-requires : goal.read_script-requires
@@ -55,46 +54,6 @@ returns-in_err-script-clause-write_failures g c =
     let p = err_from_is_err_and c.from_residual-in_err-script.result c.from_residual-in_err-script.ensures.1 in
     let why = rw (c.deref.ensures.value, c.len.ensures ∙ c.in_ok-router.router.devices.ok.0, c.deref-2.ensures.value) at c.in_err-script.ensures in
     let refusal = IsRefusal-read (setup_of c.args.trees.items (map queued c.args.queues.now) c.args.senders.now) c.in_ok-router.router c.in_ok-router.ensures.made _ c.in_ok-text.text.items c.in_err-script.field-0.0 c.in_ok-text.ensures.bytes why in
-    rw (p.1, p.2) (sym (refusal.writes _))
-
--- why its closing stops short
-pub returns-in_err-answer-clause-fault : goal.returns-in_err-answer-clause-fault
-returns-in_err-answer-clause-fault g c =
-    let setup = setup_of c.args.trees.items (map queued c.args.queues.now) c.args.senders.now in
-    let p = err_from_is_err_and c.from_residual-in_err-answer.result c.from_residual-in_err-answer.ensures.1 in
-    let read = rw (c.deref.ensures.value, c.len.ensures ∙ c.in_ok-router.router.devices.ok.0, c.deref-2.ensures.value) at c.in_ok-script.ensures in
-    let laws : HaveLaws = record { bound = c.closing_bound_is_enough.ensures; goes_on = c.runs_go_on.ensures; counts = c.runs_conserve_packets.ensures.counts } in
-    let why = rw read.1.closing at (c.in_err-answer.ensures.means setup _ c.in_ok-router.ensures.made read.1.rows) in
-    rw (p.1, p.2) (IsRefusal-run setup _ _ _ c.in_err-answer.field-0.0 (closes laws setup c.requires.closable _ _) why).explains
-
-pub returns-in_err-answer-clause-front : goal.returns-in_err-answer-clause-front
-returns-in_err-answer-clause-front g c =
-    let setup = setup_of c.args.trees.items (map queued c.args.queues.now) c.args.senders.now in
-    let p = err_from_is_err_and c.from_residual-in_err-answer.result c.from_residual-in_err-answer.ensures.1 in
-    let read = rw (c.deref.ensures.value, c.len.ensures ∙ c.in_ok-router.router.devices.ok.0, c.deref-2.ensures.value) at c.in_ok-script.ensures in
-    let laws : HaveLaws = record { bound = c.closing_bound_is_enough.ensures; goes_on = c.runs_go_on.ensures; counts = c.runs_conserve_packets.ensures.counts } in
-    let why = rw read.1.closing at (c.in_err-answer.ensures.means setup _ c.in_ok-router.ensures.made read.1.rows) in
-    let refusal = IsRefusal-run setup (g.R.Source.remaining c.args.reader.now) _ _ c.in_err-answer.field-0.0 (closes laws setup c.requires.closable _ _) why in
-    λ e. absurd (refusal.not_write (cc))
-
-pub returns-in_err-answer-clause-read_failures : goal.returns-in_err-answer-clause-read_failures
-returns-in_err-answer-clause-read_failures g c =
-    let setup = setup_of c.args.trees.items (map queued c.args.queues.now) c.args.senders.now in
-    let p = err_from_is_err_and c.from_residual-in_err-answer.result c.from_residual-in_err-answer.ensures.1 in
-    let read = rw (c.deref.ensures.value, c.len.ensures ∙ c.in_ok-router.router.devices.ok.0, c.deref-2.ensures.value) at c.in_ok-script.ensures in
-    let laws : HaveLaws = record { bound = c.closing_bound_is_enough.ensures; goes_on = c.runs_go_on.ensures; counts = c.runs_conserve_packets.ensures.counts } in
-    let why = rw read.1.closing at (c.in_err-answer.ensures.means setup _ c.in_ok-router.ensures.made read.1.rows) in
-    let refusal = IsRefusal-run setup (g.R.Source.remaining c.args.reader.now) _ _ c.in_err-answer.field-0.0 (closes laws setup c.requires.closable _ _) why in
-    rw (p.1, p.2) (c.in_ok-text.ensures.fault ∙ sym (refusal.reads _))
-
-pub returns-in_err-answer-clause-write_failures : goal.returns-in_err-answer-clause-write_failures
-returns-in_err-answer-clause-write_failures g c =
-    let setup = setup_of c.args.trees.items (map queued c.args.queues.now) c.args.senders.now in
-    let p = err_from_is_err_and c.from_residual-in_err-answer.result c.from_residual-in_err-answer.ensures.1 in
-    let read = rw (c.deref.ensures.value, c.len.ensures ∙ c.in_ok-router.router.devices.ok.0, c.deref-2.ensures.value) at c.in_ok-script.ensures in
-    let laws : HaveLaws = record { bound = c.closing_bound_is_enough.ensures; goes_on = c.runs_go_on.ensures; counts = c.runs_conserve_packets.ensures.counts } in
-    let why = rw read.1.closing at (c.in_err-answer.ensures.means setup _ c.in_ok-router.ensures.made read.1.rows) in
-    let refusal = IsRefusal-run setup (g.R.Source.remaining c.args.reader.now) _ _ c.in_err-answer.field-0.0 (closes laws setup c.requires.closable _ _) why in
     rw (p.1, p.2) (sym (refusal.writes _))
 
 -- What a router's answer means, with what it wrote.
