@@ -5,6 +5,8 @@ use Rattle.std.proofs.lemmas.Bool.{false≢true}
 use Rattle.std.proofs.lemmas.Bool.Decides.{nat_tests}
 use Rattle.std.proofs.lemmas.List.{length-set, length-map}
 use Rattle.std.proofs.lemmas.Option.{slice_get_read, slice_get-map}
+use Rattle.smallvec.specs.SmallVec.{SmallVec, small_vec_len, with_items}
+use Rattle.smallvec.proofs.SmallVecLemmas.{items-with_items}
 use Rattle.clk_packet.specs.declared.packet.Packet.{Packet}
 use Rattle.clk_packet.specs.Limits.{most_length}
 use Rattle.clk_sched.specs.declared.session.drr.Served.{Served}
@@ -53,6 +55,15 @@ read-some (x ∷ row) (suc i) l = read-some row i (omega arith)
 -- what a row is where a quantum was added
 abbrev pub Adds : List Served → ℕ → List Served → Type 0
 Adds row i after = (s : Served) → slice_get row i ≡ Some s → after ≡ slice_set row i (with_quantum s)
+
+-- What is added through the slice is added to the row.
+pub adds-within : (row : SmallVec Served) (lent new : List Served) (place i : ℕ) → lent ≡ row.items → length new ≡ small_vec_len row → place ≡ i → Adds lent place new → Adds row.items i (with_items row new).items
+adds-within row lent new place i same long at adds =
+    subst (λ (x : List Served × ℕ). Adds x.0 x.1 (with_items row new).items) (λ j. (same j, at j)) (λ s e. items-with_items row new long ∙ adds s e)
+
+-- And so is what is settled at a place.
+pub settled-within : (row : SmallVec Served) (lent : List Served) (place i : ℕ) (new after : Served) → lent ≡ row.items → place ≡ i → new ≡ after → (with_items row (slice_set lent place new)).items ≡ slice_set row.items i after
+settled-within row lent place i new after same at is = items-with_items row (slice_set lent place new) (length-set lent place new ∙ ap length same) ∙ (λ j. slice_set (same j) (at j) (is j))
 
 -- the limits of a row and its cursor
 pub record KeepsLimits (cursor : ℕ) (row : List Served) : Type 0 where

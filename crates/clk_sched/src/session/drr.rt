@@ -10,6 +10,7 @@ use crate::session::nodes::Nodes;
 use crate::session::state::State;
 use crate::visit::Visit;
 use clk_packet::Packet;
+use smallvec::SmallVec;
 use std::alloc::{AllocError, Global};
 
 /// What is held of one input.
@@ -25,7 +26,7 @@ struct Served {
 #[derive(Drop)]
 pub struct Deficits {
     cursor: u16,
-    row: Vec<Served>,
+    row: SmallVec<Served, 2>,
     ghost few: { length row.items ≤ most_inputs },
     ghost cursor_within: { cursor < length row.items },
     ghost quanta_within: { AreQuantaWithin row.items },
@@ -98,7 +99,7 @@ impl Deficits {
         ensures { IfOk result (λ d. HoldsDeficits quanta.now (length quanta.now) [] d) }
     {
         let mut row = all_waiting(alloc, quanta)?;
-        add_quantum(&mut row, 0);
+        add_quantum(row.as_mut_slice(), 0);
         Ok(Deficits { cursor: 0, row })
     }
 
@@ -131,7 +132,8 @@ impl Deficits {
         ensures length { length self.new.row.items ≡ length self.old.row.items }
         ensures moves { result ≡ false → self.new.cursor ≡ (self.old.cursor + 1) % length self.old.row.items }
     {
-        let passed = self.row[usize::from(self.cursor)].settle(got);
+        let row = self.row.as_mut_slice();
+        let passed = row[usize::from(self.cursor)].settle(got);
         if !passed {
             self.move_on();
         }
@@ -219,7 +221,7 @@ impl Deficits {
         ensures row { (s : Served) → slice_get self.old.row.items self.new.cursor ≡ Some s → self.new.row.items ≡ slice_set self.old.row.items self.new.cursor (with_quantum s) }
     {
         self.cursor = (self.cursor + 1) % self.row.len() as u16;
-        add_quantum(&mut self.row, usize::from(self.cursor));
+        add_quantum(self.row.as_mut_slice(), usize::from(self.cursor));
     }
 
     // What is held of the input whose turn it is.
@@ -231,10 +233,10 @@ impl Deficits {
 }
 
 // An input for each quantum, before its first arrival.
-fn all_waiting(alloc: Global, quanta: &[u32]) -> Result<Vec<Served>, AllocError>
+fn all_waiting(alloc: Global, quanta: &[u32]) -> Result<SmallVec<Served, 2>, AllocError>
     ensures { IfOk result (λ row. row.items ≡ map waiting quanta.now) }
 {
-    let mut row = Vec::with_capacity(alloc, quanta.len())?;
+    let mut row = SmallVec::new(alloc);
     for quantum in quanta {
         row.push(Served::waiting(*quantum))?;
     }
@@ -242,11 +244,11 @@ fn all_waiting(alloc: Global, quanta: &[u32]) -> Result<Vec<Served>, AllocError>
 }
 
 // Adds the quantum of an input to its deficit, as at each arrival.
-fn add_quantum(row: &mut Vec<Served>, place: usize)
-    requires place { place < length row.old.items }
-    requires fits { (s : Served) → slice_get row.old.items place ≡ Some s → s.deficit + s.quantum < 2 ^ 32 }
-    ensures length { length row.new.items ≡ length row.old.items }
-    ensures adds { (s : Served) → slice_get row.old.items place ≡ Some s → row.new.items ≡ slice_set row.old.items place (with_quantum s) }
+fn add_quantum(row: &mut [Served], place: usize)
+    requires place { place < length row.old }
+    requires fits { (s : Served) → slice_get row.old place ≡ Some s → s.deficit + s.quantum < 2 ^ 32 }
+    ensures length { length row.new ≡ length row.old }
+    ensures adds { (s : Served) → slice_get row.old place ≡ Some s → row.new ≡ slice_set row.old place (with_quantum s) }
 {
     let served = &mut row[place];
     served.deficit += served.quantum;

@@ -239,7 +239,7 @@ drr::Deficits::turn-look-got-requires g t c =
     let a = c.args.nodes.now in
     let x = c.args.node in
     let d = c.args.self.now in
-    let count : c.len-end.result ≡ length d.row.items = c.len-end.ensures ∙ d.row.ok.0 in
+    let count : c.len-end.result ≡ length d.row.items = c.len-end.ensures.value in
     let below : c.loop.counter < length d.row.items = subst (λ n. c.loop.counter < n) count c.loop-test.true in
     let can = making-can g.Q.Ask.gives a c.loop.nodes c.args.q.now c.loop.q x d c.loop.self c.loop.counter c.requires.can_pull c.requires.fits c.loop.invariant below in
     let same = ap length c.loop.invariant.made.keeps.inputs in
@@ -251,7 +251,7 @@ drr::Deficits::turn-loop-preserved g t c =
     let a = c.args.nodes.now in
     let x = c.args.node in
     let d = c.args.self.now in
-    let count : c.len-end.result ≡ length d.row.items = c.len-end.ensures ∙ d.row.ok.0 in
+    let count : c.len-end.result ≡ length d.row.items = c.len-end.ensures.value in
     let below : c.loop.counter < length d.row.items = subst (λ n. c.loop.counter < n) count c.loop-test.true in
     let look = c.look-got.ensures in
     let looked = has-looked g.Q.Ask.gives c.loop.nodes c.look-got.new.nodes c.loop.q c.look-got.new.q x c.loop.self c.look-got.new.self c.look-got.result.0 c.look-got.result.1 look.keeps look.answers look.length look.looks in
@@ -262,7 +262,7 @@ drr::Deficits::turn-returns-then-passed g t c =
     let a = c.args.nodes.now in
     let x = c.args.node in
     let d = c.args.self.now in
-    let count : c.len-end.result ≡ length d.row.items = c.len-end.ensures ∙ d.row.ok.0 in
+    let count : c.len-end.result ≡ length d.row.items = c.len-end.ensures.value in
     let below : c.loop.counter < length d.row.items = subst (λ n. c.loop.counter < n) count c.loop-test.true in
     let look = c.look-got.ensures in
     let looked = has-looked g.Q.Ask.gives c.loop.nodes c.look-got.new.nodes c.loop.q c.look-got.new.q x c.loop.self c.look-got.new.self c.look-got.result.0 c.look-got.result.1 look.keeps look.answers look.length look.looks in
@@ -274,7 +274,7 @@ drr::Deficits::turn-returns g t c =
     let a = c.args.nodes.now in
     let x = c.args.node in
     let d = c.args.self.now in
-    let count : c.len-end.result ≡ length d.row.items = c.len-end.ensures ∙ d.row.ok.0 in
+    let count : c.len-end.result ≡ length d.row.items = c.len-end.ensures.value in
     let all : c.loop.counter ≡ length d.row.items = let f = c.loop-test.false in let m = c.loop.auto.counter-end in omega (arith, count, f, m) in
     had-ended g.Q.Ask.gives a c.loop.nodes c.args.q.now c.loop.q x d c.loop.self None c.requires.can_pull c.requires.fits (making-all g.Q.Ask.gives a c.loop.nodes c.args.q.now c.loop.q x d c.loop.self c.loop.counter c.loop.invariant all)
 
