@@ -34,7 +34,7 @@ keeps-then a b c m n h k =
       pull = k.pull ∙ h.pull;
       moment = k.moment ∙ h.moment;
       fit = subst (λ t. AllFit t c.states.items) h.inputs k.fit;
-      capacity = k.capacity ∙ h.capacity;
+      kind = k.kind ∙ h.kind;
       grown = grown-then a b c m n h k ∙ ap (λ l. a.log.items ++ l) (sym (added-then a b c m n h k));
       at_most = let i = h.at_most in let j = k.at_most in omega arith;
     }
@@ -46,7 +46,7 @@ keeps-more a b m n h l =
       pull = h.pull;
       moment = h.moment;
       fit = h.fit;
-      capacity = h.capacity;
+      kind = h.kind;
       grown = h.grown;
       at_most = let i = h.at_most in omega arith;
     }
@@ -61,7 +61,7 @@ keeps-none a fit =
       pull = refl;
       moment = refl;
       fit = fit;
-      capacity = refl;
+      kind = refl;
       grown = sym (append-nil a.log.items) ∙ ap (λ l. a.log.items ++ l) (sym (added-none a));
       at_most = omega arith;
     }
@@ -72,7 +72,7 @@ can-go_on a b x m n can h =
       wired = subst AreWired (sym h.inputs) can.wired;
       fit = subst (λ t. AllFit t b.states.items) (sym h.inputs) h.fit;
       there = subst (λ t. x < length t) (sym h.inputs) can.there;
-      room = let r = can.room in let c = h.capacity in let l = h.at_most in omega (arith, c);
+      room = let r = can.room in let l = h.at_most in omega arith;
       moment = let r = can.moment in let e = h.moment in omega (arith, e);
     }
 

@@ -17,7 +17,7 @@ use Rattle.clk_sched.specs.Turning.{HasAsked}
 
 -- a visit is logged after a pull below
 logged-whole : (a b c : Nodes) (m : ℕ) (v : Visit) → Keeps a b m → Logs b c v → c.log.items ≡ a.log.items ++ (added a b ++ v ∷ [])
-logged-whole a b c m v h l = l.items ∙ ap (λ k. k ++ v ∷ []) h.grown ∙ append_assoc a.log.items (added a b) (v ∷ [])
+logged-whole a b c m v h l = ap (λ k. k.items) l.log ∙ ap (λ k. k ++ v ∷ []) h.grown ∙ append_assoc a.log.items (added a b) (v ∷ [])
 
 pub added-logged : (a b c : Nodes) (m : ℕ) (v : Visit) → Keeps a b m → Logs b c v → added a c ≡ added a b ++ v ∷ []
 added-logged a b c m v h l = added-is a c (added a b ++ v ∷ []) (logged-whole a b c m v h l)
@@ -29,9 +29,9 @@ keeps-logged a b c m v h l =
       pull = l.pull ∙ h.pull;
       moment = l.moment ∙ h.moment;
       fit = subst (λ s. AllFit a.inputs.items s) (sym l.states) h.fit;
-      capacity = l.capacity ∙ h.capacity;
+      kind = ap (λ k. k.keeps) l.log ∙ h.kind;
       grown = logged-whole a b c m v h l ∙ ap (λ k. a.log.items ++ k) (sym (added-logged a b c m v h l));
-      at_most = let i = h.at_most in let e = l.more in omega (arith, e);
+      at_most = let i = h.at_most in let e = ap (λ k. k.spare) l.log in omega (arith, e);
     }
 
 -- each input has an edge
@@ -66,5 +66,5 @@ asked-logged gives a b c q r x i got w there keeps answers asks is logs =
     record {
       keeps = keeps-more a c _ _ (keeps-logged a b c (edges_at a.inputs.items x i - 1) v keeps l) (omega (arith, edge));
       answers = subst (λ k. Answers gives (queue_asked a.inputs.items) q k r) (sym (added-logged a b c _ v keeps l)) (answers v refl refl refl refl);
-      asks = asks-one a b c _ x i got keeps l.items l.states asks;
+      asks = asks-one a b c _ x i got keeps (ap (λ k. k.items) l.log) l.states asks;
     }

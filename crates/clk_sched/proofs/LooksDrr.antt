@@ -21,7 +21,7 @@ asks-held a c x v l at fresh row history visits own going unasked apart =
     let r = pulling-looks (now_of a) history x row a.states.items visits own going.pulling v at fresh in
     record {
       pulling =
-          subst (λ k. IsPulling (now_of a) history x row c.states.items (visits ++ k) (own ++ v ∷ [])) (sym (added-is a c (v ∷ []) l.items))
+          subst (λ k. IsPulling (now_of a) history x row c.states.items (visits ++ k) (own ++ v ∷ [])) (sym (added-is a c (v ∷ []) (ap (λ k. k.items) l.log)))
           (subst (λ s. IsPulling (now_of a) history x row s (visits ++ v ∷ []) (own ++ v ∷ [])) (sym l.states) r);
       outside = λ y k. ap (λ s. slice_get s y) l.states;
     }
@@ -29,7 +29,7 @@ asks-held a c x v l at fresh row history visits own going unasked apart =
 pub answers-held : {S : Type 0} (gives : S → ℕ → Option Packet → S → Type 0) (table : List Inputs) (a c : Nodes) (q : S) (v : Visit) → Logs a c v → v.fresh ≡ false
     → Answers gives (queue_asked table) q (added a c) q
 answers-held gives table a c q v l fresh =
-    subst (λ k. Answers gives (queue_asked table) q k q) (sym (added-is a c (v ∷ []) l.items))
+    subst (λ k. Answers gives (queue_asked table) q k q) (sym (added-is a c (v ∷ []) (ap (λ k. k.items) l.log)))
     (subst (λ o. at_queue gives o v.got q (λ s. s ≡ q)) (sym none) refl)
   where
     none : queue_asked table v ≡ None

@@ -153,11 +153,11 @@ pub can-put : (a : Nodes) (x m : ℕ) (s : State) → CanPull a x m → ((p : In
 can-put a x m s can fits = record { wired = can.wired; fit = fit-set a.inputs.items a.states.items x s can.fit fits; there = can.there; room = can.room; moment = can.moment }
 
 pub keeps-from : (a b : Nodes) (x m : ℕ) (s : State) → Keeps (with_state a x s) b m → Keeps a b m
-keeps-from a b x m s k = record { inputs = k.inputs; pull = k.pull; moment = k.moment; fit = k.fit; capacity = k.capacity; grown = k.grown; at_most = k.at_most }
+keeps-from a b x m s k = record { inputs = k.inputs; pull = k.pull; moment = k.moment; fit = k.fit; kind = k.kind; grown = k.grown; at_most = k.at_most }
 
 pub keeps-put : (a b : Nodes) (x m : ℕ) (s : State) → Keeps a b m → ((p : Inputs) → slice_get a.inputs.items x ≡ Some p → Fits s (length p.each.items)) → Keeps a (with_state b x s) m
 keeps-put a b x m s k fits =
-    record { inputs = k.inputs; pull = k.pull; moment = k.moment; fit = fit-set a.inputs.items b.states.items x s k.fit fits; capacity = k.capacity; grown = k.grown; at_most = k.at_most }
+    record { inputs = k.inputs; pull = k.pull; moment = k.moment; fit = fit-set a.inputs.items b.states.items x s k.fit fits; kind = k.kind; grown = k.grown; at_most = k.at_most }
 
 -- There is a state of each node of the table.
 pub state-there : (a : Nodes) (x m : ℕ) → CanPull a x m → x < length a.states.items

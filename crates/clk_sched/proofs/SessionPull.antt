@@ -9,6 +9,7 @@ use Rattle.clk_sched.specs.declared.visit.Visit.{Visit}
 use Rattle.clk_sched.specs.declared.session.nodes.Nodes.{Nodes}
 use Rattle.clk_sched.specs.Tree.{Tree, root, prio, nodes}
 use Rattle.clk_sched.specs.Turns.{Turn, UpToFirst, AsksInOrder}
+use Rattle.clk_sched.specs.Limits.{end_of_pulls}
 use Rattle.clk_sched.specs.Log.{visits_of, in_pull, pulls, moment_of, result_of, turn, NeverFalls}
 use Rattle.clk_sched.specs.Laws.Device.{IsDeviceTurn}
 use Rattle.clk_sched.specs.Results.{emitted}
@@ -173,6 +174,11 @@ filter-few test (x ∷ xs) = by_test (test x) (filter-few test xs)
 pub pulls-few : (log : List Visit) → length (pulls log) ≤ length log
 pulls-few log = let e = length-map-range_with_len (λ k. in_pull k log) 0 (length (visits_of 0 log)) in let l = filter-few (λ (v : Visit). v.node == 0) log in omega (arith, e, l)
 
+-- Pulls don't come to their end where the log is kept, since it takes more memory than there can be, nor where they are counted.
+pub pulls-fit : (log : List Visit) (more : ℕ) (keeps : Bool) → (keeps ≡ true → length log + more < end_of_pulls) → (keeps ≡ false → length (pulls log) < end_of_pulls) → length (pulls log) < end_of_pulls
+pulls-fit log more true kept counted = let room = kept refl in let few = pulls-few log in omega (arith, few)
+pulls-fit log more false kept counted = counted refl
+
 -- a session before its first pull
 pub session-first : (tree : Tree) (n : Nodes) → IsLaidOut tree n → IsAfterRun tree n
 session-first tree n laid =
@@ -200,6 +206,11 @@ device-gives (v ∷ visits) h =
         none [] k = refl
         none (w ∷ vs) k = absurd k
     by_got (Some p) k = k
+
+-- at most one packet comes out in a pull
+pub one-at-most : (got : Option Packet) → length (cons_option got []) ≤ 1
+one-at-most None = omega arith
+one-at-most (Some p) = omega arith
 
 -- One pull more adds what it gave to what came out.
 pub emitted-once : (old new : Progress) (moment : ℕ) (got : Option Packet) → IsPulledOnce old new moment got → emitted new.log ≡ emitted old.log ++ cons_option got []

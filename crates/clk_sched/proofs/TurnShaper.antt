@@ -1,6 +1,5 @@
 -- The turn of a Shaper.
 use Rattle.std.proofs.Common.{◌≡◌, ◌≢◌, ℕ, ◌+◌, ◌<◌, ◌≤◌, ◌-◌, Bool, true, false, if◌then◌else◌, List, [], ◌∷◌, ◌++◌, length, drop, slice_get, Option, Some, None, IfSome, IsSome, is_some, MatchBool, refl, sym, ap, ◌∙◌, subst, arith}
-use Rattle.std.specs.Vec.{vec_len, vec_capacity}
 use Rattle.std.proofs.lemmas.Bool.{false≢true}
 use Rattle.std.proofs.lemmas.Option.{slice_get_within}
 use Rattle.clk_packet.specs.declared.packet.Packet.{Packet}
@@ -205,9 +204,9 @@ spent-back gives a b c q r x s z got h none back =
         pull = back.pull ∙ kept.pull;
         moment = back.moment ∙ kept.moment;
         fit = back.fits a.inputs.items kept.fit;
-        capacity = ap vec_capacity back.log ∙ kept.capacity;
+        kind = ap (λ v. v.keeps) back.log ∙ kept.kind;
         grown = ap (λ v. v.items) back.log ∙ kept.grown ∙ ap (λ l. a.log.items ++ l) (sym more);
-        at_most = subst (λ v. vec_len v ≤ vec_len a.log + edges_of a.inputs.items x) (sym back.log) kept.at_most;
+        at_most = subst (λ v. a.log.spare ≤ v.spare + edges_of a.inputs.items x) (sym back.log) kept.at_most;
       };
       answers = subst (λ l. Answers gives (queue_asked a.inputs.items) q l r) (sym more) h.asked.answers;
       pulls = pulls-later a put b c x (Shaper z) (Shaper s) (Shaper s) None (is-put a x (Shaper z) (state-there a x (edges_of a.inputs.items x) h.can)) h.held (turn s (left-same s a.moment))

@@ -13,11 +13,13 @@ pub mod Laws
 pub mod Ranks
 pub mod Holds
 pub mod Places
+pub mod Logged
 pub mod Pulling
 pub mod Turning
 pub mod Tokens
 pub mod Looking
 pub mod Session
+pub mod Kinds
 pub mod LaidOut
 pub mod Run
 pub mod Step

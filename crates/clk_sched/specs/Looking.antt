@@ -1,10 +1,10 @@
 -- What a scheduler that holds heads does at one of its inputs.
-use Rattle.std.specs.Prelude.{◌≡◌, ℕ, ◌+◌, ◌%◌, Bool, false, List, [], ◌∷◌, ◌++◌, length, Option}
-use Rattle.std.specs.Vec.{vec_len, vec_capacity}
+use Rattle.std.specs.Prelude.{◌≡◌, ℕ, ◌+◌, ◌%◌, Bool, false, List, [], ◌∷◌, length, Option}
 use Rattle.clk_packet.specs.declared.packet.Packet.{Packet}
 use Rattle.clk_sched.specs.declared.visit.Visit.{Visit}
 use Rattle.clk_sched.specs.declared.session.drr.Deficits.{Deficits}
 use Rattle.clk_sched.specs.declared.session.nodes.Nodes.{Nodes}
+use Rattle.clk_sched.specs.Logged.{with_visit}
 use Rattle.clk_sched.specs.Heads.{LooksAtHeads, is_covered}
 use Rattle.clk_sched.specs.Laws.Deficit.{next_input, deficit_covers}
 use Rattle.clk_sched.specs.Holds.Deficit.{HoldsDeficits}
@@ -20,9 +20,7 @@ pub record Logs (old new : Nodes) (v : Visit) : Type 0 where
   pub states : new.states.items ≡ old.states.items
   pub pull : new.pull ≡ old.pull
   pub moment : new.moment ≡ old.moment
-  pub capacity : vec_capacity new.log ≡ vec_capacity old.log
-  pub more : vec_len new.log ≡ vec_len old.log + 1
-  pub items : new.log.items ≡ old.log.items ++ v ∷ []
+  pub log : new.log ≡ with_visit old.log v
 
 -- What was got at the input whose turn it is was taken, and passed or not.
 pub record Settles (old new : Deficits) (got : Option Packet) (passed : Bool) : Type 0 where

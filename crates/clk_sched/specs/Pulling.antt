@@ -1,7 +1,6 @@
 -- What a pull does below a node, while it goes on: which visits it makes, and what each node holds then.
 use Rattle.std.specs.Prelude.{◌≡◌, ◌≢◌, ◌⊎◌, ℕ, ◌+◌, ◌<◌, ◌≤◌, true, List, [], ◌∷◌, ◌++◌, length, drop, suc, zero, ⊤, Option, Some, None, MatchOption, slice_get, slice_index, take, map, if◌then◌else◌}
 use Rattle.std.specs.List.{AllByRecursion, flat_map}
-use Rattle.std.specs.Vec.{vec_len, vec_capacity}
 use Rattle.clk_packet.specs.declared.packet.Packet.{Packet}
 use Rattle.clk_sched.specs.declared.visit.Visit.{Visit}
 use Rattle.clk_sched.specs.declared.session.state.State.{State}
@@ -120,7 +119,7 @@ pub record CanPull (n : Nodes) (x visits : ℕ) : Type 0 where
   pub wired : AreWired n.inputs.items
   pub fit : AllFit n.inputs.items n.states.items
   pub there : x < length n.inputs.items
-  pub room : vec_len n.log + visits ≤ vec_capacity n.log
+  pub room : visits ≤ n.log.spare
   pub moment : n.moment < end_of_moments
 
 -- what stays while nodes are pulled, and that the log grows, by so many visits at most
@@ -129,9 +128,9 @@ pub record Keeps (old new : Nodes) (most : ℕ) : Type 0 where
   pub pull : new.pull ≡ old.pull
   pub moment : new.moment ≡ old.moment
   pub fit : AllFit old.inputs.items new.states.items
-  pub capacity : vec_capacity new.log ≡ vec_capacity old.log
+  pub kind : new.log.keeps ≡ old.log.keeps
   pub grown : new.log.items ≡ old.log.items ++ added old new
-  pub at_most : vec_len new.log ≤ vec_len old.log + most
+  pub at_most : old.log.spare ≤ new.log.spare + most
 
 -- nothing changed outside a node and what is below it
 abbrev pub SameOutside : Nodes → Nodes → ℕ → Row → Type 0

@@ -6,6 +6,7 @@ mod examples;
 mod laws;
 mod session;
 mod tree;
+mod unlogged;
 mod visit;
 
 pub use ask::Ask;
@@ -20,4 +21,5 @@ pub use laws::{
 };
 pub use session::Session;
 pub use tree::Tree;
+pub use unlogged::Unlogged;
 pub use visit::Visit;

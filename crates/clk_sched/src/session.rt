@@ -1,19 +1,21 @@
 //! A session: a tree that is pulled, and the log of its visits.
 
+pub(crate) mod all;
 pub(crate) mod drr;
+pub(crate) mod emitted;
+mod heads;
 pub(crate) mod inputs;
+pub(crate) mod kernel;
+pub(crate) mod log;
 pub(crate) mod nodes;
 mod prio;
-mod results;
 pub(crate) mod round_robin;
 pub(crate) mod shaper;
 pub(crate) mod state;
 pub(crate) mod stride;
 
 use crate::ask::Ask;
-use crate::session::nodes::Nodes;
-use crate::session::prio::{DEVICE, pull_device};
-use crate::session::results::{add, held_heads};
+use crate::session::kernel::Kernel;
 use crate::tree::Tree;
 use crate::visit::Visit;
 use clk_packet::{Fault, Packet};
@@ -23,18 +25,13 @@ use std::marker::Model;
 /// A tree of schedulers with all that its nodes hold, and the log of every visit that they made.
 #[derive(Drop)]
 pub struct Session {
-    tree: Tree,
-    nodes: Nodes,
-    // The packets that came out at the device, so that nobody has to look for them in the log.
-    emitted: Vec<Packet>,
+    kernel: Kernel,
 }
 
 impl Model for Session {
-    ghost use Rattle.std.specs.Prelude.{◌≡◌, ◌<◌, true};
-    ghost use Rattle.clk_sched.specs.Limits.{end_of_moments};
-    ghost use Rattle.clk_sched.specs.Tree.{leaves_distinct};
-    ghost use Rattle.clk_sched.specs.Session.{Progress, IsAfterRun};
-    ghost use Rattle.clk_sched.specs.Results.{emitted as came_out};
+    ghost use Rattle.std.specs.Prelude.{◌≡◌, true};
+    ghost use Rattle.clk_sched.specs.Session.{Progress};
+    ghost use Rattle.clk_sched.specs.Kinds.{progress_of};
     ghost use Rattle.std.specs.Coded.{codes};
     ghost use Rattle.clk_sched.specs.Stored.{tree_code};
 
@@ -42,9 +39,9 @@ impl Model for Session {
 
     ghost coded = { Prim.hlevel (codes, tree_code) };
 
-    ghost view = { λ s. record { tree = s.tree; log = s.nodes.log.items } };
+    ghost view = { λ s. progress_of s.kernel };
 
-    ghost invariant = { λ s. IsAfterRun s.tree s.nodes × (s.nodes.moment < end_of_moments) × (leaves_distinct s.tree ≡ true) × (s.emitted.items ≡ came_out s.nodes.log.items) };
+    ghost invariant = { λ s. s.kernel.keeps ≡ true };
 }
 
 impl Session {
@@ -72,12 +69,8 @@ impl Session {
         ensures refused { IfErr result (λ fault. IsRefused tree fault) }
         ensures too_large { most_elements < 1 + elements (root tree) → result ≡ Err Fault.TooLarge }
     {
-        let nodes = tree.lay_out(alloc)?;
-        Ok(Session {
-            tree,
-            nodes,
-            emitted: Vec::new(alloc),
-        })
+        let kernel = Kernel::new(alloc, tree, true)?;
+        Ok(Session { kernel })
     }
 
     /// Pulls the device once, at this moment in ticks, below 2^44, or, where that is later, at the greatest so far, and answers its
@@ -94,14 +87,7 @@ impl Session {
         ensures unchanged { OnErr result (self.new ≡ self.old) }
         ensures unasked { OnErr result (q.new ≡ q.old) }
     {
-        let edges = self.nodes.inputs[DEVICE as usize].edges;
-        self.nodes.log.reserve(edges)?;
-        self.emitted.reserve(1)?;
-        self.nodes.moment = self.nodes.moment.max(moment);
-        let got = pull_device(&mut self.nodes, q);
-        self.nodes.pull += 1;
-        add(&mut self.emitted, got);
-        Ok(got)
+        self.kernel.pull(q, moment)
     }
 
     /// Pulls the device, one tick apart and the first time one tick after the later of this moment and the greatest so far, which
@@ -122,23 +108,7 @@ impl Session {
         ensures ends { LosesNothing Q.gives Q.holds → left ≡ left_in self.old.tree self.old.log (Q.holds q.old) → IsOkUnless result Fault.Memory }
         ensures answers { Answers Q.gives (tree_queue self.old.tree) q.old (newly self.old self.new) q.new }
     {
-        // That the log is a run is known where a field is read.
-        let _ = &self.nodes;
-        let bound = self.bound(left);
-        let start = self.now().max(moment);
-        let mut made = 0;
-        let mut given = 0;
-        while given < left {
-            if made == bound {
-                return Err(Fault::TooManyPulls { pulls: made });
-            }
-            let got = self.pull(q, start + made + 1)?;
-            made += 1;
-            if got.is_some() {
-                given += 1;
-            }
-        }
-        Ok(made)
+        self.kernel.drain(q, left, moment)
     }
 
     /// How many pulls the closing is given where so many packets, 1,000,000 at most, are left in queues and heads: for each one
@@ -150,9 +120,7 @@ impl Session {
         ensures limit { result < 2 ^ 42 }
         ensures sound { IsSound (root self.now.tree) }
     {
-        // A law, which does nothing.
-        self.tree.schedulers_are_sound();
-        left * self.tree.pulls_per_packet()
+        self.kernel.bound(left)
     }
 
     /// Every visit so far, in order: a run of the tree.
@@ -161,7 +129,7 @@ impl Session {
         ensures run { IsRun self.now.tree self.now.log }
         ensures distinct { leaves_distinct self.now.tree ≡ true }
     {
-        self.nodes.log.as_slice()
+        self.kernel.log()
     }
 
     /// The counted moment, in ticks: the greatest at which it was pulled, and 0 before the first pull.
@@ -169,7 +137,7 @@ impl Session {
         ensures moment { result ≡ counted_moment self.now }
         ensures limit { result < end_of_moments }
     {
-        self.nodes.moment
+        self.kernel.now()
     }
 
     /// The packets that came out at the device, in order.
@@ -188,9 +156,7 @@ impl Session {
     pub fn came_out(&self) -> &[Packet]
         ensures { result.now ≡ emitted self.now.log }
     {
-        // That these came out is known where a field is read.
-        let _ = &self.nodes;
-        self.emitted.as_slice()
+        self.kernel.emitted()
     }
 
     /// Every visit and the packets that came out at the device, in order, without taking memory.
@@ -198,8 +164,8 @@ impl Session {
         ensures log { result.0.items ≡ self.log }
         ensures emitted { result.1.items ≡ emitted self.log }
     {
-        let Session { nodes, emitted, .. } = self;
-        (nodes.log, emitted)
+        let Session { kernel } = self;
+        kernel.into_parts()
     }
 
     /// The packets held as heads, by node and then by input.
@@ -211,6 +177,6 @@ impl Session {
         ensures packets { IfOk result (λ packets. packets.items ≡ heads self.now.tree self.now.log) }
         ensures fault { IsOkUnless result Fault.Memory }
     {
-        held_heads(alloc, &self.nodes)
+        self.kernel.held_heads(alloc)
     }
 }

@@ -10,3 +10,4 @@ pub mod row;
 mod rows;
 mod text;
 pub mod trees;
+mod unlogged;

@@ -82,7 +82,6 @@ impl Deficits {
     ghost use Rattle.clk_sched.specs.Laws.Deficit.{next_input, deficit_covers};
     ghost use Rattle.clk_sched.specs.Holds.Deficit.{HoldsDeficits};
     ghost use Rattle.clk_sched.specs.Held.{heads_in};
-    ghost use Rattle.std.specs.Vec.{vec_len, vec_capacity};
     ghost use Rattle.std.specs.Global.{Box};
     ghost use Rattle.clk_sched.specs.declared.session.drr.Deficits.{Deficits};
     ghost use Rattle.clk_sched.specs.Places.{edges_of, edges_at, input_at, Answers, queue_asked};
@@ -195,13 +194,13 @@ impl Deficits {
 
     // Takes what was got at the input whose turn it is, records the visit, and answers whether it is passed.
     fn visit(&mut self, nodes: &mut Nodes, node: u16, got: Option<Packet>, fresh: bool) -> bool
-        requires room { vec_len nodes.old.log < vec_capacity nodes.old.log }
+        requires room { 1 ≤ nodes.old.log.spare }
         ensures logs { Logs nodes.old nodes.new (looking nodes.old node self.old.cursor got fresh result) }
         ensures settles { Settles self.old self.new got result }
     {
         let input = self.cursor;
         let passed = self.settle(got);
-        nodes.log.push_reserved(Visit {
+        nodes.log.push(Visit {
             pull: nodes.pull,
             moment: nodes.moment,
             got,

@@ -3,6 +3,7 @@
 use crate::ask::Ask;
 use crate::session::drr::Deficits;
 use crate::session::inputs::{Input, Inputs};
+use crate::session::log::Log;
 use crate::session::prio::pull_prio;
 use crate::session::round_robin::Beginning;
 use crate::session::shaper::Bucket;
@@ -20,7 +21,7 @@ pub struct Nodes {
     /// What each node holds from pull to pull. While a node has its turn whose state is taken out, `Prio` stands in its place.
     pub states: Vec<State>,
     /// Every visit so far, in order.
-    pub log: Vec<Visit>,
+    pub log: Log,
     /// The number of the pull, from 0.
     pub pull: u64,
     /// Its counted moment, in ticks.
@@ -142,7 +143,7 @@ impl Nodes {
     {
         let got = self.ask(q, node, input);
         self.log
-            .push_reserved(Visit::asking(self.pull, self.moment, node, input, got));
+            .push(Visit::asking(self.pull, self.moment, node, input, got));
         got
     }
 

@@ -10,6 +10,7 @@ ghost use Rattle.clk_sched.specs.LaidOut.{entries, kinds, Adds, AddsNode};
 use super::{Class, Node, Tree};
 use crate::session::drr::Deficits;
 use crate::session::inputs::{Input, Inputs};
+use crate::session::log::Log;
 use crate::session::nodes::Nodes;
 use crate::session::round_robin::Beginning;
 use crate::session::shaper::Bucket;
@@ -34,13 +35,14 @@ impl Tree {
     ghost use Rattle.clk_sched.specs.Session.{IsLaidOut};
     ghost use Rattle.clk_sched.specs.LaidOut.{elements_of, input_of, entries_of, kinds_of, IsRefused};
 
-    /// The tables of this tree, before its first pull.
+    /// The tables of this tree, before its first pull, with a log that is kept or not.
     ///
     /// # Errors
     ///
     /// Fault 18 where the tree has more than 256 queues and schedulers, the device counted, and fault 1.
-    pub(crate) fn lay_out(&self, alloc: Global) -> Result<Nodes, Fault>
+    pub(crate) fn lay_out(&self, alloc: Global, keeps: bool) -> Result<Nodes, Fault>
         ensures laid_out { IfOk result (λ n. IsLaidOut self.now n) }
+        ensures kind { IfOk result (λ n. n.log.keeps ≡ keeps) }
         ensures fits { IfOk result (λ n. 1 + elements (root self.now) ≤ most_elements) }
         ensures refused { IfErr result (λ fault. IsRefused self.now fault) }
     {
@@ -58,7 +60,7 @@ impl Tree {
         Ok(Nodes {
             inputs: tables.inputs,
             states: tables.states,
-            log: Vec::new(alloc),
+            log: Log::new(alloc, keeps),
             pull: 0,
             moment: 0,
         })

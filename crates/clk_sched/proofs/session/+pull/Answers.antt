@@ -149,7 +149,7 @@ nodes::Nodes::ask_in_turn-returns g t c =
 pub nodes::Nodes::look-returns : goal.nodes::Nodes::look-returns
 nodes::Nodes::look-returns g t c =
     asked-logged g.Q.Ask.gives c.args.self.now c.ask-got.new.self _ c.args.q.now c.ask-got.new.q c.args.node c.args.input c.ask-got.result c.asking.result c.requires.within c.ask-got.ensures.keeps c.ask-got.ensures.answers c.ask-got.ensures.asks c.asking.ensures
-    (record { inputs = refl; states = refl; pull = refl; moment = refl; capacity = c.push_reserved.ensures.capacity; more = c.push_reserved.ensures.len; items = c.push_reserved.ensures.items })
+    (record { inputs = refl; states = refl; pull = refl; moment = refl; log = c.push.ensures })
 
 pub prio::pull_prio-ask_in_turn-requires : goal.prio::pull_prio-ask_in_turn-requires
 prio::pull_prio-ask_in_turn-requires g t c =
@@ -191,9 +191,8 @@ pub drr::Deficits::look-visit-requires-in-None : goal.drr::Deficits::look-visit-
 drr::Deficits::look-visit-requires-in-None g t c =
     let there = edge-there c.args.nodes.now.inputs.items c.args.node c.args.self.now.cursor c.requires.within in
     let room = c.requires.can_pull.room in
-    let capacity = c.ask-got.ensures.keeps.capacity in
     let at_most = c.ask-got.ensures.keeps.at_most in
-    record { room = omega (arith, there, room, capacity, at_most) }
+    record { room = omega (arith, there, room, at_most) }
 
 pub drr::Deficits::look-returns-in-Some : goal.drr::Deficits::look-returns-in-Some
 drr::Deficits::look-returns-in-Some g t c =

@@ -1,4 +1,4 @@
-use Rattle.std.proofs.Common.{refl, subst}
+use Rattle.std.proofs.Common.{refl, ap, subst}
 use Rattle.clk_sched.specs.Tree.{root, IsWellFormed}
 use Rattle.clk_sched.proofs.LaidOut.{lays-out}
 use Rattle.clk_sched.proofs.Added.{adds-device}
@@ -7,4 +7,4 @@ use Rattle.clk_sched.proofs.tree.Tree.lay_out.Goals as goal
 pub returns-clause-laid_out : goal.returns-clause-laid_out
 returns-clause-laid_out c =
     let added = adds-device c.args.self.now c.from_ref.result.now _ c.lay_node.new.tables c.from_ref.ensures.value c.new.ensures.items c.new-2.ensures.items c.in_ok-lay_node.ensures.adds in
-    lays-out c.args.self.now _ (subst (λ t. IsWellFormed (root t)) c.self.view_is c.self.invariant.1) added.0 added.1 c.new-3.ensures.items refl refl
+    lays-out c.args.self.now _ (subst (λ t. IsWellFormed (root t)) c.self.view_is c.self.invariant.1) added.0 added.1 (ap (λ l. l.items) c.new-3.ensures) refl refl

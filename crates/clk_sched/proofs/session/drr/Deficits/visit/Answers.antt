@@ -8,9 +8,7 @@ returns-clause-logs c =
       states = refl;
       pull = refl;
       moment = refl;
-      capacity = c.push_reserved.ensures.capacity;
-      more = c.push_reserved.ensures.len;
-      items = c.push_reserved.ensures.items;
+      log = c.push.ensures;
     }
 
 pub returns-clause-settles : goal.returns-clause-settles

@@ -1,0 +1,19 @@
+use Rattle.std.proofs.Common.{length, sym, ap, ◌∙◌, arith}
+use Rattle.clk_sched.specs.Results.{emitted}
+use Rattle.clk_sched.proofs.SessionPull.{session-first}
+use Rattle.clk_sched.proofs.session.kernel.Kernel.new.Goals as goal
+
+pub invariant_of-result : goal.invariant_of-result
+invariant_of-result c =
+    let n = c.in_ok-nodes.nodes in
+    let laid = c.in_ok-nodes.ensures.laid_out in
+    let none = ap (λ l. length (emitted l)) laid.log in
+    let counted = c.new.ensures.count in (
+      session-first c.args.tree n laid,
+      (let e = laid.moment in omega (arith, e)),
+      c.requires.distinct,
+      c.new.ensures.keeps ∙ sym c.in_ok-nodes.ensures.kind,
+      (λ kept. c.new.ensures.packets ∙ ap emitted (sym laid.log)),
+      omega (arith, none, counted),
+      omega (arith, counted),
+    )

@@ -1,0 +1,93 @@
+use Rattle.std.proofs.Common.{◌≡◌, ◌+◌, ◌<◌, [], ◌++◌, false, length, refl, sym, ap, ◌∙◌, subst, arith}
+use Rattle.std.specs.List.{cons_option}
+use Rattle.std.proofs.lemmas.List.{length-append}
+use Rattle.clk_sched.specs.Limits.{end_of_pulls}
+use Rattle.clk_sched.specs.Results.{emitted}
+use Rattle.clk_sched.specs.Places.{Answers}
+use Rattle.clk_sched.specs.declared.session.nodes.Nodes.{Nodes}
+use Rattle.clk_sched.specs.Session.{IsPulledOnce, newly, tree_queue}
+use Rattle.clk_sched.specs.Kinds.{progress_of, pulls_made}
+use Rattle.clk_sched.proofs.SessionPull.{session-pulled, emitted-once, one-at-most, pulls-fit, progress, HasGoneOn}
+use Rattle.clk_sched.proofs.QueuesAsked.{answers-tree}
+use Rattle.clk_sched.proofs.session.kernel.Kernel.pull.Goals as goal
+
+pub overflow_add-self : goal.overflow_add-self
+overflow_add-self g c =
+    let a = c.self.inside.nodes in
+    let fit = pulls-fit a.log.items _ a.log.keeps c.in_ok-reserve.ensures.few (subst (λ s. s.keeps ≡ false → pulls_made (progress_of s) < end_of_pulls) (sym c.self.view_is) c.requires.pulls) in
+    let same = c.pull_device-got.ensures.keeps.pull in
+    let counted = c.self.invariant.0.pull in
+    omega (arith, fit, same, counted)
+
+pub add-requires : goal.add-requires
+add-requires g c =
+    let a = c.self.inside.nodes in
+    let fit = pulls-fit a.log.items _ a.log.keeps c.in_ok-reserve.ensures.few (subst (λ s. s.keeps ≡ false → pulls_made (progress_of s) < end_of_pulls) (sym c.self.view_is) c.requires.pulls) in
+    let counted = c.self.invariant.0.pull in
+    let few = c.self.invariant.6 in
+    let same = c.reserve-2.ensures.count in
+    record { room = c.in_ok-reserve-2.ensures.room; few = omega (arith, fit, counted, few, same) }
+
+pub invariant_of-self-2 : goal.invariant_of-self-2
+invariant_of-self-2 g c =
+    let a = c.self.inside.nodes in
+    let n = c.pull_device-got.new.nodes in
+    let tree = c.self.inside.tree in
+    let got = c.pull_device-got.result in
+    let b : Nodes = record { inputs = n.inputs; states = n.states; log = n.log; pull = n.pull + 1; moment = n.moment } in
+    let ready = c.in_ok-reserve.ensures.ready in
+    let gone : HasGoneOn tree a b c.args.moment _ got =
+    session-pulled tree a _ n b c.args.moment _ got c.self.invariant.0
+    (record { inputs = refl; states = refl; log = ap (λ l. l.items) ready; pull = refl; at_moment = c.max-self-inside.ensures }) c.pull_device-got.ensures.keeps c.pull_device-got.ensures.pulls
+    (record { inputs = refl; states = refl; log = refl; pull = refl; at_moment = refl })
+    in
+    let most = c.max-self-inside.ensures in
+    let kept = c.pull_device-got.ensures.keeps.moment in
+    let below = c.self.invariant.1 in
+    let asked = c.requires.moment in
+    let kind = c.pull_device-got.ensures.keeps.kind ∙ ap (λ l. l.keeps) ready in
+    let more = emitted-once (progress tree a) (progress tree b) c.args.moment got gone.once in
+    let added = ap length more ∙ length-append (emitted a.log.items) (cons_option got []) in
+    let count = c.add.ensures.count in
+    let before = c.reserve-2.ensures.count in
+    let counted = c.self.invariant.5 in
+    let few = c.self.invariant.6 in
+    let one = one-at-most got in
+    let same = c.pull_device-got.ensures.keeps.pull in (
+      gone.still,
+      omega (arith, most, kept, below, asked),
+      c.self.invariant.2,
+      c.add.ensures.keeps ∙ c.reserve-2.ensures.keeps ∙ c.self.invariant.3 ∙ sym kind,
+      (λ keeps. let stays = sym c.add.ensures.keeps ∙ keeps in
+          c.add.ensures.packets stays ∙ ap (λ l. l ++ cons_option got []) (c.reserve-2.ensures.packets ∙ c.self.invariant.4 (sym c.reserve-2.ensures.keeps ∙ stays)) ∙ sym more),
+      omega (arith, added, count, before, counted),
+      omega (arith, count, before, few, one, same),
+    )
+
+pub returns-clause-pulled : goal.returns-clause-pulled
+returns-clause-pulled g c =
+    let a = c.self.inside.nodes in
+    let n = c.pull_device-got.new.nodes in
+    let tree = c.self.inside.tree in
+    let b : Nodes = record { inputs = n.inputs; states = n.states; log = n.log; pull = n.pull + 1; moment = n.moment } in
+    let gone : HasGoneOn tree a b c.args.moment _ c.pull_device-got.result =
+    session-pulled tree a _ n b c.args.moment _ c.pull_device-got.result c.self.invariant.0
+    (record { inputs = refl; states = refl; log = ap (λ l. l.items) c.in_ok-reserve.ensures.ready; pull = refl; at_moment = c.max-self-inside.ensures }) c.pull_device-got.ensures.keeps c.pull_device-got.ensures.pulls
+    (record { inputs = refl; states = refl; log = refl; pull = refl; at_moment = refl })
+    in
+    subst (λ s. IsPulledOnce (progress_of s) (progress tree b) c.args.moment c.pull_device-got.result) c.self.view_is gone.once
+
+pub returns-clause-answers : goal.returns-clause-answers
+returns-clause-answers g c =
+    let a = c.self.inside.nodes in
+    let n = c.pull_device-got.new.nodes in
+    let tree = c.self.inside.tree in
+    let b : Nodes = record { inputs = n.inputs; states = n.states; log = n.log; pull = n.pull + 1; moment = n.moment } in
+    let gone =
+    session-pulled tree a _ n b c.args.moment _ c.pull_device-got.result c.self.invariant.0
+    (record { inputs = refl; states = refl; log = ap (λ l. l.items) c.in_ok-reserve.ensures.ready; pull = refl; at_moment = c.max-self-inside.ensures }) c.pull_device-got.ensures.keeps c.pull_device-got.ensures.pulls
+    (record { inputs = refl; states = refl; log = refl; pull = refl; at_moment = refl })
+    in
+    subst (λ s. Answers g.Q.Ask.gives (tree_queue s.tree) c.args.q.now (newly (progress_of s) (progress tree b)) c.pull_device-got.new.q) c.self.view_is
+    (subst (λ l. Answers g.Q.Ask.gives (tree_queue tree) c.args.q.now l c.pull_device-got.new.q) (sym gone.new)
+    (answers-tree g.Q.Ask.gives tree a.inputs.items _ c.args.q.now c.pull_device-got.new.q c.self.invariant.0.stands gone.within c.pull_device-got.ensures.answers))

@@ -1,0 +1,39 @@
+//! Every visit of a session, as contracts see it.
+ghost use Rattle.std.specs.Prelude.{◌≡◌, ℕ, ◌-◌, ◌++◌, List, [], ◌∷◌};
+ghost use Rattle.std.specs.Borrow.{ftrue};
+ghost use Rattle.clk_sched.specs.declared.visit.Visit.{Visit};
+
+use crate::visit::Visit;
+use std::marker::Model;
+
+/// Every visit of a session so far, which contracts alone read: it takes no memory.
+#[derive(Drop)]
+pub struct AllVisits {
+    /// All of them, in order.
+    pub ghost items: { List Visit },
+    /// For how many more there is room.
+    pub ghost spare: { ℕ },
+}
+
+impl Model for AllVisits {
+    ghost also_owns = { λ _. ftrue };
+}
+
+impl AllVisits {
+    /// No visits so far, and room for none.
+    pub fn none() -> AllVisits
+        ensures { result ≡ record { items = []; spare = 0 } }
+    {
+        AllVisits {}
+    }
+
+    /// Adds a visit.
+    pub fn push(&mut self, visit: &Visit)
+        ensures { self.new ≡ record { items = self.old.items ++ visit.now ∷ []; spare = self.old.spare - 1 } }
+    {}
+
+    /// There is room for so many visits more.
+    pub fn make_room(&mut self, visits: &usize)
+        ensures { self.new ≡ record { items = self.old.items; spare = visits.now } }
+    {}
+}

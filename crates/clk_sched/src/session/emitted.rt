@@ -1,0 +1,67 @@
+//! What came out of a session at the device.
+
+ghost use Rattle.std.specs.Prelude.{◌≡◌, ◌+◌, ◌<◌, ◌^◌, ◌++◌, true, false, [], length, OnOk, IsOk};
+ghost use Rattle.std.specs.List.{cons_option};
+ghost use Rattle.std.specs.Vec.{vec_len, vec_capacity};
+
+use clk_packet::Packet;
+use std::alloc::{AllocError, Global};
+
+/// The packets that came out, in order, where they are kept, and how many these are.
+#[derive(Drop)]
+pub struct Emitted {
+    pub packets: Vec<Packet>,
+    pub keeps: bool,
+    pub count: u64,
+}
+
+impl Emitted {
+    /// Nothing came out so far. What does will be kept, or only counted.
+    pub fn new(alloc: Global, keeps: bool) -> Emitted
+        ensures packets { result.packets.items ≡ [] }
+        ensures keeps { result.keeps ≡ keeps }
+        ensures count { result.count ≡ 0 }
+    {
+        Emitted {
+            packets: Vec::new(alloc),
+            keeps,
+            count: 0,
+        }
+    }
+
+    /// Makes room for a packet.
+    ///
+    /// # Errors
+    ///
+    /// Where memory is refused, which isn't asked for where packets are only counted.
+    #[inline]
+    pub fn reserve(&mut self) -> Result<(), AllocError>
+        ensures room { OnOk result (self.new.keeps ≡ true → vec_len self.new.packets < vec_capacity self.new.packets) }
+        ensures unkept { self.old.keeps ≡ false → IsOk result }
+        ensures packets { self.new.packets.items ≡ self.old.packets.items }
+        ensures keeps { self.new.keeps ≡ self.old.keeps }
+        ensures count { self.new.count ≡ self.old.count }
+    {
+        if self.keeps {
+            self.packets.reserve(1)?;
+        }
+        Ok(())
+    }
+
+    /// Adds what a pull gave.
+    #[inline]
+    pub fn add(&mut self, got: Option<Packet>)
+        requires room { self.old.keeps ≡ true → vec_len self.old.packets < vec_capacity self.old.packets }
+        requires few { self.old.count + 1 < 2 ^ 64 }
+        ensures packets { self.old.keeps ≡ true → self.new.packets.items ≡ self.old.packets.items ++ cons_option got [] }
+        ensures keeps { self.new.keeps ≡ self.old.keeps }
+        ensures count { self.new.count ≡ self.old.count + length (cons_option got []) }
+    {
+        if let Some(packet) = got {
+            self.count += 1;
+            if self.keeps {
+                self.packets.push_reserved(packet);
+            }
+        }
+    }
+}

@@ -1,0 +1,214 @@
+//! What both kinds of sessions are: a tree that is pulled, with a log that is kept or not.
+
+use crate::ask::Ask;
+use crate::session::emitted::Emitted;
+use crate::session::heads::held_heads;
+use crate::session::nodes::Nodes;
+use crate::session::prio::{DEVICE, pull_device};
+use crate::tree::Tree;
+use crate::visit::Visit;
+use clk_packet::{Fault, Packet};
+use std::alloc::Global;
+use std::marker::Model;
+
+/// A tree of schedulers with all that its nodes hold, and the log of every visit that they made.
+#[derive(Drop)]
+pub struct Kernel {
+    tree: Tree,
+    nodes: Nodes,
+    // The packets that came out at the device, so that nobody has to look for them in the log.
+    emitted: Emitted,
+}
+
+impl Model for Kernel {
+    ghost use Rattle.std.specs.Prelude.{◌≡◌, ◌<◌, ◌≤◌, true, length};
+    ghost use Rattle.clk_sched.specs.Limits.{end_of_moments};
+    ghost use Rattle.clk_sched.specs.Tree.{leaves_distinct};
+    ghost use Rattle.clk_sched.specs.Session.{IsAfterRun};
+    ghost use Rattle.clk_sched.specs.Kinds.{Either};
+    ghost use Rattle.clk_sched.specs.Results.{emitted as came_out};
+    ghost use Rattle.std.specs.Coded.{codes};
+    ghost use Rattle.clk_sched.specs.Stored.{tree_code};
+
+    ghost Value = { Either };
+
+    ghost coded = { Prim.hlevel (codes, tree_code) };
+
+    ghost view = { λ s. record { tree = s.tree; log = s.nodes.log.items; keeps = s.nodes.log.keeps } };
+
+    ghost invariant = { λ s. IsAfterRun s.tree s.nodes × (s.nodes.moment < end_of_moments) × (leaves_distinct s.tree ≡ true)
+        × (s.emitted.keeps ≡ s.nodes.log.keeps) × (s.emitted.keeps ≡ true → s.emitted.packets.items ≡ came_out s.nodes.log.items)
+        × (s.emitted.count ≡ length (came_out s.nodes.log.items)) × (s.emitted.count ≤ s.nodes.pull) };
+}
+
+impl Kernel {
+    ghost use Rattle.std.specs.Prelude.{◌≡◌, ◌+◌, ◌-◌, ◌<◌, ◌≤◌, ◌^◌, true, false, [], length, max, Ok, Err, IfOk, IfErr, OnOk, OnErr, IsOk, IsOkUnless};
+    ghost use Rattle.clk_sched.specs.Tree.{root, leaves_distinct, IsSound};
+    ghost use Rattle.clk_sched.specs.Limits.{most_elements, most_left, end_of_moments, end_of_drains, end_of_pulls, end_of_drained_pulls};
+    ghost use Rattle.clk_sched.specs.LaidOut.{IsRefused};
+    ghost use Rattle.clk_sched.specs.Run.{IsRun};
+    ghost use Rattle.clk_sched.specs.Bound.{closing_bound};
+    ghost use Rattle.clk_sched.specs.Results.{emitted, heads};
+    ghost use Rattle.clk_packet.specs.declared.fault.Fault.TheVariants.{Memory, TooManyPulls};
+    ghost use Rattle.clk_sched.specs.Places.{Answers};
+    ghost use Rattle.clk_sched.specs.Closing.{LosesNothing, left_in};
+    ghost use Rattle.clk_sched.specs.Session.{IsPulledOnce, GivesAll, StopsAt, counted_moment, elements, newly, tree_queue};
+    ghost use Rattle.clk_sched.specs.Kinds.{progress_of, pulls_made};
+
+    /// A session of this tree, in which no queue stands twice, before its first pull.
+    ///
+    /// # Errors
+    ///
+    /// Fault 18 for a tree of more than 256 nodes and queues, the device counted; else fault 1 where memory is refused.
+    pub fn new(alloc: Global, tree: Tree, keeps: bool) -> Result<Kernel, Fault>
+        requires distinct { leaves_distinct tree ≡ true }
+        ensures made { IfOk result (λ s. s ≡ record { tree = tree; log = []; keeps = keeps }) }
+        ensures fits { IfOk result (λ s. 1 + elements (root tree) ≤ most_elements) }
+        ensures refused { IfErr result (λ fault. IsRefused tree fault) }
+    {
+        let nodes = tree.lay_out(alloc, keeps)?;
+        Ok(Kernel {
+            tree,
+            nodes,
+            emitted: Emitted::new(alloc, keeps),
+        })
+    }
+
+    /// Pulls the device once, at this moment in ticks, or, where that is later, at the greatest so far, and answers its result.
+    ///
+    /// # Errors
+    ///
+    /// Fault 1 where memory is refused, which is asked for where the log is kept alone. Then nothing has changed.
+    pub fn pull<Q: Ask>(&mut self, q: &mut Q, moment: u64) -> Result<Option<Packet>, Fault>
+        requires moment { moment < end_of_moments }
+        requires pulls { self.old.keeps ≡ false → pulls_made (progress_of self.old) < end_of_pulls }
+        ensures pulled { IfOk result (IsPulledOnce (progress_of self.old) (progress_of self.new) moment) }
+        ensures answers { OnOk result (Answers Q.gives (tree_queue self.old.tree) q.old (newly (progress_of self.old) (progress_of self.new)) q.new) }
+        ensures kind { self.new.keeps ≡ self.old.keeps }
+        ensures fault { IsOkUnless result Fault.Memory }
+        ensures unkept { self.old.keeps ≡ false → IsOk result }
+        ensures unchanged { OnErr result (self.new ≡ self.old) }
+        ensures unasked { OnErr result (q.new ≡ q.old) }
+    {
+        let edges = self.nodes.inputs[DEVICE as usize].edges;
+        self.nodes.log.reserve(edges)?;
+        self.emitted.reserve()?;
+        self.nodes.moment = self.nodes.moment.max(moment);
+        let got = pull_device(&mut self.nodes, q);
+        self.nodes.pull += 1;
+        self.emitted.add(got);
+        Ok(got)
+    }
+
+    /// Pulls the device, one tick apart and the first time one tick after the later of this moment and the greatest so far, until
+    /// `left` packets came out, 1,000,000 at most, and answers how often. With nothing left it pulls nothing.
+    ///
+    /// # Errors
+    ///
+    /// Fault 1 where memory is refused, and fault 17 with the number of pulls after `bound(left)` pulls that gave fewer packets.
+    pub fn drain<Q: Ask>(&mut self, q: &mut Q, left: u64, moment: u64) -> Result<u64, Fault>
+        requires left { left ≤ most_left }
+        requires moment { max (counted_moment (progress_of self.old)) moment < end_of_drains }
+        requires pulls { self.old.keeps ≡ false → pulls_made (progress_of self.old) < end_of_drained_pulls }
+        ensures all { IfOk result (λ made. GivesAll (progress_of self.old) (progress_of self.new) (max (counted_moment (progress_of self.old)) moment) made left) }
+        ensures none_left { left ≡ 0 → (result ≡ Ok 0) × (self.new ≡ self.old) × (q.new ≡ q.old) }
+        ensures short { IfErr result (StopsAt (progress_of self.old) (progress_of self.new) (max (counted_moment (progress_of self.old)) moment) left) }
+        ensures unkept { self.old.keeps ≡ false → IsOkUnless result (TooManyPulls (closing_bound self.old.tree left)) }
+        ensures ends { LosesNothing Q.gives Q.holds → left ≡ left_in self.old.tree self.old.log (Q.holds q.old) → IsOkUnless result Fault.Memory }
+        ensures kind { self.new.keeps ≡ self.old.keeps }
+        ensures answers { Answers Q.gives (tree_queue self.old.tree) q.old (newly (progress_of self.old) (progress_of self.new)) q.new }
+    {
+        // That the log is a run is known where a field is read.
+        let _ = &self.nodes;
+        let bound = self.bound(left);
+        let start = self.now().max(moment);
+        let mut made = 0;
+        let mut given = 0;
+        while given < left {
+            if made == bound {
+                return Err(Fault::TooManyPulls { pulls: made });
+            }
+            let got = self.pull(q, start + made + 1)?;
+            made += 1;
+            if got.is_some() {
+                given += 1;
+            }
+        }
+        Ok(made)
+    }
+
+    /// How many pulls the closing is given where so many packets, 1,000,000 at most, are left in queues and heads.
+    pub fn bound(&self, left: u64) -> u64
+        requires { left ≤ most_left }
+        ensures value { result ≡ closing_bound self.now.tree left }
+        ensures limit { result < 2 ^ 42 }
+        ensures sound { IsSound (root self.now.tree) }
+    {
+        // A law, which does nothing.
+        self.tree.schedulers_are_sound();
+        left * self.tree.pulls_per_packet()
+    }
+
+    /// The visits that are kept, in order.
+    pub fn log(&self) -> &[Visit]
+        ensures visits { self.now.keeps ≡ true → result.now ≡ self.now.log }
+        ensures run { IsRun self.now.tree self.now.log }
+        ensures distinct { leaves_distinct self.now.tree ≡ true }
+    {
+        self.nodes.log.kept()
+    }
+
+    /// The counted moment, in ticks: the greatest at which it was pulled, and 0 before the first pull.
+    pub fn now(&self) -> u64
+        ensures moment { result ≡ counted_moment (progress_of self.now) }
+        ensures limit { result < end_of_moments }
+    {
+        self.nodes.moment
+    }
+
+    /// How many pulls were made.
+    pub fn pulls(&self) -> u64
+        ensures { result ≡ pulls_made (progress_of self.now) }
+    {
+        self.nodes.pull
+    }
+
+    /// The packets that came out at the device, in order, where they are kept.
+    pub fn emitted(&self) -> &[Packet]
+        ensures { self.now.keeps ≡ true → result.now ≡ emitted self.now.log }
+    {
+        // That these came out is known where a field is read.
+        let _ = &self.nodes;
+        self.emitted.packets.as_slice()
+    }
+
+    /// How many packets came out at the device.
+    pub fn count_emitted(&self) -> u64
+        ensures { result ≡ length (emitted self.now.log) }
+    {
+        // That so many came out is known where a field is read.
+        let _ = &self.nodes;
+        self.emitted.count
+    }
+
+    /// What is kept of the visits and of the packets that came out at the device, in order, without taking memory.
+    pub fn into_parts(self) -> (Vec<Visit>, Vec<Packet>)
+        ensures log { self.keeps ≡ true → result.0.items ≡ self.log }
+        ensures emitted { self.keeps ≡ true → result.1.items ≡ emitted self.log }
+    {
+        let Kernel { nodes, emitted, .. } = self;
+        (nodes.log.into_kept(), emitted.packets)
+    }
+
+    /// The packets held as heads, by node and then by input.
+    ///
+    /// # Errors
+    ///
+    /// Fault 1 where memory is refused.
+    pub fn held_heads(&self, alloc: Global) -> Result<Vec<Packet>, Fault>
+        ensures packets { IfOk result (λ packets. packets.items ≡ heads self.now.tree self.now.log) }
+        ensures fault { IsOkUnless result Fault.Memory }
+    {
+        held_heads(alloc, &self.nodes)
+    }
+}

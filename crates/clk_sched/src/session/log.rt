@@ -1,0 +1,96 @@
+//! The log of a session: every visit so far, kept in memory or not.
+
+use crate::session::all::AllVisits;
+use crate::visit::Visit;
+use std::alloc::{AllocError, Global};
+use std::marker::Model;
+
+/// Every visit so far, in order. One that keeps none takes no memory, and its visits stand in contracts alone.
+#[derive(Drop)]
+pub struct Log {
+    kept: Vec<Visit>,
+    keeps: bool,
+    all: AllVisits,
+}
+
+impl Model for Log {
+    ghost use Rattle.std.specs.Prelude.{◌≡◌, ◌+◌, ◌≤◌, true};
+    ghost use Rattle.std.specs.Vec.{vec_len, vec_capacity};
+    ghost use Rattle.clk_sched.specs.Logged.{Logged};
+
+    ghost Value = { Logged };
+
+    ghost view = { λ l. record { items = l.all.items; spare = l.all.spare; keeps = l.keeps } };
+
+    ghost invariant = { λ l. l.keeps ≡ true → (l.all.items ≡ l.kept.items) × (vec_len l.kept + l.all.spare ≤ vec_capacity l.kept) };
+}
+
+impl Log {
+    ghost use Rattle.std.specs.Prelude.{◌≡◌, ◌+◌, ◌^◌, ◌<◌, ◌≤◌, true, false, [], length, OnOk, OnErr, IsOk};
+    ghost use Rattle.clk_sched.specs.Logged.{with_visit, with_room};
+
+    /// No visits so far, of which each will be kept, or none.
+    pub fn new(alloc: Global, keeps: bool) -> Log
+        ensures { result ≡ record { items = []; spare = 0; keeps = keeps } }
+    {
+        Log {
+            kept: Vec::new(alloc),
+            keeps,
+            all: AllVisits::none(),
+        }
+    }
+
+    /// Whether it keeps visits.
+    #[inline]
+    pub fn keeps(&self) -> bool
+        ensures { result ≡ self.now.keeps }
+    {
+        self.keeps
+    }
+
+    /// Makes room for so many visits more.
+    ///
+    /// # Errors
+    ///
+    /// Where memory is refused, which a log that keeps none doesn't ask for.
+    #[inline]
+    pub fn reserve(&mut self, visits: usize) -> Result<(), AllocError>
+        ensures ready { OnOk result (self.new ≡ with_room self.old visits) }
+        ensures few { OnOk result (self.old.keeps ≡ true → length self.old.items + visits < 2 ^ 63) }
+        ensures unkept { self.old.keeps ≡ false → IsOk result }
+        ensures refused { OnErr result (self.new ≡ self.old) }
+    {
+        if self.keeps {
+            self.kept.reserve(visits)?;
+        }
+        self.all.make_room(&visits);
+        Ok(())
+    }
+
+    /// Adds a visit, for which there is room.
+    #[inline]
+    pub fn push(&mut self, visit: Visit)
+        requires { 1 ≤ self.old.spare }
+        ensures { self.new ≡ with_visit self.old visit }
+    {
+        if self.keeps {
+            self.kept.push_reserved(visit);
+        }
+        self.all.push(&visit);
+    }
+
+    /// The visits that are kept.
+    pub fn kept(&self) -> &[Visit]
+        ensures { self.now.keeps ≡ true → result.now ≡ self.now.items }
+    {
+        self.kept.as_slice()
+    }
+
+    /// The visits that are kept, without taking memory.
+    pub fn into_kept(self) -> Vec<Visit>
+        ensures { self.keeps ≡ true → result.items ≡ self.items }
+    {
+        let Log { kept, .. } = self;
+        kept
+    }
+}

@@ -1,0 +1,159 @@
+//! Sessions that keep no log: what comes out of them is what comes out of a session that does.
+
+ghost use Rattle.std.specs.Prelude.{◌≤◌};
+
+use super::queues::Queues;
+use super::row::session;
+use super::trees::{drr_over_stride, prio_over_two, round_robin_over_three, shaped_drr_path};
+use clk_packet::Fault;
+use clk_sched::{Session, Tree, Unlogged};
+use std::alloc::Global;
+use std::process::Abort;
+
+/// How many queues there are, each with a sender of its number.
+const QUEUES: u16 = 13;
+
+/// A session of each kind over the same tree, each with queues of its own.
+#[derive(Drop)]
+struct Both {
+    logged: Session,
+    queues: Queues,
+    unlogged: Unlogged,
+    others: Queues,
+}
+
+impl Both {
+    fn new(
+        rt: &impl Abort,
+        alloc: Global,
+        tree: Result<Tree, Fault>,
+        again: Result<Tree, Fault>,
+    ) -> Result<Both, Fault> {
+        Ok(Both {
+            logged: session(rt, alloc, tree?)?,
+            queues: Queues::new(alloc, QUEUES)?,
+            unlogged: unlogged(rt, alloc, again?)?,
+            others: Queues::new(alloc, QUEUES)?,
+        })
+    }
+
+    // Packets of each sender go to its queues.
+    fn send(&mut self, rt: &impl Abort, lengths: &[u16]) -> Result<(), Fault> {
+        for sender in 0..QUEUES {
+            self.queues.send(rt, sender, lengths)?;
+            self.others.send(rt, sender, lengths)?;
+        }
+        Ok(())
+    }
+
+    // Pulls both at each of these moments.
+    fn pulls(&mut self, rt: &impl Abort, moments: &[u64]) -> Result<(), Fault> {
+        for moment in moments {
+            self.pull(rt, *moment)?;
+        }
+        Ok(())
+    }
+
+    fn pull(&mut self, rt: &impl Abort, moment: u64) -> Result<(), Fault> {
+        assert!(rt; moment < 1 << 44);
+        assert!(rt; self.unlogged.pulls() < 1 << 63);
+        let got = self.unlogged.pull(&mut self.others, moment);
+        assert_eq!(rt; got, self.logged.pull(&mut self.queues, moment)?);
+        Ok(())
+    }
+
+    // Drains both of so many packets.
+    fn drain(&mut self, rt: &impl Abort, left: u64, moment: u64) {
+        assert!(rt; left <= 1_000_000);
+        let logged = self.drain_logged(rt, left, moment);
+        let unlogged = self.drain_unlogged(rt, left, moment);
+        assert_eq!(rt; unlogged, logged);
+    }
+
+    fn drain_logged(&mut self, rt: &impl Abort, left: u64, moment: u64) -> Result<u64, Fault>
+        requires { left ≤ 1000000 }
+    {
+        assert!(rt; self.logged.now().max(moment) < (1 << 43) - 1);
+        self.logged.drain(&mut self.queues, left, moment)
+    }
+
+    fn drain_unlogged(&mut self, rt: &impl Abort, left: u64, moment: u64) -> Result<u64, Fault>
+        requires { left ≤ 1000000 }
+    {
+        assert!(rt; self.unlogged.now().max(moment) < (1 << 43) - 1);
+        assert!(rt; self.unlogged.pulls() < 1 << 62);
+        self.unlogged.drain(&mut self.others, left, moment)
+    }
+
+    // Whether so much came out of both by now, and they hold the same.
+    fn assert_same(&self, rt: &impl Abort, alloc: Global, came_out: usize) -> Result<(), Fault> {
+        assert_eq!(rt; self.unlogged.now(), self.logged.now());
+        assert_eq!(rt; self.logged.came_out().len(), came_out);
+        assert_eq!(rt; self.unlogged.came_out(), came_out as u64);
+        self.assert_same_heads(rt, alloc)
+    }
+
+    fn assert_same_heads(&self, rt: &impl Abort, alloc: Global) -> Result<(), Fault> {
+        let heads = self.unlogged.held_heads(alloc)?;
+        let others = self.logged.held_heads(alloc)?;
+        assert!(rt; heads == others, "the same heads");
+        Ok(())
+    }
+}
+
+fn unlogged(rt: &impl Abort, alloc: Global, tree: Tree) -> Result<Unlogged, Fault> {
+    assert!(rt; tree.leaves_distinct());
+    Unlogged::new(alloc, tree)
+}
+
+// Sends three packets of each sender, pulls six times, after which so many came out, sends one more, and drains the tree of what is
+// left, and of a packet that it hasn't.
+fn assert_alike(
+    rt: &impl Abort,
+    alloc: Global,
+    mut both: Both,
+    first: usize,
+    left: usize,
+) -> Result<(), Fault> {
+    both.send(rt, &[150, 40, 900])?;
+    both.pulls(rt, &[0, 0, 0, 2, 1, 7])?;
+    both.assert_same(rt, alloc, first)?;
+    both.send(rt, &[60_000])?;
+    both.drain(rt, left as u64, 9);
+    let all = first.saturating_add(left);
+    both.assert_same(rt, alloc, all)?;
+    both.drain(rt, 1, 0);
+    both.assert_same(rt, alloc, all)
+}
+
+#[test]
+fn priorities_need_no_log(rt: HostRuntime) -> Result<(), Fault> {
+    let alloc = rt.alloc();
+    let both = Both::new(&rt, alloc, prio_over_two(alloc), prio_over_two(alloc))?;
+    assert_alike(&rt, alloc, both, 6, 2)
+}
+
+#[test]
+fn turns_need_no_log(rt: HostRuntime) -> Result<(), Fault> {
+    let alloc = rt.alloc();
+    let tree = round_robin_over_three(alloc);
+    let both = Both::new(&rt, alloc, tree, round_robin_over_three(alloc))?;
+    assert_alike(&rt, alloc, both, 6, 6)
+}
+
+// Of 52 packets, five come out in the first six pulls: none in the first, in which all five inputs come to hold a head.
+#[test]
+fn shares_need_no_log(rt: HostRuntime) -> Result<(), Fault> {
+    let alloc = rt.alloc();
+    let both = Both::new(&rt, alloc, drr_over_stride(alloc), drr_over_stride(alloc))?;
+    assert_alike(&rt, alloc, both, 5, 47)
+}
+
+// Two packets pass the Shaper, at moments 0 and 2. The third is held in a DRRSched.
+#[test]
+fn pace_needs_no_log(rt: HostRuntime) -> Result<(), Fault> {
+    let alloc = rt.alloc();
+    let tree = shaped_drr_path(alloc, 2, 500);
+    let both = Both::new(&rt, alloc, tree, shaped_drr_path(alloc, 2, 500))?;
+    assert_alike(&rt, alloc, both, 2, 2)
+}
