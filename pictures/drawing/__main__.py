@@ -1,0 +1,119 @@
+"""The words of pictures/draw: each command writes a picture to standard output."""
+import argparse
+import os
+import sys
+from html import escape
+
+from drawing import reading, style, tree
+from drawing.journeys import journeys
+from drawing.model import Node, Router, Wrong, WrongWords
+
+
+def name_of(path: str) -> str:
+    """The name of a file, for a title."""
+    return os.path.basename(path).encode(errors="replace").decode()
+
+
+def draw_tree(given: argparse.Namespace) -> str:
+    """`draw tree`."""
+    router = reading.tree(given.tree)
+    counts = reading.report(given.report, router) if given.report else {}
+    title = f"The tree {name_of(given.tree)}" + (f", with the packets of {name_of(given.report)}" if given.report else "")
+    return style.alone(tree.draw(router, title, counts), escape(title))
+
+
+def node_of(router: Router, given: argparse.Namespace) -> Node:
+    """The scheduler that the words name."""
+    device: int = given.device
+    number: int = given.node
+    if device >= len(router.devices):
+        raise WrongWords(f"{given.tree} has no device {device}: it has {len(router.devices)}, counted from 0")
+    nodes = router.devices[device]
+    if number >= len(nodes):
+        raise WrongWords(f"{given.tree} has no node {number}: below its device {device} are {len(nodes) - 1} schedulers, counted from 1")
+    node = nodes[number]
+    if node.element.kind not in ("DRRSched", "StrideSched"):
+        raise WrongWords(f"node {number} of {given.tree} is {node.element.name}, a {node.element.kind}: shares are those of a DRRSched or a StrideSched")
+    return node
+
+
+def draw_shares(given: argparse.Namespace) -> str:
+    """`draw shares`."""
+    router = reading.tree(given.tree)
+    node = node_of(router, given)
+    visits = reading.visits(given.visits, router)
+    title = f"What each input of {node.element.name} got: {name_of(given.tree)}"
+    from drawing import shares
+
+    return style.alone(shares.draw(router, node, visits, title), escape(title))
+
+
+def draw_packets(given: argparse.Namespace) -> str:
+    """`draw packets`."""
+    answer = reading.answer(given.answer)
+    if not answer.offers:
+        raise Wrong(f"{given.answer}: it has no packets: it has to be the answer of a script, and not the report of a run")
+    found = journeys(answer, reading.visits(given.visits), given.visits)
+    title = f"The packets of {name_of(given.answer)}, from offer to link"
+    from drawing import packets
+
+    return style.alone(packets.draw(found, answer.last, title), escape(title))
+
+
+def draw_page(given: argparse.Namespace) -> str:
+    """`draw page`."""
+    from drawing import page
+
+    return page.of_files(f"{name_of(given.script)} over {name_of(given.tree)}", given.tree, given.script)
+
+
+def natural(word: str) -> int:
+    """A number of the command line."""
+    if not word.isdecimal():
+        raise argparse.ArgumentTypeError(f"'{word}' is no number")
+    return int(word)
+
+
+def words() -> argparse.ArgumentParser:
+    """What may be said to it."""
+    top = argparse.ArgumentParser(prog="draw", description="Draws what clickpull reads and writes, to standard output.")
+    commands = top.add_subparsers(required=True, metavar="COMMAND")
+
+    def command(name: str, run: object, about: str, *files: str) -> argparse.ArgumentParser:
+        it = commands.add_parser(name, help=about, description=about)
+        for file in files:
+            it.add_argument(file.lower(), metavar=file)
+        it.set_defaults(run=run)
+        return it
+
+    it = command("tree", draw_tree, "The tree as SVG: senders, queues, schedulers and devices", "TREE")
+    it.add_argument("report", nargs="?", metavar="REPORT", help="a run's report, or the answer of a script that ends with drain")
+    it = command("shares", draw_shares, "What each input of a scheduler got, with the proved bounds, as SVG", "TREE", "VISITS")
+    it.add_argument("--node", type=natural, required=True, metavar="N", help="the scheduler, by its number in preorder from 1, as visits and `draw tree` have it")
+    it.add_argument("--device", type=natural, default=0, metavar="N", help="the device above it (0)")
+    command("packets", draw_packets, "Each packet from its offer to the link, as SVG", "ANSWER", "VISITS")
+    command("page", draw_page, "A script step by step, as one HTML file; it runs clickpull", "TREE", "SCRIPT")
+    return top
+
+
+def main(given_words: list[str] | None = None) -> int:
+    """Draws what the words ask for. Status 1 says that a file can't be used, and 2 that the words are wrong."""
+    given = words().parse_args(given_words)
+    try:
+        sys.stdout.write(given.run(given))
+        sys.stdout.flush()
+    except (Wrong, WrongWords) as it:
+        print(f"draw: {it}", file=sys.stderr)
+        return 1 if isinstance(it, Wrong) else 2
+    except ModuleNotFoundError as it:
+        name = (it.name or "").split(".")[0]
+        print(f"draw: Python's {name} is missing: it is in Debian's package python3-{name}", file=sys.stderr)
+        return 1
+    except BrokenPipeError:
+        os.dup2(os.open(os.devnull, os.O_WRONLY), sys.stdout.fileno())
+        return 1
+    return 0
+
+
+if __name__ == "__main__":
+    sys.exit(main())

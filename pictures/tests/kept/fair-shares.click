@@ -1,0 +1,15 @@
+silver :: Sender(1);
+gold :: Sender(2);
+platinum :: Sender(3);
+s :: Queue(100);
+g :: Queue(100);
+p :: Queue(100);
+shares :: DRRSched(500, 1000, 1500);
+link :: ToDevice(link);
+silver [0] -> [0] s;
+gold [0] -> [0] g;
+platinum [0] -> [0] p;
+s [0] -> [0] shares;
+g [0] -> [1] shares;
+p [0] -> [2] shares;
+shares [0] -> [0] link;

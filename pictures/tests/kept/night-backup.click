@@ -1,0 +1,15 @@
+headquarters :: Sender(1);
+branch :: Sender(2);
+depot :: Sender(3);
+h :: Queue(100);
+b :: Queue(100);
+d :: Queue(100);
+shares :: DRRSched(3000, 1500, 1500);
+link :: ToDevice(wan0);
+headquarters [0] -> [0] h;
+branch [0] -> [0] b;
+depot [0] -> [0] d;
+h [0] -> [0] shares;
+b [0] -> [1] shares;
+d [0] -> [2] shares;
+shares [0] -> [0] link;

@@ -1,0 +1,13 @@
+first :: Sender(0);
+second :: Sender(1);
+other :: Sender(2);
+both :: Queue(2);
+newest :: FrontDropQueue(1);
+shares :: DRRSched(500);
+link :: ToDevice(eth0);
+first [0] -> [0] both;
+second [0] -> [0] both;
+other [0] -> [0] newest;
+both [0] -> [0] shares;
+newest [0] -> [1] shares;
+shares [0] -> [0] link;

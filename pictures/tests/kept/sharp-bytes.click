@@ -1,0 +1,11 @@
+long :: Sender(0);
+short :: Sender(1);
+a :: Queue(3);
+b :: Queue(3);
+shares :: DRRSched(65534);
+link :: ToDevice(eth0);
+long [0] -> [0] a;
+short [0] -> [0] b;
+a [0] -> [0] shares;
+b [0] -> [1] shares;
+shares [0] -> [0] link;

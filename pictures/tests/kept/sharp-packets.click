@@ -1,0 +1,11 @@
+few :: Sender(0);
+many :: Sender(1);
+a :: Queue(9);
+b :: Queue(9);
+turns :: StrideSched(1, 2);
+link :: ToDevice(eth0);
+few [0] -> [0] a;
+many [0] -> [0] b;
+a [0] -> [0] turns;
+b [0] -> [1] turns;
+turns [0] -> [0] link;

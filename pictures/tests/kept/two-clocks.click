@@ -1,0 +1,18 @@
+city :: Sender(1);
+village :: Sender(2);
+meters :: Sender(3);
+qc :: Queue(2);
+qv :: Queue(4);
+reading :: FrontDropQueue(1);
+turns :: RoundRobinSched;
+pace :: Shaper(1, 2);
+fibre :: ToDevice(eth0);
+radio :: ToDevice(wlan0);
+city [0] -> [0] qc;
+village [0] -> [0] qv;
+meters [0] -> [0] reading;
+qv [0] -> [0] turns;
+reading [0] -> [1] turns;
+turns [0] -> [0] pace;
+qc [0] -> [0] fibre;
+pace [0] -> [0] radio;

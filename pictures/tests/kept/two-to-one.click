@@ -1,0 +1,11 @@
+first :: Queue(50);
+second :: Queue(50);
+a :: Sender(7);
+b :: Sender(8);
+turns :: StrideSched(2, 1);
+link :: ToDevice(link);
+a [0] -> [0] first;
+b [0] -> [0] second;
+first [0] -> [0] turns;
+second [0] -> [1] turns;
+turns [0] -> [0] link;

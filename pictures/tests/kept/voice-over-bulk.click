@@ -1,0 +1,11 @@
+voice :: Sender(0);
+bulk :: Sender(1);
+calls :: Queue(10);
+transfers :: Queue(10);
+first :: PrioSched;
+uplink :: ToDevice(eth0);
+voice [0] -> [0] calls;
+bulk [0] -> [0] transfers;
+calls [0] -> [0] first;
+transfers [0] -> [1] first;
+first [0] -> [0] uplink;

@@ -1,0 +1,59 @@
+"""The drawing of a tree has the elements, connections and counts of the files."""
+import re
+import shutil
+import xml.etree.ElementTree as ET
+
+import pytest
+from conftest import ALL, Example, drawn
+from drawn import SVG, words
+
+pytestmark = pytest.mark.skipif(not shutil.which("dot"), reason="there is no dot on the PATH: graphviz")
+
+
+def parts(svg: str, kind: str) -> list[ET.Element]:
+    """The nodes or edges that graphviz drew."""
+    return [it for it in ET.fromstring(svg).iter(f"{SVG}g") if it.get("class") == kind]
+
+
+def title(element: ET.Element) -> str:
+    return element.findtext(f"{SVG}title") or ""
+
+
+@pytest.mark.parametrize("example", ALL, ids=str)
+def test_elements_and_connections_are_drawn(example: Example) -> None:
+    svg = drawn("tree", example.file("click"))
+    text = example.file("click").read_text()
+    declared = {name: element for name, element in re.findall(r"(\w+) :: (.*);", text)}
+    assert {title(it): words(it)[1] for it in parts(svg, "node")} == declared
+    assert all(words(it)[0] == title(it) for it in parts(svg, "node"))
+    connected = re.findall(r"(\w+) \[0\] -> \[(\d+)\] (\w+);", text)
+    assert sorted(title(it) for it in parts(svg, "edge")) == sorted(f"{a}->{b}" for a, _, b in connected)
+    ports = {title(it): words(it)[0].split("]")[0].lstrip("[") for it in parts(svg, "edge") if words(it)}
+    assert all(ports.get(f"{a}->{b}", "0") == port for a, port, b in connected)
+
+
+@pytest.mark.parametrize("example", ALL, ids=str)
+def test_each_scheduler_has_its_arguments_at_its_inputs(example: Example) -> None:
+    svg = drawn("tree", example.file("click"))
+    text = example.file("click").read_text()
+    written = {title(it): words(it) for it in parts(svg, "edge")}
+    for name, arguments in re.findall(r"(\w+) :: (?:DRRSched|StrideSched)\((.*)\);", text):
+        given = [int(it) for it in arguments.split(", ")]
+        for source, port in re.findall(rf"(\w+) \[0\] -> \[(\d+)\] {name};", text):
+            own = given[int(port)] if len(given) > 1 else given[0]
+            assert re.fullmatch(rf"\[{port}\] {own:,} (bytes?|tickets?)", written[f"{source}->{name}"][0])
+
+
+@pytest.mark.parametrize("example", ALL, ids=str)
+def test_counts_are_those_of_the_report(example: Example) -> None:
+    svg = drawn("tree", example.file("click"), example.file("out"))
+    text = example.file("click").read_text()
+    number = {name: int(it) for name, it in re.findall(r"(\w+) :: Sender\((\d+)\);", text)}
+    queues = re.findall(r"(\w+) :: (?:FrontDrop)?Queue", text)
+    wanted = {queue: [0, 0, 0] for queue in queues}
+    for line in re.findall(r"sender (\d+): .* accepted (\d+) \d+, refused (\d+) \d+, evicted (\d+) ", example.file("out").read_text()):
+        sender = next(name for name, it in number.items() if it == int(line[0]))
+        queue = re.findall(rf"{sender} \[0\] -> \[0\] (\w+);", text)[0]
+        wanted[queue] = [a + int(b) for a, b in zip(wanted[queue], line[1:])]
+    shown = {title(it): [int(line.split()[1]) for line in words(it)[-3:]] for it in parts(svg, "node") if title(it) in queues}
+    assert shown == wanted
