@@ -56,5 +56,6 @@ pub mod Held
 pub mod TreeBound
 pub mod SessionPull
 pub mod Closing
+pub mod Departed
 pub mod SessionDrain
 pub mod WorkedPulls

@@ -1,18 +1,25 @@
--- Both kinds of sessions: of one the visits are kept in memory, and of the other contracts alone know them.
-use Rattle.std.specs.Prelude.{ℕ, Bool, List, length}
+-- All kinds of sessions: of some the visits are kept in memory, and of others contracts alone know them.
+use Rattle.std.specs.Prelude.{ℕ, true, false, List, length}
 use Rattle.clk_sched.specs.declared.visit.Visit.{Visit}
+use Rattle.clk_sched.specs.declared.session.keeps.Keeps.{Keeps}
 use Rattle.clk_sched.specs.Tree.{Tree}
 use Rattle.clk_sched.specs.Log.{pulls}
 use Rattle.clk_sched.specs.Session.{Progress}
 
--- what a session of either kind is seen as: its tree, the log of its pulls, and whether that is kept
-pub record Either : Type 0 where
+-- what a session of any kind is seen as: its tree, the log of its pulls, and what is kept of the past
+pub record AnySession : Type 0 where
   pub tree : Tree
   pub log : List Visit
-  pub keeps : Bool
+  pub keeps : Keeps
 
--- what a session of either kind came to
-abbrev pub progress_of : Either → Progress
+abbrev pub keeps_all : Keeps
+keeps_all = record { visits = true; packets = true }
+
+abbrev pub keeps_nothing : Keeps
+keeps_nothing = record { visits = false; packets = false }
+
+-- what a session of any kind came to
+abbrev pub progress_of : AnySession → Progress
 progress_of s = record { tree = s.tree; log = s.log }
 
 -- how many pulls were made

@@ -19,6 +19,7 @@ pub mod Turning
 pub mod Tokens
 pub mod Looking
 pub mod Session
+pub mod Departures
 pub mod Kinds
 pub mod LaidOut
 pub mod Run

@@ -20,6 +20,9 @@ pub use laws::{
     runs_leave_no_choice, runs_share_out,
 };
 pub use session::Session;
+pub use session::departures::Departure;
+pub use session::keeps::Keeps;
+pub use session::kernel::Kernel;
 pub use tree::Tree;
 pub use unlogged::Unlogged;
 pub use visit::Visit;

@@ -1,10 +1,12 @@
 //! A session: a tree that is pulled, and the log of its visits.
 
 pub(crate) mod all;
+pub(crate) mod departures;
 pub(crate) mod drr;
 pub(crate) mod emitted;
 mod heads;
 pub(crate) mod inputs;
+pub(crate) mod keeps;
 pub(crate) mod kernel;
 pub(crate) mod log;
 pub(crate) mod nodes;
@@ -15,6 +17,8 @@ pub(crate) mod state;
 pub(crate) mod stride;
 
 use crate::ask::Ask;
+use crate::session::departures::Departures;
+use crate::session::keeps::Keeps;
 use crate::session::kernel::Kernel;
 use crate::tree::Tree;
 use crate::visit::Visit;
@@ -29,9 +33,9 @@ pub struct Session {
 }
 
 impl Model for Session {
-    ghost use Rattle.std.specs.Prelude.{◌≡◌, true};
+    ghost use Rattle.std.specs.Prelude.{◌≡◌};
     ghost use Rattle.clk_sched.specs.Session.{Progress};
-    ghost use Rattle.clk_sched.specs.Kinds.{progress_of};
+    ghost use Rattle.clk_sched.specs.Kinds.{progress_of, keeps_all};
     ghost use Rattle.std.specs.Coded.{codes};
     ghost use Rattle.clk_sched.specs.Stored.{tree_code};
 
@@ -41,7 +45,7 @@ impl Model for Session {
 
     ghost view = { λ s. progress_of s.kernel };
 
-    ghost invariant = { λ s. s.kernel.keeps ≡ true };
+    ghost invariant = { λ s. s.kernel.keeps ≡ keeps_all };
 }
 
 impl Session {
@@ -69,7 +73,11 @@ impl Session {
         ensures refused { IfErr result (λ fault. IsRefused tree fault) }
         ensures too_large { most_elements < 1 + elements (root tree) → result ≡ Err Fault.TooLarge }
     {
-        let kernel = Kernel::new(alloc, tree, true)?;
+        let keeps = Keeps {
+            visits: true,
+            packets: true,
+        };
+        let kernel = Kernel::new(alloc, tree, keeps)?;
         Ok(Session { kernel })
     }
 
@@ -108,7 +116,7 @@ impl Session {
         ensures ends { LosesNothing Q.gives Q.holds → left ≡ left_in self.old.tree self.old.log (Q.holds q.old) → IsOkUnless result Fault.Memory }
         ensures answers { Answers Q.gives (tree_queue self.old.tree) q.old (newly self.old self.new) q.new }
     {
-        self.kernel.drain(q, left, moment)
+        self.kernel.drain(q, &mut Departures::Dropped, left, moment)
     }
 
     /// How many pulls the closing is given where so many packets, 1,000,000 at most, are left in queues and heads: for each one

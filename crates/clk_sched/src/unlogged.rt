@@ -1,6 +1,8 @@
 //! A session that keeps no log: contracts alone know it, so that it can go on for ever.
 
 use crate::ask::Ask;
+use crate::session::departures::Departures;
+use crate::session::keeps::Keeps;
 use crate::session::kernel::Kernel;
 use crate::tree::Tree;
 use clk_packet::{Fault, Packet};
@@ -16,9 +18,9 @@ pub struct Unlogged {
 }
 
 impl Model for Unlogged {
-    ghost use Rattle.std.specs.Prelude.{◌≡◌, false};
+    ghost use Rattle.std.specs.Prelude.{◌≡◌};
     ghost use Rattle.clk_sched.specs.Session.{Progress};
-    ghost use Rattle.clk_sched.specs.Kinds.{progress_of};
+    ghost use Rattle.clk_sched.specs.Kinds.{progress_of, keeps_nothing};
     ghost use Rattle.std.specs.Coded.{codes};
     ghost use Rattle.clk_sched.specs.Stored.{tree_code};
 
@@ -28,7 +30,7 @@ impl Model for Unlogged {
 
     ghost view = { λ s. progress_of s.kernel };
 
-    ghost invariant = { λ s. s.kernel.keeps ≡ false };
+    ghost invariant = { λ s. s.kernel.keeps ≡ keeps_nothing };
 }
 
 impl Unlogged {
@@ -57,7 +59,11 @@ impl Unlogged {
         ensures refused { IfErr result (λ fault. IsRefused tree fault) }
         ensures too_large { most_elements < 1 + elements (root tree) → result ≡ Err Fault.TooLarge }
     {
-        let kernel = Kernel::new(alloc, tree, false)?;
+        let keeps = Keeps {
+            visits: false,
+            packets: false,
+        };
+        let kernel = Kernel::new(alloc, tree, keeps)?;
         Ok(Unlogged { kernel })
     }
 
@@ -94,7 +100,7 @@ impl Unlogged {
         ensures ends { LosesNothing Q.gives Q.holds → left ≡ left_in self.old.tree self.old.log (Q.holds q.old) → IfErr result (λ _. ⊥) }
         ensures answers { Answers Q.gives (tree_queue self.old.tree) q.old (newly self.old self.new) q.new }
     {
-        self.kernel.drain(q, left, moment)
+        self.kernel.drain(q, &mut Departures::Dropped, left, moment)
     }
 
     /// How many pulls the closing is given where so many packets, 1,000,000 at most, are left in queues and heads.

@@ -1,5 +1,5 @@
 -- How a router goes on by the commands of some rows, and what it comes to.
-use Rattle.std.proofs.Common.{◌≡◌, ℕ, ◌+◌, ◌<◌, ◌≤◌, ◌==◌, zero, suc, nat_lt, Bool, true, false, List, [], ◌∷◌, ◌++◌, length, map, filter, take, drop, set, get_or, reverse, max, fold, Option, Some, None, MatchOption, Vec, slice_get, refl, sym, ap, ap₂, subst, ◌∙◌, append_assoc, append-nil, zero-add, arith}
+use Rattle.std.proofs.Common.{◌≡◌, ℕ, ◌+◌, ◌<◌, ◌≤◌, ◌==◌, zero, suc, nat_lt, Bool, true, false, List, [], ◌∷◌, ◌++◌, length, map, filter, take, drop, set, get_or, reverse, max, fold, Option, Some, None, IfSome, MatchOption, Vec, slice_get, refl, sym, ap, ap₂, subst, ◌∙◌, append_assoc, append-nil, zero-add, arith}
 use Rattle.std.specs.Bool.{⊤}
 use Rattle.std.specs.List.{flat_map, filter_map, cons_option, range_with_len, AllByRecursion}
 use Rattle.std.specs.declared.alloc.Global.{Global}
@@ -10,8 +10,10 @@ use Rattle.clk_packet.specs.declared.packet.Packet.{Packet}
 use Rattle.clk_packet.specs.declared.packet.Offered.{Offered}
 use Rattle.clk_packet.specs.declared.tally.Tally.{Tally}
 use Rattle.clk_report.specs.Report.{report_text}
-use Rattle.clk_report.specs.Devices.{lists_of, came_out}
+use Rattle.clk_report.specs.Devices.{came_out}
 use Rattle.clk_sched.specs.declared.visit.Visit.{Visit}
+use Rattle.clk_sched.specs.declared.session.departures.Departure.{Departure}
+use Rattle.clk_sched.specs.Kinds.{progress_of}
 use Rattle.clk_sched.specs.Tree.{Tree}
 use Rattle.clk_sched.specs.Log.{pulls}
 use Rattle.clk_sched.specs.Session.{latest_moment, counted_moment}
@@ -25,10 +27,10 @@ use Rattle.clk_script.specs.declared.past.Past.{Past}
 use Rattle.clk_script.specs.declared.devices.Device.{Device}
 use Rattle.clk_script.specs.declared.router.Router.{Router}
 use Rattle.clk_script.specs.Script.{Names, most_lines, most_moment}
-use Rattle.clk_script.specs.Meaning.{Room, Setup, sender_numbers, names_of, has_several, Event, offered, pulled, command_of, happens_at, events_at, number_from, moment_in, accepted_in, log_of, tally_after, event_text, RunsTree, CloseFirst, logs_of, WritesWith}
-use Rattle.clk_script.specs.Router.{IsNumber, sender_after, names_in, room_device, IsAt, AreDevicesAt, device_log, device_emitted, IsPastOf, CanSend, IsWhole, Starts, IsSteady, IsReady, given_kept, LeadsOnByPull, IsReadable}
+use Rattle.clk_script.specs.Meaning.{Room, Setup, sender_numbers, names_of, has_several, Event, offered, pulled, command_of, happens_at, events_at, number_from, moment_in, pull_in, accepted_in, log_of, tally_after, event_text, RunsTree, CloseFirst, logs_of, WritesWith}
+use Rattle.clk_script.specs.Router.{IsNumber, sender_after, names_in, room_device, IsAt, AreDevicesAt, KeepsAs, KeepsAsAt, device_log, device_emitted, AreLogs, IsPastOf, CanSend, IsWhole, Starts, IsSteady, IsReady, given_kept, LeadsOnByPull, IsReadable}
 use Rattle.clk_script.specs.Closable.{IsClosable, IsClosableRouter}
-use Rattle.clk_script.specs.Rows.{row_asked, row_offered, row_pulled, row_of, given_by, IsToDo, CarriesOut, AnswersRows, IsClosedFrom, rows_text, closings_text, are_several, given_first, given_of, ending_of}
+use Rattle.clk_script.specs.Rows.{row_asked, row_offered, row_pulled, row_of, given_by, IsToDo, CarriesOut, AnswersRows, IsClosedFrom, rows_text, closings_text, are_several, closings_of, given_first, given_of, ending_of}
 use Rattle.clk_script.proofs.EventLemmas.{latest-moment}
 use Rattle.clk_script.proofs.SenderLemmas.{numbers-its, alike-its}
 use Rattle.clk_script.proofs.RowLemmas.{rows-written}
@@ -85,7 +87,7 @@ steady-at : (setup : Setup) (d : ℕ) (events : List Event) (tree : Option Tree)
 steady-at setup d events None None device is runs e few readable = absurd (cc)
 steady-at setup d events None (Some other) device is runs e few readable = absurd is
 steady-at setup d events (Some tree) None device is runs e few readable = absurd is
-steady-at setup d events (Some tree) (Some other) device is runs e few readable = subst IsSteady same (record { few = most; moment = latest })
+steady-at setup d events (Some tree) (Some other) device is runs e few readable = subst IsSteady same (record { few = most; moment = latest; pulls = made })
   where
     same : other ≡ device
     same = cc
@@ -97,7 +99,14 @@ steady-at setup d events (Some tree) (Some other) device is runs e few readable 
         let some = length-filter-le (happens_at setup d) events in
         omega (arith, kept, accepted, some, few)
 
-    latest : counted_moment other.session ≤ most_moment
+    made : length (pulls other.session.log) ≤ most_lines
+    made =
+        let all = ap (λ l. length (pulls l)) is.log ∙ ap length runs.pull_by_pull in
+        let fewer = length-filter_map-le pull_in (events_at setup d events) in
+        let some = length-filter-le (happens_at setup d) events in
+        omega (arith, all, fewer, some, few)
+
+    latest : counted_moment (progress_of other.session) ≤ most_moment
     latest =
         let counted = ap (λ l. latest_moment (reverse (pulls l))) is.log ∙ latest-moment tree (events_at setup d events) runs in
         let greatest = readable-moments setup d events 0 (omega arith) readable in
@@ -158,23 +167,24 @@ asked-commands (e ∷ events) = ap (λ l. row_asked (command_of e) ∷ l) (asked
 pub AnswersRows-none : (router : Router) (asked done : List Row) → asked ≡ [] → done ≡ [] → AnswersRows router router asked done
 AnswersRows-none router asked done none nothing =
     λ setup events at.
-    record { more = []; theirs = sym none; rows = nothing; given = λ several. sym (append-nil router.given.items); leads = subst (λ l. IsAt setup l router) (sym (append-nil events)) at }
+    record { more = []; theirs = sym none; rows = nothing; given = λ several. sym (append-nil router.given.items); visits = refl; leads = subst (λ l. IsAt setup l router) (sym (append-nil events)) at }
 
-pub AnswersRows-sent : (old new : Router) (asked done : Row) (p : Packet) (outcome : Offered) → row_asked (Send p.sender p.length) ≡ asked → done ≡ row_offered p outcome → new.given ≡ old.given
+pub AnswersRows-sent : (old new : Router) (asked done : Row) (p : Packet) (outcome : Offered) → row_asked (Send p.sender p.length) ≡ asked → done ≡ row_offered p outcome → new.given ≡ old.given → new.visits ≡ old.visits
     → ((setup : Setup) (events : List Event) → IsAt setup events old → IsAt setup (events ++ offered p outcome ∷ []) new) → AnswersRows old new (asked ∷ []) (done ∷ [])
-AnswersRows-sent old new asked done p outcome theirs is given leads =
+AnswersRows-sent old new asked done p outcome theirs is given visits leads =
     λ setup events at.
     record {
       more = offered p outcome ∷ [];
       theirs = ap (λ r. r ∷ []) theirs;
       rows = ap (λ r. r ∷ []) is;
       given = λ several. ap (λ ps. ps.items) given ∙ sym (append-nil old.given.items);
+      visits = visits;
       leads = leads setup events at;
     }
 
-pub AnswersRows-pulled : (old new : Router) (device moment : ℕ) (done : Row) (got : Option Packet) → done ≡ row_pulled device moment got → new.given.items ≡ given_kept old got
+pub AnswersRows-pulled : (old new : Router) (device moment : ℕ) (done : Row) (got : Option Packet) → done ≡ row_pulled device moment got → new.given.items ≡ given_kept old got → new.visits ≡ old.visits
     → ((setup : Setup) (events : List Event) → IsAt setup events old → LeadsOnByPull setup new device moment got events) → AnswersRows old new (row_asked (Pull device moment) ∷ []) (done ∷ [])
-AnswersRows-pulled old new device moment done got is given leads =
+AnswersRows-pulled old new device moment done got is given visits leads =
     λ setup events at.
     let led = leads setup events at in
     record {
@@ -185,6 +195,7 @@ AnswersRows-pulled old new device moment done got is given leads =
           λ several.
           let many : nat_lt 1 (length old.devices.items) ≡ true = ap (nat_lt 1) at.device_count ∙ several in
           given ∙ rw many (ap (λ g. old.given.items ++ cons_option g []) (sym led.result));
+      visits = visits;
       leads = led.leads;
     }
 
@@ -201,6 +212,7 @@ AnswersRows-then a b c asked done later rows first next =
           λ several.
           two.given several ∙ ap (λ l. l ++ filter_map given_by two.more) (one.given several) ∙ append_assoc a.given.items (filter_map given_by one.more) (filter_map given_by two.more)
           ∙ ap (λ l. a.given.items ++ l) (sym (filter_map-append given_by one.more two.more));
+      visits = two.visits ∙ one.visits;
       leads = subst (λ l. IsAt setup l c) (append_assoc events one.more two.more) two.leads;
     }
 
@@ -307,7 +319,7 @@ flat-mapped f g (x ∷ xs) = ap (λ l. f (g x) ++ l) (flat-mapped f g xs)
 
 -- A router over which all commands of a script were carried out, from what was kept of it, and what was kept when it ended.
 module _ (setup : Setup) (old mid : Router) (commands : List Command) (asked done : List Row) (starts : Starts setup old) (are : asked ≡ map row_asked commands) (answers : AnswersRows old mid asked done) where
-  carried : CarriesOut setup old.given.items mid asked done []
+  carried : CarriesOut setup old mid asked done []
   carried = answers setup [] starts.leads
 
   theirs : map command_of carried.more ≡ commands
@@ -344,58 +356,82 @@ module _ (setup : Setup) (old mid : Router) (commands : List Command) (asked don
         (is.tallies ∙ at.tallies)
 
   -- What it comes to, without a closing and with one.
-  pub Writes-answered : (new : Router) (past : Past) (drain : Option ℕ) (from : Option (List ℕ)) → IsClosedFrom mid new drain from → IsPastOf new past
-      → WritesWith setup commands drain (rows_text (are_several past) done (given_of past) past.put_out.items ++ ending_of past from) (lists_of past.logs.items)
+  pub Writes-answered : (new : Router) (past : Past) (drain : Option ℕ) (closings : Option (List (List Departure))) → IsClosedFrom mid new drain closings → IsPastOf new past
+      → (logs : List (List Visit)) × AreLogs old.visits past logs × WritesWith setup commands drain (rows_text (are_several past) done (given_of past) past.put_out.items ++ ending_of past closings) logs
   Writes-answered new past None None closed is =
-      let at : IsAt setup (carried.more ++ []) new = subst (λ l. IsAt setup l new) (sym (append-nil carried.more)) (subst (λ (r : Router). IsAt setup carried.more r) (sym closed) carried.leads) in
-      record {
-        writes = record {
-          events = carried.more;
-          theirs = theirs;
-          closed = [];
-          closes = refl;
-          can_happen = at.can_happen;
-          lines = ap (λ l. l ++ []) (lines new past [] at (ap (λ (r : Router). r.given) closed) is);
-        };
-        logged = is.logs ∙ logs new past [] at (ap (λ (r : Router). r.given) closed) is;
-      }
-  Writes-answered new past None (Some from) closed is = absurd closed
+      let at : IsAt setup (carried.more ++ []) new = subst (λ l. IsAt setup l new) (sym (append-nil carried.more)) (subst (λ (r : Router). IsAt setup carried.more r) (sym closed) carried.leads) in (
+        logs_of setup (carried.more ++ []),
+        (λ kept. is.logs (ap (λ (r : Router). r.visits) closed ∙ carried.visits ∙ kept) ∙ logs new past [] at (ap (λ (r : Router). r.given) closed) is),
+        record {
+          writes = record {
+            events = carried.more;
+            theirs = theirs;
+            closed = [];
+            closes = refl;
+            can_happen = at.can_happen;
+            lines = ap (λ l. l ++ []) (lines new past [] at (ap (λ (r : Router). r.given) closed) is);
+          };
+          logged = refl;
+        },
+      )
+  Writes-answered new past None (Some closings) closed is = absurd closed
   Writes-answered new past (Some moment) None closed is = absurd closed
-  Writes-answered new past (Some moment) (Some from) closed is =
+  Writes-answered new past (Some moment) (Some closings) closed is =
       let closes = closed.closes setup carried.more carried.leads in
-      let at = closes.closing.leads in
-      let all : take (length mid.devices.items) new.devices.items ≡ new.devices.items = let count = closed.count in take_all (length mid.devices.items) new.devices.items (omega (arith, count)) in
-      record {
-        writes = record {
-          events = carried.more;
-          theirs = theirs;
-          closed = closes.closing.closed;
-          closes = subst (λ n. CloseFirst setup moment n carried.more closes.closing.closed) (carried.leads.device_count) closes.closing.closes;
-          can_happen = at.can_happen;
-          lines =
-              ap₂ (λ a b. a ++ b) (lines new past closes.closing.closed at closed.given is)
-              (ap₂ (λ a b. a ++ b)
-              (ap₂ (λ b ls. closings_text b 0 from ls) (several new past closes.closing.closed at closed.given is) (is.logs ∙ ap (map device_log) (sym all)) ∙ sym closes.lines)
-              (report new past closes.closing.closed at closed.given is));
-        };
-        logged = is.logs ∙ logs new past closes.closing.closed at closed.given is;
-      }
+      let at = closes.closing.leads in (
+        logs_of setup (carried.more ++ closes.closing.closed),
+        (λ kept. is.logs (closed.visits ∙ carried.visits ∙ kept) ∙ logs new past closes.closing.closed at closed.given is),
+        record {
+          writes = record {
+            events = carried.more;
+            theirs = theirs;
+            closed = closes.closing.closed;
+            closes = subst (λ n. CloseFirst setup moment n carried.more closes.closing.closed) (carried.leads.device_count) closes.closing.closes;
+            can_happen = at.can_happen;
+            lines =
+                ap₂ (λ a b. a ++ b) (lines new past closes.closing.closed at closed.given is)
+                (ap₂ (λ a b. a ++ b) (ap (λ b. closings_text b 0 closings) (several new past closes.closing.closed at closed.given is) ∙ sym closes.lines) (report new past closes.closing.closed at closed.given is));
+          };
+          logged = refl;
+        },
+      )
 
 -- A router stands where commands led, and can be closed.
 pub closable-answered : (setup : Setup) (old mid : Router) (asked done : List Row) → Starts setup old → IsClosable setup → AnswersRows old mid asked done → IsClosableRouter mid
 closable-answered setup old mid asked done starts closable answers = let carried = answers setup [] starts.leads in record { setup = setup; closable = closable; events = carried.more; leads = carried.leads }
 
 -- A router has as many devices as before, whatever it did.
-count-closed : (mid new : Router) (drain : Option ℕ) (from : Option (List ℕ)) → IsClosedFrom mid new drain from → length new.devices.items ≡ length mid.devices.items
+count-closed : (mid new : Router) (drain : Option ℕ) (closings : Option (List (List Departure))) → IsClosedFrom mid new drain closings → length new.devices.items ≡ length mid.devices.items
 count-closed mid new None None closed = ap (λ (r : Router). length r.devices.items) closed
-count-closed mid new None (Some from) closed = absurd closed
+count-closed mid new None (Some closings) closed = absurd closed
 count-closed mid new (Some moment) None closed = absurd closed
-count-closed mid new (Some moment) (Some from) closed = closed.count
+count-closed mid new (Some moment) (Some closings) closed = closed.count
 
-pub devices-kept : (setup : Setup) (old mid new : Router) (past : Past) (asked done : List Row) (drain : Option ℕ) (from : Option (List ℕ)) → Starts setup old → AnswersRows old mid asked done → IsClosedFrom mid new drain from
-    → IsPastOf new past → (length past.logs.items ≡ length old.devices.items) × (length past.came_out.items ≡ length old.devices.items)
-devices-kept setup old mid new past asked done drain from starts answers closed is =
-    let kept = count-closed mid new drain from closed ∙ (answers setup [] starts.leads).leads.device_count ∙ sym starts.leads.device_count in (
-      sym (length-map past.logs.items (λ l. l.items)) ∙ ap length is.logs ∙ length-map new.devices.items device_log ∙ kept,
-      sym (length-map past.came_out.items (λ l. l.items)) ∙ ap length is.came_out ∙ length-map new.devices.items device_emitted ∙ kept,
-    )
+-- what devices keep, whatever happened
+kinds-all : (setup : Setup) (events : List Event) (router : Router) → IsAt setup events router → AllByRecursion (KeepsAs router.visits) router.devices.items
+kinds-all setup events router at = all-placed (KeepsAs router.visits) router.devices.items (λ d device here. subst (KeepsAsAt router.visits) here (at.kinds d))
+
+-- A router over which rows were carried out has as many devices as before. So has one that was closed then, whose devices keep what they did.
+module _ (setup : Setup) (old mid : Router) (asked done : List Row) (starts : Starts setup old) (answers : AnswersRows old mid asked done) where
+  carried_to : CarriesOut setup old mid asked done []
+  carried_to = answers setup [] starts.leads
+
+  kept-devices : length mid.devices.items ≡ length old.devices.items
+  kept-devices = carried_to.leads.device_count ∙ sym starts.leads.device_count
+
+  pub devices-kept : (new : Router) (past : Past) (drain : Option ℕ) (closings : Option (List (List Departure))) → IsClosedFrom mid new drain closings → IsPastOf new past → length past.came_out.items ≡ length old.devices.items
+  devices-kept new past drain closings closed is =
+      sym (length-map past.came_out.items (λ l. l.items)) ∙ ap length is.came_out ∙ length-map new.devices.items device_emitted ∙ count-closed mid new drain closings closed ∙ kept-devices
+
+  pub closings-kept : (new : Router) (drain : Option ℕ) (closings : Option (Vec (Vec Departure Global) Global)) → IsClosedFrom mid new drain (closings_of closings) → IfSome closings (λ cs. length cs.items ≡ length old.devices.items)
+  closings-kept new drain None closed = tt
+  closings-kept new None (Some closings) closed = absurd closed
+  closings-kept new (Some moment) (Some closings) closed = sym (length-map closings.items (λ l. l.items)) ∙ closed.closings_count ∙ kept-devices
+
+  pub kinds-kept : (new : Router) (drain : Option ℕ) (closings : Option (List (List Departure))) → IsClosedFrom mid new drain closings → AllByRecursion (KeepsAs new.visits) new.devices.items
+  kinds-kept new None None closed = subst (λ (r : Router). AllByRecursion (KeepsAs r.visits) r.devices.items) (sym closed) (kinds-all setup carried_to.more mid carried_to.leads)
+  kinds-kept new None (Some closings) closed = absurd closed
+  kinds-kept new (Some moment) None closed = absurd closed
+  kinds-kept new (Some moment) (Some closings) closed =
+      let closes = closed.closes setup carried_to.more carried_to.leads in
+      kinds-all setup (carried_to.more ++ closes.closing.closed) new closes.closing.leads

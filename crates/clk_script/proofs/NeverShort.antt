@@ -8,7 +8,6 @@ use Rattle.std.proofs.lemmas.List.{append-nil}
 use Rattle.clk_packet.specs.declared.packet.Packet.{Packet}
 use Rattle.clk_ring.specs.Queue.{Queue}
 use Rattle.clk_ring.specs.QueueHistory.{QueueEvent, held, IsInOrder, EachStands, IsQueueHistory}
-use Rattle.clk_sched.specs.declared.visit.Visit.{Visit}
 use Rattle.clk_sched.specs.Tree.{Tree, root, leaves, leaves_distinct, stands_in}
 use Rattle.clk_sched.specs.Run.{IsRun}
 use Rattle.clk_sched.specs.Results.{emitted, heads}
@@ -77,9 +76,8 @@ held-there setup closable d q events (Some room) (Some ring) is at leads = ap le
 
 -- What a device over such a setup has kept: what came out of it, and what its queues and heads hold.
 pub kept-is : (router : Router) (d : ℕ) (device : Device) → IsClosableRouter router → ((tree : Tree) → IsRun tree []) → ((tree : Tree) → leaves_distinct tree ≡ true → ConservesCounts tree) → slice_get router.devices.items d ≡ Some device
-    → IsRun device.session.tree device.session.log
     → device.kept ≡ length (emitted device.session.log) + left_in device.session.tree device.session.log (λ q. length (packets_at router.queues.rings.items q))
-kept-is router d device can start counts was run =
+kept-is router d device can start counts was =
     let kept = here.is.kept in
     let left = left-is setup d here.tree of its (own-events setup d can.events) orders conserved in
     let out = ap (λ l. length (emitted l)) here.is.log in
@@ -106,7 +104,7 @@ kept-is router d device can start counts was run =
     orders q = in_order (slice_get setup.queues q) (history setup q its) ((alone setup can.closable.apart start d can.events can.leads.can_happen).histories q)
 
     conserved : given_in_all here.tree (leaves (root here.tree)) (log_of its) ≡ length (emitted (log_of its)) + length (heads here.tree (log_of its))
-    conserved = counts here.tree of.distinct (log_of its) (subst (λ (x : Tree × List Visit). IsRun x.0 x.1) (λ i. (here.is.tree_is i, here.is.log i)) run)
+    conserved = counts here.tree of.distinct (log_of its) here.runs.run
 
     same_held : left_in here.tree (log_of its) (λ q. length (packets_at router.queues.rings.items q)) ≡ left_in here.tree (log_of its) (λ q. length (held (history setup q its)))
     same_held = ap (λ n. n + length (heads here.tree (log_of its)))

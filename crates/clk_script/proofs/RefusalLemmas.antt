@@ -1,5 +1,6 @@
 -- How a script's meaning and its faults follow from those of its first bytes.
-use Rattle.std.proofs.Common.{◌+◌, ◌≡◌, ◌≤◌, ◌≢◌, ℕ, ◌==◌, ◌||◌, Bool, true, false, nat_lt, List, [], ◌∷◌, length, take, Option, Some, None, Err, refl, sym, ap, subst, ◌∙◌, ◌⊎◌, inl, inr, IfSome, arith}
+use Rattle.std.proofs.Common.{◌+◌, ◌≡◌, ◌≤◌, ◌≢◌, ℕ, ◌==◌, ◌||◌, Bool, true, false, nat_lt, List, [], ◌∷◌, length, take, Option, Some, None, Err, refl, sym, ap, subst, ◌∙◌, ◌⊎◌, inl, inr, IfSome, Vec, arith}
+use Rattle.std.specs.declared.alloc.Global.{Global}
 use Rattle.std.specs.Bool.{⊤}
 use Rattle.std.specs.List.{list_any}
 use Rattle.std.proofs.lemmas.Bool.Decides.{nat_tests}
@@ -162,3 +163,8 @@ IsRefusal-read setup router starts known bytes fault is (inr e) =
 -- the devices of a router are as many as its trees
 pub few-devices : (setup : Setup) (router : Router) (n : ℕ) → Starts setup router → n ≡ length router.devices.items → n ≤ 65535
 few-devices setup router n starts e = omega (arith, starts.leads.device_count, starts.whole.few, e)
+
+pub few-closings : {X : Type 0} (setup : Setup) (router : Router) (closings : Option (Vec X Global)) → Starts setup router → IfSome closings (λ cs. length cs.items ≡ length router.devices.items)
+    → IfSome closings (λ cs. length cs.items ≤ 65535)
+few-closings setup router None starts e = tt
+few-closings setup router (Some closings) starts e = few-devices setup router (length closings.items) starts e

@@ -24,6 +24,7 @@ use Rattle.clk_sched.specs.Run.{IsRun}
 use Rattle.clk_sched.specs.Results.{asks_queue}
 use Rattle.clk_sched.specs.Places.{Answers, at_queue as at_asked}
 use Rattle.clk_sched.specs.Session.{IsPulledOnce, newly, latest_moment, tree_queue}
+use Rattle.clk_sched.specs.Kinds.{progress_of}
 use Rattle.clk_tree.specs.declared.plan.parts.QueueSpec.{QueueSpec}
 use Rattle.clk_tree.specs.declared.plan.parts.SenderSpec.{SenderSpec}
 use Rattle.clk_tree.specs.PlanParts.{Queued, queued, AreRising, HasCapacity, number_of}
@@ -32,7 +33,7 @@ use Rattle.clk_script.specs.declared.queues.Queues.{Queues}
 use Rattle.clk_script.specs.declared.devices.Device.{Device}
 use Rattle.clk_script.specs.declared.router.Router.{Router}
 use Rattle.clk_script.specs.Meaning.{Room, Setup, sender_numbers, room_of, setup_of, is_at, is_of_device, Event, offered, pulled, happens_at, events_at, numbers_of, accepted_in, evicted_in, tally_after, visits_in, log_of, sends_to, answers_in, at_queue, history, RunsTree}
-use Rattle.clk_script.specs.Router.{queue_made, path_made, device_made, sender_made, sent_one_more, tally_made, room_device, noted, numbers_in, OffersTo, PullsFrom, OffersAt, GivesAt, AreQueuesAt, IsDeviceAt, AreDevicesAt, IsAt, IsWhole, Starts, ChangesDevice, kept_by, CountsHere, CountsAt, Counts, LeadsOnByPull}
+use Rattle.clk_script.specs.Router.{queue_made, path_made, device_made, sender_made, sent_one_more, tally_made, room_device, noted, numbers_in, OffersTo, PullsFrom, OffersAt, GivesAt, AreQueuesAt, IsDeviceAt, AreDevicesAt, IsAt, IsWhole, Starts, ChangesDevice, kept_by, CountsHere, CountsAt, Counts, KeepsAs, KeepsAsAt, LeadsOnByPull}
 use Rattle.clk_script.proofs.EventLemmas.{events-here, events-elsewhere, RunsTree-pulled, CanHappen-offer, CanHappen-pull, log-pulled}
 use Rattle.clk_script.proofs.TallyLemmas.{tallies-offered, tallies-pulled}
 use Rattle.clk_script.proofs.SenderLemmas.{senders-pulled, senders-sent, passes-its, sends-its, numbers-its, IsSpecAt, spec-at}
@@ -291,12 +292,31 @@ counts-one old d before new set =
       only = set.only;
     }
 
+-- What one device keeps may change, where only it does.
+pub kinds-changed : (visits : Bool) (old : List Device) (d : ℕ) (new : List Device) → ChangesDevice old d new → (KeepsAsAt visits (slice_get old d) → KeepsAsAt visits (slice_get new d))
+    → ((k : ℕ) → KeepsAsAt visits (slice_get old k)) → (k : ℕ) → KeepsAsAt visits (slice_get new k)
+kinds-changed visits old d new changes here at k = by_test (d == k) refl
+  where
+    by_test : (b : Bool) → (d == k) ≡ b → KeepsAsAt visits (slice_get new k)
+    by_test true f = let same : d ≡ k = grind (arith, nat_tests) in subst (λ n. KeepsAsAt visits (slice_get new n)) same (here (at d))
+    by_test false f = subst (KeepsAsAt visits) (sym (changes.others k f)) (at k)
+
+kinds-counted : (visits : Bool) (outcome : Offered) (old new : Option Device) → CountsHere outcome old new → KeepsAsAt visits old → KeepsAsAt visits new
+kinds-counted visits outcome None new counts h = absurd counts
+kinds-counted visits outcome (Some old) None counts h = absurd counts
+kinds-counted visits outcome (Some old) (Some new) counts h = ap (λ s. s.keeps) counts.0 ∙ h
+
+pub kinds-set : (visits : Bool) (old : List Device) (d : ℕ) (before after : Device) (new : List Device) → slice_get old d ≡ Some before → slice_get new d ≡ Some after → ChangesDevice old d new → after.session.keeps ≡ before.session.keeps
+    → ((k : ℕ) → KeepsAsAt visits (slice_get old k)) → (k : ℕ) → KeepsAsAt visits (slice_get new k)
+kinds-set visits old d before after new was is changes kind =
+    kinds-changed visits old d new changes (λ h. let first : KeepsAs visits before = subst (KeepsAsAt visits) was h in let next : KeepsAs visits after = kind ∙ first in subst (KeepsAsAt visits) (sym is) next)
+
 -- An offer of the sender at a place leads on.
 pub IsAt-sent : CallsAreHistory → (setup : Setup) (events : List Event) (old mid new : Router) (place device : ℕ) (s : Sender) (p : Packet) (outcome : Offered) → Counts mid s.queue p outcome new → IsAt setup events old
     → AreRising (numbers_in old) → slice_get old.paths.items s.queue ≡ Some device → slice_get old.senders.items place ≡ Some s → p.number ≡ s.sent → p.sender ≡ s.number → OffersAt old.queues.rings.items s.queue p outcome mid.queues.rings.items
     → mid.senders.items ≡ set old.senders.items place (sent_one_more s) → mid.tallies.items ≡ map (noted p outcome) old.tallies.items → mid.devices ≡ old.devices → mid.paths ≡ old.paths
-    → mid.evicted ≡ old.evicted → IsAt setup (events ++ offered p outcome ∷ []) new
-IsAt-sent calls setup events old mid new place device s p outcome counts at rising path here number sender offered_at senders tallies devices paths evicted =
+    → mid.evicted ≡ old.evicted → mid.visits ≡ old.visits → IsAt setup (events ++ offered p outcome ∷ []) new
+IsAt-sent calls setup events old mid new place device s p outcome counts at rising path here number sender offered_at senders tallies devices paths evicted visits =
     record {
       can_happen =
           CanHappen-offer setup events p outcome at.can_happen (number ∙ ap (λ (t : Sender). t.sent) theirs.is ∙ ap (λ n. length (numbers_of n events)) (sym its_number))
@@ -311,6 +331,10 @@ IsAt-sent calls setup events old mid new place device s p outcome counts at risi
       device_count = counted.only.count ∙ ap (λ ds. length ds.items) devices ∙ at.device_count;
       paths = ap (λ ps. ps.items) (counts.paths ∙ paths) ∙ at.paths;
       evicted = counts.evicted ∙ ap (λ l. l ++ cons_option (evicted_in (offered p outcome)) []) (ap (λ ps. ps.items) evicted ∙ at.evicted) ∙ sym (filter_map-append evicted_in events (offered p outcome ∷ []));
+      kinds =
+          subst (λ (v : Bool). (k : ℕ) → KeepsAsAt v (slice_get new.devices.items k)) (sym (counts.visits ∙ visits))
+          (kinds-changed old.visits mid.devices.items device new.devices.items counted.only (kinds-counted old.visits outcome (slice_get mid.devices.items device) (slice_get new.devices.items device) counted.here)
+          (subst (λ (ds : Vec Device Global). (k : ℕ) → KeepsAsAt old.visits (slice_get ds.items k)) (sym devices) at.kinds));
     }
   where
     counted : CountsAt mid.devices.items device outcome new.devices.items
@@ -374,10 +398,10 @@ IsAt-sent calls setup events old mid new place device s p outcome counts at risi
 
 -- A pull of a device, which changes the session of no other, leads on.
 pub IsAt-pulled : CallsAreHistory → (setup : Setup) (events : List Event) (old new : Router) (d moment : ℕ) (before after : Device) (got : Option Packet) → IsAt setup events old → slice_get old.devices.items d ≡ Some before
-    → slice_get new.devices.items d ≡ Some after → ChangesDevice old.devices.items d new.devices.items → after.kept ≡ before.kept → IsPulledOnce before.session after.session moment got
-    → Answers gives (tree_queue before.session.tree) old.queues (newly before.session after.session) new.queues → new.senders ≡ old.senders → new.tallies ≡ old.tallies → new.paths ≡ old.paths → new.evicted ≡ old.evicted
-    → LeadsOnByPull setup new d moment got events
-IsAt-pulled calls setup events old new d moment before after got at was is changes kept once answers senders tallies paths evicted =
+    → slice_get new.devices.items d ≡ Some after → ChangesDevice old.devices.items d new.devices.items → after.kept ≡ before.kept → after.session.keeps ≡ before.session.keeps → IsPulledOnce (progress_of before.session) (progress_of after.session) moment got
+    → Answers gives (tree_queue before.session.tree) old.queues (newly (progress_of before.session) (progress_of after.session)) new.queues → new.senders ≡ old.senders → new.tallies ≡ old.tallies → new.paths ≡ old.paths → new.evicted ≡ old.evicted
+    → new.visits ≡ old.visits → LeadsOnByPull setup new d moment got events
+IsAt-pulled calls setup events old new d moment before after got at was is changes kept kind once answers senders tallies paths evicted kinds =
     record {
       visits = visits;
       result = sym once.result;
@@ -394,11 +418,14 @@ IsAt-pulled calls setup events old new d moment before after got at was is chang
         device_count = changes.count ∙ at.device_count;
         paths = ap (λ ps. ps.items) paths ∙ at.paths;
         evicted = ap (λ ps. ps.items) evicted ∙ at.evicted ∙ sym (filter_map-append evicted_in events (pulled d moment visits ∷ []) ∙ append-nil (filter_map evicted_in events));
+        kinds =
+            subst (λ (v : Bool). (k : ℕ) → KeepsAsAt v (slice_get new.devices.items k)) (sym kinds)
+            (kinds-set old.visits old.devices.items d before after new.devices.items was is changes kind at.kinds);
       };
     }
   where
     visits : List Visit
-    visits = newly before.session after.session
+    visits = newly (progress_of before.session) (progress_of after.session)
 
     more : List Event
     more = events ++ pulled d moment visits ∷ []
@@ -464,7 +491,7 @@ paths-made (q ∷ queues) = ap (λ l. q.device ∷ l) (paths-made queues)
 
 -- A router to which nothing has happened.
 pub Starts-made : CallsAreHistory → (trees : List Tree) (queues : List Queued) (senders : List SenderSpec) (router : Router) → ((tree : Tree) → IsRun tree []) → IsWhole (setup_of trees queues senders)
-    → router.devices.items ≡ map device_made trees → router.queues.rings.items ≡ map queue_made queues → router.paths.items ≡ map path_made queues → router.senders.items ≡ map sender_made senders
+    → router.devices.items ≡ map (device_made router.visits) trees → router.queues.rings.items ≡ map queue_made queues → router.paths.items ≡ map path_made queues → router.senders.items ≡ map sender_made senders
     → router.tallies.items ≡ map tally_made senders → router.given.items ≡ [] → router.evicted.items ≡ [] → Starts (setup_of trees queues senders) router
 Starts-made calls trees queues senders router run whole devices_are queues_are paths_are senders_are tallies_are given evicted =
     record {
@@ -481,10 +508,11 @@ Starts-made calls trees queues senders router run whole devices_are queues_are p
         tallies = tallies_are ∙ tallies-made senders;
         queues = each;
         count = ap length queues_are ∙ length-made queues;
-        devices = λ d. subst (AreDevicesAt [] (slice_get trees d)) (sym (ap (λ ds. slice_get ds d) devices_are ∙ slice_get-map device_made trees d)) (fresh (slice_get trees d));
-        device_count = ap length devices_are ∙ length-map trees device_made;
+        devices = λ d. subst (AreDevicesAt [] (slice_get trees d)) (sym (ap (λ ds. slice_get ds d) devices_are ∙ slice_get-map (device_made router.visits) trees d)) (fresh (slice_get trees d));
+        device_count = ap length devices_are ∙ length-map trees (device_made router.visits);
         paths = paths_are ∙ paths-made queues;
         evicted = evicted;
+        kinds = λ d. subst (KeepsAsAt router.visits) (sym (ap (λ ds. slice_get ds d) devices_are ∙ slice_get-map (device_made router.visits) trees d)) (kind (slice_get trees d));
       };
       given = given;
     }
@@ -493,9 +521,13 @@ Starts-made calls trees queues senders router run whole devices_are queues_are p
     starts None = tt
     starts (Some tree) = record { run = run tree; pull_by_pull = refl; moments = refl }
 
-    fresh : (o : Option Tree) → AreDevicesAt [] o (option_map device_made o)
+    fresh : (o : Option Tree) → AreDevicesAt [] o (option_map (device_made router.visits) o)
     fresh None = tt
     fresh (Some tree) = record { tree_is = refl; log = refl; kept = refl }
+
+    kind : (o : Option Tree) → KeepsAsAt router.visits (option_map (device_made router.visits) o)
+    kind None = tt
+    kind (Some tree) = refl
 
     first : (o : Option Queued) → AreQueuesAt [] (option_map room_of o) (option_map queue_made o)
     first None = tt

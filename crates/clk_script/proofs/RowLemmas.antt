@@ -1,14 +1,15 @@
 -- What the rows of some events write.
-use Rattle.std.proofs.Common.{◌≡◌, ℕ, ◌+◌, ◌<◌, ◌≤◌, ◌==◌, Bool, true, false, List, [], ◌∷◌, ◌++◌, map, drop, get_or, if◌then◌else◌, Option, Some, None, MatchOption, slice_get, length, min, Vec, append-nil, refl, arith, sym, ap, ap₂, subst, ◌∙◌}
+use Rattle.std.proofs.Common.{◌≡◌, ℕ, ◌+◌, ◌<◌, ◌≤◌, ◌==◌, Bool, true, false, List, [], ◌∷◌, ◌++◌, map, drop, get_or, if◌then◌else◌, Option, Some, None, MatchOption, slice_get, length, Vec, append-nil, refl, arith, sym, ap, ap₂, subst, ◌∙◌}
 use Rattle.std.specs.Bool.{⊤}
 use Rattle.std.specs.List.{flat_map, filter_map, cons_option, AllByRecursion}
 use Rattle.std.specs.declared.alloc.Global.{Global}
-use Rattle.std.proofs.lemmas.List.{drop_more, drop_min}
+use Rattle.std.proofs.lemmas.List.{drop_more}
 use Rattle.std.proofs.lemmas.List.Elements.{filter-append, filter_map-append}
 use Rattle.std.proofs.lemmas.Bool.Decides.{nat_tests}
 use Rattle.clk_packet.specs.declared.packet.Packet.{Packet}
 use Rattle.clk_packet.specs.declared.packet.Offered.TheVariants.{Accepted, Refused, Evicted}
 use Rattle.clk_sched.specs.declared.visit.Visit.{Visit}
+use Rattle.clk_sched.specs.declared.session.departures.Departure.{Departure}
 use Rattle.clk_sched.specs.Turns.{UpToFirst}
 use Rattle.clk_sched.specs.Laws.Device.{IsDeviceTurn}
 use Rattle.clk_sched.specs.Log.{visits_of, result_of, turn}
@@ -18,9 +19,9 @@ use Rattle.clk_sched.specs.Tree.{Tree}
 use Rattle.clk_script.specs.declared.devices.Device.{Device}
 use Rattle.clk_script.specs.declared.router.Router.{Router}
 use Rattle.clk_script.specs.Meaning.{Setup, has_several, Event, offered, pulled, happens_at, events_at, pull_in, evicted_in, log_of, offer_text, event_text, pull_text, IsOfDevice, RunsTree}
-use Rattle.clk_script.specs.Router.{IsAt, AreDevicesAt, device_emitted}
+use Rattle.clk_script.specs.Router.{IsAt, AreDevicesAt, device_emitted, departure_text}
 use Rattle.clk_report.specs.Devices.{lists_of}
-use Rattle.clk_script.specs.Rows.{visit_text, closings_text, row_of, given_by, row_text, rows_text, given_first, given_after, fronts_after}
+use Rattle.clk_script.specs.Rows.{closings_text, row_of, given_by, row_text, rows_text, given_first, given_after, fronts_after}
 
 -- the lines of events are those of their rows, where what they gave and put out comes first
 rows-lines : (several : Bool) (events : List Event) (given fronts : List Packet)
@@ -144,11 +145,8 @@ rows-left several rows i r given fronts within is =
     ∙ ap (λ q. row_text several q given fronts ++ rows_text several (drop (i + 1) rows) (given_after q given) (fronts_after q fronts)) (sym is)
 
 -- the closing of the first of some devices, and those after it
-pub closings-first : (several : Bool) (device : ℕ) (starts : List ℕ) (logs : List (Vec Visit Global)) (d n : ℕ) (log : Vec Visit Global) → 1 ≤ length starts → 1 ≤ length logs → log ≡ get_or logs 0 log
-    → n ≡ length log.items → closings_text several device starts (lists_of logs)
-    ≡ flat_map (visit_text several device) (drop (min (get_or starts 0 d) n) log.items) ++ closings_text several (device + 1) (drop 1 starts) (lists_of (drop 1 logs))
-closings-first several device [] logs d n log some more is count = absurd (omega (arith, some))
-closings-first several device (start ∷ starts) [] d n log some more is count = absurd (omega (arith, more))
-closings-first several device (start ∷ starts) (l ∷ logs) d n log some more is count =
-    ap (λ (v : Vec Visit Global). flat_map (visit_text several device) (drop start v.items) ++ closings_text several (device + 1) starts (lists_of logs)) (sym is)
-    ∙ ap (λ vs. flat_map (visit_text several device) vs ++ closings_text several (device + 1) starts (lists_of logs)) (sym (ap (λ k. drop (min start k) log.items) count ∙ drop_min start log.items))
+pub closings-first : (several : Bool) (device : ℕ) (closings : List (Vec Departure Global)) (first : Vec Departure Global) → 1 ≤ length closings → first ≡ get_or closings 0 first
+    → closings_text several device (lists_of closings) ≡ flat_map (departure_text several device) first.items ++ closings_text several (device + 1) (lists_of (drop 1 closings))
+closings-first several device [] first some is = absurd (omega (arith, some))
+closings-first several device (departures ∷ closings) first some is =
+    ap (λ (v : Vec Departure Global). flat_map (departure_text several device) v.items ++ closings_text several (device + 1) (lists_of closings)) (sym is)

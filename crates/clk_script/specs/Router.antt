@@ -1,6 +1,6 @@
 -- What the router's parts do, in the words of the definitions.
-use Rattle.std.specs.Prelude.{◌≡◌, ℕ, ◌+◌, ◌<◌, ◌≤◌, ◌^◌, List, [], ◌∷◌, ◌++◌, length, map, true, false, nat_lt, if◌then◌else◌, ◌==◌, ⊤, Option, Some, None, slice_get}
-use Rattle.std.specs.List.{list_any, filter_map, cons_option, AllByRecursion}
+use Rattle.std.specs.Prelude.{◌≡◌, ℕ, Bool, ◌+◌, ◌<◌, ◌≤◌, ◌^◌, List, [], ◌∷◌, ◌++◌, length, map, true, false, nat_lt, if◌then◌else◌, ◌==◌, ⊤, Option, Some, None, slice_get}
+use Rattle.std.specs.List.{list_any, flat_map, filter_map, cons_option, AllByRecursion}
 use Rattle.clk_packet.specs.declared.packet.Packet.{Packet}
 use Rattle.clk_packet.specs.declared.packet.Offered.{Offered}
 use Rattle.clk_packet.specs.declared.packet.Offered.TheVariants.{Accepted, Refused, Evicted}
@@ -24,10 +24,12 @@ use Rattle.clk_script.specs.declared.router.Router.{Router}
 use Rattle.clk_sched.specs.Log.{visits_of, result_of}
 use Rattle.clk_sched.specs.Results.{emitted}
 use Rattle.clk_sched.specs.Session.{counted_moment, elements}
+use Rattle.clk_sched.specs.Kinds.{progress_of, pulls_made}
+use Rattle.clk_sched.specs.declared.session.departures.Departure.{Departure}
 use Rattle.clk_script.specs.Script.{Names, most_lines, most_moment, most_device}
 use Rattle.clk_report.specs.Report.{packets_from}
 use Rattle.clk_report.specs.Devices.{lists_of}
-use Rattle.clk_script.specs.Meaning.{Room, Setup, Event, offered, pulled, CanHappen, numbers_of, accepted_in, evicted_in, tally_after, history, log_of, events_at, sender_numbers, Closes, CloseFirst}
+use Rattle.clk_script.specs.Meaning.{Room, Setup, Event, offered, pulled, CanHappen, numbers_of, accepted_in, evicted_in, tally_after, history, log_of, events_at, sender_numbers, has_several, given_text, closing_text, Closes, CloseFirst}
 
 -- a queue and a sender as they are made, and what was asked for
 abbrev pub queue_made : Queued → Queue
@@ -45,8 +47,8 @@ pub record CanStand (tree : Tree) : Type 0 where
   pub fits : 1 + elements (root tree) ≤ most_elements
   pub sound : AreSchedulersSound (root tree)
 
-abbrev pub device_made : Tree → Device
-device_made tree = record { session = record { tree = tree; log = [] }; kept = 0 }
+abbrev pub device_made : Bool → Tree → Device
+device_made visits tree = record { session = record { tree = tree; log = []; keeps = record { visits = visits; packets = true } }; kept = 0 }
 
 abbrev pub sender_made : SenderSpec → Sender
 sender_made spec = record { number = spec.number; queue = spec.queue; sent = 0 }
@@ -174,6 +176,14 @@ AreDevicesAt events None (Some device) = ⊥
 AreDevicesAt events (Some tree) None = ⊥
 AreDevicesAt events (Some tree) (Some device) = IsDeviceAt events tree device
 
+-- A device keeps what came out at it, and its visits or not.
+abbrev pub KeepsAs : Bool → Device → Type 0
+KeepsAs visits device = device.session.keeps ≡ record { visits = visits; packets = true }
+
+abbrev pub KeepsAsAt : Bool → Option Device → Type 0
+KeepsAsAt visits None = ⊤
+KeepsAsAt visits (Some device) = KeepsAs visits device
+
 -- The router is where these events lead over a setup.
 pub record IsAt (setup : Setup) (events : List Event) (router : Router) : Type 0 where
   pub can_happen : CanHappen setup events
@@ -185,6 +195,7 @@ pub record IsAt (setup : Setup) (events : List Event) (router : Router) : Type 0
   pub device_count : length router.devices.items ≡ length setup.trees
   pub paths : router.paths.items ≡ map room_device setup.queues
   pub evicted : router.evicted.items ≡ filter_map evicted_in events
+  pub kinds : (d : ℕ) → KeepsAsAt router.visits (slice_get router.devices.items d)
 
 -- what a device logged, and what came out at it
 abbrev pub device_log : Device → List Visit
@@ -193,9 +204,13 @@ device_log device = device.session.log
 abbrev pub device_emitted : Device → List Packet
 device_emitted device = emitted device.session.log
 
+-- These are the logs of the devices, where visits are kept.
+abbrev pub AreLogs : Bool → Past → List (List Visit) → Type 0
+AreLogs visits past logs = visits ≡ true → lists_of past.logs.items ≡ logs
+
 -- All that a router did.
 pub record IsPastOf (router : Router) (past : Past) : Type 0 where
-  pub logs : lists_of past.logs.items ≡ map device_log router.devices.items
+  pub logs : AreLogs router.visits past (map device_log router.devices.items)
   pub came_out : lists_of past.came_out.items ≡ map device_emitted router.devices.items
   pub given : past.given.items ≡ router.given.items
   pub put_out : past.put_out.items ≡ router.evicted.items
@@ -223,7 +238,8 @@ CanSend count s = (s.queue < count) × (s.sent + 1 < 2 ^ 32)
 -- The numbers of a device are those of a script.
 pub record IsSteady (device : Device) : Type 0 where
   pub few : device.kept ≤ most_lines
-  pub moment : counted_moment device.session ≤ most_moment
+  pub moment : counted_moment (progress_of device.session) ≤ most_moment
+  pub pulls : pulls_made (progress_of device.session) ≤ most_lines
 
 abbrev pub IsSteadyAt : Option Device → Type 0
 IsSteadyAt None = ⊥
@@ -270,6 +286,7 @@ pub record Counts (old : Router) (queue : ℕ) (p : Packet) (outcome : Offered) 
   pub tallies : new.tallies ≡ old.tallies
   pub paths : new.paths ≡ old.paths
   pub given : new.given ≡ old.given
+  pub visits : new.visits ≡ old.visits
 
 -- One more pull of a device, at a moment that was handed in, led on from these events to this result.
 pub record LeadsOnByPull (setup : Setup) (new : Router) (device moment : ℕ) (got : Option Packet) (events : List Event) : Type 0 where
@@ -285,10 +302,15 @@ given_kept router got = if nat_lt 1 (length router.devices.items) then router.gi
 abbrev pub ChangesGiven : Router → Router → Type 0
 ChangesGiven old new = new ≡ record old { given = new.given }
 
--- The closing of a device from a moment on led on from these events.
-pub record LeadsOnByDrain (setup : Setup) (new : Router) (device moment : ℕ) (events : List Event) : Type 0 where
+-- the line of a packet that came out in a closing
+abbrev pub departure_text : Bool → ℕ → Departure → List ℕ
+departure_text several device departure = given_text several device departure.moment (Some departure.packet)
+
+-- The closing of a device from a moment on led on from these events, and these packets came out.
+pub record LeadsOnByDrain (setup : Setup) (new : Router) (device moment : ℕ) (events : List Event) (departures : List Departure) : Type 0 where
   pub last : List Event
   pub closes : Closes device moment (events_at setup device events) last
+  pub lines : flat_map (closing_text (has_several setup)) last ≡ flat_map (departure_text (has_several setup) device) departures
   pub leads : IsAt setup (events ++ last) new
 
 -- The closing of the first so many devices from a moment on led on from these events.

@@ -1,11 +1,11 @@
 -- What is kept of each command of a script, and what is written of it.
-use Rattle.std.specs.Prelude.{◌≡◌, ℕ, ◌≤◌, ◌==◌, List, [], ◌∷◌, ◌++◌, length, map, take, drop, ◌+◌, nat_lt, Bool, true, if◌then◌else◌, Option, Some, None, IfSome, Vec, slice_get}
+use Rattle.std.specs.Prelude.{◌≡◌, ℕ, ◌≤◌, List, [], ◌∷◌, ◌++◌, length, map, drop, ◌+◌, nat_lt, Bool, true, Option, Some, None, IfSome, Vec, slice_get}
 use Rattle.std.specs.List.{flat_map, filter_map, cons_option, AllByRecursion}
 use Rattle.std.specs.declared.alloc.Global.{Global}
 use Rattle.clk_packet.specs.declared.packet.Packet.{Packet}
 use Rattle.clk_packet.specs.declared.packet.Offered.{Offered}
 use Rattle.clk_packet.specs.declared.packet.Offered.TheVariants.{Accepted, Refused, Evicted}
-use Rattle.clk_sched.specs.declared.visit.Visit.{Visit}
+use Rattle.clk_sched.specs.declared.session.departures.Departure.{Departure}
 use Rattle.clk_sched.specs.Log.{visits_of, result_of}
 use Rattle.clk_report.specs.Report.{report_text}
 use Rattle.clk_report.specs.Devices.{lists_of, came_out}
@@ -19,8 +19,8 @@ use Rattle.clk_script.specs.declared.answer.Answer.{Answer}
 use Rattle.clk_script.specs.declared.past.Past.{Past}
 use Rattle.clk_script.specs.declared.router.Router.{Router}
 use Rattle.clk_script.specs.Script.{Names, command_in, commands_of, closing_moment, most_lines, most_moment}
-use Rattle.clk_script.specs.Meaning.{Setup, has_several, Event, offered, pulled, command_of, offer_text, pull_text, given_text, closing_text}
-use Rattle.clk_script.specs.Router.{IsAt, IsSound, device_log, LeadsOnByClosing}
+use Rattle.clk_script.specs.Meaning.{Setup, has_several, Event, offered, pulled, command_of, offer_text, pull_text, closing_text}
+use Rattle.clk_script.specs.Router.{IsAt, IsSound, departure_text, LeadsOnByClosing}
 
 -- what is kept of a command that is to be carried out, of an offer, and of a pull
 abbrev pub row_asked : Command → Row
@@ -68,17 +68,18 @@ pub record CanBeRun (names : Names) (script : Script) : Type 0 where
   pub closing : IfSome script.closing (λ moment. moment ≤ most_moment)
 
 -- More events led on from these: they are of the commands that were asked for, the rows are theirs, and where there are several devices
--- what the pulls gave was added to these packets.
-pub record CarriesOut (setup : Setup) (before : List Packet) (new : Router) (asked done : List Row) (events : List Event) : Type 0 where
+-- what the pulls gave was added to what was kept of it.
+pub record CarriesOut (setup : Setup) (old new : Router) (asked done : List Row) (events : List Event) : Type 0 where
   pub more : List Event
   pub theirs : map (λ e. row_asked (command_of e)) more ≡ asked
   pub rows : done ≡ map row_of more
-  pub given : has_several setup ≡ true → new.given.items ≡ before ++ filter_map given_by more
+  pub given : has_several setup ≡ true → new.given.items ≡ old.given.items ++ filter_map given_by more
+  pub visits : new.visits ≡ old.visits
   pub leads : IsAt setup (events ++ more) new
 
 -- whatever events led to the router
 abbrev pub AnswersRows : Router → Router → List Row → List Row → Type 0
-AnswersRows old new asked done = (setup : Setup) (events : List Event) → IsAt setup events old → CarriesOut setup old.given.items new asked done events
+AnswersRows old new asked done = (setup : Setup) (events : List Event) → IsAt setup events old → CarriesOut setup old new asked done events
 
 -- the line of a row, where these packets come out from it on, and these are put out
 abbrev pub evicting_text : Packet → Option Packet → List ℕ
@@ -107,39 +108,36 @@ abbrev pub rows_text : Bool → List Row → List Packet → List Packet → Lis
 rows_text several [] given fronts = []
 rows_text several (r ∷ rows) given fronts = row_text several r given fronts ++ rows_text several rows (given_after r given) (fronts_after r fronts)
 
--- what a visit of a device writes while a script closes
-abbrev pub visit_text : Bool → ℕ → Visit → List ℕ
-visit_text several device v = if v.node == 0 then (if v.passed then given_text several device v.moment v.got else []) else []
+-- what the closings of devices write, from this number on, in which these packets came out
+abbrev pub closings_text : Bool → ℕ → List (List Departure) → List ℕ
+closings_text several device [] = []
+closings_text several device (departures ∷ closings) = flat_map (departure_text several device) departures ++ closings_text several (device + 1) closings
 
--- what the closings of devices write, from this number on, whose visits begin at these places of their logs
-abbrev pub closings_text : Bool → ℕ → List ℕ → List (List Visit) → List ℕ
-closings_text several device (start ∷ starts) (log ∷ logs) =
-    flat_map (visit_text several device) (drop start log) ++ closings_text several (device + 1) starts logs
-closings_text several device starts logs = []
-
--- The first so many devices of a router were closed from a moment on, after these events: the visits of their closings, which begin at these
--- places of their logs, write what the closing pulls do.
-pub record ClosesFirst (setup : Setup) (new : Router) (moment devices : ℕ) (starts : List ℕ) (events : List Event) : Type 0 where
+-- The first so many devices of a router were closed from a moment on, after these events: what came out in their closings writes what the
+-- closing pulls do.
+pub record ClosesFirst (setup : Setup) (new : Router) (moment devices : ℕ) (closings : List (List Departure)) (events : List Event) : Type 0 where
   pub closing : LeadsOnByClosing setup new moment devices events
-  pub lines : flat_map (closing_text (has_several setup)) closing.closed ≡ closings_text (has_several setup) 0 starts (map device_log (take devices new.devices.items))
+  pub lines : flat_map (closing_text (has_several setup)) closing.closed ≡ closings_text (has_several setup) 0 closings
 
--- The devices of a router were closed from a moment on, and the visits of each one's closing begin at this place of its log.
-pub record IsClosedAt (old new : Router) (moment : ℕ) (starts : List ℕ) : Type 0 where
+-- The devices of a router were closed from a moment on, and these packets came out in the closing of each.
+pub record IsClosedAt (old new : Router) (moment : ℕ) (closings : List (List Departure)) : Type 0 where
   pub count : length new.devices.items ≡ length old.devices.items
+  pub closings_count : length closings ≡ length old.devices.items
   pub given : new.given ≡ old.given
-  pub closes : (setup : Setup) (events : List Event) → IsAt setup events old → ClosesFirst setup new moment (length old.devices.items) starts events
+  pub visits : new.visits ≡ old.visits
+  pub closes : (setup : Setup) (events : List Event) → IsAt setup events old → ClosesFirst setup new moment (length old.devices.items) closings events
 
 -- They were closed if there is a moment.
-abbrev pub IsClosedFrom : Router → Router → Option ℕ → Option (List ℕ) → Type 0
+abbrev pub IsClosedFrom : Router → Router → Option ℕ → Option (List (List Departure)) → Type 0
 IsClosedFrom old new None None = new ≡ old
-IsClosedFrom old new None (Some starts) = ⊥
+IsClosedFrom old new None (Some closings) = ⊥
 IsClosedFrom old new (Some moment) None = ⊥
-IsClosedFrom old new (Some moment) (Some starts) = IsClosedAt old new moment starts
+IsClosedFrom old new (Some moment) (Some closings) = IsClosedAt old new moment closings
 
--- where closings begin
-abbrev pub starts_of : Option (Vec ℕ Global) → Option (List ℕ)
-starts_of None = None
-starts_of (Some starts) = Some starts.items
+-- what came out in closings
+abbrev pub closings_of : Option (Vec (Vec Departure Global) Global) → Option (List (List Departure))
+closings_of None = None
+closings_of (Some closings) = Some (lists_of closings.items)
 
 -- whether there are several devices
 abbrev pub are_several : Past → Bool
@@ -153,13 +151,12 @@ given_first devices given = given
 abbrev pub given_of : Past → List Packet
 given_of past = given_first (lists_of past.came_out.items) past.given.items
 
--- what the closing writes whose visits begin at these places of the logs, if there is one, and then the report
-abbrev pub ending_of : Past → Option (List ℕ) → List ℕ
+-- what the closing writes in which these packets came out, if there is one, and then the report
+abbrev pub ending_of : Past → Option (List (List Departure)) → List ℕ
 ending_of past None = []
-ending_of past (Some starts) =
-    closings_text (are_several past) 0 starts (lists_of past.logs.items) ++ report_text (came_out past.came_out.items) past.tallies.items
+ending_of past (Some closings) = closings_text (are_several past) 0 closings ++ report_text (came_out past.came_out.items) past.tallies.items
 
 -- all that an answer writes
 abbrev pub answer_text : Answer → List ℕ
 answer_text answer =
-    rows_text (are_several answer.past) answer.rows.items (given_of answer.past) answer.past.put_out.items ++ ending_of answer.past (starts_of answer.closing)
+    rows_text (are_several answer.past) answer.rows.items (given_of answer.past) answer.past.put_out.items ++ ending_of answer.past (closings_of answer.closing)

@@ -6,8 +6,8 @@ ghost use Rattle.clk_packet.specs.declared.fault.Fault.TheVariants.{Memory};
 ghost use Rattle.clk_report.specs.Devices.{lists_of};
 ghost use Rattle.clk_script.specs.Script.{most_lines, most_moment};
 ghost use Rattle.clk_script.specs.Meaning.{Setup, WritesWith};
-ghost use Rattle.clk_script.specs.Router.{names_in, IsReady, Starts};
-ghost use Rattle.clk_script.specs.Rows.{row_asked, answer_text, IsToDo, CanBeRun, AnswersRows, IsClosedFrom, IsClosedAt, starts_of};
+ghost use Rattle.clk_script.specs.Router.{names_in, IsReady, Starts, AreLogs};
+ghost use Rattle.clk_script.specs.Rows.{row_asked, answer_text, IsToDo, CanBeRun, AnswersRows, IsClosedFrom, IsClosedAt, closings_of};
 ghost use Rattle.clk_script.specs.Closable.{IsClosable, IsClosableRouter};
 
 use crate::past::Past;
@@ -15,6 +15,7 @@ use crate::reading::Script;
 use crate::router::Router;
 use crate::rows::Row;
 use clk_packet::Fault;
+use clk_sched::Departure;
 use std::alloc::Global;
 
 /// What a script comes to.
@@ -22,8 +23,8 @@ use std::alloc::Global;
 pub struct Answer {
     /// What its commands came to, in order.
     pub rows: Vec<Row>,
-    /// Where the visits of each device's closing begin in its log, if it closes: then the report follows.
-    pub closing: Option<Vec<usize>>,
+    /// The packets that came out in the closing of each device, if it closes: then the report follows.
+    pub closing: Option<Vec<Vec<Departure>>>,
     /// What the router did.
     pub past: Past,
 }
@@ -37,8 +38,9 @@ pub fn answer_script(alloc: Global, router: Router, script: Script) -> Result<An
     requires fresh { (setup : Setup) × Starts setup router × IsClosable setup }
     requires sound { CanBeRun (names_in router) script }
     ensures means { IfOk result (λ answer. (setup : Setup) (commands : _) → Starts setup router → script.rows.items ≡ map row_asked commands
-        → WritesWith setup commands script.closing (answer_text answer) (lists_of answer.past.logs.items)) }
-    ensures devices { IfOk result (λ answer. (length answer.past.logs.items ≡ length router.devices.items) × (length answer.past.came_out.items ≡ length router.devices.items)) }
+        → (logs : _) × AreLogs router.visits answer.past logs × WritesWith setup commands script.closing (answer_text answer) logs) }
+    ensures devices { IfOk result (λ answer. length answer.past.came_out.items ≡ length router.devices.items) }
+    ensures closings { IfOk result (λ answer. IfSome answer.closing (λ closings. length closings.items ≡ length router.devices.items)) }
     ensures fault { IsOkUnless result Fault.Memory }
 {
     let mut router = router;
@@ -91,17 +93,17 @@ fn carry_out_one(router: &mut Router, row: Row) -> Result<Row, Fault>
     }
 }
 
-/// Closes a router from this moment on, in ticks, if there is one. Answers where the visits of each device's closing begin in its log.
+/// Closes a router from this moment on, in ticks, if there is one. Answers the packets that came out in the closing of each device.
 /// Fault 1 where memory is refused.
 fn close(
     alloc: Global,
     router: &mut Router,
     moment: Option<u64>,
-) -> Result<Option<Vec<usize>>, Fault>
+) -> Result<Option<Vec<Vec<Departure>>>, Fault>
     requires ready { IsReady router.old }
     requires closable { IsClosableRouter router.old }
     requires moment { IfSome moment (λ m. m ≤ most_moment) }
-    ensures closed { IfOk result (λ starts. IsClosedFrom router.old router.new moment (starts_of starts)) }
+    ensures closed { IfOk result (λ closings. IsClosedFrom router.old router.new moment (closings_of closings)) }
     ensures fault { IsOkUnless result Fault.Memory }
 {
     match moment {
@@ -110,20 +112,20 @@ fn close(
     }
 }
 
-/// Drains the devices one after the other, each from this moment on, and answers where the visits of each one's closing begin in its
-/// log. Fault 1 where memory is refused.
-fn drain_all(alloc: Global, router: &mut Router, moment: u64) -> Result<Vec<usize>, Fault>
+/// Drains the devices one after the other, each from this moment on, and answers the packets that came out in each one's closing. Fault
+/// 1 where memory is refused.
+fn drain_all(alloc: Global, router: &mut Router, moment: u64) -> Result<Vec<Vec<Departure>>, Fault>
     requires ready { IsReady router.old }
     requires closable { IsClosableRouter router.old }
     requires moment { moment ≤ most_moment }
-    ensures closed { IfOk result (λ starts. IsClosedAt router.old router.new moment starts.items) }
+    ensures closed { IfOk result (λ closings. IsClosedAt router.old router.new moment (lists_of closings.items)) }
     ensures fault { IsOkUnless result Fault.Memory }
 {
-    let mut starts = Vec::new(alloc);
+    let mut closings = Vec::new(alloc);
     let mut device = 0;
     while usize::from(device) < router.devices.len() {
-        starts.push(router.drain(device, moment)?)?;
+        closings.push(router.drain(alloc, device, moment)?)?;
         device += 1;
     }
-    Ok(starts)
+    Ok(closings)
 }

@@ -6,28 +6,32 @@ ghost use Rattle.clk_packet.specs.declared.fault.Fault.TheVariants.{Memory};
 ghost use Rattle.clk_script.specs.Router.{device_made, CanStand};
 
 use clk_packet::Fault;
-use clk_sched::{Session, Tree};
+use clk_sched::{Keeps, Kernel, Tree};
 use std::alloc::Global;
 
 /// A device, and what was done at it.
 #[derive(Drop)]
 pub struct Device {
-    /// Its tree, with the log of its pulls.
-    pub session: Session,
+    /// Its tree, with the packets that came out, and the log of its pulls where visits are kept.
+    pub session: Kernel,
     /// How many packets its queues took and didn't put out for later ones.
     pub kept: u64,
 }
 
-/// A device for each of these trees, before it is pulled. Fault 1 where memory is refused.
-pub fn devices_of(alloc: Global, trees: Vec<Tree>) -> Result<Vec<Device>, Fault>
+/// A device for each of these trees, before it is pulled, which keeps its visits or doesn't. Fault 1 where memory is refused.
+pub fn devices_of(alloc: Global, trees: Vec<Tree>, visits: bool) -> Result<Vec<Device>, Fault>
     requires each { AllByRecursion CanStand trees.items }
-    ensures made { IfOk result (λ devices. devices.items ≡ map device_made trees.items) }
+    ensures made { IfOk result (λ devices. devices.items ≡ map (device_made visits) trees.items) }
     ensures fault { IsOkUnless result Fault.Memory }
 {
+    let keeps = Keeps {
+        visits,
+        packets: true,
+    };
     let mut devices = Vec::new(alloc);
     for tree in trees {
         devices.push(Device {
-            session: Session::new(alloc, tree)?,
+            session: Kernel::new(alloc, tree, keeps)?,
             kept: 0,
         })?;
     }

@@ -6,7 +6,7 @@ use clk_sched::Visit;
 /// All that a router did, once nothing more is asked of it.
 #[derive(Drop)]
 pub struct Past {
-    /// Every visit of each device, in order.
+    /// Every visit of each device, in order, where visits are kept.
     pub logs: Vec<Vec<Visit>>,
     /// The packets that came out at each device, in order.
     pub came_out: Vec<Vec<Packet>>,

@@ -12,7 +12,7 @@ use crate::senders::{Sender, senders_of};
 use crate::tallies::{note, place_of, tallies_of};
 use clk_packet::{Fault, Offered, Packet, Tally};
 use clk_ring::calls_are_history;
-use clk_sched::{Tree, runs_conserve_packets, runs_go_on};
+use clk_sched::{Departure, Tree, runs_conserve_packets, runs_go_on};
 use clk_tree::{QueueSpec, SenderSpec};
 use std::alloc::Global;
 
@@ -32,6 +32,8 @@ pub struct Router {
     given: Vec<Packet>,
     /// The packets that queues put out for later ones, in order.
     evicted: Vec<Packet>,
+    /// Whether the devices keep their visits.
+    visits: bool,
 }
 
 impl Router {
@@ -42,33 +44,37 @@ impl Router {
     ghost use Rattle.clk_tree.specs.PlanParts.{queued, HasCapacity};
     ghost use Rattle.clk_script.specs.Script.{most_lines, most_moment};
     ghost use Rattle.clk_script.specs.Meaning.{Setup, Event, offered, setup_of};
-    ghost use Rattle.clk_script.specs.Router.{CanStand, ChangesDevice, numbers_in, IsSteady, IsPlace, IsPlaceOf, IsSentFrom, IsReady, IsSteadyAt, IsWhole, IsAt, IsPastOf, Starts, Counts, ChangesGiven, given_kept, LeadsOnByPull, LeadsOnByDrain, device_log};
+    ghost use Rattle.clk_script.specs.Router.{CanStand, ChangesDevice, numbers_in, IsSteady, IsPlace, IsPlaceOf, IsSentFrom, IsReady, IsSteadyAt, IsWhole, IsAt, IsPastOf, Starts, Counts, ChangesGiven, given_kept, LeadsOnByPull, LeadsOnByDrain, KeepsAs};
     ghost use Rattle.clk_script.specs.Closable.{IsClosableRouter};
 
-    /// The router over these parts before anything has happened. Fault 1 where memory is refused.
+    /// The router over these parts before anything has happened, whose devices will keep their visits or won't. Fault 1 where memory is
+    /// refused.
     pub fn new(
         alloc: Global,
         trees: Vec<Tree>,
         queues: &[QueueSpec],
         senders: &[SenderSpec],
+        visits: bool,
     ) -> Result<Router, Fault>
         requires trees { AllByRecursion CanStand trees.items }
         requires capacities { AllByRecursion HasCapacity (map queued queues.now) }
         requires whole { IsWhole (setup_of trees.items (map queued queues.now) senders.now) }
         ensures made { IfOk result (Starts (setup_of trees.items (map queued queues.now) senders.now)) }
+        ensures visits { IfOk result (λ router. router.visits ≡ visits) }
         ensures fault { IsOkUnless result Fault.Memory }
     {
         // The empty log is a run, and the queues lead on from here, by these laws, which do nothing.
         runs_go_on();
         calls_are_history();
         Ok(Router {
-            devices: devices_of(alloc, trees)?,
+            devices: devices_of(alloc, trees, visits)?,
             queues: Queues::new(alloc, queues)?,
             paths: paths_of(alloc, queues)?,
             senders: senders_of(alloc, senders)?,
             tallies: tallies_of(alloc, senders)?,
             given: Vec::new(alloc),
             evicted: Vec::new(alloc),
+            visits,
         })
     }
 
@@ -89,6 +95,7 @@ impl Router {
         ensures sent { IfOk result (λ r. IsSentFrom self.old.tallies.items place r.0 × (r.0.length ≡ length)) }
         ensures leads { IfOk result (λ r. (setup : Setup) (events : _) → IsAt setup events self.old → IsAt setup (events ++ offered r.0 r.1 ∷ []) self.new) }
         ensures given { OnOk result (self.new.given ≡ self.old.given) }
+        ensures visits { OnOk result (self.new.visits ≡ self.old.visits) }
         ensures fault { IsOkUnless result Fault.Memory }
     {
         // What happened to the queue stays a history of it by this law, which does nothing.
@@ -123,10 +130,11 @@ impl Router {
 
     /// Pulls a device once, at this moment in ticks or, where that is later, at the greatest so far. Fault 1 where memory is refused.
     pub fn pull(&mut self, device: u16, moment: u64) -> Result<Option<Packet>, Fault>
-        requires device { device < length self.old.devices.items }
+        requires steady { IsSteadyAt (slice_get self.old.devices.items device) }
         requires moment { moment < 2 ^ 44 }
         ensures leads { IfOk result (λ got. (setup : Setup) (events : _) → IsAt setup events self.old → LeadsOnByPull setup self.new device moment got events) }
         ensures given { IfOk result (λ got. self.new.given.items ≡ given_kept self.old got) }
+        ensures visits { OnOk result (self.new.visits ≡ self.old.visits) }
         ensures fault { IsOkUnless result Fault.Memory }
     {
         // What happened to the queues stays a history of each by this law, which does nothing.
@@ -153,19 +161,24 @@ impl Router {
     }
 
     /// Pulls a device, one tick apart and the first time one tick after the greater of this moment and the greatest so far, until all
-    /// packets that are left for it in queues and heads came out. Answers how many visits it had logged before.
+    /// packets that are left for it in queues and heads came out. Answers these.
     ///
     /// # Errors
     ///
     /// Fault 1 where memory is refused.
-    pub fn drain(&mut self, device: u16, moment: u64) -> Result<usize, Fault>
+    pub fn drain(
+        &mut self,
+        alloc: Global,
+        device: u16,
+        moment: u64,
+    ) -> Result<Vec<Departure>, Fault>
         requires steady { IsSteadyAt (slice_get self.old.devices.items device) }
         requires closable { IsClosableRouter self.old }
         requires moment { moment ≤ most_moment }
-        ensures start { IfOk result (λ start. IfSome (slice_get self.old.devices.items device) (λ d. start ≡ length (device_log d))) }
         ensures others { OnOk result (ChangesDevice self.old.devices.items device self.new.devices.items) }
         ensures given { OnOk result (self.new.given ≡ self.old.given) }
-        ensures leads { OnOk result ((setup : Setup) (events : _) → IsAt setup events self.old → LeadsOnByDrain setup self.new device moment events) }
+        ensures visits { OnOk result (self.new.visits ≡ self.old.visits) }
+        ensures leads { IfOk result (λ departures. (setup : Setup) (events : _) → IsAt setup events self.old → LeadsOnByDrain setup self.new device moment events departures.items) }
         ensures fault { IsOkUnless result Fault.Memory }
     {
         // What happened to the queues stays a history of each, and what they hold and the heads is what is left, by these laws, which
@@ -174,15 +187,14 @@ impl Router {
         runs_go_on();
         runs_conserve_packets();
         let device = &mut self.devices[usize::from(device)];
-        let logged = device.session.log().len();
-        let emitted = device.session.came_out().len() as u64;
-        let left = device.kept - emitted;
-        device.session.drain(&mut self.queues, left, moment)?;
-        Ok(logged)
+        let left = device.kept - device.session.count_emitted();
+        let departures = device.session.close(alloc, &mut self.queues, left, moment)?;
+        Ok(departures)
     }
 
     /// All that it did, without copies. Fault 1 where memory is refused to the lists of the devices.
     pub fn into_past(self, alloc: Global) -> Result<Past, Fault>
+        requires { AllByRecursion (KeepsAs self.visits) self.devices.items }
         ensures past { IfOk result (IsPastOf self) }
         ensures fault { IsOkUnless result Fault.Memory }
     {

@@ -9,7 +9,7 @@ ghost use Rattle.clk_sched.specs.Limits.{most_elements};
 ghost use Rattle.clk_tree.specs.PlanParts.{queued, HasCapacity};
 ghost use Rattle.clk_tree.specs.Shares.{AreTreesOf};
 ghost use Rattle.clk_report.specs.Devices.{lists_of};
-ghost use Rattle.clk_script.specs.Router.{CanStand, IsWhole};
+ghost use Rattle.clk_script.specs.Router.{CanStand, IsWhole, AreLogs};
 ghost use Rattle.clk_script.specs.Closable.{IsClosable};
 ghost use Rattle.clk_script.specs.Script.{most_bytes};
 ghost use Rattle.clk_script.specs.Meaning.{IsMeaning, MeansWith, Explains, setup_of, MeansOver, MeansOverWith, ExplainsPlan};
@@ -53,7 +53,7 @@ pub fn run_script<R: Source, W: Sink>(
     // The reader is read to one byte past the limit at most.
     ensures limit { Takes (most_bytes + 1) (R.Source.remaining reader.old) (R.Source.remaining reader.new) }
 {
-    run_script_logged(alloc, reader, writer, plan)?;
+    run_plan(alloc, reader, writer, plan, false)?;
     Ok(())
 }
 
@@ -74,11 +74,33 @@ pub fn run_script_logged<R: Source, W: Sink>(
     ensures write_failures { W.Sink.failures writer.new ≡ write_failures result (W.Sink.failures writer.old) }
     ensures limit { Takes (most_bytes + 1) (R.Source.remaining reader.old) (R.Source.remaining reader.new) }
 {
+    Ok(run_plan(alloc, reader, writer, plan, true)?.logs)
+}
+
+/// The same, with the same faults. Answers what the router did, which keeps its visits or doesn't.
+fn run_plan<R: Source, W: Sink>(
+    alloc: Global,
+    reader: &mut R,
+    writer: &mut W,
+    plan: &Plan,
+    visits: bool,
+) -> Result<Past, Fault>
+    ensures written { IfOk result (λ past. (logs : _) × AreLogs visits past logs × IfSome (R.Source.remaining reader.old) (λ script.
+        (text : _) × MeansOverWith plan.now script text logs × Appends (W.Sink.taken writer.old) (W.Sink.taken writer.new) text)) }
+    ensures front { IsErrOf result Fault.Write → IfSome (R.Source.remaining reader.old) (λ script.
+        (text : _) × MeansOver plan.now script text × AppendsFront (W.Sink.taken writer.old) (W.Sink.taken writer.new) text) }
+    ensures nothing { IfErr result (λ fault. fault ≢ Write → Keeps (W.Sink.taken writer.old) (W.Sink.taken writer.new)) }
+    ensures fault { IfErr result (ExplainsPlan plan.now (R.Source.remaining reader.old)) }
+    ensures read_failures { R.Source.failures reader.new ≡ read_failures result (R.Source.failures reader.old) }
+    ensures write_failures { W.Sink.failures writer.new ≡ write_failures result (W.Sink.failures writer.old) }
+    ensures limit { Takes (most_bytes + 1) (R.Source.remaining reader.old) (R.Source.remaining reader.new) }
+{
     // Its trees share out its queues, by this law.
     plan.trees_share_queues();
     let trees = trees_of(alloc, plan)?;
-    let past = run_parts(alloc, reader, writer, trees, plan.queues(), plan.senders())?;
-    Ok(past.logs)
+    let (queues, senders) = (plan.queues(), plan.senders());
+    let past = run_parts(alloc, reader, writer, trees, queues, senders, visits)?;
+    Ok(past)
 }
 
 /// The tree of each device of a plan. Fault 1 where memory is refused.
@@ -107,13 +129,14 @@ fn run_parts<R: Source, W: Sink>(
     trees: Vec<Tree>,
     queues: &[QueueSpec],
     senders: &[SenderSpec],
+    visits: bool,
 ) -> Result<Past, Fault>
     requires trees { AllByRecursion CanStand trees.items }
     requires capacities { AllByRecursion HasCapacity (map queued queues.now) }
     requires whole { IsWhole (setup_of trees.items (map queued queues.now) senders.now) }
     requires closable { IsClosable (setup_of trees.items (map queued queues.now) senders.now) }
-    ensures written { IfOk result (λ past. IfSome (R.Source.remaining reader.old) (λ script.
-        (text : _) × MeansWith (setup_of trees.items (map queued queues.now) senders.now) script text (lists_of past.logs.items) × Appends (W.Sink.taken writer.old) (W.Sink.taken writer.new) text)) }
+    ensures written { IfOk result (λ past. (logs : _) × AreLogs visits past logs × IfSome (R.Source.remaining reader.old) (λ script.
+        (text : _) × MeansWith (setup_of trees.items (map queued queues.now) senders.now) script text logs × Appends (W.Sink.taken writer.old) (W.Sink.taken writer.new) text)) }
     ensures front { IsErrOf result Fault.Write → IfSome (R.Source.remaining reader.old) (λ script.
         (text : _) × IsMeaning (setup_of trees.items (map queued queues.now) senders.now) script text × AppendsFront (W.Sink.taken writer.old) (W.Sink.taken writer.new) text) }
     ensures nothing { IfErr result (λ fault. fault ≢ Write → Keeps (W.Sink.taken writer.old) (W.Sink.taken writer.new)) }
@@ -122,7 +145,7 @@ fn run_parts<R: Source, W: Sink>(
     ensures write_failures { W.Sink.failures writer.new ≡ write_failures result (W.Sink.failures writer.old) }
     ensures limit { Takes (most_bytes + 1) (R.Source.remaining reader.old) (R.Source.remaining reader.new) }
 {
-    let router = Router::new(alloc, trees, queues, senders)?;
+    let router = Router::new(alloc, trees, queues, senders, visits)?;
     let text = read_up_to(alloc, reader, MAX_BYTES + 1)?;
     let script = read_script(alloc, &router.tallies, router.devices.len(), &text)?;
     let_go(text);

@@ -1,11 +1,12 @@
 //! The writing of an answer, which takes no memory.
 
-ghost use Rattle.std.specs.Prelude.{◌≡◌, ◌≤◌, ◌+◌, ◌++◌, drop, length, slice_get};
+ghost use Rattle.std.specs.Prelude.{◌≡◌, ◌≤◌, ◌+◌, ◌++◌, drop, length, slice_get, IfSome};
 ghost use Rattle.std.specs.List.{flat_map};
 ghost use Rattle.clk_packet.specs.Bytes.{Wrote};
 ghost use Rattle.clk_report.specs.Devices.{lists_of};
 ghost use Rattle.clk_script.specs.Lines.{Passes};
-ghost use Rattle.clk_script.specs.Rows.{row_text, rows_text, are_several, given_of, given_after, fronts_after, visit_text, closings_text, answer_text};
+ghost use Rattle.clk_script.specs.Rows.{row_text, rows_text, are_several, given_of, given_after, fronts_after, closings_text, answer_text};
+ghost use Rattle.clk_script.specs.Router.{departure_text};
 
 use crate::answer::Answer;
 use crate::lines::Lines;
@@ -14,10 +15,7 @@ use crate::rows::Row;
 use crate::text::{LINE, put_offer, put_pull};
 use clk_packet::{Fault, Offered, Packet, Sink};
 use clk_report::{MAX_DEVICES, report};
-use clk_sched::Visit;
-
-/// The node number of the device.
-const DEVICE: u16 = 0;
+use clk_sched::Departure;
 
 /// Writes the lines of an answer, and the report where the router was closed.
 ///
@@ -26,7 +24,7 @@ const DEVICE: u16 = 0;
 /// Fault 20 where the sink fails. It has taken a front of these then.
 pub fn write_answer<W: Sink>(answer: &Answer, writer: &mut W) -> Result<(), Fault>
     requires few { length answer.now.past.came_out.items ≤ MAX_DEVICES }
-    requires logs { length answer.now.past.logs.items ≤ MAX_DEVICES }
+    requires closings { IfSome answer.now.closing (λ closings. length closings.items ≤ MAX_DEVICES) }
     ensures { Wrote (W.Sink.taken writer.old) (W.Sink.taken writer.new)
         (W.Sink.failures writer.old) (W.Sink.failures writer.new) result (answer_text answer.now) }
 {
@@ -41,10 +39,10 @@ pub fn write_answer<W: Sink>(answer: &Answer, writer: &mut W) -> Result<(), Faul
         &past.put_out,
         writer,
     )?;
-    let Some(starts) = &answer.closing else {
+    let Some(closings) = &answer.closing else {
         return lines.write(writer);
     };
-    write_closings(&mut lines, several, 0, starts, &past.logs, writer)?;
+    write_closings(&mut lines, several, 0, closings, writer)?;
     lines.write(writer)?;
     report(&past.tallies, &past.came_out, writer)
 }
@@ -149,66 +147,53 @@ fn first(packets: &[Packet]) -> (Option<Packet>, &[Packet])
     }
 }
 
-/// Adds the lines of the closings of devices, from this number on, whose visits begin at these places of their logs.
+/// Adds the lines of the closings of devices, from this number on, in which these packets came out.
 fn write_closings<W: Sink>(
     lines: &mut Lines,
     several: bool,
     device: u16,
-    starts: &[usize],
-    logs: &[Vec<Visit>],
+    closings: &[Vec<Departure>],
     writer: &mut W,
 ) -> Result<(), Fault>
-    requires { device + length logs.now ≤ MAX_DEVICES }
+    requires { device + length closings.now ≤ MAX_DEVICES }
     ensures { Passes (W.Sink.taken writer.old) (W.Sink.taken writer.new)
         (W.Sink.failures writer.old) (W.Sink.failures writer.new) result
-        lines.old.held.items (closings_text several device starts.now (lists_of logs.now)) lines.new.held.items }
+        lines.old.held.items (closings_text several device (lists_of closings.now)) lines.new.held.items }
 {
-    let [start, starts @ ..] = starts else {
+    let [departures, closings @ ..] = closings else {
         return Ok(());
     };
-    let [log, logs @ ..] = logs else {
-        return Ok(());
-    };
-    let visits = &log[(*start).min(log.len())..];
-    write_given(lines, several, device, visits, writer)?;
-    write_closings(lines, several, device + 1, starts, logs, writer)
+    write_departures(lines, several, device, departures, writer)?;
+    write_closings(lines, several, device + 1, closings, writer)
 }
 
-/// Adds a line for each packet that came out by these visits.
-fn write_given<W: Sink>(
+/// Adds a line for each of these packets that came out.
+fn write_departures<W: Sink>(
     lines: &mut Lines,
     several: bool,
     device: u16,
-    visits: &[Visit],
+    departures: &[Departure],
     writer: &mut W,
 ) -> Result<(), Fault>
     ensures { Passes (W.Sink.taken writer.old) (W.Sink.taken writer.new)
         (W.Sink.failures writer.old) (W.Sink.failures writer.new) result
-        lines.old.held.items (flat_map (visit_text several device) visits.now) lines.new.held.items }
+        lines.old.held.items (flat_map (departure_text several device) departures.now) lines.new.held.items }
 {
     let mut line = [0; LINE];
-    for visit in visits {
-        let start = put_visit(&mut line, several, device, visit);
+    for departure in departures {
+        let start = put_departure(&mut line, several, device, *departure);
         lines.add(&line[start..], writer)?;
     }
     Ok(())
 }
 
-/// Puts the line of the packet that came out at the device by a visit, if one did, and gives where it starts.
+/// Puts the line of a packet that came out at the device, and gives where it starts.
 #[inline(always)]
-fn put_visit(line: &mut [u8], several: bool, device: u16, visit: &Visit) -> usize
+fn put_departure(line: &mut [u8], several: bool, device: u16, departure: Departure) -> usize
     requires within { 128 ≤ length line.old }
-    ensures piece { drop result line.new ≡ visit_text several device visit.now ++ drop 128 line.old }
+    ensures piece { drop result line.new ≡ departure_text several device departure ++ drop 128 line.old }
     ensures before { result ≤ 128 }
 {
-    if visit.node != DEVICE {
-        return LINE;
-    }
-    if !visit.passed {
-        return LINE;
-    }
-    let Some(packet) = visit.got else {
-        return LINE;
-    };
-    put_pull(line, several, device, visit.moment, Some(packet), LINE)
+    let Departure { moment, packet } = departure;
+    put_pull(line, several, device, moment, Some(packet), LINE)
 }

@@ -3,6 +3,7 @@
 
 mod closing;
 mod constructors;
+mod kinds;
 mod limits;
 mod memory;
 mod queues;

@@ -1,8 +1,10 @@
-//! What both kinds of sessions are: a tree that is pulled, with a log that is kept or not.
+//! What every session is: a tree that is pulled. What it keeps of the past is chosen when it is made.
 
 use crate::ask::Ask;
+use crate::session::departures::{Departure, Departures};
 use crate::session::emitted::Emitted;
 use crate::session::heads::held_heads;
+use crate::session::keeps::Keeps;
 use crate::session::nodes::Nodes;
 use crate::session::prio::{DEVICE, pull_device};
 use crate::tree::Tree;
@@ -11,7 +13,8 @@ use clk_packet::{Fault, Packet};
 use std::alloc::Global;
 use std::marker::Model;
 
-/// A tree of schedulers with all that its nodes hold, and the log of every visit that they made.
+/// A tree of schedulers with all that its nodes hold, and what is kept of the past. What is said of it is said of every visit that its
+/// nodes made, as of a `Session`, whether these are kept or not.
 #[derive(Drop)]
 pub struct Kernel {
     tree: Tree,
@@ -25,24 +28,24 @@ impl Model for Kernel {
     ghost use Rattle.clk_sched.specs.Limits.{end_of_moments};
     ghost use Rattle.clk_sched.specs.Tree.{leaves_distinct};
     ghost use Rattle.clk_sched.specs.Session.{IsAfterRun};
-    ghost use Rattle.clk_sched.specs.Kinds.{Either};
+    ghost use Rattle.clk_sched.specs.Kinds.{AnySession};
     ghost use Rattle.clk_sched.specs.Results.{emitted as came_out};
     ghost use Rattle.std.specs.Coded.{codes};
     ghost use Rattle.clk_sched.specs.Stored.{tree_code};
 
-    ghost Value = { Either };
+    ghost Value = { AnySession };
 
     ghost coded = { Prim.hlevel (codes, tree_code) };
 
-    ghost view = { λ s. record { tree = s.tree; log = s.nodes.log.items; keeps = s.nodes.log.keeps } };
+    ghost view = { λ s. record { tree = s.tree; log = s.nodes.log.items; keeps = record { visits = s.nodes.log.keeps; packets = s.emitted.keeps } } };
 
     ghost invariant = { λ s. IsAfterRun s.tree s.nodes × (s.nodes.moment < end_of_moments) × (leaves_distinct s.tree ≡ true)
-        × (s.emitted.keeps ≡ s.nodes.log.keeps) × (s.emitted.keeps ≡ true → s.emitted.packets.items ≡ came_out s.nodes.log.items)
+        × (s.emitted.keeps ≡ true → s.emitted.packets.items ≡ came_out s.nodes.log.items)
         × (s.emitted.count ≡ length (came_out s.nodes.log.items)) × (s.emitted.count ≤ s.nodes.pull) };
 }
 
 impl Kernel {
-    ghost use Rattle.std.specs.Prelude.{◌≡◌, ◌+◌, ◌-◌, ◌<◌, ◌≤◌, ◌^◌, true, false, [], length, max, Ok, Err, IfOk, IfErr, OnOk, OnErr, IsOk, IsOkUnless};
+    ghost use Rattle.std.specs.Prelude.{◌≡◌, ℕ, ◌+◌, ◌-◌, ◌<◌, ◌≤◌, ◌^◌, true, false, [], length, max, Ok, Err, IfOk, IfErr, OnOk, OnErr, IsOk, IsOkUnless};
     ghost use Rattle.clk_sched.specs.Tree.{root, leaves_distinct, IsSound};
     ghost use Rattle.clk_sched.specs.Limits.{most_elements, most_left, end_of_moments, end_of_drains, end_of_pulls, end_of_drained_pulls};
     ghost use Rattle.clk_sched.specs.LaidOut.{IsRefused};
@@ -53,24 +56,26 @@ impl Kernel {
     ghost use Rattle.clk_sched.specs.Places.{Answers};
     ghost use Rattle.clk_sched.specs.Closing.{LosesNothing, left_in};
     ghost use Rattle.clk_sched.specs.Session.{IsPulledOnce, GivesAll, StopsAt, counted_moment, elements, newly, tree_queue};
-    ghost use Rattle.clk_sched.specs.Kinds.{progress_of, pulls_made};
+    ghost use Rattle.clk_sched.specs.Departures.{departures_in, pulls_since, IsAddedTo};
+    ghost use Rattle.clk_sched.specs.declared.session.departures.Departures.TheVariants.{Dropped};
+    ghost use Rattle.clk_sched.specs.Kinds.{progress_of, pulls_made, keeps_nothing};
 
     /// A session of this tree, in which no queue stands twice, before its first pull.
     ///
     /// # Errors
     ///
     /// Fault 18 for a tree of more than 256 nodes and queues, the device counted; else fault 1 where memory is refused.
-    pub fn new(alloc: Global, tree: Tree, keeps: bool) -> Result<Kernel, Fault>
+    pub fn new(alloc: Global, tree: Tree, keeps: Keeps) -> Result<Kernel, Fault>
         requires distinct { leaves_distinct tree ≡ true }
         ensures made { IfOk result (λ s. s ≡ record { tree = tree; log = []; keeps = keeps }) }
         ensures fits { IfOk result (λ s. 1 + elements (root tree) ≤ most_elements) }
         ensures refused { IfErr result (λ fault. IsRefused tree fault) }
     {
-        let nodes = tree.lay_out(alloc, keeps)?;
+        let nodes = tree.lay_out(alloc, keeps.visits)?;
         Ok(Kernel {
             tree,
             nodes,
-            emitted: Emitted::new(alloc, keeps),
+            emitted: Emitted::new(alloc, keeps.packets),
         })
     }
 
@@ -78,15 +83,15 @@ impl Kernel {
     ///
     /// # Errors
     ///
-    /// Fault 1 where memory is refused, which is asked for where the log is kept alone. Then nothing has changed.
+    /// Fault 1 where memory is refused, which is asked for just for what is kept. Then nothing has changed.
     pub fn pull<Q: Ask>(&mut self, q: &mut Q, moment: u64) -> Result<Option<Packet>, Fault>
         requires moment { moment < end_of_moments }
-        requires pulls { self.old.keeps ≡ false → pulls_made (progress_of self.old) < end_of_pulls }
+        requires pulls { self.old.keeps.visits ≡ false → pulls_made (progress_of self.old) < end_of_pulls }
         ensures pulled { IfOk result (IsPulledOnce (progress_of self.old) (progress_of self.new) moment) }
         ensures answers { OnOk result (Answers Q.gives (tree_queue self.old.tree) q.old (newly (progress_of self.old) (progress_of self.new)) q.new) }
         ensures kind { self.new.keeps ≡ self.old.keeps }
         ensures fault { IsOkUnless result Fault.Memory }
-        ensures unkept { self.old.keeps ≡ false → IsOk result }
+        ensures unkept { self.old.keeps ≡ keeps_nothing → IsOk result }
         ensures unchanged { OnErr result (self.new ≡ self.old) }
         ensures unasked { OnErr result (q.new ≡ q.old) }
     {
@@ -101,20 +106,28 @@ impl Kernel {
     }
 
     /// Pulls the device, one tick apart and the first time one tick after the later of this moment and the greatest so far, until
-    /// `left` packets came out, 1,000,000 at most, and answers how often. With nothing left it pulls nothing.
+    /// `left` packets came out, 1,000,000 at most, and answers how often. With nothing left it pulls nothing. What comes out is added
+    /// to the departures, where these are kept.
     ///
     /// # Errors
     ///
     /// Fault 1 where memory is refused, and fault 17 with the number of pulls after `bound(left)` pulls that gave fewer packets.
-    pub fn drain<Q: Ask>(&mut self, q: &mut Q, left: u64, moment: u64) -> Result<u64, Fault>
+    pub(crate) fn drain<Q: Ask>(
+        &mut self,
+        q: &mut Q,
+        departures: &mut Departures,
+        left: u64,
+        moment: u64,
+    ) -> Result<u64, Fault>
         requires left { left ≤ most_left }
         requires moment { max (counted_moment (progress_of self.old)) moment < end_of_drains }
-        requires pulls { self.old.keeps ≡ false → pulls_made (progress_of self.old) < end_of_drained_pulls }
+        requires pulls { self.old.keeps.visits ≡ false → pulls_made (progress_of self.old) < end_of_drained_pulls }
         ensures all { IfOk result (λ made. GivesAll (progress_of self.old) (progress_of self.new) (max (counted_moment (progress_of self.old)) moment) made left) }
         ensures none_left { left ≡ 0 → (result ≡ Ok 0) × (self.new ≡ self.old) × (q.new ≡ q.old) }
         ensures short { IfErr result (StopsAt (progress_of self.old) (progress_of self.new) (max (counted_moment (progress_of self.old)) moment) left) }
-        ensures unkept { self.old.keeps ≡ false → IsOkUnless result (TooManyPulls (closing_bound self.old.tree left)) }
+        ensures unkept { self.old.keeps ≡ keeps_nothing → departures.old ≡ Dropped → IsOkUnless result (TooManyPulls (closing_bound self.old.tree left)) }
         ensures ends { LosesNothing Q.gives Q.holds → left ≡ left_in self.old.tree self.old.log (Q.holds q.old) → IsOkUnless result Fault.Memory }
+        ensures departures { IsAddedTo departures.old (departures_in (pulls_since (progress_of self.old) (progress_of self.new))) departures.new }
         ensures kind { self.new.keeps ≡ self.old.keeps }
         ensures answers { Answers Q.gives (tree_queue self.old.tree) q.old (newly (progress_of self.old) (progress_of self.new)) q.new }
     {
@@ -128,13 +141,47 @@ impl Kernel {
             if made == bound {
                 return Err(Fault::TooManyPulls { pulls: made });
             }
+            departures.reserve()?;
             let got = self.pull(q, start + made + 1)?;
             made += 1;
+            departures.add(start + made, got);
             if got.is_some() {
                 given += 1;
             }
         }
         Ok(made)
+    }
+
+    /// Drains it as a session is, and answers the packets that came out.
+    ///
+    /// # Errors
+    ///
+    /// Fault 1 where memory is refused, and fault 17 with the number of pulls after `bound(left)` pulls that gave fewer packets. It then
+    /// holds the pulls that were made. Fault 17 never comes where `q` loses nothing, and its leaves of the tree hold, together with the
+    /// heads, exactly `left` packets.
+    pub fn close<Q: Ask>(
+        &mut self,
+        alloc: Global,
+        q: &mut Q,
+        left: u64,
+        moment: u64,
+    ) -> Result<Vec<Departure>, Fault>
+        requires left { left ≤ most_left }
+        requires moment { max (counted_moment (progress_of self.old)) moment < end_of_drains }
+        requires pulls { self.old.keeps.visits ≡ false → pulls_made (progress_of self.old) < end_of_drained_pulls }
+        ensures all { OnOk result ((made : ℕ) × GivesAll (progress_of self.old) (progress_of self.new) (max (counted_moment (progress_of self.old)) moment) made left) }
+        ensures departures { IfOk result (λ departures. departures.items ≡ departures_in (pulls_since (progress_of self.old) (progress_of self.new))) }
+        ensures short { IfErr result (StopsAt (progress_of self.old) (progress_of self.new) (max (counted_moment (progress_of self.old)) moment) left) }
+        ensures ends { LosesNothing Q.gives Q.holds → left ≡ left_in self.old.tree self.old.log (Q.holds q.old) → IsOkUnless result Fault.Memory }
+        ensures kind { self.new.keeps ≡ self.old.keeps }
+        ensures answers { Answers Q.gives (tree_queue self.old.tree) q.old (newly (progress_of self.old) (progress_of self.new)) q.new }
+    {
+        let mut departures = Departures::Kept(Vec::new(alloc));
+        self.drain(q, &mut departures, left, moment)?;
+        match departures {
+            Departures::Kept(list) => Ok(list),
+            Departures::Dropped => unreachable!(),
+        }
     }
 
     /// How many pulls the closing is given where so many packets, 1,000,000 at most, are left in queues and heads.
@@ -151,7 +198,7 @@ impl Kernel {
 
     /// The visits that are kept, in order.
     pub fn log(&self) -> &[Visit]
-        ensures visits { self.now.keeps ≡ true → result.now ≡ self.now.log }
+        ensures visits { self.now.keeps.visits ≡ true → result.now ≡ self.now.log }
         ensures run { IsRun self.now.tree self.now.log }
         ensures distinct { leaves_distinct self.now.tree ≡ true }
     {
@@ -175,7 +222,7 @@ impl Kernel {
 
     /// The packets that came out at the device, in order, where they are kept.
     pub fn emitted(&self) -> &[Packet]
-        ensures { self.now.keeps ≡ true → result.now ≡ emitted self.now.log }
+        ensures { self.now.keeps.packets ≡ true → result.now ≡ emitted self.now.log }
     {
         // That these came out is known where a field is read.
         let _ = &self.nodes;
@@ -193,8 +240,8 @@ impl Kernel {
 
     /// What is kept of the visits and of the packets that came out at the device, in order, without taking memory.
     pub fn into_parts(self) -> (Vec<Visit>, Vec<Packet>)
-        ensures log { self.keeps ≡ true → result.0.items ≡ self.log }
-        ensures emitted { self.keeps ≡ true → result.1.items ≡ emitted self.log }
+        ensures log { self.keeps.visits ≡ true → result.0.items ≡ self.log }
+        ensures emitted { self.keeps.packets ≡ true → result.1.items ≡ emitted self.log }
     {
         let Kernel { nodes, emitted, .. } = self;
         (nodes.log.into_kept(), emitted.packets)

@@ -3,8 +3,8 @@ use Rattle.std.specs.List.{AllByRecursion}
 use Rattle.std.proofs.lemmas.List.{with_items_is}
 use Rattle.clk_script.specs.Script.{most_lines}
 use Rattle.clk_script.specs.Router.{names_in}
-use Rattle.clk_script.specs.Rows.{IsToDo, starts_of}
-use Rattle.clk_script.proofs.AnswerLemmas.{IsReady-answered, closable-answered, Writes-answered, devices-kept}
+use Rattle.clk_script.specs.Rows.{IsToDo, closings_of}
+use Rattle.clk_script.proofs.AnswerLemmas.{IsReady-answered, closable-answered, Writes-answered, devices-kept, closings-kept, kinds-kept}
 use Rattle.clk_script.proofs.answer.answer_script.Goals as goal
 
 pub close-requires-clause-ready : goal.close-requires-clause-ready
@@ -17,14 +17,24 @@ close-requires-clause-ready c =
 pub close-requires-clause-closable : goal.close-requires-clause-closable
 close-requires-clause-closable c = closable-answered c.requires.fresh.0 c.args.router c.carry_out.new.router c.deref_mut.result.now c.carry_out.new.rows c.requires.fresh.1 c.requires.fresh.2 c.in_ok-carry_out.ensures.done
 
+pub into_past-requires : goal.into_past-requires
+into_past-requires c =
+    kinds-kept c.requires.fresh.0 c.args.router c.carry_out.new.router c.deref_mut.result.now c.carry_out.new.rows c.requires.fresh.1 c.in_ok-carry_out.ensures.done c.close.new.router c.args.script.closing (closings_of c.in_ok-closing.closing)
+    c.in_ok-closing.ensures.closed
+
 pub returns-clause-means : goal.returns-clause-means
 returns-clause-means c =
     let many : length c.carry_out.new.rows ≡ c.args.script.rows.len = search rules in
     λ setup commands starts are. rw (with_items_is c.args.script.rows c.carry_out.new.rows many)
     (Writes-answered setup c.args.router c.carry_out.new.router commands c.deref_mut.result.now c.carry_out.new.rows starts (c.deref_mut.ensures.value ∙ are) c.in_ok-carry_out.ensures.done c.close.new.router c.in_ok-into_past.field-0
-    c.args.script.closing (starts_of c.in_ok-closing.closing) c.in_ok-closing.ensures.closed c.in_ok-into_past.ensures.past)
+    c.args.script.closing (closings_of c.in_ok-closing.closing) c.in_ok-closing.ensures.closed c.in_ok-into_past.ensures.past)
 
 pub returns-clause-devices : goal.returns-clause-devices
 returns-clause-devices c =
-    devices-kept c.requires.fresh.0 c.args.router c.carry_out.new.router c.close.new.router c.in_ok-into_past.field-0 c.deref_mut.result.now c.carry_out.new.rows c.args.script.closing (starts_of c.in_ok-closing.closing)
-    c.requires.fresh.1 c.in_ok-carry_out.ensures.done c.in_ok-closing.ensures.closed c.in_ok-into_past.ensures.past
+    devices-kept c.requires.fresh.0 c.args.router c.carry_out.new.router c.deref_mut.result.now c.carry_out.new.rows c.requires.fresh.1 c.in_ok-carry_out.ensures.done c.close.new.router c.in_ok-into_past.field-0 c.args.script.closing
+    (closings_of c.in_ok-closing.closing) c.in_ok-closing.ensures.closed c.in_ok-into_past.ensures.past
+
+pub returns-clause-closings : goal.returns-clause-closings
+returns-clause-closings c =
+    closings-kept c.requires.fresh.0 c.args.router c.carry_out.new.router c.deref_mut.result.now c.carry_out.new.rows c.requires.fresh.1 c.in_ok-carry_out.ensures.done c.close.new.router c.args.script.closing c.in_ok-closing.closing
+    c.in_ok-closing.ensures.closed

@@ -1,9 +1,10 @@
 use Rattle.std.proofs.Common.{◌-◌, length}
+use Rattle.clk_report.specs.Devices.{lists_of}
 use Rattle.clk_script.proofs.DrainLemmas.{IsClosedTo}
 use Rattle.clk_script.proofs.answer.drain_all.Given as goal
 
-abbrev pub invariant-loop-starts : goal.invariant-loop-starts
-invariant-loop-starts l = IsClosedTo l.fn.router l.router l.fn.moment l.starts.items l.device
+abbrev pub invariant-loop-alloc : goal.invariant-loop-alloc
+invariant-loop-alloc l = IsClosedTo l.fn.router l.router l.fn.moment (lists_of l.closings.items) l.device
 
-abbrev pub decreases-loop-starts : goal.decreases-loop-starts
-decreases-loop-starts l = length l.router.devices.items - l.device
+abbrev pub decreases-loop-alloc : goal.decreases-loop-alloc
+decreases-loop-alloc l = length l.router.devices.items - l.device

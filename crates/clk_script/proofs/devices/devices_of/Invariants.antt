@@ -3,4 +3,4 @@ use Rattle.clk_script.specs.Router.{device_made}
 use Rattle.clk_script.proofs.devices.devices_of.Given as goal
 
 abbrev pub invariant-loop-tree : goal.invariant-loop-tree
-invariant-loop-tree l = l.devices.items ≡ map device_made l.yielded
+invariant-loop-tree l = l.devices.items ≡ map (device_made l.fn.visits) l.yielded

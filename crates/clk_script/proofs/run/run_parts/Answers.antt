@@ -2,12 +2,11 @@ use Rattle.std.proofs.Common.{◌∙◌, [], sym, subst, map}
 use Rattle.std.specs.Io.KnownBytes.{Appends}
 use Rattle.std.proofs.lemmas.Result.{err_from_is_err_and}
 use Rattle.clk_packet.specs.Bytes.{AppendsFront}
-use Rattle.clk_report.specs.Devices.{lists_of}
 use Rattle.clk_tree.specs.PlanParts.{queued, AreRising}
 use Rattle.clk_script.specs.Meaning.{setup_of}
 use Rattle.clk_script.specs.Rows.{answer_text}
 use Rattle.clk_script.proofs.SenderLemmas.{numbers-its}
-use Rattle.clk_script.proofs.RefusalLemmas.{IsRefusal-read, meaning-known, meaning-alone, few-devices}
+use Rattle.clk_script.proofs.RefusalLemmas.{IsRefusal-read, meaning-known, meaning-alone, few-devices, few-closings}
 use Rattle.clk_script.proofs.run.run_parts.Goals as goal
 
 pub read_script-requires : goal.read_script-requires
@@ -18,14 +17,14 @@ read_script-requires g c =
 pub answer_script-requires-clause-sound : goal.answer_script-requires-clause-sound
 answer_script-requires-clause-sound g c = rw (c.deref.ensures.value, c.len.ensures ∙ c.in_ok-router.router.devices.ok.0) at c.in_ok-script.ensures.2
 
--- a report takes as many devices as there are
+-- a report takes as many devices as there are, and so do closings
 pub write_answer-requires-clause-few : goal.write_answer-requires-clause-few
 write_answer-requires-clause-few g c =
-    few-devices (setup_of c.args.trees.items (map queued c.args.queues.now) c.args.senders.now) c.in_ok-router.router _ c.in_ok-router.ensures.made c.in_ok-answer.ensures.devices.1
+    few-devices (setup_of c.args.trees.items (map queued c.args.queues.now) c.args.senders.now) c.in_ok-router.router _ c.in_ok-router.ensures.made c.in_ok-answer.ensures.devices
 
-pub write_answer-requires-clause-logs : goal.write_answer-requires-clause-logs
-write_answer-requires-clause-logs g c =
-    few-devices (setup_of c.args.trees.items (map queued c.args.queues.now) c.args.senders.now) c.in_ok-router.router _ c.in_ok-router.ensures.made c.in_ok-answer.ensures.devices.0
+pub write_answer-requires-clause-closings : goal.write_answer-requires-clause-closings
+write_answer-requires-clause-closings g c =
+    few-closings (setup_of c.args.trees.items (map queued c.args.queues.now) c.args.senders.now) c.in_ok-router.router c.in_ok-answer.answer.closing c.in_ok-router.ensures.made c.in_ok-answer.ensures.closings
 
 -- what is wrong with the script
 pub returns-in_err-script-clause-front : goal.returns-in_err-script-clause-front
@@ -61,9 +60,12 @@ pub returns-clause-written : goal.returns-clause-written
 returns-clause-written g c =
     let setup = setup_of c.args.trees.items (map queued c.args.queues.now) c.args.senders.now in
     let read = rw (c.deref.ensures.value, c.len.ensures ∙ c.in_ok-router.router.devices.ok.0, c.deref-2.ensures.value) at c.in_ok-script.ensures in
-    let means = rw read.1.closing at (c.in_ok-answer.ensures.means setup _ c.in_ok-router.ensures.made read.1.rows) in
-    meaning-known setup c.in_ok-router.router c.in_ok-router.ensures.made _ c.in_ok-text.text.items (answer_text c.in_ok-answer.answer) (lists_of c.in_ok-answer.answer.past.logs.items)
-    (Appends (g.W.Sink.taken c.args.writer.now) (g.W.Sink.taken c.write_answer.new.writer)) c.in_ok-text.ensures.bytes read.0 means c.in_ok-write_answer.ensures.whole
+    let means = rw read.1.closing at (c.in_ok-answer.ensures.means setup _ c.in_ok-router.ensures.made read.1.rows) in (
+      means.0,
+      (λ kept. means.1 (c.in_ok-router.ensures.visits ∙ kept)),
+      meaning-known setup c.in_ok-router.router c.in_ok-router.ensures.made _ c.in_ok-text.text.items (answer_text c.in_ok-answer.answer) means.0
+          (Appends (g.W.Sink.taken c.args.writer.now) (g.W.Sink.taken c.write_answer.new.writer)) c.in_ok-text.ensures.bytes read.0 means.2 c.in_ok-write_answer.ensures.whole,
+    )
 
 pub returns-in_err-write_answer-clause-front : goal.returns-in_err-write_answer-clause-front
 returns-in_err-write_answer-clause-front g c =
@@ -71,5 +73,5 @@ returns-in_err-write_answer-clause-front g c =
     let read = rw (c.deref.ensures.value, c.len.ensures ∙ c.in_ok-router.router.devices.ok.0, c.deref-2.ensures.value) at c.in_ok-script.ensures in
     let means = rw read.1.closing at (c.in_ok-answer.ensures.means setup _ c.in_ok-router.ensures.made read.1.rows) in
     λ e. meaning-alone setup _ _ _
-    (meaning-known setup c.in_ok-router.router c.in_ok-router.ensures.made _ c.in_ok-text.text.items (answer_text c.in_ok-answer.answer) (lists_of c.in_ok-answer.answer.past.logs.items)
-    (AppendsFront (g.W.Sink.taken c.args.writer.now) (g.W.Sink.taken c.write_answer.new.writer)) c.in_ok-text.ensures.bytes read.0 means c.in_err-write_answer.ensures.front)
+    (meaning-known setup c.in_ok-router.router c.in_ok-router.ensures.made _ c.in_ok-text.text.items (answer_text c.in_ok-answer.answer) means.0
+    (AppendsFront (g.W.Sink.taken c.args.writer.now) (g.W.Sink.taken c.write_answer.new.writer)) c.in_ok-text.ensures.bytes read.0 means.2 c.in_err-write_answer.ensures.front)

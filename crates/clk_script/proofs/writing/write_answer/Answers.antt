@@ -3,7 +3,7 @@ use Rattle.std.proofs.lemmas.Result.{err_from_is_err_and}
 use Rattle.clk_packet.proofs.BytesLemmas.{Wrote-then, Wrote-cut}
 use Rattle.clk_report.specs.Report.{report_text}
 use Rattle.clk_report.specs.Devices.{lists_of, came_out}
-use Rattle.clk_script.specs.Rows.{are_several, given_of, rows_text, closings_text, starts_of, ending_of}
+use Rattle.clk_script.specs.Rows.{are_several, given_of, rows_text, closings_text, closings_of, ending_of}
 use Rattle.clk_script.proofs.PassLemmas.{Passes-then, Wrote-passed, Wrote-front}
 use Rattle.clk_script.proofs.writing.write_answer.Goals as goal
 
@@ -13,7 +13,7 @@ returns-in_err-write_rows g c =
     let past = answer.past in
     let p = err_from_is_err_and c.from_residual.result c.from_residual.ensures.1 in
     let failed = rw (c.new-lines.ensures, c.deref.ensures.value, c.deref-2.ensures.value, c.given_of.ensures, c.are_several-several.ensures) at c.in_err-write_rows.ensures in
-    rw (p.1, p.2) (Wrote-front _ _ _ _ _ (rows_text (are_several past) answer.rows.items (given_of past) past.put_out.items) (ending_of past (starts_of answer.closing)) _ failed)
+    rw (p.1, p.2) (Wrote-front _ _ _ _ _ (rows_text (are_several past) answer.rows.items (given_of past) past.put_out.items) (ending_of past (closings_of answer.closing)) _ failed)
 
 pub returns-in_default : goal.returns-in_default
 returns-in_default g c =
@@ -28,11 +28,11 @@ returns-in_err-write_closings g c =
     let answer = c.args.answer.now in
     let past = answer.past in
     let rows = rows_text (are_several past) answer.rows.items (given_of past) past.put_out.items in
-    let closings = closings_text (are_several past) 0 c.in-Some.starts.items (lists_of past.logs.items) in
+    let closings = closings_text (are_several past) 0 (lists_of c.in-Some.closings.items) in
     let report = report_text (came_out past.came_out.items) past.tallies.items in
     let p = err_from_is_err_and c.from_residual-in_err-write_closings.result c.from_residual-in_err-write_closings.ensures.1 in
     let passed = rw (c.new-lines.ensures, c.deref.ensures.value, c.deref-2.ensures.value, c.given_of.ensures, c.are_several-several.ensures) at c.in_ok-write_rows.ensures in
-    let failed = rw (c.deref-3.ensures.value, c.deref-4.ensures.value, c.are_several-several.ensures) at c.in_err-write_closings.ensures in
+    let failed = rw (c.deref-3.ensures.value, c.are_several-several.ensures) at c.in_err-write_closings.ensures in
     let all = Passes-then _ _ _ _ _ _ _ _ _ rows _ closings _ passed failed in
     rw (p.1, p.2, c.in-Some.is, sym (append_assoc rows closings report)) (Wrote-front _ _ _ _ _ (rows ++ closings) report _ all)
 
@@ -41,11 +41,11 @@ returns-in_err-write g c =
     let answer = c.args.answer.now in
     let past = answer.past in
     let rows = rows_text (are_several past) answer.rows.items (given_of past) past.put_out.items in
-    let closings = closings_text (are_several past) 0 c.in-Some.starts.items (lists_of past.logs.items) in
+    let closings = closings_text (are_several past) 0 (lists_of c.in-Some.closings.items) in
     let report = report_text (came_out past.came_out.items) past.tallies.items in
     let p = err_from_is_err_and c.from_residual-in_err-write.result c.from_residual-in_err-write.ensures.1 in
     let passed = rw (c.new-lines.ensures, c.deref.ensures.value, c.deref-2.ensures.value, c.given_of.ensures, c.are_several-several.ensures) at c.in_ok-write_rows.ensures in
-    let more = rw (c.deref-3.ensures.value, c.deref-4.ensures.value, c.are_several-several.ensures) at c.in_ok-write_closings.ensures in
+    let more = rw (c.deref-3.ensures.value, c.are_several-several.ensures) at c.in_ok-write_closings.ensures in
     let all = Passes-then _ _ _ _ _ _ _ _ _ rows _ closings _ passed more in
     rw (p.1, p.2, c.in-Some.is, sym (append_assoc rows closings report)) (Wrote-cut _ _ _ _ _ (rows ++ closings) report (Wrote-passed _ _ _ _ _ _ _ _ (rows ++ closings) _ all c.in_err-write.ensures.wrote))
 
@@ -54,10 +54,10 @@ returns g c =
     let answer = c.args.answer.now in
     let past = answer.past in
     let rows = rows_text (are_several past) answer.rows.items (given_of past) past.put_out.items in
-    let closings = closings_text (are_several past) 0 c.in-Some.starts.items (lists_of past.logs.items) in
+    let closings = closings_text (are_several past) 0 (lists_of c.in-Some.closings.items) in
     let report = report_text (came_out past.came_out.items) past.tallies.items in
     let passed = rw (c.new-lines.ensures, c.deref.ensures.value, c.deref-2.ensures.value, c.given_of.ensures, c.are_several-several.ensures) at c.in_ok-write_rows.ensures in
-    let more = rw (c.deref-3.ensures.value, c.deref-4.ensures.value, c.are_several-several.ensures) at c.in_ok-write_closings.ensures in
+    let more = rw (c.deref-3.ensures.value, c.are_several-several.ensures) at c.in_ok-write_closings.ensures in
     let all = Passes-then _ _ _ _ _ _ _ _ _ rows _ closings _ passed more in
-    let reported = rw (c.deref-5.ensures.value, c.deref-6.ensures.value) at c.report.ensures in
+    let reported = rw (c.deref-4.ensures.value, c.deref-5.ensures.value) at c.report.ensures in
     rw (c.in-Some.is, sym (append_assoc rows closings report)) (Wrote-then _ _ _ _ _ _ _ _ (rows ++ closings) report (Wrote-passed _ _ _ _ _ _ _ _ (rows ++ closings) _ all c.in_ok-write.ensures.wrote) reported)

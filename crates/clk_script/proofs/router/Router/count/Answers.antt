@@ -16,6 +16,7 @@ returns-in-Refused-clause-counted c =
       tallies = refl;
       paths = refl;
       given = refl;
+      visits = refl;
     })
 
 pub returns-in-Accepted-clause-counted : goal.returns-in-Accepted-clause-counted
@@ -40,6 +41,7 @@ returns-in-Accepted-clause-counted c =
       tallies = refl;
       paths = refl;
       given = refl;
+      visits = refl;
     })
 
 pub returns-in_ok-push-in-Evicted-clause-counted : goal.returns-in_ok-push-in-Evicted-clause-counted
@@ -54,4 +56,5 @@ returns-in_ok-push-in-Evicted-clause-counted c =
       tallies = refl;
       paths = refl;
       given = refl;
+      visits = refl;
     })

@@ -26,7 +26,10 @@ returns-clause-leads c =
     let path = member-at old.paths.items sender.queue (let count = c.requires.ready.path_count in let queue = can.0 in omega (arith, count, queue)) in
     let sent = ap (set old.senders.items c.args.place) c.next_packet-packet.ensures.counted in
     λ setup events at. IsAt-sent c.calls_are_history.ensures setup events old _ _ c.args.place path.member sender packet c.offer-outcome.result (c.in_ok-count.ensures.counted packet) at c.requires.ready.rising path.here its.here
-    c.next_packet-packet.ensures.number c.next_packet-packet.ensures.sender c.offer-outcome.ensures sent c.in_ok-note.ensures.kept refl refl refl
+    c.next_packet-packet.ensures.number c.next_packet-packet.ensures.sender c.offer-outcome.ensures sent c.in_ok-note.ensures.kept refl refl refl refl
 
 pub returns-clause-given : goal.returns-clause-given
 returns-clause-given c = (c.in_ok-count.ensures.counted c.next_packet-packet.result).given
+
+pub returns-clause-visits : goal.returns-clause-visits
+returns-clause-visits c = (c.in_ok-count.ensures.counted c.next_packet-packet.result).visits

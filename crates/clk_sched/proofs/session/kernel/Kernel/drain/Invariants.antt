@@ -1,4 +1,5 @@
 use Rattle.std.proofs.Common.{◌≡◌, ◌-◌, ◌≤◌}
+use Rattle.clk_sched.specs.Departures.{departures_in, pulls_since, IsAddedTo}
 use Rattle.clk_sched.specs.Kinds.{progress_of}
 use Rattle.clk_sched.proofs.SessionDrain.{IsDraining, Empties}
 use Rattle.clk_sched.proofs.session.kernel.Kernel.drain.Given as goal
@@ -8,6 +9,7 @@ invariant-loop-given g l =
     (l.made ≤ l.bound) × IsDraining g.Q.Ask.gives (progress_of l.initial.self) (progress_of l.self) l.initial.q l.q l.start l.made l.given l.left
     × Empties g.Q.Ask.gives g.Q.Ask.holds (progress_of l.initial.self) (progress_of l.self) l.initial.q l.q l.made l.given l.left
     × (l.self.keeps ≡ l.initial.self.keeps)
+    × IsAddedTo l.initial.departures (departures_in (pulls_since (progress_of l.initial.self) (progress_of l.self))) l.departures
 
 abbrev pub decreases-loop-given : goal.decreases-loop-given
 decreases-loop-given g l = l.bound - l.made

@@ -12,7 +12,6 @@ invariant_of-result c =
       session-first c.args.tree n laid,
       (let e = laid.moment in omega (arith, e)),
       c.requires.distinct,
-      c.new.ensures.keeps ∙ sym c.in_ok-nodes.ensures.kind,
       (λ kept. c.new.ensures.packets ∙ ap emitted (sym laid.log)),
       omega (arith, none, counted),
       omega (arith, counted),

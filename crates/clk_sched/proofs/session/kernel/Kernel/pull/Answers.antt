@@ -14,7 +14,7 @@ use Rattle.clk_sched.proofs.session.kernel.Kernel.pull.Goals as goal
 pub overflow_add-self : goal.overflow_add-self
 overflow_add-self g c =
     let a = c.self.inside.nodes in
-    let fit = pulls-fit a.log.items _ a.log.keeps c.in_ok-reserve.ensures.few (subst (λ s. s.keeps ≡ false → pulls_made (progress_of s) < end_of_pulls) (sym c.self.view_is) c.requires.pulls) in
+    let fit = pulls-fit a.log.items _ a.log.keeps c.in_ok-reserve.ensures.few (subst (λ s. s.keeps.visits ≡ false → pulls_made (progress_of s) < end_of_pulls) (sym c.self.view_is) c.requires.pulls) in
     let same = c.pull_device-got.ensures.keeps.pull in
     let counted = c.self.invariant.0.pull in
     omega (arith, fit, same, counted)
@@ -22,9 +22,9 @@ overflow_add-self g c =
 pub add-requires : goal.add-requires
 add-requires g c =
     let a = c.self.inside.nodes in
-    let fit = pulls-fit a.log.items _ a.log.keeps c.in_ok-reserve.ensures.few (subst (λ s. s.keeps ≡ false → pulls_made (progress_of s) < end_of_pulls) (sym c.self.view_is) c.requires.pulls) in
+    let fit = pulls-fit a.log.items _ a.log.keeps c.in_ok-reserve.ensures.few (subst (λ s. s.keeps.visits ≡ false → pulls_made (progress_of s) < end_of_pulls) (sym c.self.view_is) c.requires.pulls) in
     let counted = c.self.invariant.0.pull in
-    let few = c.self.invariant.6 in
+    let few = c.self.invariant.5 in
     let same = c.reserve-2.ensures.count in
     record { room = c.in_ok-reserve-2.ensures.room; few = omega (arith, fit, counted, few, same) }
 
@@ -45,21 +45,19 @@ invariant_of-self-2 g c =
     let kept = c.pull_device-got.ensures.keeps.moment in
     let below = c.self.invariant.1 in
     let asked = c.requires.moment in
-    let kind = c.pull_device-got.ensures.keeps.kind ∙ ap (λ l. l.keeps) ready in
     let more = emitted-once (progress tree a) (progress tree b) c.args.moment got gone.once in
     let added = ap length more ∙ length-append (emitted a.log.items) (cons_option got []) in
     let count = c.add.ensures.count in
     let before = c.reserve-2.ensures.count in
-    let counted = c.self.invariant.5 in
-    let few = c.self.invariant.6 in
+    let counted = c.self.invariant.4 in
+    let few = c.self.invariant.5 in
     let one = one-at-most got in
     let same = c.pull_device-got.ensures.keeps.pull in (
       gone.still,
       omega (arith, most, kept, below, asked),
       c.self.invariant.2,
-      c.add.ensures.keeps ∙ c.reserve-2.ensures.keeps ∙ c.self.invariant.3 ∙ sym kind,
       (λ keeps. let stays = sym c.add.ensures.keeps ∙ keeps in
-          c.add.ensures.packets stays ∙ ap (λ l. l ++ cons_option got []) (c.reserve-2.ensures.packets ∙ c.self.invariant.4 (sym c.reserve-2.ensures.keeps ∙ stays)) ∙ sym more),
+          c.add.ensures.packets stays ∙ ap (λ l. l ++ cons_option got []) (c.reserve-2.ensures.packets ∙ c.self.invariant.3 (sym c.reserve-2.ensures.keeps ∙ stays)) ∙ sym more),
       omega (arith, added, count, before, counted),
       omega (arith, count, before, few, one, same),
     )
