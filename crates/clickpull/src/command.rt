@@ -105,6 +105,9 @@ fn perform<H: Files + AllocGlobal + Threads + Wait, P: Wait + Sync, R: Source, W
         } => {
             let plan = read_plan(rt, alloc, tree)?;
             let mut script = open_file(rt, script)?;
+            if visits.is_none() {
+                return run_script(alloc, &mut script, writer, &plan);
+            }
             let logs = run_script_logged(alloc, &mut script, writer, &plan)?;
             keep_visits(rt, alloc, visits, &logs)
         }
