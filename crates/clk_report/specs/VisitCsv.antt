@@ -22,6 +22,10 @@ got_text field got = number_or_none (option_map field got)
 abbrev pub header_text : List ℕ
 header_text = codes "pull,node,input,fresh,sender,number,length,passed,moment\n"
 
+-- the header line, where rows tell the device and where they don't
+abbrev pub header_of : Bool → List ℕ
+header_of several = if several then codes "device," ++ header_text else header_text
+
 -- what a visit shows in each column
 abbrev pub columns : Visit → List (List ℕ)
 columns v =

@@ -1,12 +1,20 @@
 //! What the definitions of the texts say: a law is a function that does nothing and whose contract is the law.
 
-ghost use Rattle.std.specs.Prelude.{◌≡◌, ◌++◌, ◌∷◌, [], List};
+ghost use Rattle.std.specs.Prelude.{◌≡◌, ℕ, ◌++◌, ◌∷◌, [], List, Option, None, true, false};
 ghost use Rattle.std.specs.List.{flat_map};
 ghost use Rattle.csv.specs.Writing.{default_writer, row_text};
 ghost use Rattle.clk_sched.specs.declared.visit.Visit.{Visit};
-ghost use Rattle.clk_report.specs.VisitCsv.{columns, header_text, visits_text};
+ghost use Rattle.clk_report.specs.VisitCsv.{columns, devices_text, header_of, header_text, rows_text, visits_text};
 
 /// The visit CSV of one log has a row of the visit's columns alone for each visit, and no word of a device.
 pub fn one_device_is_not_told()
     ensures { (log : List Visit) → visits_text (log ∷ []) ≡ header_text ++ flat_map (λ v. row_text default_writer (columns v)) log }
+{}
+
+/// The rows of a log are those of its parts, one after the other, and the visit CSV of logs is its header line and their rows: so it may be
+/// written as a log grows.
+pub fn visits_come_in_pieces()
+    ensures parts { (device : Option ℕ) (before after : List Visit) → rows_text device (before ++ after) ≡ rows_text device before ++ rows_text device after }
+    ensures one { (log : List Visit) → visits_text (log ∷ []) ≡ header_of false ++ rows_text None log }
+    ensures several { (log other : List Visit) (logs : List (List Visit)) → visits_text (log ∷ other ∷ logs) ≡ header_of true ++ devices_text 0 (log ∷ other ∷ logs) }
 {}

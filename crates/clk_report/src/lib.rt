@@ -7,6 +7,6 @@ mod senders;
 mod total;
 mod visits;
 
-pub use laws::one_device_is_not_told;
+pub use laws::{one_device_is_not_told, visits_come_in_pieces};
 pub use senders::{MAX_DEVICES, report};
-pub use visits::visits_csv;
+pub use visits::{visit_rows, visits_csv, visits_header};

@@ -3,10 +3,10 @@
 ghost use Rattle.std.specs.Prelude.{◌≡◌, ◌+◌, ◌<◌, ◌++◌, ◌⊎◌, Some, false, decimal, drop, length, map, IfOk, IfErr, OnOk, OnErr, IsOkUnless};
 ghost use Rattle.std.specs.Io.KnownBytes.{Appends};
 ghost use Rattle.csv.specs.Writing.{default_writer, fields_written, has_written, row_text, text_written, writer_setup};
-ghost use Rattle.clk_packet.specs.Bytes.{AppendsFront, write_failures};
+ghost use Rattle.clk_packet.specs.Bytes.{AppendsFront, Wrote, write_failures};
 ghost use Rattle.clk_packet.specs.declared.fault.Fault.TheVariants.{Memory, Write};
 ghost use Rattle.clk_report.specs.Devices.{lists_of};
-ghost use Rattle.clk_report.specs.VisitCsv.{columns, device_column, devices_text, flag_text, number_or_none, rows_text, visits_text};
+ghost use Rattle.clk_report.specs.VisitCsv.{columns, device_column, devices_text, flag_text, header_of, number_or_none, rows_text, visits_text};
 ghost use Rattle.clk_report.specs.Writes.{WroteOrStopped};
 
 use clk_packet::{Fault, Sink, write_all};
@@ -38,16 +38,29 @@ pub fn visits_csv<W: Sink>(alloc: Global, logs: &[Vec<Visit>], writer: &mut W) -
     ensures failures { W.Sink.failures writer.new ≡ write_failures result (W.Sink.failures writer.old) }
 {
     match logs {
-        [] => write_all(writer, HEADER),
+        [] => visits_header(false, writer),
         [log] => {
-            write_all(writer, HEADER)?;
-            write_rows(alloc, None, log, writer)
+            visits_header(false, writer)?;
+            visit_rows(alloc, None, log, writer)
         }
         _ => {
-            write_all(writer, DEVICES_HEADER)?;
+            visits_header(true, writer)?;
             write_devices(alloc, logs, writer)
         }
     }
+}
+
+/// Writes the header line of a visit CSV, of several devices or of one. The rows that follow it may come some at a time (`visit_rows`),
+/// as a log grows: their texts together are that of the whole (`visits_come_in_pieces`).
+///
+/// # Errors
+///
+/// Fault 20 where the sink fails. It has taken a front of the line then.
+pub fn visits_header<W: Sink>(several: bool, writer: &mut W) -> Result<(), Fault>
+    ensures { Wrote (W.Sink.taken writer.old) (W.Sink.taken writer.new)
+        (W.Sink.failures writer.old) (W.Sink.failures writer.new) result (header_of several) }
+{
+    write_all(writer, if several { DEVICES_HEADER } else { HEADER })
 }
 
 /// Writes the rows of several devices, each with its device.
@@ -56,13 +69,17 @@ fn write_devices<W: Sink>(alloc: Global, logs: &[Vec<Visit>], writer: &mut W) ->
         (W.Sink.failures writer.old) (W.Sink.failures writer.new) result (devices_text 0 (lists_of logs.now)) }
 {
     for (device, log) in logs.iter().enumerate() {
-        write_rows(alloc, Some(device as u64), log, writer)?;
+        visit_rows(alloc, Some(device as u64), log, writer)?;
     }
     Ok(())
 }
 
-/// Writes the rows of a log, some at a time, with the device where there is one.
-fn write_rows<W: Sink>(
+/// Writes the rows of some visits, with the number of their device where there are several.
+///
+/// # Errors
+///
+/// Fault 1 where memory is refused, and 20 where the sink fails. It has taken a front of the rows then.
+pub fn visit_rows<W: Sink>(
     alloc: Global,
     device: Option<u64>,
     log: &[Visit],

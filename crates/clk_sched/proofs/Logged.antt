@@ -29,7 +29,7 @@ keeps-logged a b c m v h l =
       pull = l.pull ∙ h.pull;
       moment = l.moment ∙ h.moment;
       fit = subst (λ s. AllFit a.inputs.items s) (sym l.states) h.fit;
-      kind = ap (λ k. k.keeps) l.log ∙ h.kind;
+      kind = ap (λ k. k.kind) l.log ∙ h.kind;
       grown = logged-whole a b c m v h l ∙ ap (λ k. a.log.items ++ k) (sym (added-logged a b c m v h l));
       at_most = let i = h.at_most in let e = ap (λ k. k.spare) l.log in omega (arith, e);
     }

@@ -1,5 +1,6 @@
 -- One pull of a session: what its nodes did is the next pull of its run.
-use Rattle.std.proofs.Common.{◌≡◌, ℕ, suc, ◌+◌, ◌<◌, ◌≤◌, max, List, [], ◌∷◌, ◌++◌, length, map, reverse, filter, Bool, true, false, ◌==◌, if◌then◌else◌, Option, Some, None, MatchOption, refl, sym, ap, ◌∙◌, subst, append-nil, append_assoc, arith}
+use Rattle.std.proofs.Common.{◌≡◌, ℕ, zero, suc, ◌+◌, ◌<◌, ◌≤◌, max, List, [], ◌∷◌, ◌++◌, length, map, reverse, filter, Bool, true, false, ◌==◌, if◌then◌else◌, Option, Some, None, MatchOption, refl, sym, ap, ◌∙◌, subst, append-nil, append_assoc, arith}
+use Rattle.std.proofs.lemmas.Bool.{false≢true}
 use Rattle.std.specs.List.{AllByRecursion, filter_map, cons_option}
 use Rattle.std.proofs.lemmas.List.{map-append, reverse-append, length-append}
 use Rattle.std.proofs.lemmas.List.Elements.{filter-append, filter_map-append}
@@ -175,9 +176,11 @@ pub pulls-few : (log : List Visit) → length (pulls log) ≤ length log
 pulls-few log = let e = length-map-range_with_len (λ k. in_pull k log) 0 (length (visits_of 0 log)) in let l = filter-few (λ (v : Visit). v.node == 0) log in omega (arith, e, l)
 
 -- Pulls don't come to their end where the log is kept, since it takes more memory than there can be, nor where they are counted.
-pub pulls-fit : (log : List Visit) (more : ℕ) (keeps : Bool) → (keeps ≡ true → length log + more < end_of_pulls) → (keeps ≡ false → length (pulls log) < end_of_pulls) → length (pulls log) < end_of_pulls
-pulls-fit log more true kept counted = let room = kept refl in let few = pulls-few log in omega (arith, few)
-pulls-fit log more false kept counted = counted refl
+pub pulls-fit : (log : List Visit) (more : ℕ) (keeps : Bool) (gone : ℕ) → (keeps ≡ true → gone ≡ 0 → length log + more < end_of_pulls) → ((keeps ≡ true → gone ≡ 0 → ⊥) → length (pulls log) < end_of_pulls)
+    → length (pulls log) < end_of_pulls
+pulls-fit log more true zero kept counted = let room = kept refl refl in let few = pulls-few log in omega (arith, few)
+pulls-fit log more true (suc n) kept counted = counted (λ keeps none. omega (arith, none))
+pulls-fit log more false gone kept counted = counted (λ keeps none. false≢true keeps)
 
 -- a session before its first pull
 pub session-first : (tree : Tree) (n : Nodes) → IsLaidOut tree n → IsAfterRun tree n

@@ -204,7 +204,7 @@ spent-back gives a b c q r x s z got h none back =
         pull = back.pull ∙ kept.pull;
         moment = back.moment ∙ kept.moment;
         fit = back.fits a.inputs.items kept.fit;
-        kind = ap (λ v. v.keeps) back.log ∙ kept.kind;
+        kind = ap (λ v. v.kind) back.log ∙ kept.kind;
         grown = ap (λ v. v.items) back.log ∙ kept.grown ∙ ap (λ l. a.log.items ++ l) (sym more);
         at_most = subst (λ v. a.log.spare ≤ v.spare + edges_of a.inputs.items x) (sym back.log) kept.at_most;
       };

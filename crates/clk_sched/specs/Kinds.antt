@@ -1,16 +1,17 @@
 -- All kinds of sessions: of some the visits are kept in memory, and of others contracts alone know them.
-use Rattle.std.specs.Prelude.{ℕ, true, false, List, length}
+use Rattle.std.specs.Prelude.{◌≡◌, ℕ, true, false, List, length}
 use Rattle.clk_sched.specs.declared.visit.Visit.{Visit}
 use Rattle.clk_sched.specs.declared.session.keeps.Keeps.{Keeps}
 use Rattle.clk_sched.specs.Tree.{Tree}
 use Rattle.clk_sched.specs.Log.{pulls}
 use Rattle.clk_sched.specs.Session.{Progress}
 
--- what a session of any kind is seen as: its tree, the log of its pulls, and what is kept of the past
+-- what a session of any kind is seen as: its tree, the log of its pulls, what is kept of the past, and of how many visits it let go
 pub record AnySession : Type 0 where
   pub tree : Tree
   pub log : List Visit
   pub keeps : Keeps
+  pub gone : ℕ
 
 abbrev pub keeps_all : Keeps
 keeps_all = record { visits = true; packets = true }
@@ -25,3 +26,7 @@ progress_of s = record { tree = s.tree; log = s.log }
 -- how many pulls were made
 abbrev pub pulls_made : Progress → ℕ
 pulls_made s = length (pulls s.log)
+
+-- No memory bounds how many pulls a session can have: it keeps no visits, or let go of some.
+abbrev pub IsEndless : AnySession → Type 0
+IsEndless s = (s.keeps.visits ≡ true → s.gone ≡ 0 → ⊥)

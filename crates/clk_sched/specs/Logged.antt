@@ -1,17 +1,26 @@
 -- What the log of a session is seen as, whether its visits are kept in memory or not.
-use Rattle.std.specs.Prelude.{ℕ, ◌-◌, Bool, List, [], ◌∷◌, ◌++◌}
+use Rattle.std.specs.Prelude.{ℕ, ◌-◌, Bool, List, [], ◌∷◌, ◌++◌, length}
 use Rattle.clk_sched.specs.declared.visit.Visit.{Visit}
 
--- every visit so far, for how many more there is room, and whether they are kept
+-- whether visits are kept, and how many of them were let go of
+pub record Keeping : Type 0 where
+  pub keeps : Bool
+  pub gone : ℕ
+
+-- every visit so far, for how many more there is room, and what is kept of them
 pub record Logged : Type 0 where
   pub items : List Visit
   pub spare : ℕ
-  pub keeps : Bool
+  pub kind : Keeping
 
 -- a log with one visit more
 abbrev pub with_visit : Logged → Visit → Logged
-with_visit log v = record { items = log.items ++ v ∷ []; spare = log.spare - 1; keeps = log.keeps }
+with_visit log v = record { items = log.items ++ v ∷ []; spare = log.spare - 1; kind = log.kind }
 
 -- a log that has room for so many visits more
 abbrev pub with_room : Logged → ℕ → Logged
-with_room log n = record { items = log.items; spare = n; keeps = log.keeps }
+with_room log n = record { items = log.items; spare = n; kind = log.kind }
+
+-- a log whose visits so far were let go of
+abbrev pub with_none : Logged → Logged
+with_none log = record { items = log.items; spare = log.spare; kind = record { keeps = log.kind.keeps; gone = length log.items } }

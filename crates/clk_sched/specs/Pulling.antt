@@ -128,7 +128,7 @@ pub record Keeps (old new : Nodes) (most : ℕ) : Type 0 where
   pub pull : new.pull ≡ old.pull
   pub moment : new.moment ≡ old.moment
   pub fit : AllFit old.inputs.items new.states.items
-  pub kind : new.log.keeps ≡ old.log.keeps
+  pub kind : new.log.kind ≡ old.log.kind
   pub grown : new.log.items ≡ old.log.items ++ added old new
   pub at_most : old.log.spare ≤ new.log.spare + most
 

@@ -45,7 +45,7 @@ impl Model for Session {
 
     ghost view = { λ s. progress_of s.kernel };
 
-    ghost invariant = { λ s. s.kernel.keeps ≡ keeps_all };
+    ghost invariant = { λ s. (s.kernel.keeps ≡ keeps_all) × (s.kernel.gone ≡ 0) };
 }
 
 impl Session {

@@ -41,7 +41,7 @@ its-left setup events d device here =
 
 -- A drain of a device, which changes no other, leads on.
 module _ (calls : CallsAreHistory) (setup : Setup) (events : List Event) (old new : Router) (d moment made given : ℕ) (before after : Device) (at : IsAt setup events old)
-    (set : IsSetAt old.devices.items d before after new.devices.items) (kept : after.kept ≡ before.kept) (kind : after.session.keeps ≡ before.session.keeps)
+    (set : IsSetAt old.devices.items d before after new.devices.items) (kept : after.kept ≡ before.kept) (kind : (after.session.keeps ≡ before.session.keeps) × (after.session.gone ≡ before.session.gone))
     (dr : IsDrained (progress_of before.session) (progress_of after.session) (max (counted_moment (progress_of before.session)) moment) made given) where
   here : IsHere setup events d before
   here = device-here setup events old d before at set.was
@@ -141,7 +141,7 @@ module _ (several : Bool) (d : ℕ) where
       ∙ sym (flat_map-append (departure_text several d) (departure_at (moment_of pull) got) (departures_in more))
 
 pub closes-all : CallsAreHistory → (setup : Setup) (events : List Event) (old new : Router) (d moment made left : ℕ) (before after : Device) (departures : List Departure) → IsAt setup events old
-    → IsSetAt old.devices.items d before after new.devices.items → after.kept ≡ before.kept → after.session.keeps ≡ before.session.keeps → left ≡ before.kept - length (emitted before.session.log)
+    → IsSetAt old.devices.items d before after new.devices.items → after.kept ≡ before.kept → (after.session.keeps ≡ before.session.keeps) × (after.session.gone ≡ before.session.gone) → left ≡ before.kept - length (emitted before.session.log)
     → GivesAll (progress_of before.session) (progress_of after.session) (max (counted_moment (progress_of before.session)) moment) made left
     → departures ≡ departures_in (pulls_since (progress_of before.session) (progress_of after.session))
     → Answers gives (tree_queue before.session.tree) old.queues (newly (progress_of before.session) (progress_of after.session)) new.queues → new.senders ≡ old.senders → new.tallies ≡ old.tallies → new.paths ≡ old.paths

@@ -304,12 +304,12 @@ kinds-changed visits old d new changes here at k = by_test (d == k) refl
 kinds-counted : (visits : Bool) (outcome : Offered) (old new : Option Device) → CountsHere outcome old new → KeepsAsAt visits old → KeepsAsAt visits new
 kinds-counted visits outcome None new counts h = absurd counts
 kinds-counted visits outcome (Some old) None counts h = absurd counts
-kinds-counted visits outcome (Some old) (Some new) counts h = ap (λ s. s.keeps) counts.0 ∙ h
+kinds-counted visits outcome (Some old) (Some new) counts h = (ap (λ s. s.keeps) counts.0 ∙ h.0, ap (λ s. s.gone) counts.0 ∙ h.1)
 
-pub kinds-set : (visits : Bool) (old : List Device) (d : ℕ) (before after : Device) (new : List Device) → slice_get old d ≡ Some before → slice_get new d ≡ Some after → ChangesDevice old d new → after.session.keeps ≡ before.session.keeps
+pub kinds-set : (visits : Bool) (old : List Device) (d : ℕ) (before after : Device) (new : List Device) → slice_get old d ≡ Some before → slice_get new d ≡ Some after → ChangesDevice old d new → (after.session.keeps ≡ before.session.keeps) × (after.session.gone ≡ before.session.gone)
     → ((k : ℕ) → KeepsAsAt visits (slice_get old k)) → (k : ℕ) → KeepsAsAt visits (slice_get new k)
 kinds-set visits old d before after new was is changes kind =
-    kinds-changed visits old d new changes (λ h. let first : KeepsAs visits before = subst (KeepsAsAt visits) was h in let next : KeepsAs visits after = kind ∙ first in subst (KeepsAsAt visits) (sym is) next)
+    kinds-changed visits old d new changes (λ h. let first : KeepsAs visits before = subst (KeepsAsAt visits) was h in let next : KeepsAs visits after = (kind.0 ∙ first.0, kind.1 ∙ first.1) in subst (KeepsAsAt visits) (sym is) next)
 
 -- An offer of the sender at a place leads on.
 pub IsAt-sent : CallsAreHistory → (setup : Setup) (events : List Event) (old mid new : Router) (place device : ℕ) (s : Sender) (p : Packet) (outcome : Offered) → Counts mid s.queue p outcome new → IsAt setup events old
@@ -398,7 +398,7 @@ IsAt-sent calls setup events old mid new place device s p outcome counts at risi
 
 -- A pull of a device, which changes the session of no other, leads on.
 pub IsAt-pulled : CallsAreHistory → (setup : Setup) (events : List Event) (old new : Router) (d moment : ℕ) (before after : Device) (got : Option Packet) → IsAt setup events old → slice_get old.devices.items d ≡ Some before
-    → slice_get new.devices.items d ≡ Some after → ChangesDevice old.devices.items d new.devices.items → after.kept ≡ before.kept → after.session.keeps ≡ before.session.keeps → IsPulledOnce (progress_of before.session) (progress_of after.session) moment got
+    → slice_get new.devices.items d ≡ Some after → ChangesDevice old.devices.items d new.devices.items → after.kept ≡ before.kept → (after.session.keeps ≡ before.session.keeps) × (after.session.gone ≡ before.session.gone) → IsPulledOnce (progress_of before.session) (progress_of after.session) moment got
     → Answers gives (tree_queue before.session.tree) old.queues (newly (progress_of before.session) (progress_of after.session)) new.queues → new.senders ≡ old.senders → new.tallies ≡ old.tallies → new.paths ≡ old.paths → new.evicted ≡ old.evicted
     → new.visits ≡ old.visits → LeadsOnByPull setup new d moment got events
 IsAt-pulled calls setup events old new d moment before after got at was is changes kept kind once answers senders tallies paths evicted kinds =
@@ -527,7 +527,7 @@ Starts-made calls trees queues senders router run whole devices_are queues_are p
 
     kind : (o : Option Tree) → KeepsAsAt router.visits (option_map (device_made router.visits) o)
     kind None = tt
-    kind (Some tree) = refl
+    kind (Some tree) = (refl, refl)
 
     first : (o : Option Queued) → AreQueuesAt [] (option_map room_of o) (option_map queue_made o)
     first None = tt

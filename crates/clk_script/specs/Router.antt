@@ -48,7 +48,7 @@ pub record CanStand (tree : Tree) : Type 0 where
   pub sound : AreSchedulersSound (root tree)
 
 abbrev pub device_made : Bool → Tree → Device
-device_made visits tree = record { session = record { tree = tree; log = []; keeps = record { visits = visits; packets = true } }; kept = 0 }
+device_made visits tree = record { session = record { tree = tree; log = []; keeps = record { visits = visits; packets = true }; gone = 0 }; kept = 0 }
 
 abbrev pub sender_made : SenderSpec → Sender
 sender_made spec = record { number = spec.number; queue = spec.queue; sent = 0 }
@@ -176,9 +176,9 @@ AreDevicesAt events None (Some device) = ⊥
 AreDevicesAt events (Some tree) None = ⊥
 AreDevicesAt events (Some tree) (Some device) = IsDeviceAt events tree device
 
--- A device keeps what came out at it, and its visits or not.
+-- A device keeps what came out at it, and all its visits or none.
 abbrev pub KeepsAs : Bool → Device → Type 0
-KeepsAs visits device = device.session.keeps ≡ record { visits = visits; packets = true }
+KeepsAs visits device = (device.session.keeps ≡ record { visits = visits; packets = true }) × (device.session.gone ≡ 0)
 
 abbrev pub KeepsAsAt : Bool → Option Device → Type 0
 KeepsAsAt visits None = ⊤

@@ -4,11 +4,13 @@ use crate::row::{assert_answer, assert_answers};
 use std::test::Fail;
 
 /// A text of each fault, and those in which more than one place could be told. A second ToDevice is no fault.
-const FAULTS: [(&str, &str); 17] = [
+const FAULTS: [(&str, &str); 19] = [
     ("d :: ToDevice(x); /* cut", "fault 2: BadText 18"),
     ("q :: Que;", "fault 3: UnknownClass 5"),
+    ("d :: ToDevice(x); r :: Que;", "fault 3: UnknownClass 23"),
     ("q :: Queue(0);", "fault 4: BadArgument 5"),
     ("q :: Queue; q :: Queue;", "fault 5: NameTwice 12"),
+    ("a, d, d :: Queue;", "fault 5: NameTwice 6"),
     ("a -> b;", "fault 6: UnknownName 0"),
     (
         "d :: ToDevice(x); q :: Queue; q [1] -> d;",

@@ -1,5 +1,5 @@
 //! Every visit of a session, as contracts see it.
-ghost use Rattle.std.specs.Prelude.{◌≡◌, ℕ, ◌-◌, ◌++◌, List, [], ◌∷◌};
+ghost use Rattle.std.specs.Prelude.{◌≡◌, ℕ, ◌-◌, ◌++◌, List, [], ◌∷◌, length};
 ghost use Rattle.std.specs.Borrow.{ftrue};
 ghost use Rattle.clk_sched.specs.declared.visit.Visit.{Visit};
 
@@ -13,6 +13,8 @@ pub struct AllVisits {
     pub ghost items: { List Visit },
     /// For how many more there is room.
     pub ghost spare: { ℕ },
+    /// How many of them were let go of.
+    pub ghost gone: { ℕ },
 }
 
 impl Model for AllVisits {
@@ -22,18 +24,23 @@ impl Model for AllVisits {
 impl AllVisits {
     /// No visits so far, and room for none.
     pub fn none() -> AllVisits
-        ensures { result ≡ record { items = []; spare = 0 } }
+        ensures { result ≡ record { items = []; spare = 0; gone = 0 } }
     {
         AllVisits {}
     }
 
     /// Adds a visit.
     pub fn push(&mut self, visit: &Visit)
-        ensures { self.new ≡ record { items = self.old.items ++ visit.now ∷ []; spare = self.old.spare - 1 } }
+        ensures { self.new ≡ record { items = self.old.items ++ visit.now ∷ []; spare = self.old.spare - 1; gone = self.old.gone } }
     {}
 
     /// There is room for so many visits more.
     pub fn make_room(&mut self, visits: &usize)
-        ensures { self.new ≡ record { items = self.old.items; spare = visits.now } }
+        ensures { self.new ≡ record { items = self.old.items; spare = visits.now; gone = self.old.gone } }
+    {}
+
+    /// All so far are let go of.
+    pub fn let_go(&mut self)
+        ensures { self.new ≡ record { items = self.old.items; spare = self.old.spare; gone = length self.old.items } }
     {}
 }

@@ -37,7 +37,12 @@ impl Model for Kernel {
 
     ghost coded = { Prim.hlevel (codes, tree_code) };
 
-    ghost view = { λ s. record { tree = s.tree; log = s.nodes.log.items; keeps = record { visits = s.nodes.log.keeps; packets = s.emitted.keeps } } };
+    ghost view = { λ s. record {
+      tree = s.tree;
+      log = s.nodes.log.items;
+      keeps = record { visits = s.nodes.log.kind.keeps; packets = s.emitted.keeps };
+      gone = s.nodes.log.kind.gone;
+    } };
 
     ghost invariant = { λ s. IsAfterRun s.tree s.nodes × (s.nodes.moment < end_of_moments) × (leaves_distinct s.tree ≡ true)
         × (s.emitted.keeps ≡ true → s.emitted.packets.items ≡ came_out s.nodes.log.items)
@@ -45,7 +50,7 @@ impl Model for Kernel {
 }
 
 impl Kernel {
-    ghost use Rattle.std.specs.Prelude.{◌≡◌, ℕ, ◌+◌, ◌-◌, ◌<◌, ◌≤◌, ◌^◌, true, false, [], length, max, Ok, Err, IfOk, IfErr, OnOk, OnErr, IsOk, IsOkUnless};
+    ghost use Rattle.std.specs.Prelude.{◌≡◌, ℕ, ◌+◌, ◌-◌, ◌<◌, ◌≤◌, ◌^◌, true, false, [], drop, length, max, Ok, Err, IfOk, IfErr, OnOk, OnErr, IsOk, IsOkUnless};
     ghost use Rattle.clk_sched.specs.Tree.{root, leaves_distinct, IsSound};
     ghost use Rattle.clk_sched.specs.Limits.{most_elements, most_left, end_of_moments, end_of_drains, end_of_pulls, end_of_drained_pulls};
     ghost use Rattle.clk_sched.specs.LaidOut.{IsRefused};
@@ -58,7 +63,7 @@ impl Kernel {
     ghost use Rattle.clk_sched.specs.Session.{IsPulledOnce, GivesAll, StopsAt, counted_moment, elements, newly, tree_queue};
     ghost use Rattle.clk_sched.specs.Departures.{departures_in, pulls_since, IsAddedTo};
     ghost use Rattle.clk_sched.specs.declared.session.departures.Departures.TheVariants.{Dropped};
-    ghost use Rattle.clk_sched.specs.Kinds.{progress_of, pulls_made, keeps_nothing};
+    ghost use Rattle.clk_sched.specs.Kinds.{progress_of, pulls_made, keeps_nothing, IsEndless};
 
     /// A session of this tree, in which no queue stands twice, before its first pull.
     ///
@@ -67,7 +72,7 @@ impl Kernel {
     /// Fault 18 for a tree of more than 256 nodes and queues, the device counted; else fault 1 where memory is refused.
     pub fn new(alloc: Global, tree: Tree, keeps: Keeps) -> Result<Kernel, Fault>
         requires distinct { leaves_distinct tree ≡ true }
-        ensures made { IfOk result (λ s. s ≡ record { tree = tree; log = []; keeps = keeps }) }
+        ensures made { IfOk result (λ s. s ≡ record { tree = tree; log = []; keeps = keeps; gone = 0 }) }
         ensures fits { IfOk result (λ s. 1 + elements (root tree) ≤ most_elements) }
         ensures refused { IfErr result (λ fault. IsRefused tree fault) }
     {
@@ -86,10 +91,11 @@ impl Kernel {
     /// Fault 1 where memory is refused, which is asked for just for what is kept. Then nothing has changed.
     pub fn pull<Q: Ask>(&mut self, q: &mut Q, moment: u64) -> Result<Option<Packet>, Fault>
         requires moment { moment < end_of_moments }
-        requires pulls { self.old.keeps.visits ≡ false → pulls_made (progress_of self.old) < end_of_pulls }
+        requires pulls { IsEndless self.old → pulls_made (progress_of self.old) < end_of_pulls }
         ensures pulled { IfOk result (IsPulledOnce (progress_of self.old) (progress_of self.new) moment) }
         ensures answers { OnOk result (Answers Q.gives (tree_queue self.old.tree) q.old (newly (progress_of self.old) (progress_of self.new)) q.new) }
         ensures kind { self.new.keeps ≡ self.old.keeps }
+        ensures gone { self.new.gone ≡ self.old.gone }
         ensures fault { IsOkUnless result Fault.Memory }
         ensures unkept { self.old.keeps ≡ keeps_nothing → IsOk result }
         ensures unchanged { OnErr result (self.new ≡ self.old) }
@@ -121,7 +127,7 @@ impl Kernel {
     ) -> Result<u64, Fault>
         requires left { left ≤ most_left }
         requires moment { max (counted_moment (progress_of self.old)) moment < end_of_drains }
-        requires pulls { self.old.keeps.visits ≡ false → pulls_made (progress_of self.old) < end_of_drained_pulls }
+        requires pulls { IsEndless self.old → pulls_made (progress_of self.old) < end_of_drained_pulls }
         ensures all { IfOk result (λ made. GivesAll (progress_of self.old) (progress_of self.new) (max (counted_moment (progress_of self.old)) moment) made left) }
         ensures none_left { left ≡ 0 → (result ≡ Ok 0) × (self.new ≡ self.old) × (q.new ≡ q.old) }
         ensures short { IfErr result (StopsAt (progress_of self.old) (progress_of self.new) (max (counted_moment (progress_of self.old)) moment) left) }
@@ -129,6 +135,7 @@ impl Kernel {
         ensures ends { LosesNothing Q.gives Q.holds → left ≡ left_in self.old.tree self.old.log (Q.holds q.old) → IsOkUnless result Fault.Memory }
         ensures departures { IsAddedTo departures.old (departures_in (pulls_since (progress_of self.old) (progress_of self.new))) departures.new }
         ensures kind { self.new.keeps ≡ self.old.keeps }
+        ensures gone { self.new.gone ≡ self.old.gone }
         ensures answers { Answers Q.gives (tree_queue self.old.tree) q.old (newly (progress_of self.old) (progress_of self.new)) q.new }
     {
         // That the log is a run is known where a field is read.
@@ -168,12 +175,13 @@ impl Kernel {
     ) -> Result<Vec<Departure>, Fault>
         requires left { left ≤ most_left }
         requires moment { max (counted_moment (progress_of self.old)) moment < end_of_drains }
-        requires pulls { self.old.keeps.visits ≡ false → pulls_made (progress_of self.old) < end_of_drained_pulls }
+        requires pulls { IsEndless self.old → pulls_made (progress_of self.old) < end_of_drained_pulls }
         ensures all { OnOk result ((made : ℕ) × GivesAll (progress_of self.old) (progress_of self.new) (max (counted_moment (progress_of self.old)) moment) made left) }
         ensures departures { IfOk result (λ departures. departures.items ≡ departures_in (pulls_since (progress_of self.old) (progress_of self.new))) }
         ensures short { IfErr result (StopsAt (progress_of self.old) (progress_of self.new) (max (counted_moment (progress_of self.old)) moment) left) }
         ensures ends { LosesNothing Q.gives Q.holds → left ≡ left_in self.old.tree self.old.log (Q.holds q.old) → IsOkUnless result Fault.Memory }
         ensures kind { self.new.keeps ≡ self.old.keeps }
+        ensures gone { self.new.gone ≡ self.old.gone }
         ensures answers { Answers Q.gives (tree_queue self.old.tree) q.old (newly (progress_of self.old) (progress_of self.new)) q.new }
     {
         let mut departures = Departures::Kept(Vec::new(alloc));
@@ -196,9 +204,16 @@ impl Kernel {
         left * self.tree.pulls_per_packet()
     }
 
-    /// The visits that are kept, in order.
+    /// Lets go of the visits so far, which whoever needs them has read. Contracts speak of them still.
+    pub fn let_go(&mut self)
+        ensures { self.new ≡ record { tree = self.old.tree; log = self.old.log; keeps = self.old.keeps; gone = length self.old.log } }
+    {
+        self.nodes.log.let_go();
+    }
+
+    /// The visits that are kept, in order: all but those that were let go of.
     pub fn log(&self) -> &[Visit]
-        ensures visits { self.now.keeps.visits ≡ true → result.now ≡ self.now.log }
+        ensures visits { self.now.keeps.visits ≡ true → result.now ≡ drop self.now.gone self.now.log }
         ensures run { IsRun self.now.tree self.now.log }
         ensures distinct { leaves_distinct self.now.tree ≡ true }
     {
@@ -240,7 +255,7 @@ impl Kernel {
 
     /// What is kept of the visits and of the packets that came out at the device, in order, without taking memory.
     pub fn into_parts(self) -> (Vec<Visit>, Vec<Packet>)
-        ensures log { self.keeps.visits ≡ true → result.0.items ≡ self.log }
+        ensures log { self.keeps.visits ≡ true → result.0.items ≡ drop self.gone self.log }
         ensures emitted { self.keeps.packets ≡ true → result.1.items ≡ emitted self.log }
     {
         let Kernel { nodes, emitted, .. } = self;

@@ -14,24 +14,25 @@ pub struct Log {
 }
 
 impl Model for Log {
-    ghost use Rattle.std.specs.Prelude.{◌≡◌, ◌+◌, ◌≤◌, true};
+    ghost use Rattle.std.specs.Prelude.{◌≡◌, ◌+◌, ◌≤◌, true, drop, length};
     ghost use Rattle.std.specs.Vec.{vec_len, vec_capacity};
     ghost use Rattle.clk_sched.specs.Logged.{Logged};
 
     ghost Value = { Logged };
 
-    ghost view = { λ l. record { items = l.all.items; spare = l.all.spare; keeps = l.keeps } };
+    ghost view = { λ l. record { items = l.all.items; spare = l.all.spare; kind = record { keeps = l.keeps; gone = l.all.gone } } };
 
-    ghost invariant = { λ l. l.keeps ≡ true → (l.all.items ≡ l.kept.items) × (vec_len l.kept + l.all.spare ≤ vec_capacity l.kept) };
+    ghost invariant = { λ l. (l.all.gone ≤ length l.all.items)
+        × (l.keeps ≡ true → (l.kept.items ≡ drop l.all.gone l.all.items) × (vec_len l.kept + l.all.spare ≤ vec_capacity l.kept)) };
 }
 
 impl Log {
-    ghost use Rattle.std.specs.Prelude.{◌≡◌, ◌+◌, ◌^◌, ◌<◌, ◌≤◌, true, false, [], length, OnOk, OnErr, IsOk};
-    ghost use Rattle.clk_sched.specs.Logged.{with_visit, with_room};
+    ghost use Rattle.std.specs.Prelude.{◌≡◌, ◌+◌, ◌^◌, ◌<◌, ◌≤◌, true, false, [], drop, length, OnOk, OnErr, IsOk};
+    ghost use Rattle.clk_sched.specs.Logged.{with_visit, with_room, with_none};
 
     /// No visits so far, of which each will be kept, or none.
     pub fn new(alloc: Global, keeps: bool) -> Log
-        ensures { result ≡ record { items = []; spare = 0; keeps = keeps } }
+        ensures { result ≡ record { items = []; spare = 0; kind = record { keeps = keeps; gone = 0 } } }
     {
         Log {
             kept: Vec::new(alloc),
@@ -43,7 +44,7 @@ impl Log {
     /// Whether it keeps visits.
     #[inline]
     pub fn keeps(&self) -> bool
-        ensures { result ≡ self.now.keeps }
+        ensures { result ≡ self.now.kind.keeps }
     {
         self.keeps
     }
@@ -56,8 +57,8 @@ impl Log {
     #[inline]
     pub fn reserve(&mut self, visits: usize) -> Result<(), AllocError>
         ensures ready { OnOk result (self.new ≡ with_room self.old visits) }
-        ensures few { OnOk result (self.old.keeps ≡ true → length self.old.items + visits < 2 ^ 63) }
-        ensures unkept { self.old.keeps ≡ false → IsOk result }
+        ensures few { OnOk result (self.old.kind.keeps ≡ true → self.old.kind.gone ≡ 0 → length self.old.items + visits < 2 ^ 63) }
+        ensures unkept { self.old.kind.keeps ≡ false → IsOk result }
         ensures refused { OnErr result (self.new ≡ self.old) }
     {
         if self.keeps {
@@ -79,16 +80,24 @@ impl Log {
         self.all.push(&visit);
     }
 
+    /// Lets go of the visits so far, and keeps the memory that they took for those to come.
+    pub fn let_go(&mut self)
+        ensures { self.new ≡ with_none self.old }
+    {
+        self.kept.clear();
+        self.all.let_go();
+    }
+
     /// The visits that are kept.
     pub fn kept(&self) -> &[Visit]
-        ensures { self.now.keeps ≡ true → result.now ≡ self.now.items }
+        ensures { self.now.kind.keeps ≡ true → result.now ≡ drop self.now.kind.gone self.now.items }
     {
         self.kept.as_slice()
     }
 
     /// The visits that are kept, without taking memory.
     pub fn into_kept(self) -> Vec<Visit>
-        ensures { self.keeps ≡ true → result.items ≡ self.items }
+        ensures { self.kind.keeps ≡ true → result.items ≡ drop self.kind.gone self.items }
     {
         let Log { kept, .. } = self;
         kept

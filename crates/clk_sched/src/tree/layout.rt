@@ -42,7 +42,7 @@ impl Tree {
     /// Fault 18 where the tree has more than 256 queues and schedulers, the device counted, and fault 1.
     pub(crate) fn lay_out(&self, alloc: Global, keeps: bool) -> Result<Nodes, Fault>
         ensures laid_out { IfOk result (λ n. IsLaidOut self.now n) }
-        ensures kind { IfOk result (λ n. n.log.keeps ≡ keeps) }
+        ensures kind { IfOk result (λ n. n.log.kind ≡ record { keeps = keeps; gone = 0 }) }
         ensures fits { IfOk result (λ n. 1 + elements (root self.now) ≤ most_elements) }
         ensures refused { IfErr result (λ fault. IsRefused self.now fault) }
     {

@@ -113,6 +113,18 @@ fn a_sender_is_beyond_the_small_table(rt: HostRuntime) -> Result<(), Fail> {
     Ok(())
 }
 
+// It is the least that asks for the larger table.
+#[test]
+fn sender_256_is_the_only_one(rt: HostRuntime) -> Result<(), Fail> {
+    let least = packet(256, 0, 20);
+    let tallies = [tally(rt.alloc(), 256, &[least], &[], &[])?];
+    let expected =
+        b"sender 256: sent 1 20, accepted 1 20, refused 0 0, evicted 0 0, emitted 1 20\n";
+    let emitted = [[least].to_vec(rt.alloc())?];
+    assert_reports(&rt, rt.alloc(), &tallies, &emitted, expected)?;
+    Ok(())
+}
+
 // Sender 2 has a place in the small table and no tally; 256, 257 and 65535 have neither.
 #[test]
 fn packets_of_senders_without_a_tally_are_left_out(rt: HostRuntime) -> Result<(), Fail> {

@@ -58,3 +58,23 @@ fn sessions_keep_what_they_are_told_to(rt: HostRuntime) -> Result<(), Fault> {
     }
     Ok(())
 }
+
+// Three pulls made seven visits. The fourth, which finds nothing, asks both inputs of the PrioSched.
+#[test]
+fn visits_that_were_let_go_of_leave_the_log(rt: HostRuntime) -> Result<(), Fault> {
+    let alloc = rt.alloc();
+    let keeps = Keeps {
+        visits: true,
+        packets: false,
+    };
+    let (mut session, _) = closed(&rt, alloc, keeps)?;
+    assert_eq!(rt; session.log().len(), 7);
+    session.let_go();
+    assert_eq!(rt; session.log().len(), 0);
+    let mut queues = Queues::new(alloc, 2)?;
+    assert!(rt; session.pulls() < 1 << 62);
+    assert_eq!(rt; session.pull(&mut queues, 20)?, None);
+    assert_eq!(rt; session.log().len(), 3);
+    assert_eq!(rt; session.pulls(), 4);
+    Ok(())
+}

@@ -45,7 +45,7 @@ returns-clause-leads c =
     let after : Device = record { session = c.close.new.self; kept = before.kept } in
     let set = set-device old.devices.items c.args.device c.from.result before after c.from.ensures (steady-within old.devices.items c.args.device c.requires.steady) c.index_mut-device.ensures.value in
     let left : before.kept - c.count_emitted.result ≡ before.kept - length (emitted before.session.log) = ap (λ n. before.kept - n) c.count_emitted.ensures in
-    λ setup events at. closes-all c.calls_are_history.ensures setup events old _ c.args.device c.args.moment c.in_ok-departures.ensures.all.0 _ before after c.in_ok-departures.departures.items at set refl c.close.ensures.kind left c.in_ok-departures.ensures.all.1
+    λ setup events at. closes-all c.calls_are_history.ensures setup events old _ c.args.device c.args.moment c.in_ok-departures.ensures.all.0 _ before after c.in_ok-departures.departures.items at set refl (c.close.ensures.kind, c.close.ensures.gone) left c.in_ok-departures.ensures.all.1
     c.in_ok-departures.ensures.departures c.close.ensures.answers refl refl refl refl refl
 
 pub overflow_sub-left : goal.overflow_sub-left

@@ -19,4 +19,4 @@ returns-clause-leads c =
     let after : Device = record { session = c.pull.new.self; kept = before.kept } in
     let set = set-device old.devices.items c.args.device c.from.result before after c.from.ensures (steady-within old.devices.items c.args.device c.requires.steady) c.index_mut.ensures.value in
     λ setup events at. subst (λ new. LeadsOnByPull setup new c.args.device c.args.moment c.in_ok-got.got events) (sym c.in_ok-keep.ensures.others)
-    (IsAt-pulled c.calls_are_history.ensures setup events old _ c.args.device c.args.moment before after c.in_ok-got.got at set.was set.is set.only refl c.pull.ensures.kind c.in_ok-got.ensures.pulled c.in_ok-got.ensures.answers refl refl refl refl refl)
+    (IsAt-pulled c.calls_are_history.ensures setup events old _ c.args.device c.args.moment before after c.in_ok-got.got at set.was set.is set.only refl (c.pull.ensures.kind, c.pull.ensures.gone) c.in_ok-got.ensures.pulled c.in_ok-got.ensures.answers refl refl refl refl refl)

@@ -31,7 +31,7 @@ make_room_spec 𝓤 𝓛 𝓜 𝓡 wired =
     (λ κs. (mut_vals, (shr_vals, tt))) (λ κs. (mut_Tells (named 0) κs.0 R, (shr_Tells (named 1) κs.1.0 usize, tt))) (λ κs qs bounds a _ are.
     let b = a.0.ref_ptr.0 in let o = a.0.ref_ptr.1 in let before = a.0.now in let vs = mut_vals a.0 in
     let y : W.Ghost = ((κs, qs, bounds, a, (vs, (shr_vals a.1.0, tt))), tt) in
-    let after : AllVisits = record { items = before.items; spare = a.1.0.now } in
+    let after : AllVisits = record { items = before.items; spare = a.1.0.now; gone = before.gone } in
     qed 𝓛 (((‵ (flft κs.0 qs.0) ⊛ ‵ (flft κs.1.0 qs.1.0) ⊛ ‵ ftrue) ⊛ ‵ ((MutRef (named 0) κs.0 R).own_val a.0 vs) ⊛ ‵ ((ShrRef (named 1) κs.1.0 usize).own_val a.1.0 (shr_vals a.1.0)) ⊛ ‵ ftrue) ∷ ‵ ftrue ∷ []) ∵
     split ! $ split ! $ move ! (1 ∷ []) $ split ! $ move ! (3 ∷ []) $ split ! $ keep ! (0 ∷ 4 ∷ 2 ∷ []) $
     enter ! _ _ _ _ _ $ alloc_all ! (λ l. pass_all ! refl ((tt, tt), ((tt, tt), tt)) $

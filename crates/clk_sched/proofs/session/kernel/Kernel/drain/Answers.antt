@@ -18,6 +18,7 @@ loop-given-init g c =
       draining-first g.Q.Ask.gives (progress_of c.args.self.now) c.args.q.now c.max-start.result c.args.left (subst (λ s. IsRun s.tree s.log) c.self.view_is c.self.invariant.0.run) (omega (arith, most, now)),
       λ keeps is. emptied-first c.args.self.now.tree c.args.self.now.log (g.Q.Ask.holds c.args.q.now) c.args.left c.bound-bound.ensures.sound (subst (λ s. IsRun s.tree s.log) c.self.view_is c.self.invariant.0.run) is,
       refl,
+      refl,
       subst (λ l. IsAddedTo c.args.departures.now (departures_in l) c.args.departures.now) (sym (since-none (progress_of c.args.self.now))) (added-none c.args.departures.now),
     )
 
@@ -32,10 +33,10 @@ loop-given-preserved-then-is_some g c =
     in
     let departed =
     added-more c.args.departures.now c.loop-given.departures c.reserve.new.self c.add.new.self (progress_of c.args.self.now) (progress_of c.loop-given.self) (progress_of c.pull.new.self) c.loop-given.invariant.1.drained.more (c.max-start.result + c.loop-given.made + 1) c.in_ok-got.got
-    c.loop-given.invariant.4 c.loop-given.invariant.1.drained.pulls_are (let l = c.loop-given.invariant.1.counted in omega (arith, l)) c.in_ok-got.ensures.pulled c.reserve.ensures.same (subst (λ n. IsAddedTo c.reserve.new.self (departure_at n c.in_ok-got.got) c.add.new.self) (let at : c.max-start.result + (c.loop-given.made + 1) ≡ c.max-start.result + c.loop-given.made + 1 = omega arith in at) c.add.ensures)
+    c.loop-given.invariant.5 c.loop-given.invariant.1.drained.pulls_are (let l = c.loop-given.invariant.1.counted in omega (arith, l)) c.in_ok-got.ensures.pulled c.reserve.ensures.same (subst (λ n. IsAddedTo c.reserve.new.self (departure_at n c.in_ok-got.got) c.add.new.self) (let at : c.max-start.result + (c.loop-given.made + 1) ≡ c.max-start.result + c.loop-given.made + 1 = omega arith in at) c.add.ensures)
     in
     let one = given-one g.Q.Ask.gives g.Q.Ask.holds (progress_of c.args.self.now) (progress_of c.pull.new.self) c.args.q.now c.pull.new.q c.max-start.result (c.loop-given.made + 1) c.loop-given.given c.args.left c.in_ok-got.got (sym c.is_some.ensures ∙ c.if-is_some.true) step in
-    (omega (arith, few, not_all), one.0, one.1, c.pull.ensures.kind ∙ c.loop-given.invariant.3, departed)
+    (omega (arith, few, not_all), one.0, one.1, c.pull.ensures.kind ∙ c.loop-given.invariant.3, c.pull.ensures.gone ∙ c.loop-given.invariant.4, departed)
 
 pub loop-given-preserved : goal.loop-given-preserved
 loop-given-preserved g c =
@@ -48,10 +49,10 @@ loop-given-preserved g c =
     in
     let departed =
     added-more c.args.departures.now c.loop-given.departures c.reserve.new.self c.add.new.self (progress_of c.args.self.now) (progress_of c.loop-given.self) (progress_of c.pull.new.self) c.loop-given.invariant.1.drained.more (c.max-start.result + c.loop-given.made + 1) c.in_ok-got.got
-    c.loop-given.invariant.4 c.loop-given.invariant.1.drained.pulls_are (let l = c.loop-given.invariant.1.counted in omega (arith, l)) c.in_ok-got.ensures.pulled c.reserve.ensures.same (subst (λ n. IsAddedTo c.reserve.new.self (departure_at n c.in_ok-got.got) c.add.new.self) (let at : c.max-start.result + (c.loop-given.made + 1) ≡ c.max-start.result + c.loop-given.made + 1 = omega arith in at) c.add.ensures)
+    c.loop-given.invariant.5 c.loop-given.invariant.1.drained.pulls_are (let l = c.loop-given.invariant.1.counted in omega (arith, l)) c.in_ok-got.ensures.pulled c.reserve.ensures.same (subst (λ n. IsAddedTo c.reserve.new.self (departure_at n c.in_ok-got.got) c.add.new.self) (let at : c.max-start.result + (c.loop-given.made + 1) ≡ c.max-start.result + c.loop-given.made + 1 = omega arith in at) c.add.ensures)
     in
     let none = given-none g.Q.Ask.gives g.Q.Ask.holds (progress_of c.args.self.now) (progress_of c.pull.new.self) c.args.q.now c.pull.new.q c.max-start.result (c.loop-given.made + 1) c.loop-given.given c.args.left c.in_ok-got.got (sym c.is_some.ensures ∙ c.if-is_some.false) step in
-    (omega (arith, few, not_all), none.0, none.1, c.pull.ensures.kind ∙ c.loop-given.invariant.3, departed)
+    (omega (arith, few, not_all), none.0, none.1, c.pull.ensures.kind ∙ c.loop-given.invariant.3, c.pull.ensures.gone ∙ c.loop-given.invariant.4, departed)
 
 pub returns-clause-all : goal.returns-clause-all
 returns-clause-all g c =
@@ -61,18 +62,18 @@ returns-clause-all g c =
     (let few = c.loop-given.invariant.0 in let all = c.bound-bound.ensures.value in omega (arith, few, all)))
 
 pub returns-then-made-bound-clause-departures : goal.returns-then-made-bound-clause-departures
-returns-then-made-bound-clause-departures g c = c.loop-given.invariant.4
+returns-then-made-bound-clause-departures g c = c.loop-given.invariant.5
 
 pub returns-clause-departures : goal.returns-clause-departures
-returns-clause-departures g c = c.loop-given.invariant.4
+returns-clause-departures g c = c.loop-given.invariant.5
 
 pub returns-in_err-reserve-clause-departures : goal.returns-in_err-reserve-clause-departures
-returns-in_err-reserve-clause-departures g c = added-same c.args.departures.now c.loop-given.departures c.reserve.new.self _ c.loop-given.invariant.4 c.reserve.ensures.same
+returns-in_err-reserve-clause-departures g c = added-same c.args.departures.now c.loop-given.departures c.reserve.new.self _ c.loop-given.invariant.5 c.reserve.ensures.same
 
 pub returns-in_err-reserve-clause-unkept : goal.returns-in_err-reserve-clause-unkept
-returns-in_err-reserve-clause-unkept g c = λ keeps dropped. absurd (false≢true (rw c.in_err-reserve.was at c.reserve.ensures.dropped (still-dropped c.args.departures.now c.loop-given.departures _ c.loop-given.invariant.4 dropped)))
+returns-in_err-reserve-clause-unkept g c = λ keeps dropped. absurd (false≢true (rw c.in_err-reserve.was at c.reserve.ensures.dropped (still-dropped c.args.departures.now c.loop-given.departures _ c.loop-given.invariant.5 dropped)))
 
 pub returns-in_err-got-clause-departures : goal.returns-in_err-got-clause-departures
 returns-in_err-got-clause-departures g c =
-    let same = added-same c.args.departures.now c.loop-given.departures c.reserve.new.self _ c.loop-given.invariant.4 c.reserve.ensures.same in
+    let same = added-same c.args.departures.now c.loop-given.departures c.reserve.new.self _ c.loop-given.invariant.5 c.reserve.ensures.same in
     subst (λ s. IsAddedTo c.args.departures.now (departures_in (pulls_since (progress_of c.args.self.now) (progress_of s))) c.reserve.new.self) (sym c.in_err-got.ensures.unchanged) same

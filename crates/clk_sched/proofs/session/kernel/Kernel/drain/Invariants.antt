@@ -8,7 +8,7 @@ abbrev pub invariant-loop-given : goal.invariant-loop-given
 invariant-loop-given g l =
     (l.made ≤ l.bound) × IsDraining g.Q.Ask.gives (progress_of l.initial.self) (progress_of l.self) l.initial.q l.q l.start l.made l.given l.left
     × Empties g.Q.Ask.gives g.Q.Ask.holds (progress_of l.initial.self) (progress_of l.self) l.initial.q l.q l.made l.given l.left
-    × (l.self.keeps ≡ l.initial.self.keeps)
+    × (l.self.keeps ≡ l.initial.self.keeps) × (l.self.gone ≡ l.initial.self.gone)
     × IsAddedTo l.initial.departures (departures_in (pulls_since (progress_of l.initial.self) (progress_of l.self))) l.departures
 
 abbrev pub decreases-loop-given : goal.decreases-loop-given

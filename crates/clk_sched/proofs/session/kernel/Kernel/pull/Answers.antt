@@ -1,4 +1,4 @@
-use Rattle.std.proofs.Common.{◌≡◌, ◌+◌, ◌<◌, [], ◌++◌, false, length, refl, sym, ap, ◌∙◌, subst, arith}
+use Rattle.std.proofs.Common.{◌≡◌, ◌+◌, ◌<◌, [], ◌++◌, length, refl, sym, ap, ◌∙◌, subst, arith}
 use Rattle.std.specs.List.{cons_option}
 use Rattle.std.proofs.lemmas.List.{length-append}
 use Rattle.clk_sched.specs.Limits.{end_of_pulls}
@@ -6,7 +6,7 @@ use Rattle.clk_sched.specs.Results.{emitted}
 use Rattle.clk_sched.specs.Places.{Answers}
 use Rattle.clk_sched.specs.declared.session.nodes.Nodes.{Nodes}
 use Rattle.clk_sched.specs.Session.{IsPulledOnce, newly, tree_queue}
-use Rattle.clk_sched.specs.Kinds.{progress_of, pulls_made}
+use Rattle.clk_sched.specs.Kinds.{progress_of, pulls_made, IsEndless}
 use Rattle.clk_sched.proofs.SessionPull.{session-pulled, emitted-once, one-at-most, pulls-fit, progress, HasGoneOn}
 use Rattle.clk_sched.proofs.QueuesAsked.{answers-tree}
 use Rattle.clk_sched.proofs.session.kernel.Kernel.pull.Goals as goal
@@ -14,7 +14,7 @@ use Rattle.clk_sched.proofs.session.kernel.Kernel.pull.Goals as goal
 pub overflow_add-self : goal.overflow_add-self
 overflow_add-self g c =
     let a = c.self.inside.nodes in
-    let fit = pulls-fit a.log.items _ a.log.keeps c.in_ok-reserve.ensures.few (subst (λ s. s.keeps.visits ≡ false → pulls_made (progress_of s) < end_of_pulls) (sym c.self.view_is) c.requires.pulls) in
+    let fit = pulls-fit a.log.items _ a.log.kind.keeps a.log.kind.gone c.in_ok-reserve.ensures.few (subst (λ s. IsEndless s → pulls_made (progress_of s) < end_of_pulls) (sym c.self.view_is) c.requires.pulls) in
     let same = c.pull_device-got.ensures.keeps.pull in
     let counted = c.self.invariant.0.pull in
     omega (arith, fit, same, counted)
@@ -22,7 +22,7 @@ overflow_add-self g c =
 pub add-requires : goal.add-requires
 add-requires g c =
     let a = c.self.inside.nodes in
-    let fit = pulls-fit a.log.items _ a.log.keeps c.in_ok-reserve.ensures.few (subst (λ s. s.keeps.visits ≡ false → pulls_made (progress_of s) < end_of_pulls) (sym c.self.view_is) c.requires.pulls) in
+    let fit = pulls-fit a.log.items _ a.log.kind.keeps a.log.kind.gone c.in_ok-reserve.ensures.few (subst (λ s. IsEndless s → pulls_made (progress_of s) < end_of_pulls) (sym c.self.view_is) c.requires.pulls) in
     let counted = c.self.invariant.0.pull in
     let few = c.self.invariant.5 in
     let same = c.reserve-2.ensures.count in

@@ -5,7 +5,7 @@ use Rattle.csv.specs.Writing.{default_writer, row_text}
 use Rattle.clk_report.specs.VisitCsv.{columns, device_column, rows_text}
 use Rattle.clk_report.proofs.ReportLemmas.{HasWritten-part, HasWritten-all, flat_map-split}
 use Rattle.clk_report.proofs.VisitLemmas.{WroteOrStopped-wrote, WroteOrStopped-part, WroteOrStopped-refused}
-use Rattle.clk_report.proofs.visits.write_rows.Goals as goal
+use Rattle.clk_report.proofs.visits.visit_rows.Goals as goal
 
 pub returns-in_err-rows : goal.returns-in_err-rows
 returns-in_err-rows g c =
