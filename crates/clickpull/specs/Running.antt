@@ -1,5 +1,5 @@
 -- What running a trace over a plan writes, and why it is refused (this project's own definition).
-use Rattle.std.specs.Prelude.{◌≡◌, ◌⊎◌, ℕ, List, Option, None, IfSome}
+use Rattle.std.specs.Prelude.{◌≡◌, ◌⊎◌, ℕ, Bool, true, List, Option, None, IfSome}
 use Rattle.clk_packet.specs.declared.packet.Packet.{Packet}
 use Rattle.clk_packet.specs.declared.fault.Fault.{Fault}
 use Rattle.clk_packet.specs.declared.fault.Fault.TheVariants.{Write}
@@ -7,8 +7,8 @@ use Rattle.clk_packet.specs.Trace.{ExplainsTrace, pairs_of, sent, sent_by, shown
 use Rattle.clk_sched.specs.declared.visit.Visit.{Visit}
 use Rattle.clk_tree.specs.Plan.{Planned}
 use Rattle.clk_drain.specs.declared.outcome.Outcome.{Outcome}
-use Rattle.clk_drain.specs.Run.{IsFaultOfRun, IsRunOutcome}
-use Rattle.clk_report.specs.Devices.{came_out, lists_of}
+use Rattle.clk_drain.specs.Run.{IsFaultOfRun, IsRunWith}
+use Rattle.clk_report.specs.Devices.{came_out}
 use Rattle.clk_report.specs.Report.{report_text}
 use Rattle.clickpull.specs.declared.pace.Pace.{Pace}
 
@@ -17,15 +17,20 @@ pub record Tells (trace : List ℕ) (traces : List (List Packet)) : Type 0 where
   pub sound : trace_fault trace ≡ None
   pub sent : (s : ℕ) → shown (sent_by traces s) ≡ sent s (pairs_of trace)
 
--- Running a trace over a plan writes this text and leaves these logs, one a device: they are the report and the logs of what a run
--- of the plan over what the trace tells came to.
+-- Running a trace over a plan writes this text, where the devices make these logs: they are the report and the logs of what a run of
+-- the plan over what the trace tells came to.
 pub record RunWrites (plan : List Planned) (pace : Pace) (trace text : List ℕ) (logs : List (List Visit)) : Type 0 where
   pub traces : List (List Packet)
   pub tells : Tells trace traces
   pub outcome : Outcome
-  pub came_to : IsRunOutcome plan traces pace.step pace.limit outcome
+  pub came_to : IsRunWith plan traces pace.step pace.limit logs outcome
   pub reported : text ≡ report_text (came_out outcome.emitted.items) outcome.tallies.items
-  pub logged : logs ≡ lists_of outcome.logs.items
+
+-- Running a trace over a plan, which writes this text, answers these logs, where visits are kept.
+pub record RunAnswers (visits : Bool) (plan : List Planned) (pace : Pace) (trace text : List ℕ) (answer : List (List Visit)) : Type 0 where
+  pub logs : List (List Visit)
+  pub kept : visits ≡ true → answer ≡ logs
+  pub writes : RunWrites plan pace trace text logs
 
 -- A run of the plan over what the trace tells is refused with this fault.
 pub record RefusesRun (plan : List Planned) (trace : Option (List ℕ)) (fault : Fault) : Type 0 where

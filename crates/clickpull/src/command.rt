@@ -119,7 +119,8 @@ fn perform<H: Files + AllocGlobal + Threads + Wait, P: Wait + Sync, R: Source, W
         } => {
             let plan = read_plan(rt, alloc, tree)?;
             let mut trace = open_file(rt, trace)?;
-            let logs = run_trace(rt, alloc, wait, &plan, &mut trace, writer, pace)?;
+            let kept = visits.is_some();
+            let logs = run_trace(rt, alloc, wait, &plan, &mut trace, writer, pace, kept)?;
             keep_visits(rt, alloc, visits, &logs)
         }
     }

@@ -6,10 +6,10 @@ ghost use Rattle.clk_packet.specs.Bytes.{AppendsFront, Takes, read_failures, wri
 ghost use Rattle.clk_packet.specs.Trace.{most_trace_bytes};
 ghost use Rattle.clk_packet.specs.declared.fault.Fault.TheVariants.{Write};
 ghost use Rattle.clk_report.specs.Devices.{lists_of};
-ghost use Rattle.clickpull.specs.Running.{ExplainsRun, RunWrites};
+ghost use Rattle.clickpull.specs.Running.{ExplainsRun, RunAnswers, RunWrites};
 
 use crate::pace::Pace;
-use clk_drain::{Free, Outcome, run};
+use clk_drain::{Free, Outcome, run_with};
 use clk_packet::{Fault, Sink, Source, Traces};
 use clk_report::report;
 use clk_sched::Visit;
@@ -19,7 +19,8 @@ use std::sync::Wait;
 use std::thread::Threads;
 
 /// Reads a trace to its end, runs it over a plan, and writes the report. A producer for each sender, on a thread of its own, offers
-/// what the sender sends, while each device is pulled at this pace; then what is left is drained. Answers the log of each device.
+/// what the sender sends, while each device is pulled at this pace; then what is left is drained. Answers the log of each device, where
+/// visits are kept.
 ///
 /// # Errors
 ///
@@ -35,9 +36,10 @@ pub fn run_trace<H: Threads + Wait, P: Wait + Sync, R: Source, W: Sink>(
     trace: &mut R,
     writer: &mut W,
     pace: Pace,
+    visits: bool,
 ) -> Result<Vec<Vec<Visit>>, Fault>
     ensures written { IfOk result (λ logs. IfSome (R.Source.remaining trace.old) (λ bytes.
-        (text : _) × RunWrites plan.now pace bytes text (lists_of logs.items) × Appends (W.Sink.taken writer.old) (W.Sink.taken writer.new) text)) }
+        (text : _) × RunAnswers visits plan.now pace bytes text (lists_of logs.items) × Appends (W.Sink.taken writer.old) (W.Sink.taken writer.new) text)) }
     ensures front { IsErrOf result Fault.Write → IfSome (R.Source.remaining trace.old) (λ bytes.
         (text : _) × (logs : _) × RunWrites plan.now pace bytes text logs × AppendsFront (W.Sink.taken writer.old) (W.Sink.taken writer.new) text) }
     ensures nothing { IfErr result (λ fault. fault ≢ Write → Keeps (W.Sink.taken writer.old) (W.Sink.taken writer.new)) }
@@ -51,7 +53,9 @@ pub fn run_trace<H: Threads + Wait, P: Wait + Sync, R: Source, W: Sink>(
     ensures limit { Takes (most_trace_bytes + 1) (R.Source.remaining trace.old) (R.Source.remaining trace.new) }
 {
     let traces = Traces::read_csv(alloc, trace)?;
-    let outcome = run(rt, alloc, wait, plan, &traces, pace.step, pace.limit, &Free)?;
+    let outcome = run_with(
+        rt, alloc, wait, plan, &traces, pace.step, pace.limit, &Free, visits,
+    )?;
     // How many devices there are at most is known where they are counted.
     let _ = plan.devices();
     let Outcome {

@@ -1,5 +1,5 @@
 -- Devices are closed one after another.
-use Rattle.std.proofs.Common.{◌≡◌, ◌+◌, ◌*◌, ◌<◌, ◌≤◌, List, [], ◌∷◌, ◌++◌, map, max, refl, sym, ap, ◌∙◌, inl, inr, subst, arith, lit<, append_assoc, append-nil}
+use Rattle.std.proofs.Common.{◌≡◌, ◌+◌, ◌*◌, ◌<◌, ◌≤◌, true, List, [], ◌∷◌, ◌++◌, map, max, refl, sym, ap, ◌∙◌, inl, inr, subst, arith, lit<, append_assoc, append-nil}
 use Rattle.std.specs.List.{flat_map, range_with_len, AllByRecursion}
 use Rattle.std.proofs.Math.Nat.{mul-le-mul}
 use Rattle.std.proofs.lemmas.Grind.{flat_map-append}
@@ -7,6 +7,7 @@ use Rattle.std.proofs.lemmas.List.{map-append}
 use Rattle.clk_packet.specs.declared.fault.Fault.{Fault}
 use Rattle.clk_packet.specs.declared.fault.Fault.TheVariants.{Memory}
 use Rattle.clk_packet.specs.Trace.{sent_by}
+use Rattle.clk_sched.specs.declared.visit.Visit.{Visit}
 use Rattle.clk_sched.specs.Limits.{end_of_drains}
 use Rattle.clk_sched.specs.Log.{pulls, moment_of}
 use Rattle.clk_sched.specs.Session.{counted_moment}
@@ -15,12 +16,12 @@ use Rattle.clk_drain.specs.declared.outcome.Outcome.{Outcome}
 use Rattle.clk_drain.specs.Senders.{AreApart}
 use Rattle.clk_drain.specs.Line.{seats_in, senders_at}
 use Rattle.clk_drain.specs.Outcome.{SharedQueue, Device, senders_to}
-use Rattle.clk_drain.specs.Closing.{device_of, IsDrainedOver, IsFaultOfDrain}
+use Rattle.clk_drain.specs.Closing.{device_of, IsDrainedTo, IsDrainedAs, IsFaultOfDrain}
 use Rattle.clk_drain.specs.Parts.{AreInOrder}
 use Rattle.clk_drain.specs.Limits.{most_step, most_limit}
 use Rattle.clk_drain.specs.Moments.{steps}
 use Rattle.clk_drain.specs.Threads.{Terms, Feed}
-use Rattle.clk_drain.specs.Handed.{IsReadyToClose, AreApartDevices, IsClosedDevice, AreClosedDevices, AreSettledTogether, IsFaultOfClosing}
+use Rattle.clk_drain.specs.Handed.{IsReadyToClose, AreApartDevices, IsClosedDevice, AreClosedDevices, AreKeptLogs, AreSettledTogether, IsFaultOfClosing}
 use Rattle.clk_drain.proofs.ManyDevices.{Part, devices_of, tallies_in_all, AreSettled, devices-settled}
 use Rattle.clk_drain.proofs.Settling.{all-join, senders-same}
 
@@ -29,14 +30,14 @@ pub record AreClosing (terms : Terms) (all done left : List Feed) (outcome : Out
   pub parts : List Part
   pub closed : AreClosedDevices terms done (devices_of parts)
   pub settled : AreSettled (sent_by terms.traces) parts
-  pub logs : map (λ log. log.items) outcome.logs.items ≡ map (λ (d : Device). d.log) (devices_of parts)
+  pub logs : AreKeptLogs done (map (λ log. log.items) outcome.logs.items) (devices_of parts)
   pub emitted : map (λ packets. packets.items) outcome.emitted.items ≡ map (λ (d : Device). d.emitted) (devices_of parts)
   pub tallies : outcome.tallies.items ≡ tallies_in_all parts
   pub all_are : done ++ left ≡ all
 
 -- A drained device is closed: it was pulled once each step, and then one tick apart.
-closed-device : (terms : Terms) (f : Feed) (drained : Drained) → IsReadyToClose terms f → IsDrainedOver f.session f.lines 0 drained → IsClosedDevice terms f (device_of f.session f.lines drained)
-closed-device terms f drained ready over =
+closed-device : (terms : Terms) (f : Feed) (log : List Visit) (drained : Drained) → IsReadyToClose terms f → IsDrainedTo f.session f.lines 0 log drained → IsClosedDevice terms f (device_of f.session f.lines log drained)
+closed-device terms f log drained ready over =
     let drain = over.goes_on.drained in
     let counted = ready.counted in
     let from : max (counted_moment f.session) 0 ≡ ready.made * terms.step = omega (arith, counted) in record {
@@ -56,6 +57,15 @@ closed-more terms [] (q ∷ parts) f p h is = absurd h
 closed-more terms (g ∷ done) [] f p h is = absurd h
 closed-more terms (g ∷ done) (q ∷ parts) f p h is = (h.0, closed-more terms done parts f p h.1 is)
 
+kept-more : (done : List Feed) (logs : List (List Visit)) (parts : List Part) (f : Feed) (log : List Visit) (p : Part) → AreKeptLogs done logs (devices_of parts) → (f.visits ≡ true → log ≡ p.device.log)
+    → AreKeptLogs (done ++ f ∷ []) (logs ++ log ∷ []) (devices_of (parts ++ p ∷ []))
+kept-more [] [] [] f log p h is = (is, tt)
+kept-more (g ∷ done) (k ∷ logs) (q ∷ parts) f log p h is = (h.0, kept-more done logs parts f log p h.1 is)
+kept-more [] [] (q ∷ parts) f log p h is = absurd h
+kept-more [] (k ∷ logs) parts f log p h is = absurd h
+kept-more (g ∷ done) [] parts f log p h is = absurd h
+kept-more (g ∷ done) (k ∷ logs) [] f log p h is = absurd h
+
 -- what the devices have, and what one more has
 devices-more : {X : Type 0} (f : Device → X) (parts : List Part) (p : Part) → map f (devices_of parts) ++ f p.device ∷ [] ≡ map f (devices_of (parts ++ p ∷ []))
 devices-more f [] p = refl
@@ -67,14 +77,16 @@ pub record IsNoted (drained : Drained) (old new : Outcome) : Type 0 where
   pub emitted : new.emitted.items ≡ old.emitted.items ++ drained.emitted ∷ []
   pub tallies : new.tallies.items ≡ old.tallies.items ++ drained.tallies.items
 
-pub closing-more : (terms : Terms) (all done left before : List Feed) (f : Feed) (drained : Drained) (old new : Outcome) → before ≡ f ∷ left → IsReadyToClose terms f → IsDrainedOver f.session f.lines 0 drained → IsNoted drained old new
+pub closing-more : (terms : Terms) (all done left before : List Feed) (f : Feed) (drained : Drained) (old new : Outcome) → before ≡ f ∷ left → IsReadyToClose terms f → IsDrainedAs (record { session = f.session; visits = f.visits }) f.lines 0 drained → IsNoted drained old new
     → AreClosing terms all done before old → AreClosing terms all (done ++ f ∷ []) left new
 closing-more terms all done left before f drained old new next ready over noted h =
-    let p : Part = record { device = device_of f.session f.lines drained; tallies = drained.tallies.items } in record {
+    let p : Part = record { device = device_of f.session f.lines over.log drained; tallies = drained.tallies.items } in record {
       parts = h.parts ++ p ∷ [];
-      closed = closed-more terms done h.parts f p h.closed (closed-device terms f drained ready over);
-      settled = all-join _ h.parts (p ∷ []) h.settled (over.outcome (sent_by terms.traces) ready.sent, tt);
-      logs = ap (map (λ log. log.items)) noted.logs ∙ map-append (λ log. log.items) old.logs.items (drained.log ∷ []) ∙ ap (λ logs. logs ++ drained.log.items ∷ []) h.logs ∙ devices-more (λ (d : Device). d.log) h.parts p;
+      closed = closed-more terms done h.parts f p h.closed (closed-device terms f over.log drained ready over.is);
+      settled = all-join _ h.parts (p ∷ []) h.settled (over.is.outcome (sent_by terms.traces) ready.sent, tt);
+      logs =
+          let are : map (λ log. log.items) new.logs.items ≡ map (λ log. log.items) old.logs.items ++ drained.log.items ∷ [] = ap (map (λ log. log.items)) noted.logs ∙ map-append (λ log. log.items) old.logs.items (drained.log ∷ []) in
+          subst (λ (logs : List (List Visit)). AreKeptLogs (done ++ f ∷ []) logs (devices_of (h.parts ++ p ∷ []))) (sym are) (kept-more done (map (λ log. log.items) old.logs.items) h.parts f drained.log.items p h.logs over.kept);
       emitted = ap (map (λ packets. packets.items)) noted.emitted ∙ map-append (λ packets. packets.items) old.emitted.items (drained.emitted ∷ []) ∙ ap (λ lists. lists ++ drained.emitted.items ∷ []) h.emitted ∙ devices-more (λ (d : Device). d.emitted) h.parts p;
       tallies = noted.tallies ∙ (λ i. h.tallies i ++ sym (append-nil drained.tallies.items) i) ∙ sym (flat_map-append (λ (q : Part). q.tallies) h.parts (p ∷ []));
       all_are = append_assoc done (f ∷ []) left ∙ ap (λ rest. done ++ rest) (sym next) ∙ h.all_are;
@@ -128,7 +140,7 @@ all-closed terms all done left old new none logs emitted order apart h =
     let closed : AreClosedDevices terms all (devices_of h.parts) = subst (λ feeds. AreClosedDevices terms feeds (devices_of h.parts)) done_are h.closed in record {
       devices = devices_of h.parts;
       closed = closed;
-      logs = ap (map (λ log. log.items)) logs ∙ h.logs;
+      logs = subst (λ (x : List Feed × List (List Visit)). AreKeptLogs x.0 x.1 (devices_of h.parts)) (λ i. (done_are i, sym (ap (map (λ log. log.items)) logs) i)) h.logs;
       emitted = ap (map (λ packets. packets.items)) emitted ∙ h.emitted;
       settled = devices-settled (sent_by terms.traces) h.parts new.tallies.items h.settled (subst AreApart (sym (closed-senders terms all (devices_of h.parts) closed)) apart)
           (subst (λ tallies. AreInOrder tallies new.tallies.items) h.tallies order);

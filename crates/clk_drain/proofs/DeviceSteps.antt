@@ -66,9 +66,10 @@ at-more device leaf n (p ∷ queues) q e = by_test (p.device == device) (at-more
     by_test false rest = rest
 
 -- The queues of a device among the first so many of a plan's were opened.
-pub record AreOpening (traces : List (List Packet)) (device : ℕ) (plan : List Queued) (session : Progress) (queues : List LeafQueue) (ends : EndLists) (leaf : ℕ) : Type 0 where
+pub record AreOpening (traces : List (List Packet)) (device : ℕ) (plan : List Queued) (session : Progress) (visits : Bool) (queues : List LeafQueue) (ends : EndLists) (leaf : ℕ) : Type 0 where
   pub opened : AreOpenAs traces (queues_at device 0 (take leaf plan)) queues ends.taps ends.seats
   pub session_is : ends.session ≡ session
+  pub visits_are : ends.visits ≡ visits
 
 -- those of one queue more
 taken-more : (device leaf : ℕ) (plan : List Queued) (q : Queued) → leaf < length plan → q ≡ get_or plan leaf q → queues_at device 0 (take (leaf + 1) plan) ≡ queues_at device 0 (take leaf plan) ++ if_at device leaf q
@@ -76,9 +77,9 @@ taken-more device leaf plan q lt is =
     ap (queues_at device 0) (take_more plan leaf q lt ∙ (λ i. take leaf plan ++ sym is i ∷ []))
     ∙ at-more device 0 leaf (take leaf plan) q (let le = length-take-le leaf plan (omega arith) in omega (arith, le))
 
-pub opened-more : (traces : List (List Packet)) (device leaf : ℕ) (plan : List Queued) (q : Queued) (session : Progress) (queues more : List LeafQueue) (old new : EndLists) → leaf < length plan → q ≡ get_or plan leaf q → (q.device == device) ≡ true
-    → IsAdded traces (shared_at leaf q) queues more old new → AreOpening traces device plan session queues old leaf → AreOpening traces device plan session more new (leaf + 1)
-opened-more traces device leaf plan q session queues more old new lt is own added h = record {
+pub opened-more : (traces : List (List Packet)) (device leaf : ℕ) (plan : List Queued) (q : Queued) (session : Progress) (visits : Bool) (queues more : List LeafQueue) (old new : EndLists) → leaf < length plan → q ≡ get_or plan leaf q → (q.device == device) ≡ true
+    → IsAdded traces (shared_at leaf q) queues more old new → AreOpening traces device plan session visits queues old leaf → AreOpening traces device plan session visits more new (leaf + 1)
+opened-more traces device leaf plan q session visits queues more old new lt is own added h = record {
   opened =
       let are : queues_at device 0 (take (leaf + 1) plan) ≡ queues_at device 0 (take leaf plan) ++ shared_at leaf q ∷ [] =
       taken-more device leaf plan q lt is ∙ ap (λ (b : Bool). queues_at device 0 (take leaf plan) ++ (if b then shared_at leaf q ∷ [] else [])) own in
@@ -87,17 +88,19 @@ opened-more traces device leaf plan q session queues more old new lt is own adde
       subst (λ (p : List LeafQueue × EndLists). at p.0 p.1) (λ i. (sym added.queues_are i, sym added.ends_are i))
       (subst (λ (shared : List SharedQueue). AreOpenAs traces shared (queues ++ added.at ∷ []) (old.taps ++ added.tap ∷ []) (old.seats ++ added.seats ∷ [])) (sym are) all);
   session_is = ap (λ (e : EndLists). e.session) added.ends_are ∙ h.session_is;
+  visits_are = ap (λ (e : EndLists). e.visits) added.ends_are ∙ h.visits_are;
 }
 
 -- A queue of another device is passed over.
-pub opened-same : (traces : List (List Packet)) (device leaf : ℕ) (plan : List Queued) (q : Queued) (session : Progress) (queues : List LeafQueue) (ends : EndLists) → leaf < length plan → q ≡ get_or plan leaf q → (q.device == device) ≡ false
-    → AreOpening traces device plan session queues ends leaf → AreOpening traces device plan session queues ends (leaf + 1)
-opened-same traces device leaf plan q session queues ends lt is other h = record {
+pub opened-same : (traces : List (List Packet)) (device leaf : ℕ) (plan : List Queued) (q : Queued) (session : Progress) (visits : Bool) (queues : List LeafQueue) (ends : EndLists) → leaf < length plan → q ≡ get_or plan leaf q → (q.device == device) ≡ false
+    → AreOpening traces device plan session visits queues ends leaf → AreOpening traces device plan session visits queues ends (leaf + 1)
+opened-same traces device leaf plan q session visits queues ends lt is other h = record {
   opened =
       let are : queues_at device 0 (take (leaf + 1) plan) ≡ queues_at device 0 (take leaf plan) =
       taken-more device leaf plan q lt is ∙ ap (λ (b : Bool). queues_at device 0 (take leaf plan) ++ (if b then shared_at leaf q ∷ [] else [])) other ∙ append-nil (queues_at device 0 (take leaf plan)) in
       subst (λ (shared : List SharedQueue). AreOpenAs traces shared queues ends.taps ends.seats) (sym are) h.opened;
   session_is = h.session_is;
+  visits_are = h.visits_are;
 }
 
 -- Some devices of a plan were opened, from a number on and below another.

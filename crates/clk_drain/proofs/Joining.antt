@@ -1,5 +1,5 @@
 -- What the threads of a run gave, joined by device, can be closed.
-use Rattle.std.proofs.Common.{◌≡◌, ℕ, ◌*◌, ◌≤◌, true≢false, List, [], ◌∷◌, ◌++◌, length, map, take, drop, refl, sym, ap, ◌∙◌, subst, arith, length-append, append_assoc}
+use Rattle.std.proofs.Common.{◌≡◌, ℕ, ◌*◌, ◌≤◌, Bool, true≢false, List, [], ◌∷◌, ◌++◌, length, map, take, drop, refl, sym, ap, ◌∙◌, subst, arith, length-append, append_assoc}
 use Rattle.std.specs.Prelude.{⊤}
 use Rattle.std.specs.List.{flat_map, AllByRecursion}
 use Rattle.clk_packet.specs.declared.packet.Packet.{Packet}
@@ -10,7 +10,6 @@ use Rattle.clk_ruled.specs.Settle.{AreOfTap, AreOpenedTogether, lists_of}
 use Rattle.clk_sched.specs.Limits.{most_left}
 use Rattle.clk_sched.specs.Log.{pulls, moment_of}
 use Rattle.clk_sched.specs.Session.{counted_moment}
-use Rattle.clk_sched.specs.Tree.{Tree}
 use Rattle.clk_drain.specs.declared.running.opening.LeafQueue.{LeafQueue}
 use Rattle.clk_drain.specs.Senders.{AreApart}
 use Rattle.clk_drain.specs.Line.{LineLists, seats_of, seats_in, senders_at, taking_all, pulling_all, AreLinesOf, HaveOwnSenders}
@@ -19,7 +18,8 @@ use Rattle.clk_drain.specs.Closing.{queue_of_line, AreOffered, HasSent}
 use Rattle.clk_drain.specs.Parts.{taken_at}
 use Rattle.clk_drain.specs.Moments.{steps}
 use Rattle.clk_drain.specs.Threads.{Terms, HaveSentAll, Feed, IsPulled, ArePulled}
-use Rattle.clk_drain.specs.Handed.{EndLists, lines_from, seats_given, feeds_from, pulled_of, seat_count, joined_lines, AreJoinable, joined_feeds, AreAllJoinable, IsReadyToClose, AreApartDevices}
+use Rattle.clk_drain.specs.Handed.{EndLists, lines_from, seats_given, feed_from, feeds_from, pulled_of, seat_count, joined_lines, AreJoinable, joined_feeds, AreAllJoinable, IsReadyToClose, AreApartDevices}
+use Rattle.clk_drain.specs.Devices.{KeepVisits}
 use Rattle.clk_drain.specs.Opening.{rooms_for, setup_for, IsOpenAs, AreOpenAs}
 use Rattle.clk_drain.proofs.Apart.{apart-parts}
 use Rattle.clk_drain.proofs.Settling.{all-join, senders-same}
@@ -158,8 +158,9 @@ joined-taken gave (at ∷ queues) [] closed = refl
 joined-taken gave (at ∷ queues) (t ∷ taps) closed = ap (λ rest. (at.leaf, t.taken ++ gave at.leaf) ∷ rest) (joined-taken gave queues taps (drop at.senders closed))
 
 -- A device, joined after its pulls: it has the queues of its plan, and its seats sent all that is sent.
-pub record IsJoinedFeed (terms : Terms) (shared : List SharedQueue) (tree : Tree) (f : Feed) : Type 0 where
-  pub tree_is : f.session.tree ≡ tree
+pub record IsJoinedFeed (terms : Terms) (shared : List SharedQueue) (e : EndLists) (f : Feed) : Type 0 where
+  pub tree_is : f.session.tree ≡ e.session.tree
+  pub visits_are : f.visits ≡ e.visits
   pub queues_are : map queue_of_line f.lines ≡ shared
   pub own : AreLinesOf f.session f.lines
   pub sent : AllByRecursion (HasSent (sent_by terms.traces)) (seats_in f.lines)
@@ -169,8 +170,8 @@ pub record IsJoinedFeed (terms : Terms) (shared : List SharedQueue) (tree : Tree
   pub counted : counted_moment f.session ≡ made * terms.step
 
 pub feed-joined : (terms : Terms) (shared : List SharedQueue) (queues : List LeafQueue) (e : EndLists) (more : List SeatLists) (closed : List ClosedLists) (f : Feed) → AreOpenAs terms.traces shared queues e.taps e.seats
-    → HaveSentAll terms (all_seats e.seats ++ more) closed → IsPulled terms (record { session = e.session; lines = lines_from queues e.taps }) f
-    → AreJoinable queues (taps_of f.lines) closed × IsJoinedFeed terms shared e.session.tree (record { session = f.session; lines = joined_lines queues (taps_of f.lines) closed })
+    → HaveSentAll terms (all_seats e.seats ++ more) closed → IsPulled terms (feed_from queues e) f
+    → AreJoinable queues (taps_of f.lines) closed × IsJoinedFeed terms shared e (record { session = f.session; visits = f.visits; lines = joined_lines queues (taps_of f.lines) closed })
 feed-joined terms shared queues e more closed f opened h pulled =
     let is = pulled.2 in
     let joined : AreJoined terms shared queues (taps_of f.lines) closed =
@@ -180,6 +181,7 @@ feed-joined terms shared queues e more closed f opened h pulled =
       joined.joinable,
       record {
         tree_is = is.tree;
+        visits_are = is.visits;
         queues_are = joined.queues_are;
         own = same-lines f.session f.lines (joined_lines queues (taps_of f.lines) closed) taken is.own;
         sent = joined.sent;
@@ -199,7 +201,7 @@ AreAllOpenAs traces all queues ends = ⊥
 -- so for each device, in order
 abbrev pub AreJoinedFeeds : Terms → List (List SharedQueue) → List EndLists → List Feed → Type 0
 AreJoinedFeeds terms [] [] [] = ⊤
-AreJoinedFeeds terms (shared ∷ all) (e ∷ ends) (f ∷ feeds) = IsJoinedFeed terms shared e.session.tree f × AreJoinedFeeds terms all ends feeds
+AreJoinedFeeds terms (shared ∷ all) (e ∷ ends) (f ∷ feeds) = IsJoinedFeed terms shared e f × AreJoinedFeeds terms all ends feeds
 AreJoinedFeeds terms all ends feeds = ⊥
 
 pub all-joined : (terms : Terms) (all : List (List SharedQueue)) (queues : List (List LeafQueue)) (ends : List EndLists) (feeds : List Feed) (closed : List ClosedLists) → AreAllOpenAs terms.traces all queues ends → HaveSentAll terms (seats_given ends) closed
@@ -218,12 +220,12 @@ all-joined terms all queues ends feeds closed opened h pulled = absurd opened
 abbrev pub senders_over : List SharedQueue → List ℕ
 senders_over shared = flat_map (λ (q : SharedQueue). q.senders) shared
 
-feed-senders : (terms : Terms) (shared : List SharedQueue) (tree : Tree) (f : Feed) → IsJoinedFeed terms shared tree f → senders_at (seats_in f.lines) ≡ senders_over shared
-feed-senders terms shared tree f h = sym (senders-same f.lines) ∙ ap senders_over h.queues_are
+feed-senders : (terms : Terms) (shared : List SharedQueue) (e : EndLists) (f : Feed) → IsJoinedFeed terms shared e f → senders_at (seats_in f.lines) ≡ senders_over shared
+feed-senders terms shared e f h = sym (senders-same f.lines) ∙ ap senders_over h.queues_are
 
-feed-ready : (terms : Terms) (shared : List SharedQueue) (tree : Tree) (f : Feed) → AreApart (senders_over shared) → packets_in terms.traces ≤ most_left → IsJoinedFeed terms shared tree f → IsReadyToClose terms f
-feed-ready terms shared tree f own most h =
-    let apart : HaveOwnSenders f.lines = subst AreApart (sym (feed-senders terms shared tree f h)) own in
+feed-ready : (terms : Terms) (shared : List SharedQueue) (e : EndLists) (f : Feed) → AreApart (senders_over shared) → packets_in terms.traces ≤ most_left → IsJoinedFeed terms shared e f → IsReadyToClose terms f
+feed-ready terms shared e f own most h =
+    let apart : HaveOwnSenders f.lines = subst AreApart (sym (feed-senders terms shared e f h)) own in
     let accepted = accepted-over-within terms.traces f.lines h.sent in
     let sent = within-trace terms.traces (senders_at (seats_in f.lines)) apart in record {
       own = h.own;
@@ -240,13 +242,19 @@ pub all-ready : (terms : Terms) (all : List (List SharedQueue)) (ends : List End
 all-ready terms [] [] [] own most h = tt
 all-ready terms (shared ∷ all) (e ∷ ends) (f ∷ feeds) own most h =
     let both = apart-parts (senders_over shared) (flat_map senders_over all) own in
-    (feed-ready terms shared e.session.tree f both.0 most h.0, all-ready terms all ends feeds both.1 most h.1)
+    (feed-ready terms shared e f both.0 most h.0, all-ready terms all ends feeds both.1 most h.1)
 all-ready terms all ends feeds own most h = absurd h
 
 feeds-senders : (terms : Terms) (all : List (List SharedQueue)) (ends : List EndLists) (feeds : List Feed) → AreJoinedFeeds terms all ends feeds → flat_map (λ (f : Feed). senders_at (seats_in f.lines)) feeds ≡ flat_map senders_over all
 feeds-senders terms [] [] [] h = refl
-feeds-senders terms (shared ∷ all) (e ∷ ends) (f ∷ feeds) h = λ i. feed-senders terms shared e.session.tree f h.0 i ++ feeds-senders terms all ends feeds h.1 i
+feeds-senders terms (shared ∷ all) (e ∷ ends) (f ∷ feeds) h = λ i. feed-senders terms shared e f h.0 i ++ feeds-senders terms all ends feeds h.1 i
 feeds-senders terms all ends feeds h = absurd h
 
 pub all-apart : (terms : Terms) (all : List (List SharedQueue)) (ends : List EndLists) (feeds : List Feed) → AreApart (flat_map senders_over all) → AreJoinedFeeds terms all ends feeds → AreApartDevices feeds
 all-apart terms all ends feeds own h = subst AreApart (sym (feeds-senders terms all ends feeds h)) own
+
+-- The visits of all joined devices are kept, or not, as those of the opened ones.
+pub joined-kept : (visits : Bool) (terms : Terms) (all : List (List SharedQueue)) (ends : List EndLists) (feeds : List Feed) → AllByRecursion (KeepVisits visits) ends → AreJoinedFeeds terms all ends feeds → AllByRecursion (λ (f : Feed). f.visits ≡ visits) feeds
+joined-kept visits terms [] [] [] kept h = tt
+joined-kept visits terms (shared ∷ all) (e ∷ ends) (f ∷ feeds) kept h = (h.0.visits_are ∙ kept.0, joined-kept visits terms all ends feeds kept.1 h.1)
+joined-kept visits terms all ends feeds kept h = absurd h

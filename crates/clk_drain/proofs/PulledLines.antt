@@ -9,6 +9,7 @@ use Rattle.clk_sched.specs.Tree.{Tree}
 use Rattle.clk_sched.specs.Places.{at_queue, Answers}
 use Rattle.clk_sched.specs.Results.{leaf_packets}
 use Rattle.clk_sched.specs.Session.{Progress, newly, counted_moment, tree_queue, IsPulledOnce, IsDrained, GivesAll}
+use Rattle.clk_drain.specs.DeviceSession.{DeviceLists}
 use Rattle.clk_drain.specs.Line.{LineLists, PullsAt, pulling_all, AreLinesOf, lasting_of, AreStill}
 use Rattle.clk_drain.specs.Parts.{IsDrainOf}
 use Rattle.clk_drain.proofs.Growing.{grown, lines-grown}
@@ -24,6 +25,11 @@ pub lines-pulled : (old new : Progress) (before after : List LineLists) (moment 
     → OnErr result (new ≡ old) → OnErr result (after ≡ before) → AreLinesOf old before → AreLinesOf new after
 lines-pulled old new before after moment (Ok got) pulled answers same still h = lines-go-on old new (newly old new) before after pulled.tree pulled.log answers h
 lines-pulled old new before after moment (Err fault) pulled answers same still h = subst (λ (x : Progress × List LineLists). AreLinesOf x.0 x.1) (λ i. (sym same i, sym still i)) h
+
+-- Where nothing has changed, the session hasn't.
+pub session-same : (old new : DeviceLists) (result : Result (Option Packet) Fault) → OnErr result (new ≡ old) → OnErr result (new.session ≡ old.session)
+session-same old new (Ok got) same = tt
+session-same old new (Err fault) same = ap (λ (s : DeviceLists). s.session) same
 
 -- Lines that were pulled stay what they are.
 still-answered : (tree : Tree) (before : List LineLists) (more : List Visit) (after : List LineLists) → Answers PullsAt (tree_queue tree) before more after → AreStill before after

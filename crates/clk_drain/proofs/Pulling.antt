@@ -1,13 +1,16 @@
 -- A session that is pulled once each step.
-use Rattle.std.proofs.Common.{◌≡◌, ℕ, ◌+◌, ◌*◌, suc, List, [], ◌∷◌, ◌++◌, map, max, reverse, Option, refl, sym, ap, ◌∙◌, arith}
+use Rattle.std.proofs.Common.{◌≡◌, ℕ, ◌+◌, ◌*◌, ◌<◌, ◌≤◌, zero, suc, Bool, List, [], ◌∷◌, ◌++◌, length, map, max, reverse, Option, refl, sym, ap, ◌∙◌, arith, lit<, length-append}
 use Rattle.std.proofs.Math.Nat.{suc-mul, zero-mul}
-use Rattle.std.proofs.lemmas.List.{reverse-append, map-append}
+use Rattle.std.proofs.lemmas.List.{reverse-append, map-append, length-map}
 use Rattle.clk_packet.specs.declared.packet.Packet.{Packet}
 use Rattle.clk_sched.specs.declared.visit.Visit.{Visit}
+use Rattle.clk_sched.specs.Kinds.{pulls_made}
+use Rattle.clk_sched.specs.Limits.{end_of_drained_pulls}
 use Rattle.clk_sched.specs.Log.{pulls, moment_of}
 use Rattle.clk_sched.specs.Results.{leaf_packets}
 use Rattle.clk_sched.specs.Session.{Progress, latest_moment, counted_moment, newly, IsPulledOnce}
 use Rattle.clk_drain.specs.Line.{LineLists, pulling_all, AreLinesOf}
+use Rattle.clk_drain.specs.Limits.{most_limit}
 use Rattle.clk_drain.specs.Moments.{steps}
 use Rattle.clk_drain.specs.Threads.{Terms, Feed, IsUnpulled, IsPulledAt, IsPulledFor}
 use Rattle.clk_drain.proofs.Growing.{all-none, all-twice}
@@ -16,6 +19,7 @@ use Rattle.clk_drain.proofs.Growing.{all-none, all-twice}
 pub pulled-none : (terms : Terms) (feed : Feed) → IsUnpulled feed → IsPulledFor terms 0 feed feed
 pulled-none terms feed h = record {
   tree = refl;
+  visits = refl;
   gave = λ q. [];
   lines = sym (all-none feed.lines);
   own = h.own;
@@ -28,6 +32,7 @@ pub pulled-more : (terms : Terms) (made : ℕ) (first old new : Feed) → IsPull
 pulled-more terms made first old new h at =
     let counted : counted_moment new.session ≡ (made + 1) * terms.step = at.counted ∙ ap (λ n. max n ((made + 1) * terms.step)) h.counted ∙ later made terms.step in record {
       tree = at.tree ∙ h.tree;
+      visits = at.visits ∙ h.visits;
       gave = λ q. h.gave q ++ at.gave q;
       lines = at.lines ∙ ap (pulling_all at.gave) h.lines ∙ all-twice h.gave at.gave first.lines;
       own = at.own;
@@ -48,14 +53,27 @@ latest : (pulled : List (List Visit)) (pull : List Visit) → latest_moment (rev
 latest pulled pull = ap latest_moment (reverse-append pulled (pull ∷ []))
 
 -- A session that was pulled over its lines was pulled at this moment.
-pub pulled-at : (moment : ℕ) (old new : Progress) (before after : List LineLists) (got : Option Packet) → IsPulledOnce old new moment got → AreLinesOf new after
-    → after ≡ pulling_all (λ q. leaf_packets old.tree q (newly old new)) before → IsPulledAt moment (record { session = old; lines = before }) (record { session = new; lines = after })
-pulled-at moment old new before after got once own took =
+pub pulled-at : (moment : ℕ) (old new : Progress) (visits kept : Bool) (before after : List LineLists) (got : Option Packet) → IsPulledOnce old new moment got → kept ≡ visits → AreLinesOf new after
+    → after ≡ pulling_all (λ q. leaf_packets old.tree q (newly old new)) before
+    → IsPulledAt moment (record { session = old; visits = visits; lines = before }) (record { session = new; visits = kept; lines = after })
+pulled-at moment old new visits kept before after got once kind own took =
     let is_last : counted_moment new ≡ moment_of (newly old new) = ap (λ pulled. latest_moment (reverse pulled)) once.last ∙ latest (pulls old.log) (newly old new) in record {
       tree = once.tree;
+      visits = kind;
       gave = λ q. leaf_packets old.tree q (newly old new);
       lines = took;
       own = own;
       counted = is_last ∙ once.at_moment;
       moments = ap (map moment_of) once.last ∙ map-append moment_of (pulls old.log) (newly old new ∷ []) ∙ ap (λ n. map moment_of (pulls old.log) ++ n ∷ []) (sym is_last);
     }
+
+-- A session that was pulled once each step was pulled so often: far less often than any session may be.
+steps-count : (step made : ℕ) → length (steps step made) ≡ made
+steps-count step zero = refl
+steps-count step (suc made) = let more = length-append (steps step made) (suc made * step ∷ []) in let rest = steps-count step made in omega (arith, more, rest)
+
+pub pulls-few : (feed : Progress) (step limit made : ℕ) → map moment_of (pulls feed.log) ≡ steps step made → made ≤ limit → limit ≤ most_limit → pulls_made feed < end_of_drained_pulls
+pulls-few feed step limit made moments within most =
+    let count : pulls_made feed ≡ made = sym (length-map (pulls feed.log) moment_of) ∙ ap length moments ∙ steps-count step made in
+    let far : most_limit < end_of_drained_pulls = lit< tt in
+    omega (arith, count, within, most, far)

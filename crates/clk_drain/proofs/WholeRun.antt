@@ -1,9 +1,11 @@
 -- What a run comes to, from what each of its parts says.
-use Rattle.std.proofs.Common.{◌≡◌, ◌≤◌, List, length, map, Result, Ok, Err, IfOk, IfErr, sym, subst}
+use Rattle.std.proofs.Common.{◌≡◌, ℕ, ◌≤◌, Bool, true, List, [], ◌∷◌, length, map, Result, Ok, Err, IfOk, IfErr, refl, sym, ap, ◌∙◌, subst}
 use Rattle.std.specs.List.{AllByRecursion}
+use Rattle.clk_packet.specs.declared.packet.Packet.{Packet}
 use Rattle.clk_packet.specs.Trace.{packets_in}
 use Rattle.clk_packet.specs.declared.fault.Fault.{Fault}
 use Rattle.clk_ruled.specs.Queue.{SeatLists, ClosedLists}
+use Rattle.clk_sched.specs.declared.visit.Visit.{Visit}
 use Rattle.clk_sched.specs.Limits.{most_left}
 use Rattle.clk_tree.specs.Plan.{Planned}
 use Rattle.clk_tree.specs.declared.plan.parts.SenderSpec.{SenderSpec}
@@ -11,29 +13,31 @@ use Rattle.clk_tree.specs.PlanParts.{queues_of, senders_of, number_of, AreRising
 use Rattle.clk_drain.specs.declared.outcome.Outcome.{Outcome}
 use Rattle.clk_drain.specs.declared.running.opening.LeafQueue.{LeafQueue}
 use Rattle.clk_drain.specs.Threads.{Terms, Feed, HaveSentAll}
-use Rattle.clk_drain.specs.Handed.{EndLists, PulledLists, HavePulled, AreAllJoinable, IsReadyToClose, AreApartDevices, AreSettledTogether, IsFaultOfClosing, seats_given, feeds_from, joined_feeds}
-use Rattle.clk_drain.specs.Run.{IsRunOutcome, senders_in, AreKnown, IsFaultOfRun}
-use Rattle.clk_drain.specs.Devices.{AreOpenFrom}
-use Rattle.clk_drain.specs.Outcome.{SharedQueue}
-use Rattle.clk_drain.proofs.Joining.{AreJoinedFeeds, all-joined, all-ready, all-apart}
+use Rattle.clk_drain.specs.Handed.{EndLists, PulledLists, HavePulled, AreAllJoinable, IsReadyToClose, AreApartDevices, AreKeptLogs, AreSettledTogether, IsFaultOfClosing, seats_given, feeds_from, joined_feeds}
+use Rattle.clk_drain.specs.Run.{IsRunWith, IsRunOutcome, IsKeptRun, senders_in, AreKnown, IsFaultOfRun}
+use Rattle.clk_drain.specs.Devices.{AreOpenFrom, KeepVisits}
+use Rattle.clk_drain.specs.Outcome.{SharedQueue, Device}
+use Rattle.clk_drain.proofs.Joining.{AreJoinedFeeds, all-joined, all-ready, all-apart, joined-kept}
 use Rattle.clk_drain.proofs.PlanSenders.{queues-apart}
 use Rattle.clk_drain.proofs.Refused.{unclosed}
 use Rattle.clk_drain.proofs.PlanDevices.{queues_by_device, apart-by-device, opened-by-device, devices-from, moments-closed}
 
 -- what was opened of a plan, and what its threads gave back
-pub record HasEnded (plan : List Planned) (terms : Terms) (queues : List (List LeafQueue)) (ends : List EndLists) (closed : List ClosedLists) (pulled : List PulledLists) : Type 0 where
+pub record HasEnded (visits : Bool) (plan : List Planned) (terms : Terms) (queues : List (List LeafQueue)) (ends : List EndLists) (closed : List ClosedLists) (pulled : List PulledLists) : Type 0 where
   pub opened : AreOpenFrom plan terms.traces 0 queues ends
+  pub kept : AllByRecursion (KeepVisits visits) ends
   pub rising : AreRising (map number_of (senders_of plan))
   pub few : packets_in terms.traces ≤ most_left
   pub sent : HaveSentAll terms (seats_given ends) closed
   pub pulled_over : HavePulled terms (feeds_from queues ends) pulled
 
 -- So it is where `course`, `producers` and `consumers` are what was handed out.
-pub has-ended : (plan : List Planned) (terms course : Terms) (senders : List SenderSpec) (queues : List (List LeafQueue)) (ends : List EndLists) (producers : List SeatLists) (consumers : List Feed) (closed : List ClosedLists) (pulled : List PulledLists)
-    → course ≡ terms → senders ≡ senders_of plan → AreRising (map number_of senders) → packets_in terms.traces ≤ most_left → AreOpenFrom plan terms.traces 0 queues ends → producers ≡ seats_given ends → consumers ≡ feeds_from queues ends
-    → HaveSentAll course producers closed → HavePulled course consumers pulled → HasEnded plan terms queues ends closed pulled
-has-ended plan terms course senders queues ends producers consumers closed pulled same own rising few opened given fed sent over = record {
+pub has-ended : (visits : Bool) (plan : List Planned) (terms course : Terms) (senders : List SenderSpec) (queues : List (List LeafQueue)) (ends : List EndLists) (producers : List SeatLists) (consumers : List Feed) (closed : List ClosedLists) (pulled : List PulledLists)
+    → course ≡ terms → senders ≡ senders_of plan → AreRising (map number_of senders) → packets_in terms.traces ≤ most_left → AreOpenFrom plan terms.traces 0 queues ends → AllByRecursion (KeepVisits visits) ends → producers ≡ seats_given ends → consumers ≡ feeds_from queues ends
+    → HaveSentAll course producers closed → HavePulled course consumers pulled → HasEnded visits plan terms queues ends closed pulled
+has-ended visits plan terms course senders queues ends producers consumers closed pulled same own rising few opened kept given fed sent over = record {
   opened = opened;
+  kept = kept;
   rising = subst (λ (ss : List SenderSpec). AreRising (map number_of ss)) own rising;
   few = few;
   sent = subst (λ (x : Terms × List SeatLists). HaveSentAll x.0 x.1 closed) (λ i. (same i, given i)) sent;
@@ -49,9 +53,9 @@ pub record IsJoinedRun (plan : List Planned) (terms : Terms) (queues : List (Lis
   pub ready : AllByRecursion (IsReadyToClose terms) (joined_feeds queues pulled closed)
   pub apart : AreApartDevices (joined_feeds queues pulled closed)
 
-pub run-joined : (plan : List Planned) (terms : Terms) (queues : List (List LeafQueue)) (ends : List EndLists) (closed : List ClosedLists) (pulled : List PulledLists) → HasEnded plan terms queues ends closed pulled
+pub run-joined : (visits : Bool) (plan : List Planned) (terms : Terms) (queues : List (List LeafQueue)) (ends : List EndLists) (closed : List ClosedLists) (pulled : List PulledLists) → HasEnded visits plan terms queues ends closed pulled
     → IsJoinedRun plan terms queues ends closed pulled
-run-joined plan terms queues ends closed pulled h =
+run-joined visits plan terms queues ends closed pulled h =
     let both = all-joined terms (shared_of plan ends) queues ends h.pulled_over.feeds closed (opened-by-device plan terms.traces 0 queues ends h.opened) h.sent h.pulled_over.are in
     let apart = apart-by-device (queues_of plan) 0 (length ends) (queues-apart plan h.rising) in
     let pair = subst (λ p. AreAllJoinable queues p closed × AreJoinedFeeds terms (shared_of plan ends) ends (joined_feeds queues p closed)) (sym h.pulled_over.taps) both in record {
@@ -61,27 +65,47 @@ run-joined plan terms queues ends closed pulled h =
       apart = all-apart terms (shared_of plan ends) ends (joined_feeds queues pulled closed) apart pair.1;
     }
 
-pub run-settled : (plan : List Planned) (terms : Terms) (queues : List (List LeafQueue)) (ends : List EndLists) (closed : List ClosedLists) (pulled : List PulledLists) (outcome : Outcome) → HasEnded plan terms queues ends closed pulled
-    → AreSettledTogether terms (joined_feeds queues pulled closed) outcome → IsRunOutcome plan terms.traces terms.step terms.limit outcome
-run-settled plan terms queues ends closed pulled outcome h settled =
-    let joined = run-joined plan terms queues ends closed pulled h in record {
-      devices = settled.devices;
-      each = devices-from plan terms 0 queues ends (joined_feeds queues pulled closed) settled.devices h.opened joined.joined settled.closed;
-      logs = settled.logs;
-      emitted = settled.emitted;
-      settled = settled.settled;
-      moments = moments-closed terms (joined_feeds queues pulled closed) settled.devices settled.closed;
+-- Where the visits of all devices are kept, the logs that the outcome has are those of the devices.
+logs-kept : (feeds : List Feed) (logs : List (List Visit)) (devices : List Device) → AllByRecursion (λ (f : Feed). f.visits ≡ true) feeds → AreKeptLogs feeds logs devices → logs ≡ map (λ (d : Device). d.log) devices
+logs-kept [] [] [] kept h = refl
+logs-kept [] [] (d ∷ devices) kept h = absurd h
+logs-kept [] (log ∷ logs) devices kept h = absurd h
+logs-kept (f ∷ feeds) [] devices kept h = absurd h
+logs-kept (f ∷ feeds) (log ∷ logs) [] kept h = absurd h
+logs-kept (f ∷ feeds) (log ∷ logs) (d ∷ devices) kept h = λ i. h.0 kept.0 i ∷ logs-kept feeds logs devices kept.1 h.1 i
+
+pub run-settled : (visits : Bool) (plan : List Planned) (terms : Terms) (queues : List (List LeafQueue)) (ends : List EndLists) (closed : List ClosedLists) (pulled : List PulledLists) (outcome : Outcome) → HasEnded visits plan terms queues ends closed pulled
+    → AreSettledTogether terms (joined_feeds queues pulled closed) outcome → IsKeptRun visits plan terms.traces terms.step terms.limit outcome
+run-settled visits plan terms queues ends closed pulled outcome h settled =
+    let feeds = joined_feeds queues pulled closed in
+    let joined = run-joined visits plan terms queues ends closed pulled h in
+    let kept : AllByRecursion (λ (f : Feed). f.visits ≡ visits) feeds = joined-kept visits terms (shared_of plan ends) ends feeds h.kept joined.joined in record {
+      logs = map (λ (d : Device). d.log) settled.devices;
+      kept = λ keeps. logs-kept feeds (map (λ log. log.items) outcome.logs.items) settled.devices (subst (λ (v : Bool). AllByRecursion (λ (f : Feed). f.visits ≡ v) feeds) keeps kept) settled.logs;
+      is = record {
+        devices = settled.devices;
+        each = devices-from plan terms 0 queues ends feeds settled.devices h.opened joined.joined settled.closed;
+        logged = refl;
+        emitted = settled.emitted;
+        settled = settled.settled;
+        moments = moments-closed terms feeds settled.devices settled.closed;
+      };
     }
 
 -- What closing the devices answers is what the run answers.
-pub answered-ok : (plan : List Planned) (terms course : Terms) (queues : List (List LeafQueue)) (ends : List EndLists) (closed : List ClosedLists) (pulled : List PulledLists) (feeds : List Feed) (result : Result Outcome Fault) → course ≡ terms → feeds ≡ joined_feeds queues pulled closed
-    → HasEnded plan terms queues ends closed pulled → IfOk result (AreSettledTogether course feeds) → IfOk result (IsRunOutcome plan terms.traces terms.step terms.limit)
-answered-ok plan terms course queues ends closed pulled feeds (Ok outcome) same are h settled =
-    run-settled plan terms queues ends closed pulled outcome h (subst (λ (x : Terms × List Feed). AreSettledTogether x.0 x.1 outcome) (λ i. (same i, are i)) settled)
-answered-ok plan terms course queues ends closed pulled feeds (Err fault) same are h settled = tt
+pub answered-ok : (visits : Bool) (plan : List Planned) (terms course : Terms) (queues : List (List LeafQueue)) (ends : List EndLists) (closed : List ClosedLists) (pulled : List PulledLists) (feeds : List Feed) (result : Result Outcome Fault) → course ≡ terms
+    → feeds ≡ joined_feeds queues pulled closed → HasEnded visits plan terms queues ends closed pulled → IfOk result (AreSettledTogether course feeds) → IfOk result (IsKeptRun visits plan terms.traces terms.step terms.limit)
+answered-ok visits plan terms course queues ends closed pulled feeds (Ok outcome) same are h settled =
+    run-settled visits plan terms queues ends closed pulled outcome h (subst (λ (x : Terms × List Feed). AreSettledTogether x.0 x.1 outcome) (λ i. (same i, are i)) settled)
+answered-ok visits plan terms course queues ends closed pulled feeds (Err fault) same are h settled = tt
 
-pub answered-err : (plan : List Planned) (terms : Terms) (queues : List (List LeafQueue)) (ends : List EndLists) (closed : List ClosedLists) (pulled : List PulledLists) (feeds : List Feed) (result : Result Outcome Fault) → feeds ≡ joined_feeds queues pulled closed
-    → HasEnded plan terms queues ends closed pulled → AreKnown (senders_in plan) terms.traces → IfErr result (IsFaultOfClosing feeds) → IfErr result (IsFaultOfRun plan terms.traces)
-answered-err plan terms queues ends closed pulled feeds (Ok outcome) are h known fault = tt
-answered-err plan terms queues ends closed pulled feeds (Err fault) are h known refused =
-    unclosed plan terms known (joined_feeds queues pulled closed) fault (run-joined plan terms queues ends closed pulled h).ready (subst (λ (fs : List Feed). IsFaultOfClosing fs fault) are refused)
+pub answered-err : (visits : Bool) (plan : List Planned) (terms : Terms) (queues : List (List LeafQueue)) (ends : List EndLists) (closed : List ClosedLists) (pulled : List PulledLists) (feeds : List Feed) (result : Result Outcome Fault) → feeds ≡ joined_feeds queues pulled closed
+    → HasEnded visits plan terms queues ends closed pulled → AreKnown (senders_in plan) terms.traces → IfErr result (IsFaultOfClosing feeds) → IfErr result (IsFaultOfRun plan terms.traces)
+answered-err visits plan terms queues ends closed pulled feeds (Ok outcome) are h known fault = tt
+answered-err visits plan terms queues ends closed pulled feeds (Err fault) are h known refused =
+    unclosed plan terms known (joined_feeds queues pulled closed) fault (run-joined visits plan terms queues ends closed pulled h).ready (subst (λ (fs : List Feed). IsFaultOfClosing fs fault) are refused)
+
+-- A run whose visits are kept has its logs.
+pub with-logs : (plan : List Planned) (traces : List (List Packet)) (step limit : ℕ) (result : Result Outcome Fault) → IfOk result (IsKeptRun true plan traces step limit) → IfOk result (IsRunOutcome plan traces step limit)
+with-logs plan traces step limit (Ok outcome) h = subst (λ (logs : List (List Visit)). IsRunWith plan traces step limit logs outcome) (sym (h.kept refl)) h.is
+with-logs plan traces step limit (Err fault) h = tt

@@ -1,15 +1,17 @@
 -- What closing a session over its lines comes to.
-use Rattle.std.specs.Prelude.{◌≡◌, ◌⊎◌, ℕ, ◌+◌, ◌-◌, ◌<◌, ◌≤◌, List, [], ◌∷◌, length, map, max}
+use Rattle.std.specs.Prelude.{◌≡◌, ◌⊎◌, ℕ, ◌+◌, ◌-◌, ◌<◌, ◌≤◌, true, List, [], ◌∷◌, length, map, max}
 use Rattle.std.specs.List.{AllByRecursion}
 use Rattle.clk_packet.specs.declared.packet.Packet.{Packet}
 use Rattle.clk_packet.specs.declared.fault.Fault.{Fault}
 use Rattle.clk_packet.specs.declared.fault.Fault.TheVariants.{Memory}
 use Rattle.clk_ruled.specs.Queue.{SeatLists, AreNumbered, IsDealt}
 use Rattle.clk_ruled.specs.Settle.{accepted_count, evicted_count, lost_count, IsFaultOfSettle}
+use Rattle.clk_sched.specs.declared.visit.Visit.{Visit}
 use Rattle.clk_sched.specs.Session.{Progress, counted_moment, GivesAll}
 use Rattle.clk_sched.specs.Results.{emitted}
 use Rattle.clk_drain.specs.declared.drained.Drained.{Drained}
 use Rattle.clk_drain.specs.Line.{LineLists, seats_of, seats_in, senders_at}
+use Rattle.clk_drain.specs.DeviceSession.{DeviceLists}
 use Rattle.clk_drain.specs.Outcome.{SharedQueue, Device, IsSettledOutcome}
 
 -- how many packets the queues of lines accepted and evicted in all
@@ -29,9 +31,9 @@ left_over session lines = accepted_over lines - (evicted_over lines + length (em
 abbrev pub queue_of_line : LineLists → SharedQueue
 queue_of_line l = record { leaf = l.leaf; kind = l.tap.setup.kind; capacity = l.tap.setup.capacity; senders = senders_at (seats_of l) }
 
--- a session's device over lines, with what it came to
-abbrev pub device_of : Progress → List LineLists → Drained → Device
-device_of session lines drained = record { tree = session.tree; queues = map queue_of_line lines; log = drained.log.items; emitted = drained.emitted.items }
+-- a session's device over lines, with every visit of its tree and what else it came to
+abbrev pub device_of : Progress → List LineLists → List Visit → Drained → Device
+device_of session lines log drained = record { tree = session.tree; queues = map queue_of_line lines; log = log; emitted = drained.emitted.items }
 
 -- The packets are those that a seat offered: so many of its sender, numbered from 0 on, each accepted or refused, in order.
 abbrev pub AreOffered : List Packet → SeatLists → Type 0
@@ -41,17 +43,27 @@ AreOffered packets l = (length packets ≡ l.next) × AreNumbered l.sender 0 pac
 abbrev pub HasSent : (ℕ → List Packet) → SeatLists → Type 0
 HasSent sent l = AreOffered (sent l.sender) l
 
--- A session was drained over its lines, from a moment on, and all is settled.
-pub record IsDrainedOver (session : Progress) (lines : List LineLists) (moment : ℕ) (drained : Drained) : Type 0 where
+-- A session was drained over its lines, from a moment on, to this log, and all is settled.
+pub record IsDrainedTo (session : Progress) (lines : List LineLists) (moment : ℕ) (log : List Visit) (drained : Drained) : Type 0 where
   -- the seats offered some packets
   pub sent : ℕ → List Packet
   pub offered : AllByRecursion (HasSent sent) (seats_in lines)
   -- whatever it is that they offered, this is its settled outcome
   pub outcome : (packets : ℕ → List Packet) → AllByRecursion (HasSent packets) (seats_in lines)
-      → IsSettledOutcome packets (device_of session lines drained ∷ []) drained.tallies.items
+      → IsSettledOutcome packets (device_of session lines log drained ∷ []) drained.tallies.items
   -- the log goes on from the session's by the pulls of one drain of all that was left
   pub made : ℕ
-  pub goes_on : GivesAll session (record { tree = session.tree; log = drained.log.items }) (max (counted_moment session) moment) made (left_over session lines)
+  pub goes_on : GivesAll session (record { tree = session.tree; log = log }) (max (counted_moment session) moment) made (left_over session lines)
+
+-- The same, where the log is kept.
+abbrev pub IsDrainedOver : Progress → List LineLists → ℕ → Drained → Type 0
+IsDrainedOver session lines moment drained = IsDrainedTo session lines moment drained.log.items drained
+
+-- A device's session was drained over its lines, from a moment on, and all is settled. It has the log, where its visits are kept.
+pub record IsDrainedAs (s : DeviceLists) (lines : List LineLists) (moment : ℕ) (drained : Drained) : Type 0 where
+  pub log : List Visit
+  pub kept : s.visits ≡ true → drained.log.items ≡ log
+  pub is : IsDrainedTo s.session lines moment log drained
 
 -- A queue refused or evicted packets only where it accepted as many as it may hold.
 abbrev pub HasReached : LineLists → Type 0

@@ -1,5 +1,5 @@
 -- What a run opens of a plan.
-use Rattle.std.specs.Prelude.{◌≡◌, ℕ, List, [], ◌∷◌, map, suc}
+use Rattle.std.specs.Prelude.{◌≡◌, ℕ, Bool, List, [], ◌∷◌, map, suc}
 use Rattle.clk_packet.specs.declared.packet.Packet.{Packet}
 use Rattle.clk_sched.specs.Tree.{root, leaves, stands_in}
 use Rattle.clk_tree.specs.Plan.{Planned}
@@ -23,3 +23,7 @@ abbrev pub AreOpenFrom : List Planned → List (List Packet) → ℕ → List (L
 AreOpenFrom plan traces device [] [] = device ≡ device_count plan
 AreOpenFrom plan traces device (queues ∷ more) (e ∷ ends) = IsOpenOf plan traces device queues e × AreOpenFrom plan traces (suc device) more ends
 AreOpenFrom plan traces device queues ends = ⊥
+
+-- The visits of a device are kept, or not.
+abbrev pub KeepVisits : Bool → EndLists → Type 0
+KeepVisits visits ends = ends.visits ≡ visits

@@ -1,5 +1,5 @@
 -- How the parts of opened devices are handed out to the threads of a run, and joined again.
-use Rattle.std.specs.Prelude.{◌≡◌, ◌⊎◌, ℕ, ◌*◌, ◌+◌, ◌≤◌, List, [], ◌∷◌, length, map, take, drop, ⊤}
+use Rattle.std.specs.Prelude.{◌≡◌, ◌⊎◌, ℕ, ◌*◌, ◌+◌, ◌≤◌, Bool, true, List, [], ◌∷◌, length, map, take, drop, ⊤}
 use Rattle.std.specs.List.{flat_map, AllByRecursion}
 use Rattle.clk_packet.specs.declared.fault.Fault.{Fault}
 use Rattle.clk_packet.specs.declared.fault.Fault.TheVariants.{Memory}
@@ -7,6 +7,7 @@ use Rattle.clk_packet.specs.Trace.{sent_by}
 use Rattle.clk_ruled.specs.Queue.{SeatLists, TapLists, ClosedLists, IsTapOf}
 use Rattle.clk_ruled.specs.Closing.{AreSeatsOf}
 use Rattle.clk_ruled.specs.Settle.{AreOpenedTogether}
+use Rattle.clk_sched.specs.declared.visit.Visit.{Visit}
 use Rattle.clk_sched.specs.Limits.{most_left}
 use Rattle.clk_sched.specs.Log.{pulls, moment_of}
 use Rattle.clk_sched.specs.Session.{Progress, counted_moment}
@@ -19,15 +20,17 @@ use Rattle.clk_drain.specs.Closing.{accepted_over, HasSent, queue_of_line, IsFau
 use Rattle.clk_drain.specs.Moments.{steps, HasMoments}
 use Rattle.clk_drain.specs.Threads.{Terms, Feed, ArePulled}
 
--- a device's session, and the taps and the seats of its queues, each in order
+-- a device's session, whether its visits are kept, and the taps and the seats of its queues, each in order
 pub record EndLists : Type 0 where
   pub session : Progress
+  pub visits : Bool
   pub taps : List TapLists
   pub seats : List (List SeatLists)
 
--- a session and the taps of its queues, in order
+-- a session, whether its visits are kept, and the taps of its queues, in order
 pub record PulledLists : Type 0 where
   pub session : Progress
+  pub visits : Bool
   pub taps : List TapLists
 
 -- the queues' lines while their seats are out
@@ -66,7 +69,7 @@ seats_given ends = flat_map (λ (e : EndLists). flat_map (λ seats. seats) e.sea
 
 -- a device's session with its lines, and those of all devices, while the seats are out
 abbrev pub feed_from : List LeafQueue → EndLists → Feed
-feed_from queues e = record { session = e.session; lines = lines_from queues e.taps }
+feed_from queues e = record { session = e.session; visits = e.visits; lines = lines_from queues e.taps }
 
 abbrev pub feeds_from : List (List LeafQueue) → List EndLists → List Feed
 feeds_from [] ends = []
@@ -75,7 +78,7 @@ feeds_from (queues ∷ more) (e ∷ ends) = feed_from queues e ∷ feeds_from mo
 
 -- the sessions and the taps of consumers
 abbrev pub pulled_of : Feed → PulledLists
-pulled_of f = record { session = f.session; taps = map (λ (l : LineLists). l.tap) f.lines }
+pulled_of f = record { session = f.session; visits = f.visits; taps = map (λ (l : LineLists). l.tap) f.lines }
 
 -- Each session was pulled, once each step, and its taps are what became of its lines.
 pub record HavePulled (terms : Terms) (before : List Feed) (pulled : List PulledLists) : Type 0 where
@@ -107,7 +110,7 @@ abbrev pub joined_feeds : List (List LeafQueue) → List PulledLists → List Cl
 joined_feeds [] pulled closed = []
 joined_feeds (queues ∷ more) [] closed = []
 joined_feeds (queues ∷ more) (p ∷ pulled) closed =
-    record { session = p.session; lines = joined_lines queues p.taps closed } ∷ joined_feeds more pulled (drop (seat_count queues) closed)
+    record { session = p.session; visits = p.visits; lines = joined_lines queues p.taps closed } ∷ joined_feeds more pulled (drop (seat_count queues) closed)
 
 abbrev pub AreAllJoinable : List (List LeafQueue) → List PulledLists → List ClosedLists → Type 0
 AreAllJoinable [] [] closed = ⊤
@@ -140,11 +143,17 @@ AreClosedDevices terms [] [] = ⊤
 AreClosedDevices terms (f ∷ feeds) (d ∷ devices) = IsClosedDevice terms f d × AreClosedDevices terms feeds devices
 AreClosedDevices terms feeds devices = ⊥
 
+-- Of each session whose visits are kept this is the log of its device.
+abbrev pub AreKeptLogs : List Feed → List (List Visit) → List Device → Type 0
+AreKeptLogs [] [] [] = ⊤
+AreKeptLogs (f ∷ feeds) (log ∷ logs) (d ∷ devices) = (f.visits ≡ true → log ≡ d.log) × AreKeptLogs feeds logs devices
+AreKeptLogs feeds logs devices = ⊥
+
 -- All devices were closed, and what was sent is settled.
 pub record AreSettledTogether (terms : Terms) (feeds : List Feed) (outcome : Outcome) : Type 0 where
   pub devices : List Device
   pub closed : AreClosedDevices terms feeds devices
-  pub logs : map (λ log. log.items) outcome.logs.items ≡ map (λ (d : Device). d.log) devices
+  pub logs : AreKeptLogs feeds (map (λ log. log.items) outcome.logs.items) devices
   pub emitted : map (λ packets. packets.items) outcome.emitted.items ≡ map (λ (d : Device). d.emitted) devices
   pub settled : IsSettledOutcome (sent_by terms.traces) devices outcome.tallies.items
 

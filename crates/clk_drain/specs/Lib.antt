@@ -2,6 +2,7 @@
 pub mod Senders
 pub mod Line
 pub mod Outcome
+pub mod DeviceSession
 pub mod Closing
 pub mod Parts
 pub mod Limits

@@ -37,4 +37,4 @@ pub record IsAdded (traces : List (List Packet)) (q : SharedQueue) (queues more 
   pub seats : List SeatLists
   pub opened : IsOpenAs traces q at tap seats
   pub queues_are : more ≡ queues ++ at ∷ []
-  pub ends_are : new ≡ record { session = old.session; taps = old.taps ++ tap ∷ []; seats = old.seats ++ seats ∷ [] }
+  pub ends_are : new ≡ record { session = old.session; visits = old.visits; taps = old.taps ++ tap ∷ []; seats = old.seats ++ seats ∷ [] }

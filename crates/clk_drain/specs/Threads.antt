@@ -1,5 +1,5 @@
 -- What the threads of a run say to one another.
-use Rattle.std.specs.Prelude.{◌≡◌, ℕ, ◌*◌, ◌≤◌, List, [], ◌∷◌, ◌++◌, length, map, max, ⊤}
+use Rattle.std.specs.Prelude.{◌≡◌, ℕ, ◌*◌, ◌≤◌, Bool, List, [], ◌∷◌, ◌++◌, length, map, max, ⊤}
 use Rattle.clk_packet.specs.declared.packet.Packet.{Packet}
 use Rattle.clk_packet.specs.Trace.{sent_by}
 use Rattle.clk_ruled.specs.Queue.{SeatLists, ClosedLists}
@@ -32,9 +32,10 @@ HaveSentAll terms [] [] = ⊤
 HaveSentAll terms (s ∷ seats) (c ∷ closed) = HasSentAll terms s c × HaveSentAll terms seats closed
 HaveSentAll terms seats closed = ⊥
 
--- a session and the lines over which it is pulled
+-- a session with the lines over which it is pulled, and whether its visits are kept
 pub record Feed : Type 0 where
   pub session : Progress
+  pub visits : Bool
   pub lines : List LineLists
 
 -- A session that is to be pulled for the first time.
@@ -45,6 +46,7 @@ pub record IsUnpulled (feed : Feed) : Type 0 where
 -- It was pulled once more, at this moment or, where that is later, at the greatest so far.
 pub record IsPulledAt (moment : ℕ) (old new : Feed) : Type 0 where
   pub tree : new.session.tree ≡ old.session.tree
+  pub visits : new.visits ≡ old.visits
   pub gave : ℕ → List Packet
   pub lines : new.lines ≡ pulling_all gave old.lines
   pub own : AreLinesOf new.session new.lines
@@ -54,6 +56,7 @@ pub record IsPulledAt (moment : ℕ) (old new : Feed) : Type 0 where
 -- It was pulled so often, once each step.
 pub record IsPulledFor (terms : Terms) (made : ℕ) (old new : Feed) : Type 0 where
   pub tree : new.session.tree ≡ old.session.tree
+  pub visits : new.visits ≡ old.visits
   pub gave : ℕ → List Packet
   pub lines : new.lines ≡ pulling_all gave old.lines
   pub own : AreLinesOf new.session new.lines

@@ -1,23 +1,23 @@
 //! The closing of a session: its lines are drained to the device, and settled.
 
-ghost use Rattle.std.specs.Prelude.{◌≡◌, ◌⊎◌, ◌+◌, ◌-◌, ◌<◌, ◌≤◌, ◌++◌, true, max, IfOk, IfErr, OnOk, IsOkUnless};
+ghost use Rattle.std.specs.Prelude.{◌≡◌, ◌⊎◌, ◌+◌, ◌-◌, ◌<◌, ◌≤◌, ◌++◌, false, max, IfOk, IfErr, OnOk, IsOkUnless};
 ghost use Rattle.std.specs.List.{AllByRecursion};
 ghost use Rattle.clk_packet.specs.declared.fault.Fault.TheVariants.{Memory};
 ghost use Rattle.clk_sched.specs.Closing.{left_in};
-ghost use Rattle.clk_sched.specs.Limits.{most_left, end_of_drains};
-ghost use Rattle.clk_sched.specs.Results.{emitted};
+ghost use Rattle.clk_sched.specs.Kinds.{pulls_made};
+ghost use Rattle.clk_sched.specs.Limits.{most_left, end_of_drains, end_of_drained_pulls};
 ghost use Rattle.clk_sched.specs.Session.{counted_moment};
-ghost use Rattle.clk_sched.specs.Tree.{leaves_distinct};
 ghost use Rattle.clk_drain.specs.Line.{AreLinesOf, HaveOwnSenders};
-ghost use Rattle.clk_drain.specs.Closing.{accepted_over, evicted_over, left_over, IsDrainedOver, IsFaultOfDrain, HasUnsettled};
+ghost use Rattle.clk_drain.specs.Closing.{accepted_over, evicted_over, left_over, IsDrainedOver, IsDrainedAs, IsFaultOfDrain, HasUnsettled};
 ghost use Rattle.clk_drain.specs.Parts.{IsGathered, held_at, AreGatheredFrom, IsDrainOf, IsSettledLine, AreInOrder, tallies_in};
 
+use crate::device::DeviceSession;
 use crate::drained::Drained;
 use crate::line::Line;
 use crate::lines::GatheredLines;
-use clk_packet::{Fault, Packet, Tally};
+use clk_packet::{Fault, Tally};
 use clk_ruled::Settled;
-use clk_sched::{Session, Visit, runs_conserve_packets};
+use clk_sched::{Session, runs_conserve_packets};
 use std::alloc::Global;
 use std::sync::Wait;
 
@@ -46,28 +46,40 @@ pub fn close_and_drain<W: Wait>(
     ensures drained { IfOk result (IsDrainedOver session lines.items moment) }
     ensures fault { IfErr result (IsFaultOfDrain lines.items) }
 {
+    close(alloc, wait, DeviceSession::of(session), lines, moment)
+}
+
+/// The same, of a session that may keep no visits: then there is a log, but what is handed back has none.
+///
+/// # Errors
+///
+/// Those of `close_and_drain`.
+pub(crate) fn close<W: Wait>(
+    alloc: Global,
+    wait: &W,
+    session: DeviceSession,
+    lines: Vec<Line>,
+    moment: u64,
+) -> Result<Drained, Fault>
+    requires lines { AreLinesOf session.session lines.items }
+    requires senders { HaveOwnSenders lines.items }
+    requires few { accepted_over lines.items ≤ most_left }
+    requires moment { max (counted_moment session.session) moment < end_of_drains }
+    requires pulls { session.visits ≡ false → pulls_made session.session < end_of_drained_pulls }
+    ensures drained { IfOk result (IsDrainedAs session lines.items moment) }
+    ensures fault { IfErr result (IsFaultOfDrain lines.items) }
+{
     runs_conserve_packets();
     let lines = gathered(lines);
     let left = left(&session, &lines);
     let (session, lines) = drain(wait, session, lines, left, moment)?;
     let tallies = settle_all(alloc, lines)?;
-    let (log, emitted) = came_to(session);
+    let (log, emitted) = session.into_parts();
     Ok(Drained {
         emitted,
         log,
         tallies,
     })
-}
-
-// The log of a session, and what came out at its device.
-fn came_to(session: Session) -> (Vec<Visit>, Vec<Packet>)
-    ensures log { result.0.items ≡ session.log }
-    ensures emitted { result.1.items ≡ emitted session.log }
-    ensures distinct { leaves_distinct session.tree ≡ true }
-{
-    // That no queue stands twice in its tree is known where the log is read.
-    let _ = session.log();
-    session.into_parts()
 }
 
 // The lines, once their taps gathered all seats.
@@ -91,17 +103,19 @@ fn gather_all(lines: &mut [Line])
 // Drains a session over its lines, whose seats are all gathered, of all that queues and heads hold.
 fn drain<W: Wait>(
     wait: &W,
-    session: Session,
+    session: DeviceSession,
     lines: Vec<Line>,
     left: u64,
     moment: u64,
-) -> Result<(Session, Vec<Line>), Fault>
-    requires lines { AreLinesOf session lines.items }
+) -> Result<(DeviceSession, Vec<Line>), Fault>
+    requires lines { AreLinesOf session.session lines.items }
     requires gathered { AllByRecursion IsGathered lines.items }
     requires few { left ≤ most_left }
-    requires left { left ≡ left_in session.tree session.log (held_at lines.items) }
-    requires moment { max (counted_moment session) moment < end_of_drains }
-    ensures drained { IfOk result (λ drained. IsDrainOf session lines.items moment left drained.0 drained.1.items) }
+    requires left { left ≡ left_in session.session.tree session.session.log (held_at lines.items) }
+    requires moment { max (counted_moment session.session) moment < end_of_drains }
+    requires pulls { session.visits ≡ false → pulls_made session.session < end_of_drained_pulls }
+    ensures drained { IfOk result (λ drained. IsDrainOf session.session lines.items moment left drained.0.session drained.1.items) }
+    ensures kind { IfOk result (λ drained. drained.0.visits ≡ session.visits) }
     ensures fault { IsOkUnless result Fault.Memory }
 {
     let mut session = session;
@@ -111,17 +125,16 @@ fn drain<W: Wait>(
 }
 
 // How many packets are left: what all queues accepted, less what they evicted and what was emitted. So many do queues and heads hold.
-fn left(session: &Session, lines: &[Line]) -> u64
-    requires lines { AreLinesOf session.now lines.now }
+fn left(session: &DeviceSession, lines: &[Line]) -> u64
+    requires lines { AreLinesOf session.now.session lines.now }
     requires gathered { AllByRecursion IsGathered lines.now }
     requires few { accepted_over lines.now ≤ most_left }
-    ensures over { result ≡ left_over session.now lines.now }
-    ensures held { result ≡ left_in session.now.tree session.now.log (held_at lines.now) }
+    ensures over { result ≡ left_over session.now.session lines.now }
+    ensures held { result ≡ left_in session.now.session.tree session.now.session.log (held_at lines.now) }
 {
     runs_conserve_packets();
-    // That no queue stands twice in its tree is known where the log is read.
-    let _ = session.log();
-    accepted(lines) - evicted(lines) - session.came_out().len() as u64
+    let emitted = session.count_emitted();
+    accepted(lines) - evicted(lines) - emitted
 }
 
 // How many packets the queues accepted.

@@ -3,6 +3,7 @@
 #![tactic(auto)]
 
 mod closing;
+mod device;
 mod drained;
 mod examples;
 mod gate;
@@ -20,4 +21,4 @@ pub use laws::taps_take_what_leaves_give;
 pub use line::Line;
 pub use lines::Lines;
 pub use outcome::Outcome;
-pub use running::run;
+pub use running::{run, run_with};

@@ -17,7 +17,7 @@ ghost use Rattle.clk_packet.specs.Trace.{sent_by};
 ghost use Rattle.clk_ruled.specs.Lists.{has_sender};
 ghost use Rattle.clk_tree.specs.PlanParts.{number_of};
 ghost use Rattle.clk_drain.specs.Limits.{most_step, most_limit};
-ghost use Rattle.clk_drain.specs.Run.{IsRunOutcome, senders_in, AreKnown, IsFaultOfRun, IsUnknownSender};
+ghost use Rattle.clk_drain.specs.Run.{IsRunOutcome, IsKeptRun, senders_in, AreKnown, IsFaultOfRun, IsUnknownSender};
 
 use crate::gate::Gate;
 use crate::outcome::Outcome;
@@ -65,10 +65,37 @@ pub fn run<R: Threads + Wait, W: Wait + Sync, G: Gate + Sync>(
     ensures known { IfOk result (λ _. AreKnown (senders_in plan.now) traces.now) }
     ensures fault { IfErr result (IsFaultOfRun plan.now traces.now) }
 {
+    run_with(rt, alloc, wait, plan, traces, step, limit, gate, true)
+}
+
+/// Runs a plan over a trace as `run` does. Where no visits are kept, the outcome's logs are empty, and no memory is taken while threads
+/// run but for the packets that come out: that each device made a run of its tree, by which what came out is told, is proved of visits
+/// that contracts alone know.
+///
+/// # Errors
+///
+/// Those of `run`.
+pub fn run_with<R: Threads + Wait, W: Wait + Sync, G: Gate + Sync>(
+    rt: &R,
+    alloc: Global,
+    wait: &W,
+    plan: &Plan,
+    traces: &Traces,
+    step: u32,
+    limit: u32,
+    gate: &G,
+    visits: bool,
+) -> Result<Outcome, Fault>
+    requires step { (1 ≤ step) × (step ≤ most_step) }
+    requires limit { (1 ≤ limit) × (limit ≤ most_limit) }
+    ensures outcome { IfOk result (IsKeptRun visits plan.now traces.now step limit) }
+    ensures known { IfOk result (λ _. AreKnown (senders_in plan.now) traces.now) }
+    ensures fault { IfErr result (IsFaultOfRun plan.now traces.now) }
+{
     check_senders(plan.senders(), traces)?;
     // How many packets are sent in all is known where they are counted.
     let _ = traces.count(0);
-    let OpenPlan { queues, ends } = open_devices(alloc, plan, traces)?;
+    let OpenPlan { queues, ends } = open_devices(alloc, plan, traces, visits)?;
     let handed = hand_out(alloc, wait, &queues, ends)?;
     let course = Course::new(wait, traces, gate, step, limit, handed.producers.len());
     let ended = run_threads(rt, alloc, &course, handed)?;

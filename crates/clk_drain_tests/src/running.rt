@@ -4,7 +4,7 @@ ghost use Rattle.std.specs.Prelude.{◌≤◌};
 ghost use Rattle.clk_drain.specs.Limits.{most_limit};
 
 use crate::gates::{AllMeet, Calls, Counted, InTurns};
-use clk_drain::{Free, Gate, Outcome, run};
+use clk_drain::{Free, Gate, Outcome, run, run_with};
 use clk_packet::{FailingSource, Fault, Packet, Tally, Traces};
 use clk_tree::Plan;
 use std::alloc::Global;
@@ -176,6 +176,18 @@ fn eight_senders_one_queue(rt: HostRuntime) -> Result<(), Fault> {
     for tally in &outcome.tallies {
         assert_eq!(rt; tally.accepted.as_slice().len(), 100);
     }
+    assert_all_accepted(&rt, alloc, &traces, &outcome)
+}
+
+// Without visits all is accounted for as ever, and no device has a log.
+#[test]
+fn a_run_may_keep_no_visits(rt: HostRuntime) -> Result<(), Fault> {
+    let alloc = rt.alloc();
+    let traces = traces(alloc, records(alloc, b"01", 50)?)?;
+    let plan = Plan::read(alloc, DRR_OVER_TWO.as_bytes())?;
+    let outcome = run_with(&rt, alloc, &rt, &plan, &traces, 1, 1000, &Free, false)?;
+    assert_all_accounted(&rt, alloc, &traces, &outcome, 2)?;
+    assert_eq!(rt; outcome.logs, vec![in alloc; Vec::new(alloc)]?);
     assert_all_accepted(&rt, alloc, &traces, &outcome)
 }
 

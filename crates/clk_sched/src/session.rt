@@ -17,7 +17,6 @@ pub(crate) mod state;
 pub(crate) mod stride;
 
 use crate::ask::Ask;
-use crate::session::departures::Departures;
 use crate::session::keeps::Keeps;
 use crate::session::kernel::Kernel;
 use crate::tree::Tree;
@@ -60,6 +59,7 @@ impl Session {
     ghost use Rattle.clk_sched.specs.Places.{Answers};
     ghost use Rattle.clk_sched.specs.Closing.{LosesNothing, left_in};
     ghost use Rattle.clk_sched.specs.Session.{IsPulledOnce, GivesAll, StopsAt, counted_moment, elements, newly, tree_queue};
+    ghost use Rattle.clk_sched.specs.Kinds.{progress_of, keeps_all};
 
     /// A session of this tree, in which no queue stands twice, before its first pull.
     ///
@@ -116,7 +116,7 @@ impl Session {
         ensures ends { LosesNothing Q.gives Q.holds → left ≡ left_in self.old.tree self.old.log (Q.holds q.old) → IsOkUnless result Fault.Memory }
         ensures answers { Answers Q.gives (tree_queue self.old.tree) q.old (newly self.old self.new) q.new }
     {
-        self.kernel.drain(q, &mut Departures::Dropped, left, moment)
+        self.kernel.drain(q, left, moment)
     }
 
     /// How many pulls the closing is given where so many packets, 1,000,000 at most, are left in queues and heads: for each one
@@ -174,6 +174,16 @@ impl Session {
     {
         let Session { kernel } = self;
         kernel.into_parts()
+    }
+
+    /// The session as one of any kind, which keeps what this one kept.
+    pub fn into_kernel(self) -> Kernel
+        ensures progress { progress_of result ≡ self }
+        ensures kind { result.keeps ≡ keeps_all }
+        ensures gone { result.gone ≡ 0 }
+    {
+        let Session { kernel } = self;
+        kernel
     }
 
     /// The packets held as heads, by node and then by input.

@@ -1,7 +1,6 @@
 //! A session that keeps no log: contracts alone know it, so that it can go on for ever.
 
 use crate::ask::Ask;
-use crate::session::departures::Departures;
 use crate::session::keeps::Keeps;
 use crate::session::kernel::Kernel;
 use crate::tree::Tree;
@@ -100,7 +99,7 @@ impl Unlogged {
         ensures ends { LosesNothing Q.gives Q.holds → left ≡ left_in self.old.tree self.old.log (Q.holds q.old) → IfErr result (λ _. ⊥) }
         ensures answers { Answers Q.gives (tree_queue self.old.tree) q.old (newly self.old self.new) q.new }
     {
-        self.kernel.drain(q, &mut Departures::Dropped, left, moment)
+        self.kernel.drain(q, left, moment)
     }
 
     /// How many pulls the closing is given where so many packets, 1,000,000 at most, are left in queues and heads.

@@ -37,7 +37,7 @@ fn run_within<H: Threads + Wait + Sync + AllocGlobal>(
         step: 1,
         limit: 1000,
     };
-    let outcome = run_trace(rt, alloc, rt, &plan, &mut trace, &mut writer, pace);
+    let outcome = run_trace(rt, alloc, rt, &plan, &mut trace, &mut writer, pace, true);
     Ok((outcome, writer.taken().to_vec(alloc)?))
 }
 

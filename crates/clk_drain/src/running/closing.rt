@@ -5,7 +5,7 @@ ghost use Rattle.std.specs.List.{AllByRecursion};
 ghost use Rattle.clk_packet.specs.declared.fault.Fault.TheVariants.{Memory};
 ghost use Rattle.clk_drain.specs.Handed.{IsReadyToClose, AreApartDevices, AreSettledTogether, IsFaultOfClosing};
 
-use crate::closing::{add, close_and_drain};
+use crate::closing::{add, close};
 use crate::drained::Drained;
 use crate::gate::Gate;
 use crate::outcome::Outcome;
@@ -36,7 +36,7 @@ pub fn close_devices<W: Wait, G: Gate>(
         tallies: Vec::new(alloc),
     };
     for Closing { session, lines } in closings {
-        let drained = close_and_drain(alloc, course.wait, session, lines, 0)?;
+        let drained = close(alloc, course.wait, session, lines, 0)?;
         note(&mut outcome, drained)?;
     }
     outcome.tallies.sort_unstable_by_key(|tally| tally.sender);

@@ -1,10 +1,10 @@
 //! A consumer: what pulls a device while producers run.
 
+use crate::device::DeviceSession;
 use crate::gate::Gate;
 use crate::running::course::Course;
 use crate::running::inlets::Inlets;
 use clk_packet::Fault;
-use clk_sched::Session;
 use std::marker::Model;
 use std::sync::Wait;
 use std::thread;
@@ -16,7 +16,7 @@ const TURNS: u32 = 64;
 #[derive(Drop)]
 pub struct Consumer<'a, W: Wait> {
     pub device: u16,
-    pub session: Session,
+    pub session: DeviceSession,
     pub inlets: Inlets<'a, W>,
 }
 
@@ -29,12 +29,14 @@ impl<'a, W: Wait> Model for Consumer<'a, W> {
 
     ghost coded = { Prim.hlevel (codes, tree_code) };
 
-    ghost view = { λ c. record { session = c.session; lines = c.inlets } };
+    ghost view = { λ c. record { session = c.session.session; visits = c.session.visits; lines = c.inlets } };
 }
 
 impl<'a, W: Wait> Consumer<'a, W> {
-    ghost use Rattle.std.specs.Prelude.{◌≤◌, ◌*◌, IfOk, OnOk, IsOkUnless};
+    ghost use Rattle.std.specs.Prelude.{◌≡◌, ◌<◌, ◌≤◌, ◌*◌, false, IfOk, OnOk, IsOkUnless};
     ghost use Rattle.clk_packet.specs.declared.fault.Fault.TheVariants.{Memory};
+    ghost use Rattle.clk_sched.specs.Kinds.{pulls_made};
+    ghost use Rattle.clk_sched.specs.Limits.{end_of_pulls};
     ghost use Rattle.clk_drain.specs.Line.{AreLinesOf};
     ghost use Rattle.clk_drain.specs.Threads.{IsUnpulled, IsPulled, IsPulledAt};
 
@@ -63,6 +65,7 @@ impl<'a, W: Wait> Consumer<'a, W> {
     // Makes the pull of this number, counted from 1. Where it gave none, other threads come first.
     fn pull<G: Gate>(&mut self, course: &Course<W, G>, number: u32) -> Result<(), Fault>
         requires number { number ≤ course.now.limit }
+        requires pulls { self.old.visits ≡ false → pulls_made self.old.session < end_of_pulls }
         requires own { AreLinesOf self.old.session self.old.lines }
         ensures pulled { OnOk result (IsPulledAt (number * course.now.step) self.old self.new) }
         ensures fault { IsOkUnless result Fault.Memory }

@@ -64,7 +64,8 @@ impl<'a, W: Wait, G: Gate> Course<'a, W, G> {
 
     /// How often a device is pulled at most while producers run.
     pub fn limit(&self) -> u32
-        ensures { result ≡ self.now.limit }
+        ensures value { result ≡ self.now.limit }
+        ensures within { result ≤ most_limit }
     {
         self.limit
     }

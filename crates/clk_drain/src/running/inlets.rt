@@ -1,8 +1,9 @@
 //! The shared queues of a tree while their seats are out, as what a session is pulled over.
 
+use crate::device::DeviceSession;
 use clk_packet::{Fault, Packet};
 use clk_ruled::{RuledQueue, Tap};
-use clk_sched::{Ask, Session};
+use clk_sched::Ask;
 use std::alloc::Global;
 use std::marker::Model;
 use std::sync::Wait;
@@ -74,9 +75,10 @@ impl<'a, W: Wait> Model for Inlets<'a, W> {
 }
 
 impl<'a, W: Wait> Inlets<'a, W> {
-    ghost use Rattle.std.specs.Prelude.{◌≡◌, ◌<◌, map, IfOk, OnOk, OnErr, IsOkUnless};
+    ghost use Rattle.std.specs.Prelude.{◌≡◌, ◌<◌, false, map, IfOk, OnOk, OnErr, IsOkUnless};
     ghost use Rattle.clk_packet.specs.declared.fault.Fault.TheVariants.{Memory};
-    ghost use Rattle.clk_sched.specs.Limits.{end_of_moments};
+    ghost use Rattle.clk_sched.specs.Kinds.{pulls_made};
+    ghost use Rattle.clk_sched.specs.Limits.{end_of_moments, end_of_pulls};
     ghost use Rattle.clk_sched.specs.Results.{leaf_packets};
     ghost use Rattle.clk_sched.specs.Session.{IsPulledOnce, newly};
     ghost use Rattle.clk_drain.specs.Senders.{Rise};
@@ -90,17 +92,23 @@ impl<'a, W: Wait> Inlets<'a, W> {
         Inlets { wait, each }
     }
 
-    /// Pulls a session over its inlets once, as `Session::pull` does.
+    /// Pulls a device's session over its inlets once, as `Session::pull` does.
     ///
     /// # Errors
     ///
     /// Fault 1 where memory is refused. Then nothing has changed, and nothing was asked.
-    pub fn pull(&mut self, session: &mut Session, moment: u64) -> Result<Option<Packet>, Fault>
+    pub fn pull(
+        &mut self,
+        session: &mut DeviceSession,
+        moment: u64,
+    ) -> Result<Option<Packet>, Fault>
         requires moment { moment < end_of_moments }
-        requires lines { AreLinesOf session.old self.old }
-        ensures pulled { IfOk result (IsPulledOnce session.old session.new moment) }
-        ensures lines { AreLinesOf session.new self.new }
-        ensures taken { OnOk result (self.new ≡ pulling_all (λ q. leaf_packets session.old.tree q (newly session.old session.new)) self.old) }
+        requires pulls { session.old.visits ≡ false → pulls_made session.old.session < end_of_pulls }
+        requires lines { AreLinesOf session.old.session self.old }
+        ensures pulled { IfOk result (IsPulledOnce session.old.session session.new.session moment) }
+        ensures kind { session.new.visits ≡ session.old.visits }
+        ensures lines { AreLinesOf session.new.session self.new }
+        ensures taken { OnOk result (self.new ≡ pulling_all (λ q. leaf_packets session.old.session.tree q (newly session.old.session session.new.session)) self.old) }
         ensures fault { IsOkUnless result Fault.Memory }
     {
         session.pull(self, moment)

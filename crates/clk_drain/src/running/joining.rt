@@ -5,11 +5,11 @@ ghost use Rattle.std.specs.Vec.Iter.{into_iter_items};
 ghost use Rattle.clk_packet.specs.declared.fault.Fault.TheVariants.{Memory};
 ghost use Rattle.clk_drain.specs.Handed.{AreJoinable, AreAllJoinable, joined_lines, joined_feeds, seat_count};
 
+use crate::device::DeviceSession;
 use crate::line::Line;
 use crate::running::opening::LeafQueue;
 use clk_packet::Fault;
 use clk_ruled::{ClosedSeat, Tap};
-use clk_sched::Session;
 use std::alloc::Global;
 use std::marker::Model;
 use std::vec::IntoIter;
@@ -17,7 +17,7 @@ use std::vec::IntoIter;
 /// A session once its consumer ended, with the taps of its queues, in order.
 #[derive(Drop)]
 pub struct Pulled {
-    pub session: Session,
+    pub session: DeviceSession,
     pub taps: Vec<Tap>,
 }
 
@@ -30,13 +30,13 @@ impl Model for Pulled {
 
     ghost coded = { Prim.hlevel (codes, tree_code) };
 
-    ghost view = { λ p. record { session = p.session; taps = p.taps.items } };
+    ghost view = { λ p. record { session = p.session.session; visits = p.session.visits; taps = p.taps.items } };
 }
 
 /// A session with its lines, whose seats are all closed.
 #[derive(Drop)]
 pub struct Closing {
-    pub session: Session,
+    pub session: DeviceSession,
     pub lines: Vec<Line>,
 }
 
@@ -49,7 +49,7 @@ impl Model for Closing {
 
     ghost coded = { Prim.hlevel (codes, tree_code) };
 
-    ghost view = { λ c. record { session = c.session; lines = c.lines.items } };
+    ghost view = { λ c. record { session = c.session.session; visits = c.session.visits; lines = c.lines.items } };
 }
 
 /// Each device's session with its lines, by number. `closed` are the seats of all queues, in order.

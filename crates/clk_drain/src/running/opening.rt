@@ -7,9 +7,9 @@ ghost use Rattle.clk_tree.specs.PlanParts.{queued, HasCapacity};
 ghost use Rattle.clk_drain.specs.Senders.{Rise};
 ghost use Rattle.clk_drain.specs.Opening.{shared_at, rooms_for, IsAdded};
 
+use crate::device::DeviceSession;
 use clk_packet::{Fault, Traces};
 use clk_ruled::{Opened, RuledQueue, Seat, Tap};
-use clk_sched::Session;
 use clk_tree::QueueSpec;
 use std::alloc::Global;
 use std::marker::Model;
@@ -27,7 +27,7 @@ pub struct LeafQueue {
 #[derive(Drop)]
 pub struct Ends {
     pub device: u16,
-    pub session: Session,
+    pub session: DeviceSession,
     pub taps: Vec<Tap>,
     pub seats: Vec<Vec<Seat>>,
 }
@@ -42,7 +42,7 @@ impl Model for Ends {
 
     ghost coded = { Prim.hlevel (codes, tree_code) };
 
-    ghost view = { λ e. record { session = e.session; taps = e.taps.items; seats = map (λ seats. seats.items) e.seats.items } };
+    ghost view = { λ e. record { session = e.session.session; visits = e.session.visits; taps = e.taps.items; seats = map (λ seats. seats.items) e.seats.items } };
 }
 
 /// Opens a queue more, at this leaf, with room for all that is sent to it. Fault 1 where memory is refused.

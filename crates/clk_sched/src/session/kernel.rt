@@ -112,13 +112,31 @@ impl Kernel {
     }
 
     /// Pulls the device, one tick apart and the first time one tick after the later of this moment and the greatest so far, until
-    /// `left` packets came out, 1,000,000 at most, and answers how often. With nothing left it pulls nothing. What comes out is added
-    /// to the departures, where these are kept.
+    /// `left` packets came out, 1,000,000 at most, and answers how often. With nothing left it pulls nothing.
     ///
     /// # Errors
     ///
-    /// Fault 1 where memory is refused, and fault 17 with the number of pulls after `bound(left)` pulls that gave fewer packets.
-    pub(crate) fn drain<Q: Ask>(
+    /// Fault 1 where memory is refused, which is asked for just for what is kept, and fault 17 with the number of pulls after
+    /// `bound(left)` pulls that gave fewer packets. It then holds the pulls that were made. Fault 17 never comes where `q` loses
+    /// nothing, and its leaves of the tree hold, together with the heads, exactly `left` packets.
+    pub fn drain<Q: Ask>(&mut self, q: &mut Q, left: u64, moment: u64) -> Result<u64, Fault>
+        requires left { left ≤ most_left }
+        requires moment { max (counted_moment (progress_of self.old)) moment < end_of_drains }
+        requires pulls { IsEndless self.old → pulls_made (progress_of self.old) < end_of_drained_pulls }
+        ensures all { IfOk result (λ made. GivesAll (progress_of self.old) (progress_of self.new) (max (counted_moment (progress_of self.old)) moment) made left) }
+        ensures none_left { left ≡ 0 → (result ≡ Ok 0) × (self.new ≡ self.old) × (q.new ≡ q.old) }
+        ensures short { IfErr result (StopsAt (progress_of self.old) (progress_of self.new) (max (counted_moment (progress_of self.old)) moment) left) }
+        ensures unkept { self.old.keeps ≡ keeps_nothing → IsOkUnless result (TooManyPulls (closing_bound self.old.tree left)) }
+        ensures ends { LosesNothing Q.gives Q.holds → left ≡ left_in self.old.tree self.old.log (Q.holds q.old) → IsOkUnless result Fault.Memory }
+        ensures kind { self.new.keeps ≡ self.old.keeps }
+        ensures gone { self.new.gone ≡ self.old.gone }
+        ensures answers { Answers Q.gives (tree_queue self.old.tree) q.old (newly (progress_of self.old) (progress_of self.new)) q.new }
+    {
+        self.drain_to(q, &mut Departures::Dropped, left, moment)
+    }
+
+    // Drains it, and adds what comes out to the departures, where these are kept.
+    fn drain_to<Q: Ask>(
         &mut self,
         q: &mut Q,
         departures: &mut Departures,
@@ -185,7 +203,7 @@ impl Kernel {
         ensures answers { Answers Q.gives (tree_queue self.old.tree) q.old (newly (progress_of self.old) (progress_of self.new)) q.new }
     {
         let mut departures = Departures::Kept(Vec::new(alloc));
-        self.drain(q, &mut departures, left, moment)?;
+        self.drain_to(q, &mut departures, left, moment)?;
         match departures {
             Departures::Kept(list) => Ok(list),
             Departures::Dropped => unreachable!(),

@@ -3,7 +3,7 @@
 use super::queues::Queues;
 use super::text::show_got;
 use super::trees::prio_over_two;
-use clk_packet::Fault;
+use clk_packet::{Fault, Packet};
 use clk_sched::{Departure, Keeps, Kernel};
 use std::alloc::{AllocError, Global};
 use std::process::Abort;
@@ -20,20 +20,52 @@ fn show_departures(text: &mut String, departures: &[Departure]) -> Result<(), Al
     Ok(())
 }
 
-// A session that was pulled once and closed, and what came out.
-fn closed(rt: &impl Abort, alloc: Global, keeps: Keeps) -> Result<(Kernel, String), Fault> {
+// A session over two queues that keeps this.
+fn session_that(rt: &impl Abort, alloc: Global, keeps: Keeps) -> Result<Kernel, Fault> {
     let tree = prio_over_two(alloc)?;
     assert!(rt; tree.leaves_distinct());
-    let mut session = Kernel::new(alloc, tree, keeps)?;
+    Kernel::new(alloc, tree, keeps)
+}
+
+// Two queues, of two packets and of one.
+fn three_packets(rt: &impl Abort, alloc: Global) -> Result<Queues, Fault> {
     let mut queues = Queues::new(alloc, 2)?;
     queues.send(rt, 0, &[100, 200])?;
     queues.send(rt, 1, &[300])?;
-    let mut text = String::new(alloc);
-    show_got(&mut text, session.pull(&mut queues, 5)?)?;
-    text.push_str("\n")?;
+    Ok(queues)
+}
+
+// Pulls a session once, and answers what came out.
+fn pull(
+    rt: &impl Abort,
+    session: &mut Kernel,
+    queues: &mut Queues,
+) -> Result<Option<Packet>, Fault> {
+    assert!(rt; session.pulls() < 1 << 62);
+    session.pull(queues, 5)
+}
+
+// Closes a session of two packets from moment 7 on, and answers what came out.
+fn close(
+    rt: &impl Abort,
+    alloc: Global,
+    session: &mut Kernel,
+    queues: &mut Queues,
+) -> Result<Vec<Departure>, Fault> {
     assert!(rt; session.pulls() < 1 << 62);
     assert!(rt; session.now() < 1 << 42);
-    let departures = session.close(alloc, &mut queues, 2, 7)?;
+    session.close(alloc, queues, 2, 7)
+}
+
+// A session that was pulled once and closed, and what came out.
+fn closed(rt: &impl Abort, alloc: Global, keeps: Keeps) -> Result<(Kernel, String), Fault> {
+    let mut session = session_that(rt, alloc, keeps)?;
+    let mut queues = three_packets(rt, alloc)?;
+    let first = pull(rt, &mut session, &mut queues)?;
+    let departures = close(rt, alloc, &mut session, &mut queues)?;
+    let mut text = String::new(alloc);
+    show_got(&mut text, first)?;
+    text.push_str("\n")?;
     show_departures(&mut text, &departures)?;
     Ok((session, text))
 }
@@ -72,8 +104,7 @@ fn visits_that_were_let_go_of_leave_the_log(rt: HostRuntime) -> Result<(), Fault
     session.let_go();
     assert_eq!(rt; session.log().len(), 0);
     let mut queues = Queues::new(alloc, 2)?;
-    assert!(rt; session.pulls() < 1 << 62);
-    assert_eq!(rt; session.pull(&mut queues, 20)?, None);
+    assert_eq!(rt; pull(&rt, &mut session, &mut queues)?, None);
     assert_eq!(rt; session.log().len(), 3);
     assert_eq!(rt; session.pulls(), 4);
     Ok(())

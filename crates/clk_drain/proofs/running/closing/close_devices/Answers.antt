@@ -7,6 +7,7 @@ use Rattle.clk_packet.specs.declared.tally.Tally.{Tally}
 use Rattle.clk_drain.specs.Limits.{most_step, most_limit}
 use Rattle.clk_drain.specs.Threads.{Terms, Feed}
 use Rattle.clk_drain.proofs.ClosingSteps.{AreClosing, moment-within, closing-more, next-ready, next-fault, memory-fault, all-closed}
+use Rattle.clk_drain.proofs.Pulling.{pulls-few}
 use Rattle.clk_drain.proofs.running.closing.close_devices.Goals as goal
 
 pub returns-in_err-with_capacity-clause-fault : goal.returns-in_err-with_capacity-clause-fault
@@ -19,23 +20,30 @@ returns-in_err-with_capacity-2-clause-fault g c =
     let p = err_from_is_err_and c.from_residual-in_err-with_capacity-2.result c.from_residual-in_err-with_capacity-2.ensures.1 in
     rw p.1 (memory-fault c.args.closings.items p.0 p.2)
 
-pub close_and_drain-requires-clause-lines : goal.close_and_drain-requires-clause-lines
-close_and_drain-requires-clause-lines g c =
-    let f : Feed = record { session = c.session.inside.session; lines = c.session.inside.lines.items } in
+pub close-requires-clause-lines : goal.close-requires-clause-lines
+close-requires-clause-lines g c =
+    let f : Feed = record { session = c.session.inside.session.session; visits = c.session.inside.session.visits; lines = c.session.inside.lines.items } in
     let rest = into_iter_items c.next.new.self in
     let ready = next-ready c.args.course.now c.args.closings.items c.loop-session.yielded rest (into_iter_items c.loop-session.session-iterator) f c.loop-session.outcome (c.in-Some.ensures.steps.0 ∙ ap (λ x. x ∷ rest) (sym c.session.view_is)) c.loop-session.invariant c.requires.ready in
     ready.own
 
-pub close_and_drain-requires-clause-moment : goal.close_and_drain-requires-clause-moment
-close_and_drain-requires-clause-moment g c =
-    let f : Feed = record { session = c.session.inside.session; lines = c.session.inside.lines.items } in
+pub close-requires-clause-moment : goal.close-requires-clause-moment
+close-requires-clause-moment g c =
+    let f : Feed = record { session = c.session.inside.session.session; visits = c.session.inside.session.visits; lines = c.session.inside.lines.items } in
     let rest = into_iter_items c.next.new.self in
     let ready = next-ready c.args.course.now c.args.closings.items c.loop-session.yielded rest (into_iter_items c.loop-session.session-iterator) f c.loop-session.outcome (c.in-Some.ensures.steps.0 ∙ ap (λ x. x ∷ rest) (sym c.session.view_is)) c.loop-session.invariant c.requires.ready in
     moment-within c.args.course.now f (subst (λ (t : Terms). t.step ≤ most_step) c.course.view_is c.course.invariant.0) (subst (λ (t : Terms). t.limit ≤ most_limit) c.course.view_is c.course.invariant.1) ready
 
+pub close-requires-clause-pulls : goal.close-requires-clause-pulls
+close-requires-clause-pulls g c =
+    let f : Feed = record { session = c.session.inside.session.session; visits = c.session.inside.session.visits; lines = c.session.inside.lines.items } in
+    let rest = into_iter_items c.next.new.self in
+    let ready = next-ready c.args.course.now c.args.closings.items c.loop-session.yielded rest (into_iter_items c.loop-session.session-iterator) f c.loop-session.outcome (c.in-Some.ensures.steps.0 ∙ ap (λ x. x ∷ rest) (sym c.session.view_is)) c.loop-session.invariant c.requires.ready in
+    λ unkept. pulls-few f.session c.args.course.now.step c.args.course.now.limit ready.made ready.moments ready.within (subst (λ (t : Terms). t.limit ≤ most_limit) c.course.view_is c.course.invariant.1)
+
 pub returns-in_err-drained-clause-fault : goal.returns-in_err-drained-clause-fault
 returns-in_err-drained-clause-fault g c =
-    let f : Feed = record { session = c.session.inside.session; lines = c.session.inside.lines.items } in
+    let f : Feed = record { session = c.session.inside.session.session; visits = c.session.inside.session.visits; lines = c.session.inside.lines.items } in
     let rest = into_iter_items c.next.new.self in
     let p = err_from_is_err_and c.from_residual-in_err-drained.result c.from_residual-in_err-drained.ensures.1 in
     rw (p.1, p.2) (next-fault c.args.course.now c.args.closings.items c.loop-session.yielded rest (into_iter_items c.loop-session.session-iterator) f c.loop-session.outcome c.in_err-drained.field-0.0 (c.in-Some.ensures.steps.0 ∙ ap (λ x. x ∷ rest) (sym c.session.view_is)) c.loop-session.invariant c.in_err-drained.ensures.fault)
@@ -46,7 +54,7 @@ loop-session-preserved g c =
     let all = c.args.closings.items in
     let done = c.loop-session.yielded in
     let before = into_iter_items c.loop-session.session-iterator in
-    let f : Feed = record { session = c.session.inside.session; lines = c.session.inside.lines.items } in
+    let f : Feed = record { session = c.session.inside.session.session; visits = c.session.inside.session.visits; lines = c.session.inside.lines.items } in
     let rest = into_iter_items c.next.new.self in
     let next = c.in-Some.ensures.steps.0 ∙ ap (λ x. x ∷ rest) (sym c.session.view_is) in
     let ready = next-ready terms all done rest before f c.loop-session.outcome next c.loop-session.invariant c.requires.ready in

@@ -23,16 +23,17 @@ loop-queue-preserved c =
     let planned = queues_of c.args.plan.now in
     let q = queued c.queue-item.result in
     let session = c.args.ends.now.session in
+    let visits = c.args.ends.now.visits in
     let same : leaf ≡ c.loop-queue.queue-index = c.loop-queue.invariant.1 in
     let at : IsQueueOf planned leaf q =
     subst (λ n. IsQueueOf planned n q) (sym same) (queue-of plan.result.now planned c.loop-queue.queue-index c.queue-item.result plan.ensures.queues plan.ensures.capacities plan.ensures.senders (omega arith) c.queue-item.is) in
-    let opening : AreOpening c.args.traces.now c.args.device planned session c.if-queue-device.queues.items c.if-queue-device.ends (leaf + 1) =
+    let opening : AreOpening c.args.traces.now c.args.device planned session visits c.if-queue-device.queues.items c.if-queue-device.ends (leaf + 1) =
     elim c.if-queue-device.branch [
       | then-queue-device+in_ok-open_queue w ↦
-          subst (λ (p : List LeafQueue × EndLists). AreOpening c.args.traces.now c.args.device planned session p.0 p.1 (leaf + 1)) (λ i. (sym (ap vec_items w.queues-is) i, sym w.ends-is i))
-          (opened-more c.args.traces.now c.args.device leaf planned q session c.loop-queue.queues.items w.open_queue.new.queues.items c.loop-queue.ends w.open_queue.new.ends at.within at.is (eq-eqb q.device c.args.device w.if-queue-device.true) w.in_ok-open_queue.ensures.added c.loop-queue.invariant.0)
+          subst (λ (p : List LeafQueue × EndLists). AreOpening c.args.traces.now c.args.device planned session visits p.0 p.1 (leaf + 1)) (λ i. (sym (ap vec_items w.queues-is) i, sym w.ends-is i))
+          (opened-more c.args.traces.now c.args.device leaf planned q session visits c.loop-queue.queues.items w.open_queue.new.queues.items c.loop-queue.ends w.open_queue.new.ends at.within at.is (eq-eqb q.device c.args.device w.if-queue-device.true) w.in_ok-open_queue.ensures.added c.loop-queue.invariant.0)
       | else-queue-device w ↦
-          subst (λ (p : List LeafQueue × EndLists). AreOpening c.args.traces.now c.args.device planned session p.0 p.1 (leaf + 1)) (λ i. (sym (ap vec_items w.queues-is) i, sym w.ends-is i))
-          (opened-same c.args.traces.now c.args.device leaf planned q session c.loop-queue.queues.items c.loop-queue.ends at.within at.is (ne_eqb q.device c.args.device w.if-queue-device.false) c.loop-queue.invariant.0)
+          subst (λ (p : List LeafQueue × EndLists). AreOpening c.args.traces.now c.args.device planned session visits p.0 p.1 (leaf + 1)) (λ i. (sym (ap vec_items w.queues-is) i, sym w.ends-is i))
+          (opened-same c.args.traces.now c.args.device leaf planned q session visits c.loop-queue.queues.items c.loop-queue.ends at.within at.is (ne_eqb q.device c.args.device w.if-queue-device.false) c.loop-queue.invariant.0)
     ] in
     (opening, omega (arith, same))

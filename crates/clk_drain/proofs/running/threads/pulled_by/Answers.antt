@@ -6,5 +6,5 @@ use Rattle.clk_drain.proofs.running.threads.pulled_by.Goals as goal
 
 pub loop-session-preserved : goal.loop-session-preserved
 loop-session-preserved g c =
-    c.in_ok-push.ensures.items ∙ (λ i. c.loop-session.invariant i ++ record { session = c.session.inside.session; taps = c.in_ok-into_taps.ensures.taps i } ∷ [])
+    c.in_ok-push.ensures.items ∙ (λ i. c.loop-session.invariant i ++ record { session = c.session.inside.session.session; visits = c.session.inside.session.visits; taps = c.in_ok-into_taps.ensures.taps i } ∷ [])
     ∙ ap (λ (f : Feed). map pulled_of c.loop-session.yielded ++ pulled_of f ∷ []) c.session.view_is ∙ sym (map-append pulled_of c.loop-session.yielded (c.in-Some.field-0 ∷ []))

@@ -8,7 +8,7 @@ use Rattle.clk_sched.proofs.SessionDrain.{draining-first, drain-step, draining-a
 use Rattle.clk_sched.proofs.Closing.Emptied.{emptied-first}
 use Rattle.clk_sched.specs.Departures.{departure_at, departures_in, pulls_since, IsAddedTo}
 use Rattle.clk_sched.proofs.Departed.{added-none, added-same, added-more, still-dropped, since-none}
-use Rattle.clk_sched.proofs.session.kernel.Kernel.drain.Goals as goal
+use Rattle.clk_sched.proofs.session.kernel.Kernel.drain_to.Goals as goal
 
 pub loop-given-init : goal.loop-given-init
 loop-given-init g c =

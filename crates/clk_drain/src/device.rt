@@ -1,0 +1,128 @@
+//! The session of a device: what came out is kept, and its visits where they are wanted.
+
+use clk_packet::{Fault, Packet};
+use clk_sched::{Ask, Keeps, Kernel, Session, Tree, Visit};
+use std::alloc::Global;
+use std::marker::Model;
+
+/// A session that keeps what came out at its device, and all of its visits or none. What is said of it is said of every visit.
+#[derive(Drop)]
+pub struct DeviceSession {
+    kernel: Kernel,
+}
+
+impl Model for DeviceSession {
+    ghost use Rattle.std.specs.Prelude.{◌≡◌, true};
+    ghost use Rattle.clk_sched.specs.Kinds.{progress_of};
+    ghost use Rattle.clk_drain.specs.DeviceSession.{DeviceLists};
+    ghost use Rattle.std.specs.Coded.{codes};
+    ghost use Rattle.clk_sched.specs.Stored.{tree_code};
+
+    ghost Value = { DeviceLists };
+
+    ghost coded = { Prim.hlevel (codes, tree_code) };
+
+    ghost view = { λ s. record { session = progress_of s.kernel; visits = s.kernel.keeps.visits } };
+
+    ghost invariant = { λ s. (s.kernel.keeps.packets ≡ true) × (s.kernel.gone ≡ 0) };
+}
+
+impl DeviceSession {
+    ghost use Rattle.std.specs.Prelude.{◌≡◌, ◌<◌, ◌≤◌, true, false, [], length, max, IfOk, IfErr, OnOk, OnErr, IsOkUnless};
+    ghost use Rattle.clk_packet.specs.declared.fault.Fault.TheVariants.{Memory};
+    ghost use Rattle.clk_sched.specs.Closing.{LosesNothing, left_in};
+    ghost use Rattle.clk_sched.specs.Kinds.{pulls_made};
+    ghost use Rattle.clk_sched.specs.LaidOut.{IsRefused};
+    ghost use Rattle.clk_sched.specs.Limits.{most_elements, most_left, end_of_moments, end_of_drains, end_of_pulls, end_of_drained_pulls};
+    ghost use Rattle.clk_sched.specs.Places.{Answers};
+    ghost use Rattle.clk_sched.specs.Results.{emitted};
+    ghost use Rattle.clk_sched.specs.Run.{IsRun};
+    ghost use Rattle.clk_sched.specs.Session.{IsPulledOnce, GivesAll, counted_moment, elements, newly, tree_queue};
+    ghost use Rattle.clk_sched.specs.Tree.{root, leaves_distinct};
+
+    /// A session of this tree, in which no queue stands twice, before its first pull.
+    ///
+    /// # Errors
+    ///
+    /// Fault 18 for a tree of more than 256 nodes and queues, the device counted; else fault 1 where memory is refused.
+    pub fn new(alloc: Global, tree: Tree, visits: bool) -> Result<DeviceSession, Fault>
+        requires distinct { leaves_distinct tree ≡ true }
+        ensures made { IfOk result (λ s. s ≡ record { session = record { tree = tree; log = [] }; visits = visits }) }
+        ensures refused { IfErr result (λ fault. IsRefused tree fault) }
+    {
+        let keeps = Keeps {
+            visits,
+            packets: true,
+        };
+        let kernel = Kernel::new(alloc, tree, keeps)?;
+        Ok(DeviceSession { kernel })
+    }
+
+    /// A session that keeps all of its visits.
+    pub fn of(session: Session) -> DeviceSession
+        ensures { result ≡ record { session = session; visits = true } }
+    {
+        DeviceSession {
+            kernel: session.into_kernel(),
+        }
+    }
+
+    /// Pulls the device once, as `Session::pull` does.
+    ///
+    /// # Errors
+    ///
+    /// Fault 1 where memory is refused. Then nothing has changed, and nothing was asked.
+    pub fn pull<Q: Ask>(&mut self, q: &mut Q, moment: u64) -> Result<Option<Packet>, Fault>
+        requires moment { moment < end_of_moments }
+        requires pulls { self.old.visits ≡ false → pulls_made self.old.session < end_of_pulls }
+        ensures pulled { IfOk result (IsPulledOnce self.old.session self.new.session moment) }
+        ensures answers { OnOk result (Answers Q.gives (tree_queue self.old.session.tree) q.old (newly self.old.session self.new.session) q.new) }
+        ensures kind { self.new.visits ≡ self.old.visits }
+        ensures fault { IsOkUnless result Fault.Memory }
+        ensures unchanged { OnErr result (self.new ≡ self.old) }
+        ensures unasked { OnErr result (q.new ≡ q.old) }
+    {
+        self.kernel.pull(q, moment)
+    }
+
+    /// Drains the device of so many packets, 1,000,000 at most, as `Session::drain` does.
+    ///
+    /// # Errors
+    ///
+    /// Fault 1 where memory is refused, and fault 17, which never comes where `q` loses nothing, and holds just these packets, together
+    /// with the heads.
+    pub fn drain<Q: Ask>(&mut self, q: &mut Q, left: u64, moment: u64) -> Result<u64, Fault>
+        requires left { left ≤ most_left }
+        requires moment { max (counted_moment self.old.session) moment < end_of_drains }
+        requires pulls { self.old.visits ≡ false → pulls_made self.old.session < end_of_drained_pulls }
+        ensures all { IfOk result (λ made. GivesAll self.old.session self.new.session (max (counted_moment self.old.session) moment) made left) }
+        ensures ends { LosesNothing Q.gives Q.holds → left ≡ left_in self.old.session.tree self.old.session.log (Q.holds q.old) → IsOkUnless result Fault.Memory }
+        ensures kind { self.new.visits ≡ self.old.visits }
+        ensures answers { Answers Q.gives (tree_queue self.old.session.tree) q.old (newly self.old.session self.new.session) q.new }
+    {
+        self.kernel.drain(q, left, moment)
+    }
+
+    /// How many packets came out at the device.
+    pub fn count_emitted(&self) -> u64
+        ensures count { result ≡ length (emitted self.now.session.log) }
+        ensures run { IsRun self.now.session.tree self.now.session.log }
+        ensures distinct { leaves_distinct self.now.session.tree ≡ true }
+    {
+        // That the log is a run is known where it is read.
+        let _ = self.kernel.log();
+        self.kernel.count_emitted()
+    }
+
+    /// Every visit, where these are kept, and the packets that came out at the device, in order, without taking memory.
+    pub fn into_parts(self) -> (Vec<Visit>, Vec<Packet>)
+        ensures log { self.visits ≡ true → result.0.items ≡ self.session.log }
+        ensures emitted { result.1.items ≡ emitted self.session.log }
+        ensures distinct { leaves_distinct self.session.tree ≡ true }
+    {
+        // That no queue stands twice in its tree is known where the log is read.
+        let _ = self.kernel.log();
+        let DeviceSession { kernel } = self;
+        kernel.into_parts()
+    }
+}
