@@ -33,6 +33,26 @@ def build(crate, room):
     return shutil.copy(os.path.join(crate, found[1]), os.path.join(room, os.path.basename(crate)))
 
 
+def make_repository(room, program, used):
+    """Makes a repository of a program, whose files stand in a folder of bench/, each with .txt after its name, and of what it uses: crates
+    of this repository, which are copied, and of the toolchain. Gives the program's folder."""
+    root = os.path.dirname(BENCH)
+    shutil.copy(os.path.join(root, "HANDLES"), room)
+    with open(os.path.join(root, "crates.txt")) as it:
+        listed = [line for line in it if line.partition(":")[0] in used]
+    with open(os.path.join(room, "crates.txt"), "w") as it:
+        it.writelines([*listed, f"{program}: {' '.join(used)}\n"])
+    for line in listed:
+        name = line.partition(":")[0]
+        shutil.copytree(os.path.join(root, "crates", name), os.path.join(room, "crates", name))
+    crate = os.path.join(room, "crates", program)
+    shutil.copytree(os.path.join(BENCH, program), crate)
+    for folder, _, files in os.walk(crate):
+        for name in files:
+            os.rename(os.path.join(folder, name), os.path.join(folder, name.removesuffix(".txt")))
+    return crate
+
+
 def run(program, script, output, words=()):
     """Runs a program with these words and a script on standard input, and gives its time in seconds and its peak memory in KiB."""
     open(output, "wb").close()

@@ -91,6 +91,12 @@ fn sessions_keep_what_they_are_told_to(rt: HostRuntime) -> Result<(), Fault> {
     Ok(())
 }
 
+// Fails unless a session keeps so many visits, of so many pulls.
+fn assert_kept_of_pulls(rt: &impl Abort, session: &Kernel, visits: usize, pulls: u64) {
+    assert_eq!(rt; session.log().len(), visits);
+    assert_eq!(rt; session.pulls(), pulls);
+}
+
 // Three pulls made seven visits. The fourth, which finds nothing, asks both inputs of the PrioSched.
 #[test]
 fn visits_that_were_let_go_of_leave_the_log(rt: HostRuntime) -> Result<(), Fault> {
@@ -100,12 +106,11 @@ fn visits_that_were_let_go_of_leave_the_log(rt: HostRuntime) -> Result<(), Fault
         packets: false,
     };
     let (mut session, _) = closed(&rt, alloc, keeps)?;
-    assert_eq!(rt; session.log().len(), 7);
+    assert_kept_of_pulls(&rt, &session, 7, 3);
     session.let_go();
-    assert_eq!(rt; session.log().len(), 0);
+    assert_kept_of_pulls(&rt, &session, 0, 3);
     let mut queues = Queues::new(alloc, 2)?;
     assert_eq!(rt; pull(&rt, &mut session, &mut queues)?, None);
-    assert_eq!(rt; session.log().len(), 3);
-    assert_eq!(rt; session.pulls(), 4);
+    assert_kept_of_pulls(&rt, &session, 3, 4);
     Ok(())
 }

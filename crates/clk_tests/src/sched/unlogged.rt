@@ -119,8 +119,18 @@ fn assert_alike(
     both.pulls(rt, &[0, 0, 0, 2, 1, 7])?;
     both.assert_same(rt, alloc, first)?;
     both.send(rt, &[60_000])?;
+    assert_drained_alike(rt, alloc, both, first.saturating_add(left), left)
+}
+
+// Drains the tree of what is left, after which so many came out, and of a packet that it hasn't.
+fn assert_drained_alike(
+    rt: &impl Abort,
+    alloc: Global,
+    mut both: Both,
+    all: usize,
+    left: usize,
+) -> Result<(), Fault> {
     both.drain(rt, left as u64, 9);
-    let all = first.saturating_add(left);
     both.assert_same(rt, alloc, all)?;
     both.drain(rt, 1, 0);
     both.assert_same(rt, alloc, all)
