@@ -11,7 +11,8 @@ use Rattle.clk_drain.specs.Line.{LineLists, seats_in, senders_at, HaveOwnSenders
 use Rattle.clk_drain.specs.Closing.{left_over, queue_of_line, device_of, HasSent, IsDrainedTo}
 use Rattle.clk_drain.specs.Outcome.{Device, IsSettledOutcome}
 use Rattle.clk_drain.specs.Senders.{AreApart}
-use Rattle.clk_drain.specs.Parts.{IsDrainOf, IsSettledLine, IsWithin, AreInOrder, tallies_in}
+use Rattle.clk_drain.specs.Parts.{IsWithin}
+use Rattle.clk_drain.specs.inside.Parts.{IsDrainOf, IsSettledLine, AreInOrder, tallies_in}
 use Rattle.clk_drain.proofs.Left.{IsLeft, left-is}
 use Rattle.clk_drain.proofs.Still.{still-accepted, still-evicted, still-seats, still-queues}
 use Rattle.clk_drain.proofs.AllGiven.{all-given}

@@ -16,12 +16,13 @@ use Rattle.clk_drain.specs.declared.outcome.Outcome.{Outcome}
 use Rattle.clk_drain.specs.Senders.{AreApart}
 use Rattle.clk_drain.specs.Line.{seats_in, senders_at}
 use Rattle.clk_drain.specs.Outcome.{SharedQueue, Device, senders_to}
-use Rattle.clk_drain.specs.Closing.{device_of, IsDrainedTo, IsDrainedAs, IsFaultOfDrain}
-use Rattle.clk_drain.specs.Parts.{AreInOrder}
+use Rattle.clk_drain.specs.Closing.{device_of, IsDrainedTo, IsFaultOfDrain}
+use Rattle.clk_drain.specs.inside.Closing.{IsDrainedAs}
+use Rattle.clk_drain.specs.inside.Parts.{AreInOrder}
 use Rattle.clk_drain.specs.Limits.{most_step, most_limit}
 use Rattle.clk_drain.specs.Moments.{steps}
-use Rattle.clk_drain.specs.Threads.{Terms, Feed}
-use Rattle.clk_drain.specs.Handed.{IsReadyToClose, AreApartDevices, IsClosedDevice, AreClosedDevices, AreKeptLogs, AreSettledTogether, IsFaultOfClosing}
+use Rattle.clk_drain.specs.inside.Threads.{Terms, Feed}
+use Rattle.clk_drain.specs.inside.Handed.{IsReadyToClose, AreApartDevices, IsClosedDevice, AreClosedDevices, AreKeptLogs, AreSettledTogether, IsFaultOfClosing}
 use Rattle.clk_drain.proofs.ManyDevices.{Part, devices_of, tallies_in_all, AreSettled, devices-settled}
 use Rattle.clk_drain.proofs.Settling.{all-join, senders-same}
 

@@ -13,10 +13,11 @@ use Rattle.clk_tree.specs.PlanParts.{Queued, queued, queues_of, leads_to, HasCap
 use Rattle.clk_drain.specs.declared.running.opening.LeafQueue.{LeafQueue}
 use Rattle.clk_drain.specs.Senders.{Rise}
 use Rattle.clk_drain.specs.Outcome.{SharedQueue}
-use Rattle.clk_drain.specs.Handed.{EndLists}
-use Rattle.clk_drain.specs.Opening.{shared_at, IsOpenAs, AreOpenAs, IsAdded}
+use Rattle.clk_drain.specs.inside.Handed.{EndLists}
+use Rattle.clk_drain.specs.Opening.{shared_at}
+use Rattle.clk_drain.specs.inside.Opening.{IsOpenAs, AreOpenAs, IsAdded}
 use Rattle.clk_drain.specs.Run.{queues_at}
-use Rattle.clk_drain.specs.Devices.{IsOpenOf, AreOpenFrom}
+use Rattle.clk_drain.specs.inside.Devices.{IsOpenOf, AreOpenFrom}
 use Rattle.clk_drain.proofs.PlanSenders.{rising-rise}
 use Rattle.clk_drain.proofs.QueuesAt.{stands-at}
 

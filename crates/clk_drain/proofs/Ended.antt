@@ -5,7 +5,7 @@ use Rattle.clk_packet.specs.Trace.{sent_by}
 use Rattle.clk_ruled.specs.Queue.{SeatLists, ClosedLists}
 use Rattle.clk_ruled.specs.Closing.{IsClosedOf}
 use Rattle.clk_drain.specs.Closing.{AreOffered}
-use Rattle.clk_drain.specs.Threads.{Terms, Feed, HasSentAll, HaveSentAll, IsPulled, ArePulled}
+use Rattle.clk_drain.specs.inside.Threads.{Terms, Feed, HasSentAll, HaveSentAll, IsPulled, ArePulled}
 
 -- What a producer's thread promised of this trace and this seat.
 pub sent-all : (terms : Terms) (traces : List (List Packet)) (own seat : SeatLists) (closed : ClosedLists) → traces ≡ terms.traces → own ≡ seat → IsClosedOf own closed × AreOffered (sent_by traces own.sender) closed.lists → HasSentAll terms seat closed

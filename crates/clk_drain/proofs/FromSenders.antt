@@ -13,7 +13,7 @@ use Rattle.clk_sched.specs.Results.{Traced, traced, origin_in, leaf_packets, tra
 use Rattle.clk_sched.specs.Conservation.{from_queue, ConservesPackets, MakesNothing}
 use Rattle.clk_sched.specs.Session.{Progress}
 use Rattle.clk_drain.specs.Line.{LineLists, leaves_of, seats_of, seats_in, senders_at, AreLinesOf, HaveOwnSenders}
-use Rattle.clk_drain.specs.Parts.{IsSettledLine}
+use Rattle.clk_drain.specs.inside.Parts.{IsSettledLine}
 use Rattle.clk_drain.proofs.Truths.{or-there}
 use Rattle.clk_drain.proofs.Seated.{line_senders, Sits, HaveTaken, CameOver, sits-has, one-leaf, came-over}
 

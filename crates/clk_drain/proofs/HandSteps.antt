@@ -6,8 +6,8 @@ use Rattle.clk_ruled.specs.Queue.{Queue, SeatLists, TapLists, IsSeatOf, IsTapOf}
 use Rattle.clk_ruled.specs.Closing.{AreSeatsOf}
 use Rattle.clk_drain.specs.declared.running.opening.LeafQueue.{LeafQueue}
 use Rattle.clk_drain.specs.Line.{LineLists}
-use Rattle.clk_drain.specs.Threads.{Feed}
-use Rattle.clk_drain.specs.Handed.{EndLists, lines_from, AreTapsOf, AreSeatsOfEach, FitsQueues, FitQueues, seats_given, feed_from, feeds_from}
+use Rattle.clk_drain.specs.inside.Threads.{Feed}
+use Rattle.clk_drain.specs.inside.Handed.{EndLists, lines_from, AreTapsOf, AreSeatsOfEach, FitsQueues, FitQueues, seats_given, feed_from, feeds_from}
 
 -- Producers were added for some of a queue's seats, and the others are to come.
 pub record AreAdding (queue : Queue) (before seats added rest : List SeatLists) : Type 0 where

@@ -12,9 +12,9 @@ use Rattle.clk_drain.specs.declared.running.opening.LeafQueue.{LeafQueue}
 use Rattle.clk_drain.specs.Senders.{Rise}
 use Rattle.clk_drain.specs.Line.{LineLists, leaves_of}
 use Rattle.clk_drain.specs.Outcome.{SharedQueue}
-use Rattle.clk_drain.specs.Threads.{Terms, IsUnused, IsUnpulled}
-use Rattle.clk_drain.specs.Handed.{EndLists, lines_from, AreTapsOf, AreSeatsOfEach, FitsQueues, seats_given, feed_from}
-use Rattle.clk_drain.specs.Opening.{rooms_for, setup_for, AreOpenAs}
+use Rattle.clk_drain.specs.inside.Threads.{Terms, IsUnused, IsUnpulled}
+use Rattle.clk_drain.specs.inside.Handed.{EndLists, lines_from, AreTapsOf, AreSeatsOfEach, FitsQueues, seats_given, feed_from}
+use Rattle.clk_drain.specs.inside.Opening.{rooms_for, setup_for, AreOpenAs}
 
 -- The lines of opened queues stand at the leaves at which the queues were to stand.
 pub leaves-open : (traces : List (List Packet)) (shared : List SharedQueue) (queues : List LeafQueue) (taps : List TapLists) (seats : List (List SeatLists)) → AreOpenAs traces shared queues taps seats

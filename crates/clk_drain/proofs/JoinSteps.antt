@@ -3,8 +3,8 @@ use Rattle.std.proofs.Common.{◌≡◌, ℕ, List, ◌++◌, length, drop}
 use Rattle.clk_ruled.specs.Queue.{TapLists, ClosedLists}
 use Rattle.clk_drain.specs.declared.running.opening.LeafQueue.{LeafQueue}
 use Rattle.clk_drain.specs.Line.{LineLists}
-use Rattle.clk_drain.specs.Threads.{Feed}
-use Rattle.clk_drain.specs.Handed.{PulledLists, joined_lines, AreJoinable, joined_feeds, AreAllJoinable, seat_count}
+use Rattle.clk_drain.specs.inside.Threads.{Feed}
+use Rattle.clk_drain.specs.inside.Handed.{PulledLists, joined_lines, AreJoinable, joined_feeds, AreAllJoinable, seat_count}
 
 -- So many of the seats were taken, from the first on, and the others are left.
 pub record AreTaken (all taken left : List ClosedLists) (count : ℕ) : Type 0 where

@@ -15,12 +15,12 @@ use Rattle.clk_drain.specs.Senders.{AreApart}
 use Rattle.clk_drain.specs.Line.{LineLists, seats_of, seats_in, senders_at, taking_all, pulling_all, AreLinesOf, HaveOwnSenders}
 use Rattle.clk_drain.specs.Outcome.{SharedQueue}
 use Rattle.clk_drain.specs.Closing.{queue_of_line, AreOffered, HasSent}
-use Rattle.clk_drain.specs.Parts.{taken_at}
+use Rattle.clk_drain.specs.inside.Parts.{taken_at}
 use Rattle.clk_drain.specs.Moments.{steps}
-use Rattle.clk_drain.specs.Threads.{Terms, HaveSentAll, Feed, IsPulled, ArePulled}
-use Rattle.clk_drain.specs.Handed.{EndLists, lines_from, seats_given, feed_from, feeds_from, pulled_of, seat_count, joined_lines, AreJoinable, joined_feeds, AreAllJoinable, IsReadyToClose, AreApartDevices}
-use Rattle.clk_drain.specs.Devices.{KeepVisits}
-use Rattle.clk_drain.specs.Opening.{rooms_for, setup_for, IsOpenAs, AreOpenAs}
+use Rattle.clk_drain.specs.inside.Threads.{Terms, HaveSentAll, Feed, IsPulled, ArePulled}
+use Rattle.clk_drain.specs.inside.Handed.{EndLists, lines_from, seats_given, feed_from, feeds_from, pulled_of, seat_count, joined_lines, AreJoinable, joined_feeds, AreAllJoinable, IsReadyToClose, AreApartDevices}
+use Rattle.clk_drain.specs.inside.Devices.{KeepVisits}
+use Rattle.clk_drain.specs.inside.Opening.{rooms_for, setup_for, IsOpenAs, AreOpenAs}
 use Rattle.clk_drain.proofs.Apart.{apart-parts}
 use Rattle.clk_drain.proofs.Settling.{all-join, senders-same}
 use Rattle.clk_drain.proofs.Still.{same-lines}

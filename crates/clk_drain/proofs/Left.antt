@@ -13,7 +13,8 @@ use Rattle.clk_sched.specs.Session.{Progress}
 use Rattle.clk_drain.specs.Senders.{IsBelowAll, Rise}
 use Rattle.clk_drain.specs.Line.{LineLists, leaves_of, AreLinesOf}
 use Rattle.clk_drain.specs.Closing.{accepted_over, evicted_over, left_over, HasUnsettled, IsFaultOfDrain}
-use Rattle.clk_drain.specs.Parts.{AreGatheredFrom, IsDrainOf, IsGathered, IsWithin, held_of, held_at}
+use Rattle.clk_drain.specs.Parts.{IsWithin}
+use Rattle.clk_drain.specs.inside.Parts.{AreGatheredFrom, IsDrainOf, IsGathered, held_of, held_at}
 use Rattle.clk_drain.proofs.Still.{still-accepted, still-evicted, still-unsettled}
 use Rattle.clk_drain.proofs.AllGiven.{taken_over, taken-counts, sum-same, rise-distinct}
 

@@ -4,7 +4,7 @@ use Rattle.std.specs.List.{AllWithin, AllByRecursion}
 use Rattle.std.proofs.Math.Seq.{map-set_same}
 use Rattle.std.proofs.lemmas.List.Elements.{AllWithin-more_set}
 use Rattle.clk_drain.specs.Line.{LineLists, lasting_of, AreStill}
-use Rattle.clk_drain.specs.Parts.{taken_at, IsGathered, IsGatheredFrom, AreGatheredFrom}
+use Rattle.clk_drain.specs.inside.Parts.{taken_at, IsGathered, IsGatheredFrom, AreGatheredFrom}
 
 -- So many of the lines gathered their seats, and nothing else is new.
 pub record AreGathering (old now : List LineLists) (n : ℕ) : Type 0 where

@@ -8,7 +8,7 @@ use Rattle.clk_packet.specs.declared.tally.Tally.{Tally}
 use Rattle.clk_ruled.specs.Lists.{has_sender}
 use Rattle.clk_drain.specs.Senders.{AreApart}
 use Rattle.clk_drain.specs.Outcome.{SharedQueue, Device, senders_to, IsTallied, tally_for, accepted_by, lost_by, in_all, IsQueueSettled, IsDeviceSettled, IsSettledOutcome}
-use Rattle.clk_drain.specs.Parts.{AreInOrder}
+use Rattle.clk_drain.specs.inside.Parts.{AreInOrder}
 use Rattle.clk_drain.proofs.Apart.{has-left, has-right, not-both, apart-parts, apart-joined, rise-apart}
 use Rattle.clk_drain.proofs.Tallies.{tellers, in-order-rise, in-order-found, in-order-all, all-split, all-weaker}
 use Rattle.clk_drain.proofs.Settling.{all-join, all-both}

@@ -5,10 +5,10 @@ use Rattle.clk_packet.specs.declared.packet.Packet.{Packet}
 use Rattle.clk_tree.specs.Plan.{Planned}
 use Rattle.clk_tree.specs.PlanParts.{queues_of}
 use Rattle.clk_drain.specs.declared.running.opening.LeafQueue.{LeafQueue}
-use Rattle.clk_drain.specs.Threads.{Terms, IsUnused, IsUnpulled}
-use Rattle.clk_drain.specs.Handed.{EndLists, FitQueues, seats_given, feeds_from}
+use Rattle.clk_drain.specs.inside.Threads.{Terms, IsUnused, IsUnpulled}
+use Rattle.clk_drain.specs.inside.Handed.{EndLists, FitQueues, seats_given, feeds_from}
 use Rattle.clk_drain.specs.Run.{queues_at}
-use Rattle.clk_drain.specs.Devices.{AreOpenFrom}
+use Rattle.clk_drain.specs.inside.Devices.{AreOpenFrom}
 use Rattle.clk_drain.proofs.Handing.{fits-open, unused-open, all-joined, unpulled-open}
 use Rattle.clk_drain.proofs.QueuesAt.{rise-at}
 

@@ -9,10 +9,10 @@ use Rattle.clk_drain.specs.declared.running.opening.LeafQueue.{LeafQueue}
 use Rattle.clk_drain.specs.Senders.{AreApart}
 use Rattle.clk_drain.specs.Outcome.{SharedQueue, Device}
 use Rattle.clk_drain.specs.Moments.{HasMoments}
-use Rattle.clk_drain.specs.Threads.{Terms, Feed}
-use Rattle.clk_drain.specs.Handed.{EndLists, AreClosedDevices}
+use Rattle.clk_drain.specs.inside.Threads.{Terms, Feed}
+use Rattle.clk_drain.specs.inside.Handed.{EndLists, AreClosedDevices}
 use Rattle.clk_drain.specs.Run.{queues_at, AreDevicesFrom}
-use Rattle.clk_drain.specs.Devices.{AreOpenFrom}
+use Rattle.clk_drain.specs.inside.Devices.{AreOpenFrom}
 use Rattle.clk_drain.proofs.Joining.{AreAllOpenAs, AreJoinedFeeds, senders_over}
 use Rattle.clk_drain.proofs.PlanSenders.{apart-by-kind}
 use Rattle.clk_drain.proofs.QueuesAt.{senders-at}

@@ -9,9 +9,9 @@ use Rattle.clk_sched.specs.Tree.{Tree}
 use Rattle.clk_sched.specs.Places.{at_queue, Answers}
 use Rattle.clk_sched.specs.Results.{leaf_packets}
 use Rattle.clk_sched.specs.Session.{Progress, newly, counted_moment, tree_queue, IsPulledOnce, IsDrained, GivesAll}
-use Rattle.clk_drain.specs.DeviceSession.{DeviceLists}
+use Rattle.clk_drain.specs.inside.DeviceSession.{DeviceLists}
 use Rattle.clk_drain.specs.Line.{LineLists, PullsAt, pulling_all, AreLinesOf, lasting_of, AreStill}
-use Rattle.clk_drain.specs.Parts.{IsDrainOf}
+use Rattle.clk_drain.specs.inside.Parts.{IsDrainOf}
 use Rattle.clk_drain.proofs.Growing.{grown, lines-grown}
 use Rattle.clk_drain.proofs.Still.{pulled-still}
 

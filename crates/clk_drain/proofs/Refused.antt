@@ -9,8 +9,8 @@ use Rattle.clk_ruled.specs.Settle.{accepted_count, lost_count, IsFaultOfSettle}
 use Rattle.clk_tree.specs.Plan.{Planned}
 use Rattle.clk_drain.specs.Line.{LineLists, seats_of, seats_in}
 use Rattle.clk_drain.specs.Closing.{HasSent, HasUnsettled, IsFaultOfDrain}
-use Rattle.clk_drain.specs.Threads.{Terms, Feed}
-use Rattle.clk_drain.specs.Handed.{IsReadyToClose, IsFaultOfClosing}
+use Rattle.clk_drain.specs.inside.Threads.{Terms, Feed}
+use Rattle.clk_drain.specs.inside.Handed.{IsReadyToClose, IsFaultOfClosing}
 use Rattle.clk_drain.specs.Run.{senders_in, AreKnown, IsFaultOfRun}
 use Rattle.clk_drain.proofs.Tallies.{all-split}
 

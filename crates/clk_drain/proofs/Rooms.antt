@@ -6,7 +6,7 @@ use Rattle.clk_packet.specs.Limits.{most_capacity}
 use Rattle.clk_packet.specs.Trace.{sent_by, packets_in, most_records}
 use Rattle.clk_ruled.specs.Lists.{rooms_in_all, SendersRise}
 use Rattle.clk_drain.specs.Senders.{Rise}
-use Rattle.clk_drain.specs.Opening.{rooms_for}
+use Rattle.clk_drain.specs.inside.Opening.{rooms_for}
 use Rattle.clk_drain.proofs.Apart.{rise-apart}
 use Rattle.clk_drain.proofs.PlanSenders.{rooms-rise}
 use Rattle.clk_drain.proofs.TraceSums.{within-trace, rooms-sent}

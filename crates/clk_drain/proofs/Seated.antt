@@ -13,7 +13,7 @@ use Rattle.clk_sched.specs.Conservation.{IsAmong, CameFrom}
 use Rattle.clk_sched.specs.Session.{Progress}
 use Rattle.clk_drain.specs.Senders.{AreApart}
 use Rattle.clk_drain.specs.Line.{LineLists, leaves_of, seats_of, seats_in, senders_at, AreLinesOf, HaveOwnSenders}
-use Rattle.clk_drain.specs.Parts.{IsSettledLine}
+use Rattle.clk_drain.specs.inside.Parts.{IsSettledLine}
 use Rattle.clk_drain.proofs.Apart.{has-left, has-right, not-both, apart-parts}
 
 -- the senders that have seats on a line

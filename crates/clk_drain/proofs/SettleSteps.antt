@@ -8,7 +8,7 @@ use Rattle.clk_packet.specs.declared.tally.Tally.{Tally}
 use Rattle.clk_ruled.specs.Settle.{IsFaultOfSettle}
 use Rattle.clk_drain.specs.Line.{LineLists}
 use Rattle.clk_drain.specs.Closing.{HasUnsettled}
-use Rattle.clk_drain.specs.Parts.{IsSettledLine, tallies_of, tallies_in}
+use Rattle.clk_drain.specs.inside.Parts.{IsSettledLine, tallies_of, tallies_in}
 
 -- Some of the lines are settled, these tallies are theirs, and the others are to come.
 pub record AreSettling (lines done rest : List LineLists) (tallies : List Tally) : Type 0 where

@@ -13,7 +13,7 @@ use Rattle.clk_sched.specs.Session.{Progress}
 use Rattle.clk_drain.specs.Senders.{Rise}
 use Rattle.clk_drain.specs.Line.{LineLists, leaves_of, seats_of, seats_in, senders_at, pulling_all, AreLinesOf, Lasting, lasting_of, AreStill}
 use Rattle.clk_drain.specs.Closing.{accepted_over, evicted_over, queue_of_line, HasReached, HasUnsettled}
-use Rattle.clk_drain.specs.Parts.{taken_at, AreGatheredFrom}
+use Rattle.clk_drain.specs.inside.Parts.{taken_at, AreGatheredFrom}
 
 through : {X : Type 0} (f : Lasting → X) (lines : List LineLists) → map (λ l. f (lasting_of l)) lines ≡ map f (map lasting_of lines)
 through f [] = refl

@@ -13,7 +13,8 @@ use Rattle.clk_packet.specs.declared.packet.Packet.{Packet}
 use Rattle.clk_sched.specs.Closing.{GivesOut, TakesOne}
 use Rattle.clk_drain.specs.Senders.{Rise}
 use Rattle.clk_drain.specs.Line.{LineLists, leaves_of, pulling, pulling_all, packets_of, answered, PullsAt, has_line}
-use Rattle.clk_drain.specs.Parts.{HasGathered, IsWithin, HasAllTaken, IsGathered, held_of, held_at}
+use Rattle.clk_drain.specs.Parts.{HasGathered, IsWithin, HasAllTaken}
+use Rattle.clk_drain.specs.inside.Parts.{IsGathered, held_of, held_at}
 use Rattle.clk_drain.proofs.Placing.{below-at, other-are, stays}
 
 -- One answer of a line, where no more was taken than came, and none came only where all was.

@@ -12,10 +12,10 @@ use Rattle.clk_tree.specs.declared.plan.parts.SenderSpec.{SenderSpec}
 use Rattle.clk_tree.specs.PlanParts.{queues_of, senders_of, number_of, AreRising}
 use Rattle.clk_drain.specs.declared.outcome.Outcome.{Outcome}
 use Rattle.clk_drain.specs.declared.running.opening.LeafQueue.{LeafQueue}
-use Rattle.clk_drain.specs.Threads.{Terms, Feed, HaveSentAll}
-use Rattle.clk_drain.specs.Handed.{EndLists, PulledLists, HavePulled, AreAllJoinable, IsReadyToClose, AreApartDevices, AreKeptLogs, AreSettledTogether, IsFaultOfClosing, seats_given, feeds_from, joined_feeds}
+use Rattle.clk_drain.specs.inside.Threads.{Terms, Feed, HaveSentAll}
+use Rattle.clk_drain.specs.inside.Handed.{EndLists, PulledLists, HavePulled, AreAllJoinable, IsReadyToClose, AreApartDevices, AreKeptLogs, AreSettledTogether, IsFaultOfClosing, seats_given, feeds_from, joined_feeds}
 use Rattle.clk_drain.specs.Run.{IsRunWith, IsRunOutcome, IsKeptRun, senders_in, AreKnown, IsFaultOfRun}
-use Rattle.clk_drain.specs.Devices.{AreOpenFrom, KeepVisits}
+use Rattle.clk_drain.specs.inside.Devices.{AreOpenFrom, KeepVisits}
 use Rattle.clk_drain.specs.Outcome.{SharedQueue, Device}
 use Rattle.clk_drain.proofs.Joining.{AreJoinedFeeds, all-joined, all-ready, all-apart, joined-kept}
 use Rattle.clk_drain.proofs.PlanSenders.{queues-apart}

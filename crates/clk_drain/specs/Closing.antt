@@ -1,5 +1,5 @@
 -- What closing a session over its lines comes to.
-use Rattle.std.specs.Prelude.{◌≡◌, ◌⊎◌, ℕ, ◌+◌, ◌-◌, ◌<◌, ◌≤◌, true, List, [], ◌∷◌, length, map, max}
+use Rattle.std.specs.Prelude.{◌≡◌, ◌⊎◌, ℕ, ◌+◌, ◌-◌, ◌<◌, ◌≤◌, List, [], ◌∷◌, length, map, max}
 use Rattle.std.specs.List.{AllByRecursion}
 use Rattle.clk_packet.specs.declared.packet.Packet.{Packet}
 use Rattle.clk_packet.specs.declared.fault.Fault.{Fault}
@@ -11,7 +11,6 @@ use Rattle.clk_sched.specs.Session.{Progress, counted_moment, GivesAll}
 use Rattle.clk_sched.specs.Results.{emitted}
 use Rattle.clk_drain.specs.declared.drained.Drained.{Drained}
 use Rattle.clk_drain.specs.Line.{LineLists, seats_of, seats_in, senders_at}
-use Rattle.clk_drain.specs.DeviceSession.{DeviceLists}
 use Rattle.clk_drain.specs.Outcome.{SharedQueue, Device, IsSettledOutcome}
 
 -- how many packets the queues of lines accepted and evicted in all
@@ -58,12 +57,6 @@ pub record IsDrainedTo (session : Progress) (lines : List LineLists) (moment : �
 -- The same, where the log is kept.
 abbrev pub IsDrainedOver : Progress → List LineLists → ℕ → Drained → Type 0
 IsDrainedOver session lines moment drained = IsDrainedTo session lines moment drained.log.items drained
-
--- A device's session was drained over its lines, from a moment on, and all is settled. It has the log, where its visits are kept.
-pub record IsDrainedAs (s : DeviceLists) (lines : List LineLists) (moment : ℕ) (drained : Drained) : Type 0 where
-  pub log : List Visit
-  pub kept : s.visits ≡ true → drained.log.items ≡ log
-  pub is : IsDrainedTo s.session lines moment log drained
 
 -- A queue refused or evicted packets only where it accepted as many as it may hold.
 abbrev pub HasReached : LineLists → Type 0

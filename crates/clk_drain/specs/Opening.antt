@@ -1,40 +1,8 @@
 -- What a run opens before its threads start.
-use Rattle.std.specs.Prelude.{◌≡◌, ℕ, ◌++◌, List, [], ◌∷◌, length, map, ⊤}
-use Rattle.clk_packet.specs.declared.packet.Packet.{Packet}
-use Rattle.clk_packet.specs.Trace.{sent_by}
-use Rattle.clk_ruled.specs.declared.view.Setup.{Setup}
-use Rattle.clk_ruled.specs.Queue.{SeatLists, TapLists, IsOpened, setup_of}
+use Rattle.std.specs.Prelude.{ℕ}
 use Rattle.clk_tree.specs.PlanParts.{Queued}
-use Rattle.clk_drain.specs.declared.running.opening.LeafQueue.{LeafQueue}
 use Rattle.clk_drain.specs.Outcome.{SharedQueue}
-use Rattle.clk_drain.specs.Handed.{EndLists}
 
 -- a queue of a plan at a leaf
 abbrev pub shared_at : ℕ → Queued → SharedQueue
 shared_at leaf q = record { leaf = leaf; kind = q.kind; capacity = q.capacity; senders = q.senders }
-
--- how many packets each of some senders may offer: all that it sends
-abbrev pub rooms_for : List (List Packet) → List ℕ → List (ℕ × ℕ)
-rooms_for traces senders = map (λ s. (s, length (sent_by traces s))) senders
-
-abbrev pub setup_for : List (List Packet) → SharedQueue → Setup
-setup_for traces q = setup_of q.kind q.capacity (rooms_for traces q.senders)
-
--- The queue at a leaf, its tap and its seats were opened, with room for all that is sent to it.
-abbrev pub IsOpenAs : List (List Packet) → SharedQueue → LeafQueue → TapLists → List SeatLists → Type 0
-IsOpenAs traces q at tap seats = (at.leaf ≡ q.leaf) × (at.senders ≡ length seats) × IsOpened (setup_for traces q) at.queue seats tap
-
--- so for each of some queues, in order
-abbrev pub AreOpenAs : List (List Packet) → List SharedQueue → List LeafQueue → List TapLists → List (List SeatLists) → Type 0
-AreOpenAs traces [] [] [] [] = ⊤
-AreOpenAs traces (q ∷ shared) (at ∷ queues) (t ∷ taps) (s ∷ seats) = IsOpenAs traces q at t s × AreOpenAs traces shared queues taps seats
-AreOpenAs traces shared queues taps seats = ⊥
-
--- A queue more was opened, after those that were.
-pub record IsAdded (traces : List (List Packet)) (q : SharedQueue) (queues more : List LeafQueue) (old new : EndLists) : Type 0 where
-  pub at : LeafQueue
-  pub tap : TapLists
-  pub seats : List SeatLists
-  pub opened : IsOpenAs traces q at tap seats
-  pub queues_are : more ≡ queues ++ at ∷ []
-  pub ends_are : new ≡ record { session = old.session; visits = old.visits; taps = old.taps ++ tap ∷ []; seats = old.seats ++ seats ∷ [] }

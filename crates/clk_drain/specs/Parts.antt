@@ -1,18 +1,9 @@
 -- What the parts of a closing say to one another.
-use Rattle.std.specs.Prelude.{◌≡◌, ℕ, ◌+◌, ◌-◌, ◌==◌, true, List, [], ◌∷◌, length, map, max, if◌then◌else◌}
-use Rattle.std.specs.List.{flat_map, AllByRecursion}
-use Rattle.std.specs.List.Sorted.{IsPermutation, IsNonDecreasingBy}
-use Rattle.clk_packet.specs.declared.packet.Packet.{Packet}
-use Rattle.clk_packet.specs.declared.tally.Tally.{Tally}
-use Rattle.clk_ruled.specs.declared.settling.Settled.{Settled}
+use Rattle.std.specs.Prelude.{◌≡◌, true}
+use Rattle.std.specs.List.{AllByRecursion}
 use Rattle.clk_ruled.specs.Queue.{ClosedLists}
-use Rattle.clk_ruled.specs.Settle.{AreTogether, IsSettled, IsTakenWithin, IsAllTaken, tally_of, all_evicted, accepted_count, evicted_count}
-use Rattle.clk_sched.specs.Session.{Progress, counted_moment, GivesAll}
-use Rattle.clk_drain.specs.Line.{LineLists, seats_of, lasting_of, AreStill, AreLinesOf}
-
--- what was taken at a leaf
-abbrev pub taken_at : LineLists → ℕ × List Packet
-taken_at l = (l.leaf, l.tap.taken)
+use Rattle.clk_ruled.specs.Settle.{IsTakenWithin, IsAllTaken}
+use Rattle.clk_drain.specs.Line.{LineLists}
 
 -- each seat of a line was gathered
 abbrev pub HasGathered : LineLists → Type 0
@@ -24,52 +15,3 @@ IsWithin l = IsTakenWithin l.tap l.closed
 
 abbrev pub HasAllTaken : LineLists → Type 0
 HasAllTaken l = IsAllTaken l.tap l.closed
-
--- A line whose seats are gathered, and whose tap took no more than they accepted and didn't lose.
-pub record IsGathered (l : LineLists) : Type 0 where
-  pub all : HasGathered l
-  pub within : IsWithin l
-
--- The seats of a line were gathered, and nothing else changed; and so for each of some lines.
-pub record IsGatheredFrom (old new : LineLists) : Type 0 where
-  pub still : lasting_of new ≡ lasting_of old
-  pub taken : taken_at new ≡ taken_at old
-  pub all : IsGathered new
-
-pub record AreGatheredFrom (old new : List LineLists) : Type 0 where
-  pub still : AreStill old new
-  pub taken : map taken_at new ≡ map taken_at old
-  pub all : AllByRecursion IsGathered new
-
--- how many packets the queue of a gathered line holds, and that at a leaf
-abbrev pub held_of : LineLists → ℕ
-held_of l = accepted_count (seats_of l) - (evicted_count (seats_of l) + length l.tap.taken)
-
-abbrev pub held_at : List LineLists → ℕ → ℕ
-held_at [] q = 0
-held_at (l ∷ lines) q = if l.leaf == q then held_of l else held_at lines q
-
--- A session was drained of so many packets over its lines, from a moment on.
-pub record IsDrainOf (session : Progress) (lines : List LineLists) (moment left : ℕ) (new : Progress) (after : List LineLists) : Type 0 where
-  pub still : AreStill lines after
-  pub own : AreLinesOf new after
-  pub made : ℕ
-  pub gives : GivesAll session new (max (counted_moment session) moment) made left
-
--- The queue of a line is settled.
-pub record IsSettledLine (l : LineLists) : Type 0 where
-  pub together : AreTogether l.tap l.closed
-  pub settled : Settled
-  pub is : IsSettled l.tap l.closed settled
-
--- the tallies of a line, and of all lines
-abbrev pub tallies_of : LineLists → List Tally
-tallies_of l = map (tally_of (all_evicted (seats_of l))) (seats_of l)
-
-abbrev pub tallies_in : List LineLists → List Tally
-tallies_in lines = flat_map tallies_of lines
-
--- the same tallies by rising sender
-pub record AreInOrder (tallies sorted : List Tally) : Type 0 where
-  pub same : IsPermutation tallies sorted
-  pub order : IsNonDecreasingBy (λ (t : Tally). t.sender) sorted

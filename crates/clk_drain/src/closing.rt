@@ -8,8 +8,9 @@ ghost use Rattle.clk_sched.specs.Kinds.{pulls_made};
 ghost use Rattle.clk_sched.specs.Limits.{most_left, end_of_drains, end_of_drained_pulls};
 ghost use Rattle.clk_sched.specs.Session.{counted_moment};
 ghost use Rattle.clk_drain.specs.Line.{AreLinesOf, HaveOwnSenders};
-ghost use Rattle.clk_drain.specs.Closing.{accepted_over, evicted_over, left_over, IsDrainedOver, IsDrainedAs, IsFaultOfDrain, HasUnsettled};
-ghost use Rattle.clk_drain.specs.Parts.{IsGathered, held_at, AreGatheredFrom, IsDrainOf, IsSettledLine, AreInOrder, tallies_in};
+ghost use Rattle.clk_drain.specs.Closing.{accepted_over, evicted_over, left_over, IsDrainedOver, IsFaultOfDrain, HasUnsettled};
+ghost use Rattle.clk_drain.specs.inside.Closing.{IsDrainedAs};
+ghost use Rattle.clk_drain.specs.inside.Parts.{IsGathered, held_at, AreGatheredFrom, IsDrainOf, IsSettledLine, AreInOrder, tallies_in};
 
 use crate::device::DeviceSession;
 use crate::drained::Drained;

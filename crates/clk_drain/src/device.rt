@@ -14,7 +14,7 @@ pub struct DeviceSession {
 impl Model for DeviceSession {
     ghost use Rattle.std.specs.Prelude.{◌≡◌, true};
     ghost use Rattle.clk_sched.specs.Kinds.{progress_of};
-    ghost use Rattle.clk_drain.specs.DeviceSession.{DeviceLists};
+    ghost use Rattle.clk_drain.specs.inside.DeviceSession.{DeviceLists};
     ghost use Rattle.std.specs.Coded.{codes};
     ghost use Rattle.clk_sched.specs.Stored.{tree_code};
 

@@ -36,7 +36,8 @@ impl Line {
     ghost use Rattle.clk_ruled.specs.Settle.{IsSettled, IsFaultOfSettle, AreTogether, accepted_count, evicted_count};
     ghost use Rattle.clk_sched.specs.Limits.{most_left};
     ghost use Rattle.clk_drain.specs.Line.{pulling, packets_of, seats_of};
-    ghost use Rattle.clk_drain.specs.Parts.{HasGathered, IsWithin, HasAllTaken, IsGatheredFrom};
+    ghost use Rattle.clk_drain.specs.Parts.{HasGathered, IsWithin, HasAllTaken};
+    ghost use Rattle.clk_drain.specs.inside.Parts.{IsGatheredFrom};
 
     /// The number of its leaf.
     pub fn leaf(&self) -> u16

@@ -5,7 +5,7 @@ ghost use Rattle.std.specs.List.{AllByRecursion};
 ghost use Rattle.clk_sched.specs.Closing.{TakesOne};
 ghost use Rattle.clk_drain.specs.Senders.{Rise};
 ghost use Rattle.clk_drain.specs.Line.{PullsAt, has_line, leaves_of};
-ghost use Rattle.clk_drain.specs.Parts.{IsGathered, held_at};
+ghost use Rattle.clk_drain.specs.inside.Parts.{IsGathered, held_at};
 
 use crate::line::Line;
 use clk_packet::{Fault, Packet};
@@ -103,7 +103,7 @@ impl<'a, W: Wait> Model for GatheredLines<'a, W> {
     ghost use Rattle.std.specs.List.{AllByRecursion};
     ghost use Rattle.clk_drain.specs.Senders.{Rise};
     ghost use Rattle.clk_drain.specs.Line.{LineLists, leaves_of};
-    ghost use Rattle.clk_drain.specs.Parts.{IsGathered};
+    ghost use Rattle.clk_drain.specs.inside.Parts.{IsGathered};
 
     ghost Value = { List LineLists };
 
@@ -117,7 +117,7 @@ impl<'a, W: Wait> GatheredLines<'a, W> {
     ghost use Rattle.std.specs.List.{AllByRecursion};
     ghost use Rattle.clk_drain.specs.Senders.{Rise};
     ghost use Rattle.clk_drain.specs.Line.{leaves_of};
-    ghost use Rattle.clk_drain.specs.Parts.{IsGathered};
+    ghost use Rattle.clk_drain.specs.inside.Parts.{IsGathered};
 
     // Lines of rising leaves, whose seats are all gathered. `wait` is what their queues wait by.
     pub(crate) fn new(wait: &'a W, each: Vec<Line>) -> GatheredLines<'a, W>
@@ -139,7 +139,7 @@ impl<'a, W: Wait> GatheredLines<'a, W> {
 impl<'a, W: Wait> Ask for GatheredLines<'a, W> {
     ghost use Rattle.clk_sched.specs.Closing.{TakesOne};
     ghost use Rattle.clk_drain.specs.Line.{PullsAt, has_line};
-    ghost use Rattle.clk_drain.specs.Parts.{held_at};
+    ghost use Rattle.clk_drain.specs.inside.Parts.{held_at};
 
     ghost has = { has_line };
 

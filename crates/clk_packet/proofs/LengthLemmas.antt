@@ -9,7 +9,7 @@ use Rattle.clk_packet.specs.declared.fault.Fault.{Fault}
 use Rattle.clk_packet.specs.declared.lengths.Length.{Length}
 use Rattle.clk_packet.specs.declared.packet.Packet.{Packet}
 use Rattle.clk_packet.specs.Trace.{most_records, packets_in, sent_by, sent_from, shown}
-use Rattle.clk_packet.specs.Lengths.{IsAdded, IsWider, lengths_in, packet_of, packets_by, packets_from}
+use Rattle.clk_packet.specs.inside.Lengths.{IsAdded, IsWider, lengths_in, packet_of, packets_by, packets_from}
 
 -- the packets of a sender in a table
 pub sent_by-table : (first : ℕ) (table : List (List Length)) (s : ℕ) → sent_by (packets_by first table) s ≡ packets_from (first + s) 0 (get_or table s [])

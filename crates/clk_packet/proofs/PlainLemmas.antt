@@ -10,8 +10,8 @@ use Rattle.csv.specs.declared.parser.State.TheVariants as st
 use Rattle.csv.specs.declared.parser.Action.TheVariants as act
 use Rattle.csv.proofs.ReadFacts.{run-copies}
 use Rattle.clk_packet.specs.Limits.{most_sender, most_length}
-use Rattle.clk_packet.specs.Plain.{IsPlainLine}
-use Rattle.clk_packet.specs.Lengths.{IsAdded}
+use Rattle.clk_packet.specs.inside.Plain.{IsPlainLine}
+use Rattle.clk_packet.specs.inside.Lengths.{IsAdded}
 use Rattle.clk_packet.specs.Trace.{most_records, pair_in, record_fault}
 use Rattle.clk_packet.specs.declared.packet.Packet.{Packet}
 use Rattle.clk_packet.proofs.DigitLemmas.{AreDigits, first-digit, number-digits}

@@ -10,7 +10,7 @@ use Rattle.csv.specs.declared.parser.State.{State}
 use Rattle.csv.specs.declared.parser.State.TheVariants as st
 use Rattle.csv.proofs.ReadFacts.{rows-more}
 use Rattle.clk_packet.specs.Bytes.{read_failures}
-use Rattle.clk_packet.specs.Lengths.{IsAdded}
+use Rattle.clk_packet.specs.inside.Lengths.{IsAdded}
 use Rattle.clk_packet.specs.Trace.{ExplainsTrace, bad_unless, first_fault, most_records, most_trace_bytes, packets_in, pair_in, pairs_of, record_fault, records_of, sent, sent_by, sent_from, shown, trace_fault}
 use Rattle.clk_packet.specs.declared.fault.Fault.{Fault}
 use Rattle.clk_packet.specs.declared.fault.Fault.TheVariants.{Memory, TooLarge, BadTrace}

@@ -4,9 +4,8 @@ pub mod Examples
 pub mod Failing
 pub mod Fault
 pub mod Io
-pub mod Lengths
 pub mod Limits
 pub mod Numbers
 pub mod Packets
-pub mod Plain
 pub mod Trace
+pub mod inside

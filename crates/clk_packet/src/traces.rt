@@ -23,7 +23,7 @@ impl Model for Traces {
     ghost use Rattle.std.specs.Prelude.{List, ◌≤◌};
     ghost use Rattle.clk_packet.specs.declared.packet.Packet.{Packet};
     ghost use Rattle.clk_packet.specs.Trace.{packets_in, most_records};
-    ghost use Rattle.clk_packet.specs.Lengths.{packets_by};
+    ghost use Rattle.clk_packet.specs.inside.Lengths.{packets_by};
 
     ghost Value = { List (List Packet) };
 
@@ -36,7 +36,7 @@ impl Traces {
     ghost use Rattle.std.specs.Prelude.{◌≡◌, ◌≤◌, ◌<◌, ◌+◌, [], length, slice_get, None, IfSome, IfOk, IfErr, OnOk, IsOkUnless};
     ghost use Rattle.clk_packet.specs.declared.fault.Fault.TheVariants.{Memory};
     ghost use Rattle.clk_packet.specs.Bytes.{Takes, read_failures};
-    ghost use Rattle.clk_packet.specs.Lengths.{IsAdded};
+    ghost use Rattle.clk_packet.specs.inside.Lengths.{IsAdded};
     ghost use Rattle.clk_packet.specs.Trace.{ExplainsTrace, most_records, most_trace_bytes, packets_in, pairs_of, sent, sent_by, shown, trace_fault};
 
     /// Reads a trace to its end: a record for each packet, with its sender's number, from 0 to 65,535, and its length in bytes, from 1
@@ -115,7 +115,7 @@ impl Traces {
 
 ghost use Rattle.std.specs.Prelude.{◌<◌, length, OnOk, IsOkUnless};
 ghost use Rattle.clk_packet.specs.declared.fault.Fault.TheVariants.{Memory};
-ghost use Rattle.clk_packet.specs.Lengths.{IsWider};
+ghost use Rattle.clk_packet.specs.inside.Lengths.{IsWider};
 
 /// Adds rows without lengths to a table until it has a row at this place. Fault 1 where memory is refused.
 fn widen(alloc: Global, senders: &mut Vec<Lengths>, place: usize) -> Result<(), Fault>

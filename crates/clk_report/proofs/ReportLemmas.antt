@@ -10,7 +10,7 @@ use Rattle.clk_packet.specs.declared.tally.Tally.{Tally}
 use Rattle.clk_packet.proofs.BytesLemmas.{HasWritten, Appends-append}
 use Rattle.clk_report.specs.declared.total.Total.{Total}
 use Rattle.clk_report.specs.Report.{packets_from, tally_text, report_text, total_text}
-use Rattle.clk_report.specs.Totals.{total_of, line_text, words_text}
+use Rattle.clk_report.specs.inside.Totals.{total_of, line_text, words_text}
 use Rattle.clk_report.proofs.TotalLemmas.{both-of}
 
 -- one part more is written

@@ -11,7 +11,7 @@ use Rattle.clk_packet.specs.declared.packet.Packet.{Packet}
 use Rattle.clk_report.specs.declared.total.Total.{Total}
 use Rattle.clk_report.specs.Devices.{came_out}
 use Rattle.clk_report.specs.Report.{packets_from, bytes_of}
-use Rattle.clk_report.specs.Totals.{total_of, with_packet, both, AreTotals, HasRoom}
+use Rattle.clk_report.specs.inside.Totals.{total_of, with_packet, both, AreTotals, HasRoom}
 
 pub bytes-few : (packets : List Packet) → bytes_of packets ≤ 65535 * length packets
 bytes-few [] = omega arith

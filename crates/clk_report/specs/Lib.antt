@@ -1,6 +1,6 @@
 -- What the texts of a run are.
 pub mod Devices
 pub mod Report
-pub mod Totals
 pub mod VisitCsv
 pub mod Writes
+pub mod inside

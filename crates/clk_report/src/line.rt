@@ -1,7 +1,7 @@
 //! The lines of a report. Each is written from its end to its front.
 
 ghost use Rattle.std.specs.Prelude.{◌≡◌, ◌+◌, ◌≤◌, ◌++◌, decimal, drop, length};
-ghost use Rattle.clk_report.specs.Totals.{line_text, words_text};
+ghost use Rattle.clk_report.specs.inside.Totals.{line_text, words_text};
 
 use crate::total::Total;
 use clk_packet::Tally;

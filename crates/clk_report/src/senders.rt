@@ -5,7 +5,7 @@ ghost use Rattle.clk_packet.specs.Bytes.{Wrote};
 ghost use Rattle.clk_packet.specs.declared.packet.Packet.{Packet};
 ghost use Rattle.clk_report.specs.Devices.{came_out};
 ghost use Rattle.clk_report.specs.Report.{report_text};
-ghost use Rattle.clk_report.specs.Totals.{AreTotals};
+ghost use Rattle.clk_report.specs.inside.Totals.{AreTotals};
 
 use crate::line::{LINE, put_line};
 use crate::total::{FEW, SENDERS, Total, count_by_sender};

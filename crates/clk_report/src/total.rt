@@ -3,7 +3,7 @@
 ghost use Rattle.std.specs.Prelude.{◌≤◌, ◌++◌, [], List, All, length};
 ghost use Rattle.clk_packet.specs.declared.packet.Packet.{Packet};
 ghost use Rattle.clk_report.specs.Devices.{came_out};
-ghost use Rattle.clk_report.specs.Totals.{AreTotals, HasRoom};
+ghost use Rattle.clk_report.specs.inside.Totals.{AreTotals, HasRoom};
 
 use crate::senders::MAX_DEVICES;
 use clk_packet::Packet;
@@ -23,7 +23,7 @@ pub struct Total {
 
 impl Total {
     ghost use Rattle.std.specs.Prelude.{◌≡◌, ◌+◌, ◌<◌, ◌^◌};
-    ghost use Rattle.clk_report.specs.Totals.{total_of, with_packet, both};
+    ghost use Rattle.clk_report.specs.inside.Totals.{total_of, with_packet, both};
 
     /// Of no packets.
     pub const NONE: Total = Total {

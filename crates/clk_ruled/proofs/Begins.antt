@@ -6,7 +6,8 @@ use Rattle.clk_packet.specs.declared.packet.Packet.{Packet}
 use Rattle.clk_ruled.specs.declared.view.Setup.{Setup}
 use Rattle.clk_ruled.specs.declared.view.View.{View}
 use Rattle.clk_ruled.specs.Lists.{has_sender, SendersRise}
-use Rattle.clk_ruled.specs.Rule.{Books, FitsTap, Fits, Keeps, no_setup, spent_view, blank_view, tap_view}
+use Rattle.clk_ruled.specs.Rule.{Books, FitsTap, Fits, Keeps}
+use Rattle.clk_ruled.specs.inside.Rule.{no_setup, spent_view, blank_view, tap_view}
 use Rattle.clk_ruled.proofs.Changes.{all-set, all-snoc}
 
 -- A queue is made, before it is opened.

@@ -12,7 +12,7 @@ use Rattle.std.specs.declared.cmp.Ordering.{Ordering}
 use Rattle.std.specs.Result.{is_ok}
 use Rattle.clk_packet.specs.declared.packet.Packet.{Packet}
 use Rattle.clk_ruled.specs.Lists.{has_packet}
-use Rattle.clk_ruled.specs.Keys.{key_of, key_cmp, AreSorted, AreKeysOf, IsAfterKey, is_key, has_key}
+use Rattle.clk_ruled.specs.inside.Keys.{key_of, key_cmp, AreSorted, AreKeysOf, IsAfterKey, is_key, has_key}
 use Rattle.clk_ruled.proofs.Counts.{eq-turned}
 
 key_cmp_total : IsTotalOrder key_cmp

@@ -3,7 +3,7 @@ use Rattle.std.proofs.Common.{◌≡◌, ℕ, ◌<◌, ◌≤◌, List, length, 
 use Rattle.clk_packet.specs.declared.packet.Packet.{Packet}
 use Rattle.clk_ruled.specs.declared.view.View.{View}
 use Rattle.clk_ruled.specs.Queue.{Queue, SeatLists, queue_of, places_of}
-use Rattle.clk_ruled.specs.Parts.{SeatFits}
+use Rattle.clk_ruled.specs.inside.Parts.{SeatFits}
 use Rattle.clk_ruled.proofs.SeatSteps.{few-accepted}
 
 -- The queue is the seat's, the packet is its sender's next one, and the sender may offer it.

@@ -6,8 +6,8 @@ use Rattle.clk_ruled.specs.declared.view.Setup.{Setup}
 use Rattle.clk_ruled.specs.declared.view.View.{View}
 use Rattle.clk_ruled.specs.Lists.{has_sender, room_of, SendersAbove, SendersRise}
 use Rattle.clk_ruled.specs.Queue.{SeatLists, empty_seat}
-use Rattle.clk_ruled.specs.Rule.{tap_view}
-use Rattle.clk_ruled.specs.Parts.{AreFree, AreRoomed, IsSeated}
+use Rattle.clk_ruled.specs.inside.Rule.{tap_view}
+use Rattle.clk_ruled.specs.inside.Parts.{AreFree, AreRoomed, IsSeated}
 use Rattle.clk_ruled.proofs.ListLemmas.{eq-true, ne-false}
 
 free-more : (s : ℕ) (given : List ℕ) (rest : List (ℕ × ℕ)) → SendersAbove s rest → AreFree given rest → AreFree (s ∷ given) rest

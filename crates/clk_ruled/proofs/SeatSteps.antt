@@ -10,8 +10,9 @@ use Rattle.clk_ruled.specs.declared.view.Setup.{Setup}
 use Rattle.clk_ruled.specs.declared.view.View.{View}
 use Rattle.clk_ruled.specs.Lists.{of_sender, has_sender, IsRising, room_of, rooms_in_all}
 use Rattle.clk_ruled.specs.Queue.{places_of, IsShared}
-use Rattle.clk_ruled.specs.Rule.{Books, IsSound, FitsSeat, Knows, went_out, seat_view}
-use Rattle.clk_ruled.specs.Parts.{SeatFits}
+use Rattle.clk_ruled.specs.Rule.{Books, IsSound, FitsSeat, went_out}
+use Rattle.clk_ruled.specs.inside.Rule.{Knows, seat_view}
+use Rattle.clk_ruled.specs.inside.Parts.{SeatFits}
 use Rattle.clk_ruled.proofs.ListLemmas.{eq-true, ne-false}
 use Rattle.clk_ruled.proofs.Sharing.{shares-accepted, shares-refused, shares-rise, shares-count}
 use Rattle.clk_ruled.proofs.Steps.{MayOffer, MayEvict}

@@ -10,11 +10,12 @@ use Rattle.clk_ruled.specs.declared.view.Gathered.{Gathered}
 use Rattle.clk_ruled.specs.declared.view.Setup.{Setup}
 use Rattle.clk_ruled.specs.declared.view.View.{View}
 use Rattle.clk_ruled.specs.Account.{IsAccount}
-use Rattle.clk_ruled.specs.Keys.{AreKeysOf, has_key}
+use Rattle.clk_ruled.specs.inside.Keys.{AreKeysOf, has_key}
 use Rattle.clk_ruled.specs.Lists.{of_sender, has_sender, without}
-use Rattle.clk_ruled.specs.Parts.{TapKeeps}
+use Rattle.clk_ruled.specs.inside.Parts.{TapKeeps}
 use Rattle.clk_ruled.specs.Queue.{SeatLists, TapLists, ClosedLists, IsSharedOut}
-use Rattle.clk_ruled.specs.Rule.{Books, FitsTap, IsSound, AreGathered, Knows, evicted_by, taken_in, senders_of}
+use Rattle.clk_ruled.specs.Rule.{Books, FitsTap, IsSound, AreGathered, evicted_by, taken_in, senders_of}
+use Rattle.clk_ruled.specs.inside.Rule.{Knows}
 use Rattle.clk_ruled.specs.Settle.{lists_of, as_gathered, accepted_of, evicted_of, all_evicted, accepted_count, evicted_count, lost_count, IsAmong, AreOfTap, AreTogether, HasEach, HasAllSeats, IsTakenWithin, IsAllTaken, tally_by, tally_of, IsSettled, IsAccounted}
 use Rattle.clk_ruled.proofs.Account.{account, all-counted, as-many, left-held, evicted_in}
 use Rattle.clk_ruled.proofs.Counts.{true-eq}

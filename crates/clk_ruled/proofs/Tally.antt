@@ -5,7 +5,7 @@ use mathlib.Core.Logic.{dite}
 use native.Mathlib.Decide.{ℕ_discrete}
 use Rattle.clk_packet.specs.declared.packet.Packet.{Packet}
 use Rattle.clk_ruled.specs.Lists.{of_sender, has_sender, room_of, rooms_in_all, SendersAbove, SendersRise}
-use Rattle.clk_ruled.specs.Parts.{AreRoomed}
+use Rattle.clk_ruled.specs.inside.Parts.{AreRoomed}
 use Rattle.clk_ruled.specs.Rule.{Out, to_puller, put_out, went_out, taken_in, evicted_by}
 use Rattle.clk_ruled.proofs.ListLemmas.{eq-true, ne-false, has-not}
 use Rattle.clk_ruled.proofs.Opening.{roomed-all}

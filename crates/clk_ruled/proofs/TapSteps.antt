@@ -8,8 +8,9 @@ use Rattle.clk_ruled.specs.declared.view.Gathered.{Gathered}
 use Rattle.clk_ruled.specs.declared.view.View.{View}
 use Rattle.clk_ruled.specs.Lists.{of_sender, has_sender, IsRising, IsIn, rooms_in_all}
 use Rattle.clk_ruled.specs.Queue.{AreOfSenders, accepted_in_all, evicted_in_all}
-use Rattle.clk_ruled.specs.Rule.{Out, to_puller, put_out, went_out, taken_in, Books, senders_of, gathered_senders, IsSound, AreGathered, FitsTap, Knows, KnowsAfter, tap_view}
-use Rattle.clk_ruled.specs.Parts.{TapKeeps}
+use Rattle.clk_ruled.specs.Rule.{Out, to_puller, put_out, went_out, taken_in, Books, senders_of, gathered_senders, IsSound, AreGathered, FitsTap}
+use Rattle.clk_ruled.specs.inside.Rule.{Knows, KnowsAfter, tap_view}
+use Rattle.clk_ruled.specs.inside.Parts.{TapKeeps}
 use Rattle.clk_ruled.proofs.ListLemmas.{eq-true}
 use Rattle.clk_ruled.proofs.SeatSteps.{room-known}
 use Rattle.clk_ruled.proofs.Tally.{one_more, times, times_in_all, AreApart, counted, senders_named, put_for, of-times, evicted-times, named-length, gone-length, unroomed, all-within}

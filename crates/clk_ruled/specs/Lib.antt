@@ -3,10 +3,9 @@ pub mod Lists
 pub mod Account
 pub mod Rule
 pub mod Queue
-pub mod Parts
-pub mod Keys
 pub mod Settle
 pub mod Closing
 pub mod Laws
 pub mod Examples
 pub mod SettleExamples
+pub mod inside

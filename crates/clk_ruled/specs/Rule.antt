@@ -97,32 +97,5 @@ Fits b pass v = (v.sits ≡ true → FitsSeat b pass v) × (v.taps ≡ true → 
 abbrev pub Keeps : List Packet → List View → Type 0
 Keeps held views = (b : Books) × IsSound b held × ((pass : ℕ) (v : View) → get_elem? views pass ≡ some v → Fits b pass v)
 
--- what one of those who use the queue knows of the packets that it holds at a moment
-abbrev pub Knows : View → List Packet → Type 0
-Knows v held = (b : Books) × (pass : ℕ) × IsSound b held × Fits b pass v
-
--- the views that there are
-abbrev pub no_setup : Setup
-no_setup = record { kind = TailDrop; capacity = 0; rooms = [] }
-
-abbrev pub spent_view : View
-spent_view = record { sits = false; taps = false; setup = no_setup; sender = 0; accepted = []; evicted = []; taken = []; given = []; gathered = [] }
-
-abbrev pub retired_view : Setup → View
-retired_view setup = record { sits = false; taps = false; setup = setup; sender = 0; accepted = []; evicted = []; taken = []; given = []; gathered = [] }
-
-abbrev pub blank_view : View
-blank_view = record { sits = false; taps = true; setup = no_setup; sender = 0; accepted = []; evicted = []; taken = []; given = []; gathered = [] }
-
-abbrev pub seat_view : Setup → ℕ → List Packet → List Packet → View
-seat_view setup s accepted evicted = record { sits = true; taps = false; setup = setup; sender = s; accepted = accepted; evicted = evicted; taken = []; given = []; gathered = [] }
-
-abbrev pub tap_view : Setup → List Packet → List ℕ → List Gathered → View
-tap_view setup taken given gathered = record { sits = false; taps = true; setup = setup; sender = 0; accepted = []; evicted = []; taken = taken; given = given; gathered = gathered }
-
 abbrev pub gathered_seat : ℕ → List Packet → List Packet → Gathered
 gathered_seat s accepted evicted = record { sender = s; accepted = accepted; evicted = evicted }
-
--- at one moment, at which this is its view, it knows so much
-abbrev pub KnowsAfter : View → Type 0
-KnowsAfter v = (held : List Packet) × Knows v held

@@ -26,7 +26,7 @@ impl Model for ClosedSeat {
     ghost use Rattle.crossbeam_queue.specs.Passes.{view as known};
     ghost use Rattle.clk_packet.specs.declared.packet.Kind.TheVariants.{FrontDrop};
     ghost use Rattle.clk_ruled.specs.Queue.{ClosedLists, IsShared};
-    ghost use Rattle.clk_ruled.specs.Parts.{SeatFits};
+    ghost use Rattle.clk_ruled.specs.inside.Parts.{SeatFits};
 
     ghost Value = { ClosedLists };
 
@@ -39,7 +39,7 @@ impl ClosedSeat {
     ghost use Rattle.std.specs.Prelude.{◌≡◌, ◌≤◌, true, false};
     ghost use Rattle.crossbeam_queue.specs.Passes.{view as known, IsPassOf};
     ghost use Rattle.clk_ruled.specs.Queue.{IsSharedOut};
-    ghost use Rattle.clk_ruled.specs.Rule.{seat_view};
+    ghost use Rattle.clk_ruled.specs.inside.Rule.{seat_view};
 
     // Gives its pass away, to be gathered, and keeps one that neither sits nor taps.
     pub(crate) fn give_up(&mut self, line: &Line) -> Pass<Packet, View>

@@ -6,8 +6,8 @@ ghost use Rattle.clk_packet.specs.Limits.{most_capacity};
 ghost use Rattle.clk_packet.specs.declared.fault.Fault.TheVariants.{Memory};
 ghost use Rattle.clk_ruled.specs.Lists.{has_sender, room_of, rooms_in_all, SendersRise};
 ghost use Rattle.clk_ruled.specs.Queue.{setup_of, empty_seat};
-ghost use Rattle.clk_ruled.specs.Parts.{IsSeated};
-ghost use Rattle.clk_ruled.specs.Rule.{blank_view, tap_view, seat_view};
+ghost use Rattle.clk_ruled.specs.inside.Parts.{IsSeated};
+ghost use Rattle.clk_ruled.specs.inside.Rule.{blank_view, tap_view, seat_view};
 
 use crate::protocol::{Open, Opening, Seated, Sending};
 use crate::queue::{Line, RuledQueue};

@@ -9,7 +9,8 @@ use std::marker::{Brand, PhantomData};
 pub struct Account;
 
 impl Protocol<Packet, View> for Account {
-    ghost use Rattle.clk_ruled.specs.Rule.{Keeps, blank_view};
+    ghost use Rattle.clk_ruled.specs.Rule.{Keeps};
+    ghost use Rattle.clk_ruled.specs.inside.Rule.{blank_view};
 
     ghost holds = { Keeps };
 
@@ -24,7 +25,7 @@ pub trait Opening {
 }
 
 impl Opening for Brand {
-    ghost use Rattle.clk_ruled.specs.Rule.{no_setup};
+    ghost use Rattle.clk_ruled.specs.inside.Rule.{no_setup};
 
     ghost setup = { no_setup };
 }
@@ -47,7 +48,7 @@ pub struct Open<O> {
 
 impl<O: Opening> Split<View> for Open<O> {
     ghost use Rattle.std.specs.Prelude.{[]};
-    ghost use Rattle.clk_ruled.specs.Rule.{tap_view, spent_view};
+    ghost use Rattle.clk_ruled.specs.inside.Rule.{tap_view, spent_view};
 
     ghost left = { λ v. tap_view O.setup [] [] [] };
 
@@ -61,7 +62,7 @@ pub struct Seated<S> {
 
 impl<S: Sending> Split<View> for Seated<S> {
     ghost use Rattle.std.specs.Prelude.{[], ◌∷◌};
-    ghost use Rattle.clk_ruled.specs.Rule.{tap_view, seat_view};
+    ghost use Rattle.clk_ruled.specs.inside.Rule.{tap_view, seat_view};
 
     ghost left = { λ v. tap_view v.setup v.taken (S.sender ∷ v.given) v.gathered };
 
@@ -73,13 +74,13 @@ pub struct Accept;
 
 impl Outcome<Packet, View> for Accept {
     ghost use Rattle.std.specs.Prelude.{◌≡◌, [], ◌∷◌, ◌++◌};
-    ghost use Rattle.clk_ruled.specs.Rule.{seat_view};
+    ghost use Rattle.clk_ruled.specs.inside.Rule.{seat_view};
 
     ghost then = { λ v p w. w ≡ seat_view v.setup v.sender (v.accepted ++ p ∷ []) v.evicted };
 }
 
 impl Lesson<Packet, View> for Accept {
-    ghost use Rattle.clk_ruled.specs.Rule.{Knows};
+    ghost use Rattle.clk_ruled.specs.inside.Rule.{Knows};
 
     ghost fact = { Knows };
 }
@@ -89,7 +90,7 @@ pub struct Evict;
 
 impl Outcome<Packet, View> for Evict {
     ghost use Rattle.std.specs.Prelude.{◌≡◌, [], ◌∷◌, ◌++◌};
-    ghost use Rattle.clk_ruled.specs.Rule.{seat_view, KnowsAfter};
+    ghost use Rattle.clk_ruled.specs.inside.Rule.{seat_view, KnowsAfter};
 
     ghost then = { λ v p w. (w ≡ seat_view v.setup v.sender v.accepted (v.evicted ++ p ∷ [])) × KnowsAfter w };
 }
@@ -99,13 +100,13 @@ pub struct Pull;
 
 impl Outcome<Packet, View> for Pull {
     ghost use Rattle.std.specs.Prelude.{◌≡◌, [], ◌∷◌, ◌++◌};
-    ghost use Rattle.clk_ruled.specs.Rule.{tap_view, KnowsAfter};
+    ghost use Rattle.clk_ruled.specs.inside.Rule.{tap_view, KnowsAfter};
 
     ghost then = { λ v p w. (w ≡ tap_view v.setup (v.taken ++ p ∷ []) v.given v.gathered) × KnowsAfter w };
 }
 
 impl Lesson<Packet, View> for Pull {
-    ghost use Rattle.clk_ruled.specs.Rule.{Knows};
+    ghost use Rattle.clk_ruled.specs.inside.Rule.{Knows};
 
     ghost fact = { Knows };
 }
@@ -114,7 +115,7 @@ impl Lesson<Packet, View> for Pull {
 pub struct Retire;
 
 impl Split<View> for Retire {
-    ghost use Rattle.clk_ruled.specs.Rule.{retired_view};
+    ghost use Rattle.clk_ruled.specs.inside.Rule.{retired_view};
 
     ghost left = { λ v. v };
 
@@ -126,7 +127,8 @@ pub struct Gather;
 
 impl Join<View> for Gather {
     ghost use Rattle.std.specs.Prelude.{◌∷◌};
-    ghost use Rattle.clk_ruled.specs.Rule.{tap_view, gathered_seat, spent_view};
+    ghost use Rattle.clk_ruled.specs.Rule.{gathered_seat};
+    ghost use Rattle.clk_ruled.specs.inside.Rule.{tap_view, spent_view};
 
     ghost both = { λ v w. tap_view v.setup v.taken v.given (gathered_seat w.sender w.accepted w.evicted ∷ v.gathered) };
 

@@ -29,7 +29,7 @@ impl Model for Seat {
     ghost use Rattle.std.specs.Prelude.{◌≡◌, ◌≤◌, [], vec_capacity};
     ghost use Rattle.crossbeam_queue.specs.Passes.{view as known};
     ghost use Rattle.clk_ruled.specs.Queue.{SeatLists};
-    ghost use Rattle.clk_ruled.specs.Parts.{SeatFits};
+    ghost use Rattle.clk_ruled.specs.inside.Parts.{SeatFits};
 
     ghost Value = { SeatLists };
 
@@ -43,7 +43,7 @@ impl Seat {
     ghost use Rattle.crossbeam_queue.specs.Passes.{view as known};
     ghost use Rattle.clk_packet.specs.declared.fault.Fault.TheVariants.{Memory};
     ghost use Rattle.clk_ruled.specs.Lists.{room_of};
-    ghost use Rattle.clk_ruled.specs.Rule.{seat_view};
+    ghost use Rattle.clk_ruled.specs.inside.Rule.{seat_view};
     ghost use Rattle.clk_packet.specs.declared.packet.Offered.TheVariants.{Refused};
     ghost use Rattle.clk_ruled.specs.Queue.{IsSeatOf, IsOffered, IsSharedOut, empty_seat};
 

@@ -25,7 +25,7 @@ impl Model for Tap {
     ghost use Rattle.crossbeam_queue.specs.Passes.{view as known};
     ghost use Rattle.clk_ruled.specs.Lists.{rooms_in_all};
     ghost use Rattle.clk_ruled.specs.Queue.{TapLists};
-    ghost use Rattle.clk_ruled.specs.Parts.{TapKeeps};
+    ghost use Rattle.clk_ruled.specs.inside.Parts.{TapKeeps};
 
     ghost Value = { TapLists };
 

@@ -9,10 +9,10 @@ use Rattle.clk_sched.specs.declared.session.state.State.TheVariants.{Prio}
 use Rattle.clk_sched.specs.declared.tree.layout.Tables.{Tables}
 use Rattle.clk_sched.specs.Tree.{prio, Row, end, leaf, node, Tree, queue, scheduler, root, nodes, width}
 use Rattle.clk_sched.specs.Built.{row}
-use Rattle.clk_sched.specs.Places.{inputs_of}
+use Rattle.clk_sched.specs.inside.Places.{inputs_of}
 use Rattle.clk_sched.specs.Session.{elements}
-use Rattle.clk_sched.specs.Holds.OfClass.{Holds}
-use Rattle.clk_sched.specs.LaidOut.{elements_of, nodes_of, input_of, Entry, entry, entry_over, entries, entries_of, Kind, kinds, kinds_of, AreFirst, Adds, AddsNode}
+use Rattle.clk_sched.specs.inside.Holds.OfClass.{Holds}
+use Rattle.clk_sched.specs.inside.LaidOut.{elements_of, nodes_of, input_of, Entry, entry, entry_over, entries, entries_of, Kind, kinds, kinds_of, AreFirst, Adds, AddsNode}
 use Rattle.clk_sched.proofs.TreeLemmas.{rest, rest-cons}
 use Rattle.clk_sched.proofs.LaidOut.{length-entries}
 

@@ -4,7 +4,7 @@ use Rattle.std.specs.List.{flat_map, AllByRecursion, list_any}
 use Rattle.std.proofs.lemmas.Bool.{false≢true}
 use Rattle.std.proofs.lemmas.List.{reverse-append}
 use Rattle.clk_sched.specs.Turns.{EachAfter}
-use Rattle.clk_sched.specs.Pulling.{AreApart}
+use Rattle.clk_sched.specs.inside.Pulling.{AreApart}
 use Rattle.clk_sched.proofs.Members.{In, of-all, to-all, all-append}
 
 pub all-map : {X Y : Type 0} (P : Y → Type 0) (f : X → Y) (xs : List X) → AllByRecursion (λ x. P (f x)) xs → AllByRecursion P (map f xs)

@@ -11,8 +11,8 @@ use Rattle.clk_sched.specs.declared.session.inputs.Input.TheVariants.{Queue, Sch
 use Rattle.clk_sched.specs.declared.session.inputs.Inputs.{Inputs}
 use Rattle.clk_sched.specs.declared.session.stride.Rank.{Rank}
 use Rattle.clk_sched.specs.Tree.{Row, nodes}
-use Rattle.clk_sched.specs.Places.{inputs_of, StandsIn, AreWired, IsAfter, edges_of, edges_at, option_edges_to, input_at, option_input, queue_of, queue_asked}
-use Rattle.clk_sched.specs.Pulling.{Pulls, Asks, HasPulled, IsPulling, added, now_of, after, inputs_in}
+use Rattle.clk_sched.specs.inside.Places.{inputs_of, StandsIn, AreWired, IsAfter, edges_of, edges_at, option_edges_to, input_at, option_input, queue_of, queue_asked}
+use Rattle.clk_sched.specs.inside.Pulling.{Pulls, Asks, HasPulled, IsPulling, added, now_of, after, inputs_in}
 use Rattle.clk_sched.proofs.Members.{of-all, in-slice}
 use Rattle.clk_sched.proofs.Below.{LiesAt, lies-within, IsChildAt, child-at, queue-at}
 use Rattle.clk_sched.proofs.Pulling.{pulling-asks, pulling-before}

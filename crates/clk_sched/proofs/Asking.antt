@@ -9,10 +9,11 @@ use Rattle.clk_sched.specs.declared.visit.Visit.{Visit}
 use Rattle.clk_sched.specs.declared.session.nodes.Nodes.{Nodes}
 use Rattle.clk_sched.specs.declared.session.inputs.Inputs.{Inputs}
 use Rattle.clk_sched.specs.Log.{asking}
-use Rattle.clk_sched.specs.Holds.Shaper.{AreBefore}
-use Rattle.clk_sched.specs.Places.{StandsIn, AreWired, AllFit, edges_at, edges_in, input_at, Answers, at_queue, queue_asked}
-use Rattle.clk_sched.specs.Pulling.{Now, AreApart, CanPull, Keeps, Asks, AsksAll, IsGoing, IsPulling, IsUnasked, added, now_of, asked_in_vain, asked_in_order}
-use Rattle.clk_sched.specs.Turning.{HasAsked, HasAskedAll}
+use Rattle.clk_sched.specs.inside.Holds.Shaper.{AreBefore}
+use Rattle.clk_sched.specs.Places.{Answers, at_queue}
+use Rattle.clk_sched.specs.inside.Places.{StandsIn, AreWired, AllFit, edges_at, edges_in, input_at, queue_asked}
+use Rattle.clk_sched.specs.inside.Pulling.{Now, AreApart, CanPull, Keeps, Asks, AsksAll, IsGoing, IsPulling, IsUnasked, added, now_of, asked_in_vain, asked_in_order}
+use Rattle.clk_sched.specs.inside.Turning.{HasAsked, HasAskedAll}
 use Rattle.clk_sched.proofs.Members.{In, of-all, to-all, all-append, all-split, in-slice}
 use Rattle.clk_sched.proofs.Apart.{all-map}
 

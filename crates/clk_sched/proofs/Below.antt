@@ -10,9 +10,9 @@ use Rattle.clk_sched.specs.declared.session.inputs.Input.TheVariants.{Queue, Sch
 use Rattle.clk_sched.specs.declared.session.inputs.Inputs.{Inputs}
 use Rattle.clk_sched.specs.declared.session.state.State.{State}
 use Rattle.clk_sched.specs.Tree.{Class, Row, end, leaf, node, nodes, width}
-use Rattle.clk_sched.specs.Holds.OfClass.{Holds}
-use Rattle.clk_sched.specs.Places.{inputs_of, EachHasInputs, StandsIn}
-use Rattle.clk_sched.specs.Pulling.{Now, History, EachHolds, NodeHolds, asked_of, IsVisitAt, IsBlock, IsAskedAt}
+use Rattle.clk_sched.specs.inside.Holds.OfClass.{Holds}
+use Rattle.clk_sched.specs.inside.Places.{inputs_of, EachHasInputs, StandsIn}
+use Rattle.clk_sched.specs.inside.Pulling.{Now, History, EachHolds, NodeHolds, asked_of, IsVisitAt, IsBlock, IsAskedAt}
 use Rattle.clk_sched.proofs.Members.{In, of-all, all-append, all-flat_map}
 
 -- a node stands at an input of a row, or below what does

@@ -4,7 +4,7 @@ use Rattle.std.proofs.lemmas.Bool.Decides.{nat_tests}
 use Rattle.clk_sched.specs.declared.session.shaper.Bucket.{Bucket}
 use Rattle.clk_sched.specs.Turns.{Turn, giver}
 use Rattle.clk_sched.specs.Laws.Shaper.{has_room}
-use Rattle.clk_sched.specs.Holds.Shaper.{AreBefore, tokens_at, HoldsBucket, IsTaken}
+use Rattle.clk_sched.specs.inside.Holds.Shaper.{AreBefore, tokens_at, HoldsBucket, IsTaken}
 
 -- room in all windows after one more is passed, in numbers: `fresh` were added since the filling before, and `more` since
 room-after : (since burst tokens fresh more : ℕ) (wide rest : Bool) → 1 ≤ burst → 1 ≤ tokens + fresh

@@ -8,7 +8,7 @@ use Rattle.clk_sched.specs.declared.visit.Visit.{Visit}
 use Rattle.clk_sched.specs.Tree.{Tree, root, nodes}
 use Rattle.clk_sched.specs.Turns.{AsksInOrder}
 use Rattle.clk_sched.specs.Log.{visits_of, pulls, block_at, moment_of, NeverFalls, asking}
-use Rattle.clk_sched.specs.Pulling.{AreApart, input_of, asked_of, with_asked}
+use Rattle.clk_sched.specs.inside.Pulling.{AreApart, input_of, asked_of, with_asked}
 use Rattle.clk_sched.specs.Step.{EachAllows, IsPullWith, CanGoOn}
 use Rattle.clk_sched.proofs.Members.{In, of-all, all-weaker}
 use Rattle.clk_sched.proofs.Numbering.{stands-root}

@@ -16,7 +16,7 @@ use Rattle.clk_sched.specs.Laws.Deficit.{next_input, deficit_covers}
 use Rattle.clk_sched.specs.Laws.Stride.{stride_order}
 use Rattle.clk_sched.specs.Laws.Shaper.{shaper_order}
 use Rattle.clk_sched.specs.Log.{asking}
-use Rattle.clk_sched.specs.Pulling.{AreApart, input_of, as_turn}
+use Rattle.clk_sched.specs.inside.Pulling.{AreApart, input_of, as_turn}
 use Rattle.clk_sched.proofs.Members.{to-all, all-append, all-weaker}
 use Rattle.clk_sched.proofs.Apart.{all-reverse}
 use Rattle.clk_sched.proofs.Allowed.{AreWithin}

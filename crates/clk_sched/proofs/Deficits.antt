@@ -15,8 +15,8 @@ use Rattle.clk_sched.specs.declared.visit.Visit.{Visit}
 use Rattle.clk_sched.specs.Limits.{most_inputs, most_quantum}
 use Rattle.clk_sched.specs.Heads.{head_at, is_covered}
 use Rattle.clk_sched.specs.Laws.Deficit.{next_input, arrives, arrivals, bytes_of, passed_bytes, quantum_at, deficit_covers}
-use Rattle.clk_sched.specs.Holds.Served.{AreQuantaWithin, AreDeficitsWithin, waiting, with_quantum, covers, settled}
-use Rattle.clk_sched.specs.Holds.Deficit.{HoldsInput, ahead_at, HoldsDeficits}
+use Rattle.clk_sched.specs.inside.Holds.Served.{AreQuantaWithin, AreDeficitsWithin, waiting, with_quantum, covers, settled}
+use Rattle.clk_sched.specs.inside.Holds.Deficit.{HoldsInput, ahead_at, HoldsDeficits}
 use Rattle.clk_sched.proofs.Numbers.{equal, differs}
 
 -- what is read at a place, as the code reads it

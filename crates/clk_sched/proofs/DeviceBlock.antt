@@ -12,8 +12,8 @@ use Rattle.clk_sched.specs.Laws.{AllowsTurn}
 use Rattle.clk_sched.specs.Laws.Priority.{priority_order}
 use Rattle.clk_sched.specs.Run.{IsRun}
 use Rattle.clk_sched.specs.Step.{EachAllows, IsNextPull}
-use Rattle.clk_sched.specs.Pulling.{Now, History, as_turn, asked_of, with_asked, input_of, IsVisitAt, IsAskedAt, IsBlock}
-use Rattle.clk_sched.specs.Session.{history_of}
+use Rattle.clk_sched.specs.inside.Pulling.{Now, History, as_turn, asked_of, with_asked, input_of, IsVisitAt, IsAskedAt, IsBlock}
+use Rattle.clk_sched.specs.inside.Session.{history_of}
 use Rattle.clk_sched.proofs.Members.{In, of-all, to-all, in-filter, all-weaker}
 use Rattle.clk_sched.proofs.Numbers.{equal, differs}
 use Rattle.clk_sched.proofs.Allowed.{IsOneVisit, device-visit}

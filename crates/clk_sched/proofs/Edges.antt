@@ -4,8 +4,8 @@ use Rattle.std.specs.List.{AllByRecursion}
 use Rattle.std.proofs.lemmas.Option.{slice_get_past}
 use Rattle.clk_sched.specs.declared.session.inputs.Input.{Input}
 use Rattle.clk_sched.specs.declared.session.inputs.Inputs.{Inputs}
-use Rattle.clk_sched.specs.Places.{AreWired, edges_of, option_edges, edges_to, edges_to_all, edges_at, edges_in, option_edges_to, option_input}
-use Rattle.clk_sched.specs.Pulling.{AreApart}
+use Rattle.clk_sched.specs.inside.Places.{AreWired, edges_of, option_edges, edges_to, edges_to_all, edges_at, edges_in, option_edges_to, option_input}
+use Rattle.clk_sched.specs.inside.Pulling.{AreApart}
 
 abbrev total : List ℕ → ℕ
 total [] = 0

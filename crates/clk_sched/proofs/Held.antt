@@ -15,12 +15,12 @@ use Rattle.clk_sched.specs.Turns.{Turn, visits_before}
 use Rattle.clk_sched.specs.Heads.{head_at}
 use Rattle.clk_sched.specs.Log.{visits_of, pulls, moment_of}
 use Rattle.clk_sched.specs.Laws.{manner}
-use Rattle.clk_sched.specs.Holds.OfClass.{Holds}
+use Rattle.clk_sched.specs.inside.Holds.OfClass.{Holds}
 use Rattle.clk_sched.specs.Results.{heads, Traced, traced, held_at, own_heads, traced_heads}
 use Rattle.clk_sched.specs.Run.{IsRun}
-use Rattle.clk_sched.specs.Pulling.{History, with_turn, EachHolds}
-use Rattle.clk_sched.specs.Session.{history_of, IsAfterRun}
-use Rattle.clk_sched.specs.Held.{heads_in, heads_of, heads_of_all}
+use Rattle.clk_sched.specs.inside.Pulling.{History, with_turn, EachHolds}
+use Rattle.clk_sched.specs.inside.Session.{history_of, IsAfterRun}
+use Rattle.clk_sched.specs.inside.Held.{heads_in, heads_of, heads_of_all}
 use Rattle.clk_sched.proofs.Blocks.{filter-flat_map}
 use Rattle.clk_sched.proofs.Pulled.{joined}
 

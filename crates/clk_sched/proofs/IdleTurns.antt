@@ -11,8 +11,8 @@ use Rattle.clk_sched.specs.Laws.RoundRobin.{beginning}
 use Rattle.clk_sched.specs.Laws.Deficit.{next_input, deficit_covers}
 use Rattle.clk_sched.specs.Laws.Stride.{passes_after, passes_of, in_rising_order}
 use Rattle.clk_sched.specs.Laws.Shaper.{has_room}
-use Rattle.clk_sched.specs.Pulling.{as_turn, with_turn}
-use Rattle.clk_sched.specs.Session.{history_of}
+use Rattle.clk_sched.specs.inside.Pulling.{as_turn, with_turn}
+use Rattle.clk_sched.specs.inside.Session.{history_of}
 use Rattle.clk_sched.proofs.Members.{In}
 
 -- turns without those that have no visits

@@ -10,11 +10,12 @@ use Rattle.clk_sched.specs.declared.session.state.State.{State}
 use Rattle.clk_sched.specs.declared.session.state.State.TheVariants.{Prio, RoundRobin, Drr, Stride, Shaper}
 use Rattle.clk_sched.specs.Limits.{most_inputs}
 use Rattle.clk_sched.specs.Tree.{Class, prio, round_robin, drr, stride, shaper, Row, end, leaf, node, Tree, queue, scheduler, root, nodes, width, HasArguments, IsWellFormed}
-use Rattle.clk_sched.specs.Places.{inputs_of, EachHasInputs, option_edges, edges_to_all, IsAfter, IsWired}
-use Rattle.clk_sched.specs.Pulling.{EachHolds}
-use Rattle.clk_sched.specs.Session.{elements, IsLaidOut}
-use Rattle.clk_sched.specs.Holds.OfClass.{Fits, Holds}
-use Rattle.clk_sched.specs.LaidOut.{elements_of, Entry, entry, entry_over, entries, Kind, kinds, AreFirst}
+use Rattle.clk_sched.specs.inside.Places.{inputs_of, EachHasInputs, option_edges, edges_to_all, IsAfter, IsWired}
+use Rattle.clk_sched.specs.inside.Pulling.{EachHolds}
+use Rattle.clk_sched.specs.Session.{elements}
+use Rattle.clk_sched.specs.inside.Session.{IsLaidOut}
+use Rattle.clk_sched.specs.inside.Holds.OfClass.{Fits, Holds}
+use Rattle.clk_sched.specs.inside.LaidOut.{elements_of, Entry, entry, entry_over, entries, Kind, kinds, AreFirst}
 
 -- how many there are of each
 

@@ -7,13 +7,14 @@ use Rattle.clk_sched.specs.declared.session.inputs.Input.{Input}
 use Rattle.clk_sched.specs.declared.session.inputs.Input.TheVariants.{Queue, Scheduler}
 use Rattle.clk_sched.specs.declared.session.inputs.Inputs.{Inputs}
 use Rattle.clk_sched.specs.declared.session.nodes.Nodes.{Nodes}
-use Rattle.clk_sched.specs.Places.{AllFit, edges_at, option_edges_to, input_at, Answers, queue_asked}
-use Rattle.clk_sched.specs.Pulling.{Keeps, Asks, AsksAll, IsPulling, IsVisitAt, added, now_of}
-use Rattle.clk_sched.specs.Looking.{Logs}
+use Rattle.clk_sched.specs.Places.{Answers}
+use Rattle.clk_sched.specs.inside.Places.{AllFit, edges_at, option_edges_to, input_at, queue_asked}
+use Rattle.clk_sched.specs.inside.Pulling.{Keeps, Asks, AsksAll, IsPulling, IsVisitAt, added, now_of}
+use Rattle.clk_sched.specs.inside.Looking.{Logs}
 use Rattle.clk_sched.proofs.Asking.{added-is, keeps-more}
 use Rattle.clk_sched.proofs.Asking.{asks-one}
 use Rattle.clk_sched.specs.Log.{asking}
-use Rattle.clk_sched.specs.Turning.{HasAsked}
+use Rattle.clk_sched.specs.inside.Turning.{HasAsked}
 
 -- a visit is logged after a pull below
 logged-whole : (a b c : Nodes) (m : ℕ) (v : Visit) → Keeps a b m → Logs b c v → c.log.items ≡ a.log.items ++ (added a b ++ v ∷ [])

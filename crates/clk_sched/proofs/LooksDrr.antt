@@ -8,10 +8,11 @@ use Rattle.clk_sched.specs.declared.session.drr.Deficits.{Deficits}
 use Rattle.clk_sched.specs.declared.session.nodes.Nodes.{Nodes}
 use Rattle.clk_sched.specs.Heads.{LooksAtHeads, head_at, is_covered}
 use Rattle.clk_sched.specs.Laws.Deficit.{next_input, deficit_covers}
-use Rattle.clk_sched.specs.Holds.Deficit.{HoldsDeficits}
-use Rattle.clk_sched.specs.Places.{Answers, at_queue, queue_asked}
-use Rattle.clk_sched.specs.Pulling.{Keeps, Asks, AsksAll, IsPulling, IsVisitAt, added, now_of}
-use Rattle.clk_sched.specs.Looking.{looking, Logs, Settles, Looks}
+use Rattle.clk_sched.specs.inside.Holds.Deficit.{HoldsDeficits}
+use Rattle.clk_sched.specs.Places.{Answers, at_queue}
+use Rattle.clk_sched.specs.inside.Places.{queue_asked}
+use Rattle.clk_sched.specs.inside.Pulling.{Keeps, Asks, AsksAll, IsPulling, IsVisitAt, added, now_of}
+use Rattle.clk_sched.specs.inside.Looking.{looking, Logs, Settles, Looks}
 use Rattle.clk_sched.proofs.Pulling.{pulling-looks}
 use Rattle.clk_sched.proofs.Asking.{added-is}
 use Rattle.clk_sched.proofs.Logged.{asks-fresh}

@@ -10,7 +10,7 @@ use Rattle.clk_sched.specs.Turns.{Turn}
 use Rattle.clk_sched.specs.Laws.{AllowsTurn}
 use Rattle.clk_sched.specs.Log.{visits_of, block_at, moment_of, turn, asks, pulls_below, result_of}
 use Rattle.clk_sched.specs.Run.{GetsResult}
-use Rattle.clk_sched.specs.Pulling.{AreApart, input_of, as_turn, asked_of, with_asked}
+use Rattle.clk_sched.specs.inside.Pulling.{AreApart, input_of, as_turn, asked_of, with_asked}
 use Rattle.clk_sched.specs.Step.{EachAllows}
 use Rattle.clk_sched.proofs.Numbers.{equal, differs}
 use Rattle.clk_sched.proofs.Members.{In, of-all, to-all, in-filter, all-weaker}

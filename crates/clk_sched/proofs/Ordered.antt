@@ -8,10 +8,10 @@ use Rattle.clk_sched.specs.declared.session.inputs.Inputs.{Inputs}
 use Rattle.clk_sched.specs.declared.session.nodes.Nodes.{Nodes}
 use Rattle.clk_sched.specs.declared.session.state.State.{State}
 use Rattle.clk_sched.specs.Tree.{Class, Row, end, leaf, node, nodes, width}
-use Rattle.clk_sched.specs.Places.{inputs_of, StandsIn, edges_of, edges_in, input_at, option_input}
-use Rattle.clk_sched.specs.Holds.OfClass.{Fits}
-use Rattle.clk_sched.specs.Pulling.{AreApart, CanPull, Keeps, TakesTurn}
-use Rattle.clk_sched.specs.Turning.{HasAskedAll, HadTurn}
+use Rattle.clk_sched.specs.inside.Places.{inputs_of, StandsIn, edges_of, edges_in, input_at, option_input}
+use Rattle.clk_sched.specs.inside.Holds.OfClass.{Fits}
+use Rattle.clk_sched.specs.inside.Pulling.{AreApart, CanPull, Keeps, TakesTurn}
+use Rattle.clk_sched.specs.inside.Turning.{HasAskedAll, HadTurn}
 use Rattle.clk_sched.proofs.Members.{all-weaker}
 use Rattle.clk_sched.proofs.Asking.{keeps-more}
 use Rattle.clk_sched.proofs.Edges.{edges-order}

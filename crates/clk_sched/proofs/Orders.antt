@@ -11,7 +11,7 @@ use Rattle.clk_sched.specs.Laws.RoundRobin.{beginning, round_robin_order}
 use Rattle.clk_sched.specs.Laws.Stride.{passes_after, passes_of, put_in_order, in_rising_order, stride_order}
 use Rattle.clk_sched.specs.Laws.Shaper.{has_room, shaper_order}
 use Rattle.clk_sched.proofs.Members.{all-weaker}
-use Rattle.clk_sched.specs.Pulling.{AreApart}
+use Rattle.clk_sched.specs.inside.Pulling.{AreApart}
 use Rattle.clk_sched.proofs.Apart.{all-map, apart-map}
 
 -- an order of some of so many inputs

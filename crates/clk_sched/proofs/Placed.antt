@@ -11,12 +11,12 @@ use Rattle.clk_sched.specs.declared.session.state.State.TheVariants.{Prio, Round
 use Rattle.clk_sched.specs.declared.session.shaper.Bucket.{Bucket}
 use Rattle.clk_sched.specs.declared.session.nodes.Nodes.{Nodes}
 use Rattle.clk_sched.specs.Tree.{Class, Row, nodes, width}
-use Rattle.clk_sched.specs.Holds.OfClass.{Fits, Holds}
-use Rattle.clk_sched.specs.Holds.Shaper.{AreBefore}
-use Rattle.clk_sched.specs.Places.{StandsIn, AllFit, edges_of}
-use Rattle.clk_sched.specs.Pulling.{Pulls, History, NodeHolds, CanPull, Keeps, EachHolds, IsBlock, IsReady, added, now_of, after}
-use Rattle.clk_sched.specs.Pulling.{TakesTurn, TurnIsTaken}
-use Rattle.clk_sched.specs.Turning.{with_state, HadTurn, WasPulled}
+use Rattle.clk_sched.specs.inside.Holds.OfClass.{Fits, Holds}
+use Rattle.clk_sched.specs.inside.Holds.Shaper.{AreBefore}
+use Rattle.clk_sched.specs.inside.Places.{StandsIn, AllFit, edges_of}
+use Rattle.clk_sched.specs.inside.Pulling.{Pulls, History, NodeHolds, CanPull, Keeps, EachHolds, IsBlock, IsReady, added, now_of, after}
+use Rattle.clk_sched.specs.inside.Pulling.{TakesTurn, TurnIsTaken}
+use Rattle.clk_sched.specs.inside.Turning.{with_state, HadTurn, WasPulled}
 use Rattle.clk_sched.proofs.Below.{holds-same}
 use Rattle.clk_sched.proofs.Numbers.{equal}
 

@@ -9,7 +9,7 @@ use Rattle.clk_sched.specs.declared.visit.Visit.{Visit}
 use Rattle.clk_sched.specs.declared.session.state.State.{State}
 use Rattle.clk_sched.specs.Tree.{Row}
 use Rattle.clk_sched.specs.Log.{visits_of}
-use Rattle.clk_sched.specs.Pulling.{Now, History, after, with_turn, EachHolds, asked_of, with_asked, IsVisitAt, IsAskedAt, IsPulling, IsUnasked}
+use Rattle.clk_sched.specs.inside.Pulling.{Now, History, after, with_turn, EachHolds, asked_of, with_asked, IsVisitAt, IsAskedAt, IsPulling, IsUnasked}
 use Rattle.clk_sched.proofs.Numbers.{equal, differs}
 use Rattle.clk_sched.proofs.Members.{In, of-all, to-all, all-append, all-weaker, all-flat_map}
 use Rattle.clk_sched.proofs.Blocks.{flat_map-same}

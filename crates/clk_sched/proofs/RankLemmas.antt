@@ -4,7 +4,7 @@ use Rattle.std.specs.List.{AllByRecursion}
 use Rattle.std.proofs.lemmas.Bool.Decides.{nat_tests}
 use Rattle.std.proofs.lemmas.List.{set_split}
 use Rattle.clk_sched.specs.declared.session.stride.Rank.{Rank}
-use Rattle.clk_sched.specs.Ranks.{greatest_stride, IsRankOf, HasRisingPasses, is_up_to, put_rank, at_pass, after_win, first_pass, less}
+use Rattle.clk_sched.specs.inside.Ranks.{greatest_stride, IsRankOf, HasRisingPasses, is_up_to, put_rank, at_pass, after_win, first_pass, less}
 use Rattle.clk_sched.proofs.Members.{all-weaker}
 use Rattle.clk_sched.proofs.Apart.{all-map}
 

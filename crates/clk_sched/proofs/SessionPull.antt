@@ -16,10 +16,11 @@ use Rattle.clk_sched.specs.Laws.Device.{IsDeviceTurn}
 use Rattle.clk_sched.specs.Results.{emitted}
 use Rattle.clk_sched.specs.Run.{IsRun}
 use Rattle.clk_sched.specs.Step.{IsOnePullMore}
-use Rattle.clk_sched.specs.Holds.Shaper.{AreBefore}
-use Rattle.clk_sched.specs.Places.{StandsIn, AreWired, AllFit}
-use Rattle.clk_sched.specs.Pulling.{NodeHolds, Keeps, Pulls, HasPulled, added, now_of, after, with_turn}
-use Rattle.clk_sched.specs.Session.{Progress, IsLaidOut, IsAfterRun, IsPulledOnce, history_of, latest_moment, newly}
+use Rattle.clk_sched.specs.inside.Holds.Shaper.{AreBefore}
+use Rattle.clk_sched.specs.inside.Places.{StandsIn, AreWired, AllFit}
+use Rattle.clk_sched.specs.inside.Pulling.{NodeHolds, Keeps, Pulls, HasPulled, added, now_of, after, with_turn}
+use Rattle.clk_sched.specs.Session.{Progress, IsPulledOnce, latest_moment, newly}
+use Rattle.clk_sched.specs.inside.Session.{IsLaidOut, IsAfterRun, history_of}
 use Rattle.clk_sched.proofs.Members.{all-weaker, all-split}
 use Rattle.clk_sched.proofs.Apart.{all-reverse}
 use Rattle.clk_sched.proofs.GoesOn.{goes-on}

@@ -7,7 +7,7 @@ use Rattle.clk_sched.specs.Limits.{most_inputs, most_levels}
 use Rattle.clk_sched.specs.Tree.{Class, Tree, queue, scheduler, root, height, width, leaves, stands_in, Row, end, leaf, node, IsWellFormed, IsSound}
 use Rattle.clk_sched.specs.Built.{built, row, leaves_of}
 use Rattle.clk_sched.specs.Session.{elements}
-use Rattle.clk_sched.specs.LaidOut.{elements_of}
+use Rattle.clk_sched.specs.inside.LaidOut.{elements_of}
 
 pub built-wide : (class : Class) (children : List Tree) → most_inputs < length children → Err TooLarge ≡ built class children
 unfolding built

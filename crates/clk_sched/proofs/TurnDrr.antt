@@ -14,12 +14,13 @@ use Rattle.clk_sched.specs.Turns.{Turn, EachAfter, visits_before}
 use Rattle.clk_sched.specs.Heads.{LooksAtHeads, EndAtPass}
 use Rattle.clk_sched.specs.Laws.Deficit.{next_input, deficit_covers}
 use Rattle.clk_sched.specs.Log.{visits_of, result_of}
-use Rattle.clk_sched.specs.Holds.Deficit.{HoldsDeficits}
-use Rattle.clk_sched.specs.Places.{AllFit, edges_of, edges_at, edges_in, input_at, Answers, queue_asked}
-use Rattle.clk_sched.specs.Pulling.{AreApart, input_of, CanPull, Keeps, AsksAll, GoesOnBy, IsUnasked, added, now_of, with_turn}
-use Rattle.clk_sched.specs.Looking.{Looks}
-use Rattle.clk_sched.specs.Pulling.{TakesTurn}
-use Rattle.clk_sched.specs.Turning.{HadTurn}
+use Rattle.clk_sched.specs.inside.Holds.Deficit.{HoldsDeficits}
+use Rattle.clk_sched.specs.Places.{Answers}
+use Rattle.clk_sched.specs.inside.Places.{AllFit, edges_of, edges_at, edges_in, input_at, queue_asked}
+use Rattle.clk_sched.specs.inside.Pulling.{AreApart, input_of, CanPull, Keeps, AsksAll, GoesOnBy, IsUnasked, added, now_of, with_turn}
+use Rattle.clk_sched.specs.inside.Looking.{Looks}
+use Rattle.clk_sched.specs.inside.Pulling.{TakesTurn}
+use Rattle.clk_sched.specs.inside.Turning.{HadTurn}
 use Rattle.clk_sched.proofs.Members.{In, to-all, all-append, all-weaker}
 use Rattle.clk_sched.proofs.Allowed.{onto, onto-append, each-join}
 use Rattle.clk_sched.proofs.Apart.{apart-map}

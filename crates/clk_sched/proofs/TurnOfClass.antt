@@ -10,8 +10,8 @@ use Rattle.clk_sched.specs.declared.session.drr.Deficits.{Deficits}
 use Rattle.clk_sched.specs.declared.session.stride.Passes.{Passes}
 use Rattle.clk_sched.specs.declared.session.shaper.Bucket.{Bucket}
 use Rattle.clk_sched.specs.Tree.{Class, prio, round_robin, drr, stride, shaper}
-use Rattle.clk_sched.specs.Holds.OfClass.{IsPrio, IsShaper}
-use Rattle.clk_sched.specs.Pulling.{TakesTurn}
+use Rattle.clk_sched.specs.inside.Holds.OfClass.{IsPrio, IsShaper}
+use Rattle.clk_sched.specs.inside.Pulling.{TakesTurn}
 use Rattle.clk_sched.proofs.Ordered.{item-there}
 
 pub prio-alone : (a b : Nodes) (x : ℕ) (now : State) (got : Option Packet) → TakesTurn a b x prio Prio now got → (class : Class) → TakesTurn a b x class Prio now got

@@ -7,10 +7,10 @@ use Rattle.clk_sched.specs.declared.session.nodes.Nodes.{Nodes}
 use Rattle.clk_sched.specs.declared.session.state.State.TheVariants.{Prio}
 use Rattle.clk_sched.specs.Tree.{prio, width}
 use Rattle.clk_sched.specs.Turns.{AsksInOrder}
-use Rattle.clk_sched.specs.Holds.OfClass.{IsPrio}
-use Rattle.clk_sched.specs.Places.{edges_of, edges_at, edges_in, input_at}
-use Rattle.clk_sched.specs.Pulling.{CanPull, AsksAll, TakesTurn, now_of, asked_in_order}
-use Rattle.clk_sched.specs.Turning.{HasAsked, HasAskedAll, WasPulled}
+use Rattle.clk_sched.specs.inside.Holds.OfClass.{IsPrio}
+use Rattle.clk_sched.specs.inside.Places.{edges_of, edges_at, edges_in, input_at}
+use Rattle.clk_sched.specs.inside.Pulling.{CanPull, AsksAll, TakesTurn, now_of, asked_in_order}
+use Rattle.clk_sched.specs.inside.Turning.{HasAsked, HasAskedAll, WasPulled}
 use Rattle.clk_sched.proofs.Orders.{IsOrderOf, priority-order}
 use Rattle.clk_sched.proofs.InOrder.{IsWithin, packet_of, turned-in-order, within-range}
 use Rattle.clk_sched.proofs.Asking.{keeps-more}

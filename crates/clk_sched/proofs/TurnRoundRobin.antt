@@ -15,10 +15,11 @@ use Rattle.clk_sched.specs.Tree.{round_robin, width}
 use Rattle.clk_sched.specs.Log.{asking}
 use Rattle.clk_sched.specs.Turns.{Turn, AsksInOrder, giver}
 use Rattle.clk_sched.specs.Laws.RoundRobin.{beginning, round_robin_order}
-use Rattle.clk_sched.specs.Places.{edges_of, edges_in, input_at, Answers, queue_asked}
-use Rattle.clk_sched.specs.Pulling.{Now, CanPull, Keeps, AsksAll, now_of, after, with_turn, added, asked_in_vain, asked_in_order}
-use Rattle.clk_sched.specs.Pulling.{TakesTurn}
-use Rattle.clk_sched.specs.Turning.{HasAskedAll, HadTurn}
+use Rattle.clk_sched.specs.Places.{Answers}
+use Rattle.clk_sched.specs.inside.Places.{edges_of, edges_in, input_at, queue_asked}
+use Rattle.clk_sched.specs.inside.Pulling.{Now, CanPull, Keeps, AsksAll, now_of, after, with_turn, added, asked_in_vain, asked_in_order}
+use Rattle.clk_sched.specs.inside.Pulling.{TakesTurn}
+use Rattle.clk_sched.specs.inside.Turning.{HasAskedAll, HadTurn}
 use Rattle.clk_sched.proofs.Members.{all-weaker, all-split}
 use Rattle.clk_sched.proofs.Asking.{IsAsking, keeps-then, keeps-more, added-then, answers-then, asks-then, asks-front, asked-vain, edges-append, vain-in, same-now, apart-split, can-go_on}
 use Rattle.clk_sched.proofs.Asked.{entry}

@@ -13,12 +13,13 @@ use Rattle.clk_sched.specs.Tree.{Class, shaper}
 use Rattle.clk_sched.specs.Turns.{Turn, AsksInOrder, giver}
 use Rattle.clk_sched.specs.Laws.Shaper.{has_room}
 use Rattle.clk_sched.specs.Log.{asking}
-use Rattle.clk_sched.specs.Holds.Shaper.{AreBefore, HoldsBucket, IsTaken, IsGivenBack, Tells, tokens_at}
-use Rattle.clk_sched.specs.Pulling.{AsksAll, added, now_of, as_turn, with_turn, asked_in_order}
-use Rattle.clk_sched.specs.Places.{edges_of, edges_at, input_at, Answers, queue_asked}
-use Rattle.clk_sched.specs.Pulling.{CanPull, Keeps, TakesTurn}
-use Rattle.clk_sched.specs.Turning.{with_state, HasAsked, WasPulled}
-use Rattle.clk_sched.specs.Tokens.{TakesToken, GivesBack}
+use Rattle.clk_sched.specs.inside.Holds.Shaper.{AreBefore, HoldsBucket, IsTaken, IsGivenBack, Tells, tokens_at}
+use Rattle.clk_sched.specs.inside.Pulling.{AsksAll, added, now_of, as_turn, with_turn, asked_in_order}
+use Rattle.clk_sched.specs.Places.{Answers}
+use Rattle.clk_sched.specs.inside.Places.{edges_of, edges_at, input_at, queue_asked}
+use Rattle.clk_sched.specs.inside.Pulling.{CanPull, Keeps, TakesTurn}
+use Rattle.clk_sched.specs.inside.Turning.{with_state, HasAsked, WasPulled}
+use Rattle.clk_sched.specs.inside.Tokens.{TakesToken, GivesBack}
 use Rattle.clk_sched.proofs.Asking.{asks-none, added-none, keeps-none, keeps-more}
 use Rattle.clk_sched.proofs.Placed.{IsPutIn, fit-set, bucket-same, some-same, is-put, still-put, pulls-put, pulls-later, fits-there, fits-each, can-put, keeps-from, keeps-put, state-there}
 use Rattle.clk_sched.proofs.TurnOfClass.{shaper-alone}

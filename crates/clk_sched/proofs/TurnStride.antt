@@ -13,11 +13,11 @@ use Rattle.clk_sched.specs.declared.session.stride.Rank.{Rank}
 use Rattle.clk_sched.specs.declared.session.stride.Passes.{Passes}
 use Rattle.clk_sched.specs.Tree.{stride}
 use Rattle.clk_sched.specs.Turns.{Turn, AsksInOrder, giver}
-use Rattle.clk_sched.specs.Holds.OfClass.{FitsPasses}
-use Rattle.clk_sched.specs.Holds.Stride.{HoldsPasses}
-use Rattle.clk_sched.specs.Places.{edges_of, edges_in, input_at}
-use Rattle.clk_sched.specs.Pulling.{Now, CanPull, AsksAll, TakesTurn, now_of, as_turn, with_turn, inputs_in, asked_in_order}
-use Rattle.clk_sched.specs.Turning.{HasAskedAll, HadTurn}
+use Rattle.clk_sched.specs.inside.Holds.OfClass.{FitsPasses}
+use Rattle.clk_sched.specs.inside.Holds.Stride.{HoldsPasses}
+use Rattle.clk_sched.specs.inside.Places.{edges_of, edges_in, input_at}
+use Rattle.clk_sched.specs.inside.Pulling.{Now, CanPull, AsksAll, TakesTurn, now_of, as_turn, with_turn, inputs_in, asked_in_order}
+use Rattle.clk_sched.specs.inside.Turning.{HasAskedAll, HadTurn}
 use Rattle.clk_sched.proofs.Orders.{IsOrderOf, stride-order}
 use Rattle.clk_sched.proofs.StridePasses.{order-is, passes-none}
 use Rattle.clk_sched.proofs.InOrder.{IsWithin, packet_of, HasTurnedBy, turned-in-order, in_order-giver, walked-inputs, with_turn-given, after-own}

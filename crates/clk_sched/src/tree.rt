@@ -60,7 +60,7 @@ impl Model for Tree {
     ghost use Rattle.clk_sched.specs.Tree.{root, IsWellFormed};
     ghost use Rattle.clk_sched.specs.Built.{levels};
     ghost use Rattle.clk_sched.specs.Limits.{most_levels};
-    ghost use Rattle.clk_sched.specs.Kept.{kept};
+    ghost use Rattle.clk_sched.specs.inside.Kept.{kept};
 
     ghost view = { λ a. kept a.node };
 
@@ -68,7 +68,7 @@ impl Model for Tree {
 
     ghost size = { levels };
 
-    ghost use Rattle.clk_sched.specs.Falls.{depth_le-levels};
+    ghost use Rattle.clk_sched.specs.inside.Falls.{depth_le-levels};
 
     ghost size_decreases = { λ a h. depth_le-levels a.node };
 }
@@ -78,7 +78,7 @@ impl Tree {
     ghost use Rattle.clk_packet.specs.declared.fault.Fault.TheVariants.{Memory};
     ghost use Rattle.std.specs.List.{AllByRecursion};
     ghost use Rattle.clk_sched.specs.Tree.{HasArguments};
-    ghost use Rattle.clk_sched.specs.Kept.{class_of};
+    ghost use Rattle.clk_sched.specs.inside.Kept.{class_of};
 
     /// The queue of this number alone.
     pub fn leaf(q: u16) -> Tree

@@ -28,9 +28,9 @@ use Rattle.clk_script.specs.declared.devices.Device.{Device}
 use Rattle.clk_script.specs.declared.router.Router.{Router}
 use Rattle.clk_script.specs.Script.{Names, most_lines, most_moment}
 use Rattle.clk_script.specs.Meaning.{Room, Setup, sender_numbers, names_of, has_several, Event, offered, pulled, command_of, happens_at, events_at, number_from, moment_in, pull_in, accepted_in, log_of, tally_after, event_text, RunsTree, CloseFirst, logs_of, WritesWith}
-use Rattle.clk_script.specs.Router.{IsNumber, sender_after, names_in, room_device, IsAt, AreDevicesAt, KeepsAs, KeepsAsAt, device_log, device_emitted, AreLogs, IsPastOf, CanSend, IsWhole, Starts, IsSteady, IsReady, given_kept, LeadsOnByPull, IsReadable}
-use Rattle.clk_script.specs.Closable.{IsClosable, IsClosableRouter}
-use Rattle.clk_script.specs.Rows.{row_asked, row_offered, row_pulled, row_of, given_by, IsToDo, CarriesOut, AnswersRows, IsClosedFrom, rows_text, closings_text, are_several, closings_of, given_first, given_of, ending_of}
+use Rattle.clk_script.specs.inside.Router.{IsNumber, sender_after, names_in, room_device, IsAt, AreDevicesAt, KeepsAs, KeepsAsAt, device_log, device_emitted, AreLogs, IsPastOf, CanSend, IsWhole, Starts, IsSteady, IsReady, given_kept, LeadsOnByPull, IsReadable}
+use Rattle.clk_script.specs.inside.Closable.{IsClosable, IsClosableRouter}
+use Rattle.clk_script.specs.inside.Rows.{row_asked, row_offered, row_pulled, row_of, given_by, IsToDo, CarriesOut, AnswersRows, IsClosedFrom, rows_text, closings_text, are_several, closings_of, given_first, given_of, ending_of}
 use Rattle.clk_script.proofs.EventLemmas.{latest-moment}
 use Rattle.clk_script.proofs.SenderLemmas.{numbers-its, alike-its}
 use Rattle.clk_script.proofs.RowLemmas.{rows-written}

@@ -14,7 +14,7 @@ use Rattle.clk_sched.specs.Choice.{PullsLeaveNoChoice}
 use Rattle.clk_tree.specs.declared.plan.parts.SenderSpec.{SenderSpec}
 use Rattle.clk_tree.specs.PlanParts.{number_of, AreRising}
 use Rattle.clk_script.specs.Meaning.{Room, Setup, names_of, Event, offered, pulled, command_of, is_at, is_of_device, happens_at, events_at, number_from, numbers_of, sends_to, answers_in, at_queue, history, IsOfDevice, NamesItsOffer, RunsTree, CanHappen}
-use Rattle.clk_script.specs.Router.{IsSound}
+use Rattle.clk_script.specs.inside.Router.{IsSound}
 use Rattle.clk_script.specs.OneMeaning.{IsWired, IsApart, DevicesAreApart}
 use Rattle.clk_script.proofs.OneMeaning.{same-events}
 

@@ -22,7 +22,7 @@ use Rattle.clk_packet.specs.declared.packet.Packet.{Packet}
 use Rattle.clk_script.specs.declared.devices.Device.{Device}
 use Rattle.clk_script.specs.declared.router.Router.{Router}
 use Rattle.clk_script.specs.Meaning.{Setup, sender_numbers, has_several, Event, pulled, happens_at, events_at, moment_in, accepted_in, evicted_in, visits_in, log_of, at_queue, history, RunsTree, pulls_from, closing_pulls, given_text, closing_text, left_after}
-use Rattle.clk_script.specs.Router.{AreQueuesAt, IsDeviceAt, AreDevicesAt, KeepsAsAt, IsAt, IsSteadyAt, departure_text, LeadsOnByDrain}
+use Rattle.clk_script.specs.inside.Router.{AreQueuesAt, IsDeviceAt, AreDevicesAt, KeepsAsAt, IsAt, IsSteadyAt, departure_text, LeadsOnByDrain}
 use Rattle.clk_script.proofs.EventLemmas.{events-pulls, pulls-elsewhere, pulls-log, pulls-add_none, pulls-history, latest-moment, RunsTree-pulls, CanHappen-pulls}
 use Rattle.clk_script.proofs.SenderLemmas.{senders-closed}
 use Rattle.clk_script.proofs.TallyLemmas.{tallies-closed}

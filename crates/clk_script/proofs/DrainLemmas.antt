@@ -8,9 +8,9 @@ use Rattle.clk_sched.specs.declared.session.departures.Departure.{Departure}
 use Rattle.clk_script.specs.declared.devices.Device.{Device}
 use Rattle.clk_script.specs.declared.router.Router.{Router}
 use Rattle.clk_script.specs.Meaning.{Setup, has_several, Event, closing_text}
-use Rattle.clk_script.specs.Router.{IsAt, IsSteady, IsSteadyAt, ChangesDevice, departure_text, LeadsOnByDrain}
-use Rattle.clk_script.specs.Closable.{IsClosableRouter}
-use Rattle.clk_script.specs.Rows.{closings_text, ClosesFirst, IsClosedAt}
+use Rattle.clk_script.specs.inside.Router.{IsAt, IsSteady, IsSteadyAt, ChangesDevice, departure_text, LeadsOnByDrain}
+use Rattle.clk_script.specs.inside.Closable.{IsClosableRouter}
+use Rattle.clk_script.specs.inside.Rows.{closings_text, ClosesFirst, IsClosedAt}
 
 -- the numbers of each device are those of a script
 pub steady-there : (devices : List Device) (d : ℕ) → AllByRecursion IsSteady devices → d < length devices → IsSteadyAt (slice_get devices d)

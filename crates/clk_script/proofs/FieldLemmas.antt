@@ -8,7 +8,7 @@ use Rattle.std.proofs.lemmas.Bool.Decides.{nat_tests}
 use Rattle.memchr.specs.Find.{IsFirstByte, is_byte}
 use Rattle.clk_packet.specs.Numbers.{has_bytes}
 use Rattle.clk_script.specs.Script.{is_blank, fields}
-use Rattle.clk_script.specs.Fields.{field_at}
+use Rattle.clk_script.specs.inside.Fields.{field_at}
 
 -- blanks at the front change no field
 pub fields-skip : (text : List ℕ) → fields text ≡ fields (drop (prefix_len is_blank text) text)

@@ -7,7 +7,7 @@ use Rattle.clk_packet.specs.Limits.{most_sender, most_length}
 use Rattle.clk_script.specs.declared.script.Command.TheVariants.{Send, Pull}
 use Rattle.clk_packet.specs.Numbers.{has_bytes, number_in}
 use Rattle.clk_script.specs.Script.{is_blank, fields, only_moment, line_of_fields, most_moment, most_device}
-use Rattle.clk_script.specs.Fields.{field_at}
+use Rattle.clk_script.specs.inside.Fields.{field_at}
 
 pub record HaveBytes (all : List (List ℕ)) : Type 0 where
   pub each : AllByRecursion (λ f. has_bytes f ≡ true) all

@@ -21,8 +21,8 @@ use Rattle.clk_script.specs.declared.devices.Device.{Device}
 use Rattle.clk_script.specs.declared.queues.Queues.{Queues}
 use Rattle.clk_script.specs.declared.router.Router.{Router}
 use Rattle.clk_script.specs.Meaning.{Room, Setup, Event, is_at, happens_at, events_at, log_of, history, plan_setup}
-use Rattle.clk_script.specs.Closable.{AreQueuesOf, IsClosable, IsClosableRouter}
-use Rattle.clk_script.specs.Router.{CanStand, packets_in, packets_at, PullsFrom, GivesAt, AreQueuesAt}
+use Rattle.clk_script.specs.inside.Closable.{AreQueuesOf, IsClosable, IsClosableRouter}
+use Rattle.clk_script.specs.inside.Router.{CanStand, packets_in, packets_at, PullsFrom, GivesAt, AreQueuesAt}
 use Rattle.clk_script.proofs.OneTree.{plan-apart, leaves-at}
 use Rattle.clk_script.proofs.Apart.{alone, history-alone}
 use Rattle.clk_script.proofs.QueueCounts.{stands-first, stands-rest, left-is}

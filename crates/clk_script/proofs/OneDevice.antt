@@ -15,7 +15,7 @@ use Rattle.clk_tree.specs.PlanParts.{number_of}
 use Rattle.clk_report.specs.Report.{report_text}
 use Rattle.clk_script.specs.Script.{closing_moment}
 use Rattle.clk_script.specs.Meaning.{Room, Setup, sender_numbers, names_of, has_several, is_of_device, Event, offered, pulled, command_of, happens_at, events_at, log_of, logs_of, tally_after, answers_in, at_queue, history, IsOfDevice, event_text, given_text, closing_text, RunsTree, CanHappen, pulls_from, Closes, CloseFirst, IsClosed, ending_text, IsMeaning}
-use Rattle.clk_script.specs.Router.{IsSound}
+use Rattle.clk_script.specs.inside.Router.{IsSound}
 use Rattle.clk_script.specs.OneDevice.{HasOneDevice, its_history, CanHappenAlone, event_line, given_line, closing_line, IsClosedAlone, ending_alone, IsMeaningAlone}
 use Rattle.clk_script.proofs.EventLemmas.{all-join}
 use Rattle.clk_script.proofs.ScriptLemmas.{each-command-sound}

@@ -24,7 +24,7 @@ use Rattle.clk_script.specs.Meaning.{Room, Setup, sender_numbers, names_of, has_
 use Rattle.clk_script.specs.declared.script.Command.{Command}
 use Rattle.clk_script.specs.Script.{commands_of, closing_moment}
 use Rattle.clk_script.specs.Examples.{two_queues}
-use Rattle.clk_script.specs.Router.{IsSound}
+use Rattle.clk_script.specs.inside.Router.{IsSound}
 use Rattle.clk_script.specs.OneMeaning.{IsWired, HasAtMostOneMeaning}
 use Rattle.clk_script.proofs.Alike.{member-between, packet-same, pulls-alike, its-moment, events-at-pull, number-at}
 use Rattle.clk_script.proofs.ScriptLemmas.{each-command-sound}

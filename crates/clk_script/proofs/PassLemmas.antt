@@ -7,7 +7,7 @@ use Rattle.std.proofs.lemmas.List.{drop_more, take_all, length-drop}
 use Rattle.clk_packet.specs.declared.fault.Fault.{Fault}
 use Rattle.clk_packet.specs.Bytes.{Wrote, AppendsFront}
 use Rattle.clk_packet.proofs.BytesLemmas.{Appends-append, Appends-none, Wrote-cut}
-use Rattle.clk_script.specs.Lines.{Passes}
+use Rattle.clk_script.specs.inside.Lines.{Passes}
 
 -- Nothing was passed on.
 pub Passes-none : (old : Option (List ℕ)) (f : ℕ) (held : List ℕ) → Passes old old f f (Ok tt) held [] held

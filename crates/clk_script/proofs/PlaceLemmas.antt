@@ -10,7 +10,7 @@ use Rattle.std.proofs.lemmas.Option.{slice_get-get_or}
 use Rattle.std.proofs.lemmas.Bool.Decides.{nat_tests}
 use Rattle.clk_packet.specs.declared.tally.Tally.{Tally}
 use Rattle.clk_tree.specs.PlanParts.{AreRising}
-use Rattle.clk_script.specs.Router.{tally_sender, IsNumber, IsPlaceOf}
+use Rattle.clk_script.specs.inside.Router.{tally_sender, IsNumber, IsPlaceOf}
 
 -- a tally that isn't there
 abbrev nobody : Tally

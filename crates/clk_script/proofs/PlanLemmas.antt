@@ -10,7 +10,7 @@ use Rattle.clk_tree.specs.PlanTree.{device_count, IsTreeOf}
 use Rattle.clk_tree.specs.PlanParts.{Queued, queues_of, number_of, AreRising, SendsWithin}
 use Rattle.clk_tree.specs.Shares.{AreTreesOf}
 use Rattle.clk_script.specs.Meaning.{Room, room_of, setup_of}
-use Rattle.clk_script.specs.Router.{CanStand, IsWhole}
+use Rattle.clk_script.specs.inside.Router.{CanStand, IsWhole}
 
 -- the trees of the first so many devices
 pub record AreMade (plan : List Planned) (n : ℕ) (trees : List Tree) : Type 0 where

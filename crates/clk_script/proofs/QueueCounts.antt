@@ -18,7 +18,7 @@ use Rattle.clk_sched.specs.Closing.{held_in_all, left_in}
 use Rattle.clk_tree.specs.declared.plan.parts.SenderSpec.{SenderSpec}
 use Rattle.clk_tree.specs.PlanParts.{number_of, AreRising}
 use Rattle.clk_script.specs.Meaning.{Room, Setup, Event, offered, pulled, is_at, is_of_device, happens_at, log_of, accepted_in, evicted_in, sends_to, answers_in, at_queue, history}
-use Rattle.clk_script.specs.Closable.{AreQueuesOf}
+use Rattle.clk_script.specs.inside.Closable.{AreQueuesOf}
 use Rattle.clk_script.proofs.Apart.{none-later}
 
 -- how many events of a queue, weighed one by one

@@ -12,8 +12,8 @@ use Rattle.clk_script.specs.declared.script.Line.TheVariants as line
 use Rattle.clk_script.specs.declared.rows.Row.{Row}
 use Rattle.clk_script.specs.declared.reading.Script.{Script}
 use Rattle.clk_script.specs.Script.{Names, lines_of, command_in, commands_of, drain_in, is_drain, closing_moment, line_fault, fault_at, first_fault, script_fault, most_bytes, most_lines}
-use Rattle.clk_script.specs.Router.{IsReadable, IsSound}
-use Rattle.clk_script.specs.Rows.{row_asked, rows_in, IsToDo, IsReadFrom, CanBeRun}
+use Rattle.clk_script.specs.inside.Router.{IsReadable, IsSound}
+use Rattle.clk_script.specs.inside.Rows.{row_asked, rows_in, IsToDo, IsReadFrom, CanBeRun}
 use Rattle.clk_script.proofs.ScriptLemmas.{readable-first, readable-drain, readable-commands, each-command-sound}
 
 -- the commands of what is left, by its first line

@@ -19,7 +19,7 @@ use Rattle.clk_script.specs.Script.{Names, most_lines, command_fault, line_fault
 use Rattle.clk_packet.specs.Bytes.{read_failures, write_failures}
 use Rattle.clk_script.specs.Meaning.{Setup, plan_setup, names_of, WritesWith, IsMeaning, MeansWith, MeansOver, MeansOverWith, Explains}
 use Rattle.clk_script.specs.declared.router.Router.{Router}
-use Rattle.clk_script.specs.Router.{names_in, Starts}
+use Rattle.clk_script.specs.inside.Router.{names_in, Starts}
 use Rattle.clk_script.proofs.AnswerLemmas.{names-its}
 
 -- one byte past the limit is enough to tell what is wrong

@@ -33,7 +33,7 @@ use Rattle.clk_script.specs.declared.queues.Queues.{Queues}
 use Rattle.clk_script.specs.declared.devices.Device.{Device}
 use Rattle.clk_script.specs.declared.router.Router.{Router}
 use Rattle.clk_script.specs.Meaning.{Room, Setup, sender_numbers, room_of, setup_of, is_at, is_of_device, Event, offered, pulled, happens_at, events_at, numbers_of, accepted_in, evicted_in, tally_after, visits_in, log_of, sends_to, answers_in, at_queue, history, RunsTree}
-use Rattle.clk_script.specs.Router.{queue_made, path_made, device_made, sender_made, sent_one_more, tally_made, room_device, noted, numbers_in, OffersTo, PullsFrom, OffersAt, GivesAt, AreQueuesAt, IsDeviceAt, AreDevicesAt, IsAt, IsWhole, Starts, ChangesDevice, kept_by, CountsHere, CountsAt, Counts, KeepsAs, KeepsAsAt, LeadsOnByPull}
+use Rattle.clk_script.specs.inside.Router.{queue_made, path_made, device_made, sender_made, sent_one_more, tally_made, room_device, noted, numbers_in, OffersTo, PullsFrom, OffersAt, GivesAt, AreQueuesAt, IsDeviceAt, AreDevicesAt, IsAt, IsWhole, Starts, ChangesDevice, kept_by, CountsHere, CountsAt, Counts, KeepsAs, KeepsAsAt, LeadsOnByPull}
 use Rattle.clk_script.proofs.EventLemmas.{events-here, events-elsewhere, RunsTree-pulled, CanHappen-offer, CanHappen-pull, log-pulled}
 use Rattle.clk_script.proofs.TallyLemmas.{tallies-offered, tallies-pulled}
 use Rattle.clk_script.proofs.SenderLemmas.{senders-pulled, senders-sent, passes-its, sends-its, numbers-its, IsSpecAt, spec-at}

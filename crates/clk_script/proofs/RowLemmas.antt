@@ -19,9 +19,9 @@ use Rattle.clk_sched.specs.Tree.{Tree}
 use Rattle.clk_script.specs.declared.devices.Device.{Device}
 use Rattle.clk_script.specs.declared.router.Router.{Router}
 use Rattle.clk_script.specs.Meaning.{Setup, has_several, Event, offered, pulled, happens_at, events_at, pull_in, evicted_in, log_of, offer_text, event_text, pull_text, IsOfDevice, RunsTree}
-use Rattle.clk_script.specs.Router.{IsAt, AreDevicesAt, device_emitted, departure_text}
+use Rattle.clk_script.specs.inside.Router.{IsAt, AreDevicesAt, device_emitted, departure_text}
 use Rattle.clk_report.specs.Devices.{lists_of}
-use Rattle.clk_script.specs.Rows.{closings_text, row_of, given_by, row_text, rows_text, given_first, given_after, fronts_after}
+use Rattle.clk_script.specs.inside.Rows.{closings_text, row_of, given_by, row_text, rows_text, given_first, given_after, fronts_after}
 
 -- the lines of events are those of their rows, where what they gave and put out comes first
 rows-lines : (several : Bool) (events : List Event) (given fronts : List Packet)

@@ -14,7 +14,7 @@ use Rattle.clk_script.specs.declared.senders.Sender.{Sender}
 use Rattle.clk_script.specs.declared.router.Router.{Router}
 use Rattle.clk_packet.specs.declared.tally.Tally.{Tally}
 use Rattle.clk_script.specs.Meaning.{Setup, sender_numbers, Event, offered, pulled, number_from, numbers_of, tally_after, sends_to, pulls_from}
-use Rattle.clk_script.specs.Router.{sent_one_more, sender_number, tally_sender, numbers_in, sender_after, IsNumber, IsAt}
+use Rattle.clk_script.specs.inside.Router.{sent_one_more, sender_number, tally_sender, numbers_in, sender_after, IsNumber, IsAt}
 use Rattle.clk_script.proofs.EventLemmas.{pulls-add_none}
 
 -- how many packets a sender has offered, with one of its own, of another, or with a pull

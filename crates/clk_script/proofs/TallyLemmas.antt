@@ -13,7 +13,7 @@ use Rattle.clk_sched.specs.declared.visit.Visit.{Visit}
 use Rattle.clk_report.specs.Report.{packets_from}
 use Rattle.clk_tree.specs.PlanParts.{AreRising}
 use Rattle.clk_script.specs.Meaning.{Event, offered, pulled, accepted_in, refused_in, evicted_in, tally_after, pulls_from}
-use Rattle.clk_script.specs.Router.{taken_in, turned_away, put_out, noted, tally_sender, IsNumber, IsPlaceOf}
+use Rattle.clk_script.specs.inside.Router.{taken_in, turned_away, put_out, noted, tally_sender, IsNumber, IsPlaceOf}
 use Rattle.clk_script.proofs.EventLemmas.{pulls-add_none}
 
 -- what an event adds to a sender's packets of some kind

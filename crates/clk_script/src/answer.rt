@@ -6,9 +6,9 @@ ghost use Rattle.clk_packet.specs.declared.fault.Fault.TheVariants.{Memory};
 ghost use Rattle.clk_report.specs.Devices.{lists_of};
 ghost use Rattle.clk_script.specs.Script.{most_lines, most_moment};
 ghost use Rattle.clk_script.specs.Meaning.{Setup, WritesWith};
-ghost use Rattle.clk_script.specs.Router.{names_in, IsReady, Starts, AreLogs};
-ghost use Rattle.clk_script.specs.Rows.{row_asked, answer_text, IsToDo, CanBeRun, AnswersRows, IsClosedFrom, IsClosedAt, closings_of};
-ghost use Rattle.clk_script.specs.Closable.{IsClosable, IsClosableRouter};
+ghost use Rattle.clk_script.specs.inside.Router.{names_in, IsReady, Starts, AreLogs};
+ghost use Rattle.clk_script.specs.inside.Rows.{row_asked, answer_text, IsToDo, CanBeRun, AnswersRows, IsClosedFrom, IsClosedAt, closings_of};
+ghost use Rattle.clk_script.specs.inside.Closable.{IsClosable, IsClosableRouter};
 
 use crate::past::Past;
 use crate::reading::Script;

@@ -3,7 +3,7 @@
 ghost use Rattle.std.specs.Prelude.{◌≡◌, ◌+◌, ◌≤◌, [], true, map, IfOk, IsOkUnless};
 ghost use Rattle.std.specs.List.{AllByRecursion};
 ghost use Rattle.clk_packet.specs.declared.fault.Fault.TheVariants.{Memory};
-ghost use Rattle.clk_script.specs.Router.{device_made, CanStand};
+ghost use Rattle.clk_script.specs.inside.Router.{device_made, CanStand};
 
 use clk_packet::Fault;
 use clk_sched::{Keeps, Kernel, Tree};

@@ -5,7 +5,7 @@ ghost use Rattle.std.specs.List.{position_or_len, prefix_len};
 ghost use Rattle.std.specs.Str.Lines.{lines, strip_carriage_return};
 ghost use Rattle.clk_packet.specs.Numbers.{number_in};
 ghost use Rattle.clk_script.specs.Script.{is_blank, fields};
-ghost use Rattle.clk_script.specs.Fields.{field_at};
+ghost use Rattle.clk_script.specs.inside.Fields.{field_at};
 
 use memchr::memchr;
 

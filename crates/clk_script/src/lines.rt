@@ -2,7 +2,7 @@
 
 ghost use Rattle.std.specs.Prelude.{◌≡◌, [], OnOk};
 ghost use Rattle.clk_packet.specs.Bytes.{Wrote};
-ghost use Rattle.clk_script.specs.Lines.{Passes};
+ghost use Rattle.clk_script.specs.inside.Lines.{Passes};
 
 use arrayvec::ArrayVec;
 use clk_packet::{Fault, Sink, write_all};

@@ -4,7 +4,7 @@ ghost use Rattle.std.specs.Prelude.{◌≡◌, ◌≤◌, ◌<◌, length, map, 
 ghost use Rattle.std.specs.List.{AllByRecursion};
 ghost use Rattle.clk_packet.specs.declared.fault.Fault.TheVariants.{Memory};
 ghost use Rattle.clk_tree.specs.PlanParts.{queued, HasCapacity};
-ghost use Rattle.clk_script.specs.Router.{queue_made, packets_at, OffersAt, GivesAt};
+ghost use Rattle.clk_script.specs.inside.Router.{queue_made, packets_at, OffersAt, GivesAt};
 
 use clk_packet::{Fault, Offered, Packet};
 use clk_ring::Ring;

@@ -4,8 +4,8 @@ ghost use Rattle.std.specs.Prelude.{◌≡◌, ◌≤◌, ◌+◌, ◌++◌, ◌
 ghost use Rattle.clk_packet.specs.declared.fault.Fault.TheVariants.{Memory};
 ghost use Rattle.clk_tree.specs.PlanParts.{AreRising};
 ghost use Rattle.clk_script.specs.Script.{lines_of, drain_in, command_fault, fault_at, first_fault, script_fault, most_lines};
-ghost use Rattle.clk_script.specs.Router.{tally_sender, named_by};
-ghost use Rattle.clk_script.specs.Rows.{rows_in, IsReadFrom, CanBeRun};
+ghost use Rattle.clk_script.specs.inside.Router.{tally_sender, named_by};
+ghost use Rattle.clk_script.specs.inside.Rows.{rows_in, IsReadFrom, CanBeRun};
 
 use crate::rows::Row;
 use crate::script::{Command, Line, MAX_BYTES, MAX_LINES};

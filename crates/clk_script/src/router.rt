@@ -3,7 +3,7 @@
 ghost use Rattle.std.specs.Prelude.{◌≡◌, map, IfOk, IsOkUnless};
 ghost use Rattle.clk_packet.specs.declared.fault.Fault.TheVariants.{Memory};
 ghost use Rattle.clk_tree.specs.PlanParts.{queued};
-ghost use Rattle.clk_script.specs.Router.{path_made};
+ghost use Rattle.clk_script.specs.inside.Router.{path_made};
 
 use crate::devices::{Device, devices_of};
 use crate::past::Past;
@@ -44,8 +44,8 @@ impl Router {
     ghost use Rattle.clk_tree.specs.PlanParts.{queued, HasCapacity};
     ghost use Rattle.clk_script.specs.Script.{most_lines, most_moment};
     ghost use Rattle.clk_script.specs.Meaning.{Setup, Event, offered, setup_of};
-    ghost use Rattle.clk_script.specs.Router.{CanStand, ChangesDevice, numbers_in, IsSteady, IsPlace, IsPlaceOf, IsSentFrom, IsReady, IsSteadyAt, IsWhole, IsAt, IsPastOf, Starts, Counts, ChangesGiven, given_kept, LeadsOnByPull, LeadsOnByDrain, KeepsAs};
-    ghost use Rattle.clk_script.specs.Closable.{IsClosableRouter};
+    ghost use Rattle.clk_script.specs.inside.Router.{CanStand, ChangesDevice, numbers_in, IsSteady, IsPlace, IsPlaceOf, IsSentFrom, IsReady, IsSteadyAt, IsWhole, IsAt, IsPastOf, Starts, Counts, ChangesGiven, given_kept, LeadsOnByPull, LeadsOnByDrain, KeepsAs};
+    ghost use Rattle.clk_script.specs.inside.Closable.{IsClosableRouter};
 
     /// The router over these parts before anything has happened, whose devices will keep their visits or won't. Fault 1 where memory is
     /// refused.

@@ -1,6 +1,6 @@
 //! What is kept of each command of a script.
 
-ghost use Rattle.clk_script.specs.Rows.{row_asked, row_offered, row_pulled};
+ghost use Rattle.clk_script.specs.inside.Rows.{row_asked, row_offered, row_pulled};
 
 use crate::script::Command;
 use clk_packet::{Offered, Packet};

@@ -9,8 +9,8 @@ ghost use Rattle.clk_sched.specs.Limits.{most_elements};
 ghost use Rattle.clk_tree.specs.PlanParts.{queued, HasCapacity};
 ghost use Rattle.clk_tree.specs.Shares.{AreTreesOf};
 ghost use Rattle.clk_report.specs.Devices.{lists_of};
-ghost use Rattle.clk_script.specs.Router.{CanStand, IsWhole, AreLogs};
-ghost use Rattle.clk_script.specs.Closable.{IsClosable};
+ghost use Rattle.clk_script.specs.inside.Router.{CanStand, IsWhole, AreLogs};
+ghost use Rattle.clk_script.specs.inside.Closable.{IsClosable};
 ghost use Rattle.clk_script.specs.Script.{most_bytes};
 ghost use Rattle.clk_script.specs.Meaning.{IsMeaning, MeansWith, Explains, setup_of, MeansOver, MeansOverWith, ExplainsPlan};
 

@@ -2,7 +2,7 @@
 
 ghost use Rattle.std.specs.Prelude.{◌≡◌, map, IfOk, IsOkUnless};
 ghost use Rattle.clk_packet.specs.declared.fault.Fault.TheVariants.{Memory};
-ghost use Rattle.clk_script.specs.Router.{sender_made};
+ghost use Rattle.clk_script.specs.inside.Router.{sender_made};
 
 use clk_packet::{Fault, Packet};
 use clk_tree::SenderSpec;
@@ -21,7 +21,7 @@ pub struct Sender {
 
 impl Sender {
     ghost use Rattle.std.specs.Prelude.{◌≡◌, ◌≤◌, ◌+◌, ◌<◌, ◌^◌};
-    ghost use Rattle.clk_script.specs.Router.{sent_one_more};
+    ghost use Rattle.clk_script.specs.inside.Router.{sent_one_more};
 
     /// Its next packet, of this length in bytes, which is counted.
     pub fn next_packet(&mut self, length: u16) -> Packet

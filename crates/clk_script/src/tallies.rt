@@ -4,7 +4,7 @@ ghost use Rattle.std.specs.Prelude.{◌≡◌, ◌==◌, false, None, map, IfSom
 ghost use Rattle.std.specs.List.{list_any};
 ghost use Rattle.clk_packet.specs.declared.fault.Fault.TheVariants.{Memory};
 ghost use Rattle.clk_tree.specs.PlanParts.{AreRising};
-ghost use Rattle.clk_script.specs.Router.{tally_made, tally_sender, noted, put_out, IsPlaceOf};
+ghost use Rattle.clk_script.specs.inside.Router.{tally_made, tally_sender, noted, put_out, IsPlaceOf};
 
 use clk_packet::{Fault, Offered, Packet, Packets, Tally};
 use clk_tree::SenderSpec;

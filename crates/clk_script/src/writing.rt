@@ -4,9 +4,9 @@ ghost use Rattle.std.specs.Prelude.{◌≡◌, ◌≤◌, ◌+◌, ◌++◌, dro
 ghost use Rattle.std.specs.List.{flat_map};
 ghost use Rattle.clk_packet.specs.Bytes.{Wrote};
 ghost use Rattle.clk_report.specs.Devices.{lists_of};
-ghost use Rattle.clk_script.specs.Lines.{Passes};
-ghost use Rattle.clk_script.specs.Rows.{row_text, rows_text, are_several, given_of, given_after, fronts_after, closings_text, answer_text};
-ghost use Rattle.clk_script.specs.Router.{departure_text};
+ghost use Rattle.clk_script.specs.inside.Lines.{Passes};
+ghost use Rattle.clk_script.specs.inside.Rows.{row_text, rows_text, are_several, given_of, given_after, fronts_after, closings_text, answer_text};
+ghost use Rattle.clk_script.specs.inside.Router.{departure_text};
 
 use crate::answer::Answer;
 use crate::lines::Lines;

@@ -10,10 +10,10 @@ use Rattle.clk_tree.specs.declared.token.Token.{Token}
 use Rattle.clk_tree.specs.Classes.{Class, class_view, numbers_in}
 use Rattle.clk_tree.specs.Limits.{most_bytes}
 use Rattle.clk_tree.specs.Source.{Declared, Element, letters, element, elements, kept}
-use Rattle.clk_tree.specs.Naming.{class_in, is_class}
-use Rattle.clk_tree.specs.Within.{IsWithin, IsDeclaredWithin, words_in}
+use Rattle.clk_tree.specs.inside.Naming.{class_in, is_class}
+use Rattle.clk_tree.specs.inside.Within.{IsWithin, IsDeclaredWithin, words_in}
 use Rattle.clk_tree.specs.Plan.{Planned, Known, known, all_known, planned_at, planned_from}
-use Rattle.clk_tree.specs.Kept.{planned, known_as, names_as}
+use Rattle.clk_tree.specs.inside.Kept.{planned, known_as, names_as}
 use Rattle.clk_tree.proofs.WidthLemmas.{width-in}
 
 -- the elements of these, from a place on

@@ -10,7 +10,7 @@ use Rattle.clk_tree.specs.declared.node.Link.{Link}
 use Rattle.clk_tree.specs.Limits.{most_port}
 use Rattle.clk_tree.specs.Declarations.{first_after, fails_at}
 use Rattle.clk_tree.specs.Ports.{role_at, is_queue, has_input, uses_output, uses_input, inputs_used, inputs_of, all_connected, output_connected, bad_port, port_twice}
-use Rattle.clk_tree.specs.Checks.{first_of, bad_link, count_to, count_at, inputs_at, has_inputs, leads_on}
+use Rattle.clk_tree.specs.inside.Checks.{first_of, bad_link, count_to, count_at, inputs_at, has_inputs, leads_on}
 use Rattle.clk_tree.specs.Ports.{target}
 use Rattle.clk_tree.proofs.FailureLemmas.{bad-port-first}
 use Rattle.clk_tree.proofs.PortLemmas.{used_again}

@@ -6,7 +6,7 @@ use Rattle.clk_tree.specs.declared.node.Node.{Node}
 use Rattle.clk_tree.specs.declared.node.Link.{Link}
 use Rattle.clk_tree.specs.Declarations.{first_after}
 use Rattle.clk_tree.specs.Ports.{bad_port, wrong_kind}
-use Rattle.clk_tree.specs.Checks.{first_of, bad_link, mixed_link}
+use Rattle.clk_tree.specs.inside.Checks.{first_of, bad_link, mixed_link}
 
 -- a failure that doesn't depend on what came before
 pub first-of : {A : Type 0} (fails : A → Option ℕ) (earlier xs : List A) → first_after (λ e x. fails x) earlier xs ≡ first_of fails xs

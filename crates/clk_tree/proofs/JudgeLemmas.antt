@@ -11,8 +11,8 @@ use Rattle.clk_tree.specs.Classes.{Class, sender, queue, prio, round_robin, drr,
 use Rattle.clk_tree.specs.Source.{Declared, Element, letters, element, elements}
 use Rattle.clk_tree.specs.Declarations.{first_after, fails_at, class_if, class_of, is_sender, is_bad_after, bad_argument}
 use Rattle.clk_tree.specs.Faults.{node, nodes_of}
-use Rattle.clk_tree.specs.Numbers.{has_number}
-use Rattle.clk_tree.specs.Naming.{class_in, is_class, node_at, may_stand, bad_at, Judges}
+use Rattle.clk_tree.specs.inside.Numbers.{has_number}
+use Rattle.clk_tree.specs.inside.Naming.{class_in, is_class, node_at, may_stand, bad_at, Judges}
 
 abbrev class_by : List ℕ → Token → List Token → Option Class
 class_by text k arguments = class_if (map (letters text) arguments) (class_named (letters text k))

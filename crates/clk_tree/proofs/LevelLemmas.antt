@@ -3,7 +3,7 @@ use Rattle.std.proofs.Common.{◌≡◌, ℕ, ◌≤◌, ◌<◌, ◌+◌, ◌-�
 use Rattle.std.specs.List.{AllByRecursion}
 use Rattle.clk_tree.specs.declared.node.Node.{Node}
 use Rattle.clk_tree.specs.declared.node.Link.{Link}
-use Rattle.clk_tree.specs.Within.{IsLinkWithin}
+use Rattle.clk_tree.specs.inside.Within.{IsLinkWithin}
 use Rattle.clk_tree.specs.Ports.{role_at, is_scheduler, next}
 use Rattle.clk_tree.specs.Size.{levels_from}
 use Rattle.clk_tree.specs.Ports.{target}

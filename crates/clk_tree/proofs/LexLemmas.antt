@@ -5,8 +5,8 @@ use Rattle.clk_tree.specs.declared.token.Token.{Token}
 use Rattle.clk_tree.specs.declared.lexer.Piece.{Piece}
 use Rattle.clk_tree.specs.declared.lexer.Piece.TheVariants as piece
 use Rattle.clk_tree.specs.Tokens.{begins_with, comment_end, piece_at, piece_len, shown, tokens_from}
-use Rattle.clk_tree.specs.Within.{IsWithin, AreWithin}
-use Rattle.clk_tree.specs.Lex.{LexedTo}
+use Rattle.clk_tree.specs.inside.Within.{IsWithin, AreWithin}
+use Rattle.clk_tree.specs.inside.Lex.{LexedTo}
 use Rattle.clk_tree.proofs.ParseLemmas.{all-append}
 
 -- the first byte of a text, and the rest

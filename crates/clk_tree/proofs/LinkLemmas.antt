@@ -8,7 +8,7 @@ use Rattle.clk_tree.specs.declared.node.Link.{Link}
 use Rattle.clk_tree.specs.Source.{Element, Wire}
 use Rattle.clk_tree.specs.Declarations.{first_after, fails_at, is_declared, unknown_end, unknown_name}
 use Rattle.clk_tree.specs.Faults.{place_of, link_of, links_of}
-use Rattle.clk_tree.specs.Naming.{place_if, unknown_ends, IsLinkBelow}
+use Rattle.clk_tree.specs.inside.Naming.{place_if, unknown_ends, IsLinkBelow}
 
 -- the first end that isn't declared
 abbrev pub unknown_from : List Element → List Wire → Option ℕ

@@ -6,7 +6,7 @@ use Rattle.std.proofs.lemmas.Nat.Bits.{bit_at-zero, bit_at_set_same, bit_at_set_
 use Rattle.std.proofs.lemmas.Bool.{cases_eq, cases_lt, and_right}
 use Rattle.std.proofs.Math.ListN.{get_or-eq_default}
 use Rattle.std.specs.Int.{bit_at}
-use Rattle.clk_tree.specs.Numbers.{is_marked}
+use Rattle.clk_tree.specs.inside.Numbers.{is_marked}
 
 abbrev with_bit : ℕ → ℕ → ℕ
 with_bit n bit = bit_or n (1 * 2 ^ bit % 2 ^ 64)

@@ -8,7 +8,7 @@ use Rattle.clk_tree.specs.declared.names.Names.{Names}
 use Rattle.clk_tree.specs.Source.{Element}
 use Rattle.clk_tree.specs.Declarations.{first_after, fails_at, is_declared, name_twice}
 use Rattle.clk_tree.specs.Faults.{place_of}
-use Rattle.clk_tree.specs.Naming.{place_in, latest_place, turned, Declares, IsTable}
+use Rattle.clk_tree.specs.inside.Naming.{place_in, latest_place, turned, Declares, IsTable}
 
 -- before the first name
 pub Declares-none : (all : List Element) (names : Names) → ((name : List ℕ) → place_in names name ≡ None) → names.count ≡ 0 → Declares all all names

@@ -11,7 +11,7 @@ use Rattle.clk_tree.specs.declared.statements.Statements.{Statements}
 use Rattle.clk_tree.specs.Diagram.{Place, start, first_name, further_name, opened, closed, next_name, after, wrong_from}
 use Rattle.clk_tree.specs.Grammar.{Hop, nothing, declaration, chain, mark, is_word, bare, listed, written_port, written_hop, IsName, IsWord}
 use Rattle.clk_tree.specs.Source.{Declared, kept, hops_from}
-use Rattle.clk_tree.specs.Parse.{begins_hop, goes_on, IsPast, Reads, ArgumentsRead, DeclarationRead, HopRead, HopsRead, StatementRead, EndRead, at_end, at_mark, EndedRead, last_name}
+use Rattle.clk_tree.specs.inside.Parse.{begins_hop, goes_on, IsPast, Reads, ArgumentsRead, DeclarationRead, HopRead, HopsRead, StatementRead, EndRead, at_end, at_mark, EndedRead, last_name}
 
 -- one after another
 pub reads-then : {p q r : Place} {ts xs us ys vs : List Token} → Reads p ts xs q us → Reads q us ys r vs → Reads p ts (xs ++ ys) r vs

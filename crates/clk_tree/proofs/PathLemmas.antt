@@ -3,9 +3,9 @@ use Rattle.std.proofs.Common.{◌≡◌, ℕ, ◌<◌, ◌+◌, ◌*◌, ◌/◌
 use Rattle.std.specs.List.{AllByRecursion}
 use Rattle.clk_tree.specs.declared.node.Node.{Node}
 use Rattle.clk_tree.specs.declared.node.Link.{Link}
-use Rattle.clk_tree.specs.Within.{IsLinkWithin}
+use Rattle.clk_tree.specs.inside.Within.{IsLinkWithin}
 use Rattle.clk_tree.specs.Ports.{next, follow}
-use Rattle.clk_tree.specs.Checks.{IsFollowed, IsComposed}
+use Rattle.clk_tree.specs.inside.Checks.{IsFollowed, IsComposed}
 use Rattle.clk_tree.proofs.LevelLemmas.{next-within}
 
 pub follow-within : (nodes : List Node) (links : List Link) (steps i : ℕ) → AllByRecursion (IsLinkWithin nodes) links → i < length nodes → follow links steps i < length nodes

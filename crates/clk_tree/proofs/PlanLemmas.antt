@@ -12,14 +12,15 @@ use Rattle.clk_tree.specs.declared.node.Link.{Link}
 use Rattle.clk_tree.specs.declared.statements.Connection.{Connection}
 use Rattle.clk_tree.specs.declared.statements.Declaration.{Declaration}
 use Rattle.clk_tree.specs.declared.plan.element.Element as plan
-use Rattle.clk_tree.specs.Kept.{planned}
+use Rattle.clk_tree.specs.inside.Kept.{planned}
 use Rattle.clk_tree.specs.Tokens.{tokens_of}
 use Rattle.clk_tree.specs.Source.{kept, elements}
 use Rattle.clk_tree.specs.Faults.{nodes_fault}
 use Rattle.clk_tree.specs.Reading.{IsNamedText, elements_of, wires_of}
 use Rattle.clk_tree.specs.declared.plan.parts.SenderSpec.{SenderSpec}
 use Rattle.clk_tree.specs.Plan.{Planned, all_known, planned_from, Denotes}
-use Rattle.clk_tree.specs.PlanTree.{IsScheduled, IsRowOf, IsTreeOf, device_sources, device_count, sources_of_device}
+use Rattle.clk_tree.specs.PlanTree.{IsRowOf, IsTreeOf, device_sources, device_count, sources_of_device}
+use Rattle.clk_tree.specs.inside.PlanTree.{IsScheduled}
 use Rattle.clk_tree.specs.PlanParts.{Queued, queues_of, leads_to, IsKept}
 use Rattle.clk_tree.specs.Shares.{AreTreesOf, AreSharedOut}
 use Rattle.clk_tree.proofs.SoundPlans.{IsRoot, plan-scheduled, plan-device}

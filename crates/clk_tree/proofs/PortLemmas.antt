@@ -7,7 +7,7 @@ use Rattle.clk_tree.specs.declared.node.Node.{Node}
 use Rattle.clk_tree.specs.declared.node.Link.{Link}
 use Rattle.clk_tree.specs.Declarations.{first_after, fails_at}
 use Rattle.clk_tree.specs.Ports.{role_at, is_queue, uses_output, uses_input, port_twice}
-use Rattle.clk_tree.specs.Checks.{again}
+use Rattle.clk_tree.specs.inside.Checks.{again}
 
 -- what a connection uses that an earlier one used
 abbrev pub used_again : List Node → List Link → Link → Option ℕ

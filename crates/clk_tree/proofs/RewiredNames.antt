@@ -15,7 +15,7 @@ use Rattle.clk_tree.specs.Classes.{Class, sender, queue, prio, round_robin, drr,
 use Rattle.clk_tree.specs.Source.{Element, Wire}
 use Rattle.clk_tree.specs.Declarations.{first_after, fails_at, is_declared, name_twice, is_missing, unknown_class, class_if, class_of, is_sender, is_bad_after, bad_argument}
 use Rattle.clk_tree.specs.Faults.{node, nodes_of, place_of, naming_fault, nodes_fault, links_of, fault_of}
-use Rattle.clk_tree.specs.Naming.{bad_at}
+use Rattle.clk_tree.specs.inside.Naming.{bad_at}
 use Rattle.clk_tree.specs.Plan.{Known, all_known, planned_at, planned_from, plan_of}
 use Rattle.clk_tree.proofs.CanonicalSource.{bare_element, BareElement, element_line, IsReadBack}
 use Rattle.clk_tree.proofs.SameWiring.{role_in, AreSameNodes}

@@ -6,7 +6,7 @@ use Rattle.std.specs.Str.{bytes_eq}
 use Rattle.std.proofs.lemmas.Slice.Eq.{bytes_eq-Decides}
 use Rattle.std.proofs.lemmas.List.{get_or_read_under}
 use Rattle.std.proofs.lemmas.Nat.{mod_below}
-use Rattle.clk_tree.specs.Naming.{mixed, slot_at, place_there}
+use Rattle.clk_tree.specs.inside.Naming.{mixed, slot_at, place_there}
 use denote.Ref.{Bor}
 
 -- what is read at the slot of a name

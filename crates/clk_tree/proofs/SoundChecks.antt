@@ -11,7 +11,7 @@ use Rattle.clk_tree.specs.declared.node.Link.{Link}
 use Rattle.clk_tree.specs.Declarations.{first_after, fails_at}
 use Rattle.clk_tree.specs.Ports.{role_at, is_source, is_queue, is_scheduler, has_output, has_input, differ, uses_output, uses_input, inputs_of, all_connected, output_connected, port_missing_from, not_a_tree_from, leads, next}
 use Rattle.clk_tree.specs.Size.{is_too_large, some_too_large, levels}
-use Rattle.clk_tree.specs.Checks.{first_of, bad_link, mixed_link}
+use Rattle.clk_tree.specs.inside.Checks.{first_of, bad_link, mixed_link}
 use Rattle.clk_tree.proofs.PortLemmas.{used_again}
 
 -- what fails nowhere

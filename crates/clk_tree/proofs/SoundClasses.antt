@@ -17,7 +17,8 @@ use Rattle.clk_tree.specs.Classes.{Class, sender, queue, prio, round_robin, drr,
 use Rattle.clk_tree.specs.Source.{Element}
 use Rattle.clk_tree.specs.Declarations.{class_if, class_of}
 use Rattle.clk_tree.specs.Ports.{is_scheduler, inputs_of, inputs_used}
-use Rattle.clk_tree.specs.PlanTree.{scheduler_over, FitsInputs, IsOver}
+use Rattle.clk_tree.specs.PlanTree.{scheduler_over}
+use Rattle.clk_tree.specs.inside.PlanTree.{FitsInputs, IsOver}
 
 -- numbers from 1 to a greatest
 abbrev pub AreTo : ℕ → List ℕ → Type 0

@@ -12,6 +12,7 @@ use Rattle.clk_tree.specs.Ports.{role_at, is_queue, is_device, has_device}
 use Rattle.clk_tree.specs.Faults.{node, nodes_of}
 use Rattle.clk_tree.specs.Plan.{Planned, Known, all_known, planned_at, planned_from, sources_of}
 use Rattle.clk_tree.specs.PlanTree as tree
+use Rattle.clk_tree.specs.inside.PlanTree.{is_queue_at}
 use Rattle.clk_tree.specs.PlanTree.{device_sources, device_count}
 use Rattle.clk_tree.proofs.SoundChecks.{at-more}
 use Rattle.clk_tree.proofs.SoundClasses.{HasLimits, class-limits}
@@ -122,5 +123,5 @@ some-device count links (e ∷ elements) i has = by_case (class_of e) has (some-
     by_case None has here later = here has
     by_case (Some class) has here later = by_class class (tree.is_device class) refl has later (sources_of count links i (role_of class))
 
-pub queue-planned : (plan : List Planned) (count : ℕ) (links : List Link) (i j : ℕ) → IsPlanned plan count links i j role.Queue → tree.is_queue_at (slice_get plan j) ≡ true
-queue-planned plan count links i j h = ap tree.is_queue_at h.at ∙ queue-class h.element.class ∙ ap (λ r. is_queue (Some r)) h.role
+pub queue-planned : (plan : List Planned) (count : ℕ) (links : List Link) (i j : ℕ) → IsPlanned plan count links i j role.Queue → is_queue_at (slice_get plan j) ≡ true
+queue-planned plan count links i j h = ap is_queue_at h.at ∙ queue-class h.element.class ∙ ap (λ r. is_queue (Some r)) h.role

@@ -15,7 +15,8 @@ use Rattle.clk_tree.specs.Ports.{role_at, is_queue, is_device, is_scheduler, inp
 use Rattle.clk_tree.specs.Faults.{nodes_of, links_of, fault_of, naming_fault, nodes_fault}
 use Rattle.clk_tree.specs.Plan.{Planned, source_at, sources_of, all_known, plan_of}
 use Rattle.clk_tree.specs.PlanTree as tree
-use Rattle.clk_tree.specs.PlanTree.{device_sources, device_count, is_queue_at, IsOver, IsScheduled}
+use Rattle.clk_tree.specs.PlanTree.{device_sources, device_count}
+use Rattle.clk_tree.specs.inside.PlanTree.{is_queue_at, IsOver, IsScheduled}
 use Rattle.clk_tree.proofs.SoundChecks.{neither}
 use Rattle.clk_tree.proofs.SoundClasses.{over-inputs}
 use Rattle.clk_tree.proofs.SoundNodes.{IsPlanned, planned-at, node-at, queue-planned, device-class, some-device}

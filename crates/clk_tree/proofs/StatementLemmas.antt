@@ -11,7 +11,7 @@ use Rattle.clk_tree.specs.declared.statements.Connection.{Connection}
 use Rattle.clk_tree.specs.Grammar.{Hop, Statement, nothing, declaration, chain, mark, bare, is_word, after_comma, listed, written_arguments, written_port, written_hop, written, ended, IsPort, IsHop, IsStatement, IsText}
 use Rattle.clk_tree.specs.Source.{Declared, given, declared_in, connected_in, hops_from}
 use Rattle.clk_tree.specs.Tokens.{tokens_from, tokens_of, shown, piece_at, piece_len}
-use Rattle.clk_tree.specs.Within.{IsNamed, IsNumber, HasNumbers, words_in}
+use Rattle.clk_tree.specs.inside.Within.{IsNamed, IsNumber, HasNumbers, words_in}
 
 -- each declaration has a name
 pub named-all : (statements : List Statement) → AllByRecursion IsNamed (flat_map declared_in statements)

@@ -3,7 +3,7 @@ use Rattle.std.proofs.Common.{◌≡◌, ℕ, ◌≤◌, ◌<◌, ◌+◌, ◌==
 use Rattle.std.proofs.lemmas.List.{length-drop, get_or_read}
 use Rattle.clk_tree.specs.declared.node.Link.{Link}
 use Rattle.clk_tree.specs.declared.tables.Inputs.{Inputs}
-use Rattle.clk_tree.specs.Checks.{count_to, inputs_at, IsInputs}
+use Rattle.clk_tree.specs.inside.Checks.{count_to, inputs_at, IsInputs}
 
 -- no more connections lead to an element than there are
 one-more : (b : Bool) (n m : ℕ) → n ≤ m → (if b then n + 1 else n) ≤ suc m

@@ -8,7 +8,7 @@ use Rattle.clk_tree.specs.declared.statements.Statements.{Statements}
 use Rattle.clk_tree.specs.Diagram.{Place, start, closed}
 use Rattle.clk_tree.specs.Grammar.{Statement, nothing, mark, bare, written, ended, IsStatement}
 use Rattle.clk_tree.specs.Source.{kept, declared_in, connected_in}
-use Rattle.clk_tree.specs.Parse.{Reads, Adds, StatementRead, EndRead, at_end, at_mark, EndedRead, EarlierRead, TextRead, ReadSoFar, earlier_read, text_read}
+use Rattle.clk_tree.specs.inside.Parse.{Reads, Adds, StatementRead, EndRead, at_end, at_mark, EndedRead, EarlierRead, TextRead, ReadSoFar, earlier_read, text_read}
 use Rattle.clk_tree.proofs.ParseLemmas.{reads-then, reads-as, all-append, flat_map-append}
 
 -- no statement yet

@@ -8,7 +8,7 @@ use Rattle.clk_tree.specs.declared.statements.Connection.{Connection}
 use Rattle.clk_tree.specs.Limits.{most_port}
 use Rattle.clk_tree.specs.Grammar.{Hop, Statement, nothing, declaration, chain, mark, bare, written_hop, written, ended, IsText}
 use Rattle.clk_tree.specs.Source.{Declared, Element, element, hops_from, connected_in, elements_in, elements, port, wire, wires}
-use Rattle.clk_tree.specs.Within.{HasPorts, words_in}
+use Rattle.clk_tree.specs.inside.Within.{HasPorts, words_in}
 use Rattle.clk_tree.specs.Faults.{link_of, links_of}
 
 hop-longer : (output input : Option Token) (name : Token) → 2 ≤ length (written_hop (record { output = output; input = input; name = name }))

@@ -15,8 +15,9 @@ use Rattle.clk_sched.specs.Built.{built, row}
 use Rattle.clk_tree.specs.Classes.{class_view}
 use Rattle.clk_tree.specs.declared.plan.element.Element.{Element}
 use Rattle.clk_tree.specs.Plan.{Planned}
-use Rattle.clk_tree.specs.Kept.{planned}
-use Rattle.clk_tree.specs.PlanTree.{is_queue, is_queue_at, queue_count, number_if, queue_number, scheduler_over, sources_at, IsNode, IsOver, IsBuilt, IsRowOf, IsScheduled}
+use Rattle.clk_tree.specs.inside.Kept.{planned}
+use Rattle.clk_tree.specs.PlanTree.{is_queue, queue_count, number_if, queue_number, scheduler_over, sources_at, IsNode, IsRowOf}
+use Rattle.clk_tree.specs.inside.PlanTree.{is_queue_at, IsOver, IsBuilt, IsScheduled}
 
 built-ok : (class : tree.Class) (children : List Tree) → length children ≤ most_inputs → height (row children) + 1 ≤ most_levels
     → built class children ≡ Ok (scheduler class (row children))

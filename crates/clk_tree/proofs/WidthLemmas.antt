@@ -11,7 +11,7 @@ use Rattle.clk_tree.specs.declared.class.ClassName.TheVariants as named
 use Rattle.clk_tree.specs.Classes.{Class, sender, queue, prio, round_robin, shaper, drr, stride, device, default_capacity, default_quantum, and_then, class_named, class_with, numbers_in, numbers_to, shaper_of}
 use Rattle.clk_tree.specs.Source.{Declared, letters}
 use Rattle.clk_tree.specs.Declarations.{class_if}
-use Rattle.clk_tree.specs.Naming.{class_in}
+use Rattle.clk_tree.specs.inside.Naming.{class_in}
 
 numbers-length : (most : ℕ) (words : List (List ℕ)) (numbers : List ℕ) → numbers_to most words ≡ Some numbers → length numbers ≡ length words
 numbers-length most [] numbers e = let same : [] ≡ numbers = cc in omega (arith, ap length same)

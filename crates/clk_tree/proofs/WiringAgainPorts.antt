@@ -10,7 +10,7 @@ use Rattle.clk_tree.specs.declared.node.Node.{Node}
 use Rattle.clk_tree.specs.declared.node.Link.{Link}
 use Rattle.clk_tree.specs.Declarations.{first_after, fails_at}
 use Rattle.clk_tree.specs.Ports.{role_at, is_source, is_queue, has_output, has_input, differ, uses_output, uses_input, inputs_of, all_connected, output_connected, bad_port, port_twice, port_missing_from, wrong_kind}
-use Rattle.clk_tree.specs.Checks.{first_of, bad_link, mixed_link, is_connected}
+use Rattle.clk_tree.specs.inside.Checks.{first_of, bad_link, mixed_link, is_connected}
 use Rattle.clk_tree.specs.Plan.{source_at}
 use Rattle.clk_tree.proofs.FailureLemmas.{bad-port-first, wrong-kind-first}
 use Rattle.clk_tree.proofs.PortLemmas.{used_again}

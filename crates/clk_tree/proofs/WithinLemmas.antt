@@ -7,7 +7,7 @@ use Rattle.clk_tree.specs.declared.token.Token.{Token}
 use Rattle.clk_tree.specs.declared.statements.Connection.{Connection}
 use Rattle.clk_tree.specs.Grammar.{Hop, Statement, nothing, declaration, chain, mark, is_word, bare, after_comma, listed, written_arguments, written_port, written_hop, written, ended, IsText}
 use Rattle.clk_tree.specs.Source.{Declared, given, declared_in, connected_in, hops_from}
-use Rattle.clk_tree.specs.Within.{IsWithin, AreWithin, IsDeclaredWithin, IsConnectedWithin}
+use Rattle.clk_tree.specs.inside.Within.{IsWithin, AreWithin, IsDeclaredWithin, IsConnectedWithin}
 use Rattle.clk_tree.proofs.ParseLemmas.{all-append, flat_map-append}
 
 pub all-first : {X : Type 0} (P : X → Type 0) (xs ys : List X) → AllByRecursion P (xs ++ ys) → AllByRecursion P xs

@@ -3,7 +3,7 @@
 ghost use Rattle.std.specs.Prelude.{◌≡◌, ◌⊎◌, Some, None, OnOk, IfErr};
 ghost use Rattle.clk_packet.specs.declared.fault.Fault.TheVariants.{Memory};
 ghost use Rattle.clk_tree.specs.Faults.{port_fault, shape_fault, nodes_fault};
-ghost use Rattle.clk_tree.specs.Checks.{IsTabled};
+ghost use Rattle.clk_tree.specs.inside.Checks.{IsTabled};
 
 use crate::ports::{bad_port, port_missing, port_twice, wrong_kind};
 use crate::shape::{has_device, not_a_tree, too_large};

@@ -6,7 +6,7 @@ ghost use Rattle.clk_packet.specs.declared.fault.Fault.TheVariants.{Memory};
 ghost use Rattle.clk_packet.specs.Numbers.{number_in};
 ghost use Rattle.clk_tree.specs.Classes.{class_named, class_with, class_view, numbers_to, numbers_in, queue_name, role_of};
 ghost use Rattle.clk_tree.specs.Source.{letters};
-ghost use Rattle.clk_tree.specs.Within.{IsWithin, AreWithin};
+ghost use Rattle.clk_tree.specs.inside.Within.{IsWithin, AreWithin};
 
 use crate::token::Token;
 use clk_packet::{Fault, Kind, number_in};

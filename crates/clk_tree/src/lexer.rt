@@ -5,7 +5,7 @@ ghost use Rattle.std.specs.List.{position_or_len, prefix_len};
 ghost use Rattle.std.specs.Str.{all_ascii_digits};
 ghost use Rattle.clk_packet.specs.declared.fault.Fault.TheVariants.{Memory};
 ghost use Rattle.clk_tree.specs.Limits.{most_bytes};
-ghost use Rattle.clk_tree.specs.Within.{AreWithin};
+ghost use Rattle.clk_tree.specs.inside.Within.{AreWithin};
 ghost use Rattle.clk_tree.specs.Tokens.{is_blank, is_word_byte, begins_with, comment_end, comment, word_symbol, word, mark_of, piece_at, piece_len, shown, tokens_of};
 
 use crate::token::{Symbol, Token};

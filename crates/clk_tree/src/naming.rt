@@ -9,9 +9,9 @@ ghost use Rattle.clk_tree.specs.Limits.{most_bytes};
 ghost use Rattle.clk_tree.specs.Source.{Declared, Element, Wire, letters, kept, elements_in, elements, word, port, wire, wires};
 ghost use Rattle.clk_tree.specs.Declarations.{name_twice, unknown_class, bad_argument, unknown_name, unknown_end, is_sender};
 ghost use Rattle.clk_tree.specs.Faults.{naming_fault, place_of, nodes_of, link_of, links_of};
-ghost use Rattle.clk_tree.specs.Naming.{Declares, IsSlotted, IsTable, Judges, Stops, class_in, is_class, may_stand, node_at, unknown_ends, IsLinkBelow};
-ghost use Rattle.clk_tree.specs.Numbers.{has_number};
-ghost use Rattle.clk_tree.specs.Within.{IsWithin, AreWithin, IsDeclaredWithin, IsConnectedWithin, IsLinkWithin, IsNamed, IsNumber, HasNumbers, words_in};
+ghost use Rattle.clk_tree.specs.inside.Naming.{Declares, IsSlotted, IsTable, Judges, Stops, class_in, is_class, may_stand, node_at, unknown_ends, IsLinkBelow};
+ghost use Rattle.clk_tree.specs.inside.Numbers.{has_number};
+ghost use Rattle.clk_tree.specs.inside.Within.{IsWithin, AreWithin, IsDeclaredWithin, IsConnectedWithin, IsLinkWithin, IsNamed, IsNumber, HasNumbers, words_in};
 
 use crate::class::{Class, ClassName, Role, letters};
 use crate::names::Names;

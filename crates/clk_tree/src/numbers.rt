@@ -16,7 +16,7 @@ pub struct Numbers {
 impl Numbers {
     ghost use Rattle.std.specs.Prelude.{◌≡◌, ℕ, ◌<◌, ◌==◌, ◌&&◌, ◌||◌, not, length, false, IfOk, IsOkUnless};
     ghost use Rattle.clk_packet.specs.declared.fault.Fault.TheVariants.{Memory};
-    ghost use Rattle.clk_tree.specs.Numbers.{is_marked, has_number};
+    ghost use Rattle.clk_tree.specs.inside.Numbers.{is_marked, has_number};
 
     /// No numbers. Fault 1 where memory is refused.
     pub fn new(alloc: Global) -> Result<Numbers, Fault>

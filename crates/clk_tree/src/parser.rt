@@ -9,9 +9,9 @@ ghost use Rattle.clk_tree.specs.declared.token.Token.{Token};
 ghost use Rattle.clk_tree.specs.Diagram.{start, further_name, declares, class, opened, argument, closed, leads_to, next_name, output_opened, input_opened, wrong_from};
 ghost use Rattle.clk_tree.specs.Grammar.{Statement, IsText, IsName, IsWord, IsPort, mark, is_word, listed, written_port};
 ghost use Rattle.clk_tree.specs.Source.{declared_in, connected_in, kept};
-ghost use Rattle.clk_tree.specs.Within.{AreWithin, IsDeclaredWithin, IsConnectedWithin};
+ghost use Rattle.clk_tree.specs.inside.Within.{AreWithin, IsDeclaredWithin, IsConnectedWithin};
 ghost use Rattle.clk_tree.specs.Faults.{offset_of};
-ghost use Rattle.clk_tree.specs.Parse.{BeginsWith, IsPast, begins_word, goes_on, Reads, Stops, NumberRead, Listed, ArgumentsRead, DeclarationRead, HopRead, HopsRead, StatementRead, EndRead, EndedRead};
+ghost use Rattle.clk_tree.specs.inside.Parse.{BeginsWith, IsPast, begins_word, goes_on, Reads, Stops, NumberRead, Listed, ArgumentsRead, DeclarationRead, HopRead, HopsRead, StatementRead, EndRead, EndedRead};
 
 use crate::statements::{Connection, Declaration, Statements};
 use crate::token::{Symbol, Token};

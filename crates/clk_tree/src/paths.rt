@@ -2,7 +2,7 @@
 
 ghost use Rattle.std.specs.Prelude.{◌≡◌, ℕ, ◌<◌, length, slice_index, IfOk, IsOkUnless};
 ghost use Rattle.clk_packet.specs.declared.fault.Fault.TheVariants.{Memory};
-ghost use Rattle.clk_tree.specs.Checks.{IsTabled, IsFollowed, IsComposed};
+ghost use Rattle.clk_tree.specs.inside.Checks.{IsTabled, IsFollowed, IsComposed};
 
 use crate::tables::Graph;
 use clk_packet::Fault;

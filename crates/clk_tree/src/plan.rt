@@ -14,7 +14,7 @@ ghost use Rattle.clk_packet.specs.declared.fault.Fault.TheVariants.{Memory};
 ghost use Rattle.clk_tree.specs.Reading.{HasFault};
 ghost use Rattle.clk_tree.specs.Plan.{Denotes};
 ghost use Rattle.clk_tree.specs.PlanTree.{device_sources};
-ghost use Rattle.clk_tree.specs.Kept.{planned};
+ghost use Rattle.clk_tree.specs.inside.Kept.{planned};
 
 use crate::checks::check_graph;
 use crate::class::Class;
@@ -45,7 +45,7 @@ impl Model for Plan {
     ghost use Rattle.std.specs.Prelude.{List, map};
     ghost use Rattle.clk_tree.specs.Plan.{Planned};
     ghost use Rattle.clk_tree.specs.PlanParts.{queued, IsKept};
-    ghost use Rattle.clk_tree.specs.Kept.{planned};
+    ghost use Rattle.clk_tree.specs.inside.Kept.{planned};
 
     ghost Value = { List Planned };
 

@@ -4,9 +4,9 @@ ghost use Rattle.std.specs.Prelude.{◌≡◌, ℕ, ◌<◌, ◌==◌, ◌&&◌,
 ghost use Rattle.clk_packet.specs.declared.fault.Fault.TheVariants.{Memory};
 ghost use Rattle.std.specs.List.{AllByRecursion};
 ghost use Rattle.clk_tree.specs.Ports.{role_at, bad_port, port_twice, port_missing, wrong_kind};
-ghost use Rattle.clk_tree.specs.Within.{IsLinkWithin};
-ghost use Rattle.clk_tree.specs.Used.{is_used, size};
-ghost use Rattle.clk_tree.specs.Checks.{IsTabled, bad_link, mixed_link, again, leads_on, has_inputs, is_connected};
+ghost use Rattle.clk_tree.specs.inside.Within.{IsLinkWithin};
+ghost use Rattle.clk_tree.specs.inside.Used.{is_used, size};
+ghost use Rattle.clk_tree.specs.inside.Checks.{IsTabled, bad_link, mixed_link, again, leads_on, has_inputs, is_connected};
 
 use crate::class::Role;
 use crate::node::{Link, Node};

@@ -6,8 +6,8 @@ ghost use Rattle.clk_packet.specs.declared.fault.Fault.TheVariants.{Memory};
 ghost use Rattle.clk_tree.specs.Limits.{most_bytes};
 ghost use Rattle.clk_tree.specs.Tokens.{tokens_of};
 ghost use Rattle.clk_tree.specs.Source.{kept};
-ghost use Rattle.clk_tree.specs.Naming.{class_in, is_class};
-ghost use Rattle.clk_tree.specs.Within.{IsDeclaredWithin, IsLinkWithin, HasPorts, words_in};
+ghost use Rattle.clk_tree.specs.inside.Naming.{class_in, is_class};
+ghost use Rattle.clk_tree.specs.inside.Within.{IsDeclaredWithin, IsLinkWithin, HasPorts, words_in};
 ghost use Rattle.clk_tree.specs.Reading.{IsNamedText, HasFault};
 
 use crate::lexer::tokens_of;

@@ -8,7 +8,7 @@ const MOST_PORT: u32 = 65_535;
 impl Role {
     ghost use Rattle.std.specs.Prelude.{◌≡◌, Some};
     ghost use Rattle.clk_tree.specs.Ports.{is_source, is_queue, is_device, is_scheduler, has_output, has_input};
-    ghost use Rattle.clk_tree.specs.Checks.{inputs_with};
+    ghost use Rattle.clk_tree.specs.inside.Checks.{inputs_with};
 
     /// Whether it has a push output.
     pub fn is_source(self) -> bool

@@ -6,8 +6,8 @@ ghost use Rattle.clk_packet.specs.declared.fault.Fault.TheVariants.{Memory};
 ghost use Rattle.clk_sched.specs.Tree.{is_number};
 ghost use Rattle.clk_tree.specs.Limits.{most_bytes};
 ghost use Rattle.clk_tree.specs.Ports.{role_at, next};
-ghost use Rattle.clk_tree.specs.Within.{IsLinkWithin, HasPorts};
-ghost use Rattle.clk_tree.specs.Checks.{IsTargets, IsInputs, IsTabled, inputs_at};
+ghost use Rattle.clk_tree.specs.inside.Within.{IsLinkWithin, HasPorts};
+ghost use Rattle.clk_tree.specs.inside.Checks.{IsTargets, IsInputs, IsTabled, inputs_at};
 ghost use Rattle.clk_tree.specs.Ports.{target};
 
 use crate::class::Role;

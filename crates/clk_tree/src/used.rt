@@ -2,8 +2,8 @@
 
 ghost use Rattle.std.specs.Prelude.{◌≡◌, ℕ, ◌<◌, ◌==◌, ◌&&◌, ◌||◌, not, length, false, IfOk, OnOk, IsOkUnless};
 ghost use Rattle.clk_packet.specs.declared.fault.Fault.TheVariants.{Memory};
-ghost use Rattle.clk_tree.specs.Checks.{IsTabled};
-ghost use Rattle.clk_tree.specs.Used.{is_used, size};
+ghost use Rattle.clk_tree.specs.inside.Checks.{IsTabled};
+ghost use Rattle.clk_tree.specs.inside.Used.{is_used, size};
 
 use crate::tables::Graph;
 use clk_packet::Fault;

@@ -3,7 +3,7 @@
 ghost use Rattle.std.specs.Prelude.{◌≡◌, ◌⊎◌, ◌<◌, ◌++◌, ◌∷◌, [], map, IfOk, IfErr, OnOk, IsOkUnless};
 ghost use Rattle.std.specs.List.{AllByRecursion};
 ghost use Rattle.clk_packet.specs.declared.fault.Fault.TheVariants.{Memory};
-ghost use Rattle.clk_drain.specs.Handed.{IsReadyToClose, AreApartDevices, AreSettledTogether, IsFaultOfClosing};
+ghost use Rattle.clk_drain.specs.inside.Handed.{IsReadyToClose, AreApartDevices, AreSettledTogether, IsFaultOfClosing};
 
 use crate::closing::{add, close};
 use crate::drained::Drained;

@@ -21,7 +21,7 @@ pub struct Consumer<'a, W: Wait> {
 }
 
 impl<'a, W: Wait> Model for Consumer<'a, W> {
-    ghost use Rattle.clk_drain.specs.Threads.{Feed};
+    ghost use Rattle.clk_drain.specs.inside.Threads.{Feed};
     ghost use Rattle.std.specs.Coded.{codes};
     ghost use Rattle.clk_sched.specs.Stored.{tree_code};
 
@@ -38,7 +38,7 @@ impl<'a, W: Wait> Consumer<'a, W> {
     ghost use Rattle.clk_sched.specs.Kinds.{pulls_made};
     ghost use Rattle.clk_sched.specs.Limits.{end_of_pulls};
     ghost use Rattle.clk_drain.specs.Line.{AreLinesOf};
-    ghost use Rattle.clk_drain.specs.Threads.{IsUnpulled, IsPulled, IsPulledAt};
+    ghost use Rattle.clk_drain.specs.inside.Threads.{IsUnpulled, IsPulled, IsPulledAt};
 
     /// Pulls the device once each step, as often as it may at most, or until all producers are through.
     ///

@@ -24,7 +24,7 @@ pub struct Course<'a, W: Wait, G: Gate> {
 impl<'a, W: Wait, G: Gate> Model for Course<'a, W, G> {
     ghost use Rattle.std.specs.Prelude.{◌≤◌};
     ghost use Rattle.clk_drain.specs.Limits.{most_step, most_limit};
-    ghost use Rattle.clk_drain.specs.Threads.{Terms};
+    ghost use Rattle.clk_drain.specs.inside.Threads.{Terms};
 
     ghost Value = { Terms };
 

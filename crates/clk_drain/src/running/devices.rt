@@ -6,8 +6,8 @@ ghost use Rattle.clk_packet.specs.declared.fault.Fault.TheVariants.{Memory};
 ghost use Rattle.clk_tree.specs.PlanTree.{device_count};
 ghost use Rattle.clk_tree.specs.PlanParts.{queues_of};
 ghost use Rattle.clk_drain.specs.Run.{queues_at};
-ghost use Rattle.clk_drain.specs.Opening.{AreOpenAs};
-ghost use Rattle.clk_drain.specs.Devices.{IsOpenOf, AreOpenFrom, KeepVisits};
+ghost use Rattle.clk_drain.specs.inside.Opening.{AreOpenAs};
+ghost use Rattle.clk_drain.specs.inside.Devices.{IsOpenOf, AreOpenFrom, KeepVisits};
 
 use crate::device::DeviceSession;
 use crate::running::opening::{Ends, LeafQueue, open_queue};

@@ -4,7 +4,7 @@ ghost use Rattle.std.specs.Prelude.{◌≡◌, ◌++◌, ◌∷◌, [], map, IfO
 ghost use Rattle.std.specs.List.{flat_map};
 ghost use Rattle.clk_packet.specs.declared.fault.Fault.TheVariants.{Memory};
 ghost use Rattle.clk_ruled.specs.Closing.{AreSeatsOf};
-ghost use Rattle.clk_drain.specs.Handed.{FitQueues, FitsQueues, AreTapsOf, AreSeatsOfEach, lines_from, seats_given, feed_from, feeds_from};
+ghost use Rattle.clk_drain.specs.inside.Handed.{FitQueues, FitsQueues, AreTapsOf, AreSeatsOfEach, lines_from, seats_given, feed_from, feeds_from};
 
 use crate::running::consumer::Consumer;
 use crate::running::inlets::{Inlet, Inlets};

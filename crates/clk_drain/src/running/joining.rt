@@ -3,7 +3,7 @@
 ghost use Rattle.std.specs.Prelude.{◌≡◌, ◌≤◌, map, length, take, drop, IfOk, OnOk, IsOkUnless};
 ghost use Rattle.std.specs.Vec.Iter.{into_iter_items};
 ghost use Rattle.clk_packet.specs.declared.fault.Fault.TheVariants.{Memory};
-ghost use Rattle.clk_drain.specs.Handed.{AreJoinable, AreAllJoinable, joined_lines, joined_feeds, seat_count};
+ghost use Rattle.clk_drain.specs.inside.Handed.{AreJoinable, AreAllJoinable, joined_lines, joined_feeds, seat_count};
 
 use crate::device::DeviceSession;
 use crate::line::Line;
@@ -22,7 +22,7 @@ pub struct Pulled {
 }
 
 impl Model for Pulled {
-    ghost use Rattle.clk_drain.specs.Handed.{PulledLists};
+    ghost use Rattle.clk_drain.specs.inside.Handed.{PulledLists};
     ghost use Rattle.std.specs.Coded.{codes};
     ghost use Rattle.clk_sched.specs.Stored.{tree_code};
 
@@ -41,7 +41,7 @@ pub struct Closing {
 }
 
 impl Model for Closing {
-    ghost use Rattle.clk_drain.specs.Threads.{Feed};
+    ghost use Rattle.clk_drain.specs.inside.Threads.{Feed};
     ghost use Rattle.std.specs.Coded.{codes};
     ghost use Rattle.clk_sched.specs.Stored.{tree_code};
 

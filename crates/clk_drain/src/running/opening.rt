@@ -5,7 +5,8 @@ ghost use Rattle.clk_packet.specs.declared.fault.Fault.TheVariants.{Memory};
 ghost use Rattle.clk_packet.specs.Trace.{packets_in, most_records};
 ghost use Rattle.clk_tree.specs.PlanParts.{queued, HasCapacity};
 ghost use Rattle.clk_drain.specs.Senders.{Rise};
-ghost use Rattle.clk_drain.specs.Opening.{shared_at, rooms_for, IsAdded};
+ghost use Rattle.clk_drain.specs.Opening.{shared_at};
+ghost use Rattle.clk_drain.specs.inside.Opening.{rooms_for, IsAdded};
 
 use crate::device::DeviceSession;
 use clk_packet::{Fault, Traces};
@@ -36,7 +37,7 @@ impl Model for Ends {
     ghost use Rattle.std.specs.Prelude.{map};
     ghost use Rattle.std.specs.Coded.{codes};
     ghost use Rattle.clk_sched.specs.Stored.{tree_code};
-    ghost use Rattle.clk_drain.specs.Handed.{EndLists};
+    ghost use Rattle.clk_drain.specs.inside.Handed.{EndLists};
 
     ghost Value = { EndLists };
 

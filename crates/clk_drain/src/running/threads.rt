@@ -7,8 +7,8 @@ ghost use Rattle.clk_packet.specs.Trace.{sent_by};
 ghost use Rattle.clk_ruled.specs.Queue.{IsSeatOf};
 ghost use Rattle.clk_ruled.specs.Closing.{IsClosedOf};
 ghost use Rattle.clk_drain.specs.Closing.{AreOffered};
-ghost use Rattle.clk_drain.specs.Threads.{IsUnused, HaveSentAll, IsUnpulled, IsPulled, ArePulled};
-ghost use Rattle.clk_drain.specs.Handed.{pulled_of, HavePulled};
+ghost use Rattle.clk_drain.specs.inside.Threads.{IsUnused, HaveSentAll, IsUnpulled, IsPulled, ArePulled};
+ghost use Rattle.clk_drain.specs.inside.Handed.{pulled_of, HavePulled};
 
 use crate::gate::Gate;
 use crate::running::consumer::Consumer;
@@ -49,7 +49,7 @@ pub struct Pulling<'a, W: Wait, G: Gate> {
 impl<'a, W: Wait, G: Gate> Promise<Result<Consumer<'a, W>, Fault>> for Pulling<'a, W, G> {
     ghost use Rattle.std.specs.Prelude.{IfOk, IsOkUnless};
     ghost use Rattle.clk_packet.specs.declared.fault.Fault.TheVariants.{Memory};
-    ghost use Rattle.clk_drain.specs.Threads.{IsPulled};
+    ghost use Rattle.clk_drain.specs.inside.Threads.{IsPulled};
 
     ghost kept_by = { λ p result. IfOk result (IsPulled p.course.value p.consumer.value) × IsOkUnless result Memory };
 }

@@ -2,7 +2,7 @@
 
 ghost use Rattle.std.specs.Prelude.{◌≡◌, ◌≤◌, None, IfSome, MatchResult};
 ghost use Rattle.clk_packet.specs.declared.fault.Fault.TheVariants.{Memory};
-ghost use Rattle.clk_packet.specs.Plain.{IsPlainLine};
+ghost use Rattle.clk_packet.specs.inside.Plain.{IsPlainLine};
 ghost use Rattle.clk_packet.specs.Trace.{first_fault, most_records, packets_in, pairs_of, records_of, sent, sent_by, shown};
 
 use crate::fault::Fault;

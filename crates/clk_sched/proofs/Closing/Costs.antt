@@ -12,7 +12,7 @@ use Rattle.clk_sched.specs.Turns.{EachAfter, IsPlain}
 use Rattle.clk_sched.specs.Heads.{head_at, is_covered}
 use Rattle.clk_sched.specs.Log.{asks}
 use Rattle.clk_sched.specs.Laws.Deficit.{arrives, arrivals, bytes_of, passed_bytes, quantum_at}
-use Rattle.clk_sched.specs.Pulling.{AreApart, input_of}
+use Rattle.clk_sched.specs.inside.Pulling.{AreApart, input_of}
 use Rattle.clk_sched.proofs.Numbers.{equal, differs, same}
 use Rattle.clk_sched.proofs.Members.{In, of-all, filter-in}
 use Rattle.clk_sched.proofs.Allowed.{onto, each-split}

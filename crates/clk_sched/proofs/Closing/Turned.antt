@@ -15,7 +15,7 @@ use Rattle.clk_sched.specs.Laws.{AllowsTurn, manner}
 use Rattle.clk_sched.specs.Laws.Stride.{passes_of, put_in_order, in_rising_order}
 use Rattle.clk_sched.specs.Laws.Shaper.{has_room}
 use Rattle.clk_sched.specs.Laws.Deficit.{next_input, deficit_covers}
-use Rattle.clk_sched.specs.Pulling.{AreApart, input_of}
+use Rattle.clk_sched.specs.inside.Pulling.{AreApart, input_of}
 use Rattle.clk_sched.proofs.Members.{all-weaker}
 use Rattle.clk_sched.proofs.Allowed.{AreWithin}
 use Rattle.clk_sched.proofs.HeadsByManner.{PassesLast, turn-last}

@@ -2,7 +2,7 @@
 
 ghost use Rattle.std.specs.Prelude.{◌≡◌, ◌+◌, ◌^◌, ◌<◌, ◌≤◌, length, map, slice_get, slice_set, Some, IfOk};
 ghost use Rattle.clk_sched.specs.Limits.{most_inputs, most_quantum};
-ghost use Rattle.clk_sched.specs.Holds.Served.{AreQuantaWithin, AreDeficitsWithin, waiting, with_quantum};
+ghost use Rattle.clk_sched.specs.inside.Holds.Served.{AreQuantaWithin, AreDeficitsWithin, waiting, with_quantum};
 ghost use Rattle.clk_sched.specs.declared.session.drr.Served.{Served};
 
 use crate::ask::Ask;
@@ -34,7 +34,7 @@ pub struct Deficits {
 }
 
 impl Served {
-    ghost use Rattle.clk_sched.specs.Holds.Served.{settled, covers};
+    ghost use Rattle.clk_sched.specs.inside.Holds.Served.{settled, covers};
 
     fn waiting(quantum: u32) -> Served
         ensures { result ≡ waiting quantum }
@@ -80,15 +80,16 @@ impl Deficits {
     ghost use Rattle.clk_sched.specs.declared.visit.Visit.{Visit};
     ghost use Rattle.clk_sched.specs.Heads.{head_at, is_covered};
     ghost use Rattle.clk_sched.specs.Laws.Deficit.{next_input, deficit_covers};
-    ghost use Rattle.clk_sched.specs.Holds.Deficit.{HoldsDeficits};
-    ghost use Rattle.clk_sched.specs.Held.{heads_in};
+    ghost use Rattle.clk_sched.specs.inside.Holds.Deficit.{HoldsDeficits};
+    ghost use Rattle.clk_sched.specs.inside.Held.{heads_in};
     ghost use Rattle.std.specs.Global.{Box};
     ghost use Rattle.clk_sched.specs.declared.session.drr.Deficits.{Deficits};
-    ghost use Rattle.clk_sched.specs.Places.{edges_of, edges_at, input_at, Answers, queue_asked};
-    ghost use Rattle.clk_sched.specs.Pulling.{CanPull, Keeps, added};
-    ghost use Rattle.clk_sched.specs.Turning.{WasPulled, HadTurn};
-    ghost use Rattle.clk_sched.specs.Holds.OfClass.{IsDrr};
-    ghost use Rattle.clk_sched.specs.Looking.{looking, Logs, Settles, Looks};
+    ghost use Rattle.clk_sched.specs.Places.{Answers};
+    ghost use Rattle.clk_sched.specs.inside.Places.{edges_of, edges_at, input_at, queue_asked};
+    ghost use Rattle.clk_sched.specs.inside.Pulling.{CanPull, Keeps, added};
+    ghost use Rattle.clk_sched.specs.inside.Turning.{WasPulled, HadTurn};
+    ghost use Rattle.clk_sched.specs.inside.Holds.OfClass.{IsDrr};
+    ghost use Rattle.clk_sched.specs.inside.Looking.{looking, Logs, Settles, Looks};
     ghost use Rattle.clk_sched.specs.declared.session.state.State.TheVariants.{Drr};
 
     /// What a DRRSched with these quanta, one for each input, holds before its first visit.

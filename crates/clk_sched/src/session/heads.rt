@@ -3,7 +3,7 @@
 ghost use Rattle.std.specs.Prelude.{◌≡◌, IfOk, IsOkUnless};
 ghost use Rattle.clk_sched.specs.Tree.{Tree};
 ghost use Rattle.clk_sched.specs.Results.{heads};
-ghost use Rattle.clk_sched.specs.Session.{IsAfterRun};
+ghost use Rattle.clk_sched.specs.inside.Session.{IsAfterRun};
 
 use crate::session::nodes::Nodes;
 use crate::session::state::State;

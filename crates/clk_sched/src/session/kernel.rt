@@ -27,7 +27,7 @@ impl Model for Kernel {
     ghost use Rattle.std.specs.Prelude.{◌≡◌, ◌<◌, ◌≤◌, true, length};
     ghost use Rattle.clk_sched.specs.Limits.{end_of_moments};
     ghost use Rattle.clk_sched.specs.Tree.{leaves_distinct};
-    ghost use Rattle.clk_sched.specs.Session.{IsAfterRun};
+    ghost use Rattle.clk_sched.specs.inside.Session.{IsAfterRun};
     ghost use Rattle.clk_sched.specs.Kinds.{AnySession};
     ghost use Rattle.clk_sched.specs.Results.{emitted as came_out};
     ghost use Rattle.std.specs.Coded.{codes};

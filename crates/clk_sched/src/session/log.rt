@@ -16,7 +16,7 @@ pub struct Log {
 impl Model for Log {
     ghost use Rattle.std.specs.Prelude.{◌≡◌, ◌+◌, ◌≤◌, true, drop, length};
     ghost use Rattle.std.specs.Vec.{vec_len, vec_capacity};
-    ghost use Rattle.clk_sched.specs.Logged.{Logged};
+    ghost use Rattle.clk_sched.specs.inside.Logged.{Logged};
 
     ghost Value = { Logged };
 
@@ -28,7 +28,7 @@ impl Model for Log {
 
 impl Log {
     ghost use Rattle.std.specs.Prelude.{◌≡◌, ◌+◌, ◌^◌, ◌<◌, ◌≤◌, true, false, [], drop, length, OnOk, OnErr, IsOk};
-    ghost use Rattle.clk_sched.specs.Logged.{with_visit, with_room, with_none};
+    ghost use Rattle.clk_sched.specs.inside.Logged.{with_visit, with_room, with_none};
 
     /// No visits so far, of which each will be kept, or none.
     pub fn new(alloc: Global, keeps: bool) -> Log

@@ -33,9 +33,10 @@ impl Nodes {
     ghost use Rattle.std.specs.List.{AllByRecursion, range_with_len};
     ghost use Rattle.clk_sched.specs.declared.visit.Visit.{Visit};
     ghost use Rattle.clk_sched.specs.declared.session.state.State.TheVariants.{Prio};
-    ghost use Rattle.clk_sched.specs.Places.{edges_of, edges_at, edges_in, input_at, Answers, queue_asked};
-    ghost use Rattle.clk_sched.specs.Pulling.{CanPull, Keeps, Asks, added, inputs_in};
-    ghost use Rattle.clk_sched.specs.Turning.{with_state, HasAsked, HasAskedAll, WasPulled};
+    ghost use Rattle.clk_sched.specs.Places.{Answers};
+    ghost use Rattle.clk_sched.specs.inside.Places.{edges_of, edges_at, edges_in, input_at, queue_asked};
+    ghost use Rattle.clk_sched.specs.inside.Pulling.{CanPull, Keeps, Asks, added, inputs_in};
+    ghost use Rattle.clk_sched.specs.inside.Turning.{with_state, HasAsked, HasAskedAll, WasPulled};
 
     /// Pulls a node, as its class does, and answers its result.
     // A Shaper is told first, and what it does stands in here, so that a chain of Shapers is one short call each. What the other

@@ -1,10 +1,10 @@
 //! The pull of a PrioSched, and of the device, which is one over one input.
 
 ghost use Rattle.std.specs.Prelude.{◌≡◌, IfSome, length, slice_get};
-ghost use Rattle.clk_sched.specs.Places.{edges_of};
-ghost use Rattle.clk_sched.specs.Holds.OfClass.{IsPrio};
-ghost use Rattle.clk_sched.specs.Pulling.{CanPull};
-ghost use Rattle.clk_sched.specs.Turning.{WasPulled};
+ghost use Rattle.clk_sched.specs.inside.Places.{edges_of};
+ghost use Rattle.clk_sched.specs.inside.Holds.OfClass.{IsPrio};
+ghost use Rattle.clk_sched.specs.inside.Pulling.{CanPull};
+ghost use Rattle.clk_sched.specs.inside.Turning.{WasPulled};
 
 use crate::ask::Ask;
 use crate::session::nodes::Nodes;

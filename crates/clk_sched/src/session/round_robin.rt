@@ -13,10 +13,10 @@ pub struct Beginning {
 
 impl Beginning {
     ghost use Rattle.std.specs.Prelude.{◌<◌, length, IfSome, slice_get};
-    ghost use Rattle.clk_sched.specs.Places.{edges_of};
-    ghost use Rattle.clk_sched.specs.Pulling.{CanPull};
-    ghost use Rattle.clk_sched.specs.Turning.{WasPulled, HadTurn};
-    ghost use Rattle.clk_sched.specs.Holds.OfClass.{IsRoundRobin};
+    ghost use Rattle.clk_sched.specs.inside.Places.{edges_of};
+    ghost use Rattle.clk_sched.specs.inside.Pulling.{CanPull};
+    ghost use Rattle.clk_sched.specs.inside.Turning.{WasPulled, HadTurn};
+    ghost use Rattle.clk_sched.specs.inside.Holds.OfClass.{IsRoundRobin};
     ghost use Rattle.clk_sched.specs.declared.session.state.State.TheVariants.{RoundRobin};
 
     /// Pulls a RoundRobinSched.

@@ -27,7 +27,7 @@ impl Bucket {
     ghost use Rattle.std.specs.Prelude.{◌≡◌, ℕ, nat_lt, List, [], ◌∷◌, None, MatchBool};
     ghost use Rattle.clk_sched.specs.Turns.{Turn, giver};
     ghost use Rattle.clk_sched.specs.Laws.Shaper.{has_room};
-    ghost use Rattle.clk_sched.specs.Holds.Shaper.{AreBefore, HoldsBucket, IsTaken, IsGivenBack, tokens_at};
+    ghost use Rattle.clk_sched.specs.inside.Holds.Shaper.{AreBefore, HoldsBucket, IsTaken, IsGivenBack, tokens_at};
 
     /// A full bucket.
     pub fn new(rate: u32, burst: u32) -> Bucket
@@ -79,11 +79,11 @@ impl Bucket {
     }
 
     ghost use Rattle.std.specs.Prelude.{length, slice_get, IfSome};
-    ghost use Rattle.clk_sched.specs.Holds.OfClass.{IsShaper};
-    ghost use Rattle.clk_sched.specs.Places.{edges_of};
-    ghost use Rattle.clk_sched.specs.Pulling.{CanPull};
-    ghost use Rattle.clk_sched.specs.Turning.{WasPulled};
-    ghost use Rattle.clk_sched.specs.Tokens.{TakesToken, GivesBack};
+    ghost use Rattle.clk_sched.specs.inside.Holds.OfClass.{IsShaper};
+    ghost use Rattle.clk_sched.specs.inside.Places.{edges_of};
+    ghost use Rattle.clk_sched.specs.inside.Pulling.{CanPull};
+    ghost use Rattle.clk_sched.specs.inside.Turning.{WasPulled};
+    ghost use Rattle.clk_sched.specs.inside.Tokens.{TakesToken, GivesBack};
 
     /// Pulls a Shaper, which asks for a packet with a token alone.
     // Its bucket stays in its place: nothing of it is needed while the input is asked.

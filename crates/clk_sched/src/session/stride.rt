@@ -4,7 +4,7 @@ ghost use Rattle.std.specs.Prelude.{◌≡◌, ◌≤◌, ◌<◌, ◌+◌, ◌^
 ghost use Rattle.std.specs.List.{All, AllByRecursion, range_with_len};
 ghost use Rattle.clk_sched.specs.Limits.{most_tickets};
 ghost use Rattle.clk_sched.specs.Laws.Stride.{stride_of};
-ghost use Rattle.clk_sched.specs.Ranks.{greatest_stride, IsRankOf, HasRisingPasses, HasRisingPasses-prop, is_up_to, put_rank, after_win, first_pass, first_rank, less};
+ghost use Rattle.clk_sched.specs.inside.Ranks.{greatest_stride, IsRankOf, HasRisingPasses, HasRisingPasses-prop, is_up_to, put_rank, after_win, first_pass, first_rank, less};
 
 use crate::ask::Ask;
 use crate::session::nodes::Nodes;
@@ -47,7 +47,7 @@ impl Passes {
     ghost use Rattle.std.specs.Prelude.{ℕ, [], ◌∷◌, List, slice_get, IfSome};
     ghost use Rattle.clk_sched.specs.declared.visit.Visit.{Visit};
     ghost use Rattle.clk_sched.specs.Turns.{Turn, giver};
-    ghost use Rattle.clk_sched.specs.Holds.Stride.{HoldsPasses};
+    ghost use Rattle.clk_sched.specs.inside.Holds.Stride.{HoldsPasses};
 
     /// The passes before the first pull, by the tickets of each input.
     ///
@@ -93,13 +93,13 @@ impl Passes {
         take_least(row);
     }
 
-    ghost use Rattle.clk_sched.specs.Places.{edges_of};
-    ghost use Rattle.clk_sched.specs.Pulling.{CanPull};
-    ghost use Rattle.clk_sched.specs.Turning.{WasPulled, HadTurn};
+    ghost use Rattle.clk_sched.specs.inside.Places.{edges_of};
+    ghost use Rattle.clk_sched.specs.inside.Pulling.{CanPull};
+    ghost use Rattle.clk_sched.specs.inside.Turning.{WasPulled, HadTurn};
     ghost use Rattle.std.specs.Global.{Box};
     ghost use Rattle.clk_sched.specs.declared.session.stride.Passes.{Passes};
     ghost use Rattle.clk_sched.specs.declared.session.state.State.TheVariants.{Stride};
-    ghost use Rattle.clk_sched.specs.Holds.OfClass.{FitsPasses, IsStride};
+    ghost use Rattle.clk_sched.specs.inside.Holds.OfClass.{FitsPasses, IsStride};
 
     /// Pulls a StrideSched.
     #[cycle(pull)]

@@ -77,7 +77,7 @@ fn least_quantum(trees: &[Tree]) -> Option<u32>
 
 impl Class {
     ghost use Rattle.clk_sched.specs.Bound.{quanta_of};
-    ghost use Rattle.clk_sched.specs.Kept.{class_of};
+    ghost use Rattle.clk_sched.specs.inside.Kept.{class_of};
 
     // The least quantum, which a DRRSched alone has.
     fn least_quantum(&self) -> Option<u32>

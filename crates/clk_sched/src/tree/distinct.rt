@@ -3,7 +3,7 @@
 ghost use Rattle.std.specs.Prelude.{◌≡◌, ◌++◌, ℕ, List, true};
 ghost use Rattle.clk_sched.specs.Tree.{leaves, are_distinct};
 ghost use Rattle.clk_sched.specs.Built.{row, leaves_of};
-ghost use Rattle.clk_sched.specs.Marks.{Marks, AreMarked};
+ghost use Rattle.clk_sched.specs.inside.Marks.{Marks, AreMarked};
 
 use super::{Node, Tree};
 

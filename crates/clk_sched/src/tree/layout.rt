@@ -2,10 +2,10 @@
 
 ghost use Rattle.std.specs.Prelude.{◌≡◌, ◌+◌, ◌≤◌, ◌<◌, ◌++◌, length, MatchOption, IfOk, IfErr};
 ghost use Rattle.clk_sched.specs.Built.{row};
-ghost use Rattle.clk_sched.specs.Places.{inputs_of};
+ghost use Rattle.clk_sched.specs.inside.Places.{inputs_of};
 ghost use Rattle.clk_sched.specs.Session.{elements};
 ghost use Rattle.clk_sched.specs.Limits.{most_elements};
-ghost use Rattle.clk_sched.specs.LaidOut.{entries, kinds, Adds, AddsNode};
+ghost use Rattle.clk_sched.specs.inside.LaidOut.{entries, kinds, Adds, AddsNode};
 
 use super::{Class, Node, Tree};
 use crate::session::drr::Deficits;
@@ -32,8 +32,9 @@ struct Tables {
 
 impl Tree {
     ghost use Rattle.clk_sched.specs.Tree.{root};
-    ghost use Rattle.clk_sched.specs.Session.{IsLaidOut};
-    ghost use Rattle.clk_sched.specs.LaidOut.{elements_of, input_of, entries_of, kinds_of, IsRefused};
+    ghost use Rattle.clk_sched.specs.inside.Session.{IsLaidOut};
+    ghost use Rattle.clk_sched.specs.LaidOut.{IsRefused};
+    ghost use Rattle.clk_sched.specs.inside.LaidOut.{elements_of, input_of, entries_of, kinds_of};
 
     /// The tables of this tree, before its first pull, with a log that is kept or not.
     ///
@@ -100,10 +101,10 @@ impl Tree {
 
 impl Class {
     ghost use Rattle.std.specs.Prelude.{ℕ, []};
-    ghost use Rattle.clk_sched.specs.Holds.OfClass.{Holds};
+    ghost use Rattle.clk_sched.specs.inside.Holds.OfClass.{Holds};
     ghost use Rattle.clk_sched.specs.Tree.{HasArguments};
-    ghost use Rattle.clk_sched.specs.Kept.{class_of};
-    ghost use Rattle.clk_sched.specs.LaidOut.{FitsInputs};
+    ghost use Rattle.clk_sched.specs.inside.Kept.{class_of};
+    ghost use Rattle.clk_sched.specs.inside.LaidOut.{FitsInputs};
 
     // What a scheduler of this class holds before its first pull.
     fn first_state(&self, alloc: Global) -> Result<State, AllocError>

@@ -7,11 +7,11 @@ ghost use Rattle.clk_sched.specs.Limits.{most_elements};
 ghost use Rattle.clk_tree.specs.Limits.{most_bytes};
 ghost use Rattle.clk_tree.specs.Classes.{class_view, numbers_in};
 ghost use Rattle.clk_tree.specs.Source.{elements, kept};
-ghost use Rattle.clk_tree.specs.Naming.{class_in, is_class};
-ghost use Rattle.clk_tree.specs.Within.{IsWithin, IsDeclaredWithin, words_in};
-ghost use Rattle.clk_tree.specs.Checks.{IsTabled};
+ghost use Rattle.clk_tree.specs.inside.Naming.{class_in, is_class};
+ghost use Rattle.clk_tree.specs.inside.Within.{IsWithin, IsDeclaredWithin, words_in};
+ghost use Rattle.clk_tree.specs.inside.Checks.{IsTabled};
 ghost use Rattle.clk_tree.specs.Plan.{all_known, planned_from, planned_at};
-ghost use Rattle.clk_tree.specs.Kept.{planned, known_as, names_as};
+ghost use Rattle.clk_tree.specs.inside.Kept.{planned, known_as, names_as};
 
 use crate::class::{Class, letters};
 use crate::plan::element::Element;

@@ -4,7 +4,7 @@ ghost use Rattle.std.specs.Prelude.{◌≡◌, ◌≤◌, ◌<◌, map, take, le
 ghost use Rattle.clk_sched.specs.Limits.{most_elements};
 ghost use Rattle.clk_tree.specs.PlanTree.{device_count};
 ghost use Rattle.clk_tree.specs.PlanPaths.{has_output, place_fed, place_after, device_of};
-ghost use Rattle.clk_tree.specs.Kept.{planned};
+ghost use Rattle.clk_tree.specs.inside.Kept.{planned};
 
 use crate::plan::element::Element;
 

@@ -6,7 +6,8 @@ ghost use Rattle.clk_sched.specs.Tree as tree;
 ghost use Rattle.clk_sched.specs.Tree.{HasArguments};
 ghost use Rattle.clk_sched.specs.Built.{built};
 ghost use Rattle.clk_tree.specs.Classes.{class_view};
-ghost use Rattle.clk_tree.specs.PlanTree.{is_queue, is_device, drr_over, IsOver, IsBuilt};
+ghost use Rattle.clk_tree.specs.PlanTree.{is_queue, is_device, drr_over};
+ghost use Rattle.clk_tree.specs.inside.PlanTree.{IsOver, IsBuilt};
 
 use crate::class::Class;
 use clk_packet::Fault;

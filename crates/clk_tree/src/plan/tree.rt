@@ -6,8 +6,9 @@ ghost use Rattle.clk_packet.specs.declared.fault.Fault.TheVariants.{Memory};
 ghost use Rattle.clk_sched.specs.Tree.{root, height};
 ghost use Rattle.clk_sched.specs.Built.{row};
 ghost use Rattle.clk_sched.specs.Limits.{most_levels};
-ghost use Rattle.clk_tree.specs.PlanTree.{queue_number, is_queue_at, IsRowOf, IsScheduled};
-ghost use Rattle.clk_tree.specs.Kept.{planned};
+ghost use Rattle.clk_tree.specs.PlanTree.{queue_number, IsRowOf};
+ghost use Rattle.clk_tree.specs.inside.PlanTree.{is_queue_at, IsScheduled};
+ghost use Rattle.clk_tree.specs.inside.Kept.{planned};
 
 use crate::plan::element::Element;
 use clk_packet::Fault;

@@ -4,7 +4,7 @@ use Rattle.std.specs.List.{AllByRecursion}
 use Rattle.clk_sched.specs.Closing.{left_in}
 use Rattle.clk_drain.specs.Line.{AreLinesOf}
 use Rattle.clk_drain.specs.Closing.{accepted_over, left_over}
-use Rattle.clk_drain.specs.Parts.{IsGathered, held_at}
+use Rattle.clk_drain.specs.inside.Parts.{IsGathered, held_at}
 use Rattle.clk_drain.proofs.Still.{still-accepted, gathered-lines}
 use Rattle.clk_drain.proofs.Left.{fault-unsettled}
 use Rattle.clk_drain.proofs.Closed.{drained-over}

@@ -3,7 +3,7 @@ use Rattle.clk_packet.specs.declared.packet.Packet.{Packet}
 use Rattle.clk_sched.specs.Closing.{TakesOne}
 use Rattle.clk_sched.specs.Session.{newly, tree_queue}
 use Rattle.clk_drain.specs.Line.{LineLists, PullsAt}
-use Rattle.clk_drain.specs.Parts.{held_at}
+use Rattle.clk_drain.specs.inside.Parts.{held_at}
 use Rattle.clk_drain.proofs.PulledLines.{answers-weaker, lines-drained}
 use Rattle.clk_drain.proofs.closing.drain.Goals as goal
 

@@ -4,7 +4,7 @@ use Rattle.std.specs.declared.cmp.Ordering.TheVariants.{Equal}
 use Rattle.std.specs.Ordering.{nat_cmp}
 use Rattle.std.proofs.lemmas.List.Sorted.{answers_always}
 use Rattle.clk_drain.specs.Line.{LineLists, has_line}
-use Rattle.clk_drain.specs.Parts.{IsGathered}
+use Rattle.clk_drain.specs.inside.Parts.{IsGathered}
 use Rattle.clk_drain.proofs.Placing.{IsAsked, unanswered, asked-at}
 use Rattle.clk_drain.proofs.Taking.{AreTaken, taken-at, not-found, none-taken}
 use Rattle.clk_drain.proofs.lines.pull_at.Given as given

@@ -5,8 +5,8 @@ use Rattle.clk_ruled.specs.Queue.{SeatLists}
 use Rattle.clk_tree.specs.declared.plan.parts.SenderSpec.{SenderSpec}
 use Rattle.clk_tree.specs.PlanParts.{number_of}
 use Rattle.clk_drain.specs.Run.{AreKnown}
-use Rattle.clk_drain.specs.Threads.{Terms, Feed, IsUnused, IsUnpulled}
-use Rattle.clk_drain.specs.Handed.{FitQueues, IsReadyToClose, AreApartDevices, feeds_from}
+use Rattle.clk_drain.specs.inside.Threads.{Terms, Feed, IsUnused, IsUnpulled}
+use Rattle.clk_drain.specs.inside.Handed.{FitQueues, IsReadyToClose, AreApartDevices, feeds_from}
 use Rattle.clk_drain.proofs.Opened.{fit-opened, unused-opened, unpulled-opened}
 use Rattle.clk_drain.proofs.WholeRun.{HasEnded, has-ended, run-joined, answered-ok, answered-err}
 use Rattle.clk_drain.proofs.running.run_with.Given as given

@@ -1,5 +1,5 @@
 use Rattle.std.proofs.Common.{◌+◌, ◌-◌, vec_len}
-use Rattle.clk_packet.specs.Lengths.{IsWider}
+use Rattle.clk_packet.specs.inside.Lengths.{IsWider}
 use Rattle.clk_packet.proofs.traces.widen.Given as goal
 
 abbrev pub invariant-loop-alloc : goal.invariant-loop-alloc

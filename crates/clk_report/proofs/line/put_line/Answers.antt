@@ -1,6 +1,6 @@
 use Rattle.std.proofs.Common.{ap, ap₂, ◌∙◌, ◌++◌, codes, decimal, drop, arith}
 use Rattle.clk_report.specs.declared.total.Total.{Total}
-use Rattle.clk_report.specs.Totals.{total_of, both, words_text}
+use Rattle.clk_report.specs.inside.Totals.{total_of, both, words_text}
 use Rattle.clk_report.proofs.TotalLemmas.{bytes-few}
 use Rattle.clk_report.proofs.ReportLemmas.{line-joined}
 use Rattle.clk_report.proofs.line.put_line.Goals as goal

@@ -2,7 +2,7 @@ use Rattle.std.proofs.Common.{ap, sym, ◌∙◌, ◌++◌, ◌-◌, ◌<◌, le
 use Rattle.clk_packet.specs.declared.tally.Tally.{Tally}
 use Rattle.clk_report.specs.declared.total.Total.{Total}
 use Rattle.clk_report.specs.Report.{report_text}
-use Rattle.clk_report.specs.Totals.{line_text}
+use Rattle.clk_report.specs.inside.Totals.{line_text}
 use Rattle.clk_report.proofs.TotalLemmas.{total-at}
 use Rattle.clk_report.proofs.ReportLemmas.{lines-first}
 use Rattle.clk_report.proofs.senders.+put_lines.Goals as goal

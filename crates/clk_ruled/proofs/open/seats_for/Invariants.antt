@@ -1,6 +1,6 @@
 use Rattle.std.specs.Prelude.{length}
 use Rattle.crossbeam_queue.specs.Passes.{view, IsPassOf, IsSamePass}
-use Rattle.clk_ruled.specs.Parts.{IsSeated}
+use Rattle.clk_ruled.specs.inside.Parts.{IsSeated}
 use Rattle.clk_ruled.proofs.open.seats_for.Given as goal
 
 abbrev pub invariant-loop-rest : goal.invariant-loop-rest

@@ -1,6 +1,6 @@
 use Rattle.std.proofs.Common.{◌≡◌, ◌<◌, ◌≤◌, ℕ, List, map, sym, ap, ◌∙◌, subst}
 use Rattle.std.specs.List.{AllByRecursion}
-use Rattle.clk_ruled.specs.Keys.{AreKeysOf, has_key}
+use Rattle.clk_ruled.specs.inside.Keys.{AreKeysOf, has_key}
 use Rattle.clk_ruled.specs.Queue.{Queue, SeatLists, IsSharedOut}
 use Rattle.clk_ruled.specs.Settle.{lists_of, all_evicted, accepted_count, lost_count, tally_by}
 use Rattle.clk_ruled.proofs.Settlement.{settles, tallies-same}

@@ -1,6 +1,6 @@
 use Rattle.std.proofs.Common.{◌≡◌, map}
 use Rattle.std.specs.List.{AllByRecursion}
-use Rattle.clk_ruled.specs.Keys.{has_key}
+use Rattle.clk_ruled.specs.inside.Keys.{has_key}
 use Rattle.clk_ruled.specs.Queue.{IsSharedOut}
 use Rattle.clk_ruled.specs.Settle.{lists_of, tally_by}
 use Rattle.clk_ruled.proofs.settling.tallies.Given as goal

@@ -10,9 +10,10 @@ use Rattle.clk_sched.specs.declared.session.inputs.Inputs.{Inputs}
 use Rattle.clk_sched.specs.declared.session.nodes.Nodes.{Nodes}
 use Rattle.clk_sched.specs.declared.session.inputs.Input.TheVariants.{Queue, Scheduler}
 use Rattle.clk_sched.specs.declared.session.state.State.TheVariants.{RoundRobin, Drr, Stride}
-use Rattle.clk_sched.specs.Places.{input_at, Answers, queue_asked, at_queue}
-use Rattle.clk_sched.specs.Pulling.{added, inputs_in}
-use Rattle.clk_sched.specs.Looking.{looking}
+use Rattle.clk_sched.specs.Places.{Answers, at_queue}
+use Rattle.clk_sched.specs.inside.Places.{input_at, queue_asked}
+use Rattle.clk_sched.specs.inside.Pulling.{added, inputs_in}
+use Rattle.clk_sched.specs.inside.Looking.{looking}
 use Rattle.clk_sched.proofs.Asking.{added-none, keeps-none, keeps-more, answers-then, asking-first, asking-ready, asking-given, asking-next, asking-all}
 use Rattle.clk_sched.proofs.Asked.{entry, rank_at, entry-input, input-is, edges-scheduler, queue-visited, asks-queue, asks-child}
 use Rattle.clk_sched.proofs.Placed.{can-turn, kept-there, pulled-back}
@@ -23,7 +24,7 @@ use Rattle.clk_sched.proofs.LooksDrr.{answers-held, looks-held, looks-fresh}
 use Rattle.clk_sched.proofs.TurnDrr.{has-looked, making-first, making-can, making-next, making-passed, making-all, HasEnded, had-ended}
 use Rattle.clk_sched.proofs.TurnStride.{FitsAt, stride-may, had-won, had-lost}
 use Rattle.clk_sched.proofs.TurnShaper.{shaper-may, shaper-refused, shaper-passed, shaper-returned}
-use Rattle.clk_sched.specs.Turning.{HasAskedAll, WasPulled}
+use Rattle.clk_sched.specs.inside.Turning.{HasAskedAll, WasPulled}
 use Rattle.clk_sched.proofs.InOrder.{packet_of}
 use Rattle.clk_sched.proofs.session.+pull.Goals as goal
 

@@ -1,6 +1,6 @@
 use Rattle.std.proofs.Common.{ℕ, ◌+◌, ◌*◌, ◌-◌, length, take}
 use Rattle.std.specs.List.{range_with_len}
-use Rattle.clk_sched.specs.Pulling.{inputs_in}
+use Rattle.clk_sched.specs.inside.Pulling.{inputs_in}
 use Rattle.clk_sched.proofs.Asking.{IsAsking}
 use Rattle.clk_sched.proofs.TurnDrr.{IsMaking}
 use Rattle.clk_sched.proofs.session.+pull.Given as goal

@@ -1,8 +1,8 @@
 use Rattle.std.proofs.Common.{◌≡◌, ◌++◌, length, [], ◌∷◌, slice_set, zero-add, refl, ap, ◌∙◌, arith}
 use Rattle.std.proofs.lemmas.Result.{IfOk-weaker, IfOk-equal}
 use Rattle.clk_sched.specs.Built.{row}
-use Rattle.clk_sched.specs.Places.{inputs_of}
-use Rattle.clk_sched.specs.LaidOut.{elements_of, input_of}
+use Rattle.clk_sched.specs.inside.Places.{inputs_of}
+use Rattle.clk_sched.specs.inside.LaidOut.{elements_of, input_of}
 use Rattle.clk_sched.proofs.TreeLemmas.{rest, elements-row}
 use Rattle.clk_sched.proofs.Added.{nodes_of-elements_of, adds-size, adds-row, adds-node, inputs-more}
 use Rattle.clk_sched.proofs.tree.+lay.Goals as goal

@@ -1,7 +1,7 @@
 use Rattle.std.proofs.Common.{◌+◌, ◌*◌}
 use Rattle.clk_sched.specs.Built.{row}
 use Rattle.clk_sched.specs.Session.{elements}
-use Rattle.clk_sched.specs.LaidOut.{elements_of}
+use Rattle.clk_sched.specs.inside.LaidOut.{elements_of}
 use Rattle.clk_sched.proofs.tree.+least_quantum.Given as goal
 
 abbrev pub decreases-Tree::least_quantum : goal.decreases-Tree::least_quantum

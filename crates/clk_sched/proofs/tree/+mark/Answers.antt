@@ -1,9 +1,9 @@
 use Rattle.std.proofs.Common.{◌≡◌, ◌∷◌, [], sym, ap, ◌∙◌, subst, arith}
 use Rattle.clk_sched.specs.Built.{row, leaves_of}
-use Rattle.clk_sched.specs.Kept.{kept}
-use Rattle.clk_sched.specs.Marks.{AreMarked}
+use Rattle.clk_sched.specs.inside.Kept.{kept}
+use Rattle.clk_sched.specs.inside.Marks.{AreMarked}
 use Rattle.clk_sched.specs.Session.{elements}
-use Rattle.clk_sched.specs.LaidOut.{elements_of}
+use Rattle.clk_sched.specs.inside.LaidOut.{elements_of}
 use Rattle.clk_sched.proofs.TreeLemmas.{leaves-row, elements-row}
 use Rattle.clk_sched.proofs.Distinct.{marked-less, marks-queue}
 use Rattle.clk_sched.proofs.tree.+mark.Goals as goal

@@ -2,8 +2,8 @@ use Rattle.std.proofs.Common.{rules, ◌≡◌, ◌≤◌, length, sym, subst, �
 use Rattle.std.specs.List.{AllByRecursion}
 use Rattle.std.proofs.lemmas.List.{with_items_is}
 use Rattle.clk_script.specs.Script.{most_lines}
-use Rattle.clk_script.specs.Router.{names_in}
-use Rattle.clk_script.specs.Rows.{IsToDo, closings_of}
+use Rattle.clk_script.specs.inside.Router.{names_in}
+use Rattle.clk_script.specs.inside.Rows.{IsToDo, closings_of}
 use Rattle.clk_script.proofs.AnswerLemmas.{IsReady-answered, closable-answered, Writes-answered, devices-kept, closings-kept, kinds-kept}
 use Rattle.clk_script.proofs.answer.answer_script.Goals as goal
 

@@ -1,7 +1,7 @@
 use Rattle.std.proofs.Common.{◌≡◌, None, refl, ap, ◌∙◌}
 use Rattle.clk_script.specs.declared.script.Command.TheVariants.{Send}
 use Rattle.clk_script.specs.Script.{command_fault}
-use Rattle.clk_script.specs.Router.{named_by}
+use Rattle.clk_script.specs.inside.Router.{named_by}
 use Rattle.clk_script.proofs.PlaceLemmas.{known-at}
 use Rattle.clk_script.proofs.reading.check_names.Goals as goal
 

@@ -1,7 +1,7 @@
 use Rattle.std.proofs.Common.{◌≡◌, ◌∙◌, length, Some, None, refl, sym, arith}
 use Rattle.std.proofs.lemmas.Bool.Decides.{nat_tests}
 use Rattle.clk_script.specs.declared.reading.Script.{Script}
-use Rattle.clk_script.specs.Router.{named_by}
+use Rattle.clk_script.specs.inside.Router.{named_by}
 use Rattle.clk_script.proofs.ReadingLemmas.{IsRead-drained, IsRead-ended}
 use Rattle.clk_script.proofs.reading.read_script.Goals as goal
 

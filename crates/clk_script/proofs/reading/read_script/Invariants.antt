@@ -1,6 +1,6 @@
 use Rattle.std.proofs.Common.{◌≤◌, length}
 use Rattle.clk_script.specs.Script.{most_lines}
-use Rattle.clk_script.specs.Router.{named_by}
+use Rattle.clk_script.specs.inside.Router.{named_by}
 use Rattle.clk_script.proofs.ReadingLemmas.{HasRead}
 use Rattle.clk_script.proofs.reading.read_script.Given as goal
 

@@ -4,7 +4,7 @@ use Rattle.std.proofs.lemmas.Result.{err_from_is_err_and}
 use Rattle.clk_packet.specs.Bytes.{AppendsFront}
 use Rattle.clk_tree.specs.PlanParts.{queued, AreRising}
 use Rattle.clk_script.specs.Meaning.{setup_of}
-use Rattle.clk_script.specs.Rows.{answer_text}
+use Rattle.clk_script.specs.inside.Rows.{answer_text}
 use Rattle.clk_script.proofs.SenderLemmas.{numbers-its}
 use Rattle.clk_script.proofs.RefusalLemmas.{IsRefusal-read, meaning-known, meaning-alone, few-devices, few-closings}
 use Rattle.clk_script.proofs.run.run_parts.Goals as goal

@@ -2,7 +2,7 @@ use Rattle.std.proofs.Common.{map, sym, ap₂, subst}
 use Rattle.std.specs.Io.KnownBytes.{Appends}
 use Rattle.clk_tree.specs.PlanParts.{queued, number_of, AreRising}
 use Rattle.clk_script.specs.Meaning.{setup_of}
-use Rattle.clk_script.specs.Closable.{IsClosable}
+use Rattle.clk_script.specs.inside.Closable.{IsClosable}
 use Rattle.clk_script.proofs.PlanLemmas.{plan-whole}
 use Rattle.clk_script.proofs.NeverShort.{plan-closable}
 use Rattle.clk_script.proofs.RefusalLemmas.{meaning-over}

@@ -1,7 +1,7 @@
 use Rattle.std.proofs.Common.{◌∙◌, ap, map, sym, subst}
 use Rattle.std.proofs.lemmas.Result.{on_ok_weaker}
 use Rattle.clk_tree.specs.PlanParts.{AreRising}
-use Rattle.clk_script.specs.Router.{noted, put_out}
+use Rattle.clk_script.specs.inside.Router.{noted, put_out}
 use Rattle.clk_script.proofs.TallyLemmas.{taken_in-at, turned_away-at, senders-taken_in, evicted-both}
 use Rattle.clk_script.proofs.tallies.note.Goals as goal
 

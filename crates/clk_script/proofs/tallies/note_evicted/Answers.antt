@@ -1,5 +1,5 @@
 use Rattle.std.proofs.lemmas.Result.{on_ok_weaker}
-use Rattle.clk_script.specs.Router.{IsPlaceOf}
+use Rattle.clk_script.specs.inside.Router.{IsPlaceOf}
 use Rattle.clk_script.proofs.TallyLemmas.{put_out-at, put_out-none}
 use Rattle.clk_script.proofs.tallies.note_evicted.Goals as goal
 

@@ -3,7 +3,7 @@ use Rattle.std.proofs.lemmas.Result.{err_from_is_err_and}
 use Rattle.clk_packet.proofs.BytesLemmas.{Wrote-then, Wrote-cut}
 use Rattle.clk_report.specs.Report.{report_text}
 use Rattle.clk_report.specs.Devices.{lists_of, came_out}
-use Rattle.clk_script.specs.Rows.{are_several, given_of, rows_text, closings_text, closings_of, ending_of}
+use Rattle.clk_script.specs.inside.Rows.{are_several, given_of, rows_text, closings_text, closings_of, ending_of}
 use Rattle.clk_script.proofs.PassLemmas.{Passes-then, Wrote-passed, Wrote-front}
 use Rattle.clk_script.proofs.writing.write_answer.Goals as goal
 

@@ -1,5 +1,5 @@
 use Rattle.std.proofs.Common.{◌≡◌, drop, length}
-use Rattle.clk_script.specs.Rows.{rows_text}
+use Rattle.clk_script.specs.inside.Rows.{rows_text}
 use Rattle.clk_script.proofs.PassLemmas.{HasPassed}
 use Rattle.clk_script.proofs.writing.write_rows.Given as goal
 

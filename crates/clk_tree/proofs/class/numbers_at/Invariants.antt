@@ -1,6 +1,6 @@
 use Rattle.std.proofs.Common.{map, length, drop}
 use Rattle.clk_tree.specs.Source.{letters}
-use Rattle.clk_tree.specs.Within.{AreWithin}
+use Rattle.clk_tree.specs.inside.Within.{AreWithin}
 use Rattle.clk_tree.proofs.ClassLemmas.{ReadsNumbers}
 use Rattle.clk_tree.proofs.class.numbers_at.Given as goal
 

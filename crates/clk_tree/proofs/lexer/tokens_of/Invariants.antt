@@ -1,5 +1,5 @@
 use Rattle.std.proofs.Common.{length}
-use Rattle.clk_tree.specs.Lex.{LexedTo}
+use Rattle.clk_tree.specs.inside.Lex.{LexedTo}
 use Rattle.clk_tree.proofs.lexer.tokens_of.Given as goal
 
 abbrev pub invariant-loop-left : goal.invariant-loop-left

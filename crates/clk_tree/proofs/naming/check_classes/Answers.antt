@@ -5,7 +5,7 @@ use Rattle.clk_packet.specs.declared.fault.Fault.TheVariants.{UnknownClass}
 use Rattle.clk_tree.specs.Classes.{class_named}
 use Rattle.clk_tree.specs.Source.{kept, elements, letters}
 use Rattle.clk_tree.specs.Declarations.{is_missing}
-use Rattle.clk_tree.specs.Within.{IsDeclaredWithin, IsNamed}
+use Rattle.clk_tree.specs.inside.Within.{IsDeclaredWithin, IsNamed}
 use Rattle.clk_tree.proofs.ListLemmas.{drop-item}
 use Rattle.clk_tree.proofs.UnknownLemmas.{unknown_in, unknown_class-in, unknown-passed, unknown-found}
 use Rattle.clk_tree.proofs.naming.check_classes.Goals as goal

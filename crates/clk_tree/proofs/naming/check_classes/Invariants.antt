@@ -2,7 +2,7 @@ use Rattle.std.proofs.Common.{◌≡◌, length, map, drop}
 use Rattle.std.specs.List.{AllByRecursion}
 use Rattle.clk_tree.specs.Source.{kept, elements}
 use Rattle.clk_tree.specs.Declarations.{unknown_class}
-use Rattle.clk_tree.specs.Within.{IsDeclaredWithin, IsNamed}
+use Rattle.clk_tree.specs.inside.Within.{IsDeclaredWithin, IsNamed}
 use Rattle.clk_tree.proofs.UnknownLemmas.{unknown_in}
 use Rattle.clk_tree.proofs.naming.check_classes.Given as goal
 

@@ -7,8 +7,8 @@ use Rattle.clk_packet.specs.declared.fault.Fault.TheVariants.{NameTwice}
 use Rattle.clk_tree.specs.declared.token.Token.{Token}
 use Rattle.clk_tree.specs.declared.token.Symbol.TheVariants.{Name}
 use Rattle.clk_tree.specs.Source.{element}
-use Rattle.clk_tree.specs.Naming.{Declares, place_in}
-use Rattle.clk_tree.specs.Within.{AreWithin}
+use Rattle.clk_tree.specs.inside.Naming.{Declares, place_in}
+use Rattle.clk_tree.specs.inside.Within.{AreWithin}
 use Rattle.clk_tree.proofs.NameLemmas.{Declares-twice, Declares-more}
 use Rattle.clk_tree.proofs.naming.declare.Goals as goal
 

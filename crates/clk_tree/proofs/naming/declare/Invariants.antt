@@ -1,7 +1,7 @@
 use Rattle.std.proofs.Common.{◌≡◌, ◌+◌, ◌++◌, List, length, map, drop}
 use Rattle.clk_tree.specs.Source.{Element, kept, element, elements_in}
-use Rattle.clk_tree.specs.Naming.{Declares, IsSlotted}
-use Rattle.clk_tree.specs.Within.{AreWithin}
+use Rattle.clk_tree.specs.inside.Naming.{Declares, IsSlotted}
+use Rattle.clk_tree.specs.inside.Within.{AreWithin}
 use Rattle.clk_tree.proofs.naming.declare.Given as goal
 
 abbrev pub invariant-loop-name : goal.invariant-loop-name

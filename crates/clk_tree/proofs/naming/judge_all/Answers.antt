@@ -1,7 +1,7 @@
 use Rattle.std.proofs.Common.{◌+◌, map, drop, subst}
 use Rattle.std.proofs.lemmas.Result.{err_from_is_err_and}
 use Rattle.clk_tree.specs.Source.{kept}
-use Rattle.clk_tree.specs.Naming.{Judges}
+use Rattle.clk_tree.specs.inside.Naming.{Judges}
 use Rattle.clk_tree.proofs.ListLemmas.{drop-item}
 use Rattle.clk_tree.proofs.naming.judge_all.Goals as goal
 

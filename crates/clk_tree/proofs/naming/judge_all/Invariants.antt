@@ -2,8 +2,8 @@ use Rattle.std.proofs.Common.{◌≤◌, length, map, drop}
 use Rattle.std.specs.List.{AllByRecursion}
 use Rattle.clk_tree.specs.Limits.{most_bytes}
 use Rattle.clk_tree.specs.Source.{kept}
-use Rattle.clk_tree.specs.Naming.{Judges}
-use Rattle.clk_tree.specs.Within.{IsDeclaredWithin, IsNamed, words_in}
+use Rattle.clk_tree.specs.inside.Naming.{Judges}
+use Rattle.clk_tree.specs.inside.Within.{IsDeclaredWithin, IsNamed, words_in}
 use Rattle.clk_tree.proofs.naming.judge_all.Given as goal
 
 abbrev pub invariant-loop-declaration : goal.invariant-loop-declaration

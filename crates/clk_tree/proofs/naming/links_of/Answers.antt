@@ -7,7 +7,7 @@ use Rattle.clk_tree.specs.declared.node.Link.{Link}
 use Rattle.clk_tree.specs.declared.statements.Connection.{Connection}
 use Rattle.clk_tree.specs.declared.token.Symbol.TheVariants.{Name}
 use Rattle.clk_tree.specs.Source.{wire, wires}
-use Rattle.clk_tree.specs.Within.{IsConnectedWithin, HasNumbers}
+use Rattle.clk_tree.specs.inside.Within.{IsConnectedWithin, HasNumbers}
 use Rattle.clk_tree.proofs.LinkLemmas.{Links, Links-none, Links-more, Links-stop, Links-all}
 use Rattle.clk_tree.proofs.naming.links_of.Goals as goal
 

@@ -1,8 +1,8 @@
 use Rattle.std.proofs.Common.{List, length, drop}
 use Rattle.std.specs.List.{AllByRecursion}
 use Rattle.clk_tree.specs.Source.{Element, wires}
-use Rattle.clk_tree.specs.Naming.{IsTable}
-use Rattle.clk_tree.specs.Within.{IsConnectedWithin, HasNumbers}
+use Rattle.clk_tree.specs.inside.Naming.{IsTable}
+use Rattle.clk_tree.specs.inside.Within.{IsConnectedWithin, HasNumbers}
 use Rattle.clk_tree.proofs.LinkLemmas.{Links}
 use Rattle.clk_tree.proofs.naming.links_of.Given as goal
 

@@ -2,7 +2,7 @@ use Rattle.std.proofs.Common.{◌∙◌, map, length, sym, ap, subst}
 use Rattle.std.specs.List.{AllByRecursion}
 use Rattle.clk_tree.specs.Source.{kept, elements, wires}
 use Rattle.clk_tree.specs.Faults.{links_of}
-use Rattle.clk_tree.specs.Naming.{IsTable, IsLinkBelow}
+use Rattle.clk_tree.specs.inside.Naming.{IsTable, IsLinkBelow}
 use Rattle.clk_tree.proofs.naming.name_all.Goals as goal
 
 pub returns-clause-links : goal.returns-clause-links

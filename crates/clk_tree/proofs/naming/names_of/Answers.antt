@@ -4,8 +4,8 @@ use Rattle.std.proofs.lemmas.List.{drop_all}
 use Rattle.std.proofs.lemmas.Result.{err_from_is_err_and}
 use Rattle.clk_tree.specs.Source.{kept, elements}
 use Rattle.clk_tree.specs.Limits.{most_bytes}
-use Rattle.clk_tree.specs.Naming.{Declares}
-use Rattle.clk_tree.specs.Within.{IsDeclaredWithin, words_in}
+use Rattle.clk_tree.specs.inside.Naming.{Declares}
+use Rattle.clk_tree.specs.inside.Within.{IsDeclaredWithin, words_in}
 use Rattle.clk_tree.proofs.ListLemmas.{drop-item}
 use Rattle.clk_tree.proofs.NameLemmas.{Declares-all}
 use Rattle.clk_tree.proofs.naming.names_of.Goals as goal

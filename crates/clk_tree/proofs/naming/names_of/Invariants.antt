@@ -2,8 +2,8 @@ use Rattle.std.proofs.Common.{◌+◌, ◌≤◌, length, map, drop}
 use Rattle.std.specs.List.{AllByRecursion}
 use Rattle.clk_tree.specs.Limits.{most_bytes}
 use Rattle.clk_tree.specs.Source.{kept, elements}
-use Rattle.clk_tree.specs.Naming.{Declares, IsSlotted}
-use Rattle.clk_tree.specs.Within.{IsDeclaredWithin, words_in}
+use Rattle.clk_tree.specs.inside.Naming.{Declares, IsSlotted}
+use Rattle.clk_tree.specs.inside.Within.{IsDeclaredWithin, words_in}
 use Rattle.clk_tree.proofs.naming.names_of.Given as goal
 
 abbrev pub invariant-loop-declaration : goal.invariant-loop-declaration

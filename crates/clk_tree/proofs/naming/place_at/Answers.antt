@@ -2,7 +2,7 @@ use Rattle.std.proofs.Common.{◌∙◌, sym, ap}
 use Rattle.std.specs.Option.{option_map}
 use Rattle.clk_packet.specs.declared.fault.Fault.TheVariants.{UnknownName}
 use Rattle.clk_tree.specs.Source.{letters}
-use Rattle.clk_tree.specs.Naming.{place_in}
+use Rattle.clk_tree.specs.inside.Naming.{place_in}
 use Rattle.clk_tree.proofs.LinkLemmas.{found, missing}
 use Rattle.clk_tree.proofs.naming.place_at.Goals as goal
 

@@ -1,5 +1,5 @@
 use Rattle.std.proofs.Common.{◌≡◌, ◌++◌, map, take}
-use Rattle.clk_tree.specs.Naming.{node_at}
+use Rattle.clk_tree.specs.inside.Naming.{node_at}
 use Rattle.clk_tree.proofs.naming.push_nodes.Given as goal
 
 abbrev pub invariant-loop-name : goal.invariant-loop-name

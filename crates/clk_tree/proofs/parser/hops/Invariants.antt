@@ -1,6 +1,6 @@
 use Rattle.std.proofs.Common.{◌≡◌, length}
 use Rattle.clk_tree.specs.Diagram.{next_name}
-use Rattle.clk_tree.specs.Parse.{HopsRead, last_name}
+use Rattle.clk_tree.specs.inside.Parse.{HopsRead, last_name}
 use Rattle.clk_tree.proofs.parser.hops.Given as goal
 
 abbrev pub invariant-loop-from : goal.invariant-loop-from

@@ -1,7 +1,7 @@
 use Rattle.std.proofs.Common.{[], length}
 use Rattle.clk_tree.specs.Diagram.{further_name}
 use Rattle.clk_tree.specs.Grammar.{IsName}
-use Rattle.clk_tree.specs.Parse.{Listed}
+use Rattle.clk_tree.specs.inside.Parse.{Listed}
 use Rattle.clk_tree.proofs.parser.names.Given as goal
 
 abbrev pub invariant-loop-left : goal.invariant-loop-left

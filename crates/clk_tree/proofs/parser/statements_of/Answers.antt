@@ -1,6 +1,6 @@
 use Rattle.std.proofs.Common.{sym, subst, rules}
 use Rattle.std.specs.List.{AllByRecursion}
-use Rattle.clk_tree.specs.Within.{IsDeclaredWithin, IsConnectedWithin}
+use Rattle.clk_tree.specs.inside.Within.{IsDeclaredWithin, IsConnectedWithin}
 use Rattle.clk_tree.proofs.TextLemmas.{none-read, more-read, all-read, ended-shorter}
 use Rattle.clk_tree.proofs.WithinLemmas.{declared-within, connected-within}
 use Rattle.clk_tree.proofs.parser.statements_of.Goals as goal

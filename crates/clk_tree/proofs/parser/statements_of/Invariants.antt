@@ -1,5 +1,5 @@
 use Rattle.std.proofs.Common.{length}
-use Rattle.clk_tree.specs.Parse.{ReadSoFar}
+use Rattle.clk_tree.specs.inside.Parse.{ReadSoFar}
 use Rattle.clk_tree.proofs.parser.statements_of.Given as goal
 
 abbrev pub invariant-loop-left : goal.invariant-loop-left

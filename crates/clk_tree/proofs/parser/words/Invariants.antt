@@ -1,7 +1,7 @@
 use Rattle.std.proofs.Common.{[], length}
 use Rattle.clk_tree.specs.Diagram.{argument}
 use Rattle.clk_tree.specs.Grammar.{IsWord}
-use Rattle.clk_tree.specs.Parse.{Listed}
+use Rattle.clk_tree.specs.inside.Parse.{Listed}
 use Rattle.clk_tree.proofs.parser.words.Given as goal
 
 abbrev pub invariant-loop-left : goal.invariant-loop-left

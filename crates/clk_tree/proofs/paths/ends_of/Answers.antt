@@ -1,7 +1,7 @@
 use Rattle.std.proofs.Common.{◌≡◌, ◌∙◌, sym, length}
 use Rattle.std.proofs.lemmas.Result.{IfOk-weaker}
 use Rattle.std.proofs.lemmas.Slice.Eq.{bytes_eq-Decides}
-use Rattle.clk_tree.specs.Checks.{IsComposed, IsFollowed}
+use Rattle.clk_tree.specs.inside.Checks.{IsComposed, IsFollowed}
 use Rattle.clk_tree.proofs.PathLemmas.{leads-on, composed-of, halfway-odd, halfway-even, halfway-still}
 use Rattle.clk_tree.proofs.paths.ends_of.Goals.{then-left-eq1+in_ok-ends-2, else-left-eq1}
 use Rattle.clk_tree.proofs.paths.ends_of.Goals as goal

@@ -1,8 +1,8 @@
 use Rattle.std.proofs.Common.{◌≡◌, drop}
 use Rattle.std.specs.List.{AllByRecursion}
-use Rattle.clk_tree.specs.Within.{IsLinkWithin}
+use Rattle.clk_tree.specs.inside.Within.{IsLinkWithin}
 use Rattle.clk_tree.specs.Ports.{bad_port}
-use Rattle.clk_tree.specs.Checks.{first_of, bad_link}
+use Rattle.clk_tree.specs.inside.Checks.{first_of, bad_link}
 use Rattle.clk_tree.proofs.ports.bad_port.Given as goal
 
 abbrev pub invariant-loop-link : goal.invariant-loop-link

@@ -1,7 +1,7 @@
 use Rattle.std.proofs.Common.{◌≡◌, ◌&&◌, ◌∙◌, true, false, ap, sym}
 use Rattle.std.proofs.lemmas.Bool.{and_left}
 use Rattle.clk_tree.specs.Ports.{output_connected, all_connected, inputs_of}
-use Rattle.clk_tree.specs.Checks.{leads_on, has_inputs}
+use Rattle.clk_tree.specs.inside.Checks.{leads_on, has_inputs}
 use Rattle.clk_tree.proofs.CountLemmas.{inputs-counted, leads-on}
 use Rattle.clk_tree.proofs.ports.is_connected.Goals as goal
 

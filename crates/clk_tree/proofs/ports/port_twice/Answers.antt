@@ -2,8 +2,8 @@ use Rattle.std.proofs.Common.{◌≡◌, ◌∙◌, ◌∷◌, ◌+◌, false, �
 use Rattle.std.specs.Option.{is_some}
 use Rattle.std.proofs.lemmas.List.{drop_more}
 use Rattle.clk_tree.specs.declared.node.Link.{Link}
-use Rattle.clk_tree.specs.Within.{IsLinkWithin}
-use Rattle.clk_tree.specs.Used.{is_used}
+use Rattle.clk_tree.specs.inside.Within.{IsLinkWithin}
+use Rattle.clk_tree.specs.inside.Used.{is_used}
 use Rattle.clk_tree.proofs.FailureLemmas.{all-at}
 use Rattle.clk_tree.proofs.PortLemmas.{HasSeen, seen-again, seen-more}
 use Rattle.clk_tree.proofs.ports.port_twice.Goals as goal

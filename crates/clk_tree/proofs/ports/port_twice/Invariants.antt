@@ -1,5 +1,5 @@
 use Rattle.std.proofs.Common.{◌≡◌, length, drop}
-use Rattle.clk_tree.specs.Used.{is_used, size}
+use Rattle.clk_tree.specs.inside.Used.{is_used, size}
 use Rattle.clk_tree.proofs.PortLemmas.{HasSeen}
 use Rattle.clk_tree.proofs.ports.port_twice.Given as goal
 

@@ -1,8 +1,8 @@
 use Rattle.std.proofs.Common.{◌≡◌, drop}
 use Rattle.std.specs.List.{AllByRecursion}
-use Rattle.clk_tree.specs.Within.{IsLinkWithin}
+use Rattle.clk_tree.specs.inside.Within.{IsLinkWithin}
 use Rattle.clk_tree.specs.Ports.{wrong_kind}
-use Rattle.clk_tree.specs.Checks.{first_of, mixed_link}
+use Rattle.clk_tree.specs.inside.Checks.{first_of, mixed_link}
 use Rattle.clk_tree.proofs.ports.wrong_kind.Given as goal
 
 abbrev pub invariant-loop-link : goal.invariant-loop-link

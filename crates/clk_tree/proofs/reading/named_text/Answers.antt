@@ -4,7 +4,7 @@ use Rattle.clk_tree.specs.Limits.{most_bytes}
 use Rattle.clk_tree.specs.Tokens.{tokens_of}
 use Rattle.clk_tree.specs.Grammar.{IsText}
 use Rattle.clk_tree.specs.Source.{kept, elements}
-use Rattle.clk_tree.specs.Within.{IsNamed, HasNumbers, HasPorts, words_in}
+use Rattle.clk_tree.specs.inside.Within.{IsNamed, HasNumbers, HasPorts, words_in}
 use Rattle.clk_tree.proofs.StatementLemmas.{named-all, words-few, ports-digits}
 use Rattle.clk_tree.proofs.NumberTokens.{tokens-digits}
 use Rattle.clk_tree.proofs.StatementLemmas.{tokens-few}

@@ -2,7 +2,7 @@ use Rattle.std.proofs.Common.{arith, ◌-◌, length}
 use Rattle.clk_tree.specs.Limits.{most_bytes}
 use Rattle.clk_tree.specs.declared.node.Link.{Link}
 use Rattle.clk_tree.proofs.FailureLemmas.{all-at}
-use Rattle.clk_tree.specs.Within.{IsLinkWithin}
+use Rattle.clk_tree.specs.inside.Within.{IsLinkWithin}
 use Rattle.clk_tree.proofs.TableLemmas.{count-read}
 use Rattle.clk_tree.proofs.tables.inputs_of.Goals as goal
 

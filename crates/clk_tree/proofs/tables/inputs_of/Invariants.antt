@@ -1,5 +1,5 @@
 use Rattle.std.proofs.Common.{length, drop}
-use Rattle.clk_tree.specs.Checks.{IsInputs}
+use Rattle.clk_tree.specs.inside.Checks.{IsInputs}
 use Rattle.clk_tree.proofs.tables.inputs_of.Given as goal
 
 abbrev pub invariant-loop-place : goal.invariant-loop-place

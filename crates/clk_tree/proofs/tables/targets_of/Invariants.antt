@@ -1,5 +1,5 @@
 use Rattle.std.proofs.Common.{length, drop}
-use Rattle.clk_tree.specs.Checks.{IsTargets}
+use Rattle.clk_tree.specs.inside.Checks.{IsTargets}
 use Rattle.clk_tree.proofs.tables.targets_of.Given as goal
 
 abbrev pub invariant-loop-place : goal.invariant-loop-place

@@ -1,5 +1,5 @@
 use Rattle.std.proofs.Common.{ap, ◌∙◌}
-use Rattle.clk_drain.specs.DeviceSession.{DeviceLists}
+use Rattle.clk_drain.specs.inside.DeviceSession.{DeviceLists}
 use Rattle.clk_drain.proofs.DeviceSteps.{opened-device}
 use Rattle.clk_drain.proofs.running.devices.open_device.Goals as goal
 

@@ -1,7 +1,7 @@
 use Rattle.std.proofs.Common.{◌≡◌, [], ◌∷◌, map, sym, subst, arith, vec_items}
 use Rattle.std.specs.List.{AllByRecursion}
 use Rattle.clk_tree.specs.PlanTree.{device_count}
-use Rattle.clk_drain.specs.Devices.{KeepVisits}
+use Rattle.clk_drain.specs.inside.Devices.{KeepVisits}
 use Rattle.clk_drain.proofs.DeviceSteps.{AreOpenBelow, opened-below, all-open}
 use Rattle.clk_drain.proofs.Settling.{all-join}
 use Rattle.clk_drain.proofs.running.devices.open_devices.Goals as goal

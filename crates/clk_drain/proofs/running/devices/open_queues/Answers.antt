@@ -1,7 +1,7 @@
 use Rattle.std.proofs.Common.{◌≡◌, ◌+◌, List, sym, ap, subst, arith, eq-eqb, ne_eqb, vec_items}
 use Rattle.clk_tree.specs.PlanParts.{queued, queues_of}
 use Rattle.clk_drain.specs.declared.running.opening.LeafQueue.{LeafQueue}
-use Rattle.clk_drain.specs.Handed.{EndLists}
+use Rattle.clk_drain.specs.inside.Handed.{EndLists}
 use Rattle.clk_drain.proofs.DeviceSteps.{IsQueueOf, AreOpening, queue-of, opened-more, opened-same}
 use Rattle.clk_drain.proofs.running.devices.open_queues.Goals.{then-queue-device+in_ok-open_queue, else-queue-device}
 use Rattle.clk_drain.proofs.running.devices.open_queues.Goals as goal

@@ -2,7 +2,7 @@ use Rattle.std.proofs.Common.{List, map, sym, ap, ◌∙◌, subst, vec_items}
 use Rattle.std.specs.Vec.Iter.{into_iter_items}
 use Rattle.std.proofs.lemmas.List.{nil_from_length}
 use Rattle.clk_drain.specs.declared.running.opening.LeafQueue.{LeafQueue}
-use Rattle.clk_drain.specs.Handed.{FitsQueues}
+use Rattle.clk_drain.specs.inside.Handed.{FitsQueues}
 use Rattle.clk_drain.proofs.HandSteps.{device-place, handed-device, handed-consumers}
 use Rattle.clk_drain.proofs.running.handing.hand_out.Goals as goal
 

@@ -2,7 +2,7 @@ use Rattle.std.proofs.Common.{List, ◌++◌, sym, ap, ◌∙◌, vec_items}
 use Rattle.std.specs.List.{flat_map}
 use Rattle.std.proofs.lemmas.List.Folds.{flat_map-map}
 use Rattle.clk_ruled.specs.Queue.{SeatLists}
-use Rattle.clk_drain.specs.Handed.{EndLists}
+use Rattle.clk_drain.specs.inside.Handed.{EndLists}
 use Rattle.clk_drain.proofs.running.handing.hand_out_device.Goals as goal
 
 pub returns-clause-producers : goal.returns-clause-producers

@@ -1,6 +1,6 @@
 use Rattle.std.proofs.Common.{drop}
 use Rattle.std.specs.Vec.Iter.{into_iter_items}
-use Rattle.clk_drain.specs.Handed.{joined_lines, seat_count}
+use Rattle.clk_drain.specs.inside.Handed.{joined_lines, seat_count}
 use Rattle.clk_drain.proofs.JoinSteps.{AreJoining}
 use Rattle.clk_drain.proofs.running.joining.join_lines.Given as goal
 

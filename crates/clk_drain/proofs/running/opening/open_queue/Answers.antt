@@ -2,7 +2,7 @@ use Rattle.std.proofs.Common.{◌<◌, ◌≤◌, length, sym, ap, ◌∙◌, su
 use Rattle.clk_packet.specs.Limits.{most_capacity}
 use Rattle.clk_packet.specs.Trace.{packets_in, most_records}
 use Rattle.clk_ruled.specs.Lists.{SendersRise, rooms_in_all}
-use Rattle.clk_drain.specs.Opening.{rooms_for}
+use Rattle.clk_drain.specs.inside.Opening.{rooms_for}
 use Rattle.clk_drain.proofs.Rooms.{rooms-for-rise, rooms-few}
 use Rattle.clk_drain.proofs.running.opening.open_queue.Goals as goal
 

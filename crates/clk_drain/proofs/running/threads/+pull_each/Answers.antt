@@ -1,5 +1,5 @@
 use Rattle.std.proofs.Common.{List, [], ◌∷◌, ◌++◌, sym, subst}
-use Rattle.clk_drain.specs.Threads.{Terms, Feed, ArePulled, IsPulled}
+use Rattle.clk_drain.specs.inside.Threads.{Terms, Feed, ArePulled, IsPulled}
 use Rattle.clk_drain.proofs.Ended.{pulled-besides}
 use Rattle.clk_drain.proofs.running.threads.+pull_each.Goals as goal
 

@@ -1,6 +1,6 @@
 use Rattle.std.proofs.Common.{List, [], ◌∷◌, ◌++◌, sym, subst}
 use Rattle.clk_ruled.specs.Queue.{SeatLists}
-use Rattle.clk_drain.specs.Threads.{HasSentAll, HaveSentAll}
+use Rattle.clk_drain.specs.inside.Threads.{HasSentAll, HaveSentAll}
 use Rattle.clk_drain.proofs.Ended.{sent-more, sent-all}
 use Rattle.clk_drain.proofs.running.threads.+send_and_pull.Goals as goal
 

@@ -1,7 +1,7 @@
 use Rattle.std.proofs.Common.{[], ◌∷◌, ◌++◌, map, ap, sym, ◌∙◌}
 use Rattle.std.proofs.lemmas.List.{map-append}
-use Rattle.clk_drain.specs.Threads.{Feed}
-use Rattle.clk_drain.specs.Handed.{pulled_of}
+use Rattle.clk_drain.specs.inside.Threads.{Feed}
+use Rattle.clk_drain.specs.inside.Handed.{pulled_of}
 use Rattle.clk_drain.proofs.running.threads.pulled_by.Goals as goal
 
 pub loop-session-preserved : goal.loop-session-preserved

@@ -2,7 +2,7 @@ use Rattle.std.proofs.Common.{◌<◌, ◌++◌, ◌∷◌, ◌∙◌, [], List,
 use Rattle.std.proofs.lemmas.Result.{on_ok_weaker, on_err_weaker}
 use Rattle.clk_packet.specs.declared.packet.Packet.{Packet}
 use Rattle.clk_packet.specs.Trace.{most_records, packets_in}
-use Rattle.clk_packet.specs.Lengths.{IsAdded, packets_by}
+use Rattle.clk_packet.specs.inside.Lengths.{IsAdded, packets_by}
 use Rattle.clk_packet.proofs.LengthLemmas.{IsAdded-more, get_or-there, set-few, wider-few}
 use Rattle.clk_packet.proofs.traces.Traces.add.Goals as goal
 

@@ -1,6 +1,6 @@
 use Rattle.std.proofs.Common.{◌≡◌, ◌≤◌, ◌∙◌, ap, [], arith}
 use Rattle.clk_packet.specs.Trace.{most_records, packets_in}
-use Rattle.clk_packet.specs.Lengths.{packets_by}
+use Rattle.clk_packet.specs.inside.Lengths.{packets_by}
 use Rattle.clk_packet.proofs.LengthLemmas.{row-is, row-count, sent_by-few}
 use Rattle.clk_packet.proofs.traces.Traces.count.Goals as goal
 

@@ -1,5 +1,5 @@
 use Rattle.std.proofs.Common.{◌∙◌, ap, sym, [], option_map, arith}
-use Rattle.clk_packet.specs.Lengths.{packet_of}
+use Rattle.clk_packet.specs.inside.Lengths.{packet_of}
 use Rattle.clk_packet.proofs.LengthLemmas.{row-is, row-packet, packet-made}
 use Rattle.clk_packet.proofs.traces.Traces.sent.Goals as goal
 

@@ -2,7 +2,7 @@ use Rattle.std.proofs.Common.{[], sym, ap, subst}
 use Rattle.crossbeam_queue.specs.Passes.{view}
 use Rattle.clk_ruled.specs.declared.view.Setup.{Setup}
 use Rattle.clk_ruled.specs.declared.view.View.{View}
-use Rattle.clk_ruled.specs.Parts.{IsSeated}
+use Rattle.clk_ruled.specs.inside.Parts.{IsSeated}
 use Rattle.clk_ruled.specs.Queue.{setup_of}
 use Rattle.clk_ruled.proofs.Begins.{begins}
 use Rattle.clk_ruled.proofs.Opening.{seated-first}

@@ -4,7 +4,7 @@ use Rattle.crossbeam_queue.specs.Passes.{view}
 use Rattle.clk_packet.specs.declared.packet.Packet.{Packet}
 use Rattle.clk_ruled.specs.declared.view.View.{View}
 use Rattle.clk_ruled.specs.Queue.{SeatLists}
-use Rattle.clk_ruled.specs.Rule.{seat_view}
+use Rattle.clk_ruled.specs.inside.Rule.{seat_view}
 use Rattle.clk_ruled.proofs.SeatSteps.{offers-after, within-after, may-offer, may-evict, places-within, fits-accepted, fits-refused, fits-evicted, refused-alone}
 use Rattle.clk_ruled.proofs.Offering.{offering, room-accepted, room-refused, room-evicted}
 use Rattle.clk_ruled.proofs.Steps.{accepts, evicts, learns}

@@ -1,5 +1,5 @@
 use Rattle.std.proofs.Common.{◌≡◌, ◌++◌, map, drop}
-use Rattle.clk_ruled.specs.Keys.{key_of}
+use Rattle.clk_ruled.specs.inside.Keys.{key_of}
 use Rattle.clk_ruled.proofs.settling.evictions.add_keys.Given as goal
 
 -- what is written and what is left to write are all

@@ -1,5 +1,5 @@
 use Rattle.std.proofs.Common.{◌≡◌, filter, take}
-use Rattle.clk_ruled.specs.Keys.{has_key}
+use Rattle.clk_ruled.specs.inside.Keys.{has_key}
 use Rattle.clk_ruled.proofs.settling.evictions.evicted_among.Given as goal
 
 abbrev pub invariant-loop-packet : goal.invariant-loop-packet

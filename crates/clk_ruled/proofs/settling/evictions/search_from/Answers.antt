@@ -1,5 +1,5 @@
 use Rattle.std.proofs.Common.{◌≡◌, ℕ, Greater, ◌∙◌, sym, subst, arith}
-use Rattle.clk_ruled.specs.Keys.{key_of, key_cmp}
+use Rattle.clk_ruled.specs.inside.Keys.{key_of, key_cmp}
 use Rattle.clk_ruled.proofs.KeyLemmas.{key-searched, key-absent}
 use Rattle.clk_ruled.proofs.settling.evictions.search_from.Goals as goal
 

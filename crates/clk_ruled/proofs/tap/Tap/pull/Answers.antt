@@ -1,7 +1,7 @@
 use Rattle.std.proofs.Common.{sym, subst, arith}
 use Rattle.crossbeam_queue.specs.Fifo.{Held}
 use Rattle.clk_ruled.specs.declared.view.View.{View}
-use Rattle.clk_ruled.specs.Rule.{Knows}
+use Rattle.clk_ruled.specs.inside.Rule.{Knows}
 use Rattle.clk_ruled.proofs.Steps.{pulls, learns}
 use Rattle.clk_ruled.proofs.TapSteps.{room-left, keeps-pulled, keeps-still, taken-rises, taken-known, taken-fewer, taken-all}
 use Rattle.clk_ruled.proofs.Settlement.{seats-within, seats-all}

@@ -1,5 +1,5 @@
 use Rattle.std.proofs.Common.{◌≡◌, take}
-use Rattle.clk_sched.specs.Held.{heads_of_all}
+use Rattle.clk_sched.specs.inside.Held.{heads_of_all}
 use Rattle.clk_sched.proofs.session.heads.held_heads.Given as goal
 
 abbrev pub invariant-loop-state : goal.invariant-loop-state

@@ -1,5 +1,5 @@
 use Rattle.std.proofs.Common.{◌≡◌, ◌-◌, ◌++◌, take, drop}
-use Rattle.clk_sched.specs.Ranks.{after_win}
+use Rattle.clk_sched.specs.inside.Ranks.{after_win}
 use Rattle.clk_sched.proofs.session.stride.place_visited.Given as goal
 
 abbrev pub invariant-loop-idle : goal.invariant-loop-idle

@@ -1,5 +1,5 @@
 use Rattle.std.proofs.Common.{◌≡◌, ◌<◌, ◌+◌, ◌++◌, take, drop, length}
-use Rattle.clk_sched.specs.Ranks.{put_rank}
+use Rattle.clk_sched.specs.inside.Ranks.{put_rank}
 use Rattle.clk_sched.proofs.session.stride.put.Given as goal
 
 -- what the rank is still to be put into gives what it was to be put into

@@ -1,6 +1,6 @@
 use Rattle.std.proofs.Common.{◌≡◌, ◌+◌, ◌++◌, ◌∙◌, ap, sym, suc, map, take, drop, set, get_or, arith}
 use Rattle.clk_sched.specs.declared.session.stride.Rank.{Rank}
-use Rattle.clk_sched.specs.Ranks.{less}
+use Rattle.clk_sched.specs.inside.Ranks.{less}
 use Rattle.clk_sched.proofs.RankLemmas.{less-none, first-is, changed-read, changed-more}
 use Rattle.clk_sched.proofs.session.stride.take_least.Goals as goal
 

@@ -1,5 +1,5 @@
 use Rattle.std.proofs.Common.{◌≡◌, ◌++◌, take, drop, map}
-use Rattle.clk_sched.specs.Ranks.{less}
+use Rattle.clk_sched.specs.inside.Ranks.{less}
 use Rattle.clk_sched.proofs.session.stride.take_least.Given as goal
 
 abbrev pub invariant-loop-rank : goal.invariant-loop-rank

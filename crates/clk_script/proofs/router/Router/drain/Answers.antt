@@ -2,7 +2,7 @@ use Rattle.std.proofs.Common.{◌≡◌, ◌-◌, length, ap, refl, subst, arith
 use Rattle.std.proofs.lemmas.Result.{err_from_is_err_and}
 use Rattle.clk_sched.specs.Results.{emitted}
 use Rattle.clk_script.specs.declared.devices.Device.{Device}
-use Rattle.clk_script.specs.Router.{IsSteadyAt}
+use Rattle.clk_script.specs.inside.Router.{IsSteadyAt}
 use Rattle.clk_script.proofs.RouterLemmas.{set-device}
 use Rattle.clk_script.proofs.ClosingLemmas.{steady-within, closes-all}
 use Rattle.clk_script.proofs.NeverShort.{queues-lose-nothing, kept-is}

@@ -1,6 +1,6 @@
 use Rattle.std.proofs.Common.{◌≡◌, true, map}
 use Rattle.clk_report.specs.Devices.{lists_of}
-use Rattle.clk_script.specs.Router.{device_log, device_emitted}
+use Rattle.clk_script.specs.inside.Router.{device_log, device_emitted}
 use Rattle.clk_script.proofs.router.Router.into_past.Given as goal
 
 abbrev pub invariant-loop-device : goal.invariant-loop-device

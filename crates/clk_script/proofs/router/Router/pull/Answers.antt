@@ -1,6 +1,6 @@
 use Rattle.std.proofs.Common.{refl, sym, subst, arith}
 use Rattle.clk_script.specs.declared.devices.Device.{Device}
-use Rattle.clk_script.specs.Router.{IsSteadyAt, LeadsOnByPull}
+use Rattle.clk_script.specs.inside.Router.{IsSteadyAt, LeadsOnByPull}
 use Rattle.clk_script.proofs.ClosingLemmas.{steady-within}
 use Rattle.clk_script.proofs.RouterLemmas.{set-device, IsAt-pulled}
 use Rattle.clk_script.proofs.router.Router.pull.Goals as goal

@@ -1,5 +1,5 @@
 use Rattle.std.proofs.Common.{length, ap, set, slice_get, refl, sym, subst, arith}
-use Rattle.clk_script.specs.Router.{IsNumber, CanSend}
+use Rattle.clk_script.specs.inside.Router.{IsNumber, CanSend}
 use Rattle.clk_script.proofs.SenderLemmas.{sender-at}
 use Rattle.clk_script.proofs.RouterLemmas.{member-at, all-there, IsAt-sent}
 use Rattle.clk_script.proofs.router.Router.send.Goals as goal

@@ -1,6 +1,6 @@
 use Rattle.std.proofs.Common.{◌≡◌, ◌∙◌, false, sym}
 use Rattle.std.specs.Str.{bytes_eq}
-use Rattle.clk_tree.specs.Naming.{place_else}
+use Rattle.clk_tree.specs.inside.Naming.{place_else}
 use Rattle.clk_tree.proofs.MixedLemmas.{updates-name}
 use Rattle.clk_tree.proofs.SlotLemmas.{slot-taken, else-found, else-slotted}
 use Rattle.clk_tree.proofs.names.Names.declare.Goals as goal

@@ -1,6 +1,6 @@
 use Rattle.std.proofs.Common.{◌≡◌, ◌∙◌, ◌-◌, length, take, drop, true, false, nat_le, if◌then◌else◌, sym, ap, ap₂, arith}
 use Rattle.std.proofs.lemmas.Bool.Decides.{nat_tests}
-use Rattle.clk_tree.specs.Naming.{mixed_from, mixed}
+use Rattle.clk_tree.specs.inside.Naming.{mixed_from, mixed}
 use Rattle.clk_tree.proofs.names.Names.mixed.Goals as goal
 
 pub returns-then-name-le32 : goal.returns-then-name-le32

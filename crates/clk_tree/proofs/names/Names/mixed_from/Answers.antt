@@ -1,6 +1,6 @@
 use Rattle.std.proofs.Common.{◌∙◌, refl, sym, ap}
 use Rattle.std.proofs.lemmas.List.{drop_more, drop_all}
-use Rattle.clk_tree.specs.Naming.{mixed_from}
+use Rattle.clk_tree.specs.inside.Naming.{mixed_from}
 use Rattle.clk_tree.proofs.names.Names.mixed_from.Goals as goal
 
 pub loop-byte-init : goal.loop-byte-init

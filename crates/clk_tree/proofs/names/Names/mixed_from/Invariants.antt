@@ -1,5 +1,5 @@
 use Rattle.std.proofs.Common.{◌≡◌, drop}
-use Rattle.clk_tree.specs.Naming.{mixed_from}
+use Rattle.clk_tree.specs.inside.Naming.{mixed_from}
 use Rattle.clk_tree.proofs.names.Names.mixed_from.Given as goal
 
 abbrev pub invariant-loop-byte : goal.invariant-loop-byte

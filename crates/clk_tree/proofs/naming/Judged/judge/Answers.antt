@@ -6,8 +6,8 @@ use Rattle.clk_tree.specs.declared.node.Node.{Node}
 use Rattle.clk_tree.specs.declared.token.Token.{Token}
 use Rattle.clk_tree.specs.Classes.{class_view}
 use Rattle.clk_tree.specs.Source.{kept}
-use Rattle.clk_tree.specs.Numbers.{has_number}
-use Rattle.clk_tree.specs.Naming.{class_in, may_stand, node_at}
+use Rattle.clk_tree.specs.inside.Numbers.{has_number}
+use Rattle.clk_tree.specs.inside.Naming.{class_in, may_stand, node_at}
 use Rattle.clk_tree.proofs.JudgeLemmas.{Judges-missing, Judges-fails, Judges-more}
 use Rattle.clk_tree.proofs.WidthLemmas.{width-in}
 use Rattle.clk_tree.proofs.naming.Judged.judge.Goals as goal

@@ -1,6 +1,6 @@
 use Rattle.std.proofs.Common.{rules, ◌≡◌, ◌∙◌, ◌/◌, ◌%◌, ◌||◌, ◌==◌, length, ap}
 use Rattle.std.proofs.lemmas.List.{with_items_is}
-use Rattle.clk_tree.specs.Numbers.{is_marked}
+use Rattle.clk_tree.specs.inside.Numbers.{is_marked}
 use Rattle.clk_tree.proofs.MarkLemmas.{same-mark}
 use Rattle.clk_tree.proofs.numbers.Numbers.insert.Goals as goal
 

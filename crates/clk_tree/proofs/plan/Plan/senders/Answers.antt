@@ -1,6 +1,6 @@
 use Rattle.std.proofs.Common.{map, length, sym, subst, ◌∙◌}
 use Rattle.std.specs.List.{AllByRecursion}
-use Rattle.clk_tree.specs.Kept.{planned}
+use Rattle.clk_tree.specs.inside.Kept.{planned}
 use Rattle.clk_tree.specs.PlanParts.{number_of, queues_of, AreRising, SendsWithin}
 use Rattle.clk_tree.proofs.PartLemmas.{senders-rising, senders-wired}
 use Rattle.clk_tree.proofs.plan.Plan.senders.Goals as goal

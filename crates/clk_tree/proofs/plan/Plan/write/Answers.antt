@@ -1,6 +1,6 @@
 use Rattle.std.proofs.Common.{◌≡◌, ℕ, List, length, map, subst, ap, ◌∙◌, ◌≤◌}
 use Rattle.std.proofs.lemmas.Result.{IfOk-weaker}
-use Rattle.clk_tree.specs.Kept.{planned}
+use Rattle.clk_tree.specs.inside.Kept.{planned}
 use Rattle.clk_tree.specs.Limits.{most_bytes}
 use Rattle.clk_tree.specs.Plan.{Planned, Denotes}
 use Rattle.clk_tree.specs.Canonical.{canonical_text}

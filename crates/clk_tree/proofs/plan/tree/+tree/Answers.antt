@@ -1,8 +1,9 @@
 use Rattle.std.proofs.Common.{ℕ, map, length, sym, ap, subst, ◌∙◌}
 use Rattle.clk_sched.specs.Built.{row}
 use Rattle.clk_tree.specs.Classes.{class_view}
-use Rattle.clk_tree.specs.PlanTree.{IsOver, IsRowOf}
-use Rattle.clk_tree.specs.Kept.{planned}
+use Rattle.clk_tree.specs.PlanTree.{IsRowOf}
+use Rattle.clk_tree.specs.inside.PlanTree.{IsOver}
+use Rattle.clk_tree.specs.inside.Kept.{planned}
 use Rattle.clk_tree.proofs.TreeLemmas.{IsMade, scheduler-here, over-made, so-far-more, all-made}
 use Rattle.clk_tree.proofs.plan.tree.+tree.Goals as goal
 

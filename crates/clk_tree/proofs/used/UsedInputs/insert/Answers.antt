@@ -1,6 +1,6 @@
 use Rattle.std.proofs.Common.{◌+◌, get_or, None}
 use Rattle.std.specs.BTreeSet.{contains}
-use Rattle.clk_tree.specs.Used.{pair_cmp, is_in}
+use Rattle.clk_tree.specs.inside.Used.{pair_cmp, is_in}
 use Rattle.clk_tree.proofs.UsedLemmas.{inserted}
 use Rattle.clk_tree.proofs.used.UsedInputs.insert.Goals as goal
 

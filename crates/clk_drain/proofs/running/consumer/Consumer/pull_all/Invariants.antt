@@ -1,5 +1,5 @@
 use Rattle.std.specs.Prelude.{◌≤◌, ◌-◌}
-use Rattle.clk_drain.specs.Threads.{IsPulledFor}
+use Rattle.clk_drain.specs.inside.Threads.{IsPulledFor}
 use Rattle.clk_drain.proofs.running.consumer.Consumer.pull_all.Given as goal
 
 abbrev pub invariant-loop-made : goal.invariant-loop-made

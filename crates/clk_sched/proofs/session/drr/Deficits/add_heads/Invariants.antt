@@ -1,5 +1,5 @@
 use Rattle.std.proofs.Common.{◌≡◌, ◌++◌, take}
-use Rattle.clk_sched.specs.Held.{heads_in}
+use Rattle.clk_sched.specs.inside.Held.{heads_in}
 use Rattle.clk_sched.proofs.session.drr.Deficits.add_heads.Given as goal
 
 abbrev pub invariant-loop-served : goal.invariant-loop-served

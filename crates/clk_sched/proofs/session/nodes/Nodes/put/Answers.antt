@@ -1,5 +1,5 @@
 use Rattle.std.proofs.Common.{ap}
-use Rattle.clk_sched.specs.Turning.{with_state}
+use Rattle.clk_sched.specs.inside.Turning.{with_state}
 use Rattle.clk_sched.proofs.session.nodes.Nodes.put.Goals as goal
 
 pub returns : goal.returns

@@ -4,7 +4,7 @@ use Rattle.std.proofs.lemmas.List.{length-map}
 use Rattle.std.proofs.lemmas.List.FromFn.{length-map-range_with_len}
 use Rattle.std.proofs.lemmas.List.Elements.{All-from_recursion}
 use Rattle.clk_sched.specs.Laws.Stride.{stride_of}
-use Rattle.clk_sched.specs.Ranks.{greatest_stride, IsRankOf, HasRisingPasses, first_rank}
+use Rattle.clk_sched.specs.inside.Ranks.{greatest_stride, IsRankOf, HasRisingPasses, first_rank}
 use Rattle.clk_sched.proofs.StridePasses.{passes-first, first-ranks, first-rises, strides-bounded}
 use Rattle.clk_sched.proofs.session.stride.Passes.new.Goals as goal
 

@@ -3,7 +3,7 @@ use Rattle.std.specs.List.{All, AllByRecursion}
 use Rattle.std.proofs.lemmas.List.Elements.{All-from_recursion, recursion_from_All}
 use Rattle.smallvec.proofs.SmallVecLemmas.{items-with_items}
 use Rattle.clk_sched.specs.declared.session.stride.Rank.{Rank}
-use Rattle.clk_sched.specs.Ranks.{IsRankOf, HasRisingPasses, first_pass, less}
+use Rattle.clk_sched.specs.inside.Ranks.{IsRankOf, HasRisingPasses, first_pass, less}
 use Rattle.clk_sched.proofs.RankLemmas.{win-from, win-least, win-kept, win-kept_rising}
 use Rattle.clk_sched.proofs.StridePasses.{passes-won}
 use Rattle.clk_sched.proofs.session.stride.Passes.won.Goals as goal

@@ -5,10 +5,11 @@ use Rattle.clk_packet.specs.declared.packet.Packet.{Packet}
 use Rattle.clk_sched.specs.declared.session.state.State.{State}
 use Rattle.clk_sched.specs.declared.session.nodes.Nodes.{Nodes}
 use Rattle.clk_sched.specs.Tree.{Class}
-use Rattle.clk_sched.specs.Holds.OfClass.{Fits}
+use Rattle.clk_sched.specs.inside.Holds.OfClass.{Fits}
 use Rattle.clk_sched.specs.Log.{asking}
-use Rattle.clk_sched.specs.Places.{Answers, edges_of, edges_at, edges_in, queue_asked}
-use Rattle.clk_sched.specs.Pulling.{Keeps, Pulls, AsksAll, TakesTurn, added, now_of, asked_in_order}
+use Rattle.clk_sched.specs.Places.{Answers}
+use Rattle.clk_sched.specs.inside.Places.{edges_of, edges_at, edges_in, queue_asked}
+use Rattle.clk_sched.specs.inside.Pulling.{Keeps, Pulls, AsksAll, TakesTurn, added, now_of, asked_in_order}
 
 -- these nodes, of which one holds this state
 abbrev pub with_state : Nodes → ℕ → State → Nodes

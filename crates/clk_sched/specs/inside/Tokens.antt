@@ -4,9 +4,9 @@ use Rattle.clk_sched.specs.declared.session.inputs.Inputs.{Inputs}
 use Rattle.clk_sched.specs.declared.session.state.State.TheVariants.{Shaper}
 use Rattle.clk_sched.specs.declared.session.shaper.Bucket.{Bucket}
 use Rattle.clk_sched.specs.declared.session.nodes.Nodes.{Nodes}
-use Rattle.clk_sched.specs.Holds.Shaper.{IsTaken, Tells, IsGivenBack}
-use Rattle.clk_sched.specs.Places.{AllFit}
-use Rattle.clk_sched.specs.Turning.{with_state}
+use Rattle.clk_sched.specs.inside.Holds.Shaper.{IsTaken, Tells, IsGivenBack}
+use Rattle.clk_sched.specs.inside.Places.{AllFit}
+use Rattle.clk_sched.specs.inside.Turning.{with_state}
 
 -- A token was taken out of the bucket of a node, if there was one.
 pub record TakesToken (old new : Nodes) (x : ℕ) (token : Bool) : Type 0 where

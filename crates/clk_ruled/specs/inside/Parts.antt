@@ -5,7 +5,7 @@ use Rattle.clk_packet.specs.declared.packet.Kind.TheVariants.{TailDrop, FrontDro
 use Rattle.clk_ruled.specs.declared.view.View.{View}
 use Rattle.clk_ruled.specs.Lists.{room_of, has_sender, SendersRise}
 use Rattle.clk_ruled.specs.Queue.{SeatLists, IsShared, empty_seat}
-use Rattle.clk_ruled.specs.Rule.{KnowsAfter, tap_view}
+use Rattle.clk_ruled.specs.inside.Rule.{KnowsAfter, tap_view}
 use Rattle.atomic_table.specs.Seated.{TableId}
 use Rattle.clk_ruled.specs.declared.view.Setup.{Setup}
 

@@ -5,7 +5,7 @@ use Rattle.clk_tree.specs.PlanParts.{AreRising}
 use Rattle.clk_script.specs.declared.router.Router.{Router}
 use Rattle.clk_script.specs.Meaning.{Setup, Event, sender_numbers, is_at}
 use Rattle.clk_script.specs.OneMeaning.{IsApart}
-use Rattle.clk_script.specs.Router.{IsAt}
+use Rattle.clk_script.specs.inside.Router.{IsAt}
 
 -- the queues of a device over a setup: the leaves of its tree
 pub record AreQueuesOf (setup : Setup) (d : ℕ) (tree : Tree) : Type 0 where

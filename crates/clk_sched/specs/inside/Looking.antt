@@ -4,11 +4,11 @@ use Rattle.clk_packet.specs.declared.packet.Packet.{Packet}
 use Rattle.clk_sched.specs.declared.visit.Visit.{Visit}
 use Rattle.clk_sched.specs.declared.session.drr.Deficits.{Deficits}
 use Rattle.clk_sched.specs.declared.session.nodes.Nodes.{Nodes}
-use Rattle.clk_sched.specs.Logged.{with_visit}
+use Rattle.clk_sched.specs.inside.Logged.{with_visit}
 use Rattle.clk_sched.specs.Heads.{LooksAtHeads, is_covered}
 use Rattle.clk_sched.specs.Laws.Deficit.{next_input, deficit_covers}
-use Rattle.clk_sched.specs.Holds.Deficit.{HoldsDeficits}
-use Rattle.clk_sched.specs.Pulling.{AsksAll}
+use Rattle.clk_sched.specs.inside.Holds.Deficit.{HoldsDeficits}
+use Rattle.clk_sched.specs.inside.Pulling.{AsksAll}
 
 -- a visit of a node in the pull that nodes are in
 abbrev pub looking : Nodes → ℕ → ℕ → Option Packet → Bool → Bool → Visit

@@ -6,9 +6,9 @@ use Rattle.clk_sched.specs.declared.session.stride.Passes.{Passes}
 use Rattle.clk_sched.specs.Tree.{Class, prio, round_robin, drr, stride, shaper}
 use Rattle.clk_sched.specs.Turns.{Turn, visits_before}
 use Rattle.clk_sched.specs.Laws.RoundRobin.{beginning}
-use Rattle.clk_sched.specs.Holds.Deficit.{HoldsDeficits}
-use Rattle.clk_sched.specs.Holds.Stride.{HoldsPasses}
-use Rattle.clk_sched.specs.Holds.Shaper.{HoldsBucket}
+use Rattle.clk_sched.specs.inside.Holds.Deficit.{HoldsDeficits}
+use Rattle.clk_sched.specs.inside.Holds.Stride.{HoldsPasses}
+use Rattle.clk_sched.specs.inside.Holds.Shaper.{HoldsBucket}
 
 -- the passes of so many inputs after some turns
 pub record FitsPasses (inputs : ℕ) (p : Passes) : Type 0 where

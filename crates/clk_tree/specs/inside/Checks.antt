@@ -9,7 +9,7 @@ use Rattle.clk_tree.specs.declared.node.Link.{Link}
 use Rattle.clk_tree.specs.declared.tables.Inputs.{Inputs}
 use Rattle.clk_tree.specs.declared.tables.Graph.{Graph}
 use Rattle.clk_tree.specs.Limits.{most_bytes}
-use Rattle.clk_tree.specs.Within.{IsLinkWithin}
+use Rattle.clk_tree.specs.inside.Within.{IsLinkWithin}
 use Rattle.clk_tree.specs.Declarations.{fails_at}
 use Rattle.clk_tree.specs.Ports.{role_at, target, has_output, has_input, is_source, is_queue, differ, inputs_used, inputs_of, output_connected, all_connected, follow}
 

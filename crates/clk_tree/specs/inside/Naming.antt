@@ -17,7 +17,7 @@ use Rattle.clk_tree.specs.declared.node.Link.{Link}
 use Rattle.clk_tree.specs.declared.node.Node.{Node}
 use Rattle.clk_tree.specs.declared.token.Token.{Token}
 use Rattle.clk_tree.specs.Classes.{Class, sender, class_named, class_view}
-use Rattle.clk_tree.specs.Numbers.{has_number}
+use Rattle.clk_tree.specs.inside.Numbers.{has_number}
 use Rattle.clk_tree.specs.Source.{Declared, Element, Wire, letters, elements}
 use Rattle.clk_tree.specs.Declarations.{first_after, fails_at, is_declared, name_twice, class_if, class_of, is_sender, is_bad_after, bad_argument, unknown_end}
 use Rattle.clk_tree.specs.Faults.{place_of, nodes_of}

@@ -8,8 +8,8 @@ use Rattle.clk_tree.specs.PlanParts.{queues_of}
 use Rattle.clk_drain.specs.declared.running.opening.LeafQueue.{LeafQueue}
 use Rattle.clk_drain.specs.Outcome.{SharedQueue}
 use Rattle.clk_drain.specs.Run.{queues_at}
-use Rattle.clk_drain.specs.Handed.{EndLists}
-use Rattle.clk_drain.specs.Opening.{AreOpenAs}
+use Rattle.clk_drain.specs.inside.Handed.{EndLists}
+use Rattle.clk_drain.specs.inside.Opening.{AreOpenAs}
 
 -- A device of a plan was opened: its session is before its first pull, and it has these queues.
 pub record IsOpenOf (plan : List Planned) (traces : List (List Packet)) (device : ℕ) (queues : List LeafQueue) (ends : EndLists) : Type 0 where

@@ -11,9 +11,9 @@ use Rattle.clk_sched.specs.Tree.{Class, Row, end, leaf, node, nodes, width}
 use Rattle.clk_sched.specs.Turns.{Turn}
 use Rattle.clk_sched.specs.Laws.{AllowsTurn}
 use Rattle.clk_sched.specs.Log.{visits_of, result_of, asking}
-use Rattle.clk_sched.specs.Holds.OfClass.{Holds}
-use Rattle.clk_sched.specs.Holds.Shaper.{AreBefore}
-use Rattle.clk_sched.specs.Places.{StandsIn, AreWired, AllFit}
+use Rattle.clk_sched.specs.inside.Holds.OfClass.{Holds}
+use Rattle.clk_sched.specs.inside.Holds.Shaper.{AreBefore}
+use Rattle.clk_sched.specs.inside.Places.{StandsIn, AreWired, AllFit}
 
 -- the number of a pull, and its counted moment
 pub record Now : Type 0 where

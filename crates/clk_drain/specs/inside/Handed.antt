@@ -18,7 +18,7 @@ use Rattle.clk_drain.specs.Line.{LineLists, leaves_of, seats_in, senders_at, Are
 use Rattle.clk_drain.specs.Outcome.{Device, IsSettledOutcome}
 use Rattle.clk_drain.specs.Closing.{accepted_over, HasSent, queue_of_line, IsFaultOfDrain}
 use Rattle.clk_drain.specs.Moments.{steps, HasMoments}
-use Rattle.clk_drain.specs.Threads.{Terms, Feed, ArePulled}
+use Rattle.clk_drain.specs.inside.Threads.{Terms, Feed, ArePulled}
 
 -- a device's session, whether its visits are kept, and the taps and the seats of its queues, each in order
 pub record EndLists : Type 0 where

@@ -20,7 +20,7 @@ use Rattle.clk_script.specs.declared.past.Past.{Past}
 use Rattle.clk_script.specs.declared.router.Router.{Router}
 use Rattle.clk_script.specs.Script.{Names, command_in, commands_of, closing_moment, most_lines, most_moment}
 use Rattle.clk_script.specs.Meaning.{Setup, has_several, Event, offered, pulled, command_of, offer_text, pull_text, closing_text}
-use Rattle.clk_script.specs.Router.{IsAt, IsSound, departure_text, LeadsOnByClosing}
+use Rattle.clk_script.specs.inside.Router.{IsAt, IsSound, departure_text, LeadsOnByClosing}
 
 -- what is kept of a command that is to be carried out, of an offer, and of a pull
 abbrev pub row_asked : Command → Row

@@ -2,7 +2,7 @@
 use Rattle.std.specs.Prelude.{◌≡◌, ℕ, ◌+◌, List, ◌++◌, length, drop, Bool, true, None}
 use Rattle.clk_tree.specs.declared.token.Token.{Token}
 use Rattle.clk_tree.specs.Tokens.{comment_end, tokens_of, tokens_from}
-use Rattle.clk_tree.specs.Within.{AreWithin}
+use Rattle.clk_tree.specs.inside.Within.{AreWithin}
 
 -- Up to this place the tokens of a text are these, and this is left of it. Where it is known that a comment isn't closed, none that
 -- begins here or later is.

@@ -7,7 +7,7 @@ use Rattle.clk_sched.specs.declared.tree.Node.TheVariants.{Leaf, Scheduler}
 use Rattle.clk_sched.specs.declared.tree.Tree.TheDeep.{deep-Node}
 use Rattle.clk_sched.specs.Tree.{Tree, queue, scheduler, height}
 use Rattle.clk_sched.specs.Built.{row, levels}
-use Rattle.clk_sched.specs.Kept.{kept}
+use Rattle.clk_sched.specs.inside.Kept.{kept}
 
 most_le-height-row : (trees : List Tree) → most (λ t. levels t + 1) trees ≤ height (row trees) + 1
 most_le-height-row [] = omega arith

@@ -1,0 +1,15 @@
+-- What the code's own parts say to one another: no contract of a public call stands on it.
+pub mod Falls
+pub mod Held
+pub mod Holds
+pub mod Kept
+pub mod LaidOut
+pub mod Logged
+pub mod Looking
+pub mod Marks
+pub mod Places
+pub mod Pulling
+pub mod Ranks
+pub mod Session
+pub mod Tokens
+pub mod Turning

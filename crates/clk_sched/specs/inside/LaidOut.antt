@@ -1,0 +1,86 @@
+-- How a tree is laid out in tables by node number.
+use Rattle.std.specs.Prelude.{◌≡◌, ℕ, ◌+◌, ◌≤◌, List, [], ◌∷◌, ◌++◌, length, map, suc, ⊤}
+use Rattle.clk_sched.specs.declared.session.inputs.Input.{Input}
+use Rattle.clk_sched.specs.declared.session.inputs.Input.TheVariants.{Queue, Scheduler}
+use Rattle.clk_sched.specs.declared.session.inputs.Inputs.{Inputs}
+use Rattle.clk_sched.specs.declared.session.state.State.{State}
+use Rattle.clk_sched.specs.declared.tree.layout.Tables.{Tables}
+use Rattle.clk_sched.specs.Limits.{most_inputs}
+use Rattle.clk_sched.specs.Tree.{Class, Row, end, leaf, node, Tree, queue, scheduler, nodes, width, HasArguments}
+use Rattle.clk_sched.specs.inside.Places.{inputs_of}
+use Rattle.clk_sched.specs.Session.{elements}
+use Rattle.clk_sched.specs.inside.Holds.OfClass.{Holds}
+
+-- how many queues and schedulers a tree has, and how many schedulers
+abbrev pub elements_of : Tree → ℕ
+elements_of (queue q) = 1
+elements_of (scheduler class inputs) = suc (elements inputs)
+
+abbrev pub nodes_of : Tree → ℕ
+nodes_of (queue q) = 0
+nodes_of (scheduler class inputs) = suc (nodes inputs)
+
+-- what stands at an input for a tree whose schedulers are numbered from `next` on
+abbrev pub input_of : ℕ → Tree → Input
+input_of next (queue q) = Queue q
+input_of next (scheduler class inputs) = Scheduler next
+
+-- What a table says of a node: what stands at its inputs, and how many edges there are from it and below.
+abbrev pub Entry : Type 0
+Entry = List Input × ℕ
+
+abbrev pub entry : Inputs → Entry
+entry p = (p.each.items, p.edges)
+
+-- the entry of node `next` over a row: each queue and each scheduler below has one edge to it
+abbrev pub entry_over : ℕ → Row → Entry
+entry_over next inputs = (inputs_of (suc next) inputs, elements inputs)
+
+-- the entries of the schedulers of a row, which are numbered from `next` on, and of a tree
+abbrev pub entries : ℕ → Row → List Entry
+entries next end = []
+entries next (leaf q row) = entries next row
+entries next (node class inputs row) = entry_over next inputs ∷ (entries (suc next) inputs ++ entries (suc (next + nodes inputs)) row)
+
+abbrev pub entries_of : ℕ → Tree → List Entry
+entries_of next (queue q) = []
+entries_of next (scheduler class inputs) = entry_over next inputs ∷ entries (suc next) inputs
+
+-- the class of a node, and how many inputs it has
+abbrev pub Kind : Type 0
+Kind = Class × ℕ
+
+-- the kinds of the schedulers of a row, by number, and of a tree
+abbrev pub kinds : Row → List Kind
+kinds end = []
+kinds (leaf q row) = kinds row
+kinds (node class inputs row) = (class, width inputs) ∷ (kinds inputs ++ kinds row)
+
+abbrev pub kinds_of : Tree → List Kind
+kinds_of (queue q) = []
+kinds_of (scheduler class inputs) = (class, width inputs) ∷ kinds inputs
+
+-- each node of these kinds holds what it does before its first turn
+abbrev pub AreFirst : List Kind → List State → Type 0
+AreFirst [] [] = ⊤
+AreFirst [] (s ∷ states) = ⊥
+AreFirst (k ∷ kinds) [] = ⊥
+AreFirst (k ∷ kinds) (s ∷ states) = Holds k.0 k.1 [] s × AreFirst kinds states
+
+-- Nodes with these entries, and of these kinds, were added to tables.
+pub record Adds (old new : Tables) (more : List Entry) (added : List Kind) : Type 0 where
+  pub inputs : map entry new.inputs.items ≡ map entry old.inputs.items ++ more
+  pub states : (before : List Kind) → AreFirst before old.states.items → AreFirst (before ++ added) new.states.items
+
+-- A node that holds this was added to tables, with those below it: it stands over a row.
+abbrev pub AddsNode : Tables → Tables → State → Row → Type 0
+AddsNode old new state row =
+    (class : Class) → Holds class (width row) [] state
+    → Adds old new (entry_over (length old.inputs.items) row ∷ entries (suc (length old.inputs.items)) row) ((class, width row) ∷ kinds row)
+
+-- the arguments of a class are those of a scheduler over some inputs
+pub record FitsInputs (class : Class) : Type 0 where
+  pub inputs : ℕ
+  pub some : 1 ≤ inputs
+  pub few : inputs ≤ most_inputs
+  pub arguments : HasArguments class inputs

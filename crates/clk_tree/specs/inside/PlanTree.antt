@@ -1,0 +1,35 @@
+-- How a tree is built from the elements of a plan.
+use Rattle.std.specs.Prelude.{◌≡◌, ◌≤◌, ◌⊎◌, ℕ, List, length, Bool, true, false, Option, Some, None, MatchOption, Result, zero, suc, slice_get}
+use Rattle.std.specs.List.{AllByRecursion}
+use Rattle.clk_packet.specs.declared.fault.Fault.{Fault}
+use Rattle.clk_sched.specs.Tree as tree
+use Rattle.clk_sched.specs.Tree.{Tree, HasArguments}
+use Rattle.clk_sched.specs.Built.{built}
+use Rattle.clk_sched.specs.Limits.{most_inputs}
+use Rattle.clk_tree.specs.Classes.{Class}
+use Rattle.clk_tree.specs.Plan.{Planned}
+use Rattle.clk_tree.specs.PlanTree.{is_queue, scheduler_over}
+
+-- Whether a class can be a scheduler over so many inputs: there is one at least, they are within the limit, and its arguments fit them.
+abbrev pub FitsInputs : ℕ → Option tree.Class → Type 0
+FitsInputs inputs None = ⊥
+FitsInputs inputs (Some class) = HasArguments class inputs
+
+pub record IsOver (class : Class) (inputs : ℕ) : Type 0 where
+  pub some : 1 ≤ inputs
+  pub within : inputs ≤ most_inputs
+  pub fits : FitsInputs inputs (scheduler_over class inputs)
+
+-- what the constructor of a class makes of these trees
+abbrev pub IsBuilt : Class → List Tree → Result Tree Fault → Type 0
+IsBuilt class children result = MatchOption (scheduler_over class (length children)) ⊥ (λ over. result ≡ built over children)
+
+abbrev pub is_queue_at : Option Planned → Bool
+is_queue_at None = false
+is_queue_at (Some e) = is_queue e.class
+
+-- An element is a queue, or a scheduler over such elements with no more than so many schedulers on a path down, itself among them.
+abbrev pub IsScheduled : List Planned → ℕ → ℕ → Type 0
+IsScheduled plan zero s = is_queue_at (slice_get plan s) ≡ true
+IsScheduled plan (suc levels) s =
+    (is_queue_at (slice_get plan s) ≡ true) ⊎ MatchOption (slice_get plan s) ⊥ (λ e. IsOver e.class (length e.sources) × AllByRecursion (IsScheduled plan levels) e.sources)
