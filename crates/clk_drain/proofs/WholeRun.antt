@@ -2,7 +2,7 @@
 use Rattle.std.proofs.Common.{◌≡◌, ℕ, ◌≤◌, Bool, true, List, [], ◌∷◌, length, map, Result, Ok, Err, IfOk, IfErr, refl, sym, ap, ◌∙◌, subst}
 use Rattle.std.specs.List.{AllByRecursion}
 use Rattle.clk_packet.specs.declared.packet.Packet.{Packet}
-use Rattle.clk_packet.specs.Trace.{packets_in}
+use Rattle.clk_packet.specs.Trace.{packets_in, sent_by}
 use Rattle.clk_packet.specs.declared.fault.Fault.{Fault}
 use Rattle.clk_ruled.specs.Queue.{SeatLists, ClosedLists}
 use Rattle.clk_sched.specs.declared.visit.Visit.{Visit}
@@ -16,7 +16,7 @@ use Rattle.clk_drain.specs.inside.Threads.{Terms, Feed, HaveSentAll}
 use Rattle.clk_drain.specs.inside.Handed.{EndLists, PulledLists, HavePulled, AreAllJoinable, IsReadyToClose, AreApartDevices, AreKeptLogs, AreSettledTogether, IsFaultOfClosing, seats_given, feeds_from, joined_feeds}
 use Rattle.clk_drain.specs.Run.{IsRunWith, IsRunOutcome, IsKeptRun, senders_in, AreKnown, IsFaultOfRun}
 use Rattle.clk_drain.specs.inside.Devices.{AreOpenFrom, KeepVisits}
-use Rattle.clk_drain.specs.Outcome.{SharedQueue, Device}
+use Rattle.clk_drain.specs.Outcome.{SharedQueue, Device, IsSettledOutcome}
 use Rattle.clk_drain.proofs.Joining.{AreJoinedFeeds, all-joined, all-ready, all-apart, joined-kept}
 use Rattle.clk_drain.proofs.PlanSenders.{queues-apart}
 use Rattle.clk_drain.proofs.Refused.{unclosed}
@@ -109,3 +109,19 @@ answered-err visits plan terms queues ends closed pulled feeds (Err fault) are h
 pub with-logs : (plan : List Planned) (traces : List (List Packet)) (step limit : ℕ) (result : Result Outcome Fault) → IfOk result (IsKeptRun true plan traces step limit) → IfOk result (IsRunOutcome plan traces step limit)
 with-logs plan traces step limit (Ok outcome) h = subst (λ (logs : List (List Visit)). IsRunWith plan traces step limit logs outcome) (sym (h.kept refl)) h.is
 with-logs plan traces step limit (Err fault) h = tt
+
+-- An outcome with the same packets and tallies, and with the same logs where visits are kept.
+pub kept-same : (visits : Bool) (plan : List Planned) (traces : List (List Packet)) (step limit : ℕ) (outcome same : Outcome) → same.emitted.items ≡ outcome.emitted.items → same.tallies.items ≡ outcome.tallies.items → (visits ≡ true → same.logs.items ≡ outcome.logs.items)
+    → IsKeptRun visits plan traces step limit outcome → IsKeptRun visits plan traces step limit same
+kept-same visits plan traces step limit outcome same emitted tallies logs h = record {
+  logs = h.logs;
+  kept = λ keeps. ap (map (λ log. log.items)) (logs keeps) ∙ h.kept keeps;
+  is = record {
+    devices = h.is.devices;
+    each = h.is.each;
+    logged = h.is.logged;
+    emitted = ap (map (λ packets. packets.items)) emitted ∙ h.is.emitted;
+    settled = subst (IsSettledOutcome (sent_by traces) h.is.devices) (sym tallies) h.is.settled;
+    moments = h.is.moments;
+  };
+}

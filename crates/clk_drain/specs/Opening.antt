@@ -1,4 +1,4 @@
--- What a run opens before its threads start.
+-- A queue of a plan, at its leaf.
 use Rattle.std.specs.Prelude.{ℕ}
 use Rattle.clk_tree.specs.PlanParts.{Queued}
 use Rattle.clk_drain.specs.Outcome.{SharedQueue}

@@ -1,4 +1,4 @@
--- What the parts of a closing say to one another.
+-- What was gathered of a line, and what was taken.
 use Rattle.std.specs.Prelude.{◌≡◌, true}
 use Rattle.std.specs.List.{AllByRecursion}
 use Rattle.clk_ruled.specs.Queue.{ClosedLists}

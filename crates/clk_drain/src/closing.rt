@@ -50,7 +50,7 @@ pub fn close_and_drain<W: Wait>(
     close(alloc, wait, DeviceSession::of(session), lines, moment)
 }
 
-/// The same, of a session that may keep no visits: then there is a log, but what is handed back has none.
+/// The same, of a session that may keep no visits: what is said of its log is then said of one that isn't handed back.
 ///
 /// # Errors
 ///

@@ -11,7 +11,7 @@ mod opening;
 mod producer;
 mod threads;
 
-ghost use Rattle.std.specs.Prelude.{◌≡◌, ◌≤◌, ◌<◌, true, false, map, length, IfOk, IfErr};
+ghost use Rattle.std.specs.Prelude.{◌≡◌, ◌≤◌, ◌<◌, true, false, [], map, length, IfOk, IfErr};
 ghost use Rattle.clk_packet.specs.declared.fault.Fault.TheVariants.{UnknownSender};
 ghost use Rattle.clk_packet.specs.Trace.{sent_by};
 ghost use Rattle.clk_ruled.specs.Lists.{has_sender};
@@ -68,9 +68,8 @@ pub fn run<R: Threads + Wait, W: Wait + Sync, G: Gate + Sync>(
     run_with(rt, alloc, wait, plan, traces, step, limit, gate, true)
 }
 
-/// Runs a plan over a trace as `run` does. Where no visits are kept, the outcome's logs are empty, and no memory is taken while threads
-/// run but for the packets that come out: that each device made a run of its tree, by which what came out is told, is proved of visits
-/// that contracts alone know.
+/// Runs a plan over a trace as `run` does, and keeps visits or not. That each device made a run of its tree, by which what came out is
+/// told, is said of the outcome's logs where visits are kept, and else of visits that contracts alone know: then the outcome has no log.
 ///
 /// # Errors
 ///
@@ -89,6 +88,7 @@ pub fn run_with<R: Threads + Wait, W: Wait + Sync, G: Gate + Sync>(
     requires step { (1 ≤ step) × (step ≤ most_step) }
     requires limit { (1 ≤ limit) × (limit ≤ most_limit) }
     ensures outcome { IfOk result (IsKeptRun visits plan.now traces.now step limit) }
+    ensures none { visits ≡ false → IfOk result (λ outcome. outcome.logs.items ≡ []) }
     ensures known { IfOk result (λ _. AreKnown (senders_in plan.now) traces.now) }
     ensures fault { IfErr result (IsFaultOfRun plan.now traces.now) }
 {
@@ -100,7 +100,30 @@ pub fn run_with<R: Threads + Wait, W: Wait + Sync, G: Gate + Sync>(
     let course = Course::new(wait, traces, gate, step, limit, handed.producers.len());
     let ended = run_threads(rt, alloc, &course, handed)?;
     let closings = join_devices(alloc, queues, ended.pulled, ended.closed)?;
-    close_devices(alloc, &course, closings)
+    let outcome = close_devices(alloc, &course, closings)?;
+    Ok(kept(alloc, outcome, visits))
+}
+
+// The same outcome, without its logs where no visits are kept.
+fn kept(alloc: Global, outcome: Outcome, visits: bool) -> Outcome
+    ensures emitted { result.emitted.items ≡ outcome.emitted.items }
+    ensures tallies { result.tallies.items ≡ outcome.tallies.items }
+    ensures logs { visits ≡ true → result.logs.items ≡ outcome.logs.items }
+    ensures none { visits ≡ false → result.logs.items ≡ [] }
+{
+    if visits {
+        return outcome;
+    }
+    let Outcome {
+        emitted,
+        tallies,
+        ..
+    } = outcome;
+    Outcome {
+        emitted,
+        logs: Vec::new(alloc),
+        tallies,
+    }
 }
 
 // Whether all senders of the trace are among these. Fault 15 with the least that isn't.

@@ -187,7 +187,7 @@ fn a_run_may_keep_no_visits(rt: HostRuntime) -> Result<(), Fault> {
     let plan = Plan::read(alloc, DRR_OVER_TWO.as_bytes())?;
     let outcome = run_with(&rt, alloc, &rt, &plan, &traces, 1, 1000, &Free, false)?;
     assert_all_accounted(&rt, alloc, &traces, &outcome, 2)?;
-    assert_eq!(rt; outcome.logs, vec![in alloc; Vec::new(alloc)]?);
+    assert!(rt; outcome.logs.is_empty());
     assert_all_accepted(&rt, alloc, &traces, &outcome)
 }
 

@@ -51,7 +51,8 @@ pub fn visits_csv<W: Sink>(alloc: Global, logs: &[Vec<Visit>], writer: &mut W) -
 }
 
 /// Writes the header line of a visit CSV, of several devices or of one. The rows that follow it may come some at a time (`visit_rows`),
-/// as a log grows: their texts together are that of the whole (`visits_come_in_pieces`).
+/// as a log grows: their texts together are that of the whole (`visits_come_in_pieces`). Of several devices the rows of each come after
+/// those of the one before.
 ///
 /// # Errors
 ///

@@ -1,4 +1,4 @@
--- How a tree is laid out in tables, before its first pull.
+-- Why a tree is refused a session.
 use Rattle.std.specs.Prelude.{◌<◌, ◌≤◌, suc}
 use Rattle.clk_packet.specs.declared.fault.Fault.{Fault}
 use Rattle.clk_packet.specs.declared.fault.Fault.TheVariants.{Memory, TooLarge}

@@ -1,4 +1,4 @@
--- What a session is: the nodes of a tree, laid out by number, and a run of it.
+-- What a session is seen as, and what a pull and a drain come to.
 use Rattle.std.specs.Prelude.{◌≡◌, ℕ, ◌+◌, ◌<◌, ◌≤◌, true, List, [], ◌∷◌, ◌++◌, length, drop, map, reverse, suc, max, is_some, Option, None, ⊤, if◌then◌else◌}
 use Rattle.std.specs.List.{flat_map, filter_map, range_with_len}
 use Rattle.clk_packet.specs.declared.packet.Packet.{Packet}

@@ -44,7 +44,7 @@ impl<'a, W: Wait> Consumer<'a, W> {
     ///
     /// # Errors
     ///
-    /// Fault 1 where memory is refused to the session's log.
+    /// Fault 1 where memory is refused to the session.
     pub fn pull_all<G: Gate>(self, course: &Course<W, G>) -> Result<Consumer<'a, W>, Fault>
         requires unpulled { IsUnpulled self }
         ensures pulled { IfOk result (IsPulled course.now self.entry) }

@@ -1,4 +1,5 @@
-use Rattle.std.proofs.Common.{ℕ, List, map, ap, sym, ◌∙◌, subst}
+use Rattle.std.proofs.Common.{ℕ, List, map, Ok, Err, ap, sym, ◌∙◌, subst}
+use Rattle.std.proofs.lemmas.Result.{err_from_is_err_and}
 use Rattle.std.specs.List.{AllByRecursion}
 use Rattle.clk_packet.specs.declared.packet.Packet.{Packet}
 use Rattle.clk_ruled.specs.Queue.{SeatLists}
@@ -8,7 +9,7 @@ use Rattle.clk_drain.specs.Run.{AreKnown}
 use Rattle.clk_drain.specs.inside.Threads.{Terms, Feed, IsUnused, IsUnpulled}
 use Rattle.clk_drain.specs.inside.Handed.{FitQueues, IsReadyToClose, AreApartDevices, feeds_from}
 use Rattle.clk_drain.proofs.Opened.{fit-opened, unused-opened, unpulled-opened}
-use Rattle.clk_drain.proofs.WholeRun.{HasEnded, has-ended, run-joined, answered-ok, answered-err}
+use Rattle.clk_drain.proofs.WholeRun.{HasEnded, has-ended, run-joined, answered-ok, answered-err, kept-same}
 use Rattle.clk_drain.proofs.running.run_with.Given as given
 use Rattle.clk_drain.proofs.running.run_with.Goals as goal
 
@@ -55,9 +56,12 @@ pub close_devices-requires-clause-apart : goal.close_devices-requires-clause-apa
 close_devices-requires-clause-apart g c = subst AreApartDevices (sym c.in_ok-closings.ensures.joined) (run-joined _ _ _ _ _ _ _ (ended g c.before.before.before.before)).apart
 
 pub returns-clause-outcome : goal.returns-clause-outcome
-returns-clause-outcome g c = answered-ok _ _ _ c.new-course.result _ _ _ _ c.in_ok-closings.closings.items c.close_devices.result c.new-course.ensures c.in_ok-closings.ensures.joined (ended g c.before.before.before.before.before.before) c.close_devices.ensures.settled
+returns-clause-outcome g c =
+    kept-same _ _ _ _ _ c.in_ok-outcome.outcome c.kept.result c.kept.ensures.emitted c.kept.ensures.tallies c.kept.ensures.logs
+    (answered-ok _ _ _ c.new-course.result _ _ _ _ c.in_ok-closings.closings.items (Ok c.in_ok-outcome.outcome) c.new-course.ensures c.in_ok-closings.ensures.joined (ended g c.before.before.before.before.before.before.before.before.before) c.in_ok-outcome.ensures.settled)
 
-pub returns-clause-fault : goal.returns-clause-fault
-returns-clause-fault g c =
+pub returns-in_err-outcome-clause-fault : goal.returns-in_err-outcome-clause-fault
+returns-in_err-outcome-clause-fault g c =
     let known = subst (λ (senders : List SenderSpec). AreKnown (map number_of senders) c.args.traces.now) c.senders.ensures.senders c.in_ok-check_senders.ensures.known in
-    answered-err _ _ _ _ _ _ _ c.in_ok-closings.closings.items c.close_devices.result c.in_ok-closings.ensures.joined (ended g c.before.before.before.before.before.before) known c.close_devices.ensures.fault
+    let p = err_from_is_err_and c.from_residual-in_err-outcome.result c.from_residual-in_err-outcome.ensures.1 in
+    rw (p.1, p.2) (answered-err _ _ _ _ _ _ _ c.in_ok-closings.closings.items (Err c.in_err-outcome.field-0.0) c.in_ok-closings.ensures.joined (ended g c.before.before.before.before.before.before.before.before.before) known c.in_err-outcome.ensures.fault)
