@@ -88,7 +88,7 @@ impl Kernel {
     ///
     /// # Errors
     ///
-    /// Fault 1 where memory is refused, which is asked for just for what is kept. Then nothing has changed.
+    /// Fault 1 where memory is refused, which never comes where nothing is kept. Then nothing has changed.
     pub fn pull<Q: Ask>(&mut self, q: &mut Q, moment: u64) -> Result<Option<Packet>, Fault>
         requires moment { moment < end_of_moments }
         requires pulls { IsEndless self.old → pulls_made (progress_of self.old) < end_of_pulls }
@@ -116,7 +116,7 @@ impl Kernel {
     ///
     /// # Errors
     ///
-    /// Fault 1 where memory is refused, which is asked for just for what is kept, and fault 17 with the number of pulls after
+    /// Fault 1 where memory is refused, which never comes where nothing is kept, and fault 17 with the number of pulls after
     /// `bound(left)` pulls that gave fewer packets. It then holds the pulls that were made. Fault 17 never comes where `q` loses
     /// nothing, and its leaves of the tree hold, together with the heads, exactly `left` packets.
     pub fn drain<Q: Ask>(&mut self, q: &mut Q, left: u64, moment: u64) -> Result<u64, Fault>
