@@ -3,7 +3,7 @@ use Rattle.std.proofs.Common.{◌≡◌, ℕ, Bool, true, false, List, [], ◌�
 use Rattle.std.proofs.lemmas.List.{append-nil}
 use Rattle.clk_packet.specs.declared.fault.Fault.{Fault}
 use Rattle.clk_packet.specs.declared.fault.Fault.TheVariants.{TooLarge}
-use Rattle.clk_sched.specs.Limits.{most_inputs, most_levels}
+use Rattle.clk_packet.specs.Limits.{most_inputs, most_levels}
 use Rattle.clk_sched.specs.Tree.{Class, Tree, queue, scheduler, root, leaves, height}
 use Rattle.clk_sched.specs.Built.{built, row}
 

@@ -4,11 +4,11 @@ use Rattle.std.proofs.lemmas.Bool.Decides.{nat_tests}
 use Rattle.std.proofs.lemmas.List.{length-map}
 use Rattle.std.proofs.lemmas.Option.{slice_get_within}
 use Rattle.std.specs.List.{AllByRecursion}
+use Rattle.clk_packet.specs.Limits.{most_inputs}
 use Rattle.clk_sched.specs.declared.session.inputs.Inputs.{Inputs}
 use Rattle.clk_sched.specs.declared.session.nodes.Nodes.{Nodes}
 use Rattle.clk_sched.specs.declared.session.state.State.{State}
 use Rattle.clk_sched.specs.declared.session.state.State.TheVariants.{Prio, RoundRobin, Drr, Stride, Shaper}
-use Rattle.clk_sched.specs.Limits.{most_inputs}
 use Rattle.clk_sched.specs.Tree.{Class, prio, round_robin, drr, stride, shaper, Row, end, leaf, node, Tree, queue, scheduler, root, nodes, width, HasArguments, IsWellFormed}
 use Rattle.clk_sched.specs.inside.Places.{inputs_of, EachHasInputs, option_edges, edges_to_all, IsAfter, IsWired}
 use Rattle.clk_sched.specs.inside.Pulling.{EachHolds}

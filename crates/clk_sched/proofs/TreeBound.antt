@@ -2,7 +2,7 @@
 use Rattle.std.proofs.Common.{◌≡◌, ℕ, ◌+◌, ◌*◌, ◌≤◌, mul_assoc, List, [], ◌∷◌, Option, Some, None, refl, sym, ap₂, ◌∙◌, subst, arith}
 use Rattle.std.specs.Bool.{⊤}
 use Rattle.std.specs.List.{AllByRecursion}
-use Rattle.clk_sched.specs.Limits.{most_quantum}
+use Rattle.clk_packet.specs.Limits.{most_quantum}
 use Rattle.clk_sched.specs.Tree.{Class, prio, round_robin, drr, stride, shaper, Row, end, leaf, node, Tree, queue, scheduler, root, width, height, HasArguments, IsWellFormed, IsSound}
 use Rattle.clk_sched.specs.Built.{levels}
 use Rattle.clk_sched.proofs.TreeLemmas.{sound-formed}

@@ -2,7 +2,7 @@
 use Rattle.std.specs.Prelude.{◌≡◌, ℕ, ◌+◌, ◌≤◌, ◌==◌, ◌&&◌, ◌||◌, ◌++◌, Bool, true, false, not, List, [], ◌∷◌, length, ⊤, Option, Some, None, suc, max, if◌then◌else◌}
 use Rattle.std.specs.Option.{option_or}
 use Rattle.std.specs.List.{AllByRecursion}
-use Rattle.clk_sched.specs.Limits.{most_inputs, most_quantum, most_tickets, most_rate, most_burst}
+use Rattle.clk_packet.specs.Limits.{most_inputs, most_quantum, most_tickets, most_rate, most_burst}
 
 -- What a scheduler does with its inputs, and its arguments: the quantum of each input in bytes, the tickets of each input, and
 -- the rate in packets a tick with the burst in packets.

@@ -5,8 +5,8 @@ mod distinct;
 mod layout;
 
 ghost use Rattle.std.specs.Prelude.{◌≡◌, ◌≤◌, length};
+ghost use Rattle.clk_packet.specs.Limits.{most_quantum, most_tickets, most_rate, most_burst};
 ghost use Rattle.clk_sched.specs.Tree.{prio, round_robin, drr, stride, shaper, queue, height, IsWellFormed};
-ghost use Rattle.clk_sched.specs.Limits.{most_quantum, most_tickets, most_rate, most_burst};
 ghost use Rattle.clk_sched.specs.Built.{built, row};
 
 use clk_packet::Fault;
@@ -59,7 +59,7 @@ impl Model for Tree {
 
     ghost use Rattle.clk_sched.specs.Tree.{root, IsWellFormed};
     ghost use Rattle.clk_sched.specs.Built.{levels};
-    ghost use Rattle.clk_sched.specs.Limits.{most_levels};
+    ghost use Rattle.clk_packet.specs.Limits.{most_levels};
     ghost use Rattle.clk_sched.specs.inside.Kept.{kept};
 
     ghost view = { λ a. kept a.node };

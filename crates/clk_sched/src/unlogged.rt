@@ -34,8 +34,9 @@ impl Model for Unlogged {
 
 impl Unlogged {
     ghost use Rattle.std.specs.Prelude.{◌≡◌, ◌+◌, ◌<◌, ◌≤◌, ◌^◌, true, [], length, max, Ok, Err, IfOk, IfErr, IsOkUnless};
+    ghost use Rattle.clk_packet.specs.Limits.{most_elements};
     ghost use Rattle.clk_sched.specs.Tree.{root, leaves_distinct, IsSound};
-    ghost use Rattle.clk_sched.specs.Limits.{most_elements, most_left, end_of_moments, end_of_drains, end_of_pulls, end_of_drained_pulls};
+    ghost use Rattle.clk_sched.specs.Limits.{most_left, end_of_moments, end_of_drains, end_of_pulls, end_of_drained_pulls};
     ghost use Rattle.clk_sched.specs.LaidOut.{IsRefused};
     ghost use Rattle.clk_sched.specs.Run.{IsRun};
     ghost use Rattle.clk_sched.specs.Bound.{closing_bound};

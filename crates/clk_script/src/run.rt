@@ -5,7 +5,7 @@ ghost use Rattle.std.specs.List.{AllByRecursion};
 ghost use Rattle.std.specs.Io.KnownBytes.{Appends, Keeps};
 ghost use Rattle.clk_packet.specs.Bytes.{Takes, AppendsFront, Wrote, read_failures, write_failures};
 ghost use Rattle.clk_packet.specs.declared.fault.Fault.TheVariants.{Memory, Write};
-ghost use Rattle.clk_sched.specs.Limits.{most_elements};
+ghost use Rattle.clk_packet.specs.Limits.{most_elements};
 ghost use Rattle.clk_tree.specs.PlanParts.{queued, HasCapacity};
 ghost use Rattle.clk_tree.specs.Shares.{AreTreesOf};
 ghost use Rattle.clk_report.specs.Devices.{lists_of};

@@ -7,7 +7,7 @@ use Rattle.std.specs.List.{AllByRecursion, range_with_len, cons_option}
 use Rattle.std.proofs.lemmas.Bool.{cases_eq, and_parts, or_parts, not-false, false≢true, both_ways, ltb-false}
 use Rattle.std.proofs.lemmas.Option.{same_Some}
 use Rattle.clk_packet.specs.declared.fault.Fault.TheVariants.{BadPort, PortTwice, PortMissing, NoDevice, NotATree, TooLarge}
-use Rattle.clk_sched.specs.Limits.{most_elements}
+use Rattle.clk_packet.specs.Limits.{most_elements}
 use Rattle.clk_sched.specs.Session as session
 use Rattle.clk_sched.specs.Tree.{Tree, root, are_distinct, leaves_distinct}
 use Rattle.clk_tree.specs.declared.class.Role.{Role}

@@ -4,7 +4,7 @@ use Rattle.std.specs.List.{AllByRecursion}
 use Rattle.std.proofs.lemmas.List.{length-map, get_or-map}
 use Rattle.std.proofs.lemmas.Option.{slice_get_within}
 use Rattle.clk_packet.specs.declared.fault.Fault.{Fault}
-use Rattle.clk_sched.specs.Limits.{most_levels, most_elements}
+use Rattle.clk_packet.specs.Limits.{most_levels, most_elements}
 use Rattle.clk_sched.specs.Session as session
 use Rattle.clk_sched.specs.Tree.{Tree, root, leaves, stands_in, leaves_distinct}
 use Rattle.clk_tree.specs.declared.node.Node.{Node}

@@ -1,7 +1,7 @@
 -- A plan has no more queues than elements, and the senders of each queue have rising numbers.
 use Rattle.std.proofs.Common.{ℕ, ◌+◌, ◌<◌, ◌≤◌, ◌==◌, Bool, true, false, if◌then◌else◌, List, [], ◌∷◌, length, map, take, filter, suc, arith}
 use Rattle.std.specs.List.{AllByRecursion, cons_option}
-use Rattle.clk_sched.specs.Limits.{most_elements}
+use Rattle.clk_packet.specs.Limits.{most_elements}
 use Rattle.clk_tree.specs.declared.plan.parts.SenderSpec.{SenderSpec}
 use Rattle.clk_tree.specs.Classes.{Class, queue}
 use Rattle.clk_tree.specs.Plan.{Planned, Denotes}

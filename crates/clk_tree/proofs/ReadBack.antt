@@ -3,10 +3,9 @@ use Rattle.std.proofs.Common.{◌≡◌, ℕ, ◌+◌, ◌≤◌, List, [], ◌�
 use Rattle.std.specs.Bool.{⊤}
 use Rattle.std.specs.Fmt.{decimal}
 use Rattle.std.specs.List.{AllByRecursion, cons_option}
-use Rattle.clk_packet.specs.Limits.{most_sender, most_capacity}
+use Rattle.clk_packet.specs.Limits.{most_sender, most_capacity, most_quantum, most_tickets, most_rate, most_burst}
 use Rattle.clk_packet.specs.Numbers.{number_in}
 use Rattle.clk_packet.specs.declared.packet.Kind.TheVariants.{TailDrop, FrontDrop}
-use Rattle.clk_sched.specs.Limits.{most_quantum, most_tickets, most_rate, most_burst}
 use Rattle.clk_tree.specs.declared.node.Link.{Link}
 use Rattle.clk_tree.specs.Classes.{Class, sender, queue, prio, round_robin, drr, stride, shaper, device, shaper_of, class_named, role_of}
 use Rattle.clk_tree.specs.Source.{Element, Wire}

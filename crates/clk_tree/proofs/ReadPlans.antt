@@ -5,10 +5,9 @@ use Rattle.std.specs.Option.{option_map}
 use Rattle.std.proofs.lemmas.Bool.{cases_Bool}
 use Rattle.std.proofs.lemmas.List.FromFn.{length-range_with_len, length-map-range_with_len}
 use Rattle.std.proofs.lemmas.Option.{slice_get_within, same_Some}
-use Rattle.clk_packet.specs.Limits.{most_sender, most_capacity}
+use Rattle.clk_packet.specs.Limits.{most_sender, most_capacity, most_elements, most_quantum, most_tickets, most_rate, most_burst}
 use Rattle.clk_packet.specs.Numbers.{number_in}
 use Rattle.clk_packet.specs.declared.packet.Kind.TheVariants.{TailDrop, FrontDrop}
-use Rattle.clk_sched.specs.Limits.{most_elements, most_quantum, most_tickets, most_rate, most_burst}
 use Rattle.clk_tree.specs.declared.class.ClassName.{ClassName}
 use Rattle.clk_tree.specs.declared.class.ClassName.TheVariants as named
 use Rattle.clk_tree.specs.declared.class.Role.{Role}

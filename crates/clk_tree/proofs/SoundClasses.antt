@@ -6,10 +6,9 @@ use Rattle.std.specs.Str.{all_ascii_digits}
 use Rattle.std.specs.Str.Parse.{digits_value}
 use Rattle.std.proofs.lemmas.Bool.{leb-true}
 use Rattle.std.proofs.lemmas.List.{length-replicate}
-use Rattle.clk_packet.specs.Limits.{most_sender, most_capacity}
+use Rattle.clk_packet.specs.Limits.{most_sender, most_capacity, most_inputs, most_quantum, most_tickets, most_rate, most_burst}
 use Rattle.clk_packet.specs.Numbers.{has_bytes, number_in}
 use Rattle.clk_packet.specs.declared.packet.Kind.TheVariants.{TailDrop, FrontDrop}
-use Rattle.clk_sched.specs.Limits.{most_inputs, most_quantum, most_tickets, most_rate, most_burst}
 use Rattle.clk_tree.specs.declared.class.ClassName.{ClassName}
 use Rattle.clk_tree.specs.declared.class.ClassName.TheVariants as named
 use Rattle.clk_tree.specs.declared.node.Link.{Link}

@@ -4,7 +4,7 @@ use Rattle.std.proofs.Common.{◌≡◌, ℕ, ◌+◌, ◌<◌, ◌≤◌, inl, 
 use Rattle.std.specs.List.{AllByRecursion, range_with_len}
 use Rattle.std.proofs.lemmas.List.FromFn.{length-map-range_with_len}
 use Rattle.std.proofs.lemmas.Option.{same_Some}
-use Rattle.clk_sched.specs.Limits.{most_levels, most_inputs}
+use Rattle.clk_packet.specs.Limits.{most_levels, most_inputs}
 use Rattle.clk_tree.specs.declared.class.Role.{Role}
 use Rattle.clk_tree.specs.declared.class.Role.TheVariants as role
 use Rattle.clk_tree.specs.declared.node.Node.{Node}

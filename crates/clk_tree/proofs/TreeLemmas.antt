@@ -8,7 +8,7 @@ use Rattle.std.proofs.lemmas.Bool.{false≢true}
 use Rattle.std.proofs.lemmas.Bool.Decides.{nat_tests}
 use Rattle.clk_packet.specs.declared.fault.Fault.{Fault}
 use Rattle.clk_packet.specs.declared.fault.Fault.TheVariants.{Memory}
-use Rattle.clk_sched.specs.Limits.{most_inputs, most_levels}
+use Rattle.clk_packet.specs.Limits.{most_inputs, most_levels}
 use Rattle.clk_sched.specs.Tree as tree
 use Rattle.clk_sched.specs.Tree.{Row, end, leaf, node, Tree, queue, scheduler, root, height}
 use Rattle.clk_sched.specs.Built.{built, row}

@@ -2,10 +2,9 @@
 use Rattle.std.proofs.Common.{◌≡◌, ℕ, ◌+◌, ◌≤◌, List, [], ◌∷◌, map, length, Option, Some, None, refl, ap, arith}
 use Rattle.std.specs.Option.{option_map}
 use Rattle.std.proofs.lemmas.List.{length-map}
-use Rattle.clk_packet.specs.Limits.{most_sender, most_capacity}
+use Rattle.clk_packet.specs.Limits.{most_sender, most_capacity, most_quantum, most_tickets, most_rate, most_burst}
 use Rattle.clk_packet.specs.Numbers.{number_in}
 use Rattle.clk_packet.specs.declared.packet.Kind.TheVariants.{TailDrop, FrontDrop}
-use Rattle.clk_sched.specs.Limits.{most_quantum, most_tickets, most_rate, most_burst}
 use Rattle.clk_tree.specs.declared.class.ClassName.{ClassName}
 use Rattle.clk_tree.specs.declared.class.ClassName.TheVariants as named
 use Rattle.clk_tree.specs.Classes.{Class, sender, queue, prio, round_robin, shaper, drr, stride, device, default_capacity, default_quantum, and_then, class_named, class_with, numbers_in, numbers_to, shaper_of}

@@ -1,6 +1,6 @@
 -- Connections in another order, and elements at other places, pass the checks of the tree and of sizes.
 use Rattle.std.proofs.Common.{◌≡◌, ℕ, ◌+◌, ◌&&◌, ◌||◌, nat_lt, zero, suc, not, if◌then◌else◌, List, [], ◌∷◌, length, Some, None, refl, ap, ap₂, ◌∙◌}
-use Rattle.clk_sched.specs.Limits.{most_inputs, most_levels, most_elements}
+use Rattle.clk_packet.specs.Limits.{most_inputs, most_levels, most_elements}
 use Rattle.clk_tree.specs.declared.node.Node.{Node}
 use Rattle.clk_tree.specs.declared.node.Link.{Link}
 use Rattle.clk_tree.specs.Declarations.{fails_at}

@@ -1,6 +1,6 @@
 -- The check of sizes (this project's own limits).
 use Rattle.std.specs.Prelude.{ℕ, ◌+◌, List, [], ◌∷◌, length, Bool, false, ◌||◌, nat_lt, if◌then◌else◌, suc, zero}
-use Rattle.clk_sched.specs.Limits.{most_inputs, most_levels, most_elements}
+use Rattle.clk_packet.specs.Limits.{most_inputs, most_levels, most_elements}
 use Rattle.clk_tree.specs.declared.node.Node.{Node}
 use Rattle.clk_tree.specs.declared.node.Link.{Link}
 use Rattle.clk_tree.specs.Ports.{role_at, is_scheduler, inputs_of, next}

@@ -58,9 +58,9 @@ impl Plan {
     ghost use Rattle.std.specs.Prelude.{◌≡◌, ◌≤◌, ◌<◌, ◌+◌, ◌⊎◌, ℕ, List, true, map, length, slice_get, IfOk, IfErr, IsOkUnless};
     ghost use Rattle.std.specs.List.{AllByRecursion};
     ghost use Rattle.clk_packet.specs.declared.fault.Fault.TheVariants.{Memory};
+    ghost use Rattle.clk_packet.specs.Limits.{most_elements};
     ghost use Rattle.clk_sched.specs.Tree.{Tree, root, leaves, stands_in, leaves_distinct};
     ghost use Rattle.clk_sched.specs.Session.{elements};
-    ghost use Rattle.clk_sched.specs.Limits.{most_elements};
     ghost use Rattle.clk_tree.specs.Limits.{most_bytes};
     ghost use Rattle.clk_tree.specs.Reading.{HasFault};
     ghost use Rattle.clk_tree.specs.Plan.{Denotes};

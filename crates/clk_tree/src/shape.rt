@@ -2,7 +2,7 @@
 
 ghost use Rattle.std.specs.Prelude.{◌≡◌, ◌<◌, ◌≤◌, length, Some, IfOk, IsOkUnless, if◌then◌else◌};
 ghost use Rattle.clk_packet.specs.declared.fault.Fault.TheVariants.{Memory};
-ghost use Rattle.clk_sched.specs.Limits.{most_elements};
+ghost use Rattle.clk_packet.specs.Limits.{most_elements};
 ghost use Rattle.clk_tree.specs.Ports.{is_scheduler, has_device, not_a_tree};
 ghost use Rattle.clk_tree.specs.Size.{levels, is_too_large, too_large};
 ghost use Rattle.clk_tree.specs.inside.Checks.{IsTabled};

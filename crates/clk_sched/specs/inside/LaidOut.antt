@@ -1,11 +1,11 @@
 -- How a tree is laid out in tables by node number.
 use Rattle.std.specs.Prelude.{◌≡◌, ℕ, ◌+◌, ◌≤◌, List, [], ◌∷◌, ◌++◌, length, map, suc, ⊤}
+use Rattle.clk_packet.specs.Limits.{most_inputs}
 use Rattle.clk_sched.specs.declared.session.inputs.Input.{Input}
 use Rattle.clk_sched.specs.declared.session.inputs.Input.TheVariants.{Queue, Scheduler}
 use Rattle.clk_sched.specs.declared.session.inputs.Inputs.{Inputs}
 use Rattle.clk_sched.specs.declared.session.state.State.{State}
 use Rattle.clk_sched.specs.declared.tree.layout.Tables.{Tables}
-use Rattle.clk_sched.specs.Limits.{most_inputs}
 use Rattle.clk_sched.specs.Tree.{Class, Row, end, leaf, node, Tree, queue, scheduler, nodes, width, HasArguments}
 use Rattle.clk_sched.specs.inside.Places.{inputs_of}
 use Rattle.clk_sched.specs.Session.{elements}

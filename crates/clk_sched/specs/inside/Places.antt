@@ -1,13 +1,13 @@
 -- Where nodes stand in the tables of a session, and what stands at their inputs.
 use Rattle.std.specs.Prelude.{◌≡◌, ℕ, ◌+◌, ◌<◌, ◌≤◌, List, [], ◌∷◌, length, suc, ⊤, Option, Some, None, MatchOption, slice_get, if◌then◌else◌}
 use Rattle.std.specs.List.{AllByRecursion}
+use Rattle.clk_packet.specs.Limits.{most_inputs}
 use Rattle.clk_sched.specs.declared.visit.Visit.{Visit}
 use Rattle.clk_sched.specs.declared.session.inputs.Input.{Input}
 use Rattle.clk_sched.specs.declared.session.inputs.Input.TheVariants.{Queue, Scheduler}
 use Rattle.clk_sched.specs.declared.session.inputs.Inputs.{Inputs}
 use Rattle.clk_sched.specs.declared.session.state.State.{State}
 use Rattle.clk_sched.specs.Tree.{Row, end, leaf, node, nodes}
-use Rattle.clk_sched.specs.Limits.{most_inputs}
 use Rattle.clk_sched.specs.inside.Holds.OfClass.{Fits}
 
 -- the inputs of a row whose schedulers are numbered from `next` on

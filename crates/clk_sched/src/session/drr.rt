@@ -1,7 +1,7 @@
 //! The heads, deficits and cursor of a DRRSched.
 
 ghost use Rattle.std.specs.Prelude.{◌≡◌, ◌+◌, ◌^◌, ◌<◌, ◌≤◌, length, map, slice_get, slice_set, Some, IfOk};
-ghost use Rattle.clk_sched.specs.Limits.{most_inputs, most_quantum};
+ghost use Rattle.clk_packet.specs.Limits.{most_inputs, most_quantum};
 ghost use Rattle.clk_sched.specs.inside.Holds.Served.{AreQuantaWithin, AreDeficitsWithin, waiting, with_quantum};
 ghost use Rattle.clk_sched.specs.declared.session.drr.Served.{Served};
 

@@ -1,7 +1,8 @@
 //! The token bucket of a Shaper.
 
 ghost use Rattle.std.specs.Prelude.{◌≤◌, ◌<◌};
-ghost use Rattle.clk_sched.specs.Limits.{most_rate, most_burst, end_of_moments};
+ghost use Rattle.clk_packet.specs.Limits.{most_rate, most_burst};
+ghost use Rattle.clk_sched.specs.Limits.{end_of_moments};
 
 use crate::ask::Ask;
 use crate::session::nodes::Nodes;

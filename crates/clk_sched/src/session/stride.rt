@@ -2,7 +2,7 @@
 
 ghost use Rattle.std.specs.Prelude.{◌≡◌, ◌≤◌, ◌<◌, ◌+◌, ◌^◌, ◌++◌, take, drop, length, map, IfOk};
 ghost use Rattle.std.specs.List.{All, AllByRecursion, range_with_len};
-ghost use Rattle.clk_sched.specs.Limits.{most_tickets};
+ghost use Rattle.clk_packet.specs.Limits.{most_tickets};
 ghost use Rattle.clk_sched.specs.Laws.Stride.{stride_of};
 ghost use Rattle.clk_sched.specs.inside.Ranks.{greatest_stride, IsRankOf, HasRisingPasses, HasRisingPasses-prop, is_up_to, put_rank, after_win, first_pass, first_rank, less};
 

@@ -11,9 +11,8 @@ use super::{Class, Node, Tree};
 const MAX_LENGTH: u64 = 65_535;
 
 impl Tree {
-    ghost use Rattle.clk_sched.specs.Limits.{most_levels};
     ghost use Rattle.clk_sched.specs.Bound.{rounds, closing_bound};
-    ghost use Rattle.clk_packet.specs.Limits.{most_length};
+    ghost use Rattle.clk_packet.specs.Limits.{most_length, most_levels};
 
     /// A law: each scheduler of a tree has an input at least, and arguments within their limits.
     pub fn schedulers_are_sound(&self)

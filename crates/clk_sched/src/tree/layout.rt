@@ -1,10 +1,10 @@
 //! How a tree is laid out in tables, by node number, before its first pull.
 
 ghost use Rattle.std.specs.Prelude.{◌≡◌, ◌+◌, ◌≤◌, ◌<◌, ◌++◌, length, MatchOption, IfOk, IfErr};
+ghost use Rattle.clk_packet.specs.Limits.{most_elements};
 ghost use Rattle.clk_sched.specs.Built.{row};
 ghost use Rattle.clk_sched.specs.inside.Places.{inputs_of};
 ghost use Rattle.clk_sched.specs.Session.{elements};
-ghost use Rattle.clk_sched.specs.Limits.{most_elements};
 ghost use Rattle.clk_sched.specs.inside.LaidOut.{entries, kinds, Adds, AddsNode};
 
 use super::{Class, Node, Tree};

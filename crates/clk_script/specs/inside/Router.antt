@@ -5,12 +5,12 @@ use Rattle.clk_packet.specs.declared.packet.Packet.{Packet}
 use Rattle.clk_packet.specs.declared.packet.Offered.{Offered}
 use Rattle.clk_packet.specs.declared.packet.Offered.TheVariants.{Accepted, Refused, Evicted}
 use Rattle.clk_packet.specs.declared.tally.Tally.{Tally}
+use Rattle.clk_packet.specs.Limits.{most_elements}
 use Rattle.clk_ring.specs.Queue.{Queue, empty_queue, IsOffered, IsPulled}
 use Rattle.clk_ring.specs.QueueHistory.{QueueEvent}
 use Rattle.clk_ring.specs.Laws.{LeadsTo}
 use Rattle.clk_sched.specs.declared.visit.Visit.{Visit}
 use Rattle.clk_sched.specs.Tree.{Tree, root, leaves_distinct, IsSound as AreSchedulersSound}
-use Rattle.clk_sched.specs.Limits.{most_elements}
 use Rattle.clk_script.specs.declared.script.Command.{Command}
 use Rattle.clk_script.specs.declared.script.Command.TheVariants.{Send, Pull}
 use Rattle.clk_script.specs.declared.script.Line.{Line}

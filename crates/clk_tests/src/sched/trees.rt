@@ -1,7 +1,7 @@
 //! The trees of the rows.
 
 ghost use Rattle.std.specs.Prelude.{◌≤◌};
-ghost use Rattle.clk_sched.specs.Limits.{most_quantum, most_tickets};
+ghost use Rattle.clk_packet.specs.Limits.{most_quantum, most_tickets};
 
 use clk_packet::Fault;
 use clk_sched::Tree;

@@ -2,10 +2,10 @@
 use Rattle.std.specs.Prelude.{◌≡◌, ◌≤◌, ◌⊎◌, ℕ, List, length, Bool, true, false, Option, Some, None, MatchOption, Result, zero, suc, slice_get}
 use Rattle.std.specs.List.{AllByRecursion}
 use Rattle.clk_packet.specs.declared.fault.Fault.{Fault}
+use Rattle.clk_packet.specs.Limits.{most_inputs}
 use Rattle.clk_sched.specs.Tree as tree
 use Rattle.clk_sched.specs.Tree.{Tree, HasArguments}
 use Rattle.clk_sched.specs.Built.{built}
-use Rattle.clk_sched.specs.Limits.{most_inputs}
 use Rattle.clk_tree.specs.Classes.{Class}
 use Rattle.clk_tree.specs.Plan.{Planned}
 use Rattle.clk_tree.specs.PlanTree.{is_queue, scheduler_over}

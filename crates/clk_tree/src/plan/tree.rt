@@ -3,9 +3,9 @@
 ghost use Rattle.std.specs.Prelude.{◌≡◌, ◌≤◌, ◌∷◌, [], true, map, length, slice_get, Some, IfOk, IsOkUnless};
 ghost use Rattle.std.specs.List.{AllByRecursion};
 ghost use Rattle.clk_packet.specs.declared.fault.Fault.TheVariants.{Memory};
+ghost use Rattle.clk_packet.specs.Limits.{most_levels};
 ghost use Rattle.clk_sched.specs.Tree.{root, height};
 ghost use Rattle.clk_sched.specs.Built.{row};
-ghost use Rattle.clk_sched.specs.Limits.{most_levels};
 ghost use Rattle.clk_tree.specs.PlanTree.{queue_number, IsRowOf};
 ghost use Rattle.clk_tree.specs.inside.PlanTree.{is_queue_at, IsScheduled};
 ghost use Rattle.clk_tree.specs.inside.Kept.{planned};

@@ -3,7 +3,7 @@
 ghost use Rattle.std.specs.Prelude.{◌≡◌, ◌<◌, ◌≤◌, ◌++◌, ◌∷◌, [], ℕ, if◌then◌else◌, map, filter, length, IfOk, OnOk, IsOkUnless};
 ghost use Rattle.std.specs.List.{AllByRecursion, range_with_len};
 ghost use Rattle.clk_packet.specs.declared.fault.Fault.TheVariants.{Memory};
-ghost use Rattle.clk_sched.specs.Limits.{most_elements};
+ghost use Rattle.clk_packet.specs.Limits.{most_elements};
 ghost use Rattle.clk_tree.specs.Plan.{source_at, is_connected, sources_of};
 ghost use Rattle.clk_tree.specs.inside.Checks.{IsTabled};
 

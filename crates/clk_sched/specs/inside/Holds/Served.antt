@@ -1,9 +1,8 @@
 -- What a DRRSched holds of each input: its quantum, its deficit and its head.
 use Rattle.std.specs.Prelude.{◌≡◌, ℕ, ◌+◌, ◌-◌, ◌<◌, ◌≤◌, ◌==◌, Bool, false, nat_le, List, Option, Some, None, slice_get, if◌then◌else◌}
 use Rattle.clk_packet.specs.declared.packet.Packet.{Packet}
-use Rattle.clk_packet.specs.Limits.{most_length}
+use Rattle.clk_packet.specs.Limits.{most_length, most_quantum}
 use Rattle.clk_sched.specs.declared.session.drr.Served.{Served}
-use Rattle.clk_sched.specs.Limits.{most_quantum}
 
 -- each quantum keeps to its limit
 abbrev pub AreQuantaWithin : List Served → Type 0

@@ -1,6 +1,6 @@
 use Rattle.std.proofs.Common.{◌<◌, ◌≤◌, length, map, subst}
 use Rattle.std.specs.List.{AllByRecursion}
-use Rattle.clk_sched.specs.Limits.{most_elements}
+use Rattle.clk_packet.specs.Limits.{most_elements}
 use Rattle.clk_tree.specs.inside.Kept.{planned}
 use Rattle.clk_tree.specs.PlanTree.{device_count}
 use Rattle.clk_tree.specs.PlanParts.{Queued, queues_of, AreRising, HasCapacity}
