@@ -3,8 +3,8 @@ use Rattle.std.proofs.Common.{◌≡◌, ℕ, zero, suc, ◌+◌, ◌<◌, ◌�
 use Rattle.std.specs.List.{AllByRecursion, flat_map, range_with_len, cons_option}
 use Rattle.std.proofs.lemmas.Bool.{eqb-true}
 use Rattle.clk_ruled.specs.Lists.{has_sender, SendersAbove, SendersRise}
+use Rattle.clk_syntax.specs.Classes.{Class, queue}
 use Rattle.clk_tree.specs.declared.plan.parts.SenderSpec.{SenderSpec}
-use Rattle.clk_tree.specs.Classes.{Class, queue}
 use Rattle.clk_tree.specs.Plan.{Planned}
 use Rattle.clk_tree.specs.PlanTree.{is_queue, queue_count}
 use Rattle.clk_tree.specs.PlanParts.{Queued, number_of, senders_of, senders_to, queue_of, queues_from, queues_of, AreRising}

@@ -6,7 +6,7 @@ use Rattle.clk_packet.specs.declared.tally.Tally.{Tally}
 use Rattle.clk_sched.specs.declared.visit.Visit.{Visit}
 use Rattle.clk_sched.specs.Log.{asking}
 use Rattle.clk_sched.specs.Examples.Priority.{p0_0, p1_0}
-use Rattle.clk_tree.specs.Classes.{Class, sender, queue, prio, device}
+use Rattle.clk_syntax.specs.Classes.{Class, sender, queue, prio, device}
 use Rattle.clk_tree.specs.Plan.{Planned}
 use Rattle.clk_drain.specs.declared.outcome.Outcome.{Outcome}
 use Rattle.clk_drain.specs.Examples.{p0_1, tally}

@@ -3,7 +3,7 @@ use Rattle.std.specs.Prelude.{ℕ, ◌+◌, List, [], ◌∷◌, ◌++◌, map, 
 use Rattle.std.specs.List.{flat_map}
 use Rattle.clk_packet.specs.declared.packet.Kind.{Kind}
 use Rattle.clk_packet.specs.declared.packet.Kind.TheVariants.{TailDrop, FrontDrop}
-use Rattle.clk_tree.specs.Classes.{Class, sender, queue, prio, round_robin, drr, stride, shaper, device}
+use Rattle.clk_syntax.specs.Classes.{Class, sender, queue, prio, round_robin, drr, stride, shaper, device}
 use Rattle.clk_tree.specs.Plan.{Planned}
 
 abbrev pub queue_text : Kind → List ℕ

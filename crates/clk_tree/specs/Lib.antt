@@ -1,15 +1,4 @@
--- What a tree text says, its faults, and the plan that it denotes.
-pub mod Limits
-pub mod Tokens
-pub mod Diagram
-pub mod Grammar
-pub mod Classes
-pub mod Source
-pub mod Declarations
-pub mod Ports
-pub mod Size
-pub mod Faults
-pub mod Reading
+-- The plan that a tree text denotes.
 pub mod Plan
 pub mod PlanTree
 pub mod PlanPaths
@@ -17,5 +6,4 @@ pub mod PlanParts
 pub mod Shares
 pub mod Canonical
 pub mod Laws
-pub mod Examples
 pub mod inside

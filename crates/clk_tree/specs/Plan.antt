@@ -3,15 +3,15 @@ use Rattle.std.specs.Prelude.{◌≡◌, ℕ, ◌+◌, List, [], ◌∷◌, leng
 use Rattle.std.specs.Option.{option_map}
 use Rattle.std.specs.List.{filter_map, range_with_len}
 use Rattle.clk_sched.specs.Tree.{is_number}
-use Rattle.clk_tree.specs.declared.class.Role.{Role}
-use Rattle.clk_tree.specs.declared.class.Role.TheVariants as role
-use Rattle.clk_tree.specs.declared.node.Link.{Link}
-use Rattle.clk_tree.specs.Source.{Element, Wire}
-use Rattle.clk_tree.specs.Classes.{Class, role_of}
-use Rattle.clk_tree.specs.Declarations.{class_of}
-use Rattle.clk_tree.specs.Ports.{target, inputs_of}
-use Rattle.clk_tree.specs.Faults.{links_of}
-use Rattle.clk_tree.specs.Reading.{IsFaultless, elements_of, wires_of}
+use Rattle.clk_syntax.specs.declared.naming.class.Role.{Role}
+use Rattle.clk_syntax.specs.declared.naming.class.Role.TheVariants as role
+use Rattle.clk_syntax.specs.declared.node.Link.{Link}
+use Rattle.clk_syntax.specs.Source.{Element, Wire}
+use Rattle.clk_syntax.specs.Classes.{Class, role_of}
+use Rattle.clk_syntax.specs.Declarations.{class_of}
+use Rattle.clk_syntax.specs.Ports.{target, inputs_of}
+use Rattle.clk_syntax.specs.Faults.{links_of}
+use Rattle.clk_syntax.specs.Reading.{IsFaultless, elements_of, wires_of}
 
 -- An element of a plan: its name, its class, and the elements that are connected to it, by their places among all: of a queue its senders
 -- in order of declaration, of any other element the one at each input.

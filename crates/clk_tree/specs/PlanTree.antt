@@ -2,7 +2,7 @@
 use Rattle.std.specs.Prelude.{◌≡◌, ℕ, ◌+◌, List, [], ◌∷◌, length, take, replicate, Bool, true, false, if◌then◌else◌, Option, Some, None, ⊤, slice_get, get_or}
 use Rattle.clk_sched.specs.Tree as tree
 use Rattle.clk_sched.specs.Tree.{Row, end, leaf, node, Tree, root}
-use Rattle.clk_tree.specs.Classes.{Class, queue, prio, round_robin, drr, stride, shaper, device}
+use Rattle.clk_syntax.specs.Classes.{Class, queue, prio, round_robin, drr, stride, shaper, device}
 use Rattle.clk_tree.specs.Plan.{Planned}
 
 abbrev pub is_queue : Class → Bool

@@ -1,10 +1,3 @@
 -- What the code's own parts say to one another: no contract of a public call stands on it.
-pub mod Checks
 pub mod Kept
-pub mod Lex
-pub mod Naming
-pub mod Numbers
-pub mod Parse
 pub mod PlanTree
-pub mod Used
-pub mod Within

@@ -1,9 +1,9 @@
 -- What the code's elements stand for.
 use Rattle.std.specs.Prelude.{ℕ, List, map}
+use Rattle.clk_syntax.specs.declared.texts.token.Token.{Token}
+use Rattle.clk_syntax.specs.Classes.{Class, class_view}
+use Rattle.clk_syntax.specs.Source.{letters}
 use Rattle.clk_tree.specs.declared.plan.element.Element.{Element}
-use Rattle.clk_tree.specs.declared.token.Token.{Token}
-use Rattle.clk_tree.specs.Classes.{Class, class_view}
-use Rattle.clk_tree.specs.Source.{letters}
 use Rattle.clk_tree.specs.Plan.{Known, Planned}
 
 abbrev pub planned : Element → Planned

@@ -6,7 +6,7 @@ use Rattle.clk_packet.specs.Limits.{most_inputs}
 use Rattle.clk_sched.specs.Tree as tree
 use Rattle.clk_sched.specs.Tree.{Tree, HasArguments}
 use Rattle.clk_sched.specs.Built.{built}
-use Rattle.clk_tree.specs.Classes.{Class}
+use Rattle.clk_syntax.specs.Classes.{Class}
 use Rattle.clk_tree.specs.Plan.{Planned}
 use Rattle.clk_tree.specs.PlanTree.{is_queue, scheduler_over}
 

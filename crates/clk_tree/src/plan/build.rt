@@ -4,22 +4,19 @@ ghost use Rattle.std.specs.Prelude.{◌≡◌, ◌<◌, ◌≤◌, ◌+◌, ◌+
 ghost use Rattle.std.specs.List.{AllByRecursion};
 ghost use Rattle.clk_packet.specs.declared.fault.Fault.TheVariants.{Memory};
 ghost use Rattle.clk_packet.specs.Limits.{most_elements};
-ghost use Rattle.clk_tree.specs.Limits.{most_bytes};
-ghost use Rattle.clk_tree.specs.Classes.{class_view, numbers_in};
-ghost use Rattle.clk_tree.specs.Source.{elements, kept};
-ghost use Rattle.clk_tree.specs.inside.Naming.{class_in, is_class};
-ghost use Rattle.clk_tree.specs.inside.Within.{IsWithin, IsDeclaredWithin, words_in};
-ghost use Rattle.clk_tree.specs.inside.Checks.{IsTabled};
+ghost use Rattle.clk_syntax.specs.Limits.{most_bytes};
+ghost use Rattle.clk_syntax.specs.Classes.{class_view, numbers_in, is_class};
+ghost use Rattle.clk_syntax.specs.Source.{elements, kept};
+ghost use Rattle.clk_syntax.specs.Declarations.{class_in};
+ghost use Rattle.clk_syntax.specs.Within.{IsWithin, IsDeclaredWithin, words_in};
+ghost use Rattle.clk_syntax.specs.Tables.{IsTabled};
 ghost use Rattle.clk_tree.specs.Plan.{all_known, planned_from, planned_at};
 ghost use Rattle.clk_tree.specs.inside.Kept.{planned, known_as, names_as};
 
-use crate::class::{Class, letters};
 use crate::plan::element::Element;
 use crate::plan::wiring::sources_of;
-use crate::statements::Declaration;
-use crate::tables::Graph;
-use crate::token::Token;
 use clk_packet::Fault;
+use clk_syntax::{Class, Declaration, Graph, Token, letters};
 use std::alloc::Global;
 
 /// The elements of a plan: those that are declared, with their classes and what is connected to them. Fault 1 where memory is refused.

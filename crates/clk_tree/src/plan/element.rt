@@ -5,13 +5,13 @@ ghost use Rattle.clk_packet.specs.declared.fault.Fault.TheVariants.{Memory};
 ghost use Rattle.clk_sched.specs.Tree as tree;
 ghost use Rattle.clk_sched.specs.Tree.{HasArguments};
 ghost use Rattle.clk_sched.specs.Built.{built};
-ghost use Rattle.clk_tree.specs.Classes.{class_view};
+ghost use Rattle.clk_syntax.specs.Classes.{class_view};
 ghost use Rattle.clk_tree.specs.PlanTree.{is_queue, is_device, drr_over};
 ghost use Rattle.clk_tree.specs.inside.PlanTree.{IsOver, IsBuilt};
 
-use crate::class::Class;
 use clk_packet::Fault;
 use clk_sched::Tree;
+use clk_syntax::Class;
 use std::alloc::Global;
 
 /// An element of a plan.

@@ -7,10 +7,10 @@ ghost use Rattle.clk_packet.specs.Limits.{most_elements};
 ghost use Rattle.clk_tree.specs.PlanParts.{queued, queue_fed, placed, senders_to, senders_of, queues_of};
 ghost use Rattle.clk_tree.specs.inside.Kept.{planned};
 
-use crate::class::Class;
 use crate::plan::devices::device_of;
 use crate::plan::element::Element;
 use clk_packet::{Fault, Kind};
+use clk_syntax::Class;
 use std::alloc::Global;
 
 /// A queue of a plan.

@@ -3,13 +3,13 @@
 ghost use Rattle.std.specs.Prelude.{◌≡◌, ◌++◌, ◌∷◌, [], codes, decimal, map, slice_get, IfOk, OnOk, IsOkUnless};
 ghost use Rattle.std.specs.List.{flat_map};
 ghost use Rattle.clk_packet.specs.declared.fault.Fault.TheVariants.{Memory};
-ghost use Rattle.clk_tree.specs.Classes.{class_view};
+ghost use Rattle.clk_syntax.specs.Classes.{class_view};
 ghost use Rattle.clk_tree.specs.inside.Kept.{planned};
 ghost use Rattle.clk_tree.specs.Canonical.{class_text, arguments_of, arguments_text, element_text, name_of, connection_text, inputs_text, connections_text, canonical_text};
 
-use crate::class::Class;
 use crate::plan::element::Element;
 use clk_packet::{Fault, Kind};
+use clk_syntax::Class;
 use itoa::Buffer;
 use std::alloc::Global;
 

@@ -4,13 +4,13 @@ ghost use Rattle.std.specs.Prelude.{◌≡◌, ◌<◌, ◌≤◌, ◌++◌, ◌
 ghost use Rattle.std.specs.List.{AllByRecursion, range_with_len};
 ghost use Rattle.clk_packet.specs.declared.fault.Fault.TheVariants.{Memory};
 ghost use Rattle.clk_packet.specs.Limits.{most_elements};
+ghost use Rattle.clk_sched.specs.Tree.{is_number};
+ghost use Rattle.clk_syntax.specs.Ports.{target};
+ghost use Rattle.clk_syntax.specs.Tables.{IsTabled};
 ghost use Rattle.clk_tree.specs.Plan.{source_at, is_connected, sources_of};
-ghost use Rattle.clk_tree.specs.inside.Checks.{IsTabled};
 
-use crate::class::Role;
-use crate::node::Link;
-use crate::tables::Graph;
 use clk_packet::Fault;
+use clk_syntax::{Graph, Link, Role};
 use std::alloc::Global;
 
 /// The elements connected to one of this role: to a queue its senders in order of declaration, to any other element the one at each
@@ -40,10 +40,19 @@ fn connected_to(alloc: Global, graph: &Graph, place: u32) -> Result<Vec<u16>, Fa
 {
     let mut sources = Vec::new(alloc);
     for source in 0..graph.nodes.len() as u16 {
-        let is_connected = graph.leads(u32::from(source), place);
+        let is_connected = leads(graph, u32::from(source), place);
         push_if(&mut sources, source, is_connected)?;
     }
     Ok(sources)
+}
+
+/// Whether the first connection from an element leads to another.
+fn leads(graph: &Graph, from: u32, to: u32) -> bool
+    requires tabled { IsTabled graph.now }
+    requires place { from < length graph.now.nodes.now }
+    ensures { result ≡ is_number to (target from graph.now.links.now) }
+{
+    graph.target(from) == Some(to)
 }
 
 /// Adds a source where it is one. Fault 1 where memory is refused.

@@ -1,7 +1,7 @@
 use Rattle.std.proofs.Common.{map, ◌∙◌}
 use Rattle.std.proofs.lemmas.Result.{IfOk-weaker}
 use Rattle.clk_tree.specs.inside.Kept.{planned}
-use Rattle.clk_tree.proofs.PlanLemmas.{read-all, read-denotes}
+use Rattle.clk_tree.proofs.Denoted.PlanLemmas.{read-all, read-denotes}
 use Rattle.clk_tree.proofs.plan.read_elements.Goals as goal
 
 pub elements_of-requires-clause-all : goal.elements_of-requires-clause-all

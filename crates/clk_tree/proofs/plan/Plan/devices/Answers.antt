@@ -1,7 +1,7 @@
 use Rattle.std.proofs.Common.{map, arith}
 use Rattle.clk_tree.specs.inside.Kept.{planned}
 use Rattle.clk_tree.specs.PlanParts.{queued}
-use Rattle.clk_tree.proofs.PlanLemmas.{kept-devices}
+use Rattle.clk_tree.proofs.Denoted.PlanLemmas.{kept-devices}
 use Rattle.clk_tree.proofs.plan.Plan.devices.Goals as goal
 
 pub overflow_cast-result : goal.overflow_cast-result

@@ -4,9 +4,9 @@ use Rattle.clk_packet.specs.Limits.{most_elements}
 use Rattle.clk_tree.specs.inside.Kept.{planned}
 use Rattle.clk_tree.specs.PlanTree.{device_count}
 use Rattle.clk_tree.specs.PlanParts.{Queued, queues_of, AreRising, HasCapacity}
-use Rattle.clk_tree.proofs.PartLemmas.{queues-capacities}
-use Rattle.clk_tree.proofs.LeafLemmas.{denoted-devices}
-use Rattle.clk_tree.proofs.QueueLaws.{queues-few, queues-rise}
+use Rattle.clk_tree.proofs.Denoted.PartLemmas.{queues-capacities}
+use Rattle.clk_tree.proofs.Denoted.LeafLemmas.{denoted-devices}
+use Rattle.clk_tree.proofs.Denoted.QueueLaws.{queues-few, queues-rise}
 use Rattle.clk_tree.proofs.plan.Plan.queues.Goals as goal
 
 pub returns-clause-capacities : goal.returns-clause-capacities

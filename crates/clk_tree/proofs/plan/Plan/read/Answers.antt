@@ -4,7 +4,7 @@ use Rattle.clk_packet.specs.Limits.{most_elements}
 use Rattle.clk_tree.specs.inside.Kept.{planned}
 use Rattle.clk_tree.specs.PlanTree.{device_sources}
 use Rattle.clk_tree.specs.PlanParts.{senders_of}
-use Rattle.clk_tree.proofs.PlanLemmas.{denoted-one, denoted-few}
+use Rattle.clk_tree.proofs.Denoted.PlanLemmas.{denoted-one, denoted-few}
 use Rattle.clk_tree.proofs.plan.Plan.read.Goals as goal
 
 pub tops_of-requires : goal.tops_of-requires

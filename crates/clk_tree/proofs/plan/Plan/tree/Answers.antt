@@ -5,7 +5,7 @@ use Rattle.clk_tree.specs.inside.Kept.{planned}
 use Rattle.clk_tree.specs.PlanParts.{queued, queues_of, leads_to}
 use Rattle.clk_tree.specs.PlanTree.{IsRowOf}
 use Rattle.clk_tree.specs.inside.PlanTree.{IsScheduled}
-use Rattle.clk_tree.proofs.PlanLemmas.{IsMadeTree, kept-below, kept-scheduled, kept-made}
+use Rattle.clk_tree.proofs.Denoted.PlanLemmas.{IsMadeTree, kept-below, kept-scheduled, kept-made}
 use Rattle.clk_tree.proofs.plan.Plan.tree.Goals as goal
 
 pub tree_at-requires-clause-scheduled : goal.tree_at-requires-clause-scheduled

@@ -3,7 +3,7 @@ use Rattle.clk_sched.specs.Tree.{Tree}
 use Rattle.clk_tree.specs.inside.Kept.{planned}
 use Rattle.clk_tree.specs.PlanParts.{queued, queues_of}
 use Rattle.clk_tree.specs.Shares.{AreTreesOf, AreSharedOut}
-use Rattle.clk_tree.proofs.PlanLemmas.{kept-shared}
+use Rattle.clk_tree.proofs.Denoted.PlanLemmas.{kept-shared}
 use Rattle.clk_tree.proofs.plan.Plan.trees_share_queues.Goals as goal
 
 pub returns : goal.returns

@@ -1,7 +1,7 @@
 use Rattle.std.proofs.Common.{map, sym, ap, subst, length, ◌+◌, ◌≤◌, ◌∙◌}
-use Rattle.clk_tree.specs.declared.statements.Declaration.{Declaration}
-use Rattle.clk_tree.specs.Source.{kept}
-use Rattle.clk_tree.proofs.BuildLemmas.{built-read, can-add-read}
+use Rattle.clk_syntax.specs.declared.texts.statements.Declaration.{Declaration}
+use Rattle.clk_syntax.specs.Source.{kept}
+use Rattle.clk_tree.proofs.Building.BuildLemmas.{built-read, can-add-read}
 use Rattle.clk_tree.proofs.plan.build.elements_of.Goals as goal
 
 pub push_declared-requires-clause-numbers : goal.push_declared-requires-clause-numbers

@@ -1,6 +1,6 @@
 use Rattle.std.proofs.Common.{map, drop}
-use Rattle.clk_tree.specs.Source.{kept}
-use Rattle.clk_tree.proofs.BuildLemmas.{AreBuilt}
+use Rattle.clk_syntax.specs.Source.{kept}
+use Rattle.clk_tree.proofs.Building.BuildLemmas.{AreBuilt}
 use Rattle.clk_tree.proofs.plan.build.elements_of.Given as goal
 
 -- the elements so far and those of the declarations that are left are all

@@ -1,6 +1,6 @@
 use Rattle.std.proofs.Common.{drop}
-use Rattle.clk_tree.specs.Classes.{class_view}
-use Rattle.clk_tree.proofs.BuildLemmas.{AreAdded}
+use Rattle.clk_syntax.specs.Classes.{class_view}
+use Rattle.clk_tree.proofs.Building.BuildLemmas.{AreAdded}
 use Rattle.clk_tree.proofs.plan.build.push_declared.Given as goal
 
 -- the elements so far and those of the names that are left are all

@@ -1,4 +1,4 @@
-use Rattle.clk_tree.proofs.PathSteps.{devices-counted}
+use Rattle.clk_tree.proofs.Building.PathSteps.{devices-counted}
 use Rattle.clk_tree.proofs.plan.devices.devices_before.Goals as goal
 
 pub returns : goal.returns

@@ -1,5 +1,5 @@
 use Rattle.std.proofs.Common.{arith}
-use Rattle.clk_tree.proofs.PathSteps.{output-there}
+use Rattle.clk_tree.proofs.Building.PathSteps.{output-there}
 use Rattle.clk_tree.proofs.plan.devices.has_output.Goals as goal
 
 pub returns : goal.returns

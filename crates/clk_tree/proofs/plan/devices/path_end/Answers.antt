@@ -1,7 +1,7 @@
 use Rattle.std.proofs.Common.{map, sym, ap, ◌∙◌, ◌-◌}
 use Rattle.clk_tree.specs.inside.Kept.{planned}
 use Rattle.clk_tree.specs.PlanPaths.{place_after}
-use Rattle.clk_tree.proofs.PathSteps.{path-stays, path-on}
+use Rattle.clk_tree.proofs.Building.PathSteps.{path-stays, path-on}
 use Rattle.clk_tree.proofs.plan.devices.path_end.Goals as goal
 
 pub loop-left-preserved : goal.loop-left-preserved

@@ -1,4 +1,4 @@
-use Rattle.clk_tree.proofs.PathSteps.{place-found, place-passed}
+use Rattle.clk_tree.proofs.Building.PathSteps.{place-found, place-passed}
 use Rattle.std.proofs.Common.{sym, ◌∙◌, arith}
 use Rattle.clk_tree.proofs.plan.devices.place_fed.Goals as goal
 

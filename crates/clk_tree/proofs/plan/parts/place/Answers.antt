@@ -1,7 +1,7 @@
 use Rattle.std.proofs.Common.{nat_le, ap, ◌∙◌}
 use Rattle.std.specs.List.{insert, prefix_len}
 use Rattle.clk_tree.specs.declared.plan.parts.SenderSpec.{SenderSpec}
-use Rattle.clk_tree.proofs.PartSteps.{insert-placed}
+use Rattle.clk_tree.proofs.Building.PartSteps.{insert-placed}
 use Rattle.clk_tree.proofs.plan.parts.place.Goals as goal
 
 pub returns-clause-placed : goal.returns-clause-placed

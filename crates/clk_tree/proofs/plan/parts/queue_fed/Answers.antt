@@ -1,7 +1,7 @@
 use Rattle.std.proofs.Common.{◌+◌, map, drop, sym, ap, ◌∙◌, arith}
 use Rattle.clk_tree.specs.inside.Kept.{planned}
 use Rattle.clk_tree.specs.PlanParts.{queue_fed}
-use Rattle.clk_tree.proofs.PartSteps.{queue-found, queue-passed, other-passed}
+use Rattle.clk_tree.proofs.Building.PartSteps.{queue-found, queue-passed, other-passed}
 use Rattle.clk_tree.proofs.plan.parts.queue_fed.Goals as goal
 use Rattle.clk_tree.proofs.plan.parts.queue_fed.Goals.{then-is_queue+else-contains, else-is_queue}
 

@@ -1,5 +1,5 @@
 use Rattle.std.proofs.Common.{refl, sym, ap, subst, ◌+◌, ◌∙◌}
-use Rattle.clk_tree.proofs.QueueSteps.{AreQueues, queue-added, queue-passed}
+use Rattle.clk_tree.proofs.Building.QueueSteps.{AreQueues, queue-added, queue-passed}
 use Rattle.clk_tree.proofs.plan.parts.queues_of.Goals as goal
 use Rattle.clk_tree.proofs.plan.parts.queues_of.Goals.{in-Queue+in_ok-senders_to+in_ok-push, in_default}
 

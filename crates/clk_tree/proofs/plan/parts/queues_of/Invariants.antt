@@ -1,4 +1,4 @@
-use Rattle.clk_tree.proofs.QueueSteps.{AreQueues}
+use Rattle.clk_tree.proofs.Building.QueueSteps.{AreQueues}
 use Rattle.clk_tree.proofs.plan.parts.queues_of.Given as goal
 
 -- the queues so far and those in what is left are all

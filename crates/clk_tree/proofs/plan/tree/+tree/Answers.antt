@@ -1,10 +1,10 @@
 use Rattle.std.proofs.Common.{ℕ, map, length, sym, ap, subst, ◌∙◌}
 use Rattle.clk_sched.specs.Built.{row}
-use Rattle.clk_tree.specs.Classes.{class_view}
+use Rattle.clk_syntax.specs.Classes.{class_view}
 use Rattle.clk_tree.specs.PlanTree.{IsRowOf}
 use Rattle.clk_tree.specs.inside.PlanTree.{IsOver}
 use Rattle.clk_tree.specs.inside.Kept.{planned}
-use Rattle.clk_tree.proofs.TreeLemmas.{IsMade, scheduler-here, over-made, so-far-more, all-made}
+use Rattle.clk_tree.proofs.Building.TreeLemmas.{IsMade, scheduler-here, over-made, so-far-more, all-made}
 use Rattle.clk_tree.proofs.plan.tree.+tree.Goals as goal
 
 pub tree_at-over-requires : goal.tree_at-over-requires

@@ -1,6 +1,6 @@
 use Rattle.std.proofs.Common.{◌+◌, ◌*◌, map, drop}
 use Rattle.clk_tree.specs.inside.Kept.{planned}
-use Rattle.clk_tree.proofs.TreeLemmas.{AreSoFar}
+use Rattle.clk_tree.proofs.Building.TreeLemmas.{AreSoFar}
 use Rattle.clk_tree.proofs.plan.tree.+tree.Given as goal
 
 abbrev pub decreases-tree_at : goal.decreases-tree_at

@@ -1,4 +1,4 @@
-use Rattle.clk_tree.proofs.TreeLemmas.{queue-numbered}
+use Rattle.clk_tree.proofs.Building.TreeLemmas.{queue-numbered}
 use Rattle.clk_tree.proofs.plan.tree.queue_number.Goals as goal
 
 pub returns : goal.returns

@@ -1,6 +1,6 @@
 use Rattle.std.proofs.Common.{◌<◌, ◌∙◌, ◌++◌, ◌∷◌, [], ap₂, sym, arith}
 use Rattle.clk_tree.specs.Plan.{source_at}
-use Rattle.clk_tree.proofs.WiringLemmas.{map-range-more}
+use Rattle.clk_tree.proofs.Building.WiringLemmas.{map-range-more}
 use Rattle.clk_tree.proofs.plan.wiring.sources_at_inputs.Goals as goal
 
 pub overflow_cast-source_at : goal.overflow_cast-source_at

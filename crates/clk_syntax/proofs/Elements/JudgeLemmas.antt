@@ -1,0 +1,196 @@
+-- Arguments that fit their classes or not, declaration by declaration.
+use Rattle.std.proofs.Common.{◌≡◌, ℕ, ◌<◌, ◌==◌, ◌&&◌, ◌||◌, not, nat_le, Bool, true, false, List, [], ◌∷◌, ◌++◌, map, length, Option, Some, None, suc, refl, sym, ap, ap₂, ◌∙◌, append_assoc, append-nil, length-append, arith}
+use Rattle.std.specs.Option.{option_or, option_map}
+use Rattle.std.specs.List.{list_any, cons_option}
+use Rattle.std.proofs.lemmas.Bool.Decides.{nat_tests}
+use Rattle.std.proofs.lemmas.List.{map-append, length-map}
+use Rattle.clk_syntax.specs.declared.naming.class.Class as declared
+use Rattle.clk_syntax.specs.declared.naming.Judged.{Judged}
+use Rattle.clk_syntax.specs.declared.texts.token.Token.{Token}
+use Rattle.clk_syntax.specs.Classes.{Class, sender, queue, prio, round_robin, drr, stride, shaper, device, class_named, class_view, role_of, is_class}
+use Rattle.clk_syntax.specs.Source.{Declared, Element, letters, element, elements}
+use Rattle.clk_syntax.specs.Declarations.{first_after, fails_at, class_if, class_of, is_sender, is_bad_after, bad_argument, class_in}
+use Rattle.clk_syntax.specs.Faults.{node, nodes_of}
+use Rattle.clk_syntax.specs.inside.Numbers.{has_number}
+use Rattle.clk_syntax.specs.inside.Naming.{node_at, may_stand, bad_at, Judges}
+
+abbrev class_by : List ℕ → Token → List Token → Option Class
+class_by text k arguments = class_if (map (letters text) arguments) (class_named (letters text k))
+
+abbrev pub among : ℕ → List Element → Bool
+among n earlier = list_any (λ e. is_sender n (class_of e)) earlier
+
+-- the first of some names fails
+first-fails : (text : List ℕ) (k : Token) (arguments names : List Token) (earlier more : List Element) → 0 < length names → is_bad_after earlier (class_by text k arguments) ≡ true
+    → first_after bad_at earlier (map (element text k arguments) names ++ more) ≡ Some k.place
+first-fails text k arguments [] earlier more some bad = absurd (omega arith)
+first-fails text k arguments (name ∷ names) earlier more some bad =
+    ap (λ b. option_or (fails_at b k.place) (first_after bad_at (element text k arguments name ∷ earlier) (map (element text k arguments) names ++ more))) bad
+
+-- the first of some names doesn't
+first-passes : (text : List ℕ) (k : Token) (arguments names : List Token) (name : Token) (earlier more : List Element) → is_bad_after earlier (class_by text k arguments) ≡ false
+    → first_after bad_at earlier (map (element text k arguments) (name ∷ names) ++ more) ≡ first_after bad_at (element text k arguments name ∷ earlier) (map (element text k arguments) names ++ more)
+first-passes text k arguments names name earlier more good =
+    ap (λ b. option_or (fails_at b k.place) (first_after bad_at (element text k arguments name ∷ earlier) (map (element text k arguments) names ++ more))) good
+
+-- the names of a class are gone over, and all are well
+record Passed (text : List ℕ) (k : Token) (arguments names : List Token) (class : Class) (earlier more : List Element) : Type 0 where
+  later : List Element
+  bad : first_after bad_at earlier (map (element text k arguments) names ++ more) ≡ first_after bad_at later more
+  taken : (n : ℕ) → among n later ≡ (is_sender n (Some class) || among n earlier)
+
+-- a class of which there may be any number of elements
+record IsPlain (class : Class) : Type 0 where
+  good : (earlier : List Element) → is_bad_after earlier (Some class) ≡ false
+  other : (n : ℕ) → is_sender n (Some class) ≡ false
+
+plain-passed : (text : List ℕ) (k : Token) (arguments names : List Token) (class : Class) (earlier more : List Element) → class_by text k arguments ≡ Some class → IsPlain class → Passed text k arguments names class earlier more
+plain-passed text k arguments [] class earlier more e plain = record { later = earlier; bad = refl; taken = λ n. ap (λ b. b || among n earlier) (sym (plain.other n)) }
+plain-passed text k arguments (name ∷ names) class earlier more e plain =
+    let one = element text k arguments in
+    let rest = plain-passed text k arguments names class (one name ∷ earlier) more e plain in
+    record {
+      later = rest.later;
+      bad = first-passes text k arguments names name earlier more (ap (is_bad_after earlier) e ∙ plain.good earlier) ∙ rest.bad;
+      taken = λ n. rest.taken n ∙ ap (λ b. is_sender n (Some class) || b) (ap (λ o. is_sender n o || among n earlier) e ∙ ap (λ b. b || among n earlier) (plain.other n));
+    }
+
+same-number : (n : ℕ) → (n == n) ≡ true
+same-number n = grind (arith, nat_tests)
+
+not-true : (b : Bool) → not b ≡ true → b ≡ false
+not-true false e = refl
+not-true true e = absurd (cc)
+
+sender-passed : (text : List ℕ) (k : Token) (arguments names : List Token) (n : ℕ) (earlier more : List Element) → class_by text k arguments ≡ Some (sender n) → 0 < length names
+    → (nat_le (length names) 1 && not (among n earlier)) ≡ true → Passed text k arguments names (sender n) earlier more
+sender-passed text k arguments [] n earlier more e some may = absurd (omega arith)
+sender-passed text k arguments (name ∷ []) n earlier more e some may =
+    record {
+      later = element text k arguments name ∷ earlier;
+      bad = first-passes text k arguments [] name earlier more (ap (is_bad_after earlier) e ∙ not-true (among n earlier) may);
+      taken = λ m. ap (λ o. is_sender m o || among m earlier) e;
+    }
+sender-passed text k arguments (name ∷ second ∷ names) n earlier more e some may = absurd (no (length names) (among n earlier) may)
+  where
+    no : (l : ℕ) (b : Bool) → (nat_le (suc (suc l)) 1 && not b) ≡ true → ⊥
+    no l b h =
+        let many : nat_le (suc (suc l)) 1 ≡ false = grind (arith, nat_tests) in
+        let f : false ≡ true = rw many at h in
+        cc
+
+passed : (text : List ℕ) (k : Token) (arguments names : List Token) (class : Class) (earlier more : List Element) → class_by text k arguments ≡ Some class → 0 < length names
+    → may_stand (λ n. among n earlier) class (length names) ≡ true → Passed text k arguments names class earlier more
+passed text k arguments names (sender n) earlier more e some may = sender-passed text k arguments names n earlier more e some may
+passed text k arguments names (queue kind capacity) earlier more e some may = plain-passed text k arguments names _ earlier more e (record { good = λ b. refl; other = λ n. refl })
+passed text k arguments names prio earlier more e some may = plain-passed text k arguments names _ earlier more e (record { good = λ b. refl; other = λ n. refl })
+passed text k arguments names round_robin earlier more e some may = plain-passed text k arguments names _ earlier more e (record { good = λ b. refl; other = λ n. refl })
+passed text k arguments names (drr quanta) earlier more e some may = plain-passed text k arguments names _ earlier more e (record { good = λ b. refl; other = λ n. refl })
+passed text k arguments names (stride tickets) earlier more e some may = plain-passed text k arguments names _ earlier more e (record { good = λ b. refl; other = λ n. refl })
+passed text k arguments names (shaper rate burst) earlier more e some may = plain-passed text k arguments names _ earlier more e (record { good = λ b. refl; other = λ n. refl })
+passed text k arguments names (device word) earlier more e some may = plain-passed text k arguments names _ earlier more e (record { good = λ b. refl; other = λ n. refl })
+
+-- a Sender of two names, or of a number that an earlier one has
+sender-fails : (text : List ℕ) (k : Token) (arguments names : List Token) (n : ℕ) (earlier more : List Element) → class_by text k arguments ≡ Some (sender n) → 0 < length names
+    → (nat_le (length names) 1 && not (among n earlier)) ≡ false → first_after bad_at earlier (map (element text k arguments) names ++ more) ≡ Some k.place
+sender-fails text k arguments [] n earlier more e some may = absurd (omega arith)
+sender-fails text k arguments (name ∷ []) n earlier more e some may = first-fails text k arguments (name ∷ []) earlier more some (ap (is_bad_after earlier) e ∙ by_test (among n earlier) may)
+  where
+    by_test : (b : Bool) → not b ≡ false → b ≡ true
+    by_test true h = refl
+    by_test false h = absurd (cc)
+sender-fails text k arguments (name ∷ second ∷ names) n earlier more e some may = by_test (among n earlier) refl
+  where
+    by_test : (b : Bool) → among n earlier ≡ b → first_after bad_at earlier (map (element text k arguments) (name ∷ second ∷ names) ++ more) ≡ Some k.place
+    by_test true f = first-fails text k arguments (name ∷ second ∷ names) earlier more (omega arith) (ap (is_bad_after earlier) e ∙ f)
+    by_test false f =
+        first-passes text k arguments (second ∷ names) name earlier more (ap (is_bad_after earlier) e ∙ f)
+        ∙ first-fails text k arguments (second ∷ names) (element text k arguments name ∷ earlier) more (omega arith)
+        (ap (is_bad_after (element text k arguments name ∷ earlier)) e ∙ ap (λ o. is_sender n o || among n earlier) e ∙ ap (λ b. b || among n earlier) (same-number n))
+
+fails : (text : List ℕ) (k : Token) (arguments names : List Token) (class : Class) (earlier more : List Element) → class_by text k arguments ≡ Some class → 0 < length names
+    → may_stand (λ n. among n earlier) class (length names) ≡ false → first_after bad_at earlier (map (element text k arguments) names ++ more) ≡ Some k.place
+fails text k arguments names (sender n) earlier more e some may = sender-fails text k arguments names n earlier more e some may
+fails text k arguments names (queue kind capacity) earlier more e some may = absurd (cc)
+fails text k arguments names prio earlier more e some may = absurd (cc)
+fails text k arguments names round_robin earlier more e some may = absurd (cc)
+fails text k arguments names (drr quanta) earlier more e some may = absurd (cc)
+fails text k arguments names (stride tickets) earlier more e some may = absurd (cc)
+fails text k arguments names (shaper rate burst) earlier more e some may = absurd (cc)
+fails text k arguments names (device word) earlier more e some may = absurd (cc)
+
+-- the nodes of names of a class
+nodes-of-names : (text : List ℕ) (k : Token) (arguments names : List Token) (class : Class) (more : List Element) → class_by text k arguments ≡ Some class
+    → nodes_of (map (element text k arguments) names ++ more) ≡ map (node_at (role_of class)) names ++ nodes_of more
+nodes-of-names text k arguments [] class more e = refl
+nodes-of-names text k arguments (name ∷ names) class more e =
+    ap₂ (λ o ns. cons_option (option_map (node name.place) o) ns) e (nodes-of-names text k arguments names class more e)
+
+may_stand-same : (f g : ℕ → Bool) (class : Class) (l : ℕ) → ((n : ℕ) → f n ≡ g n) → may_stand f class l ≡ may_stand g class l
+may_stand-same f g (sender n) l same = ap (λ b. nat_le l 1 && not b) (same n)
+may_stand-same f g (queue kind capacity) l same = refl
+may_stand-same f g prio l same = refl
+may_stand-same f g round_robin l same = refl
+may_stand-same f g (drr quanta) l same = refl
+may_stand-same f g (stride tickets) l same = refl
+may_stand-same f g (shaper rate burst) l same = refl
+may_stand-same f g (device word) l same = refl
+
+-- before the first declaration
+pub Judges-none : (text : List ℕ) (all : List Declared) (judged : Judged) → judged.classes.items ≡ [] → judged.nodes.items ≡ [] → ((n : ℕ) → has_number judged.senders n ≡ false) → Judges text all all judged
+Judges-none text all judged classes nodes senders =
+    record {
+      earlier = [];
+      bad = refl;
+      taken = senders;
+      classes = ap (λ cs. map is_class cs ++ map (class_in text) all) (sym classes);
+      nodes = ap (λ ns. ns ++ nodes_of (elements text all)) (sym nodes);
+      count = omega (arith, ap length nodes);
+    }
+
+-- a declaration whose class isn't there, or doesn't take its arguments
+pub Judges-missing : (text : List ℕ) (all left : List Declared) (d : Declared) (judged : Judged) → class_in text d ≡ None → 0 < length d.names → Judges text all (d ∷ left) judged
+    → bad_argument (elements text all) ≡ Some d.class.place
+Judges-missing text all left d judged e some h = h.bad ∙ first-fails text d.class d.arguments d.names h.earlier (elements text left) some (ap (is_bad_after h.earlier) e)
+
+-- and one of a Sender that may not stand
+pub Judges-fails : (text : List ℕ) (all left : List Declared) (d : Declared) (judged : Judged) (class : Class) → class_in text d ≡ Some class → 0 < length d.names
+    → may_stand (has_number judged.senders) class (length d.names) ≡ false → Judges text all (d ∷ left) judged → bad_argument (elements text all) ≡ Some d.class.place
+Judges-fails text all left d judged class e some may h =
+    h.bad ∙ fails text d.class d.arguments d.names class h.earlier (elements text left) e some (may_stand-same (λ n. among n h.earlier) (has_number judged.senders) class (length d.names) (λ n. sym (h.taken n)) ∙ may)
+
+-- one declaration more
+pub Judges-more : (text : List ℕ) (all left : List Declared) (d : Declared) (old new : Judged) (class : declared.Class) → class_in text d ≡ Some (class_view class) → 0 < length d.names
+    → may_stand (has_number old.senders) (class_view class) (length d.names) ≡ true
+    → ((n : ℕ) → has_number new.senders n ≡ (is_sender n (Some (class_view class)) || has_number old.senders n))
+    → new.classes.items ≡ old.classes.items ++ class ∷ []
+    → new.nodes.items ≡ old.nodes.items ++ map (node_at (role_of (class_view class))) d.names
+    → Judges text all (d ∷ left) old → Judges text all left new
+Judges-more text all left d old new class e some may added classes nodes h =
+    record {
+      earlier = p.later;
+      bad = h.bad ∙ p.bad;
+      taken = λ n. added n ∙ ap (λ b. is_sender n (Some (class_view class)) || b) (h.taken n) ∙ sym (p.taken n);
+      classes = h.classes ∙ ap (λ o. map is_class old.classes.items ++ o ∷ map (class_in text) left) e ∙ sym (append_assoc (map is_class old.classes.items) (is_class class ∷ []) (map (class_in text) left))
+          ∙ ap (λ cs. cs ++ map (class_in text) left) (sym (map-append is_class old.classes.items (class ∷ []))) ∙ ap (λ cs. map is_class cs ++ map (class_in text) left) (sym classes);
+      nodes = h.nodes ∙ ap (λ ns. old.nodes.items ++ ns) (nodes-of-names text d.class d.arguments d.names (class_view class) (elements text left) e)
+          ∙ sym (append_assoc old.nodes.items (map (node_at (role_of (class_view class))) d.names) (nodes_of (elements text left))) ∙ ap (λ ns. ns ++ nodes_of (elements text left)) (sym nodes);
+      count =
+          let before = h.count in
+          let front = length-append (map (element text d.class d.arguments) d.names) (elements text left) in
+          let names = length-map d.names (element text d.class d.arguments) in
+          let added = ap length nodes in
+          let parts = length-append old.nodes.items (map (node_at (role_of (class_view class))) d.names) in
+          let places = length-map d.names (node_at (role_of (class_view class))) in
+          omega arith;
+    }
+  where
+    p : Passed text d.class d.arguments d.names (class_view class) h.earlier (elements text left)
+    p = passed text d.class d.arguments d.names (class_view class) h.earlier (elements text left) e some
+        (may_stand-same (λ n. among n h.earlier) (has_number old.senders) (class_view class) (length d.names) (λ n. sym (h.taken n)) ∙ may)
+
+-- after the last declaration
+pub Judges-all : (text : List ℕ) (all : List Declared) (judged : Judged) → Judges text all [] judged
+    → (bad_argument (elements text all) ≡ None) × (map (class_in text) all ≡ map is_class judged.classes.items) × (judged.nodes.items ≡ nodes_of (elements text all)) × (length judged.nodes.items ≡ length (elements text all))
+Judges-all text all judged h =
+    (h.bad, h.classes ∙ append-nil (map is_class judged.classes.items), sym (h.nodes ∙ append-nil judged.nodes.items), let count = h.count in omega arith)

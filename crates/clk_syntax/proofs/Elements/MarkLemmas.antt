@@ -1,0 +1,62 @@
+-- Bits for numbers, with one more.
+use Rattle.std.proofs.Common.{◌≡◌, ◌≢◌, ℕ, ◌<◌, ◌*◌, ◌/◌, ◌%◌, ◌^◌, ◌==◌, ◌&&◌, ◌||◌, ◌⊎◌, false, List, length, get_or, set, replicate, ◌≤◌, inl, inr, w64, refl, sym, ap, ◌∙◌, subst, arith, eq-eqb, ne_eqb}
+use Rattle.std.specs.Int.RustNames.{bit_or}
+use Rattle.std.proofs.lemmas.List.{get_or-set_same, get_or-set_other, get_or-replicate, length-replicate}
+use Rattle.std.proofs.lemmas.Nat.Bits.{bit_at-zero, bit_at_set_same, bit_at_set_other}
+use Rattle.std.proofs.lemmas.Bool.{cases_eq, cases_lt, and_right}
+use Rattle.std.proofs.Math.ListN.{get_or-eq_default}
+use Rattle.std.specs.Int.{bit_at}
+use Rattle.clk_syntax.specs.inside.Numbers.{is_marked}
+
+abbrev with_bit : ℕ → ℕ → ℕ
+with_bit n bit = bit_or n (1 * 2 ^ bit % 2 ^ 64)
+
+module _ (marks : List ℕ) (place bit : ℕ) (within : place < length marks) (low : bit < 64) where
+  abbrev after : List ℕ
+  after = set marks place (with_bit (get_or marks place 0) bit)
+
+  here : get_or after place 0 ≡ with_bit (get_or marks place 0) bit
+  here = get_or-set_same marks place _ 0 within
+
+  same_both : (is_marked after place bit) ≡ (((place == place) && (bit == bit)) || is_marked marks place bit)
+  same_both = rw (here, bit_at_set_same w64 (get_or marks place 0) bit low, eq-eqb place place refl, eq-eqb bit bit refl) refl
+
+  same_place : (j : ℕ) → j ≢ bit → (is_marked after place j) ≡ (((place == place) && (bit == j)) || is_marked marks place j)
+  same_place j other = rw (here, bit_at_set_other w64 (get_or marks place 0) bit low j other, eq-eqb place place refl, ne_eqb bit j (λ e. other (sym e))) refl
+
+  other_place : (i j : ℕ) → i ≢ place → (is_marked after i j) ≡ (((place == i) && (bit == j)) || is_marked marks i j)
+  other_place i j other = rw (get_or-set_other marks place i (with_bit (get_or marks place 0) bit) 0 other, ne_eqb place i (λ e. other (sym e))) refl
+
+  pub marked : (i j : ℕ) → (is_marked after i j) ≡ (((place == i) && (bit == j)) || is_marked marks i j)
+  marked i j = elim (cases_eq i place) [
+    | inl e ↦ elim (cases_eq j bit) [
+      | inl f ↦ subst (λ p. (is_marked after p j) ≡ (((place == p) && (bit == j)) || is_marked marks p j)) (sym e)
+          (subst (λ b. (is_marked after place b) ≡ (((place == place) && (bit == b)) || is_marked marks place b)) (sym f) same_both)
+      | inr g ↦ subst (λ p. (is_marked after p j) ≡ (((place == p) && (bit == j)) || is_marked marks p j)) (sym e) (same_place j g)
+    ]
+    | inr g ↦ other_place i j g
+  ]
+
+-- two numbers are the same where place and bit are
+pub same-mark : (number n : ℕ) → ((number / 64 == n / 64) && (number % 64 == n % 64)) ≡ (number == n)
+same-mark number n = elim (cases_eq number n) [
+  | inl e ↦ subst (λ m. ((number / 64 == m / 64) && (number % 64 == m % 64)) ≡ (number == m)) e
+      (rw (eq-eqb (number / 64) (number / 64) refl, eq-eqb (number % 64) (number % 64) refl, eq-eqb number number refl) refl)
+  | inr other ↦ by_place other (cases_eq (number / 64) (n / 64))
+]
+  where
+    by_place : number ≢ n → (number / 64 ≡ n / 64) ⊎ (number / 64 ≢ n / 64) → ((number / 64 == n / 64) && (number % 64 == n % 64)) ≡ (number == n)
+    by_place other (inl e) =
+        let bits : number % 64 ≢ n % 64 = λ same. other (omega arith) in
+        and_right (number / 64 == n / 64) (number % 64 == n % 64) (ne_eqb (number % 64) (n % 64) bits) ∙ sym (ne_eqb number n other)
+    by_place other (inr apart) = rw (ne_eqb (number / 64) (n / 64) apart, ne_eqb number n other) refl
+
+-- no bit of zeros is set
+pub unmarked : (marks : List ℕ) (count i j : ℕ) → marks ≡ replicate count 0 → is_marked marks i j ≡ false
+unmarked marks count i j are =
+    let zero : get_or marks i 0 ≡ 0 = ap (λ (ms : List ℕ). get_or ms i 0) are ∙ by_end (cases_lt i count) in
+    ap (λ (n : ℕ). bit_at n j == 1) zero ∙ ap (λ (n : ℕ). n == 1) (bit_at-zero j)
+  where
+    by_end : (i < count) ⊎ (count ≤ i) → get_or {A = ℕ} (replicate count 0) i 0 ≡ 0
+    by_end (inl inside) = get_or-replicate count i 0 0 inside
+    by_end (inr past) = let len : length {A = ℕ} (replicate count 0) ≡ count = length-replicate count 0 in get_or-eq_default (replicate count 0) 0 (omega (arith, len))

@@ -1,0 +1,76 @@
+-- How many numbers a class has for its inputs.
+use Rattle.std.proofs.Common.{◌≡◌, ℕ, ◌+◌, ◌≤◌, List, [], ◌∷◌, map, length, Option, Some, None, refl, ap, arith}
+use Rattle.std.specs.Option.{option_map}
+use Rattle.std.proofs.lemmas.List.{length-map}
+use Rattle.clk_packet.specs.Limits.{most_sender, most_capacity, most_quantum, most_tickets, most_rate, most_burst}
+use Rattle.clk_packet.specs.Numbers.{number_in}
+use Rattle.clk_packet.specs.declared.packet.Kind.TheVariants.{TailDrop, FrontDrop}
+use Rattle.clk_syntax.specs.declared.naming.class.ClassName.{ClassName}
+use Rattle.clk_syntax.specs.declared.naming.class.ClassName.TheVariants as named
+use Rattle.clk_syntax.specs.Classes.{Class, sender, queue, prio, round_robin, shaper, drr, stride, device, default_capacity, default_quantum, and_then, class_named, class_with, numbers_in, numbers_to, shaper_of}
+use Rattle.clk_syntax.specs.Source.{Declared, letters}
+use Rattle.clk_syntax.specs.Declarations.{class_if, class_in}
+
+numbers-length : (most : ℕ) (words : List (List ℕ)) (numbers : List ℕ) → numbers_to most words ≡ Some numbers → length numbers ≡ length words
+numbers-length most [] numbers e = let same : [] ≡ numbers = cc in omega (arith, ap length same)
+numbers-length most (word ∷ words) numbers e = by_case (number_in 1 most word) (numbers_to most words) (λ ns f. numbers-length most words ns f) e
+  where
+    by_case : (first : Option ℕ) (later : Option (List ℕ)) → ((ns : List ℕ) → later ≡ Some ns → length ns ≡ length words) → and_then first later ≡ Some numbers → length numbers ≡ length (word ∷ words)
+    by_case None later known e = absurd (cc)
+    by_case (Some n) None known e = absurd (cc)
+    by_case (Some n) (Some ns) known e = let same : n ∷ ns ≡ numbers = cc in omega (arith, ap length same, known ns refl)
+
+numbers-width : (f : List ℕ → Class) (most : ℕ) (words : List (List ℕ)) (class : Class) → ((ns : List ℕ) → numbers_in (f ns) ≡ ns) → option_map f (numbers_to most words) ≡ Some class
+    → length (numbers_in class) ≤ length words + 1
+numbers-width f most words class kept e = by_case (numbers_to most words) (λ ns h. numbers-length most words ns h) e
+  where
+    by_case : (numbers : Option (List ℕ)) → ((ns : List ℕ) → numbers ≡ Some ns → length ns ≡ length words) → option_map f numbers ≡ Some class → length (numbers_in class) ≤ length words + 1
+    by_case None known e = absurd (cc)
+    by_case (Some ns) known e =
+        let same : f ns ≡ class = cc in
+        omega (arith, ap (λ c. length (numbers_in c)) same, ap length (kept ns), known ns refl)
+
+no-width : (f : ℕ → Class) (number : Option ℕ) (class : Class) → ((n : ℕ) → numbers_in (f n) ≡ []) → option_map f number ≡ Some class → length (numbers_in class) ≤ 1
+no-width f None class none e = absurd (cc)
+no-width f (Some n) class none e = let same : f n ≡ class = cc in omega (arith, ap (λ c. length (numbers_in c)) same, ap length (none n))
+
+one-width : (known class : Class) → length (numbers_in known) ≤ 1 → Some known ≡ Some class → length (numbers_in class) ≤ 1
+one-width known class small e = let same : known ≡ class = cc in omega (arith, ap (λ c. length (numbers_in c)) same)
+
+shaper-width : (rate burst : Option ℕ) (class : Class) → shaper_of rate burst ≡ Some class → length (numbers_in class) ≤ 1
+shaper-width None burst class e = absurd (cc)
+shaper-width (Some rate) None class e = absurd (cc)
+shaper-width (Some rate) (Some burst) class e = one-width (shaper rate burst) class (omega arith) e
+
+width : (name : ClassName) (arguments : List (List ℕ)) (class : Class) → class_with name arguments ≡ Some class → length (numbers_in class) ≤ length arguments + 1
+width named.Sender [] class e = absurd (cc)
+width named.Sender (n ∷ []) class e = let small = no-width sender (number_in 0 most_sender n) class (λ m. refl) e in omega arith
+width named.Sender (n ∷ m ∷ more) class e = absurd (cc)
+width named.Queue [] class e = let small = one-width (queue TailDrop default_capacity) class (omega arith) e in omega arith
+width named.Queue (n ∷ []) class e = let small = no-width (queue TailDrop) (number_in 1 most_capacity n) class (λ m. refl) e in omega arith
+width named.Queue (n ∷ m ∷ more) class e = absurd (cc)
+width named.FrontDropQueue [] class e = let small = one-width (queue FrontDrop default_capacity) class (omega arith) e in omega arith
+width named.FrontDropQueue (n ∷ []) class e = let small = no-width (queue FrontDrop) (number_in 1 most_capacity n) class (λ m. refl) e in omega arith
+width named.FrontDropQueue (n ∷ m ∷ more) class e = absurd (cc)
+width named.PrioSched [] class e = let small = one-width prio class (omega arith) e in omega arith
+width named.PrioSched (n ∷ more) class e = absurd (cc)
+width named.RoundRobinSched [] class e = let small = one-width round_robin class (omega arith) e in omega arith
+width named.RoundRobinSched (n ∷ more) class e = absurd (cc)
+width named.DrrSched [] class e = let small = one-width (drr (default_quantum ∷ [])) class (omega arith) e in omega arith
+width named.DrrSched (word ∷ more) class e = numbers-width drr most_quantum (word ∷ more) class (λ ns. refl) e
+width named.StrideSched [] class e = absurd (cc)
+width named.StrideSched (word ∷ more) class e = numbers-width stride most_tickets (word ∷ more) class (λ ns. refl) e
+width named.Shaper [] class e = absurd (cc)
+width named.Shaper (rate ∷ []) class e = let small = shaper-width (number_in 1 most_rate rate) (number_in 1 most_burst rate) class e in omega arith
+width named.Shaper (rate ∷ burst ∷ []) class e = let small = shaper-width (number_in 1 most_rate rate) (number_in 1 most_burst burst) class e in omega arith
+width named.Shaper (rate ∷ burst ∷ n ∷ more) class e = absurd (cc)
+width named.ToDevice [] class e = absurd (cc)
+width named.ToDevice (word ∷ []) class e = let small = one-width (device word) class (omega arith) e in omega arith
+width named.ToDevice (word ∷ n ∷ more) class e = absurd (cc)
+
+pub width-in : (text : List ℕ) (d : Declared) (class : Class) → class_in text d ≡ Some class → length (numbers_in class) ≤ length d.arguments + 1
+width-in text d class e = by_case (class_named (letters text d.class)) e
+  where
+    by_case : (name : Option ClassName) → class_if (map (letters text) d.arguments) name ≡ Some class → length (numbers_in class) ≤ length d.arguments + 1
+    by_case None e = absurd (cc)
+    by_case (Some name) e = omega (arith, width name (map (letters text) d.arguments) class e, length-map d.arguments (letters text))

@@ -1,0 +1,183 @@
+-- The inputs of an element are all connected where as many connections lead to it as it has inputs, and none is connected twice.
+use Rattle.std.proofs.Common.{◌≡◌, ℕ, ◌≤◌, ◌<◌, ◌+◌, ◌==◌, ◌&&◌, ◌||◌, nat_lt, nat_le, max, zero, suc, Bool, true, false, not, if◌then◌else◌, List, [], ◌∷◌, inl, inr, Option, Some, None, refl, sym, ap, ap₂, ◌∙◌, subst, arith, eq-eqb, ne_eqb, eqb-true, lt-ltb, le-ltb, ltb-true}
+use Rattle.std.specs.Option.{option_or, is_some}
+use Rattle.std.specs.List.{AllByRecursion}
+use Rattle.std.proofs.lemmas.Bool.{cases_eq, cases_order, and_parts, and_right, not-false, false≢true}
+use Rattle.clk_syntax.specs.declared.naming.class.Role.{Role}
+use Rattle.clk_syntax.specs.declared.naming.class.Role.TheVariants as role
+use Rattle.clk_syntax.specs.declared.node.Node.{Node}
+use Rattle.clk_syntax.specs.declared.node.Link.{Link}
+use Rattle.clk_syntax.specs.Limits.{most_port}
+use Rattle.clk_syntax.specs.Declarations.{first_after, fails_at}
+use Rattle.clk_syntax.specs.Ports.{role_at, is_queue, has_input, uses_output, uses_input, inputs_used, inputs_of, all_connected, output_connected, bad_port, port_twice, target}
+use Rattle.clk_syntax.specs.inside.Checks.{first_of, bad_link, count_at, has_inputs, leads_on}
+use Rattle.clk_syntax.specs.Tables.{count_to, inputs_at}
+use Rattle.clk_syntax.proofs.Graphs.FailureLemmas.{bad-port-first}
+use Rattle.clk_syntax.proofs.Graphs.PortLemmas.{used_again}
+
+-- what fails nowhere
+or-none : (a b : Option ℕ) → option_or a b ≡ None → (a ≡ None) × (b ≡ None)
+or-none None b e = (refl, e)
+or-none (Some x) b e = absurd (cc)
+
+fails-not : (b : Bool) (place : ℕ) → fails_at b place ≡ None → b ≡ false
+fails-not true place e = absurd (cc)
+fails-not false place e = refl
+
+-- the output of an element
+pub output-leads : (i : ℕ) (links : List Link) → is_some (target i links) ≡ uses_output i links
+output-leads i [] = refl
+output-leads i (c ∷ links) = by_test (c.from == i) (output-leads i links)
+  where
+    by_test : (b : Bool) → is_some (target i links) ≡ uses_output i links → is_some (if b then Some c.to else target i links) ≡ (b || uses_output i links)
+    by_test true e = refl
+    by_test false e = e
+
+pub leads-on : (i : ℕ) (r : Role) (links : List Link) → leads_on r (target i links) ≡ output_connected i r links
+leads-on i role.Source links = output-leads i links
+leads-on i role.Queue links = output-leads i links
+leads-on i role.Scheduler links = output-leads i links
+leads-on i (role.SchedulerOf n) links = output-leads i links
+leads-on i role.Device links = refl
+
+-- how many connections lead to the inputs of an element below one
+abbrev count_below : ℕ → ℕ → List Link → ℕ
+count_below i n [] = 0
+count_below i n (c ∷ more) = if (c.to == i) && nat_lt c.input n then count_below i n more + 1 else count_below i n more
+
+abbrev plus : Bool → ℕ → ℕ
+plus b n = if b then n + 1 else n
+
+below-none : (i : ℕ) (links : List Link) → count_below i 0 links ≡ 0
+below-none i [] = refl
+below-none i (c ∷ links) = rw (and_right (c.to == i) (nat_lt c.input 0) (le-ltb c.input 0 (omega arith))) (below-none i links)
+
+step-tests : (x n p q r : ℕ) → p ≡ q + r → plus (nat_lt x (suc n)) p ≡ plus (nat_lt x n) q + plus (x == n) r
+step-tests x n p q r e = elim (cases_order x n) [
+  | inl same ↦ rw (lt-ltb x (suc n) (omega arith), le-ltb x n (omega arith), eq-eqb x n same) (omega arith)
+  | inr other ↦ elim other [
+    | inl below ↦ rw (lt-ltb x (suc n) (omega arith), lt-ltb x n below, ne_eqb x n (λ f. omega arith)) (omega arith)
+    | inr above ↦ rw (le-ltb x (suc n) (omega arith), le-ltb x n (omega arith), ne_eqb x n (λ f. omega arith)) (omega arith)
+  ]
+]
+
+below-more : (i n : ℕ) (links : List Link) → count_below i (suc n) links ≡ count_below i n links + count_at i n links
+below-more i n [] = refl
+below-more i n (c ∷ links) = by_test (c.to == i) (below-more i n links)
+  where
+    by_test : (b : Bool) → count_below i (suc n) links ≡ count_below i n links + count_at i n links
+        → plus (b && nat_lt c.input (suc n)) (count_below i (suc n) links) ≡ plus (b && nat_lt c.input n) (count_below i n links) + plus (b && (c.input == n)) (count_at i n links)
+    by_test true e = step-tests c.input n _ _ _ e
+    by_test false e = e
+
+-- an input is used where a connection leads to it
+more-than_none : (b : Bool) (used : Bool) (n : ℕ) → used ≡ nat_lt 0 n → (b || used) ≡ nat_lt 0 (plus b n)
+more-than_none true used n e = sym (lt-ltb 0 (n + 1) (omega arith))
+more-than_none false used n e = e
+
+uses-count : (i j : ℕ) (links : List Link) → uses_input i j links ≡ nat_lt 0 (count_at i j links)
+uses-count i j [] = refl
+uses-count i j (c ∷ links) = more-than_none ((c.to == i) && (c.input == j)) (uses_input i j links) (count_at i j links) (uses-count i j links)
+
+none-counted : (n : ℕ) → nat_lt 0 n ≡ false → n ≡ 0
+none-counted zero e = refl
+none-counted (suc n) e = absurd (false≢true (sym e ∙ lt-ltb 0 (suc n) (omega arith)))
+
+-- a pull input that no connection uses again has one connection at most
+module _ (nodes : List Node) (i j : ℕ) (pull : is_queue (role_at nodes i) ≡ false) where
+  one-more : (b : Bool) (n m : ℕ) → (b ≡ true → n ≡ 0) → n ≤ 1 → (plus b n ≤ 1 → plus b n + m ≤ 1) → n + plus b m ≤ 1
+  one-more true n m none few rest = let free = none refl in let more = rest (omega arith) in omega arith
+  one-more false n m none few rest = rest few
+
+  unused : (earlier : List Link) (c : Link) → used_again nodes earlier c ≡ None → ((c.to == i) && (c.input == j)) ≡ true → count_at i j earlier ≡ 0
+  unused earlier c none here =
+      let tests = and_parts (c.to == i) (c.input == j) here in
+      let to : c.to ≡ i = eqb-true c.to i tests.0 in
+      let input : c.input ≡ j = eqb-true c.input j tests.1 in
+      let free : (not (is_queue (role_at nodes c.to)) && uses_input c.to c.input earlier) ≡ false = fails-not _ c.to_place (or-none _ _ none).1 in
+      let also : (not (is_queue (role_at nodes i)) && uses_input i j earlier) ≡ false =
+      subst (λ t. (not (is_queue (role_at nodes t)) && uses_input t j earlier) ≡ false) to (subst (λ p. (not (is_queue (role_at nodes c.to)) && uses_input c.to p earlier) ≡ false) input free) in
+      let none-used : uses_input i j earlier ≡ false = ap (λ b. not b && uses_input i j earlier) (sym pull) ∙ also in
+      none-counted (count_at i j earlier) (sym (uses-count i j earlier) ∙ none-used)
+
+  once-after : (earlier links : List Link) → count_at i j earlier ≤ 1 → first_after (used_again nodes) earlier links ≡ None → count_at i j earlier + count_at i j links ≤ 1
+  once-after earlier [] few e = omega arith
+  once-after earlier (c ∷ links) few e =
+      let parts = or-none (used_again nodes earlier c) _ e in
+      one-more ((c.to == i) && (c.input == j)) (count_at i j earlier) (count_at i j links) (unused earlier c parts.0) few (λ more. once-after (c ∷ earlier) links more parts.1)
+
+  pub once : (links : List Link) → port_twice nodes links ≡ None → count_at i j links ≤ 1
+  once links e = let few = once-after [] links (omega arith) e in omega arith
+
+-- all inputs below one are connected where as many connections lead to them
+both : (c b n : ℕ) → c ≤ n → b ≤ 1 → (nat_lt 0 b && (c == n)) ≡ (c + b == suc n)
+both c zero n few one = sym (ne_eqb (c + 0) (suc n) (λ e. omega arith))
+both c (suc b) n few one = elim (cases_eq c n) [
+  | inl e ↦ rw (lt-ltb 0 (suc b) (omega arith), eq-eqb c n e, eq-eqb (c + suc b) (suc n) (omega arith)) refl
+  | inr ne ↦ rw (lt-ltb 0 (suc b) (omega arith), ne_eqb c n ne, ne_eqb (c + suc b) (suc n) (λ e. ne (omega arith))) refl
+]
+
+below-few : (i n : ℕ) (links : List Link) → ((j : ℕ) → count_at i j links ≤ 1) → count_below i n links ≤ n
+below-few i zero links one = let none = below-none i links in omega arith
+below-few i (suc n) links one =
+    let more = below-more i n links in
+    let few = below-few i n links one in
+    let last = one n in
+    omega arith
+
+below-all : (i n : ℕ) (links : List Link) → ((j : ℕ) → count_at i j links ≤ 1) → all_connected i n links ≡ (count_below i n links == n)
+below-all i zero links one = sym (eq-eqb (count_below i 0 links) 0 (below-none i links))
+below-all i (suc n) links one =
+    ap₂ (λ a b. a && b) (uses-count i n links) (below-all i n links one) ∙ both (count_below i n links) (count_at i n links) n (below-few i n links one) (one n) ∙ ap (λ m. m == suc n) (sym (below-more i n links))
+
+-- where no connection leads to an input beyond, these are all
+abbrev Fits : ℕ → ℕ → Link → Type 0
+Fits i n c = c.to ≡ i → c.input < n
+
+below-fits : (i n : ℕ) (links : List Link) → AllByRecursion (Fits i n) links → count_below i n links ≡ count_to i links
+below-fits i n [] fits = refl
+below-fits i n (c ∷ links) fits = by_test (c.to == i) refl (below-fits i n links fits.1)
+  where
+    by_test : (b : Bool) → (c.to == i) ≡ b → count_below i n links ≡ count_to i links → plus (b && nat_lt c.input n) (count_below i n links) ≡ plus b (count_to i links)
+    by_test true is e = rw (lt-ltb c.input n (fits.0 (eqb-true c.to i is))) (ap (λ m. m + 1) e)
+    by_test false is e = e
+
+pub all-counted : (i n : ℕ) (links : List Link) → ((j : ℕ) → count_at i j links ≤ 1) → AllByRecursion (Fits i n) links → (count_to i links == n) ≡ all_connected i n links
+all-counted i n links one fits = ap (λ m. m == n) (sym (below-fits i n links fits)) ∙ sym (below-all i n links one)
+
+-- the connections of an element that has as many inputs as are connected
+used-fits : (i n : ℕ) (links : List Link) → inputs_used i links ≤ n → AllByRecursion (Fits i n) links
+used-fits i n [] le = tt
+used-fits i n (c ∷ links) le = (λ same. here (c.to == i) (eq-eqb c.to i same) le, used-fits i n links (later (c.to == i) le))
+  where
+    here : (b : Bool) → b ≡ true → (if b then max (c.input + 1) (inputs_used i links) else inputs_used i links) ≤ n → c.input < n
+    here true is le = omega arith
+    here false is le = absurd (cc)
+
+    later : (b : Bool) → (if b then max (c.input + 1) (inputs_used i links) else inputs_used i links) ≤ n → inputs_used i links ≤ n
+    later true le = omega arith
+    later false le = le
+
+-- and of one that has so many
+pub input-there : (nodes : List Node) (c : Link) → bad_link nodes c ≡ None → has_input (role_at nodes c.to) c.input ≡ true
+input-there nodes c none = not-false _ (fails-not _ c.to_place (or-none _ _ none).1)
+
+pub role-fits : (nodes : List Node) (i n : ℕ) (r : Role) (links : List Link) → role_at nodes i ≡ Some r → ((input : ℕ) → has_input (Some r) input ≡ true → input < n)
+    → first_of (bad_link nodes) links ≡ None → AllByRecursion (Fits i n) links
+role-fits nodes i n r [] is bound none = tt
+role-fits nodes i n r (c ∷ links) is bound none =
+    let parts = or-none (bad_link nodes c) _ none in
+    (λ same. bound c.input (ap (λ o. has_input o c.input) (sym (ap (role_at nodes) same ∙ is)) ∙ input-there nodes c parts.0), role-fits nodes i n r links is bound parts.1)
+
+pub inputs-counted : (nodes : List Node) (i : ℕ) (r : Role) (links : List Link) → role_at nodes i ≡ Some r → bad_port nodes links ≡ None → port_twice nodes links ≡ None
+    → has_inputs r (inputs_at i links) ≡ all_connected i (inputs_of i r links) links
+inputs-counted nodes i role.Source links is there none = refl
+inputs-counted nodes i role.Queue links is there none = refl
+inputs-counted nodes i role.Scheduler links is there none =
+    all-counted i (max 1 (inputs_used i links)) links (λ j. once nodes i j (ap is_queue is) links none) (used-fits i (max 1 (inputs_used i links)) links (omega arith))
+inputs-counted nodes i (role.SchedulerOf n) links is there none =
+    all-counted i n links (λ j. once nodes i j (ap is_queue is) links none)
+    (role-fits nodes i n (role.SchedulerOf n) links is (λ input e. ltb-true input n (and_parts (nat_lt input n) (nat_le input most_port) e).0) (bad-port-first nodes links ∙ there))
+inputs-counted nodes i role.Device links is there none =
+    all-counted i 1 links (λ j. once nodes i j (ap is_queue is) links none)
+    (role-fits nodes i 1 role.Device links is (λ input e. let zeroth : input ≡ 0 = eqb-true input 0 e in omega arith) (bad-port-first nodes links ∙ there))

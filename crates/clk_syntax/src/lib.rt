@@ -1,0 +1,24 @@
+//! The syntax of Click's tree texts: what a text says, before it is a plan, and its faults.
+#![tactic(auto)]
+
+mod checks;
+mod examples;
+mod laws;
+mod naming;
+mod node;
+mod reading;
+mod texts;
+
+pub use checks::check_graph;
+pub use checks::tables::{Graph, Inputs};
+pub use examples::{fault_examples, order_examples};
+pub use laws::{
+    right_tokens_are_texts, texts_can_be_read, texts_have_one_reading,
+    wrong_tokens_cannot_be_mended,
+};
+pub use naming::Named;
+pub use naming::class::{Class, Role, letters};
+pub use node::{Link, Node};
+pub use reading::named_text;
+pub use texts::statements::{Connection, Declaration, Statements};
+pub use texts::token::{Symbol, Token};

@@ -1,0 +1,302 @@
+//! The classes of elements.
+
+ghost use Rattle.std.specs.Prelude.{◌≡◌, ℕ, ◌<◌, ◌^◌, List, map, length, IfOk, IsOkUnless};
+ghost use Rattle.std.specs.Option.{option_map};
+ghost use Rattle.clk_packet.specs.declared.fault.Fault.TheVariants.{Memory};
+ghost use Rattle.clk_packet.specs.Numbers.{number_in};
+ghost use Rattle.clk_syntax.specs.Classes.{class_named, class_with, class_view, numbers_to, numbers_in, queue_name, role_of};
+ghost use Rattle.clk_syntax.specs.Source.{letters};
+ghost use Rattle.clk_syntax.specs.Within.{IsWithin, AreWithin};
+
+use crate::texts::token::Token;
+use clk_packet::{Fault, Kind, number_in};
+use std::alloc::Global;
+
+/// The name of a class.
+#[derive(Clone, Copy, Debug, PartialEq, Eq)]
+pub enum ClassName {
+    Sender,
+    Queue,
+    FrontDropQueue,
+    PrioSched,
+    RoundRobinSched,
+    DrrSched,
+    StrideSched,
+    Shaper,
+    ToDevice,
+}
+
+/// A class with its arguments, those that a text may leave out too.
+#[derive(Drop)]
+pub enum Class {
+    /// The push source of this number.
+    Sender(u16),
+    /// A queue of this kind, and how many packets it holds at most.
+    Queue(Kind, u32),
+    PrioSched,
+    RoundRobinSched,
+    /// The quantum of each input in bytes, or one for all inputs.
+    DrrSched(Vec<u32>),
+    /// The tickets of each input.
+    StrideSched(Vec<u32>),
+    /// The rate in packets a tick, and the burst in packets.
+    Shaper(u32, u32),
+    /// The link, and the word that tells its device.
+    ToDevice(Vec<u8>),
+}
+
+/// What ports an element has.
+#[derive(Clone, Copy, Debug, PartialEq, Eq)]
+pub enum Role {
+    /// A Sender: a push output.
+    Source,
+    /// A queue: a push input and a pull output.
+    Queue,
+    /// A scheduler with pull inputs, as many as are connected, and a pull output.
+    Scheduler,
+    /// A scheduler or Shaper with so many pull inputs, and a pull output.
+    SchedulerOf(u32),
+    /// A ToDevice: a pull input.
+    Device,
+}
+
+impl ClassName {
+    /// The class of this name, if there is one.
+    pub fn named(word: &[u8]) -> Option<ClassName>
+        ensures { result ≡ class_named word.now }
+    {
+        if word == b"Sender".as_slice() {
+            return Some(ClassName::Sender);
+        }
+        if word == b"Queue".as_slice() {
+            return Some(ClassName::Queue);
+        }
+        if word == b"FrontDropQueue".as_slice() {
+            return Some(ClassName::FrontDropQueue);
+        }
+        if word == b"PrioSched".as_slice() {
+            return Some(ClassName::PrioSched);
+        }
+        if word == b"RoundRobinSched".as_slice() {
+            return Some(ClassName::RoundRobinSched);
+        }
+        if word == b"DRRSched".as_slice() {
+            return Some(ClassName::DrrSched);
+        }
+        if word == b"StrideSched".as_slice() {
+            return Some(ClassName::StrideSched);
+        }
+        if word == b"Shaper".as_slice() {
+            return Some(ClassName::Shaper);
+        }
+        if word == b"ToDevice".as_slice() {
+            return Some(ClassName::ToDevice);
+        }
+        None
+    }
+}
+
+/// The bytes of a token.
+pub fn letters<'a>(text: &'a [u8], token: &Token) -> &'a [u8]
+    requires { IsWithin (length text.now) token.now }
+    ensures { result.now ≡ letters text.now token.now }
+{
+    let (_, rest) = text.split_at(token.place as usize);
+    let (word, _) = rest.split_at(token.length as usize);
+    word
+}
+
+/// The number that a token is, where it is one in this range.
+fn number_at(text: &[u8], token: &Token, least: u32, most: u32) -> Option<u32>
+    requires { IsWithin (length text.now) token.now }
+    ensures { result ≡ number_in least most (letters text.now token.now) }
+{
+    let number = number_in(letters(text, token), u64::from(least), u64::from(most))?;
+    Some(number as u32)
+}
+
+/// The numbers that tokens are, where each is one from 1 to a greatest. Fault 1 where memory is refused.
+fn numbers_at(
+    alloc: Global,
+    text: &[u8],
+    tokens: &[Token],
+    most: u32,
+) -> Result<Option<Vec<u32>>, Fault>
+    requires { AreWithin (length text.now) tokens.now }
+    ensures numbers { IfOk result (λ numbers. option_map (λ ns. ns.items) numbers ≡ numbers_to most (map (letters text.now) tokens.now)) }
+    ensures fault { IsOkUnless result Fault.Memory }
+{
+    let mut numbers = Vec::new(alloc);
+    for token in tokens {
+        match number_at(text, token, 1, most) {
+            Some(number) => numbers.push(number)?,
+            None => return Ok(None),
+        }
+    }
+    Ok(Some(numbers))
+}
+
+impl Class {
+    /// A class with these arguments, if it takes them. Fault 1 where memory is refused.
+    pub fn with(
+        alloc: Global,
+        text: &[u8],
+        name: ClassName,
+        arguments: &[Token],
+    ) -> Result<Option<Class>, Fault>
+        requires { AreWithin (length text.now) arguments.now }
+        ensures class { IfOk result (λ class. option_map class_view class ≡ class_with name (map (letters text.now) arguments.now)) }
+        ensures fault { IsOkUnless result Fault.Memory }
+    {
+        match name {
+            ClassName::Sender => Ok(Class::sender(text, arguments)),
+            ClassName::Queue => Ok(Class::queue(text, Kind::TailDrop, arguments)),
+            ClassName::FrontDropQueue => Ok(Class::queue(text, Kind::FrontDrop, arguments)),
+            ClassName::PrioSched => Ok(Class::prio(arguments)),
+            ClassName::RoundRobinSched => Ok(Class::round_robin(arguments)),
+            ClassName::DrrSched => Class::drr(alloc, text, arguments),
+            ClassName::StrideSched => Class::stride(alloc, text, arguments),
+            ClassName::Shaper => Ok(Class::shaper(text, arguments)),
+            ClassName::ToDevice => Class::device(alloc, text, arguments),
+        }
+    }
+
+    /// The same class. Fault 1 where memory is refused.
+    pub fn copy(&self, alloc: Global) -> Result<Class, Fault>
+        ensures same { IfOk result (λ copy. class_view copy ≡ class_view self.now) }
+        ensures fault { IsOkUnless result Fault.Memory }
+    {
+        match self {
+            Class::Sender(number) => Ok(Class::Sender(*number)),
+            Class::Queue(kind, capacity) => Ok(Class::Queue(*kind, *capacity)),
+            Class::PrioSched => Ok(Class::PrioSched),
+            Class::RoundRobinSched => Ok(Class::RoundRobinSched),
+            Class::DrrSched(quanta) => Ok(Class::DrrSched(quanta.to_vec(alloc)?)),
+            Class::StrideSched(tickets) => Ok(Class::StrideSched(tickets.to_vec(alloc)?)),
+            Class::Shaper(rate, burst) => Ok(Class::Shaper(*rate, *burst)),
+            Class::ToDevice(word) => Ok(Class::ToDevice(word.to_vec(alloc)?)),
+        }
+    }
+
+    fn sender(text: &[u8], arguments: &[Token]) -> Option<Class>
+        requires { AreWithin (length text.now) arguments.now }
+        ensures { option_map class_view result ≡ class_with ClassName.Sender (map (letters text.now) arguments.now) }
+    {
+        match arguments {
+            [number] => {
+                let number = number_at(text, number, 0, 65_535)?;
+                Some(Class::Sender(number as u16))
+            }
+            _ => None,
+        }
+    }
+
+    fn queue(text: &[u8], kind: Kind, arguments: &[Token]) -> Option<Class>
+        requires { AreWithin (length text.now) arguments.now }
+        ensures { option_map class_view result ≡ class_with (queue_name kind) (map (letters text.now) arguments.now) }
+    {
+        match arguments {
+            [] => Some(Class::Queue(kind, 1000)),
+            [capacity] => {
+                let capacity = number_at(text, capacity, 1, 1_000_000)?;
+                Some(Class::Queue(kind, capacity))
+            }
+            _ => None,
+        }
+    }
+
+    fn prio(arguments: &[Token]) -> Option<Class>
+        ensures { (text : List ℕ) → option_map class_view result ≡ class_with ClassName.PrioSched (map (letters text) arguments.now) }
+    {
+        match arguments {
+            [] => Some(Class::PrioSched),
+            _ => None,
+        }
+    }
+
+    fn round_robin(arguments: &[Token]) -> Option<Class>
+        ensures { (text : List ℕ) → option_map class_view result ≡ class_with ClassName.RoundRobinSched (map (letters text) arguments.now) }
+    {
+        match arguments {
+            [] => Some(Class::RoundRobinSched),
+            _ => None,
+        }
+    }
+
+    fn drr(alloc: Global, text: &[u8], arguments: &[Token]) -> Result<Option<Class>, Fault>
+        requires { AreWithin (length text.now) arguments.now }
+        ensures class { IfOk result (λ class. option_map class_view class ≡ class_with ClassName.DrrSched (map (letters text.now) arguments.now)) }
+        ensures fault { IsOkUnless result Fault.Memory }
+    {
+        if arguments.is_empty() {
+            let mut quanta = Vec::new(alloc);
+            quanta.push(500)?;
+            return Ok(Some(Class::DrrSched(quanta)));
+        }
+        match numbers_at(alloc, text, arguments, 1_000_000)? {
+            Some(quanta) => Ok(Some(Class::DrrSched(quanta))),
+            None => Ok(None),
+        }
+    }
+
+    fn stride(alloc: Global, text: &[u8], arguments: &[Token]) -> Result<Option<Class>, Fault>
+        requires { AreWithin (length text.now) arguments.now }
+        ensures class { IfOk result (λ class. option_map class_view class ≡ class_with ClassName.StrideSched (map (letters text.now) arguments.now)) }
+        ensures fault { IsOkUnless result Fault.Memory }
+    {
+        if arguments.is_empty() {
+            return Ok(None);
+        }
+        match numbers_at(alloc, text, arguments, 32_768)? {
+            Some(tickets) => Ok(Some(Class::StrideSched(tickets))),
+            None => Ok(None),
+        }
+    }
+
+    fn shaper(text: &[u8], arguments: &[Token]) -> Option<Class>
+        requires { AreWithin (length text.now) arguments.now }
+        ensures { option_map class_view result ≡ class_with ClassName.Shaper (map (letters text.now) arguments.now) }
+    {
+        let (rate, burst) = match arguments {
+            [rate] => (rate, rate),
+            [rate, burst] => (rate, burst),
+            _ => return None,
+        };
+        let rate = number_at(text, rate, 1, 1_000_000)?;
+        let burst = number_at(text, burst, 1, 1_000_000)?;
+        Some(Class::Shaper(rate, burst))
+    }
+
+    fn device(alloc: Global, text: &[u8], arguments: &[Token]) -> Result<Option<Class>, Fault>
+        requires { AreWithin (length text.now) arguments.now }
+        ensures class { IfOk result (λ class. option_map class_view class ≡ class_with ClassName.ToDevice (map (letters text.now) arguments.now)) }
+        ensures fault { IsOkUnless result Fault.Memory }
+    {
+        match arguments {
+            [word] => {
+                let word = Vec::from_slice(alloc, letters(text, word))?;
+                Ok(Some(Class::ToDevice(word)))
+            }
+            _ => Ok(None),
+        }
+    }
+
+    /// What ports an element of this class has.
+    pub fn role(&self) -> Role
+        requires { length (numbers_in (class_view self.now)) < 2 ^ 32 }
+        ensures { result ≡ role_of (class_view self.now) }
+    {
+        match self {
+            Class::Sender(_) => Role::Source,
+            Class::Queue(_, _) => Role::Queue,
+            Class::PrioSched | Class::RoundRobinSched => Role::Scheduler,
+            Class::DrrSched(quanta) => match quanta.len() {
+                0 | 1 => Role::Scheduler,
+                inputs => Role::SchedulerOf(inputs as u32),
+            },
+            Class::StrideSched(tickets) => Role::SchedulerOf(tickets.len() as u32),
+            Class::Shaper(_, _) => Role::SchedulerOf(1),
+            Class::ToDevice(_) => Role::Device,
+        }
+    }
+}

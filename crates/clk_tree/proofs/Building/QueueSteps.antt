@@ -1,0 +1,87 @@
+-- The queues of a plan, element by element.
+use Rattle.std.proofs.Common.{◌≡◌, ℕ, ◌+◌, ◌<◌, ◌≤◌, zero, suc, Bool, true, false, if◌then◌else◌, List, [], ◌∷◌, ◌++◌, length, map, take, drop, get_or, Option, Some, None, refl, sym, ap, ap₂, ◌∙◌, append_assoc, add-one, arith}
+use Rattle.std.specs.List.{cons_option}
+use Rattle.std.proofs.lemmas.List.{drop_more, map-append}
+use Rattle.clk_packet.specs.declared.packet.Kind.{Kind}
+use Rattle.clk_syntax.specs.declared.naming.class.Class as declared
+use Rattle.clk_syntax.specs.declared.naming.class.Class.TheVariants as kept
+use Rattle.clk_syntax.specs.Classes.{Class, queue, class_view}
+use Rattle.clk_tree.specs.declared.plan.element.Element.{Element}
+use Rattle.clk_tree.specs.declared.plan.parts.QueueSpec.{QueueSpec}
+use Rattle.clk_tree.specs.declared.plan.parts.SenderSpec.{SenderSpec}
+use Rattle.clk_tree.specs.Plan.{Planned}
+use Rattle.clk_tree.specs.inside.Kept.{planned}
+use Rattle.clk_tree.specs.PlanTree.{is_queue, queue_count}
+use Rattle.clk_tree.specs.PlanPaths.{device_of}
+use Rattle.clk_tree.specs.PlanParts.{Queued, queued, senders_of, senders_to, queue_of, queues_from, queues_of}
+
+-- how many queues there are up to a place
+count-more : (elements : List Element) (k : ℕ) (d : Element) → k < length elements → queue_count (take (suc k) (map planned elements))
+    ≡ (if is_queue (class_view (get_or elements k d).class) then queue_count (take k (map planned elements)) + 1 else queue_count (take k (map planned elements)))
+count-more [] k d within = absurd (omega arith)
+count-more (x ∷ elements) zero d within = refl
+count-more (x ∷ elements) (suc k) d within =
+    by_test (is_queue (class_view x.class)) (is_queue (class_view (get_or elements k d).class)) (queue_count (take (suc k) (map planned elements))) (queue_count (take k (map planned elements)))
+    (count-more elements k d (omega arith))
+  where
+    by_test : (a b : Bool) (m n : ℕ) → m ≡ (if b then n + 1 else n) → (if a then m + 1 else m) ≡ (if b then (if a then n + 1 else n) + 1 else (if a then n + 1 else n))
+    by_test true true m n e = ap (λ k. k + 1) e
+    by_test true false m n e = ap (λ k. k + 1) e
+    by_test false true m n e = e
+    by_test false false m n e = e
+
+no-queue : (class : declared.Class) → ((kind : Kind) (capacity : ℕ) → class ≡ kept.Queue kind capacity → ⊥) → is_queue (class_view class) ≡ false
+no-queue (kept.Sender n) other = refl
+no-queue (kept.Queue kind capacity) other = absurd (other kind capacity refl)
+no-queue kept.PrioSched other = refl
+no-queue kept.RoundRobinSched other = refl
+no-queue (kept.DrrSched quanta) other = refl
+no-queue (kept.StrideSched tickets) other = refl
+no-queue (kept.Shaper rate burst) other = refl
+no-queue (kept.ToDevice word) other = refl
+
+no-spec : (plan : List Planned) (k : ℕ) (class : Class) → is_queue class ≡ false → queue_of plan k class ≡ None
+no-spec plan k (queue kind capacity) other = absurd (cc)
+no-spec plan k class other = refl
+
+-- the queues in what is left begin with that of the next element
+next-queues : (elements : List Element) (k : ℕ) (d : Element) (o : Option Queued) → k < length elements → queue_of (map planned elements) k (class_view (get_or elements k d).class) ≡ o
+    → queues_from (map planned elements) k (map planned (drop k elements)) ≡ cons_option o (queues_from (map planned elements) (k + 1) (map planned (drop (k + 1) elements)))
+next-queues elements k d o within is =
+    ap (λ xs. queues_from (map planned elements) k (map planned xs)) (drop_more elements k d within)
+    ∙ ap (λ p. cons_option p (queues_from (map planned elements) (k + 1) (map planned (drop (k + 1) elements)))) is
+
+-- The queues so far, with those in what is left, and how many there are: after a queue, and after another element.
+pub record AreQueues (elements : List Element) (k number : ℕ) (queues : List QueueSpec) : Type 0 where
+  pub all : map queued queues ++ queues_from (map planned elements) k (map planned (drop k elements)) ≡ queues_of (map planned elements)
+  pub counted : number ≡ queue_count (take k (map planned elements))
+  pub bound : number ≤ k
+
+pub queue-added : (elements : List Element) (k number capacity device : ℕ) (kind : Kind) (d : Element) (senders : List SenderSpec) (sent : List ℕ) (spec : QueueSpec) (queues new : List QueueSpec)
+    → k < length elements → (get_or elements k d).class ≡ kept.Queue kind capacity → senders ≡ senders_of (map planned elements) → sent ≡ senders_to senders number
+    → device ≡ device_of (map planned elements) k → new ≡ queues ++ spec ∷ [] → queued spec ≡ record { kind = kind; capacity = capacity; senders = sent; device = device }
+    → AreQueues elements k number queues → AreQueues elements (k + 1) (number + 1) new
+queue-added elements k number capacity device kind d senders sent spec queues new within class from made leads added is h =
+    let plan = map planned elements in
+    let left : List Queued = queues_from (map planned elements) (k + 1) (map planned (drop (k + 1) elements)) in
+    let its : queue_of (map planned elements) k (class_view (get_or elements k d).class) ≡ Some (queued spec) =
+    ap (λ c. queue_of (map planned elements) k (class_view c)) class
+    ∙ sym (ap Some (is ∙ ap₂ (λ (s : List ℕ) (n : ℕ). record { kind = kind; capacity = capacity; senders = s; device = n }) (made ∙ ap₂ senders_to from h.counted) leads)) in
+    record {
+      all = ap (λ xs. map queued xs ++ left) added ∙ ap (λ xs. xs ++ left) (map-append queued queues (spec ∷ [])) ∙ append_assoc (map queued queues) (queued spec ∷ []) left
+          ∙ sym (ap (λ xs. map queued queues ++ xs) (next-queues elements k d (Some (queued spec)) within its)) ∙ h.all;
+      counted = ap (λ n. n + 1) h.counted ∙ sym (ap (λ n. queue_count (take n (map planned elements))) (add-one k) ∙ count-more elements k d within
+          ∙ ap (λ c. if is_queue (class_view c) then queue_count (take k (map planned elements)) + 1 else queue_count (take k (map planned elements))) class);
+      bound = let low = h.bound in omega (arith, low);
+    }
+
+pub queue-passed : (elements : List Element) (k number : ℕ) (d : Element) (queues : List QueueSpec) → k < length elements
+    → ((kind : Kind) (capacity : ℕ) → (get_or elements k d).class ≡ kept.Queue kind capacity → ⊥) → AreQueues elements k number queues → AreQueues elements (k + 1) number queues
+queue-passed elements k number d queues within other h =
+    let none = no-queue (get_or elements k d).class other in
+    record {
+      all = sym (ap (λ xs. map queued queues ++ xs) (next-queues elements k d None within (no-spec (map planned elements) k (class_view (get_or elements k d).class) none))) ∙ h.all;
+      counted = h.counted ∙ sym (ap (λ n. queue_count (take n (map planned elements))) (add-one k) ∙ count-more elements k d within
+          ∙ ap (λ b. if b then queue_count (take k (map planned elements)) + 1 else queue_count (take k (map planned elements))) none);
+      bound = let low = h.bound in omega (arith, low);
+    }

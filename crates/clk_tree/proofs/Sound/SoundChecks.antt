@@ -1,0 +1,145 @@
+-- What a check that finds nothing says of each member.
+use Rattle.std.proofs.Common.{◌≡◌, ℕ, ◌+◌, ◌≤◌, ◌==◌, ◌&&◌, nat_lt, zero, suc, Bool, true, false, not, if◌then◌else◌, List, [], ◌∷◌, Option, Some, None, refl, sym, ap, subst, ◌∙◌, arith, eq-eqb}
+use Rattle.std.specs.Option.{option_or}
+use Rattle.std.specs.List.{AllByRecursion}
+use Rattle.std.proofs.lemmas.Bool.{and_parts, or_parts, not-false}
+use Rattle.std.proofs.lemmas.Bool.Decides.{nat_tests}
+use Rattle.clk_packet.specs.Limits.{most_inputs, most_levels}
+use Rattle.clk_syntax.specs.declared.naming.class.Role.{Role}
+use Rattle.clk_syntax.specs.declared.node.Node.{Node}
+use Rattle.clk_syntax.specs.declared.node.Link.{Link}
+use Rattle.clk_syntax.specs.Declarations.{first_after, fails_at}
+use Rattle.clk_syntax.specs.Ports.{role_at, is_source, is_queue, is_scheduler, has_output, has_input, differ, uses_output, uses_input, inputs_of, all_connected, output_connected, port_missing_from, not_a_tree_from, leads, next}
+use Rattle.clk_syntax.specs.Size.{is_too_large, some_too_large, levels}
+use Rattle.clk_syntax.specs.inside.Checks.{first_of, bad_link, mixed_link}
+use Rattle.clk_syntax.proofs.Callers.Graphs.{used_again}
+
+-- what fails nowhere
+pub neither : {A : Type 0} (a b : Option A) → option_or a b ≡ None → (a ≡ None) × (b ≡ None)
+neither None b e = (refl, e)
+neither (Some x) b e = absurd (cc)
+
+pub fails-not : (b : Bool) (place : ℕ) → fails_at b place ≡ None → b ≡ false
+fails-not true place e = absurd (cc)
+fails-not false place e = refl
+
+pub each-of : {A : Type 0} (fails : A → Option ℕ) (xs : List A) → first_of fails xs ≡ None → AllByRecursion (λ x. fails x ≡ None) xs
+each-of fails [] e = tt
+each-of fails (x ∷ xs) e = let parts = neither (fails x) (first_of fails xs) e in (parts.0, each-of fails xs parts.1)
+
+pub all-both : {A : Type 0} (P Q R : A → Type 0) (xs : List A) → ((x : A) → P x → Q x → R x) → AllByRecursion P xs → AllByRecursion Q xs → AllByRecursion R xs
+all-both P Q R [] f p q = tt
+all-both P Q R (x ∷ xs) f p q = (f x p.0 q.0, all-both P Q R xs f p.1 q.1)
+
+-- The ends of a connection that is right: its output is there, its input is there, and a push output leads to a push input.
+pub record IsRight (nodes : List Node) (c : Link) : Type 0 where
+  pub output : has_output (role_at nodes c.from) c.output ≡ true
+  pub input : has_input (role_at nodes c.to) c.input ≡ true
+  pub kind : is_source (role_at nodes c.from) ≡ is_queue (role_at nodes c.to)
+
+same-kind : (a b : Bool) → differ a b ≡ false → a ≡ b
+same-kind true true e = refl
+same-kind true false e = e
+same-kind false b e = sym e
+
+right : (nodes : List Node) (c : Link) → bad_link nodes c ≡ None → mixed_link nodes c ≡ None → IsRight nodes c
+right nodes c there kind =
+    let parts = neither (fails_at (not (has_output (role_at nodes c.from) c.output)) c.from_place) (fails_at (not (has_input (role_at nodes c.to) c.input)) c.to_place) there in
+    record {
+      output = not-false (has_output (role_at nodes c.from) c.output) (fails-not (not (has_output (role_at nodes c.from) c.output)) c.from_place parts.0);
+      input = not-false (has_input (role_at nodes c.to) c.input) (fails-not (not (has_input (role_at nodes c.to) c.input)) c.to_place parts.1);
+      kind = same-kind (is_source (role_at nodes c.from)) (is_queue (role_at nodes c.to)) (fails-not (differ (is_source (role_at nodes c.from)) (is_queue (role_at nodes c.to))) c.from_place kind);
+    }
+
+pub all-right : (nodes : List Node) (links : List Link) → first_of (bad_link nodes) links ≡ None → first_of (mixed_link nodes) links ≡ None → AllByRecursion (IsRight nodes) links
+all-right nodes links there kind =
+    all-both (λ c. bad_link nodes c ≡ None) (λ c. mixed_link nodes c ≡ None) (IsRight nodes) links (right nodes) (each-of (bad_link nodes) links there) (each-of (mixed_link nodes) links kind)
+
+-- no output that was used is used again
+pub unused-after : (nodes : List Node) (earlier links : List Link) → first_after (used_again nodes) earlier links ≡ None → AllByRecursion (λ (c : Link). uses_output c.from earlier ≡ false) links
+unused-after nodes earlier [] e = tt
+unused-after nodes earlier (c ∷ links) e =
+    let parts = neither (used_again nodes earlier c) (first_after (used_again nodes) (c ∷ earlier) links) e in
+    let here = neither (fails_at (uses_output c.from earlier) c.from_place) (fails_at (not (is_queue (role_at nodes c.to)) && uses_input c.to c.input earlier) c.to_place) parts.0 in (
+      fails-not (uses_output c.from earlier) c.from_place here.0,
+      all-both (λ (d : Link). uses_output d.from (c ∷ earlier) ≡ false) (λ (d : Link). uses_output d.from (c ∷ earlier) ≡ false) (λ (d : Link). uses_output d.from earlier ≡ false) links
+          (λ d f g. (or_parts (c.from == d.from) (uses_output d.from earlier) f).1) (unused-after nodes (c ∷ earlier) links parts.1) (unused-after nodes (c ∷ earlier) links parts.1),
+    )
+
+-- so each connection is the one that its element has
+pub all-next : (nodes : List Node) (earlier links : List Link) → first_after (used_again nodes) earlier links ≡ None → AllByRecursion (λ (c : Link). next links c.from ≡ c.to) links
+all-next nodes earlier [] e = tt
+all-next nodes earlier (c ∷ links) e =
+    let parts = neither (used_again nodes earlier c) (first_after (used_again nodes) (c ∷ earlier) links) e in
+    let later = all-next nodes (c ∷ earlier) links parts.1 in (
+      ap (λ b. if b then c.to else next links c.from) (eq-eqb c.from c.from refl),
+      all-both (λ (d : Link). uses_output d.from (c ∷ earlier) ≡ false) (λ (d : Link). next links d.from ≡ d.to) (λ (d : Link). next (c ∷ links) d.from ≡ d.to) links
+          (λ d free is. ap (λ b. if b then c.to else next links d.from) (or_parts (c.from == d.from) (uses_output d.from earlier) free).0 ∙ is) (unused-after nodes (c ∷ earlier) links parts.1) later,
+    )
+
+-- the ports of the element at a place are connected
+pub record IsConnected (links : List Link) (i : ℕ) (r : Role) : Type 0 where
+  pub output : output_connected i r links ≡ true
+  pub inputs : all_connected i (inputs_of i r links) links ≡ true
+
+connected : (links : List Link) (i : ℕ) (r : Role) (place : ℕ) → fails_at (not (output_connected i r links && all_connected i (inputs_of i r links) links)) place ≡ None → IsConnected links i r
+connected links i r place e =
+    let both = not-false (output_connected i r links && all_connected i (inputs_of i r links) links) (fails-not (not (output_connected i r links && all_connected i (inputs_of i r links) links)) place e) in
+    let parts = and_parts (output_connected i r links) (all_connected i (inputs_of i r links) links) both in
+    record { output = parts.0; inputs = parts.1 }
+
+pub at-more : (i j : ℕ) → i + 1 + j ≡ i + suc j
+at-more i j = omega arith
+
+pub connected-at : (links : List Link) (i : ℕ) (nodes : List Node) (j : ℕ) (r : Role) → port_missing_from i nodes links ≡ None → role_at nodes j ≡ Some r → IsConnected links (i + j) r
+connected-at links i [] j r none at = absurd (cc)
+connected-at links i (node ∷ nodes) zero r none at =
+    let parts = neither (fails_at (not (output_connected i node.role links && all_connected i (inputs_of i node.role links) links)) node.place) (port_missing_from (i + 1) nodes links) none in
+    let is : node.role ≡ r = cc in
+    let place : i ≡ i + 0 = omega arith in
+    subst (λ k. IsConnected links k r) place (subst (IsConnected links i) is (connected links i node.role node.place parts.0))
+connected-at links i (node ∷ nodes) (suc j) r none at =
+    let parts = neither (fails_at (not (output_connected i node.role links && all_connected i (inputs_of i node.role links) links)) node.place) (port_missing_from (i + 1) nodes links) none in
+    subst (λ k. IsConnected links k r) (at-more i j) (connected-at links (i + 1) nodes j r parts.1 at)
+
+-- the way from a scheduler leads to a device
+leads-if : (r : Role) (b : Bool) (place : ℕ) → fails_at (is_scheduler (Some r) && not b) place ≡ None → is_scheduler (Some r) ≡ true → b ≡ true
+leads-if r b place none is = not-false b (ap (λ s. s && not b) (sym is) ∙ fails-not (is_scheduler (Some r) && not b) place none)
+
+pub leads-at : (all : List Node) (links : List Link) (i : ℕ) (nodes : List Node) (j : ℕ) (r : Role) → not_a_tree_from i nodes all links ≡ None → role_at nodes j ≡ Some r
+    → is_scheduler (Some r) ≡ true → leads all links (i + j) ≡ true
+leads-at all links i [] j r none at is = absurd (cc)
+leads-at all links i (node ∷ nodes) zero r none at is =
+    let parts = neither (fails_at (is_scheduler (Some node.role) && not (leads all links i)) node.place) (not_a_tree_from (i + 1) nodes all links) none in
+    let same : node.role ≡ r = cc in
+    let place : i ≡ i + 0 = omega arith in
+    subst (λ k. leads all links k ≡ true) place (leads-if node.role (leads all links i) node.place parts.0 (ap (λ s. is_scheduler (Some s)) same ∙ is))
+leads-at all links i (node ∷ nodes) (suc j) r none at is =
+    let parts = neither (fails_at (is_scheduler (Some node.role) && not (leads all links i)) node.place) (not_a_tree_from (i + 1) nodes all links) none in
+    subst (λ k. leads all links k ≡ true) (at-more i j) (leads-at all links (i + 1) nodes j r parts.1 at is)
+
+-- an element is within the limits
+pub record IsSmall (nodes : List Node) (links : List Link) (i : ℕ) (r : Role) : Type 0 where
+  pub inputs : inputs_of i r links ≤ most_inputs
+  pub levels : levels nodes links i ≤ most_levels
+
+small : (all : List Node) (links : List Link) (i : ℕ) (node : Node) → is_too_large i node all links ≡ false → IsSmall all links i node.role
+small all links i node fits =
+    let parts = or_parts (nat_lt most_inputs (inputs_of i node.role links)) (nat_lt most_levels (levels all links i)) fits in
+    let few : nat_lt most_inputs (inputs_of i node.role links) ≡ false = parts.0 in
+    let low : nat_lt most_levels (levels all links i) ≡ false = parts.1 in
+    record { inputs = at-most most_inputs (inputs_of i node.role links) few; levels = at-most most_levels (levels all links i) low }
+  where
+    at-most : (m n : ℕ) → nat_lt m n ≡ false → n ≤ m
+    at-most m n e = grind (arith, nat_tests)
+
+pub small-at : (all : List Node) (links : List Link) (i : ℕ) (nodes : List Node) (j : ℕ) (r : Role) → some_too_large i nodes all links ≡ false → role_at nodes j ≡ Some r → IsSmall all links (i + j) r
+small-at all links i [] j r fits at = absurd (cc)
+small-at all links i (node ∷ nodes) zero r fits at =
+    let parts = or_parts (is_too_large i node all links) (some_too_large (i + 1) nodes all links) fits in
+    let same : node.role ≡ r = cc in
+    let place : i ≡ i + 0 = omega arith in
+    subst (λ k. IsSmall all links k r) place (subst (IsSmall all links i) same (small all links i node parts.0))
+small-at all links i (node ∷ nodes) (suc j) r fits at =
+    let parts = or_parts (is_too_large i node all links) (some_too_large (i + 1) nodes all links) fits in
+    subst (λ k. IsSmall all links k r) (at-more i j) (small-at all links (i + 1) nodes j r parts.1 at)

@@ -1,0 +1,137 @@
+-- No two Senders of the plan of a text without a fault have the same number.
+use Rattle.std.proofs.Common.{◌≡◌, ℕ, ◌+◌, ◌==◌, ◌&&◌, ◌||◌, zero, suc, Bool, true, false, not, List, [], ◌∷◌, length, Option, Some, None, option_map, slice_get, refl, sym, ap, subst, ◌∙◌, eq-eqb, ne_eqb}
+use Rattle.std.specs.List.{AllByRecursion, list_any, cons_option}
+use Rattle.std.proofs.lemmas.Bool.{or_parts, and_parts, or_from, or_right, not-true, false≢true}
+use Rattle.std.proofs.lemmas.Option.{same_Some}
+use Rattle.clk_packet.specs.declared.fault.Fault.TheVariants.{NameTwice, UnknownClass, BadArgument, UnknownName}
+use Rattle.clk_sched.specs.Tree.{stands_in, are_distinct}
+use Rattle.clk_syntax.specs.declared.node.Link.{Link}
+use Rattle.clk_syntax.specs.Classes.{Class, sender, queue, prio, round_robin, drr, stride, shaper, device}
+use Rattle.clk_syntax.specs.Source.{Element, Wire}
+use Rattle.clk_syntax.specs.Declarations.{first_after, fails_at, class_of, is_sender, is_bad_after, name_twice, unknown_class, bad_argument, unknown_name}
+use Rattle.clk_syntax.specs.Faults.{naming_fault, nodes_fault, nodes_of, links_of, fault_of}
+use Rattle.clk_tree.specs.Plan.{Planned, all_known, planned_from, plan_of}
+use Rattle.clk_tree.proofs.Sound.SoundChecks.{neither, fails-not}
+use Rattle.clk_tree.proofs.Sound.SoundNodes.{known_as}
+
+-- the numbers of the Senders of a plan, in order of declaration
+abbrev pub with_number : Class → List ℕ → List ℕ
+with_number (sender n) numbers = n ∷ numbers
+with_number class numbers = numbers
+
+abbrev pub sender_numbers : List Planned → List ℕ
+sender_numbers [] = []
+sender_numbers (e ∷ more) = with_number e.class (sender_numbers more)
+
+-- a number that no Sender before has
+abbrev IsNew : List Element → ℕ → Type 0
+IsNew earlier n = list_any (λ e. is_sender n (class_of e)) earlier ≡ false
+
+-- numbers that differ from one another, and from those before
+record AreNew (earlier : List Element) (numbers : List ℕ) : Type 0 where
+  pub distinct : are_distinct numbers ≡ true
+  pub new : AllByRecursion (IsNew earlier) numbers
+
+unlike : (n : ℕ) (e : Element) (numbers : List ℕ) → AllByRecursion (λ m. is_sender m (Some (sender n)) ≡ false) numbers → stands_in n numbers ≡ false
+unlike n e [] apart = refl
+unlike n e (m ∷ numbers) apart = or_from (m == n) (stands_in n numbers) (differs (n == m) refl apart.0) (unlike n e numbers apart.1)
+  where
+    differs : (b : Bool) → (n == m) ≡ b → b ≡ false → (m == n) ≡ false
+    differs b is e = ne_eqb m n (λ same. false≢true (sym e ∙ sym is ∙ eq-eqb n m (sym same)))
+
+each-new : (e : Element) (earlier : List Element) (numbers : List ℕ) → AllByRecursion (IsNew (e ∷ earlier)) numbers → AllByRecursion (IsNew earlier) numbers
+each-new e earlier [] new = tt
+each-new e earlier (m ∷ numbers) new = ((or_parts (is_sender m (class_of e)) (list_any (λ x. is_sender m (class_of x)) earlier) new.0).1, each-new e earlier numbers new.1)
+
+each-apart : (e : Element) (earlier : List Element) (numbers : List ℕ) → AllByRecursion (IsNew (e ∷ earlier)) numbers → AllByRecursion (λ m. is_sender m (class_of e) ≡ false) numbers
+each-apart e earlier [] new = tt
+each-apart e earlier (m ∷ numbers) new = ((or_parts (is_sender m (class_of e)) (list_any (λ x. is_sender m (class_of x)) earlier) new.0).0, each-apart e earlier numbers new.1)
+
+distinct-after : (count : ℕ) (links : List Link) (earlier elements : List Element) (i : ℕ)
+    → first_after (λ before (e : Element). fails_at (is_bad_after before (class_of e)) e.class.place) earlier elements ≡ None
+    → AreNew earlier (sender_numbers (planned_from count links i (all_known elements)))
+distinct-after count links earlier [] i none = record { distinct = refl; new = tt }
+distinct-after count links earlier (e ∷ elements) i none =
+    let parts = neither (fails_at (is_bad_after earlier (class_of e)) e.class.place) _ none in
+    by_case (class_of e) refl (fails-not (is_bad_after earlier (class_of e)) e.class.place parts.0) (distinct-after count links (e ∷ earlier) elements i parts.1)
+    (distinct-after count links (e ∷ earlier) elements (i + 1) parts.1)
+  where
+    kept : (numbers : List ℕ) → AreNew (e ∷ earlier) numbers → AreNew earlier numbers
+    kept numbers h = record { distinct = h.distinct; new = each-new e earlier numbers h.new }
+
+    more : (n : ℕ) (numbers : List ℕ) → class_of e ≡ Some (sender n) → IsNew earlier n → AreNew (e ∷ earlier) numbers → AreNew earlier (n ∷ numbers)
+    more n numbers is new h =
+        let apart : stands_in n numbers ≡ false = unlike n e numbers (subst (λ o. AllByRecursion (λ m. is_sender m o ≡ false) numbers) is (each-apart e earlier numbers h.new)) in
+        record { distinct = ap (λ b. not b && are_distinct numbers) apart ∙ h.distinct; new = (new, each-new e earlier numbers h.new) }
+
+    by_case : (o : Option Class) → class_of e ≡ o → is_bad_after earlier o ≡ false
+        → AreNew (e ∷ earlier) (sender_numbers (planned_from count links i (all_known elements)))
+        → AreNew (e ∷ earlier) (sender_numbers (planned_from count links (i + 1) (all_known elements)))
+        → AreNew earlier (sender_numbers (planned_from count links i (cons_option (option_map (known_as e) o) (all_known elements))))
+    by_case None is good here later = kept (sender_numbers (planned_from count links i (all_known elements))) here
+    by_case (Some (sender n)) is good here later = more n (sender_numbers (planned_from count links (i + 1) (all_known elements))) is good later
+    by_case (Some (queue kind capacity)) is good here later = kept (sender_numbers (planned_from count links (i + 1) (all_known elements))) later
+    by_case (Some prio) is good here later = kept (sender_numbers (planned_from count links (i + 1) (all_known elements))) later
+    by_case (Some round_robin) is good here later = kept (sender_numbers (planned_from count links (i + 1) (all_known elements))) later
+    by_case (Some (drr quanta)) is good here later = kept (sender_numbers (planned_from count links (i + 1) (all_known elements))) later
+    by_case (Some (stride tickets)) is good here later = kept (sender_numbers (planned_from count links (i + 1) (all_known elements))) later
+    by_case (Some (shaper rate burst)) is good here later = kept (sender_numbers (planned_from count links (i + 1) (all_known elements))) later
+    by_case (Some (device word)) is good here later = kept (sender_numbers (planned_from count links (i + 1) (all_known elements))) later
+
+none-bad : (place : Option ℕ) → option_map BadArgument place ≡ None → place ≡ None
+none-bad None e = refl
+none-bad (Some place) e = absurd (cc)
+
+pub senders-distinct : (elements : List Element) (wires : List Wire) → fault_of elements wires ≡ None → are_distinct (sender_numbers (plan_of elements wires)) ≡ true
+senders-distinct elements wires none =
+    let naming = neither (naming_fault elements wires) (nodes_fault (nodes_of elements) (links_of elements wires)) none in
+    let twice = neither (option_map NameTwice (name_twice elements)) _ naming.0 in
+    let unknown = neither (option_map UnknownClass (unknown_class elements)) _ twice.1 in
+    let bad = neither (option_map BadArgument (bad_argument elements)) (option_map UnknownName (unknown_name elements wires)) unknown.1 in
+    (distinct-after (length (all_known elements)) (links_of elements wires) [] elements 0 (none-bad (bad_argument elements) bad.0)).distinct
+
+-- by their places: Senders of one number are one
+stands-more : (class : Class) (numbers : List ℕ) (n : ℕ) → stands_in n numbers ≡ true → stands_in n (with_number class numbers) ≡ true
+stands-more (sender m) numbers n e = or_right (m == n) (stands_in n numbers) e
+stands-more (queue kind capacity) numbers n e = e
+stands-more prio numbers n e = e
+stands-more round_robin numbers n e = e
+stands-more (drr quanta) numbers n e = e
+stands-more (stride tickets) numbers n e = e
+stands-more (shaper rate burst) numbers n e = e
+stands-more (device word) numbers n e = e
+
+number-stands : (plan : List Planned) (i n : ℕ) (e : Planned) → slice_get plan i ≡ Some e → e.class ≡ sender n → stands_in n (sender_numbers plan) ≡ true
+number-stands [] i n e at is = absurd (cc)
+number-stands (x ∷ plan) zero n e at is =
+    let same : x.class ≡ sender n = ap (λ (p : Planned). p.class) (same_Some x e at) ∙ is in
+    ap (λ c. stands_in n (with_number c (sender_numbers plan))) same ∙ ap (λ b. b || stands_in n (sender_numbers plan)) (eq-eqb n n refl)
+number-stands (x ∷ plan) (suc i) n e at is = stands-more x.class (sender_numbers plan) n (number-stands plan i n e at is)
+
+rest-distinct : (class : Class) (numbers : List ℕ) → are_distinct (with_number class numbers) ≡ true → are_distinct numbers ≡ true
+rest-distinct (sender m) numbers e = (and_parts (not (stands_in m numbers)) (are_distinct numbers) e).1
+rest-distinct (queue kind capacity) numbers e = e
+rest-distinct prio numbers e = e
+rest-distinct round_robin numbers e = e
+rest-distinct (drr quanta) numbers e = e
+rest-distinct (stride tickets) numbers e = e
+rest-distinct (shaper rate burst) numbers e = e
+rest-distinct (device word) numbers e = e
+
+first-differs : (x e f : Planned) (plan : List Planned) (j n : ℕ) → are_distinct (sender_numbers (x ∷ plan)) ≡ true → x ≡ e → e.class ≡ sender n → slice_get plan j ≡ Some f → f.class ≡ sender n → ⊥
+first-differs x e f plan j n distinct same is at also =
+    let class : x.class ≡ sender n = ap (λ (p : Planned). p.class) same ∙ is in
+    let none : (not (stands_in n (sender_numbers plan)) && are_distinct (sender_numbers plan)) ≡ true = ap (λ c. are_distinct (with_number c (sender_numbers plan))) (sym class) ∙ distinct in
+    false≢true (sym (not-true (stands_in n (sender_numbers plan)) (and_parts (not (stands_in n (sender_numbers plan))) (are_distinct (sender_numbers plan)) none).0)
+    ∙ number-stands plan j n f at also)
+
+one-place : (plan : List Planned) (i j n : ℕ) (e f : Planned) → are_distinct (sender_numbers plan) ≡ true → slice_get plan i ≡ Some e → e.class ≡ sender n → slice_get plan j ≡ Some f → f.class ≡ sender n → i ≡ j
+one-place [] i j n e f distinct at is there also = absurd (cc)
+one-place (x ∷ plan) zero zero n e f distinct at is there also = refl
+one-place (x ∷ plan) zero (suc j) n e f distinct at is there also = absurd (first-differs x e f plan j n distinct (same_Some x e at) is there also)
+one-place (x ∷ plan) (suc i) zero n e f distinct at is there also = absurd (first-differs x f e plan i n distinct (same_Some x f there) also at is)
+one-place (x ∷ plan) (suc i) (suc j) n e f distinct at is there also = ap suc (one-place plan i j n e f (rest-distinct x.class (sender_numbers plan) distinct) at is there also)
+
+pub sender-alone : (elements : List Element) (wires : List Wire) → fault_of elements wires ≡ None → (i j n : ℕ) (e f : Planned) → slice_get (plan_of elements wires) i ≡ Some e → e.class ≡ sender n
+    → slice_get (plan_of elements wires) j ≡ Some f → f.class ≡ sender n → i ≡ j
+sender-alone elements wires none i j n e f at is there also = one-place (plan_of elements wires) i j n e f (senders-distinct elements wires none) at is there also

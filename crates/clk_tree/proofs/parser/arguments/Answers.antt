@@ -1,5 +1,0 @@
-use Rattle.clk_tree.proofs.ParseLemmas.{arguments-read}
-use Rattle.clk_tree.proofs.parser.arguments.Goals as goal
-
-pub returns-clause-read : goal.returns-clause-read
-returns-clause-read c = arguments-read c.in-Some.ensures c.in_ok-words.ensures.sound c.in_ok-words.ensures.read

@@ -1,5 +1,0 @@
-use Rattle.clk_tree.proofs.FailureLemmas.{wrong-kind-first}
-use Rattle.clk_tree.proofs.ports.wrong_kind.Goals as goal
-
-pub loop-link-init : goal.loop-link-init
-loop-link-init c = record { within = c.requires; same = wrong-kind-first c.args.nodes.now c.args.links.now }
