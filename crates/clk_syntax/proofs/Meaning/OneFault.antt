@@ -25,10 +25,12 @@ one-fault text fault other (inl told) (inr h) = let e = sym h.short_and_right �
 one-fault text fault other (inr h) (inl told) = let e = sym h.short_and_right ∙ told in absurd (cc)
 one-fault text fault other (inr h) (inr k) = let e : Some fault ≡ Some other = sym h.is ∙ same-told text h.statements k.statements h.is_text k.is_text ∙ k.is in cc
 
+-- a text with a fault isn't without one
 pub not-faultless : (text : List ℕ) (fault : Fault) → IsFaultless text → ¬ (HasFault text fault)
 not-faultless text fault f (inl told) = let e = sym f.short_and_right ∙ told in absurd (cc)
 not-faultless text fault f (inr h) = let e = sym f.sound ∙ same-told text f.statements h.statements f.is_text h.is_text ∙ h.is in absurd (cc)
 
+-- and the statements that are without one are the only ones
 pub same-statements : (text : List ℕ) (f g : IsFaultless text) → f.statements ≡ g.statements
 same-statements text f g = one-reading (tokens_of text) f.statements g.statements f.is_text g.is_text
 
@@ -52,5 +54,5 @@ says-as text None right =
     says-by text read.0 (told_by text read.0) right read.1 refl
 says-as text (Some fault) told = inr (fault, inl told)
 
-pub says : (text : List ℕ) → Says text
+pub says : (text : List ℕ) → IsFaultless text ⊎ ((fault : Fault) × HasFault text fault)
 says text = says-as text (text_fault text) refl
