@@ -11,8 +11,8 @@ use Rattle.clk_drain.specs.Outcome.{Device}
 use Rattle.clk_drain.specs.Run.{AreDevicesFrom, IsRunWith, IsKeptRun}
 use Rattle.clk_report.specs.Devices.{came_out, lists_of}
 use Rattle.clk_report.specs.Report.{report_text}
-use Rattle.clickpull.specs.declared.pace.Pace.{Pace}
-use Rattle.clickpull.specs.Running.{RunAnswers, RunWrites, Tells}
+use Rattle.clk_command.specs.declared.pace.Pace.{Pace}
+use Rattle.clk_command.specs.Running.{RunAnswers, RunWrites, Tells}
 
 -- devices from a number on are as many as a plan has from there
 devices-counted : (plan : List Planned) (number : ℕ) (devices : List Device) → AreDevicesFrom plan number devices → number + length devices ≡ device_count plan

@@ -1,8 +1,8 @@
 //! The program by its words, over memory in place of standard input, output and error, and over files of its own.
 
-use super::AMPLE;
-use super::files::write;
-use crate::command;
+use crate::AMPLE;
+use crate::files::write;
+use clk_command::command;
 use clk_packet::{FailingSink, FailingSource, Fault};
 use std::process::Abort;
 use std::rt::Files;

@@ -6,7 +6,7 @@ ghost use Rattle.clk_packet.specs.Bytes.{AppendsFront, Takes, read_failures, wri
 ghost use Rattle.clk_packet.specs.Trace.{most_trace_bytes};
 ghost use Rattle.clk_packet.specs.declared.fault.Fault.TheVariants.{Write};
 ghost use Rattle.clk_report.specs.Devices.{lists_of};
-ghost use Rattle.clickpull.specs.Running.{ExplainsRun, RunAnswers, RunWrites};
+ghost use Rattle.clk_command.specs.Running.{ExplainsRun, RunAnswers, RunWrites};
 
 use crate::pace::Pace;
 use clk_drain::{Free, Outcome, run_with};

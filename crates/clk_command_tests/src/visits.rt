@@ -1,8 +1,8 @@
 //! The visits of a script, in a file.
 
-use super::AMPLE;
-use super::command::{answer_within, assert_writes};
-use super::files::write;
+use crate::AMPLE;
+use crate::command::{answer_within, assert_writes};
+use crate::files::write;
 use clk_packet::{FailingSink, FailingSource, Fault, Packet};
 use clk_sched::Visit;
 use clk_script::run_script_logged;

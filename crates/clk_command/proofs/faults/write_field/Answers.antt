@@ -1,7 +1,7 @@
 use Rattle.std.proofs.Common.{codes, decimal}
 use Rattle.std.proofs.lemmas.Result.{err_from_is_err_and}
 use Rattle.clk_packet.proofs.BytesLemmas.{Wrote-then, Wrote-cut}
-use Rattle.clickpull.proofs.faults.write_field.Goals as goal
+use Rattle.clk_command.proofs.faults.write_field.Goals as goal
 
 pub returns-in_err-write_all : goal.returns-in_err-write_all
 returns-in_err-write_all g c =

@@ -10,7 +10,7 @@ use Rattle.clk_drain.specs.declared.outcome.Outcome.{Outcome}
 use Rattle.clk_drain.specs.Run.{IsFaultOfRun, IsRunWith}
 use Rattle.clk_report.specs.Devices.{came_out}
 use Rattle.clk_report.specs.Report.{report_text}
-use Rattle.clickpull.specs.declared.pace.Pace.{Pace}
+use Rattle.clk_command.specs.declared.pace.Pace.{Pace}
 
 -- Nothing is wrong with a trace, and this is what each sender sends by it.
 pub record Tells (trace : List ℕ) (traces : List (List Packet)) : Type 0 where

@@ -1,8 +1,8 @@
 //! The examples: each script or trace over its tree is answered as it is said to be. `tests/examples` makes this file.
 
-use super::command::assert_writes;
-use super::files::write;
-use super::running::assert_reports;
+use crate::command::assert_writes;
+use crate::files::write;
+use crate::running::assert_reports;
 use std::fs;
 use std::test::Fail;
 

@@ -1,6 +1,6 @@
 //! The line of each fault.
 
-use crate::fault_line;
+use clk_command::fault_line;
 use clk_packet::{FailingSink, Fault};
 use std::test::Fail;
 

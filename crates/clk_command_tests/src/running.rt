@@ -1,12 +1,10 @@
 //! Traces that run over trees, with producers on threads.
 
-use super::AMPLE;
-use super::command::{answer_within, assert_writes};
-use super::files::write;
-use super::visits::read_back;
-use crate::files::write_visits;
-use crate::pace::Pace;
-use crate::running::run_trace;
+use crate::AMPLE;
+use crate::command::{answer_within, assert_writes};
+use crate::files::write;
+use crate::visits::read_back;
+use clk_command::{Pace, run_trace, write_visits};
 use clk_packet::{FailingSink, FailingSource, Fault};
 use clk_sched::Visit;
 use clk_tree::Plan;

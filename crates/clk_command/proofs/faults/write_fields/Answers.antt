@@ -5,7 +5,7 @@ use Rattle.std.proofs.lemmas.List.{take_all}
 use Rattle.std.proofs.lemmas.Result.{err_from_is_err_and}
 use Rattle.clk_packet.specs.Bytes.{Wrote}
 use Rattle.clk_packet.proofs.BytesLemmas.{Wrote-then, Wrote-cut, Appends-none, Appends-piece, flat_map_at}
-use Rattle.clickpull.proofs.faults.write_fields.Goals as goal
+use Rattle.clk_command.proofs.faults.write_fields.Goals as goal
 
 abbrev text_of : ℕ → List ℕ
 text_of n = codes " " ++ decimal n

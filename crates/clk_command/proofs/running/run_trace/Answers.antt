@@ -1,8 +1,8 @@
 use Rattle.std.proofs.Common.{◌≤◌, ℕ, List, arith}
 use Rattle.std.specs.Io.KnownBytes.{Appends}
 use Rattle.clk_packet.specs.Bytes.{AppendsFront}
-use Rattle.clickpull.proofs.RunningLemmas.{emitted-counted, run-answers, run-writes, trace-tells}
-use Rattle.clickpull.proofs.running.run_trace.Goals as goal
+use Rattle.clk_command.proofs.RunningLemmas.{emitted-counted, run-answers, run-writes, trace-tells}
+use Rattle.clk_command.proofs.running.run_trace.Goals as goal
 
 pub report-requires : goal.report-requires
 report-requires g c =
