@@ -1,5 +1,5 @@
 -- What a run of a trace writes, and why it is refused, from what its parts say.
-use Rattle.std.proofs.Common.{◌≡◌, ◌+◌, ℕ, suc, Bool, List, [], ◌∷◌, length, map, Option, Some, None, IfSome, refl, sym, subst, ap, ◌∙◌, arith}
+use Rattle.std.proofs.Common.{◌≡◌, ◌+◌, ℕ, suc, Bool, List, [], ◌∷◌, length, Option, Some, None, IfSome, refl, sym, ap, ◌∙◌, arith}
 use Rattle.std.proofs.lemmas.List.{length-map}
 use Rattle.clk_packet.specs.declared.packet.Packet.{Packet}
 use Rattle.clk_packet.specs.Trace.{pairs_of, sent, sent_by, shown, trace_fault}
@@ -35,16 +35,14 @@ trace-tells (Some text) traces sound told = record { sound = sound; sent = told 
 -- what a run over it writes and answers
 pub run-answers : (visits : Bool) (plan : List Planned) (pace : Pace) (known : Option (List ℕ)) (traces : List (List Packet)) (outcome : Outcome) (P : List ℕ → Type 0) → IfSome known (λ text. Tells text traces)
     → IsKeptRun visits plan traces pace.step pace.limit outcome → P (report_text (came_out outcome.emitted.items) outcome.tallies.items)
-    → IfSome known (λ bytes. (text : List ℕ) × RunAnswers visits plan pace bytes text (lists_of outcome.logs.items) × P text)
-run-answers visits plan pace None traces outcome P tells h p = tt
-run-answers visits plan pace (Some bytes) traces outcome P tells h p = (
+    → (text : List ℕ) × RunAnswers visits plan pace known text (lists_of outcome.logs.items) × P text
+run-answers visits plan pace known traces outcome P tells h p = (
   report_text (came_out outcome.emitted.items) outcome.tallies.items,
   record { logs = h.logs; kept = h.kept; writes = record { traces = traces; tells = tells; outcome = outcome; came_to = h.is; reported = refl } },
   p,
 )
 
 -- what it writes, whatever it answers
-pub run-writes : (visits : Bool) (plan : List Planned) (pace : Pace) (known : Option (List ℕ)) (answer : List (List Visit)) (P : List ℕ → Type 0) → IfSome known (λ bytes. (text : List ℕ) × RunAnswers visits plan pace bytes text answer × P text)
-    → IfSome known (λ bytes. (text : List ℕ) × (logs : List (List Visit)) × RunWrites plan pace bytes text logs × P text)
-run-writes visits plan pace None answer P h = tt
-run-writes visits plan pace (Some bytes) answer P h = (h.0, h.1.logs, h.1.writes, h.2)
+pub run-writes : (visits : Bool) (plan : List Planned) (pace : Pace) (known : Option (List ℕ)) (answer : List (List Visit)) (P : List ℕ → Type 0) → (text : List ℕ) × RunAnswers visits plan pace known text answer × P text
+    → (text : List ℕ) × (logs : List (List Visit)) × RunWrites plan pace known text logs × P text
+run-writes visits plan pace known answer P h = (h.0, h.1.logs, h.1.writes, h.2)

@@ -18,16 +18,16 @@ pub record Tells (trace : List ℕ) (traces : List (List Packet)) : Type 0 where
   pub sent : (s : ℕ) → shown (sent_by traces s) ≡ sent s (pairs_of trace)
 
 -- Running a trace over a plan writes this text, where the devices make these logs: they are the report and the logs of what a run of
--- the plan over what the trace tells came to.
-pub record RunWrites (plan : List Planned) (pace : Pace) (trace text : List ℕ) (logs : List (List Visit)) : Type 0 where
+-- the plan over what the trace tells came to. Where its bytes aren't known, a run over some packets.
+pub record RunWrites (plan : List Planned) (pace : Pace) (trace : Option (List ℕ)) (text : List ℕ) (logs : List (List Visit)) : Type 0 where
   pub traces : List (List Packet)
-  pub tells : Tells trace traces
+  pub tells : IfSome trace (λ bytes. Tells bytes traces)
   pub outcome : Outcome
   pub came_to : IsRunWith plan traces pace.step pace.limit logs outcome
   pub reported : text ≡ report_text (came_out outcome.emitted.items) outcome.tallies.items
 
 -- Running a trace over a plan, which writes this text, answers these logs, where visits are kept.
-pub record RunAnswers (visits : Bool) (plan : List Planned) (pace : Pace) (trace text : List ℕ) (answer : List (List Visit)) : Type 0 where
+pub record RunAnswers (visits : Bool) (plan : List Planned) (pace : Pace) (trace : Option (List ℕ)) (text : List ℕ) (answer : List (List Visit)) : Type 0 where
   pub logs : List (List Visit)
   pub kept : visits ≡ true → answer ≡ logs
   pub writes : RunWrites plan pace trace text logs

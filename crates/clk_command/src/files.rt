@@ -1,61 +1,74 @@
-//! What is read from files, and written to them.
+//! Files that are opened as they are first read or written, so that a file is opened only once all before it was sound.
 
-ghost use Rattle.std.specs.Prelude.{◌≡◌, ◌≢◌, ◌⊎◌, IfErr, IsOkUnless};
-ghost use Rattle.clk_packet.specs.declared.fault.Fault.TheVariants.{Memory, Read, Write};
-
-use clk_packet::{Fault, FromRead, ToWrite, read_up_to};
-use clk_report::visits_csv;
-use clk_sched::Visit;
-use clk_tree::Plan;
-use std::alloc::Global;
 use std::fs;
+use std::io::{Read, Result, Write};
 use std::rt::Files;
 
-/// The bytes of a tree text at most. One byte more tells that a text is too long.
-const MOST_TREE_BYTES: usize = 1_048_576;
+/// A file to read, which is opened at its first read. That it can't be opened is an error of that read.
+#[derive(Drop)]
+pub struct FileToRead<'a, H: Files> {
+    rt: &'a H,
+    path: &'a str,
+    file: Option<H::File>,
+}
 
-/// Opens a file to read.
-///
-/// # Errors
-///
-/// Fault 19 where it can't be opened.
-pub fn open_file<H: Files>(rt: &H, path: &str) -> Result<FromRead<H::File>, Fault>
-    ensures fault { IsOkUnless result Read }
-{
-    match fs::open(rt, path) {
-        Ok(file) => Ok(FromRead::new(file)),
-        Err(_) => Err(Fault::Read),
+impl<'a, H: Files> FileToRead<'a, H> {
+    /// The file at this path.
+    pub fn at(rt: &'a H, path: &'a str) -> FileToRead<'a, H> {
+        FileToRead {
+            rt,
+            path,
+            file: None,
+        }
     }
 }
 
-/// Reads the plan of a tree from a file.
-///
-/// # Errors
-///
-/// Fault 1 where memory is refused; 19 where the file can't be opened or read; else those of its text.
-pub fn read_plan<H: Files>(rt: &H, alloc: Global, path: &str) -> Result<Plan, Fault>
-    ensures fault { IfErr result (λ fault. fault ≢ Write) }
-{
-    let mut file = open_file(rt, path)?;
-    let text = read_up_to(alloc, &mut file, MOST_TREE_BYTES + 1)?;
-    Plan::read(alloc, &text)
+impl<'a, H: Files> Read for FileToRead<'a, H> {
+    fn read(&mut self, buf: &mut [u8]) -> Result<usize> {
+        if let Some(file) = &mut self.file {
+            return file.read(buf);
+        }
+        let mut file = fs::open(self.rt, self.path)?;
+        let count = file.read(buf)?;
+        self.file = Some(file);
+        Ok(count)
+    }
 }
 
-/// Writes the logs of devices to a file, as CSV. The file is made, or overwritten where it is there.
-///
-/// # Errors
-///
-/// Fault 1 where memory is refused, and 20 where the file can't be made or written. It may hold a front of the CSV then.
-pub fn write_visits<H: Files>(
-    rt: &H,
-    alloc: Global,
-    path: &str,
-    logs: &[Vec<Visit>],
-) -> Result<(), Fault>
-    ensures fault { IfErr result (λ fault. (fault ≡ Memory) ⊎ (fault ≡ Write)) }
-{
-    match fs::create(rt, path) {
-        Ok(file) => visits_csv(alloc, logs, &mut ToWrite::new(file)),
-        Err(_) => Err(Fault::Write),
+/// A file to write, which is made at its first write, or overwritten where it is there. That it can't be made is an error of that write.
+#[derive(Drop)]
+pub struct FileToWrite<'a, H: Files> {
+    rt: &'a H,
+    path: &'a str,
+    file: Option<H::File>,
+}
+
+impl<'a, H: Files> FileToWrite<'a, H> {
+    /// The file at this path.
+    pub fn at(rt: &'a H, path: &'a str) -> FileToWrite<'a, H> {
+        FileToWrite {
+            rt,
+            path,
+            file: None,
+        }
+    }
+}
+
+impl<'a, H: Files> Write for FileToWrite<'a, H> {
+    fn write(&mut self, buf: &[u8]) -> Result<usize> {
+        if let Some(file) = &mut self.file {
+            return file.write(buf);
+        }
+        let mut file = fs::create(self.rt, self.path)?;
+        let count = file.write(buf)?;
+        self.file = Some(file);
+        Ok(count)
+    }
+
+    fn flush(&mut self) -> Result<()> {
+        match &mut self.file {
+            Some(file) => file.flush(),
+            None => Ok(()),
+        }
     }
 }

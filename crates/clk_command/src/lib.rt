@@ -2,16 +2,19 @@
 #![tactic(auto)]
 
 mod builtin;
-mod command;
+mod commands;
+mod examples;
 mod faults;
 mod files;
+mod over;
 mod pace;
 mod running;
 mod words;
 
 pub use clk_script::run_script;
-pub use command::command;
+pub use commands::command;
+pub use examples::word_examples;
 pub use faults::fault_line;
-pub use files::write_visits;
+pub use over::{check_tree, read_plan, run_over, run_with_visits, script_over, script_with_visits};
 pub use pace::Pace;
 pub use running::run_trace;

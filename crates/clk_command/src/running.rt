@@ -1,6 +1,6 @@
 //! One trace, over a plan, with producers on threads.
 
-ghost use Rattle.std.specs.Prelude.{◌≡◌, ◌≢◌, ◌+◌, IfOk, IfSome, IfErr, IsErrOf};
+ghost use Rattle.std.specs.Prelude.{◌≡◌, ◌≢◌, ◌+◌, IfOk, IfErr, IsErrOf};
 ghost use Rattle.std.specs.Io.KnownBytes.{Appends, Keeps};
 ghost use Rattle.clk_packet.specs.Bytes.{AppendsFront, Takes, read_failures, write_failures};
 ghost use Rattle.clk_packet.specs.Trace.{most_trace_bytes};
@@ -38,10 +38,10 @@ pub fn run_trace<H: Threads + Wait, P: Wait + Sync, R: Source, W: Sink>(
     pace: Pace,
     visits: bool,
 ) -> Result<Vec<Vec<Visit>>, Fault>
-    ensures written { IfOk result (λ logs. IfSome (R.Source.remaining trace.old) (λ bytes.
-        (text : _) × RunAnswers visits plan.now pace bytes text (lists_of logs.items) × Appends (W.Sink.taken writer.old) (W.Sink.taken writer.new) text)) }
-    ensures front { IsErrOf result Fault.Write → IfSome (R.Source.remaining trace.old) (λ bytes.
-        (text : _) × (logs : _) × RunWrites plan.now pace bytes text logs × AppendsFront (W.Sink.taken writer.old) (W.Sink.taken writer.new) text) }
+    ensures written { IfOk result (λ logs. (text : _) × RunAnswers visits plan.now pace (R.Source.remaining trace.old) text (lists_of logs.items)
+        × Appends (W.Sink.taken writer.old) (W.Sink.taken writer.new) text) }
+    ensures front { IsErrOf result Fault.Write → (text : _) × (logs : _) × RunWrites plan.now pace (R.Source.remaining trace.old) text logs
+        × AppendsFront (W.Sink.taken writer.old) (W.Sink.taken writer.new) text }
     ensures nothing { IfErr result (λ fault. fault ≢ Write → Keeps (W.Sink.taken writer.old) (W.Sink.taken writer.new)) }
 
     // Each fault has its cause.

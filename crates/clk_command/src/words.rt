@@ -1,13 +1,20 @@
 //! The words of the program: its commands, what they ask for, and the help.
 
-ghost use Rattle.std.specs.Prelude.{◌≤◌};
+ghost use Rattle.std.specs.Prelude.{◌≡◌, ◌≤◌, codes, map, option_map, IfOk};
+ghost use Rattle.std.specs.String.{string_bytes};
+ghost use Rattle.clap.specs.Faults.{fault_of};
+ghost use Rattle.clap.specs.Kinds.{FailsBy};
+ghost use Rattle.clap.specs.Matches.{found_of};
+ghost use Rattle.clap.specs.Simple.{new_app, subcommand_rows_of};
+ghost use Rattle.clap.specs.Walk.{first_of, rows_of};
+ghost use Rattle.clk_command.specs.Words.{file_word, file_option, number_option, top_words, check_words, script_words, run_words, program_words, number_of, path_of, within_one_and, task, task_of, text_of, task_in, Reads, IsWord};
 
 use crate::pace::{MAX_LIMIT, MAX_STEP, Pace};
 use clap::{Arg, ArgMatches, Command, Error, value_parser};
 use std::alloc::{AllocError, Global};
 
 /// What the words ask for. A file is named by its path.
-#[derive(Clone, Copy, Debug, PartialEq, Eq)]
+#[derive(Clone, Copy)]
 pub enum Asked<'a> {
     /// The script on standard input, over the built-in tree.
     Builtin,
@@ -43,12 +50,17 @@ pub enum Asked<'a> {
 /// # Errors
 ///
 /// What clap answers: that the words are wrong, that help or the version is asked for, or that memory was refused.
-pub fn asked_by<'a>(alloc: Global, words: &'a [String]) -> Result<Asked<'a>, Error> {
+pub fn asked_by<'a>(alloc: Global, words: &'a [String]) -> Result<Asked<'a>, Error>
+    ensures asked { IfOk result (λ asked. task asked ≡ task_in (map string_bytes words.now)) }
+    ensures refused { FailsBy (fault_of program_words (map string_bytes words.now)) result }
+{
     let matches = program(alloc)?.try_get_matches_from(words)?;
     Ok(asked_of(&matches))
 }
 
-fn asked_of<'a>(matches: &ArgMatches<'a>) -> Asked<'a> {
+fn asked_of<'a>(matches: &ArgMatches<'a>) -> Asked<'a>
+    ensures { task result ≡ task_of (subcommand_rows_of matches.now) }
+{
     match matches.subcommand() {
         Some(("check", found)) => Asked::Check {
             tree: path_of(found, TREE),
@@ -56,25 +68,40 @@ fn asked_of<'a>(matches: &ArgMatches<'a>) -> Asked<'a> {
         Some(("script", found)) => Asked::Script {
             tree: path_of(found, TREE),
             script: path_of(found, SCRIPT),
-            visits: found.get_str(VISITS),
+            visits: visits_of(found),
         },
         Some(("run", found)) => Asked::Run {
             tree: path_of(found, TREE),
             trace: path_of(found, TRACE),
             pace: pace_of(found),
-            visits: found.get_str(VISITS),
+            visits: visits_of(found),
         },
         _ => Asked::Builtin,
     }
 }
 
 /// The path that a required word gave.
-fn path_of<'a>(matches: &ArgMatches<'a>, name: &str) -> &'a str {
-    matches.get_str(name).unwrap_or_default()
+fn path_of<'a>(matches: &ArgMatches<'a>, name: &str) -> &'a str
+    ensures { result.now ≡ path_of (rows_of (found_of matches.now)) name.now }
+{
+    match matches.get_str(name) {
+        Some(path) => path,
+        None => "",
+    }
+}
+
+/// The path of the file for the visits, if an option gave one.
+fn visits_of<'a>(matches: &ArgMatches<'a>) -> Option<&'a str>
+    ensures { option_map text_of result ≡ first_of (codes "visits") (rows_of (found_of matches.now)) }
+{
+    matches.get_str(VISITS)
 }
 
 /// The pace that two options gave.
-fn pace_of(matches: &ArgMatches<'_>) -> Pace {
+fn pace_of(matches: &ArgMatches<'_>) -> Pace
+    ensures step { result.step ≡ number_of (rows_of (found_of matches.now)) (codes "step") 1000 }
+    ensures limit { result.limit ≡ number_of (rows_of (found_of matches.now)) (codes "limit") 1000000 }
+{
     Pace {
         step: number_of(matches, STEP, MAX_STEP),
         limit: number_of(matches, LIMIT, MAX_LIMIT),
@@ -86,8 +113,25 @@ fn number_of(matches: &ArgMatches<'_>, name: &str, most: u32) -> u32
     requires { 1 ≤ most }
     ensures some { 1 ≤ result }
     ensures within { result ≤ most }
+    ensures number { result ≡ number_of (rows_of (found_of matches.now)) name.now most }
 {
-    matches.get_one(name).unwrap_or(1).clamp(1, most)
+    clamped(matches.get_one(name).unwrap_or(1), most)
+}
+
+/// The nearest number from 1 to `most`.
+fn clamped(number: u32, most: u32) -> u32
+    requires { 1 ≤ most }
+    ensures some { 1 ≤ result }
+    ensures within { result ≤ most }
+    ensures nearest { result ≡ within_one_and most number }
+{
+    if number < 1 {
+        1
+    } else if most < number {
+        most
+    } else {
+        number
+    }
 }
 
 const TREE: &str = "TREE";
@@ -121,20 +165,36 @@ Exit status:
   2  the words after the program's name are wrong: standard error says how";
 
 /// The words of the whole program.
-fn program<'a>(alloc: Global) -> Result<Command<'a>, AllocError> {
-    Command::new(alloc, "clickpull")
-        .bin_name("clickpull")?
-        .no_binary_name(true)
-        .version("0.1.0")
-        .about(ABOUT)
-        .after_help(MORE)
+fn program<'a>(alloc: Global) -> Result<Command<'a>, AllocError>
+    ensures { IfOk result (λ c. Reads c program_words) }
+{
+    top(alloc)?
         .subcommand(check(alloc)?)?
         .subcommand(script(alloc)?)?
         .subcommand(run(alloc)?)
 }
 
+/// What stands above the commands.
+fn top<'a>(alloc: Global) -> Result<Command<'a>, AllocError>
+    ensures { IfOk result (λ c. Reads c top_words) }
+{
+    titled(alloc, "clickpull", ABOUT, MORE)
+        .no_binary_name(true)
+        .version("0.1.0")
+        .bin_name("clickpull")
+}
+
+/// A command of this name without words, and what help says of it.
+fn titled<'a>(alloc: Global, name: &'a str, about: &'a str, more: &'a str) -> Command<'a>
+    ensures { Reads result (new_app name.now) }
+{
+    Command::new(alloc, name).about(about).after_help(more)
+}
+
 const TREE_MEANS: &str =
     "A file with a tree in Click's language: elements, as 'q :: Queue(10);', and connections, as 's -> q -> d;'";
+
+const CHECK_DOES: &str = "Checks a tree, and prints its canonical text";
 
 const CHECK_MORE: &str = "\
 The canonical text has a line for each element, with all its arguments, and then a line for each connection.
@@ -143,15 +203,16 @@ Of a tree that is wrong, the fault tells the first mistake, by its offset in byt
 Example:
   clickpull check uplink.click > uplink.canonical.click";
 
-fn check<'a>(alloc: Global) -> Result<Command<'a>, AllocError> {
-    Command::new(alloc, "check")
-        .about("Checks a tree, and prints its canonical text")
-        .after_help(CHECK_MORE)
-        .arg(file(alloc, TREE, TREE_MEANS))
+fn check<'a>(alloc: Global) -> Result<Command<'a>, AllocError>
+    ensures { IfOk result (λ c. Reads c check_words) }
+{
+    titled(alloc, "check", CHECK_DOES, CHECK_MORE).arg(file(alloc, TREE, TREE_MEANS))
 }
 
 const SCRIPT_MEANS: &str =
     "A file with a command a line: 'send S L', 'pull M' or 'pull M D', or at the end 'drain M'";
+
+const SCRIPT_DOES: &str = "Runs a script over a tree, and prints what becomes of each packet";
 
 const SCRIPT_MORE: &str = "\
 Commands of a script:
@@ -174,10 +235,10 @@ Examples:
 
 const VISITS_MEANS: &str = "Writes the log of the visits to FILE, as CSV";
 
-fn script<'a>(alloc: Global) -> Result<Command<'a>, AllocError> {
-    Command::new(alloc, "script")
-        .about("Runs a script over a tree, and prints what becomes of each packet")
-        .after_help(SCRIPT_MORE)
+fn script<'a>(alloc: Global) -> Result<Command<'a>, AllocError>
+    ensures { IfOk result (λ c. Reads c script_words) }
+{
+    titled(alloc, "script", SCRIPT_DOES, SCRIPT_MORE)
         .arg(file(alloc, TREE, TREE_MEANS))?
         .arg(file(alloc, SCRIPT, SCRIPT_MEANS))?
         .arg(visits(alloc))
@@ -188,6 +249,8 @@ const TRACE_MEANS: &str = "A file with a record a line, 'S,L': sender S sends a 
 const STEP_MEANS: &str = "Pulls each device once every N ticks while senders send: 1 to 1000";
 
 const LIMIT_MEANS: &str = "Pulls each device N times at most while senders send: 1 to 1000000";
+
+const RUN_DOES: &str = "Runs a trace over a tree, each sender on a thread, and accounts for each";
 
 const RUN_MORE: &str = "\
 Each sender has a thread of its own, and offers its packets of the trace in order, as fast as it can. Meanwhile
@@ -207,10 +270,10 @@ Examples:
   clickpull run uplink.click morning.trace
   clickpull run --step 10 --limit 100000 --visits morning.csv uplink.click morning.trace";
 
-fn run<'a>(alloc: Global) -> Result<Command<'a>, AllocError> {
-    Command::new(alloc, "run")
-        .about("Runs a trace over a tree, each sender on a thread, and accounts for each")
-        .after_help(RUN_MORE)
+fn run<'a>(alloc: Global) -> Result<Command<'a>, AllocError>
+    ensures { IfOk result (λ c. Reads c run_words) }
+{
+    titled(alloc, "run", RUN_DOES, RUN_MORE)
         .arg(file(alloc, TREE, TREE_MEANS))?
         .arg(file(alloc, TRACE, TRACE_MEANS))?
         .arg(number(alloc, STEP, MAX_STEP, "1", STEP_MEANS))?
@@ -219,7 +282,9 @@ fn run<'a>(alloc: Global) -> Result<Command<'a>, AllocError> {
 }
 
 /// The option that names a file for the visits.
-fn visits<'a>(alloc: Global) -> Arg<'a> {
+fn visits<'a>(alloc: Global) -> Arg<'a>
+    ensures { IsWord result (file_option (codes "visits")) }
+{
     Arg::new(alloc, VISITS)
         .long(VISITS)
         .value_name("FILE")
@@ -227,7 +292,9 @@ fn visits<'a>(alloc: Global) -> Arg<'a> {
 }
 
 /// An option that is a number from 1 to `most`.
-fn number<'a>(alloc: Global, name: &'a str, most: u32, default: &'a str, help: &'a str) -> Arg<'a> {
+fn number<'a>(alloc: Global, name: &'a str, most: u32, default: &'a str, help: &'a str) -> Arg<'a>
+    ensures { IsWord result (number_option name.now most default.now) }
+{
     Arg::new(alloc, name)
         .long(name)
         .value_name("N")
@@ -237,6 +304,8 @@ fn number<'a>(alloc: Global, name: &'a str, most: u32, default: &'a str, help: &
 }
 
 /// A word that names a file.
-fn file<'a>(alloc: Global, name: &'a str, help: &'a str) -> Arg<'a> {
+fn file<'a>(alloc: Global, name: &'a str, help: &'a str) -> Arg<'a>
+    ensures { IsWord result (file_word name.now) }
+{
     Arg::new(alloc, name).required(true).help(help)
 }

@@ -5,3 +5,4 @@ pub mod OneMeaning
 pub mod OneDevice
 pub mod Examples
 pub mod inside
+pub mod SomeBytes

@@ -1,4 +1,4 @@
-use Rattle.std.proofs.Common.{◌≤◌, ℕ, List, arith}
+use Rattle.std.proofs.Common.{◌≤◌, arith}
 use Rattle.std.specs.Io.KnownBytes.{Appends}
 use Rattle.clk_packet.specs.Bytes.{AppendsFront}
 use Rattle.clk_command.proofs.RunningLemmas.{emitted-counted, run-answers, run-writes, trace-tells}
