@@ -2,7 +2,7 @@
 #![tactic(auto)]
 
 mod builtin;
-mod command;
+mod commands;
 mod faults;
 mod files;
 mod pace;
@@ -10,7 +10,7 @@ mod running;
 mod words;
 
 pub use clk_script::run_script;
-pub use command::command;
+pub use commands::command;
 pub use faults::fault_line;
 pub use files::write_visits;
 pub use pace::Pace;
