@@ -4,8 +4,9 @@ use crate::AMPLE;
 use crate::command::{answer_within, assert_writes};
 use crate::files::write;
 use crate::visits::read_back;
-use clk_command::{Pace, run_trace, write_visits};
+use clk_command::{Pace, run_trace};
 use clk_packet::{FailingSink, FailingSource, Fault};
+use clk_report::visits_csv;
 use clk_sched::Visit;
 use clk_tree::Plan;
 use std::fs;
@@ -170,8 +171,9 @@ fn the_logs_of_a_run_are_read_back(rt: HostRuntime) -> Result<(), Fail> {
     let run = run_within(&rt, ALONE, TRACE, usize::MAX, AMPLE);
     let (outcome, _) = run.expect(&rt, "ample memory");
     let logs = outcome.expect(&rt, "a run");
-    write(&rt, "out/logs.csv", "what is there is overwritten")?;
-    write_visits(&rt, rt.alloc(), "out/logs.csv", &logs).expect(&rt, "a file");
+    let mut csv = FailingSink::new(vec![in rt.alloc(); 0; AMPLE]?);
+    visits_csv(rt.alloc(), &logs, &mut csv).expect(&rt, "ample memory");
+    write(&rt, "out/logs.csv", csv.taken())?;
     assert_eq!(rt; logs, vec![in rt.alloc(); read_back(&rt, "out/logs.csv")?]?);
     Ok(())
 }
