@@ -1,18 +1,8 @@
 //! Runs scripts of sends and pulls, and traces from producers on threads, over queues and pull schedulers.
 #![tactic(auto)]
 
-mod builtin;
-mod command;
-mod faults;
-mod files;
-mod pace;
-mod running;
-mod words;
-
+use clk_command::{command, fault_line};
 use clk_packet::{Fault, FromRead, Sink, ToWrite, write_all};
-pub use clk_script::run_script;
-pub use command::command;
-pub use faults::fault_line;
 use std::process::ExitCode;
 use std::rt::{Env, Runtime};
 use std::sync::Wait;
@@ -52,6 +42,3 @@ fn words_given<H: Env + AllocGlobal>(rt: &H) -> Result<Option<Vec<String>>, Faul
         Err(_) => Ok(None),
     }
 }
-
-#[cfg(test)]
-mod tests;

@@ -4,6 +4,11 @@ use Rattle.std.specs.Io.KnownBytes.{Appends}
 use Rattle.clk_packet.specs.declared.fault.Fault.{Fault}
 use Rattle.clk_packet.specs.declared.fault.Fault.TheVariants.{Memory, Read, Write}
 
+-- It holds of the bytes that a source had and, where these aren't known, of some bytes.
+abbrev pub OfBytes : Option (List ℕ) → (List ℕ → Type 0) → Type 0
+OfBytes None P = (bytes : List ℕ) × P bytes
+OfBytes (Some bytes) P = P bytes
+
 -- known bytes lose at most so many at their front
 abbrev pub Takes : ℕ → Option (List ℕ) → Option (List ℕ) → Type 0
 Takes most None new = ⊤

@@ -16,7 +16,7 @@ use Rattle.clk_script.specs.declared.script.Command.TheVariants.{Send, Pull}
 use Rattle.clk_script.specs.declared.script.Line.{Line}
 use Rattle.clk_script.specs.declared.script.Line.TheVariants as line
 use Rattle.clk_script.specs.Script.{Names, most_lines, command_fault, line_fault, fault_at, is_drain, first_fault, lines_of, script_fault, commands_of, closing_moment, most_bytes}
-use Rattle.clk_packet.specs.Bytes.{read_failures, write_failures}
+use Rattle.clk_packet.specs.Bytes.{read_failures, write_failures, OfBytes}
 use Rattle.clk_script.specs.Meaning.{Setup, plan_setup, names_of, WritesWith, IsMeaning, MeansWith, MeansOver, MeansOverWith, Explains}
 use Rattle.clk_script.specs.declared.router.Router.{Router}
 use Rattle.clk_script.specs.inside.Router.{names_in, Starts}
@@ -43,11 +43,18 @@ whole names all e = by_test (nat_lt most_bytes (length all)) refl
         absurd (cc)
     by_test false f = take_all 33554433 all (grind (arith, nat_tests))
 
+-- what holds of bytes may be weakened
+of-weaker : (known : Option (List ℕ)) (P Q : List ℕ → Type 0) → ((bytes : List ℕ) → P bytes → Q bytes) → OfBytes known P → OfBytes known Q
+of-weaker None P Q weaker h = (h.0, weaker h.0 h.1)
+of-weaker (Some bytes) P Q weaker h = weaker bytes h
+
 -- the meaning over a setup of a script whose first bytes were read
 pub meaning-known : (setup : Setup) (router : Router) → Starts setup router → (known : Option (List ℕ)) (bytes text : List ℕ) (logs : List (List Visit)) (P : List ℕ → Type 0)
     → IfSome known (λ all. bytes ≡ take (most_bytes + 1) all) → script_fault (names_in router) bytes ≡ None → WritesWith setup (commands_of bytes) (closing_moment bytes) text logs → P text
-    → IfSome known (λ script. (t : List ℕ) × MeansWith setup script t logs × P t)
-meaning-known setup router starts None bytes text logs P is e w p = tt
+    → OfBytes known (λ script. (t : List ℕ) × MeansWith setup script t logs × P t)
+meaning-known setup router starts None bytes text logs P is e w p =
+    let here : script_fault (names_of setup) bytes ≡ None = subst (λ names. script_fault names bytes ≡ None) (names-its setup [] router starts.leads) e in
+    (bytes, (text, record { sound = here; written = w }, p))
 meaning-known setup router starts (Some all) bytes text logs P is e w p =
     let here : script_fault (names_of setup) bytes ≡ None = subst (λ names. script_fault names bytes ≡ None) (names-its setup [] router starts.leads) e in
     let sound = rw is at here in
@@ -61,23 +68,20 @@ meaning-known setup router starts (Some all) bytes text logs P is e w p =
     )
 
 -- what is known of a text and logs, of the text alone
-pub meaning-alone : (setup : Setup) (known : Option (List ℕ)) (logs : List (List Visit)) (P : List ℕ → Type 0) → IfSome known (λ script. (t : List ℕ) × MeansWith setup script t logs × P t)
-    → IfSome known (λ script. (t : List ℕ) × IsMeaning setup script t × P t)
-meaning-alone setup None logs P h = tt
-meaning-alone setup (Some script) logs P h = (h.0, record { sound = h.1.sound; written = h.1.written.writes }, h.2)
+pub meaning-alone : (setup : Setup) (known : Option (List ℕ)) (logs : List (List Visit)) (P : List ℕ → Type 0) → OfBytes known (λ script. (t : List ℕ) × MeansWith setup script t logs × P t)
+    → OfBytes known (λ script. (t : List ℕ) × IsMeaning setup script t × P t)
+meaning-alone setup known logs P h = of-weaker known _ _ (λ script m. (m.0, record { sound = m.1.sound; written = m.1.written.writes }, m.2)) h
 
 -- the meaning over a plan
 pub meaning-over : (plan : List Planned) (trees : List Tree) (setup : Setup) → AreTreesOf plan trees → setup ≡ plan_setup trees plan → (known : Option (List ℕ)) (logs : List (List Visit)) (P : List ℕ → Type 0)
-    → IfSome known (λ script. (t : List ℕ) × MeansWith setup script t logs × P t) → IfSome known (λ script. (t : List ℕ) × MeansOverWith plan script t logs × P t)
-meaning-over plan trees setup are same None logs P h = tt
-meaning-over plan trees setup are same (Some script) logs P h =
-    (h.0, record { trees = trees; are = are; means = subst (λ (s : Setup). MeansWith s script h.0 logs) same h.1 }, h.2)
+    → OfBytes known (λ script. (t : List ℕ) × MeansWith setup script t logs × P t) → OfBytes known (λ script. (t : List ℕ) × MeansOverWith plan script t logs × P t)
+meaning-over plan trees setup are same known logs P h =
+    of-weaker known _ _ (λ script m. (m.0, record { trees = trees; are = are; means = subst (λ (s : Setup). MeansWith s script m.0 logs) same m.1 }, m.2)) h
 
-pub meaning-over-alone : (plan : List Planned) (known : Option (List ℕ)) (logs : List (List Visit)) (P : List ℕ → Type 0) → IfSome known (λ script. (t : List ℕ) × MeansOverWith plan script t logs × P t)
-    → IfSome known (λ script. (t : List ℕ) × MeansOver plan script t × P t)
-meaning-over-alone plan None logs P h = tt
-meaning-over-alone plan (Some script) logs P h =
-    (h.0, record { trees = h.1.trees; are = h.1.are; means = record { sound = h.1.means.sound; written = h.1.means.written.writes } }, h.2)
+pub meaning-over-alone : (plan : List Planned) (known : Option (List ℕ)) (logs : List (List Visit)) (P : List ℕ → Type 0) → OfBytes known (λ script. (t : List ℕ) × MeansOverWith plan script t logs × P t)
+    → OfBytes known (λ script. (t : List ℕ) × MeansOver plan script t × P t)
+meaning-over-alone plan known logs P h =
+    of-weaker known _ _ (λ script m. (m.0, record { trees = m.1.trees; are = m.1.are; means = record { sound = m.1.means.sound; written = m.1.means.written.writes } }, m.2)) h
 
 -- the faults that a script may have
 abbrev IsOfScript : Fault → Type 0

@@ -1,9 +1,9 @@
 //! One script, over a plan.
 
-ghost use Rattle.std.specs.Prelude.{◌≡◌, ◌≢◌, ◌≤◌, ◌+◌, ◌++◌, ◌∷◌, [], true, map, length, IfOk, IfSome, IfErr, OnOk, IsErrOf, IsOkUnless};
+ghost use Rattle.std.specs.Prelude.{◌≡◌, ◌≢◌, ◌≤◌, ◌+◌, ◌++◌, ◌∷◌, [], true, map, length, IfOk, IfErr, OnOk, IsErrOf, IsOkUnless};
 ghost use Rattle.std.specs.List.{AllByRecursion};
 ghost use Rattle.std.specs.Io.KnownBytes.{Appends, Keeps};
-ghost use Rattle.clk_packet.specs.Bytes.{Takes, AppendsFront, Wrote, read_failures, write_failures};
+ghost use Rattle.clk_packet.specs.Bytes.{Takes, AppendsFront, Wrote, read_failures, write_failures, OfBytes};
 ghost use Rattle.clk_packet.specs.declared.fault.Fault.TheVariants.{Memory, Write};
 ghost use Rattle.clk_packet.specs.Limits.{most_elements};
 ghost use Rattle.clk_tree.specs.PlanParts.{queued, HasCapacity};
@@ -39,9 +39,9 @@ pub fn run_script<R: Source, W: Sink>(
     writer: &mut W,
     plan: &Plan,
 ) -> Result<(), Fault>
-    ensures written { OnOk result (IfSome (R.Source.remaining reader.old) (λ script.
+    ensures written { OnOk result (OfBytes (R.Source.remaining reader.old) (λ script.
         (text : _) × MeansOver plan.now script text × Appends (W.Sink.taken writer.old) (W.Sink.taken writer.new) text)) }
-    ensures front { IsErrOf result Fault.Write → IfSome (R.Source.remaining reader.old) (λ script.
+    ensures front { IsErrOf result Fault.Write → OfBytes (R.Source.remaining reader.old) (λ script.
         (text : _) × MeansOver plan.now script text × AppendsFront (W.Sink.taken writer.old) (W.Sink.taken writer.new) text) }
     ensures nothing { IfErr result (λ fault. fault ≢ Write → Keeps (W.Sink.taken writer.old) (W.Sink.taken writer.new)) }
 
@@ -64,9 +64,9 @@ pub fn run_script_logged<R: Source, W: Sink>(
     writer: &mut W,
     plan: &Plan,
 ) -> Result<Vec<Vec<Visit>>, Fault>
-    ensures written { IfOk result (λ logs. IfSome (R.Source.remaining reader.old) (λ script.
+    ensures written { IfOk result (λ logs. OfBytes (R.Source.remaining reader.old) (λ script.
         (text : _) × MeansOverWith plan.now script text (lists_of logs.items) × Appends (W.Sink.taken writer.old) (W.Sink.taken writer.new) text)) }
-    ensures front { IsErrOf result Fault.Write → IfSome (R.Source.remaining reader.old) (λ script.
+    ensures front { IsErrOf result Fault.Write → OfBytes (R.Source.remaining reader.old) (λ script.
         (text : _) × MeansOver plan.now script text × AppendsFront (W.Sink.taken writer.old) (W.Sink.taken writer.new) text) }
     ensures nothing { IfErr result (λ fault. fault ≢ Write → Keeps (W.Sink.taken writer.old) (W.Sink.taken writer.new)) }
     ensures fault { IfErr result (ExplainsPlan plan.now (R.Source.remaining reader.old)) }
@@ -85,9 +85,9 @@ fn run_plan<R: Source, W: Sink>(
     plan: &Plan,
     visits: bool,
 ) -> Result<Past, Fault>
-    ensures written { IfOk result (λ past. (logs : _) × AreLogs visits past logs × IfSome (R.Source.remaining reader.old) (λ script.
+    ensures written { IfOk result (λ past. (logs : _) × AreLogs visits past logs × OfBytes (R.Source.remaining reader.old) (λ script.
         (text : _) × MeansOverWith plan.now script text logs × Appends (W.Sink.taken writer.old) (W.Sink.taken writer.new) text)) }
-    ensures front { IsErrOf result Fault.Write → IfSome (R.Source.remaining reader.old) (λ script.
+    ensures front { IsErrOf result Fault.Write → OfBytes (R.Source.remaining reader.old) (λ script.
         (text : _) × MeansOver plan.now script text × AppendsFront (W.Sink.taken writer.old) (W.Sink.taken writer.new) text) }
     ensures nothing { IfErr result (λ fault. fault ≢ Write → Keeps (W.Sink.taken writer.old) (W.Sink.taken writer.new)) }
     ensures fault { IfErr result (ExplainsPlan plan.now (R.Source.remaining reader.old)) }
@@ -135,9 +135,9 @@ fn run_parts<R: Source, W: Sink>(
     requires capacities { AllByRecursion HasCapacity (map queued queues.now) }
     requires whole { IsWhole (setup_of trees.items (map queued queues.now) senders.now) }
     requires closable { IsClosable (setup_of trees.items (map queued queues.now) senders.now) }
-    ensures written { IfOk result (λ past. (logs : _) × AreLogs visits past logs × IfSome (R.Source.remaining reader.old) (λ script.
+    ensures written { IfOk result (λ past. (logs : _) × AreLogs visits past logs × OfBytes (R.Source.remaining reader.old) (λ script.
         (text : _) × MeansWith (setup_of trees.items (map queued queues.now) senders.now) script text logs × Appends (W.Sink.taken writer.old) (W.Sink.taken writer.new) text)) }
-    ensures front { IsErrOf result Fault.Write → IfSome (R.Source.remaining reader.old) (λ script.
+    ensures front { IsErrOf result Fault.Write → OfBytes (R.Source.remaining reader.old) (λ script.
         (text : _) × IsMeaning (setup_of trees.items (map queued queues.now) senders.now) script text × AppendsFront (W.Sink.taken writer.old) (W.Sink.taken writer.new) text) }
     ensures nothing { IfErr result (λ fault. fault ≢ Write → Keeps (W.Sink.taken writer.old) (W.Sink.taken writer.new)) }
     ensures fault { IfErr result (Explains (setup_of trees.items (map queued queues.now) senders.now) (R.Source.remaining reader.old)) }

@@ -1,2 +1,0 @@
--- Lemmas that answers cite.
-pub mod RunningLemmas

@@ -1,2 +1,0 @@
--- What a run writes.
-pub mod Running

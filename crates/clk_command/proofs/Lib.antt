@@ -1,0 +1,4 @@
+-- Lemmas that answers cite.
+pub mod RunningLemmas
+pub mod WordLemmas
+pub mod TaskLemmas

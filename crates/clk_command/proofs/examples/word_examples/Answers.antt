@@ -1,0 +1,51 @@
+use Rattle.std.proofs.Common.{refl}
+use Rattle.clap.proofs.OnLiterals.{clap_on_literals}
+use Rattle.clk_command.proofs.examples.word_examples.Goals as goal
+
+pub returns-clause-none : goal.returns-clause-none
+unfolding clap_on_literals
+returns-clause-none c = (refl, refl)
+
+pub returns-clause-checks : goal.returns-clause-checks
+unfolding clap_on_literals
+returns-clause-checks c = (refl, refl)
+
+pub returns-clause-scripts : goal.returns-clause-scripts
+unfolding clap_on_literals
+returns-clause-scripts c = refl
+
+pub returns-clause-visits : goal.returns-clause-visits
+unfolding clap_on_literals
+returns-clause-visits c = refl
+
+pub returns-clause-runs : goal.returns-clause-runs
+unfolding clap_on_literals
+returns-clause-runs c = refl
+
+pub returns-clause-paces : goal.returns-clause-paces
+unfolding clap_on_literals
+returns-clause-paces c = refl
+
+pub returns-clause-no_trace : goal.returns-clause-no_trace
+unfolding clap_on_literals
+returns-clause-no_trace c = refl
+
+pub returns-clause-no_step : goal.returns-clause-no_step
+unfolding clap_on_literals
+returns-clause-no_step c = refl
+
+pub returns-clause-one_too_many : goal.returns-clause-one_too_many
+unfolding clap_on_literals
+returns-clause-one_too_many c = refl
+
+pub returns-clause-no_command : goal.returns-clause-no_command
+unfolding clap_on_literals
+returns-clause-no_command c = refl
+
+pub returns-clause-help : goal.returns-clause-help
+unfolding clap_on_literals
+returns-clause-help c = refl
+
+pub returns-clause-version : goal.returns-clause-version
+unfolding clap_on_literals
+returns-clause-version c = refl

@@ -1,0 +1,9 @@
+use Rattle.std.proofs.lemmas.Result.{IfOk-weaker}
+use Rattle.clk_command.proofs.WordLemmas.{command-more}
+use Rattle.clk_command.proofs.words.program.Goals as goal
+
+pub returns : goal.returns
+returns c =
+    let check = command-more _ _ _ _ _ c.in_ok-subcommand.ensures c.in_ok-top.ensures c.in_ok-check.ensures in
+    let script = command-more _ _ _ _ _ c.in_ok-subcommand-2.ensures check c.in_ok-script.ensures in
+    IfOk-weaker c.subcommand-3.result _ _ (λ _ adds. command-more _ _ _ _ _ adds script c.in_ok-run.ensures) c.subcommand-3.ensures

@@ -1,0 +1,4 @@
+-- What the words of the program ask for, and what is done for them.
+pub mod Running
+pub mod Tasks
+pub mod Words

@@ -1,0 +1,43 @@
+-- What running a trace over a plan writes, and why it is refused (this project's own definition).
+use Rattle.std.specs.Prelude.{◌≡◌, ◌⊎◌, ℕ, Bool, true, List, Option, None, IfSome}
+use Rattle.clk_packet.specs.declared.packet.Packet.{Packet}
+use Rattle.clk_packet.specs.declared.fault.Fault.{Fault}
+use Rattle.clk_packet.specs.declared.fault.Fault.TheVariants.{Write}
+use Rattle.clk_packet.specs.Trace.{ExplainsTrace, pairs_of, sent, sent_by, shown, trace_fault}
+use Rattle.clk_sched.specs.declared.visit.Visit.{Visit}
+use Rattle.clk_tree.specs.Plan.{Planned}
+use Rattle.clk_drain.specs.declared.outcome.Outcome.{Outcome}
+use Rattle.clk_drain.specs.Run.{IsFaultOfRun, IsRunWith}
+use Rattle.clk_report.specs.Devices.{came_out}
+use Rattle.clk_report.specs.Report.{report_text}
+use Rattle.clk_command.specs.declared.pace.Pace.{Pace}
+
+-- Nothing is wrong with a trace, and this is what each sender sends by it.
+pub record Tells (trace : List ℕ) (traces : List (List Packet)) : Type 0 where
+  pub sound : trace_fault trace ≡ None
+  pub sent : (s : ℕ) → shown (sent_by traces s) ≡ sent s (pairs_of trace)
+
+-- Running a trace over a plan writes this text, where the devices make these logs: they are the report and the logs of what a run of
+-- the plan over what the trace tells came to. Where its bytes aren't known, a run over some packets.
+pub record RunWrites (plan : List Planned) (pace : Pace) (trace : Option (List ℕ)) (text : List ℕ) (logs : List (List Visit)) : Type 0 where
+  pub traces : List (List Packet)
+  pub tells : IfSome trace (λ bytes. Tells bytes traces)
+  pub outcome : Outcome
+  pub came_to : IsRunWith plan traces pace.step pace.limit logs outcome
+  pub reported : text ≡ report_text (came_out outcome.emitted.items) outcome.tallies.items
+
+-- Running a trace over a plan, which writes this text, answers these logs, where visits are kept.
+pub record RunAnswers (visits : Bool) (plan : List Planned) (pace : Pace) (trace : Option (List ℕ)) (text : List ℕ) (answer : List (List Visit)) : Type 0 where
+  pub logs : List (List Visit)
+  pub kept : visits ≡ true → answer ≡ logs
+  pub writes : RunWrites plan pace trace text logs
+
+-- A run of the plan over what the trace tells is refused with this fault.
+pub record RefusesRun (plan : List Planned) (trace : Option (List ℕ)) (fault : Fault) : Type 0 where
+  pub traces : List (List Packet)
+  pub tells : IfSome trace (λ text. Tells text traces)
+  pub refused : IsFaultOfRun plan traces fault
+
+-- Why running a trace over a plan is refused with a fault: the writer failed, or the reader or the trace has it, or the run.
+abbrev pub ExplainsRun : List Planned → Option (List ℕ) → Fault → Type 0
+ExplainsRun plan trace fault = (fault ≡ Write) ⊎ (ExplainsTrace trace fault ⊎ RefusesRun plan trace fault)

@@ -1,0 +1,79 @@
+-- What is done for each task, by the bytes of its files, where these are known: each source of bytes gives what it holds.
+use Rattle.std.specs.Prelude.{◌≡◌, ◌≢◌, ◌⊎◌, ℕ, List, Option, None, Some, IfSome}
+use Rattle.clap.specs.Kinds.{Kinds, IsAmong}
+use Rattle.clap.specs.declared.error.kind.ErrorKind.{ErrorKind}
+use Rattle.clap.specs.declared.error.kind.ErrorKind.TheVariants.{DisplayHelp, DisplayVersion}
+use Rattle.clk_packet.specs.declared.fault.Fault.{Fault}
+use Rattle.clk_packet.specs.declared.fault.Fault.TheVariants.{Memory, Read, Write}
+use Rattle.clk_sched.specs.declared.visit.Visit.{Visit}
+use Rattle.clk_tree.specs.Plan.{Planned, Denotes}
+use Rattle.clk_tree.specs.Canonical.{canonical_text}
+use Rattle.clk_syntax.specs.Reading.{HasFault}
+use Rattle.clk_report.specs.VisitCsv.{visits_text}
+use Rattle.clk_packet.specs.Bytes.{OfBytes}
+use Rattle.clk_script.specs.Meaning.{MeansOver, MeansOverWith, ExplainsPlan}
+use Rattle.clk_command.specs.Running.{RunWrites, ExplainsRun}
+use Rattle.clk_command.specs.Words.{Task, builtin, check, script, run}
+use Rattle.clk_command.specs.declared.pace.Pace.{Pace}
+use Rattle.clk_command.specs.declared.builtin.TheConstants.{TEXT}
+
+-- The text of a tree, whose bytes these are, denotes the plan.
+abbrev pub IsPlanIn : Option (List ℕ) → List Planned → Type 0
+IsPlanIn tree plan = OfBytes tree (λ text. Denotes text plan)
+
+-- Why reading a plan is refused with a fault: memory ran out, the source failed, or its text has the fault.
+abbrev pub ExplainsTree : Option (List ℕ) → Fault → Type 0
+ExplainsTree tree fault = ((fault ≡ Memory) ⊎ (fault ≡ Read)) ⊎ IfSome tree (λ text. HasFault text fault)
+
+-- A script over a tree writes this text, where a device's visits are these logs.
+pub record WritesOver (tree input : Option (List ℕ)) (text : List ℕ) : Type 0 where
+  pub plan : List Planned
+  pub is_plan : IsPlanIn tree plan
+  pub means : OfBytes input (λ script. MeansOver plan script text)
+
+-- the same, and its visit file is this
+pub record WritesWithVisits (tree input : Option (List ℕ)) (text visits : List ℕ) : Type 0 where
+  pub plan : List Planned
+  pub is_plan : IsPlanIn tree plan
+  pub logs : List (List Visit)
+  pub means : OfBytes input (λ script. MeansOverWith plan script text logs)
+  pub csv : visits ≡ visits_text logs
+
+-- A trace that runs over a tree at a pace writes this report.
+pub record ReportsOver (tree trace : Option (List ℕ)) (pace : Pace) (text : List ℕ) : Type 0 where
+  pub plan : List Planned
+  pub is_plan : IsPlanIn tree plan
+  pub logs : List (List Visit)
+  pub writes : RunWrites plan pace trace text logs
+
+-- the same, and its visit file is this
+pub record ReportsWithVisits (tree trace : Option (List ℕ)) (pace : Pace) (text visits : List ℕ) : Type 0 where
+  pub reports : ReportsOver tree trace pace text
+  pub csv : visits ≡ visits_text reports.logs
+
+-- The text of the built-in tree.
+abbrev pub builtin_text : List ℕ
+builtin_text = TEXT.now
+
+-- What was done for a task, where the standard input held these bytes: a text that it tells of was written. Files hold some bytes.
+abbrev pub Does : Task → Option (List ℕ) → (List ℕ → Type 0) → Type 0
+Does builtin input Written = (text : List ℕ) × WritesOver (Some builtin_text) input text × Written text
+Does (check tree) input Written = (plan : List Planned) × IsPlanIn None plan × Written (canonical_text plan)
+Does (script tree lines visits) input Written = (text : List ℕ) × WritesOver None None text × Written text
+Does (run tree trace step limit visits) input Written =
+    (text : List ℕ) × (pace : Pace) × (pace.step ≡ step) × (pace.limit ≡ limit) × ReportsOver None None pace text × Written text
+
+-- Help or the version was asked for, and words were wrong, by the kinds of error that clap may answer.
+abbrev pub IsQuestion : Kinds → Type 0
+IsQuestion kinds = IsAmong DisplayHelp kinds ⊎ IsAmong DisplayVersion kinds
+
+abbrev pub IsMistake : Kinds → Type 0
+IsMistake kinds = (kind : ErrorKind) × IsAmong kind kinds × (kind ≢ DisplayHelp) × (kind ≢ DisplayVersion)
+
+-- Why a script over a tree is refused with a fault: a writer failed, memory ran out, the tree has it, or the script over its plan.
+abbrev pub ExplainsScriptOver : Option (List ℕ) → Option (List ℕ) → Fault → Type 0
+ExplainsScriptOver tree input fault = ((fault ≡ Write) ⊎ ExplainsTree tree fault) ⊎ ((plan : List Planned) × IsPlanIn tree plan × ExplainsPlan plan input fault)
+
+-- Why a run of a trace over a tree is refused with a fault: a writer failed, memory ran out, the tree has it, or the run over its plan.
+abbrev pub ExplainsRunOver : Option (List ℕ) → Option (List ℕ) → Fault → Type 0
+ExplainsRunOver tree trace fault = ((fault ≡ Write) ⊎ ExplainsTree tree fault) ⊎ ((plan : List Planned) × IsPlanIn tree plan × ExplainsRun plan trace fault)

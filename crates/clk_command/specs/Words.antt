@@ -1,0 +1,117 @@
+-- What the words after the program's name ask for. How a grammar reads words is clap's own definition (`matches_of`, `subcommand_of`), and
+-- so is which kind of error comes where it takes none (`fault_of`).
+use Rattle.std.specs.Prelude.{◌≡◌, ◌^◌, ◌&&◌, ℕ, Bool, true, false, List, [], ◌∷◌, length, nat_lt, if◌then◌else◌, Option, Some, None, codes, unwrap_or, option_map, pos}
+use Rattle.std.specs.Option.{option_map_or}
+use Rattle.std.specs.List.{list_all}
+use Rattle.std.specs.Str.{bytes_eq}
+use Rattle.std.specs.Str.Parse.{digits_value, without_leading_plus}
+use Rattle.std.specs.Char.{digit_value}
+use Rattle.clap.specs.Walk.{Row, Rule, Text, first_of, one_of, rule_of}
+use Rattle.clap.specs.Simple.{App, app_of, new_app, new_rule, on_top, with_rule, with_subcommand, subcommand_of}
+use Rattle.clap.specs.declared.builder.arg.Arg.{Arg}
+use Rattle.clap.specs.declared.builder.command.Command.{Command}
+use Rattle.clap.specs.declared.builder.command.Command.TheViews.{out-Command as fields_of}
+use Rattle.clap.specs.declared.builder.value_parser.ValueParser.TheVariants.{Signed}
+use Rattle.std.specs.Borrow.{Bor}
+use Rattle.clk_command.specs.declared.words.Asked.{Asked}
+use Rattle.clk_command.specs.declared.words.Asked.TheVariants.{Builtin, Check, Script, Run}
+
+-- a word that names a file, and has to be there
+abbrev pub file_word : Text → Rule
+file_word name = record (new_rule name) { required = true }
+
+-- `--name FILE`
+abbrev pub file_option : Text → Rule
+file_option name = record (new_rule name) { long = Some name; value_names = 1 }
+
+-- `--name N`, a number from 1 to `most`, and what it is where it is left out
+abbrev pub number_option : Text → ℕ → Text → Rule
+number_option name most default = record (new_rule name) {
+  long = Some name;
+  value_names = 1;
+  parser = Some (Signed (pos 1) (pos most));
+  defaults = default ∷ [];
+}
+
+-- `check TREE`
+abbrev pub check_words : App
+check_words = with_rule (new_app (codes "check")) (file_word (codes "TREE"))
+
+-- `script TREE SCRIPT [--visits FILE]`
+abbrev pub script_words : App
+script_words = with_rule (with_rule (with_rule (new_app (codes "script")) (file_word (codes "TREE"))) (file_word (codes "SCRIPT"))) (file_option (codes "visits"))
+
+-- `run TREE TRACE [--step N] [--limit N] [--visits FILE]`
+abbrev pub run_words : App
+run_words = with_rule (with_rule (with_rule (with_rule (with_rule (new_app (codes "run"))
+    (file_word (codes "TREE"))) (file_word (codes "TRACE")))
+    (number_option (codes "step") 1000 (codes "1"))) (number_option (codes "limit") 1000000 (codes "1000"))) (file_option (codes "visits"))
+
+-- what stands above the commands: the first word isn't the program's name
+abbrev pub top_words : App
+top_words = on_top (λ s. record s { no_binary_name = true; has_version = true }) (new_app (codes "clickpull"))
+
+-- the three, or no words at all, or a question for help or the version
+abbrev pub program_words : App
+program_words = with_subcommand (with_subcommand (with_subcommand top_words check_words.top) script_words.top) run_words.top
+
+-- An argument, and a command with its subcommands, read words as these say.
+pub record IsWord (arg : Arg) (rule : Rule) : Type 0 where
+  pub reads : rule_of arg ≡ rule
+  pub local : arg.global ≡ false
+
+pub record Reads (command : Command) (app : App) : Type 0 where
+  pub reads : app_of command ≡ app
+  pub local : (fields_of command).has_globals ≡ false
+
+-- what the words ask for: files are named by their paths
+pub data Task : Type 0 where
+  builtin : Task
+  check : Text → Task
+  script : Text → Text → Option Text → Task
+  run : Text → Text → ℕ → ℕ → Option Text → Task
+
+-- digits of a number that 32 bits hold
+abbrev pub is_number : Text → Bool
+is_number digits = nat_lt 0 (length digits) && list_all (λ d. nat_lt (digit_value d) 10) digits && nat_lt (digits_value 10 digits) (2 ^ 32)
+
+-- the number that digits, after a plus sign if there is one, are of, and 1 of any other text
+abbrev pub number_or_one : Text → ℕ
+number_or_one text = if is_number (without_leading_plus text) then digits_value 10 (without_leading_plus text) else 1
+
+-- the nearest number from 1 to `most`
+abbrev pub within_one_and : ℕ → ℕ → ℕ
+within_one_and most n = if nat_lt n 1 then 1 else (if nat_lt most n then most else n)
+
+-- the number from 1 to `most` that an option gave
+abbrev pub number_of : List Row → Text → ℕ → ℕ
+number_of rows name most = within_one_and most (option_map_or number_or_one (one_of name rows) 1)
+
+abbrev pub path_of : List Row → Text → Text
+path_of rows name = unwrap_or (first_of name rows) []
+
+abbrev pub text_of : Bor Text → Text
+text_of t = t.now
+
+-- what is asked for, with the paths as they read
+abbrev pub task : Asked → Task
+task Builtin = builtin
+task (Check tree) = check tree.now
+task (Script tree script_path visits) = script tree.now script_path.now (option_map text_of visits)
+task (Run tree trace pace visits) = run tree.now trace.now pace.step pace.limit (option_map text_of visits)
+
+-- what a command asks for, by its name and what was found of its words
+abbrev pub task_by : Text → List Row → Task
+task_by name rows =
+    if bytes_eq name (codes "check") then check (path_of rows (codes "TREE"))
+    else if bytes_eq name (codes "script") then script (path_of rows (codes "TREE")) (path_of rows (codes "SCRIPT")) (first_of (codes "visits") rows)
+    else if bytes_eq name (codes "run") then run (path_of rows (codes "TREE")) (path_of rows (codes "TRACE")) (number_of rows (codes "step") 1000) (number_of rows (codes "limit") 1000000) (first_of (codes "visits") rows)
+    else builtin
+
+abbrev pub task_of : Option (Text × List Row) → Task
+task_of None = builtin
+task_of (Some found) = task_by found.0 found.1
+
+-- what the words ask for
+abbrev pub task_in : List Text → Task
+task_in words = task_of (subcommand_of program_words words)

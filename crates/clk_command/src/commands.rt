@@ -1,0 +1,238 @@
+//! The whole program, over what stands for standard input, output and error.
+
+ghost use Rattle.std.specs.Prelude.{◌≡◌, ◌≢◌, ◌+◌, ◌⊎◌, [], Ok, None, Some, map, IfOk, IfErr, OnOk};
+ghost use Rattle.std.specs.String.{string_bytes};
+ghost use Rattle.std.specs.Io.KnownBytes.{Appends, Keeps};
+ghost use Rattle.clap.specs.Faults.{fault_of};
+ghost use Rattle.clap.specs.Values.{kind_of};
+ghost use Rattle.clap.specs.declared.error.kind.ErrorKind.TheVariants.{OutOfMemory, DisplayHelp, DisplayVersion};
+ghost use Rattle.clk_packet.specs.declared.fault.Fault.TheVariants.{Memory, Write};
+ghost use Rattle.clk_packet.specs.Bytes.{read_failures, write_failures};
+ghost use Rattle.clk_tree.specs.Plan.{Denotes};
+ghost use Rattle.clk_command.specs.Tasks.{Does, IsQuestion, IsMistake, WritesOver, ReportsOver, builtin_text};
+ghost use Rattle.clk_command.specs.Words.{program_words, task, task_in};
+
+use crate::builtin;
+use crate::files::{FileToRead, FileToWrite};
+use crate::over::{check_tree, run_over, run_with_visits, script_over, script_with_visits};
+use crate::pace::Pace;
+use crate::words::{Asked, asked_by};
+use clap::Error;
+use clap::error::ErrorKind;
+use clk_packet::{Fault, FromRead, Sink, Source, ToWrite, write_all};
+use clk_script::run_script;
+use clk_tree::Plan;
+use std::alloc::Global;
+use std::rt::Files;
+use std::sync::Wait;
+use std::thread::Threads;
+
+/// Does what the words after the program's name ask for, and answers the status that the program ends with: 0 where it
+/// is done, 2 where the words are wrong, which `errors` is told. Help and the version are written to `writer`.
+///
+/// - No words: the script on `reader` runs over the built-in tree.
+/// - `check TREE`: the canonical text of the tree in the file TREE is written to `writer`.
+/// - `script TREE SCRIPT [--visits FILE]`: the script in the file SCRIPT runs over the tree in the file TREE, which is read
+///   and checked before SCRIPT is opened. After the answer its visits are written to FILE, as CSV, where that is named.
+/// - `run TREE TRACE [--step N] [--limit N] [--visits FILE]`: the trace in the file TRACE runs over the tree in the file TREE, which
+///   is read and checked before TRACE is opened, from a thread for each sender, and the report is written to `writer`. While they
+///   run a device is pulled once each `--step` ticks, `--limit` times at most. The visits go to FILE as those of a script do.
+///
+/// `rt` has the files and starts the threads, and `wait` waits for their queues.
+///
+/// # Errors
+///
+/// 1 where memory or a thread is refused, of the visits after the whole answer; 19 where a file can't be opened, or it or `reader`
+/// can't be read; 20 where `writer` or `errors` fails or, after the whole answer, FILE can't be made or written; else those of the
+/// tree, and then those of the script, or of the trace and its run.
+pub fn command<
+    H: Files + AllocGlobal + Threads + Wait,
+    P: Wait + Sync,
+    R: Source,
+    W: Sink,
+    E: Sink,
+>(
+    rt: &H,
+    wait: &P,
+    words: Vec<String>,
+    reader: &mut R,
+    writer: &mut W,
+    errors: &mut E,
+) -> Result<u8, Fault>
+    ensures status { IfOk result (λ status. (status ≡ 0) ⊎ (status ≡ 2)) }
+    // With status 0 help or the version was asked for, or what the words ask for was done.
+    ensures done { result ≡ Ok 0 → IsQuestion (fault_of program_words (map string_bytes words.items))
+        ⊎ ((fault_of program_words (map string_bytes words.items) ≡ [])
+        × Does (task_in (map string_bytes words.items)) (R.Source.remaining reader.old) (λ text. Appends (W.Sink.taken writer.old) (W.Sink.taken writer.new) text)) }
+    // With status 2 the words are wrong.
+    ensures mistaken { result ≡ Ok 2 → IsMistake (fault_of program_words (map string_bytes words.items)) }
+    // What is done tells `errors` nothing.
+    ensures silent { result ≡ Ok 0 → errors.new ≡ errors.old }
+    // Where the words are wrong, nothing is read or written but why.
+    ensures refused { result ≡ Ok 2 → (reader.new ≡ reader.old) × (writer.new ≡ writer.old) }
+    // At a fault nothing is written, but where a write failed, or there was no memory for the visits.
+    ensures nothing { IfErr result (λ fault. fault ≢ Write → fault ≢ Memory → Keeps (W.Sink.taken writer.old) (W.Sink.taken writer.new)) }
+    // Where `writer` or `errors` failed the fault is 20, and 19 where `reader` failed.
+    ensures write_failures { (W.Sink.failures writer.new + E.Sink.failures errors.new ≡ W.Sink.failures writer.old + E.Sink.failures errors.old)
+        ⊎ (W.Sink.failures writer.new + E.Sink.failures errors.new ≡ write_failures result (W.Sink.failures writer.old + E.Sink.failures errors.old)) }
+    ensures read_failures { (R.Source.failures reader.new ≡ R.Source.failures reader.old)
+        ⊎ (R.Source.failures reader.new ≡ read_failures result (R.Source.failures reader.old)) }
+{
+    match asked_by(rt.alloc(), &words) {
+        Ok(asked) => {
+            perform(rt, wait, asked, reader, writer)?;
+            Ok(0)
+        }
+        Err(error) => tell(rt.alloc(), &error, writer, errors),
+    }
+}
+
+/// Does what the words ask for. A file is opened as it is first read or written.
+fn perform<H: Files + AllocGlobal + Threads + Wait, P: Wait + Sync, R: Source, W: Sink>(
+    rt: &H,
+    wait: &P,
+    asked: Asked<'_>,
+    reader: &mut R,
+    writer: &mut W,
+) -> Result<(), Fault>
+    ensures done { OnOk result (Does (task asked.entry) (R.Source.remaining reader.old) (λ text. Appends (W.Sink.taken writer.old) (W.Sink.taken writer.new) text)) }
+    ensures nothing { IfErr result (λ fault. fault ≢ Write → fault ≢ Memory → Keeps (W.Sink.taken writer.old) (W.Sink.taken writer.new)) }
+    ensures write_failures { (W.Sink.failures writer.new ≡ W.Sink.failures writer.old)
+        ⊎ (W.Sink.failures writer.new ≡ write_failures result (W.Sink.failures writer.old)) }
+    ensures read_failures { (R.Source.failures reader.new ≡ R.Source.failures reader.old)
+        ⊎ (R.Source.failures reader.new ≡ read_failures result (R.Source.failures reader.old)) }
+{
+    match asked {
+        Asked::Builtin => script_builtin(rt.alloc(), reader, writer),
+        Asked::Check { tree } => check_tree(rt.alloc(), &mut source(rt, tree), writer),
+        Asked::Script {
+            tree,
+            script,
+            visits,
+        } => script_files(rt, tree, script, visits, writer),
+        Asked::Run {
+            tree,
+            trace,
+            pace,
+            visits,
+        } => run_files(rt, wait, tree, trace, pace, visits, writer),
+    }
+}
+
+/// Runs the script on `reader` over the built-in tree.
+fn script_builtin<R: Source, W: Sink>(
+    alloc: Global,
+    reader: &mut R,
+    writer: &mut W,
+) -> Result<(), Fault>
+    ensures written { OnOk result ((text : _) × WritesOver (Some builtin_text) (R.Source.remaining reader.old) text × Appends (W.Sink.taken writer.old) (W.Sink.taken writer.new) text) }
+    ensures nothing { IfErr result (λ fault. fault ≢ Write → Keeps (W.Sink.taken writer.old) (W.Sink.taken writer.new)) }
+    ensures write_failures { W.Sink.failures writer.new ≡ write_failures result (W.Sink.failures writer.old) }
+    ensures read_failures { (R.Source.failures reader.new ≡ R.Source.failures reader.old)
+        ⊎ (R.Source.failures reader.new ≡ read_failures result (R.Source.failures reader.old)) }
+{
+    let plan = builtin_plan(alloc)?;
+    run_script(alloc, reader, writer, &plan)
+}
+
+/// Runs a script over a tree, both in files, and writes its visits to a third, where that is named.
+fn script_files<H: Files + AllocGlobal, W: Sink>(
+    rt: &H,
+    tree: &str,
+    script: &str,
+    visits: Option<&str>,
+    writer: &mut W,
+) -> Result<(), Fault>
+    ensures written { OnOk result ((text : _) × WritesOver None None text × Appends (W.Sink.taken writer.old) (W.Sink.taken writer.new) text) }
+    ensures nothing { IfErr result (λ fault. fault ≢ Write → fault ≢ Memory → Keeps (W.Sink.taken writer.old) (W.Sink.taken writer.new)) }
+    ensures write_failures { (W.Sink.failures writer.new ≡ W.Sink.failures writer.old)
+        ⊎ (W.Sink.failures writer.new ≡ write_failures result (W.Sink.failures writer.old)) }
+{
+    let (mut tree, mut script) = (source(rt, tree), source(rt, script));
+    match visits {
+        None => script_over(rt.alloc(), &mut tree, &mut script, writer),
+        Some(path) => {
+            let mut visits = sink(rt, path);
+            script_with_visits(rt.alloc(), &mut tree, &mut script, writer, &mut visits)
+        }
+    }
+}
+
+/// Runs a trace over a tree, both in files, and writes its visits to a third, where that is named.
+fn run_files<H: Files + AllocGlobal + Threads + Wait, P: Wait + Sync, W: Sink>(
+    rt: &H,
+    wait: &P,
+    tree: &str,
+    trace: &str,
+    pace: Pace,
+    visits: Option<&str>,
+    writer: &mut W,
+) -> Result<(), Fault>
+    ensures written { OnOk result ((text : _) × ReportsOver None None pace text × Appends (W.Sink.taken writer.old) (W.Sink.taken writer.new) text) }
+    ensures nothing { IfErr result (λ fault. fault ≢ Write → fault ≢ Memory → Keeps (W.Sink.taken writer.old) (W.Sink.taken writer.new)) }
+    ensures write_failures { (W.Sink.failures writer.new ≡ W.Sink.failures writer.old)
+        ⊎ (W.Sink.failures writer.new ≡ write_failures result (W.Sink.failures writer.old)) }
+{
+    let (mut tree, mut trace) = (source(rt, tree), source(rt, trace));
+    let alloc = rt.alloc();
+    match visits {
+        None => run_over(rt, alloc, wait, &mut tree, &mut trace, writer, pace),
+        Some(path) => {
+            let mut visits = sink(rt, path);
+            run_with_visits(
+                rt,
+                alloc,
+                wait,
+                &mut tree,
+                &mut trace,
+                writer,
+                pace,
+                &mut visits,
+            )
+        }
+    }
+}
+
+/// What the file at a path holds.
+fn source<'a, H: Files>(rt: &'a H, path: &'a str) -> FromRead<FileToRead<'a, H>> {
+    FromRead::new(FileToRead::at(rt, path))
+}
+
+/// What is written to the file at a path.
+fn sink<'a, H: Files>(rt: &'a H, path: &'a str) -> ToWrite<FileToWrite<'a, H>> {
+    ToWrite::new(FileToWrite::at(rt, path))
+}
+
+fn builtin_plan(alloc: Global) -> Result<Plan, Fault>
+    ensures denotes { IfOk result (Denotes builtin_text) }
+    ensures fault { IfErr result (λ fault. fault ≢ Write) }
+{
+    Plan::read(alloc, builtin::TEXT.as_bytes())
+}
+
+/// Writes why the words are refused to `errors`, and what was asked of clap itself, as help, to `writer`.
+fn tell<W: Sink, E: Sink>(
+    alloc: Global,
+    error: &Error,
+    writer: &mut W,
+    errors: &mut E,
+) -> Result<u8, Fault>
+    ensures status { IfOk result (λ status. (status ≡ 0) ⊎ (status ≡ 2)) }
+    ensures question { result ≡ Ok 0 → (kind_of error.now ≡ DisplayHelp) ⊎ (kind_of error.now ≡ DisplayVersion) }
+    ensures mistake { result ≡ Ok 2 → (kind_of error.now ≢ OutOfMemory) × (kind_of error.now ≢ DisplayHelp) × (kind_of error.now ≢ DisplayVersion) }
+    ensures silent { result ≡ Ok 0 → errors.new ≡ errors.old }
+    ensures refused { result ≡ Ok 2 → writer.new ≡ writer.old }
+    ensures nothing { IfErr result (λ fault. fault ≢ Write → Keeps (W.Sink.taken writer.old) (W.Sink.taken writer.new)) }
+    ensures write_failures { W.Sink.failures writer.new + E.Sink.failures errors.new ≡ write_failures result (W.Sink.failures writer.old + E.Sink.failures errors.old) }
+{
+    if error.kind() == ErrorKind::OutOfMemory {
+        return Err(Fault::Memory);
+    }
+    let text = format!(in alloc; "{error}")?;
+    if error.use_stderr() {
+        write_all(errors, text.as_bytes())?;
+        return Ok(2);
+    }
+    write_all(writer, text.as_bytes())?;
+    Ok(0)
+}

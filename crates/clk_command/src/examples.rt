@@ -1,0 +1,22 @@
+//! What words ask for, on examples: a function that does nothing and whose contract tells it.
+
+ghost use Rattle.std.specs.Prelude.{◌≡◌, ◌∷◌, [], None, Some, codes};
+ghost use Rattle.clap.specs.Faults.{fault_of};
+ghost use Rattle.clap.specs.declared.error.kind.ErrorKind.TheVariants.{DisplayHelp, DisplayVersion, MissingRequiredArgument, ValueValidation, UnknownArgument, InvalidSubcommand};
+ghost use Rattle.clk_command.specs.Words.{program_words, task_in, builtin, check, script, run};
+
+/// What some words ask for, and which kinds of error come where they are wrong.
+pub fn word_examples()
+    ensures none { (fault_of program_words [] ≡ []) × (task_in [] ≡ builtin) }
+    ensures checks { (fault_of program_words (codes "check" ∷ codes "T" ∷ []) ≡ []) × (task_in (codes "check" ∷ codes "T" ∷ []) ≡ check (codes "T")) }
+    ensures scripts { task_in (codes "script" ∷ codes "T" ∷ codes "S" ∷ []) ≡ script (codes "T") (codes "S") None }
+    ensures visits { task_in (codes "script" ∷ codes "--visits" ∷ codes "V" ∷ codes "T" ∷ codes "S" ∷ []) ≡ script (codes "T") (codes "S") (Some (codes "V")) }
+    ensures runs { task_in (codes "run" ∷ codes "T" ∷ codes "R" ∷ []) ≡ run (codes "T") (codes "R") 1 1000 None }
+    ensures paces { task_in (codes "run" ∷ codes "T" ∷ codes "--step=10" ∷ codes "R" ∷ codes "--limit" ∷ codes "7" ∷ []) ≡ run (codes "T") (codes "R") 10 7 None }
+    ensures no_trace { fault_of program_words (codes "run" ∷ codes "T" ∷ []) ≡ MissingRequiredArgument ∷ [] }
+    ensures no_step { fault_of program_words (codes "run" ∷ codes "T" ∷ codes "R" ∷ codes "--step" ∷ codes "0" ∷ []) ≡ ValueValidation ∷ [] }
+    ensures one_too_many { fault_of program_words (codes "check" ∷ codes "T" ∷ codes "U" ∷ []) ≡ UnknownArgument ∷ [] }
+    ensures no_command { fault_of program_words (codes "frob" ∷ []) ≡ UnknownArgument ∷ InvalidSubcommand ∷ [] }
+    ensures help { fault_of program_words (codes "--help" ∷ []) ≡ DisplayHelp ∷ [] }
+    ensures version { fault_of program_words (codes "--version" ∷ []) ≡ DisplayVersion ∷ [] }
+{}

@@ -1,0 +1,20 @@
+//! The program, over what stands for standard input, output and error: what its words ask for, runs of traces, and the lines of faults.
+#![tactic(auto)]
+
+mod builtin;
+mod commands;
+mod examples;
+mod faults;
+mod files;
+mod over;
+mod pace;
+mod running;
+mod words;
+
+pub use clk_script::run_script;
+pub use commands::command;
+pub use examples::word_examples;
+pub use faults::fault_line;
+pub use over::{check_tree, read_plan, run_over, run_with_visits, script_over, script_with_visits};
+pub use pace::Pace;
+pub use running::run_trace;

@@ -1,0 +1,165 @@
+//! What each command does, over what stands for its files: sources of a tree, and of a script or a trace, and a sink for the visits.
+
+ghost use Rattle.std.specs.Prelude.{◌≡◌, ◌≢◌, ◌+◌, ◌⊎◌, true, false, List, IfOk, IfErr, OnOk, IsErrOf};
+ghost use Rattle.std.specs.Io.KnownBytes.{Appends, Keeps};
+ghost use Rattle.clk_packet.specs.Bytes.{AppendsFront, Takes, read_failures, write_failures};
+ghost use Rattle.clk_packet.specs.declared.fault.Fault.TheVariants.{Memory, Write};
+ghost use Rattle.clk_tree.specs.Canonical.{canonical_text};
+ghost use Rattle.clk_syntax.specs.Limits.{most_bytes};
+ghost use Rattle.clk_tree.specs.Plan.{Planned};
+ghost use Rattle.clk_command.specs.Tasks.{IsPlanIn, ExplainsTree, ExplainsScriptOver, ExplainsRunOver, WritesOver, WritesWithVisits, ReportsOver, ReportsWithVisits};
+
+use crate::pace::Pace;
+use crate::running::run_trace;
+use clk_packet::{Fault, Sink, Source, read_up_to, write_all};
+use clk_report::visits_csv;
+use clk_script::{run_script, run_script_logged};
+use clk_tree::Plan;
+use std::alloc::Global;
+use std::sync::Wait;
+use std::thread::Threads;
+
+/// The bytes of a tree text at most. One byte more tells that a text is too long.
+const MOST_TREE_BYTES: usize = 1_048_576;
+
+/// Reads the plan of a tree text, to one byte past the limit of 1,048,576 at most.
+///
+/// # Errors
+///
+/// In this order: 1 where memory is refused; 19 where the source fails; else those of the text, as of `Plan::read`.
+pub fn read_plan<T: Source>(alloc: Global, tree: &mut T) -> Result<Plan, Fault>
+    ensures plan { IfOk result (IsPlanIn (T.Source.remaining tree.old)) }
+    ensures fault { IfErr result (ExplainsTree (T.Source.remaining tree.old)) }
+    ensures failures { T.Source.failures tree.new ≡ read_failures result (T.Source.failures tree.old) }
+    ensures not_write { IfErr result (λ fault. fault ≢ Write) }
+    ensures limit { Takes (most_bytes + 1) (T.Source.remaining tree.old) (T.Source.remaining tree.new) }
+{
+    let text = read_up_to(alloc, tree, MOST_TREE_BYTES + 1)?;
+    Plan::read(alloc, &text)
+}
+
+/// Checks a tree, and writes its canonical text.
+///
+/// # Errors
+///
+/// Those of `read_plan`, at which nothing is written; 20 where the writer fails, which has taken a front of the text then.
+pub fn check_tree<T: Source, W: Sink>(
+    alloc: Global,
+    tree: &mut T,
+    writer: &mut W,
+) -> Result<(), Fault>
+    ensures written { OnOk result ((plan : List Planned) × IsPlanIn (T.Source.remaining tree.old) plan
+        × Appends (W.Sink.taken writer.old) (W.Sink.taken writer.new) (canonical_text plan)) }
+    ensures front { IsErrOf result Fault.Write → (plan : List Planned) × IsPlanIn (T.Source.remaining tree.old) plan
+        × AppendsFront (W.Sink.taken writer.old) (W.Sink.taken writer.new) (canonical_text plan) }
+    ensures nothing { IfErr result (λ fault. fault ≢ Write → Keeps (W.Sink.taken writer.old) (W.Sink.taken writer.new)) }
+    ensures fault { IfErr result (λ fault. (fault ≡ Write) ⊎ ExplainsTree (T.Source.remaining tree.old) fault) }
+    ensures read_failures { T.Source.failures tree.new ≡ read_failures result (T.Source.failures tree.old) }
+    ensures write_failures { W.Sink.failures writer.new ≡ write_failures result (W.Sink.failures writer.old) }
+{
+    let text = read_plan(alloc, tree)?.write(alloc)?;
+    write_all(writer, &text)
+}
+
+/// Runs a script over a tree, which is read and checked before any byte of the script is read.
+///
+/// # Errors
+///
+/// Those of `read_plan`, and then those of `run_script`. At any but 20 nothing is written.
+pub fn script_over<T: Source, S: Source, W: Sink>(
+    alloc: Global,
+    tree: &mut T,
+    script: &mut S,
+    writer: &mut W,
+) -> Result<(), Fault>
+    ensures written { OnOk result ((text : _) × WritesOver (T.Source.remaining tree.old) (S.Source.remaining script.old) text
+        × Appends (W.Sink.taken writer.old) (W.Sink.taken writer.new) text) }
+    ensures front { IsErrOf result Fault.Write → (text : _) × WritesOver (T.Source.remaining tree.old) (S.Source.remaining script.old) text
+        × AppendsFront (W.Sink.taken writer.old) (W.Sink.taken writer.new) text }
+    ensures nothing { IfErr result (λ fault. fault ≢ Write → Keeps (W.Sink.taken writer.old) (W.Sink.taken writer.new)) }
+    ensures fault { IfErr result (ExplainsScriptOver (T.Source.remaining tree.old) (S.Source.remaining script.old)) }
+    ensures write_failures { W.Sink.failures writer.new ≡ write_failures result (W.Sink.failures writer.old) }
+{
+    let plan = read_plan(alloc, tree)?;
+    run_script(alloc, script, writer, &plan)
+}
+
+/// The same, and after the answer the visits are written, as CSV.
+///
+/// # Errors
+///
+/// Those of `script_over`; of the visits 1 where memory is refused and 20 where their sink fails, after the whole answer.
+pub fn script_with_visits<T: Source, S: Source, W: Sink, V: Sink>(
+    alloc: Global,
+    tree: &mut T,
+    script: &mut S,
+    writer: &mut W,
+    visits: &mut V,
+) -> Result<(), Fault>
+    ensures written { OnOk result ((text : _) × (csv : _) × WritesWithVisits (T.Source.remaining tree.old) (S.Source.remaining script.old) text csv
+        × Appends (W.Sink.taken writer.old) (W.Sink.taken writer.new) text × Appends (V.Sink.taken visits.old) (V.Sink.taken visits.new) csv) }
+    ensures nothing { IfErr result (λ fault. fault ≢ Write → fault ≢ Memory → Keeps (W.Sink.taken writer.old) (W.Sink.taken writer.new)) }
+    ensures no_visits { IfErr result (λ fault. fault ≢ Write → fault ≢ Memory → Keeps (V.Sink.taken visits.old) (V.Sink.taken visits.new)) }
+    ensures fault { IfErr result (ExplainsScriptOver (T.Source.remaining tree.old) (S.Source.remaining script.old)) }
+    ensures write_failures { ((W.Sink.failures writer.new ≡ write_failures result (W.Sink.failures writer.old)) × (V.Sink.failures visits.new ≡ V.Sink.failures visits.old))
+        ⊎ ((W.Sink.failures writer.new ≡ W.Sink.failures writer.old) × (V.Sink.failures visits.new ≡ write_failures result (V.Sink.failures visits.old))) }
+{
+    let plan = read_plan(alloc, tree)?;
+    let logs = run_script_logged(alloc, script, writer, &plan)?;
+    visits_csv(alloc, &logs, visits)
+}
+
+/// Runs a trace over a tree, which is read and checked before any byte of the trace is read, and writes the report.
+///
+/// # Errors
+///
+/// Those of `read_plan`, and then those of `run_trace`. At any but 20 nothing is written.
+pub fn run_over<H: Threads + Wait, P: Wait + Sync, T: Source, S: Source, W: Sink>(
+    rt: &H,
+    alloc: Global,
+    wait: &P,
+    tree: &mut T,
+    trace: &mut S,
+    writer: &mut W,
+    pace: Pace,
+) -> Result<(), Fault>
+    ensures written { OnOk result ((text : _) × ReportsOver (T.Source.remaining tree.old) (S.Source.remaining trace.old) pace text
+        × Appends (W.Sink.taken writer.old) (W.Sink.taken writer.new) text) }
+    ensures front { IsErrOf result Fault.Write → (text : _) × ReportsOver (T.Source.remaining tree.old) (S.Source.remaining trace.old) pace text
+        × AppendsFront (W.Sink.taken writer.old) (W.Sink.taken writer.new) text }
+    ensures nothing { IfErr result (λ fault. fault ≢ Write → Keeps (W.Sink.taken writer.old) (W.Sink.taken writer.new)) }
+    ensures fault { IfErr result (ExplainsRunOver (T.Source.remaining tree.old) (S.Source.remaining trace.old)) }
+    ensures write_failures { W.Sink.failures writer.new ≡ write_failures result (W.Sink.failures writer.old) }
+{
+    let plan = read_plan(alloc, tree)?;
+    let _ = run_trace(rt, alloc, wait, &plan, trace, writer, pace, false)?;
+    Ok(())
+}
+
+/// The same, and after the report the visits are written, as CSV.
+///
+/// # Errors
+///
+/// Those of `run_over`; of the visits 1 where memory is refused and 20 where their sink fails, after the whole report.
+pub fn run_with_visits<H: Threads + Wait, P: Wait + Sync, T: Source, S: Source, W: Sink, V: Sink>(
+    rt: &H,
+    alloc: Global,
+    wait: &P,
+    tree: &mut T,
+    trace: &mut S,
+    writer: &mut W,
+    pace: Pace,
+    visits: &mut V,
+) -> Result<(), Fault>
+    ensures written { OnOk result ((text : _) × (csv : _) × ReportsWithVisits (T.Source.remaining tree.old) (S.Source.remaining trace.old) pace text csv
+        × Appends (W.Sink.taken writer.old) (W.Sink.taken writer.new) text × Appends (V.Sink.taken visits.old) (V.Sink.taken visits.new) csv) }
+    ensures nothing { IfErr result (λ fault. fault ≢ Write → fault ≢ Memory → Keeps (W.Sink.taken writer.old) (W.Sink.taken writer.new)) }
+    ensures no_visits { IfErr result (λ fault. fault ≢ Write → fault ≢ Memory → Keeps (V.Sink.taken visits.old) (V.Sink.taken visits.new)) }
+    ensures fault { IfErr result (ExplainsRunOver (T.Source.remaining tree.old) (S.Source.remaining trace.old)) }
+    ensures write_failures { ((W.Sink.failures writer.new ≡ write_failures result (W.Sink.failures writer.old)) × (V.Sink.failures visits.new ≡ V.Sink.failures visits.old))
+        ⊎ ((W.Sink.failures writer.new ≡ W.Sink.failures writer.old) × (V.Sink.failures visits.new ≡ write_failures result (V.Sink.failures visits.old))) }
+{
+    let plan = read_plan(alloc, tree)?;
+    let logs = run_trace(rt, alloc, wait, &plan, trace, writer, pace, true)?;
+    visits_csv(alloc, &logs, visits)
+}

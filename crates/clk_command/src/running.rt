@@ -1,0 +1,68 @@
+//! One trace, over a plan, with producers on threads.
+
+ghost use Rattle.std.specs.Prelude.{◌≡◌, ◌≢◌, ◌+◌, IfOk, IfErr, IsErrOf};
+ghost use Rattle.std.specs.Io.KnownBytes.{Appends, Keeps};
+ghost use Rattle.clk_packet.specs.Bytes.{AppendsFront, Takes, read_failures, write_failures};
+ghost use Rattle.clk_packet.specs.Trace.{most_trace_bytes};
+ghost use Rattle.clk_packet.specs.declared.fault.Fault.TheVariants.{Write};
+ghost use Rattle.clk_report.specs.Devices.{lists_of};
+ghost use Rattle.clk_command.specs.Running.{ExplainsRun, RunAnswers, RunWrites};
+
+use crate::pace::Pace;
+use clk_drain::{Free, Outcome, run_with};
+use clk_packet::{Fault, Sink, Source, Traces};
+use clk_report::report;
+use clk_sched::Visit;
+use clk_tree::Plan;
+use std::alloc::Global;
+use std::sync::Wait;
+use std::thread::Threads;
+
+/// Reads a trace to its end, runs it over a plan, and writes the report. A producer for each sender, on a thread of its own, offers
+/// what the sender sends, while each device is pulled at this pace; then what is left is drained. Answers the log of each device, where
+/// visits are kept.
+///
+/// # Errors
+///
+/// In this order: 1 at any refused growth of memory, or where a thread is refused; 19 where the reader fails; 18 for a trace of more
+/// than 33,554,432 bytes; then by records 18 at record 1,000,001 and 14 for one that isn't a sender and a length; 15 with the least
+/// sender that the plan hasn't; 17 where a drain stops short, and 21 where a queue lost packets though it accepted fewer than its
+/// capacity; 20 where the writer fails, which has then taken a front of the report. At any other nothing is written.
+pub fn run_trace<H: Threads + Wait, P: Wait + Sync, R: Source, W: Sink>(
+    rt: &H,
+    alloc: Global,
+    wait: &P,
+    plan: &Plan,
+    trace: &mut R,
+    writer: &mut W,
+    pace: Pace,
+    visits: bool,
+) -> Result<Vec<Vec<Visit>>, Fault>
+    ensures written { IfOk result (λ logs. (text : _) × RunAnswers visits plan.now pace (R.Source.remaining trace.old) text (lists_of logs.items)
+        × Appends (W.Sink.taken writer.old) (W.Sink.taken writer.new) text) }
+    ensures front { IsErrOf result Fault.Write → (text : _) × (logs : _) × RunWrites plan.now pace (R.Source.remaining trace.old) text logs
+        × AppendsFront (W.Sink.taken writer.old) (W.Sink.taken writer.new) text }
+    ensures nothing { IfErr result (λ fault. fault ≢ Write → Keeps (W.Sink.taken writer.old) (W.Sink.taken writer.new)) }
+
+    // Each fault has its cause.
+    ensures fault { IfErr result (ExplainsRun plan.now (R.Source.remaining trace.old)) }
+    ensures read_failures { R.Source.failures trace.new ≡ read_failures result (R.Source.failures trace.old) }
+    ensures write_failures { W.Sink.failures writer.new ≡ write_failures result (W.Sink.failures writer.old) }
+
+    // The reader is read to one byte past the limit at most.
+    ensures limit { Takes (most_trace_bytes + 1) (R.Source.remaining trace.old) (R.Source.remaining trace.new) }
+{
+    let traces = Traces::read_csv(alloc, trace)?;
+    let outcome = run_with(
+        rt, alloc, wait, plan, &traces, pace.step, pace.limit, &Free, visits,
+    )?;
+    // How many devices there are at most is known where they are counted.
+    let _ = plan.devices();
+    let Outcome {
+        emitted,
+        logs,
+        tallies,
+    } = outcome;
+    report(&tallies, &emitted, writer)?;
+    Ok(logs)
+}

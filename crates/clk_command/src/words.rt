@@ -1,0 +1,311 @@
+//! The words of the program: its commands, what they ask for, and the help.
+
+ghost use Rattle.std.specs.Prelude.{◌≡◌, ◌≤◌, codes, map, option_map, IfOk};
+ghost use Rattle.std.specs.String.{string_bytes};
+ghost use Rattle.clap.specs.Faults.{fault_of};
+ghost use Rattle.clap.specs.Kinds.{FailsBy};
+ghost use Rattle.clap.specs.Matches.{found_of};
+ghost use Rattle.clap.specs.Simple.{new_app, subcommand_rows_of};
+ghost use Rattle.clap.specs.Walk.{first_of, rows_of};
+ghost use Rattle.clk_command.specs.Words.{file_word, file_option, number_option, top_words, check_words, script_words, run_words, program_words, number_of, path_of, within_one_and, task, task_of, text_of, task_in, Reads, IsWord};
+
+use crate::pace::{MAX_LIMIT, MAX_STEP, Pace};
+use clap::{Arg, ArgMatches, Command, Error, value_parser};
+use std::alloc::{AllocError, Global};
+
+/// What the words ask for. A file is named by its path.
+#[derive(Clone, Copy)]
+pub enum Asked<'a> {
+    /// The script on standard input, over the built-in tree.
+    Builtin,
+    /// The canonical text of a tree.
+    Check {
+        /// The file of the tree.
+        tree: &'a str,
+    },
+    /// A script over a tree.
+    Script {
+        /// The file of the tree.
+        tree: &'a str,
+        /// The file of the script.
+        script: &'a str,
+        /// The file that its visits are written to, if one is named.
+        visits: Option<&'a str>,
+    },
+    /// A trace over a tree.
+    Run {
+        /// The file of the tree.
+        tree: &'a str,
+        /// The file of the trace.
+        trace: &'a str,
+        /// How devices are pulled while the producers run.
+        pace: Pace,
+        /// The file that its visits are written to, if one is named.
+        visits: Option<&'a str>,
+    },
+}
+
+/// What the words after the program's name ask for.
+///
+/// # Errors
+///
+/// What clap answers: that the words are wrong, that help or the version is asked for, or that memory was refused.
+pub fn asked_by<'a>(alloc: Global, words: &'a [String]) -> Result<Asked<'a>, Error>
+    ensures asked { IfOk result (λ asked. task asked ≡ task_in (map string_bytes words.now)) }
+    ensures refused { FailsBy (fault_of program_words (map string_bytes words.now)) result }
+{
+    let matches = program(alloc)?.try_get_matches_from(words)?;
+    Ok(asked_of(&matches))
+}
+
+fn asked_of<'a>(matches: &ArgMatches<'a>) -> Asked<'a>
+    ensures { task result ≡ task_of (subcommand_rows_of matches.now) }
+{
+    match matches.subcommand() {
+        Some(("check", found)) => Asked::Check {
+            tree: path_of(found, TREE),
+        },
+        Some(("script", found)) => Asked::Script {
+            tree: path_of(found, TREE),
+            script: path_of(found, SCRIPT),
+            visits: visits_of(found),
+        },
+        Some(("run", found)) => Asked::Run {
+            tree: path_of(found, TREE),
+            trace: path_of(found, TRACE),
+            pace: pace_of(found),
+            visits: visits_of(found),
+        },
+        _ => Asked::Builtin,
+    }
+}
+
+/// The path that a required word gave.
+fn path_of<'a>(matches: &ArgMatches<'a>, name: &str) -> &'a str
+    ensures { result.now ≡ path_of (rows_of (found_of matches.now)) name.now }
+{
+    match matches.get_str(name) {
+        Some(path) => path,
+        None => "",
+    }
+}
+
+/// The path of the file for the visits, if an option gave one.
+fn visits_of<'a>(matches: &ArgMatches<'a>) -> Option<&'a str>
+    ensures { option_map text_of result ≡ first_of (codes "visits") (rows_of (found_of matches.now)) }
+{
+    matches.get_str(VISITS)
+}
+
+/// The pace that two options gave.
+fn pace_of(matches: &ArgMatches<'_>) -> Pace
+    ensures step { result.step ≡ number_of (rows_of (found_of matches.now)) (codes "step") 1000 }
+    ensures limit { result.limit ≡ number_of (rows_of (found_of matches.now)) (codes "limit") 1000000 }
+{
+    Pace {
+        step: number_of(matches, STEP, MAX_STEP),
+        limit: number_of(matches, LIMIT, MAX_LIMIT),
+    }
+}
+
+/// The number from 1 to `most` that an option gave, or its default. clap lets no other through.
+fn number_of(matches: &ArgMatches<'_>, name: &str, most: u32) -> u32
+    requires { 1 ≤ most }
+    ensures some { 1 ≤ result }
+    ensures within { result ≤ most }
+    ensures number { result ≡ number_of (rows_of (found_of matches.now)) name.now most }
+{
+    clamped(matches.get_one(name).unwrap_or(1), most)
+}
+
+/// The nearest number from 1 to `most`.
+fn clamped(number: u32, most: u32) -> u32
+    requires { 1 ≤ most }
+    ensures some { 1 ≤ result }
+    ensures within { result ≤ most }
+    ensures nearest { result ≡ within_one_and most number }
+{
+    if number < 1 {
+        1
+    } else if most < number {
+        most
+    } else {
+        number
+    }
+}
+
+const TREE: &str = "TREE";
+
+const SCRIPT: &str = "SCRIPT";
+
+const TRACE: &str = "TRACE";
+
+const STEP: &str = "step";
+
+const LIMIT: &str = "limit";
+
+const VISITS: &str = "visits";
+
+const ABOUT: &str =
+    "Runs packets through queues and pull schedulers, as a Click router's link pulls them";
+
+const MORE: &str = "\
+Without a command, the script on standard input runs over a built-in tree: senders 0 and 1, each with a
+queue of two packets, and a PrioSched that asks the queue of sender 0 first.
+
+Examples:
+  printf 'send 0 100\\npull 0\\n' | clickpull
+  clickpull check uplink.click
+  clickpull script uplink.click morning.script
+  clickpull run uplink.click morning.trace
+
+Exit status:
+  0  done
+  1  a fault: one line on standard error tells it, as 'fault 16: BadScript 2' of a script's second line
+  2  the words after the program's name are wrong: standard error says how";
+
+/// The words of the whole program.
+fn program<'a>(alloc: Global) -> Result<Command<'a>, AllocError>
+    ensures { IfOk result (λ c. Reads c program_words) }
+{
+    top(alloc)?
+        .subcommand(check(alloc)?)?
+        .subcommand(script(alloc)?)?
+        .subcommand(run(alloc)?)
+}
+
+/// What stands above the commands.
+fn top<'a>(alloc: Global) -> Result<Command<'a>, AllocError>
+    ensures { IfOk result (λ c. Reads c top_words) }
+{
+    titled(alloc, "clickpull", ABOUT, MORE)
+        .no_binary_name(true)
+        .version("0.1.0")
+        .bin_name("clickpull")
+}
+
+/// A command of this name without words, and what help says of it.
+fn titled<'a>(alloc: Global, name: &'a str, about: &'a str, more: &'a str) -> Command<'a>
+    ensures { Reads result (new_app name.now) }
+{
+    Command::new(alloc, name).about(about).after_help(more)
+}
+
+const TREE_MEANS: &str =
+    "A file with a tree in Click's language: elements, as 'q :: Queue(10);', and connections, as 's -> q -> d;'";
+
+const CHECK_DOES: &str = "Checks a tree, and prints its canonical text";
+
+const CHECK_MORE: &str = "\
+The canonical text has a line for each element, with all its arguments, and then a line for each connection.
+Of a tree that is wrong, the fault tells the first mistake, by its offset in bytes.
+
+Example:
+  clickpull check uplink.click > uplink.canonical.click";
+
+fn check<'a>(alloc: Global) -> Result<Command<'a>, AllocError>
+    ensures { IfOk result (λ c. Reads c check_words) }
+{
+    titled(alloc, "check", CHECK_DOES, CHECK_MORE).arg(file(alloc, TREE, TREE_MEANS))
+}
+
+const SCRIPT_MEANS: &str =
+    "A file with a command a line: 'send S L', 'pull M' or 'pull M D', or at the end 'drain M'";
+
+const SCRIPT_DOES: &str = "Runs a script over a tree, and prints what becomes of each packet";
+
+const SCRIPT_MORE: &str = "\
+Commands of a script:
+  send S L  sender S offers its next packet, of L bytes (1 to 65535), to its queue
+  pull M    the link pulls at moment M, in ticks (0 to 1099511627775)
+  pull M D  pulls device D (from 0, in order of declaration) at moment M; 'pull M' pulls device 0
+  drain M   the link pulls one tick apart until every packet is out, first one tick after M, or after the moment so
+            far where that is later; then each sender is accounted for
+
+Of a tree with several devices the line of a pull names the device, as 'pull 3 1: none', and a drain empties them
+one after the other, each first one tick after M, or after its own moment so far where that is later.
+
+The tree is read and checked before the script is opened, and the whole script before anything is printed.
+With --visits FILE the log of its pulls is written to FILE after the answer, as CSV with a row for each visit
+that a scheduler or the link made. A file that is there is overwritten.
+
+Examples:
+  clickpull script uplink.click morning.script
+  clickpull script --visits morning.csv uplink.click morning.script";
+
+const VISITS_MEANS: &str = "Writes the log of the visits to FILE, as CSV";
+
+fn script<'a>(alloc: Global) -> Result<Command<'a>, AllocError>
+    ensures { IfOk result (λ c. Reads c script_words) }
+{
+    titled(alloc, "script", SCRIPT_DOES, SCRIPT_MORE)
+        .arg(file(alloc, TREE, TREE_MEANS))?
+        .arg(file(alloc, SCRIPT, SCRIPT_MEANS))?
+        .arg(visits(alloc))
+}
+
+const TRACE_MEANS: &str = "A file with a record a line, 'S,L': sender S sends a packet of L bytes";
+
+const STEP_MEANS: &str = "Pulls each device once every N ticks while senders send: 1 to 1000";
+
+const LIMIT_MEANS: &str = "Pulls each device N times at most while senders send: 1 to 1000000";
+
+const RUN_DOES: &str = "Runs a trace over a tree, each sender on a thread, and accounts for each";
+
+const RUN_MORE: &str = "\
+Each sender has a thread of its own, and offers its packets of the trace in order, as fast as it can. Meanwhile
+each device is pulled, first at moment N of --step, until all have sent what they send or it was pulled as often
+as --limit lets it. Then the devices are emptied one after the other, each pulled one tick apart until every
+packet is out, and each sender is accounted for. Most trees have one device, the link.
+
+How the senders' packets mix, and which of them a full queue refuses or drops, may differ from run to run. Where
+the queues have room for all that is sent, the report is the same in each.
+
+A record of the trace has sender S (0 to 65535) send a packet of L bytes (1 to 65535). The tree is read and
+checked before the trace is opened, and the whole trace before anything is sent. With --visits FILE the log of
+the pulls is written to FILE after the report, as CSV with a row for each visit that a scheduler or a device
+made. A file that is there is overwritten.
+
+Examples:
+  clickpull run uplink.click morning.trace
+  clickpull run --step 10 --limit 100000 --visits morning.csv uplink.click morning.trace";
+
+fn run<'a>(alloc: Global) -> Result<Command<'a>, AllocError>
+    ensures { IfOk result (λ c. Reads c run_words) }
+{
+    titled(alloc, "run", RUN_DOES, RUN_MORE)
+        .arg(file(alloc, TREE, TREE_MEANS))?
+        .arg(file(alloc, TRACE, TRACE_MEANS))?
+        .arg(number(alloc, STEP, MAX_STEP, "1", STEP_MEANS))?
+        .arg(number(alloc, LIMIT, MAX_LIMIT, "1000", LIMIT_MEANS))?
+        .arg(visits(alloc))
+}
+
+/// The option that names a file for the visits.
+fn visits<'a>(alloc: Global) -> Arg<'a>
+    ensures { IsWord result (file_option (codes "visits")) }
+{
+    Arg::new(alloc, VISITS)
+        .long(VISITS)
+        .value_name("FILE")
+        .help(VISITS_MEANS)
+}
+
+/// An option that is a number from 1 to `most`.
+fn number<'a>(alloc: Global, name: &'a str, most: u32, default: &'a str, help: &'a str) -> Arg<'a>
+    ensures { IsWord result (number_option name.now most default.now) }
+{
+    Arg::new(alloc, name)
+        .long(name)
+        .value_name("N")
+        .value_parser(value_parser!(u32).range(1..=i64::from(most)))
+        .default_value(default)
+        .help(help)
+}
+
+/// A word that names a file.
+fn file<'a>(alloc: Global, name: &'a str, help: &'a str) -> Arg<'a>
+    ensures { IsWord result (file_word name.now) }
+{
+    Arg::new(alloc, name).required(true).help(help)
+}

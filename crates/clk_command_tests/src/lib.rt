@@ -1,0 +1,19 @@
+//! Tests of clk_command, by its public calls alone: the program by its words, and what it does for each.
+#![tactic(auto)]
+
+#[cfg(test)]
+mod command;
+#[cfg(test)]
+mod examples;
+#[cfg(test)]
+mod fault_lines;
+#[cfg(test)]
+mod files;
+#[cfg(test)]
+mod running;
+#[cfg(test)]
+mod visits;
+
+/// How many bytes a writer takes that isn't meant to fail.
+#[cfg(test)]
+const AMPLE: usize = 4096;
