@@ -4,11 +4,17 @@
 #[cfg(test)]
 mod command;
 #[cfg(test)]
+mod cut_off;
+#[cfg(test)]
 mod examples;
 #[cfg(test)]
 mod fault_lines;
 #[cfg(test)]
 mod files;
+#[cfg(test)]
+mod fronts;
+#[cfg(test)]
+mod rows;
 #[cfg(test)]
 mod running;
 #[cfg(test)]

@@ -1,5 +1,6 @@
 //! Sources, sinks and lists of packets.
 
+mod fronts;
 mod texts;
 mod traces;
 

@@ -7,6 +7,7 @@ mod kinds;
 mod limits;
 mod memory;
 mod queues;
+mod refusals;
 pub mod row;
 mod rows;
 mod text;
