@@ -74,6 +74,8 @@ fn scripts_are_answered(rt: HostRuntime) -> Result<(), Fail> {
     for (tree, script, answer, visits) in SCRIPTS {
         write(&rt, "out/example.click", tree)?;
         write(&rt, "out/example.script", script)?;
+        let words = "script out/example.click out/example.script";
+        assert_writes(&rt, words, Ok(0), answer.as_bytes());
         let words = "script out/example.click out/example.script --visits out/example.csv";
         assert_writes(&rt, words, Ok(0), answer.as_bytes());
         if !visits.is_empty() {

@@ -13,6 +13,8 @@ mod library;
 #[cfg(test)]
 mod memory;
 #[cfg(test)]
+mod refusals;
+#[cfg(test)]
 mod running;
 #[cfg(test)]
 mod shared;

@@ -275,7 +275,8 @@ fn one_pull_while_producers_run(rt: HostRuntime) -> Result<(), Fault> {
     let alloc = rt.alloc();
     let traces = traces(alloc, records(alloc, b"01234567", 100)?)?;
     let outcome = run_text(&rt, alloc, EIGHT_SENDERS, &traces, 1, &Free)?;
-    assert_all_accounted(&rt, alloc, &traces, &outcome, 8)
+    assert_all_accounted(&rt, alloc, &traces, &outcome, 8)?;
+    assert_all_accepted(&rt, alloc, &traces, &outcome)
 }
 
 #[test]

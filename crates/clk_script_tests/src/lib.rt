@@ -14,6 +14,8 @@ mod in_order;
 #[cfg(test)]
 mod limits;
 #[cfg(test)]
+mod logged;
+#[cfg(test)]
 mod queues;
 #[cfg(test)]
 mod row;

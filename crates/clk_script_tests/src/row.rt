@@ -1,5 +1,6 @@
 //! What is done with a script in a row.
 
+use crate::logged::assert_logged;
 use clk_packet::{FailingSink, FailingSource, Fault};
 use clk_report::visits_csv;
 use clk_sched::Visit;
@@ -16,6 +17,14 @@ pub fn assert_writes(rt: &impl Abort, alloc: Global, tree: &str, script: &str, e
     let (outcome, written) = run(alloc, tree, script).expect(rt, "ample memory");
     assert_eq!(rt; outcome, Ok(()));
     assert_eq!(rt; written.as_slice(), expected.as_bytes());
+    assert_logged(
+        rt,
+        alloc,
+        tree,
+        script.as_bytes(),
+        Ok(()),
+        expected.as_bytes(),
+    );
 }
 
 /// Fails unless a script over a tree ends by this fault, with nothing written.
@@ -23,6 +32,7 @@ pub fn assert_refused(rt: &impl Abort, alloc: Global, tree: &str, script: &str, 
     let (outcome, written) = run(alloc, tree, script).expect(rt, "ample memory");
     assert_eq!(rt; outcome, Err(expected));
     assert!(rt; written.is_empty());
+    assert_logged(rt, alloc, tree, script.as_bytes(), Err(expected), &[]);
 }
 
 /// A script over a tree, under the name of what it shows.
@@ -43,6 +53,14 @@ pub fn assert_rows(rt: &impl Abort, alloc: Global, rows: &[Row]) {
         let (outcome, written) = run(alloc, row.tree, row.script).expect(rt, "ample memory");
         assert_eq!(rt; outcome, Ok(()), "at {name}");
         assert_eq!(rt; written.as_slice(), row.written.as_bytes(), "at {name}");
+        assert_logged(
+            rt,
+            alloc,
+            row.tree,
+            row.script.as_bytes(),
+            Ok(()),
+            row.written.as_bytes(),
+        );
         if !row.visits.is_empty() {
             assert_visits(rt, alloc, row);
         }

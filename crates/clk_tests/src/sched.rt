@@ -3,9 +3,11 @@
 
 mod closing;
 mod constructors;
+mod growths;
 mod kinds;
 mod limits;
 mod memory;
+mod pieces;
 mod queues;
 mod refusals;
 pub mod row;

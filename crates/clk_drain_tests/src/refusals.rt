@@ -1,0 +1,104 @@
+//! Runs of two devices, and runs that keep no visits, where memory or a thread is refused. tests/refuse-memory has each allocation and
+//! each thread of these tests refused in turn.
+
+use crate::gates::{Calls, Counted};
+use crate::running::{records, traces};
+use clk_drain::{Outcome, run_with};
+use clk_packet::{Fault, Traces};
+use clk_tree::Plan;
+use std::alloc::Global;
+use std::process::Abort;
+use std::sync::Wait;
+use std::thread::Threads;
+
+/// Two devices, with a DRRSched over two queues and a queue of two senders.
+const TWO_DEVICES: &str = "s0 :: Sender(0); s1 :: Sender(1); p, q :: Queue(50); x :: DRRSched(500); a :: ToDevice(link); s0 -> p -> x; s1 -> q -> [1] x; x -> a;
+    s2 :: Sender(2); s3 :: Sender(3); r :: FrontDropQueue(100); b :: ToDevice(link); s2 -> r; s3 -> r; r -> b;";
+
+/// How many packets each of the four senders sends.
+const EACH: u32 = 50;
+
+/// What is called, and may be refused.
+#[derive(Clone, Copy, Debug, PartialEq, Eq)]
+enum Call {
+    Run,
+    // What the test itself makes for the run.
+    Setup,
+}
+
+// The first refusal is the only one, since it is one allocation or one thread that fails.
+#[test]
+fn two_devices_are_run_again(rt: HostRuntime) {
+    assert_eq!(rt; met_refusal(&rt, rt.alloc(), true), None);
+}
+
+#[test]
+fn a_run_without_visits_is_made_again(rt: HostRuntime) {
+    assert_eq!(rt; met_refusal(&rt, rt.alloc(), false), None);
+}
+
+// Runs the devices, and again where the run was refused, and answers what was refused.
+fn met_refusal<R: Threads + Wait + Abort + Sync>(
+    rt: &R,
+    alloc: Global,
+    visits: bool,
+) -> Option<Call> {
+    match four_senders(alloc) {
+        Ok((plan, traces)) => refused_run(rt, alloc, &plan, &traces, visits),
+        Err(fault) => {
+            assert_eq!(rt; fault, Fault::Memory);
+            Some(Call::Setup)
+        }
+    }
+}
+
+// The plan of the devices, and what their senders send.
+fn four_senders(alloc: Global) -> Result<(Plan, Traces), Fault> {
+    let plan = Plan::read(alloc, TWO_DEVICES.as_bytes())?;
+    let traces = traces(alloc, records(alloc, b"0123", EACH)?)?;
+    Ok((plan, traces))
+}
+
+// Once a run was refused all its threads have ended, so that none calls its gate. With one pull at most a run always asks for memory as
+// often.
+fn refused_run<R: Threads + Wait + Abort + Sync>(
+    rt: &R,
+    alloc: Global,
+    plan: &Plan,
+    traces: &Traces,
+    visits: bool,
+) -> Option<Call> {
+    let gate = Counted {
+        calls: Calls::none(),
+    };
+    let Err(fault) = run_once(rt, alloc, plan, traces, &gate, visits) else {
+        return None;
+    };
+    assert!(rt; gate.calls.have_ended(), "no thread goes on");
+    assert_eq!(rt; fault, Fault::Memory);
+    assert_eq!(rt; run_once(rt, alloc, plan, traces, &gate, visits), Ok(()));
+    Some(Call::Run)
+}
+
+// Fails unless all packets come out, each at the device of its sender, where the run isn't refused.
+fn run_once<R: Threads + Wait + Abort + Sync>(
+    rt: &R,
+    alloc: Global,
+    plan: &Plan,
+    traces: &Traces,
+    gate: &Counted,
+    visits: bool,
+) -> Result<(), Fault> {
+    let outcome = run_with(rt, alloc, rt, plan, traces, 1, 1, gate, visits)?;
+    assert_all_came_out(rt, &outcome);
+    assert_eq!(rt; outcome.logs.len(), if visits { 2 } else { 0 });
+    Ok(())
+}
+
+fn assert_all_came_out(rt: &impl Abort, outcome: &Outcome) {
+    assert_eq!(rt; outcome.emitted.len(), 2);
+    for (device, emitted) in outcome.emitted.iter().enumerate() {
+        assert_eq!(rt; emitted.len(), 2 * EACH as usize);
+        assert!(rt; emitted.iter().all(|packet| usize::from(packet.sender) / 2 == device));
+    }
+}

@@ -1,0 +1,44 @@
+//! Scripts whose visits are kept: each ends as it does where none are, and writes the same.
+
+use clk_packet::{FailingSink, FailingSource, Fault};
+use clk_script::run_script_logged;
+use clk_tree::Plan;
+use std::alloc::Global;
+use std::process::Abort;
+
+/// Fails unless a script whose visits are kept ends so over a tree, and writes just this.
+pub fn assert_logged(
+    rt: &impl Abort,
+    alloc: Global,
+    tree: &str,
+    script: &[u8],
+    outcome: Result<(), Fault>,
+    expected: &[u8],
+) {
+    let run = logged(alloc, tree, script, expected.len());
+    let (ended, written) = run.expect(rt, "ample memory");
+    assert_eq!(rt;
+        (ended, written.as_slice()),
+        (outcome, expected),
+        "with visits, at {script:?}"
+    );
+}
+
+// How it ends, and what it writes, where the writer fails once it has taken `room` bytes.
+fn logged(
+    alloc: Global,
+    tree: &str,
+    script: &[u8],
+    room: usize,
+) -> Result<(Result<(), Fault>, Vec<u8>), Fault> {
+    let mut reader = FailingSource::new(script.to_vec(alloc)?, usize::MAX);
+    let mut writer = FailingSink::new(vec![in alloc; 0; room]?);
+    let outcome = match Plan::read(alloc, tree.as_bytes()) {
+        Ok(plan) => match run_script_logged(alloc, &mut reader, &mut writer, &plan) {
+            Ok(_) => Ok(()),
+            Err(fault) => Err(fault),
+        },
+        Err(fault) => Err(fault),
+    };
+    Ok((outcome, writer.taken().to_vec(alloc)?))
+}

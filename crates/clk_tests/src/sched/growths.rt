@@ -1,0 +1,211 @@
+//! Sessions that keep what they are told to, where memory is refused. tests/refuse-memory has each allocation of the tests refused in
+//! turn.
+
+use super::queues::Queues;
+use super::trees::drr_over_two;
+use clk_packet::{Fault, Packet};
+use clk_sched::{Departure, Keeps, Kernel, Tree, Unlogged};
+use std::alloc::Global;
+use std::process::Abort;
+
+/// What is called, and may be refused.
+#[derive(Clone, Copy, Debug, PartialEq, Eq)]
+enum Call {
+    // What the test itself makes.
+    Setup,
+    New,
+    Pull,
+    HeldHeads,
+    Close,
+}
+
+/// The lengths of the packets that each of two senders sends.
+const LENGTHS: [u16; 3] = [100, 600, 200];
+
+/// How many packets they send in all.
+const SENT: u64 = 6;
+
+/// Each pull by its moment, with the sender, number and length of the packet that it gives, worked out by hand.
+const PULLS: [(u32, u16, u32, u16); 4] = [(0, 0, 0, 100), (3, 1, 0, 100), (3, 0, 1, 600), (9, 0, 2, 200)];
+
+/// The packet that is held then, and the last to come out.
+const HELD: Packet = Packet {
+    number: 1,
+    sender: 1,
+    length: 600,
+};
+
+const LAST: Packet = Packet {
+    number: 2,
+    sender: 1,
+    length: 200,
+};
+
+/// When it is closed. Three pulls do it.
+const CLOSED: u64 = 20;
+
+// A tree, and queues with all packets in them.
+fn setup(rt: &impl Abort, alloc: Global) -> Result<(Tree, Queues), Fault> {
+    let mut queues = Queues::new(alloc, 2)?;
+    for sender in 0..2 {
+        queues.send(rt, sender, &LENGTHS)?;
+    }
+    Ok((drr_over_two(alloc, 500, 300)?, queues))
+}
+
+// A call's answer, or the call, where memory was refused.
+fn answer<T: Drop>(rt: &impl Abort, call: Call, answer: Result<T, Fault>) -> Result<T, Call> {
+    answer.map_err(|fault| {
+        assert_eq!(rt; fault, Fault::Memory);
+        call
+    })
+}
+
+/// A session that keeps what it is told to, and the call that was refused.
+#[derive(Drop)]
+struct Kept {
+    kernel: Kernel,
+    queues: Queues,
+    refused: Option<Call>,
+}
+
+impl Kept {
+    fn new(rt: &impl Abort, alloc: Global, keeps: Keeps) -> Kept {
+        match Kept::made(rt, alloc, keeps) {
+            Ok(kept) => kept,
+            Err(call) => {
+                let mut kept = Kept::made(rt, alloc, keeps).expect(rt, "memory");
+                kept.refused = Some(call);
+                kept
+            }
+        }
+    }
+
+    fn made(rt: &impl Abort, alloc: Global, keeps: Keeps) -> Result<Kept, Call> {
+        let (tree, queues) = answer(rt, Call::Setup, setup(rt, alloc))?;
+        assert!(rt; tree.leaves_distinct());
+        let kernel = answer(rt, Call::New, Kernel::new(alloc, tree, keeps))?;
+        Ok(Kept {
+            kernel,
+            queues,
+            refused: None,
+        })
+    }
+
+    // Notes that a call met the refusal.
+    fn note(&mut self, rt: &impl Abort, call: Call, fault: Fault) {
+        assert_eq!(rt; (fault, self.refused), (Fault::Memory, None));
+        self.refused = Some(call);
+    }
+
+    // A refused pull has changed nothing, and where nothing is kept none is refused.
+    fn pull(&mut self, rt: &impl Abort, moment: u32, expected: Packet, keeps: Keeps) {
+        let before = self.state();
+        let mut got = self.pull_once(rt, moment);
+        if let Err(fault) = got {
+            assert!(rt; keeps.visits || keeps.packets);
+            self.note(rt, Call::Pull, fault);
+            assert_eq!(rt; self.state(), before);
+            got = self.pull_once(rt, moment);
+        }
+        assert_eq!(rt; got, Ok(Some(expected)));
+    }
+
+    fn pull_once(&mut self, rt: &impl Abort, moment: u32) -> Result<Option<Packet>, Fault> {
+        assert!(rt; self.kernel.pulls() < 1 << 63);
+        self.kernel.pull(&mut self.queues, u64::from(moment))
+    }
+
+    // How many visits are kept, how many pulls were made, and how many packets came out.
+    fn state(&self) -> (usize, u64, u64) {
+        let visits = self.kernel.log().len();
+        (visits, self.kernel.pulls(), self.kernel.count_emitted())
+    }
+
+    fn held_heads(&mut self, rt: &impl Abort, alloc: Global) {
+        let mut heads = self.kernel.held_heads(alloc);
+        if let Err(fault) = heads {
+            self.note(rt, Call::HeldHeads, fault);
+            heads = self.kernel.held_heads(alloc);
+        }
+        assert_eq!(rt; heads.expect(rt, "memory").as_slice(), [HELD].as_slice());
+    }
+
+    // Three pulls in all do it, also where one was refused, and the last gives the last packet.
+    fn close(&mut self, rt: &impl Abort, alloc: Global) {
+        let mut departures = self.close_left(rt, alloc);
+        if let Err(fault) = departures {
+            self.note(rt, Call::Close, fault);
+            departures = self.close_left(rt, alloc);
+        }
+        let last = Departure {
+            moment: CLOSED + 3,
+            packet: LAST,
+        };
+        assert_eq!(rt; departures.expect(rt, "memory").last(), Some(&last));
+        assert_eq!(rt; self.kernel.count_emitted(), SENT);
+    }
+
+    fn close_left(&mut self, rt: &impl Abort, alloc: Global) -> Result<Vec<Departure>, Fault> {
+        let left = SENT.saturating_sub(self.kernel.count_emitted());
+        assert!(rt; left <= SENT);
+        assert!(rt; self.kernel.now() < 1 << 40);
+        assert!(rt; self.kernel.pulls() < 1 << 62);
+        self.kernel.close(alloc, &mut self.queues, left, CLOSED)
+    }
+}
+
+// Makes each call, and again where it was refused, and answers which was.
+fn met_refusal(rt: &impl Abort, alloc: Global, keeps: Keeps) -> Option<Call> {
+    let mut kept = Kept::new(rt, alloc, keeps);
+    for (moment, sender, number, length) in PULLS {
+        assert!(rt; length >= 1);
+        let packet = Packet {
+            number,
+            sender,
+            length,
+        };
+        kept.pull(rt, moment, packet, keeps);
+    }
+    kept.held_heads(rt, alloc);
+    kept.close(rt, alloc);
+    kept.refused
+}
+
+// The first refusal is the only one, since it is one allocation that fails.
+#[test]
+fn a_refused_call_is_made_again(rt: HostRuntime) {
+    let mut refused = None;
+    for (visits, packets) in [(false, false), (false, true), (true, false), (true, true)] {
+        let met = met_refusal(&rt, rt.alloc(), Keeps { visits, packets });
+        assert!(rt; refused.is_none() || met.is_none());
+        refused = refused.or(met);
+    }
+    assert_eq!(rt; refused, None);
+}
+
+// Makes each call of a session that keeps nothing, up to the one that is refused. Its pulls and drains have no answer for that.
+fn unlogged(rt: &impl Abort, alloc: Global) -> Result<(), Call> {
+    let (tree, mut queues) = answer(rt, Call::Setup, setup(rt, alloc))?;
+    assert!(rt; tree.leaves_distinct());
+    let mut session = answer(rt, Call::New, Unlogged::new(alloc, tree))?;
+    for (moment, _, _, _) in PULLS {
+        assert!(rt; session.pulls() < 1 << 63);
+        assert!(rt; session.pull(&mut queues, u64::from(moment)).is_some());
+    }
+    let heads = answer(rt, Call::HeldHeads, session.held_heads(alloc))?;
+    assert_eq!(rt; heads.as_slice(), [HELD].as_slice());
+    assert!(rt; session.now() < 1 << 40);
+    assert!(rt; session.pulls() < 1 << 62);
+    assert_eq!(rt; session.drain(&mut queues, 2, CLOSED), Ok(3));
+    Ok(())
+}
+
+#[test]
+fn a_session_without_a_log_is_made_again(rt: HostRuntime) {
+    let refused = unlogged(&rt, rt.alloc()).err();
+    if refused.is_some() {
+        assert_eq!(rt; unlogged(&rt, rt.alloc()), Ok(()));
+    }
+    assert_eq!(rt; refused, None);
+}
