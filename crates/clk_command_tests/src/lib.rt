@@ -14,6 +14,8 @@ mod files;
 #[cfg(test)]
 mod fronts;
 #[cfg(test)]
+mod over;
+#[cfg(test)]
 mod rows;
 #[cfg(test)]
 mod running;
