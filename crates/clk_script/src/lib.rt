@@ -24,3 +24,4 @@ pub use laws::{
     scripts_have_at_most_one_meaning, word_examples,
 };
 pub use run::{run_script, run_script_logged};
+pub use script::{Command, Line};

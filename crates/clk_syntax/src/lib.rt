@@ -17,8 +17,9 @@ pub use laws::{
     wrong_tokens_cannot_be_mended,
 };
 pub use naming::Named;
-pub use naming::class::{Class, Role, letters};
+pub use naming::class::{Class, ClassName, Role, letters};
 pub use node::{Link, Node};
 pub use reading::named_text;
+pub use texts::lexer::Piece;
 pub use texts::statements::{Connection, Declaration, Statements};
 pub use texts::token::{Symbol, Token};
