@@ -83,7 +83,8 @@ fn eight_senders_one_queue(rt: HostRuntime) -> Result<(), Fail> {
     Ok(())
 }
 
-const DRR_OVER_TWO: &str = "s0 :: Sender(0); s1 :: Sender(1); q0, q1 :: Queue; x :: DRRSched(500); d :: ToDevice(link);
+const DRR_OVER_TWO: &str =
+    "s0 :: Sender(0); s1 :: Sender(1); q0, q1 :: Queue; x :: DRRSched(500); d :: ToDevice(link);
 s0 -> q0 -> [0] x; s1 -> q1 -> [1] x; x -> d;";
 
 #[test]
@@ -93,12 +94,7 @@ fn an_empty_trace_is_reported(rt: HostRuntime) -> Result<(), Fail> {
     let report = b"sender 0: sent 0 0, accepted 0 0, refused 0 0, evicted 0 0, emitted 0 0
 sender 1: sent 0 0, accepted 0 0, refused 0 0, evicted 0 0, emitted 0 0
 ";
-    assert_writes(
-        &rt,
-        "run out/shares.click out/empty.trace",
-        Ok(0),
-        report,
-    );
+    assert_writes(&rt, "run out/shares.click out/empty.trace", Ok(0), report);
     Ok(())
 }
 
