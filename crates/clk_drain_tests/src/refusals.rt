@@ -12,7 +12,8 @@ use std::sync::Wait;
 use std::thread::Threads;
 
 /// Two devices, with a DRRSched over two queues and a queue of two senders.
-const TWO_DEVICES: &str = "s0 :: Sender(0); s1 :: Sender(1); p, q :: Queue(50); x :: DRRSched(500); a :: ToDevice(link); s0 -> p -> x; s1 -> q -> [1] x; x -> a;
+const TWO_DEVICES: &str =
+    "s0 :: Sender(0); s1 :: Sender(1); p, q :: Queue(50); x :: DRRSched(500); a :: ToDevice(link); s0 -> p -> x; s1 -> q -> [1] x; x -> a;
     s2 :: Sender(2); s3 :: Sender(3); r :: FrontDropQueue(100); b :: ToDevice(link); s2 -> r; s3 -> r; r -> b;";
 
 /// How many packets each of the four senders sends.
@@ -99,6 +100,10 @@ fn assert_all_came_out(rt: &impl Abort, outcome: &Outcome) {
     assert_eq!(rt; outcome.emitted.len(), 2);
     for (device, emitted) in outcome.emitted.iter().enumerate() {
         assert_eq!(rt; emitted.len(), 2 * EACH as usize);
-        assert!(rt; emitted.iter().all(|packet| usize::from(packet.sender) / 2 == device));
+        assert!(rt;
+            emitted
+                .iter()
+                .all(|packet| usize::from(packet.sender) / 2 == device)
+        );
     }
 }

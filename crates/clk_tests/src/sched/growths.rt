@@ -26,7 +26,12 @@ const LENGTHS: [u16; 3] = [100, 600, 200];
 const SENT: u64 = 6;
 
 /// Each pull by its moment, with the sender, number and length of the packet that it gives, worked out by hand.
-const PULLS: [(u32, u16, u32, u16); 4] = [(0, 0, 0, 100), (3, 1, 0, 100), (3, 0, 1, 600), (9, 0, 2, 200)];
+const PULLS: [(u32, u16, u32, u16); 4] = [
+    (0, 0, 0, 100),
+    (3, 1, 0, 100),
+    (3, 0, 1, 600),
+    (9, 0, 2, 200),
+];
 
 /// The packet that is held then, and the last to come out.
 const HELD: Packet = Packet {

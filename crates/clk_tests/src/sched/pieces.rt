@@ -44,12 +44,7 @@ fn tree_of(alloc: Global, shape: Shape) -> Result<Tree, Fault> {
 }
 
 // The log of a session that keeps all of it.
-fn log_of(
-    rt: &impl Abort,
-    alloc: Global,
-    shape: Shape,
-    left: u64,
-) -> Result<Vec<Visit>, Fault> {
+fn log_of(rt: &impl Abort, alloc: Global, shape: Shape, left: u64) -> Result<Vec<Visit>, Fault> {
     let steps = [
         Send(0, &LENGTHS),
         Send(1, &LENGTHS),
