@@ -1,9 +1,12 @@
 //! The program by its words, and what it does for each.
 
 mod command;
+mod cut_off;
 mod examples;
 mod fault_lines;
 mod files;
+mod fronts;
+mod rows;
 mod running;
 mod visits;
 

@@ -7,7 +7,7 @@ use std::fs;
 use std::test::Fail;
 
 /// Each example of a script: its tree, the script, the answer, and the visits, which are empty where it shows none.
-const SCRIPTS: [(&str, &str, &str, &str); 7] = [
+pub const SCRIPTS: [(&str, &str, &str, &str); 7] = [
     // branch-office
     (
         "// The uplink of a branch office: calls before all else; then office and guests, who share bytes three to one; and\n// telemetry, of which only the newest readings count, so that its queue drops at the front. All at two packets a tick.\ncalls :: Sender(10); office :: Sender(20); guests :: Sender(30); sensors :: Sender(40);\nqc :: Queue(20); qo, qg :: Queue(50);\nreadings :: FrontDropQueue(2);\nshares :: DRRSched(1500, 500);\nturns :: StrideSched(4, 1);\nurgent :: PrioSched;\npace :: Shaper(2, 2);\nuplink :: ToDevice(eth1);\n\ncalls -> qc -> [0] urgent;\noffice -> qo -> [0] shares; guests -> qg -> [1] shares;\nshares -> [0] turns;\nsensors -> readings -> [1] turns;\nturns -> [1] urgent;\nurgent -> pace -> uplink;\n",
@@ -60,7 +60,7 @@ const SCRIPTS: [(&str, &str, &str, &str); 7] = [
 ];
 
 /// Each example of a run: its tree, the trace and the report.
-const RUNS: [(&str, &str, &str); 1] = [
+pub const RUNS: [(&str, &str, &str); 1] = [
     // night-backup
     (
         "// At night three offices back up over one link, each from a queue with room for all that it sends. The head office takes\n// half of the bytes, and the others share the rest, for as long as all have something to send. Whatever the order in\n// which their packets come, nothing is lost.\nheadquarters :: Sender(1); branch :: Sender(2); depot :: Sender(3);\nh, b, d :: Queue(100);\nshares :: DRRSched(3000, 1500, 1500);\nlink :: ToDevice(wan0);\n\nheadquarters -> h -> [0] shares;\nbranch -> b -> [1] shares;\ndepot -> d -> [2] shares;\nshares -> link;\n",

@@ -1,0 +1,75 @@
+//! Standard output and standard error that fail in mid-stream: a front of the text went out.
+
+use super::AMPLE;
+use super::command::{Answered, answer_within};
+use super::files::write;
+use clk_packet::Fault;
+use std::process::Abort;
+use std::rt::Files;
+use std::sync::Wait;
+use std::test::Fail;
+use std::thread::Threads;
+
+const TREE: &str =
+    "s :: Sender(0); q :: Queue; sh :: Shaper(5); d :: ToDevice(eth0); s -> q -> sh /* 5 per tick */ -> d;";
+
+const CANONICAL: &str =
+    "s :: Sender(0);\nq :: Queue(1000);\nsh :: Shaper(5, 5);\nd :: ToDevice(eth0);\n\
+    s [0] -> [0] q;\nq [0] -> [0] sh;\nsh [0] -> [0] d;\n";
+
+const REPORT: &str = "sender 0: sent 2 30, accepted 2 30, refused 0 0, evicted 0 0, emitted 2 30\n";
+
+// What words come to.
+fn answered<H: Files + AllocGlobal + Threads + Wait + Sync + Abort>(
+    rt: &H,
+    words: &str,
+    room: usize,
+    errors_room: usize,
+) -> Answered {
+    answer_within(rt, words, room, errors_room).expect(rt, "ample memory")
+}
+
+// Fails unless words write this text to standard output, or as much of it as is taken before a failure, and nothing else.
+fn assert_written_so_far<H: Files + AllocGlobal + Threads + Wait + Sync + Abort>(
+    rt: &H,
+    words: &str,
+    text: &[u8],
+) {
+    for room in 0..text.len() {
+        let cut = answered(rt, words, room, AMPLE);
+        assert_eq!(rt; cut.outcome, Err(Fault::Write), "{words}, {room} bytes");
+        assert_eq!(rt; cut.written.as_slice(), &text[..room], "{words}");
+        assert!(rt; cut.told.is_empty(), "{words}");
+    }
+    let whole = answered(rt, words, text.len(), AMPLE);
+    assert_eq!(rt; whole.outcome, Ok(0), "{words}");
+    assert_eq!(rt; whole.written.as_slice(), text, "{words}");
+}
+
+#[test]
+fn standard_output_may_fail_after_any_byte(rt: HostRuntime) -> Result<(), Fail> {
+    write(&rt, "out/cut.click", TREE)?;
+    write(&rt, "out/cut.trace", "0,10\n0,20\n")?;
+    assert_written_so_far(&rt, "check out/cut.click", CANONICAL.as_bytes());
+    assert_written_so_far(&rt, "run out/cut.click out/cut.trace", REPORT.as_bytes());
+    for words in ["--help", "script --help"] {
+        let help = answered(&rt, words, AMPLE, AMPLE).written;
+        assert!(rt; !help.is_empty());
+        assert_written_so_far(&rt, words, &help);
+    }
+    Ok(())
+}
+
+#[test]
+fn standard_error_may_fail_after_any_byte(rt: HostRuntime) {
+    let text = answered(&rt, "frob", AMPLE, AMPLE).told;
+    assert!(rt; !text.is_empty());
+    for room in 0..text.len() {
+        let cut = answered(&rt, "frob", AMPLE, room);
+        assert_eq!(rt; cut.outcome, Err(Fault::Write), "{room} bytes");
+        assert_eq!(rt; cut.told.as_slice(), &text[..room]);
+        assert!(rt; cut.written.is_empty());
+    }
+    let whole = answered(&rt, "frob", AMPLE, text.len());
+    assert_eq!(rt; (whole.outcome, whole.told), (Ok(2), text));
+}

@@ -1,0 +1,70 @@
+//! Every front of each file of the examples: it is read, or refused by a fault that such a text can have.
+
+use super::AMPLE;
+use super::examples::{RUNS, SCRIPTS};
+use clk_packet::{FailingSink, FailingSource, Fault, FromRead, Traces};
+use clk_script::run_script;
+use clk_tree::Plan;
+use std::alloc::Global;
+use std::process::Abort;
+use std::test::Fail;
+
+/// The faults of a tree, of a script and of a trace, but for memory, reads and writes.
+const OF_TREES: [u8; 12] = [2, 3, 4, 5, 6, 7, 8, 9, 10, 11, 13, 18];
+
+const OF_SCRIPTS: [u8; 3] = [15, 16, 18];
+
+const OF_TRACES: [u8; 2] = [14, 18];
+
+// Fails unless this is no fault, or one of these.
+fn assert_listed(rt: &impl Abort, fault: Option<Fault>, listed: &[u8], bytes: usize) {
+    let fine = match fault {
+        Some(fault) => listed.contains(&fault.number()),
+        None => true,
+    };
+    assert!(rt; fine, "{fault:?} after {bytes} bytes");
+}
+
+fn assert_trees(rt: &impl Abort, alloc: Global, text: &[u8]) {
+    for bytes in 0..=text.len() {
+        let fault = Plan::read(alloc, &text[..bytes]).err();
+        assert_listed(rt, fault, &OF_TREES, bytes);
+    }
+}
+
+fn assert_traces(rt: &impl Abort, alloc: Global, text: &[u8]) {
+    for bytes in 0..=text.len() {
+        let fault = Traces::read_csv(alloc, &mut FromRead::new(&text[..bytes])).err();
+        assert_listed(rt, fault, &OF_TRACES, bytes);
+    }
+}
+
+// Where a script is refused nothing is written.
+fn assert_scripts(rt: &impl Abort, alloc: Global, plan: &Plan, text: &[u8]) -> Result<(), Fail> {
+    for bytes in 0..=text.len() {
+        let mut reader = FailingSource::new(text[..bytes].to_vec(alloc)?, usize::MAX);
+        let mut writer = FailingSink::new(vec![in alloc; 0; AMPLE]?);
+        let fault = run_script(alloc, &mut reader, &mut writer, plan).err();
+        assert!(rt; fault.is_none() || writer.taken().is_empty());
+        assert_listed(rt, fault, &OF_SCRIPTS, bytes);
+    }
+    Ok(())
+}
+
+#[test]
+fn fronts_of_scripts_and_their_trees_are_answered(rt: HostRuntime) -> Result<(), Fail> {
+    for (tree, script, ..) in SCRIPTS {
+        let plan = Plan::read(rt.alloc(), tree.as_bytes()).expect(&rt, "a tree");
+        assert_trees(&rt, rt.alloc(), tree.as_bytes());
+        assert_scripts(&rt, rt.alloc(), &plan, script.as_bytes())?;
+    }
+    Ok(())
+}
+
+#[test]
+fn fronts_of_traces_and_their_trees_are_answered(rt: HostRuntime) {
+    for (tree, trace, _) in RUNS {
+        assert_trees(&rt, rt.alloc(), tree.as_bytes());
+        assert_traces(&rt, rt.alloc(), trace.as_bytes());
+    }
+}
