@@ -256,12 +256,13 @@ def queues_below(top):
 
 def judge_moments(moments, step, limit, emits_last):
     """Pulls once each step, so many at most, and then closing pulls one tick apart, the last of which gives a packet."""
-    for made in range(min(limit, len(moments)), -1, -1):
-        pace = [it * step for it in range(1, made + 1)]
-        closing = [made * step + it for it in range(1, len(moments) - made + 1)]
-        if moments == pace + closing and (not closing or emits_last):
-            return
-    raise Broken(f"these are no moments of a run: {moments[:5]}.. {moments[-5:]}")
+    made = 0
+    while made < min(limit, len(moments)) and moments[made] == (made + 1) * step:
+        made += 1
+    # Of a step of one tick such a pull may be a closing one too, which goes on in the same way.
+    closing = [made * step + it for it in range(1, len(moments) - made + 1)]
+    expect(moments[made:] == closing, "these are no moments of a run:", moments[:5], "..", moments[made : made + 5], "..", moments[-5:])
+    expect(not closing or emits_last, "the last closing pull gives no packet")
 
 
 def judge_senders(queue, given, sent, report):
