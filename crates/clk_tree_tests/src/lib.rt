@@ -4,6 +4,8 @@
 #[cfg(test)]
 mod altered;
 #[cfg(test)]
+mod calling;
+#[cfg(test)]
 mod canonical;
 #[cfg(test)]
 mod faults;

@@ -1,0 +1,28 @@
+//! A session, pulled.
+
+ghost use Rattle.std.specs.Prelude.{◌≡◌, ◌<◌, ◌+◌, ℕ, true, length, OnOk};
+ghost use Rattle.clk_sched.specs.Conservation.{IsConserved};
+ghost use Rattle.clk_sched.specs.Limits.{end_of_moments};
+ghost use Rattle.clk_sched.specs.Log.{pulls};
+ghost use Rattle.clk_sched.specs.Run.{IsRun};
+ghost use Rattle.clk_sched.specs.Tree.{root, leaves, stands_in};
+
+use clk_packet::Fault;
+use clk_sched::{Ask, Session, runs_conserve_packets};
+
+/// Pulls a device twice at one moment. Whatever the queues answer, the log is a run of the tree with two pulls more, and nothing is lost:
+/// what a queue gave came out, in order, or is held as a head.
+pub fn pull_twice<Q: Ask>(session: &mut Session, queues: &mut Q, moment: u64) -> Result<(), Fault>
+    requires { moment < end_of_moments }
+    ensures run { OnOk result (IsRun session.new.tree session.new.log) }
+    ensures longer { OnOk result (length (pulls session.new.log) ≡ length (pulls session.old.log) + 2) }
+    ensures conserved { OnOk result ((q : ℕ) → stands_in q (leaves (root session.new.tree)) ≡ true → IsConserved session.new.tree session.new.log q) }
+{
+    // A law, which does nothing.
+    runs_conserve_packets();
+    session.pull(queues, moment)?;
+    session.pull(queues, moment)?;
+    // That no queue stands twice in the tree is known where the log is read.
+    let _ = session.log();
+    Ok(())
+}

@@ -1,0 +1,19 @@
+//! A caller of the library, which its page CALLING.md shows: what follows from its contracts.
+
+mod tree;
+
+use clk_packet::Fault;
+
+#[test]
+fn a_text_is_written_with_all_that_it_leaves_out(rt: HostRuntime) -> Result<(), Fault> {
+    let text = b"s :: Sender(0); q :: Queue; d :: ToDevice(link); s -> q -> d;";
+    let form = tree::canonical(rt.alloc(), text)?;
+    let expected =
+        "s :: Sender(0);\nq :: Queue(1000);\nd :: ToDevice(link);\ns [0] -> [0] q;\nq [0] -> [0] d;\n";
+    assert_eq!(rt; form.as_slice(), expected.as_bytes());
+    assert_eq!(rt;
+        tree::canonical(rt.alloc(), &form)?.as_slice(),
+        expected.as_bytes()
+    );
+    Ok(())
+}
