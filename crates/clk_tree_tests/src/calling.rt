@@ -1,5 +1,6 @@
-//! A caller of the library, which its page CALLING.md shows: what follows from its contracts.
+//! Callers of the libraries, which their pages CALLING.md show: what follows from their contracts.
 
+mod syntax;
 mod tree;
 
 use clk_packet::Fault;
@@ -16,4 +17,11 @@ fn a_text_is_written_with_all_that_it_leaves_out(rt: HostRuntime) -> Result<(), 
         expected.as_bytes()
     );
     Ok(())
+}
+
+#[test]
+fn a_name_that_is_not_declared_is_told(rt: HostRuntime) {
+    let fault = syntax::fault_of_names(rt.alloc(), b"q :: Queue; q -> d;");
+    assert_eq!(rt; fault, Some(Fault::UnknownName { offset: 17 }));
+    assert_eq!(rt; syntax::fault_of_names(rt.alloc(), b"q :: Queue;"), None);
 }

@@ -2,9 +2,9 @@
 
 ghost use Rattle.std.specs.Prelude.{◌≡◌, ◌≤◌, ◌⊎◌, List, length, IfOk, IfErr};
 ghost use Rattle.clk_packet.specs.declared.fault.Fault.TheVariants.{Memory};
-ghost use Rattle.clk_tree.specs.Limits.{most_bytes};
+ghost use Rattle.clk_syntax.specs.Limits.{most_bytes};
 ghost use Rattle.clk_tree.specs.Plan.{Planned, Denotes};
-ghost use Rattle.clk_tree.specs.Reading.{HasFault};
+ghost use Rattle.clk_syntax.specs.Reading.{HasFault};
 
 use clk_packet::Fault;
 use clk_tree::{Plan, texts_have_one_meaning};
