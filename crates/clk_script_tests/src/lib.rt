@@ -24,4 +24,6 @@ mod shaper;
 #[cfg(test)]
 mod stride;
 #[cfg(test)]
+mod text;
+#[cfg(test)]
 mod trees;
