@@ -2,6 +2,8 @@
 #![tactic(auto)]
 
 #[cfg(test)]
+mod answer;
+#[cfg(test)]
 mod command;
 #[cfg(test)]
 mod examples;
@@ -13,7 +15,3 @@ mod files;
 mod running;
 #[cfg(test)]
 mod visits;
-
-/// How many bytes a writer takes that isn't meant to fail.
-#[cfg(test)]
-const AMPLE: usize = 4096;
