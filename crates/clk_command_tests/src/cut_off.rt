@@ -1,7 +1,6 @@
 //! Standard output and standard error that fail in mid-stream: a front of the text went out.
 
-use crate::AMPLE;
-use crate::command::{Answered, answer_within};
+use crate::answer::{AMPLE, Answered, SCRIPT, answer};
 use crate::files::write;
 use clk_packet::Fault;
 use std::process::Abort;
@@ -26,7 +25,7 @@ fn answered<H: Files + AllocGlobal + Threads + Wait + Sync + Abort>(
     room: usize,
     errors_room: usize,
 ) -> Answered {
-    answer_within(rt, words, room, errors_room).expect(rt, "ample memory")
+    answer(rt, words, SCRIPT, room, errors_room).expect(rt, "ample memory")
 }
 
 // Fails unless words write this text to standard output, or as much of it as is taken before a failure, and nothing else.

@@ -1,7 +1,7 @@
 //! Every front of each file of the examples: it is read, or refused by a fault that such a text can have.
 
-use crate::AMPLE;
-use crate::examples::{RUNS, SCRIPTS};
+use crate::answer::AMPLE;
+use crate::examples::ROWS;
 use clk_packet::{FailingSink, FailingSource, Fault, FromRead, Traces};
 use clk_script::run_script;
 use clk_tree::Plan;
@@ -52,19 +52,19 @@ fn assert_scripts(rt: &impl Abort, alloc: Global, plan: &Plan, text: &[u8]) -> R
 }
 
 #[test]
-fn fronts_of_scripts_and_their_trees_are_answered(rt: HostRuntime) -> Result<(), Fail> {
-    for (tree, script, ..) in SCRIPTS {
+fn fronts_of_examples_are_answered(rt: HostRuntime) -> Result<(), Fail> {
+    for (files, words, ..) in ROWS {
+        let [(_, tree), (_, input)] = files else {
+            assert!(rt; false, "an example has two files");
+            continue;
+        };
         let plan = Plan::read(rt.alloc(), tree.as_bytes()).expect(&rt, "a tree");
         assert_trees(&rt, rt.alloc(), tree.as_bytes());
-        assert_scripts(&rt, rt.alloc(), &plan, script.as_bytes())?;
+        if words.starts_with("script") {
+            assert_scripts(&rt, rt.alloc(), &plan, input.as_bytes())?;
+        } else {
+            assert_traces(&rt, rt.alloc(), input.as_bytes());
+        }
     }
     Ok(())
-}
-
-#[test]
-fn fronts_of_traces_and_their_trees_are_answered(rt: HostRuntime) {
-    for (tree, trace, _) in RUNS {
-        assert_trees(&rt, rt.alloc(), tree.as_bytes());
-        assert_traces(&rt, rt.alloc(), trace.as_bytes());
-    }
 }

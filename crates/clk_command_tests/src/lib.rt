@@ -2,6 +2,8 @@
 #![tactic(auto)]
 
 #[cfg(test)]
+mod answer;
+#[cfg(test)]
 mod calling;
 #[cfg(test)]
 mod command;
@@ -23,7 +25,3 @@ mod rows;
 mod running;
 #[cfg(test)]
 mod visits;
-
-/// How many bytes a writer takes that isn't meant to fail.
-#[cfg(test)]
-const AMPLE: usize = 4096;

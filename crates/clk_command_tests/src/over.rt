@@ -1,6 +1,6 @@
 //! Tasks over sources and sinks that fail in mid-stream: what was written then, and what wasn't.
 
-use crate::AMPLE;
+use crate::answer::AMPLE;
 use clk_command::{check_tree, script_with_visits};
 use clk_packet::{FailingSink, FailingSource, Fault};
 use std::alloc::{AllocError, Global};

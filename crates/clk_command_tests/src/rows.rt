@@ -1,6 +1,6 @@
 //! Worked rows by the words of the program, over files.
 
-use crate::command::assert_writes;
+use crate::answer::assert_writes;
 use crate::files::write;
 use clk_packet::Fault;
 use csv::Reader;

@@ -1,10 +1,10 @@
 //! The last line of a script, which closes the router.
 
-use crate::row::{Row, assert_rows};
+use crate::row::Row;
 use crate::trees::{ONE, PRIO_OVER_ONE, PRIO_OVER_TWO, SHARED_BY_FIRST_AND_LAST};
 
 /// Scripts, and what they write.
-const ROWS: [Row; 6] = [
+pub const ROWS: [Row; 6] = [
     Row {
         name: "a report has each sender",
         tree: PRIO_OVER_TWO,
@@ -62,8 +62,3 @@ const ROWS: [Row; 6] = [
         visits: "",
     },
 ];
-
-#[test]
-fn rows_are_written(rt: HostRuntime) {
-    assert_rows(&rt, rt.alloc(), &ROWS);
-}

@@ -1,12 +1,12 @@
 //! Inputs with quanta, and heads.
 
-use crate::row::{Row, assert_rows};
+use crate::row::Row;
 use crate::trees::{
     DRR_1_OVER_ONE, DRR_500_1, DRR_500_1000, DRR_500_OVER_ONE, DRR_500_OVER_TWO, DRR_OVER_DRR,
 };
 
 /// Scripts, and what they write.
-const ROWS: [Row; 7] = [
+pub const ROWS: [Row; 7] = [
     Row {
         name: "a head waits for its deficit",
         tree: DRR_500_OVER_TWO,
@@ -84,8 +84,3 @@ const ROWS: [Row; 7] = [
         visits: "",
     },
 ];
-
-#[test]
-fn rows_are_written(rt: HostRuntime) {
-    assert_rows(&rt, rt.alloc(), &ROWS);
-}

@@ -1,10 +1,10 @@
 //! Inputs that are asked in order.
 
-use crate::row::{Row, assert_rows};
+use crate::row::Row;
 use crate::trees::{ROUND_ROBIN_OVER_THREE, ROUND_ROBIN_OVER_TWO};
 
 /// Scripts, and what they write.
-const ROWS: [Row; 2] = [
+pub const ROWS: [Row; 2] = [
     Row {
         name: "three queues take turns",
         tree: ROUND_ROBIN_OVER_THREE,
@@ -30,8 +30,3 @@ const ROWS: [Row; 2] = [
         2,1,1,1,1,0,1,1,0\n2,0,0,1,1,0,1,1,0\n",
     },
 ];
-
-#[test]
-fn rows_are_written(rt: HostRuntime) {
-    assert_rows(&rt, rt.alloc(), &ROWS);
-}

@@ -28,4 +28,6 @@ mod shaper;
 #[cfg(test)]
 mod stride;
 #[cfg(test)]
+mod text;
+#[cfg(test)]
 mod trees;

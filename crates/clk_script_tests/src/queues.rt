@@ -1,12 +1,12 @@
 //! Queues that are full, or that another has to wait for.
 
-use crate::row::{Row, assert_rows};
+use crate::row::Row;
 use crate::trees::{
     PRIO_OVER_FRONT_DROP, PRIO_OVER_ROOM_FOR_ONE, PRIO_OVER_ROOM_FOR_TWO, SHARED_FRONT_DROP,
 };
 
 /// Scripts, and what they write.
-const ROWS: [Row; 5] = [
+pub const ROWS: [Row; 5] = [
     Row {
         name: "a full queue refuses a packet",
         tree: PRIO_OVER_ROOM_FOR_ONE,
@@ -62,8 +62,3 @@ const ROWS: [Row; 5] = [
         2,1,0,1,,,,0,0\n2,1,1,1,,,,0,0\n2,0,0,1,,,,0,0\n",
     },
 ];
-
-#[test]
-fn rows_are_written(rt: HostRuntime) {
-    assert_rows(&rt, rt.alloc(), &ROWS);
-}

@@ -1,69 +1,60 @@
 //! What scripts write, and what they are refused for.
 
-use crate::row::{AMPLE, run_within};
-use crate::trees::PRIO_OVER_ROOM_FOR_TWO;
+use crate::row::{Answer, assert_ends};
+use crate::trees::PRIO_OVER_ROOM_FOR_TWO as TREE;
 use clk_packet::Fault;
-use std::alloc::{AllocError, Global};
-use std::test::Fail;
 
-// How a run of a script over two queues of two packets below a PrioSched ends, and what it wrote.
-fn answer(alloc: Global, script: &[u8]) -> Result<(Result<(), Fault>, Vec<u8>), AllocError> {
-    let script = script.to_vec(alloc)?;
-    run_within(alloc, PRIO_OVER_ROOM_FOR_TWO, script, usize::MAX, AMPLE)
-}
-
-/// Scripts, and what each writes.
-const SCRIPTS: [(&[u8], &[u8]); 7] = [
-    (b"", b""),
+/// A script writes a line for each command.
+pub const ANSWERED: [Answer; 8] = [
+    (TREE, b"", Ok(()), b""),
     (
+        TREE,
         b"send 0 100\nsend 1 50\npull 0\npull 0\npull 0\n",
+        Ok(()),
         b"0#0 100 accepted\n1#0 50 accepted\npull 0: 0#0 100\npull 0: 1#0 50\npull 0: none\n",
     ),
-    (b"pull 1099511627775\n", b"pull 1099511627775: none\n"),
-    (b"pull 0 \r\n", b"pull 0: none\n"),
+    (
+        TREE,
+        b"pull 1099511627775\n",
+        Ok(()),
+        b"pull 1099511627775: none\n",
+    ),
+    (TREE, b"pull 0 \r\n", Ok(()), b"pull 0: none\n"),
     // The one device may be named.
     (
+        TREE,
         b"send 0 10\npull 3 0\npull\t2  00000 \r\n",
+        Ok(()),
         b"0#0 10 accepted\npull 3: 0#0 10\npull 2: none\n",
     ),
     // A queue of two packets refuses the third, which takes a number all the same.
     (
+        TREE,
         b"send 0 10\nsend 0 20\nsend 0 30\nsend 1 5\npull 1\npull 1\npull 1\nsend 0 40\n",
+        Ok(()),
         b"0#0 10 accepted\n0#1 20 accepted\n0#2 30 refused\n1#0 5 accepted\n\
           pull 1: 0#0 10\npull 1: 0#1 20\npull 1: 1#0 5\n0#3 40 accepted\n",
     ),
     // Each sender numbers its own packets, and queue 0 goes before an older packet of queue 1. A pull's line has the
     // moment that was handed in, also where an earlier pull had a greater one.
     (
+        TREE,
         b"send 1 5\nsend 0 6\nsend 1 7\nsend 0 8\nsend 1 9\npull 3\npull 3\npull 2\npull 2\npull 2\n",
+        Ok(()),
         b"1#0 5 accepted\n0#0 6 accepted\n1#1 7 accepted\n0#1 8 accepted\n1#2 9 refused\n\
           pull 3: 0#0 6\npull 3: 0#1 8\npull 2: 1#0 5\npull 2: 1#1 7\npull 2: none\n",
     ),
-];
-
-#[test]
-fn a_script_writes_a_line_for_each_command(rt: HostRuntime) -> Result<(), Fail> {
-    for (script, expected) in SCRIPTS {
-        let (outcome, written) = answer(rt.alloc(), script)?;
-        assert_eq!(rt; outcome, Ok(()), "at {script:?}");
-        assert_eq!(rt; written.as_slice(), expected, "at {script:?}");
-    }
-    Ok(())
-}
-
-#[test]
-fn spaces_zeros_and_line_ends_may_vary(rt: HostRuntime) -> Result<(), Fail> {
-    let script = b"\tsend   0 \t 1500\t \r\n\r\n \t \r\n\n  \t\n\
+    // Spaces, zeros and line ends may vary.
+    (
+        TREE,
+        b"\tsend   0 \t 1500\t \r\n\r\n \t \r\n\n  \t\n\
         send 000000000000000000000000000000000 0000065535\r\n\
         \t pull\t0007  \n\
-        pull 00000000000000000000000001099511627775";
-    let expected =
-        b"0#0 1500 accepted\n0#1 65535 accepted\npull 7: 0#0 1500\npull 1099511627775: 0#1 65535\n";
-    let (outcome, written) = answer(rt.alloc(), script)?;
-    assert_eq!(rt; outcome, Ok(()));
-    assert_eq!(rt; written.as_slice(), expected.as_slice());
-    Ok(())
-}
+        pull 00000000000000000000000001099511627775",
+        Ok(()),
+        b"0#0 1500 accepted\n0#1 65535 accepted\npull 7: 0#0 1500\npull 1099511627775: 0#1 65535\n",
+    ),
+];
 
 /// Scripts whose first line is no command.
 const MALFORMED: [&[u8]; 32] = [
@@ -105,42 +96,77 @@ const MALFORMED: [&[u8]; 32] = [
 ];
 
 /// Other scripts, and why each is refused.
-const REFUSED: [(&[u8], Fault); 11] = [
-    (b"send 0 10\npull\n", Fault::BadScript { line: 2 }),
-    // After a drain no line may have a field.
-    (b"drain 0\npull 0\n", Fault::BadScript { line: 2 }),
-    (b"drain 0\ndrain 0\n", Fault::BadScript { line: 2 }),
-    (b"drain 0\nsend 7 10\n", Fault::BadScript { line: 2 }),
+pub const REFUSED: [Answer; 11] = [
     (
-        b"send 0 10\ndrain 0\n\n \t\r\nx",
-        Fault::BadScript { line: 5 },
+        TREE,
+        b"send 0 10\npull\n",
+        Err(Fault::BadScript { line: 2 }),
+        b"",
     ),
-    (b"send 7 10\n", Fault::UnknownSender { sender: 7 }),
+    // After a drain no line may have a field.
+    (
+        TREE,
+        b"drain 0\npull 0\n",
+        Err(Fault::BadScript { line: 2 }),
+        b"",
+    ),
+    (
+        TREE,
+        b"drain 0\ndrain 0\n",
+        Err(Fault::BadScript { line: 2 }),
+        b"",
+    ),
+    (
+        TREE,
+        b"drain 0\nsend 7 10\n",
+        Err(Fault::BadScript { line: 2 }),
+        b"",
+    ),
+    (
+        TREE,
+        b"send 0 10\ndrain 0\n\n \t\r\nx",
+        Err(Fault::BadScript { line: 5 }),
+        b"",
+    ),
+    (
+        TREE,
+        b"send 7 10\n",
+        Err(Fault::UnknownSender { sender: 7 }),
+        b"",
+    ),
     // There is no device but device 0.
-    (b"pull 0 1\n", Fault::BadScript { line: 1 }),
-    (b"send 0 10\npull 0 65535\n", Fault::BadScript { line: 2 }),
+    (TREE, b"pull 0 1\n", Err(Fault::BadScript { line: 1 }), b""),
+    (
+        TREE,
+        b"send 0 10\npull 0 65535\n",
+        Err(Fault::BadScript { line: 2 }),
+        b"",
+    ),
     // The first line that is wrong decides.
-    (b"send 7 10\npull\n", Fault::UnknownSender { sender: 7 }),
-    (b"send 7 10\npull 0 1\n", Fault::UnknownSender { sender: 7 }),
-    (b"pull 0 1\nsend 7 10\n", Fault::BadScript { line: 1 }),
+    (
+        TREE,
+        b"send 7 10\npull\n",
+        Err(Fault::UnknownSender { sender: 7 }),
+        b"",
+    ),
+    (
+        TREE,
+        b"send 7 10\npull 0 1\n",
+        Err(Fault::UnknownSender { sender: 7 }),
+        b"",
+    ),
+    (
+        TREE,
+        b"pull 0 1\nsend 7 10\n",
+        Err(Fault::BadScript { line: 1 }),
+        b"",
+    ),
 ];
 
 #[test]
-fn a_malformed_line_is_refused(rt: HostRuntime) -> Result<(), Fail> {
+fn a_malformed_line_is_refused(rt: HostRuntime) {
     for script in MALFORMED {
-        let (outcome, written) = answer(rt.alloc(), script)?;
-        assert_eq!(rt; outcome, Err(Fault::BadScript { line: 1 }), "at {script:?}");
-        assert!(rt; written.is_empty(), "at {script:?}");
+        let fault = Fault::BadScript { line: 1 };
+        assert_ends(&rt, rt.alloc(), TREE, script, Err(fault), b"");
     }
-    Ok(())
-}
-
-#[test]
-fn the_first_wrong_line_decides(rt: HostRuntime) -> Result<(), Fail> {
-    for (script, fault) in REFUSED {
-        let (outcome, written) = answer(rt.alloc(), script)?;
-        assert_eq!(rt; outcome, Err(fault), "at {script:?}");
-        assert!(rt; written.is_empty(), "at {script:?}");
-    }
-    Ok(())
 }

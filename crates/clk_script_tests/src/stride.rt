@@ -1,12 +1,11 @@
 //! Inputs with tickets.
 
-use crate::row::{Row, assert_rows, run_within};
+use crate::row::{Row, assert_ends};
+use crate::text::{Pieces, text_of};
 use crate::trees::{STRIDE_1_1, STRIDE_2_1, STRIDE_3_1, STRIDE_32768_1, STRIDE_OVER_DEFICIT};
-use std::alloc::{AllocError, Global};
-use std::test::Fail;
 
 /// Scripts, and what they write.
-const ROWS: [Row; 6] = [
+pub const ROWS: [Row; 6] = [
     Row {
         name: "tickets give turns",
         tree: STRIDE_2_1,
@@ -100,56 +99,34 @@ const ROWS: [Row; 6] = [
     },
 ];
 
-#[test]
-fn rows_are_written(rt: HostRuntime) {
-    assert_rows(&rt, rt.alloc(), &ROWS);
-}
+/// Sender 0 sends many packets and sender 1 two; then each is pulled.
+const MANY: [Pieces; 3] = [
+    ("send 0 10\n", 0, 32_769),
+    ("send 1 10\n", 0, 2),
+    ("pull 0\n", 0, 32_771),
+];
 
-/// How many packets sender 0 sends where tickets are far apart, and the last pull.
-const MANY: u32 = 32_769;
-
-const LAST: u32 = 32_770;
-
-// Sender 0 sends many packets and sender 1 two; then each is pulled.
-fn script_of_many(alloc: Global) -> Result<String, AllocError> {
-    let mut script = String::new(alloc);
-    for _ in 0..MANY {
-        script.push_str("send 0 10\n")?;
-    }
-    script.push_str("send 1 10\nsend 1 10\n")?;
-    for _ in 0..=LAST {
-        script.push_str("pull 0\n")?;
-    }
-    Ok(script)
-}
-
-// What that script writes: pull 1 and the last give the packets of sender 1, and all others those of sender 0.
-fn lines_of_many(alloc: Global) -> Result<String, AllocError> {
-    let mut lines = String::new(alloc);
-    for number in 0..MANY {
-        write!(lines, "0#{number} 10 accepted\n")?;
-    }
-    lines.push_str("1#0 10 accepted\n1#1 10 accepted\npull 0: 0#0 10\npull 0: 1#0 10\n")?;
-    for number in 1..MANY {
-        write!(lines, "pull 0: 0#{number} 10\n")?;
-    }
-    lines.push_str("pull 0: 1#1 10\n")?;
-    Ok(lines)
-}
+/// What that script writes: pull 1 and the last give the packets of sender 1, and all others those of sender 0.
+const LINES_OF_MANY: [Pieces; 6] = [
+    ("0#% 10 accepted\n", 0, 32_769),
+    ("1#% 10 accepted\n", 0, 2),
+    ("pull 0: 0#0 10\n", 0, 1),
+    ("pull 0: 1#0 10\n", 0, 1),
+    ("pull 0: 0#% 10\n", 1, 32_769),
+    ("pull 0: 1#1 10\n", 0, 1),
+];
 
 // Before the last pull but one both passes are 65,536, and the first input is asked first.
 #[test]
-fn tickets_may_be_far_apart(rt: HostRuntime) -> Result<(), Fail> {
-    let script = script_of_many(rt.alloc())?;
-    let expected = lines_of_many(rt.alloc())?;
-    let (outcome, written) = run_within(
+fn tickets_may_be_far_apart(rt: HostRuntime) {
+    let script = text_of(rt.alloc(), &MANY).expect(&rt, "ample memory");
+    let lines = text_of(rt.alloc(), &LINES_OF_MANY).expect(&rt, "ample memory");
+    assert_ends(
+        &rt,
         rt.alloc(),
         STRIDE_32768_1,
-        script.as_bytes().to_vec(rt.alloc())?,
-        usize::MAX,
-        2_000_000,
-    )?;
-    assert_eq!(rt; outcome, Ok(()));
-    assert!(rt; written.as_slice() == expected.as_bytes());
-    Ok(())
+        script.as_bytes(),
+        Ok(()),
+        lines.as_bytes(),
+    );
 }

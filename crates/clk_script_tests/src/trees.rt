@@ -1,7 +1,5 @@
 //! The trees of the rows.
 
-use std::alloc::{AllocError, Global};
-
 /// A queue.
 pub const ONE: &str = "s0 :: Sender(0); q0 :: Queue; d :: ToDevice(link); s0 -> q0 -> d;";
 
@@ -150,21 +148,3 @@ s -> p -> a; n -> b; t -> q -> c;";
 pub const FULL_AT_TWO_DEVICES: &str = "s :: Sender(7); t :: Sender(3); u :: Sender(5);
 p :: FrontDropQueue(2); q :: Queue(1); a, b :: ToDevice(x);
 s -> p -> a; u -> p; t -> q -> b;";
-
-/// A PrioSched over four, over which so many queues are spread, with a sender to the first. With the device these are seven elements
-/// more than queues.
-pub fn wide(alloc: Global, queues: u32) -> Result<String, AllocError> {
-    let mut text = format!(in alloc;
-        "s :: Sender(0); x :: PrioSched; d :: ToDevice(link); x -> d;"
-    )?;
-    for place in 0..4 {
-        write!(text, "x{place} :: PrioSched; x{place} -> [{place}] x;")?;
-    }
-    for queue in 0..queues {
-        let above = queue % 4;
-        let input = queue / 4;
-        write!(text, "q{queue} :: Queue; q{queue} -> [{input}] x{above};")?;
-    }
-    text.push_str("s -> q0;")?;
-    Ok(text)
-}

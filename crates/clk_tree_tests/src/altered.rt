@@ -1,10 +1,10 @@
 //! Texts that are cut off, and texts in which a byte is another.
 
 use crate::parts::told_parts;
+use crate::row::{plan_of, session_of, written_of};
 use crate::sound::{TWO_DEVICES, TWO_QUEUES};
-use clk_sched::Session;
 use clk_tree::Plan;
-use std::alloc::{AllocError, Global};
+use std::alloc::Global;
 use std::process::Abort;
 
 /// A text with a comment and a Shaper.
@@ -14,25 +14,28 @@ const COMMENTED: &str =
 /// The bytes that are put in the place of each byte.
 const OTHERS: [u8; 10] = [b'x', b'1', b';', b',', b'/', b'*', b'[', b'\n', 200, 0];
 
-// The canonical text of a plan denotes the same plan, which has trees that a session takes.
+// The canonical text of a plan denotes the same plan.
 fn assert_plan(rt: &impl Abort, alloc: Global, plan: &Plan) {
-    let written = plan.write(alloc).expect(rt, "memory");
-    let again = Plan::read(alloc, &written).expect(rt, "a plan");
-    let written_again = again.write(alloc).expect(rt, "memory");
-    assert_eq!(rt; written_again.as_slice(), written.as_slice());
-    let parts = told_parts(alloc, plan).expect(rt, "memory");
-    let parts_again = told_parts(alloc, &again).expect(rt, "memory");
-    assert_eq!(rt; parts_again.as_str(), parts.as_str());
+    let written = written_of(rt, alloc, plan);
+    let again = plan_of(rt, alloc, &written);
+    assert_eq!(rt; written_of(rt, alloc, &again), written);
+    assert_eq!(rt; told_parts(rt, alloc, &again), told_parts(rt, alloc, plan));
+}
+
+// A session takes each tree of a plan.
+fn assert_sessions(rt: &impl Abort, alloc: Global, plan: &Plan) {
     for device in 0..plan.devices() {
-        let tree = plan.tree(alloc, device).expect(rt, "memory");
-        let _session = Session::new(alloc, tree).expect(rt, "a session");
+        let _session = session_of(rt, alloc, plan, device);
     }
 }
 
 // A text is that of a plan, or has a fault of a text. Fault 12 is none of them.
 fn assert_plan_or_fault(rt: &impl Abort, alloc: Global, text: &[u8]) {
     match Plan::read(alloc, text) {
-        Ok(plan) => assert_plan(rt, alloc, &plan),
+        Ok(plan) => {
+            assert_plan(rt, alloc, &plan);
+            assert_sessions(rt, alloc, &plan);
+        }
         Err(fault) => {
             let number = fault.number();
             assert!(rt;
@@ -43,43 +46,28 @@ fn assert_plan_or_fault(rt: &impl Abort, alloc: Global, text: &[u8]) {
     }
 }
 
-// Each front of a text is answered so.
-fn assert_fronts(rt: &impl Abort, alloc: Global, text: &[u8]) {
-    for end in 0..text.len() + 1 {
-        let (front, _) = text.split_at(end);
-        assert_plan_or_fault(rt, alloc, front);
-    }
-}
-
-/// A text in which the byte at a place is another.
-fn with_byte(alloc: Global, text: &[u8], place: usize, byte: u8) -> Result<Vec<u8>, AllocError> {
-    let mut altered = text.to_vec(alloc)?;
-    if let Some(old) = altered.get_mut(place) {
-        *old = byte;
-    }
-    Ok(altered)
-}
-
-// A text is answered so whatever one byte of it is.
-fn assert_bytes(rt: &impl Abort, alloc: Global, text: &[u8]) {
-    for place in 0..text.len() {
-        for byte in OTHERS {
-            let altered = with_byte(alloc, text, place, byte).expect(rt, "memory");
-            assert_plan_or_fault(rt, alloc, &altered);
+// A text is answered so whatever the byte at a place is.
+fn assert_bytes(rt: &impl Abort, alloc: Global, text: &[u8], place: usize) {
+    let mut altered = text.to_vec(alloc).expect(rt, "memory");
+    for byte in OTHERS {
+        if let Some(old) = altered.get_mut(place) {
+            *old = byte;
         }
+        assert_plan_or_fault(rt, alloc, &altered);
+    }
+}
+
+// Each front of a text is answered so, and the text with any other byte.
+fn assert_altered(rt: &impl Abort, alloc: Global, text: &[u8]) {
+    for place in 0..=text.len() {
+        assert_plan_or_fault(rt, alloc, &text[..place]);
+        assert_bytes(rt, alloc, text, place);
     }
 }
 
 #[test]
-fn fronts_of_a_text_are_answered(rt: HostRuntime) {
-    assert_fronts(&rt, rt.alloc(), TWO_QUEUES.as_bytes());
-    assert_fronts(&rt, rt.alloc(), COMMENTED.as_bytes());
-    assert_fronts(&rt, rt.alloc(), TWO_DEVICES.as_bytes());
-}
-
-#[test]
-fn texts_with_another_byte_are_answered(rt: HostRuntime) {
-    assert_bytes(&rt, rt.alloc(), TWO_QUEUES.as_bytes());
-    assert_bytes(&rt, rt.alloc(), COMMENTED.as_bytes());
-    assert_bytes(&rt, rt.alloc(), TWO_DEVICES.as_bytes());
+fn altered_texts_are_answered(rt: HostRuntime) {
+    for text in [TWO_QUEUES, COMMENTED, TWO_DEVICES] {
+        assert_altered(&rt, rt.alloc(), text.as_bytes());
+    }
 }

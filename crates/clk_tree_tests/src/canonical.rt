@@ -1,7 +1,7 @@
 //! The canonical texts of plans.
 
+use crate::row::{plan_of, written_of};
 use crate::sound::TWO_DEVICES;
-use clk_tree::Plan;
 use std::alloc::Global;
 use std::process::Abort;
 
@@ -103,23 +103,15 @@ s9 [0] -> [0] qf;
 
 /// The plan that a text denotes has this canonical text.
 fn assert_written(rt: &impl Abort, alloc: Global, text: &str, canonical: &str) {
-    let plan = Plan::read(alloc, text.as_bytes()).expect(rt, "a plan");
-    let written = plan.write(alloc).expect(rt, "memory");
-    let written = str::from_utf8(&written).expect(rt, "a text");
-    assert_eq!(rt; written, canonical);
-}
-
-#[test]
-fn plans_have_canonical_texts(rt: HostRuntime) {
-    for (text, canonical) in &TEXTS {
-        assert_written(&rt, rt.alloc(), text, canonical);
-    }
+    let written = written_of(rt, alloc, &plan_of(rt, alloc, text.as_bytes()));
+    assert_eq!(rt; str::from_utf8(&written), Ok(canonical));
 }
 
 // A canonical text is that of its own plan.
 #[test]
-fn canonical_texts_stay_as_they_are(rt: HostRuntime) {
-    for (_, canonical) in &TEXTS {
+fn plans_have_canonical_texts(rt: HostRuntime) {
+    for (text, canonical) in &TEXTS {
+        assert_written(&rt, rt.alloc(), text, canonical);
         assert_written(&rt, rt.alloc(), canonical, canonical);
     }
 }

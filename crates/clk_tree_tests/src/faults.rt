@@ -1,7 +1,7 @@
 //! Texts with a fault, and its line.
 
-use crate::row::{assert_answer, assert_answers};
-use std::test::Fail;
+use crate::row::assert_answers;
+use crate::sound::TEXTS;
 
 /// A text of each fault, and those in which more than one place could be told. A second ToDevice is no fault.
 const FAULTS: [(&str, &str); 19] = [
@@ -178,35 +178,8 @@ const PAIRS: [(&str, &str); 17] = [
 ];
 
 #[test]
-fn each_fault_has_its_line(rt: HostRuntime) {
-    assert_answers(&rt, rt.alloc(), &FAULTS);
-}
-
-#[test]
-fn texts_that_break_the_grammar(rt: HostRuntime) {
-    assert_answers(&rt, rt.alloc(), &BAD_TEXTS);
-}
-
-#[test]
-fn the_first_fault_in_order_is_told(rt: HostRuntime) {
-    assert_answers(&rt, rt.alloc(), &ORDERS);
-}
-
-#[test]
-fn of_two_faults_the_first_in_order_is_told(rt: HostRuntime) {
-    assert_answers(&rt, rt.alloc(), &PAIRS);
-}
-
-// A scheduler leads to itself, and there are too many elements.
-#[test]
-fn a_scheduler_without_a_device_is_told_before_sizes(rt: HostRuntime) -> Result<(), Fail> {
-    let alloc = rt.alloc();
-    let mut text = format!(in alloc;
-        "r :: PrioSched; r -> r; q :: Queue; d :: ToDevice(l); q -> d;"
-    )?;
-    for place in 3..257 {
-        write!(text, "s{place} :: Sender({place}); s{place} -> q;")?;
+fn texts_are_answered(rt: HostRuntime) {
+    for rows in [&TEXTS[..], &FAULTS, &BAD_TEXTS, &ORDERS, &PAIRS] {
+        assert_answers(&rt, rt.alloc(), rows);
     }
-    assert_answer(&rt, alloc, text.as_bytes(), "fault 13: NotATree 0");
-    Ok(())
 }

@@ -2,158 +2,187 @@
 
 use crate::row::assert_answer;
 use std::alloc::{AllocError, Global};
-use std::process::Abort;
-use std::test::Fail;
 
-/// A scheduler over so many queues, each with a sender.
-fn over_queues(alloc: Global, class: &str, count: u32) -> Result<String, AllocError> {
-    let mut text = format!(in alloc; "x :: {class}; d :: ToDevice(link); x -> d;")?;
-    for place in 0..count {
-        write!(
-            text,
-            "s{place} :: Sender({place}); q{place} :: Queue; s{place} -> q{place} -> [{place}] x;"
-        )?;
-    }
-    Ok(text)
-}
+/// A piece of a text for each number from the first to the one before the second, which stands in it for each `%`.
+type Pieces = (&'static str, u32, u32);
 
-/// A class with so many arguments.
-fn with_arguments(alloc: Global, class: &str, count: u32) -> Result<String, AllocError> {
-    let mut text = format!(in alloc; "{class}(1")?;
-    for argument in 1..count {
-        write!(text, ", {argument}")?;
-    }
-    text.push_str(")")?;
-    Ok(text)
-}
+/// A queue with a sender, at the input of its number.
+const INPUT: &str = "s% :: Sender(%); q% :: Queue; s% -> q% -> [%] x;";
 
-/// So many Shapers one after another.
-fn shapers(alloc: Global, count: u32) -> Result<String, AllocError> {
-    let mut text = format!(in alloc; "q :: Queue; d :: ToDevice(l);")?;
-    for place in 0..count {
-        write!(text, "h{place} :: Shaper(1);")?;
-    }
-    text.push_str("q")?;
-    for place in 0..count {
-        write!(text, " -> h{place}")?;
-    }
-    text.push_str(" -> d")?;
-    Ok(text)
-}
+/// A sender to the queue `q`.
+const SENDER: &str = "s% :: Sender(%); s% -> q;";
 
-/// So many elements: a queue that leads to the device, and senders to it.
-fn elements(alloc: Global, count: u32) -> Result<String, AllocError> {
-    let mut text = format!(in alloc; "q :: Queue; d :: ToDevice(l); q -> d;")?;
-    for place in 2..count {
-        write!(text, "s{place} :: Sender({place}); s{place} -> q;")?;
-    }
-    Ok(text)
-}
+/// A tree of a queue and its device.
+const TREE: &str = "q% :: Queue; d% :: ToDevice(l); q% -> d%;";
 
-/// A class over 64 queues, and over 65.
-fn assert_inputs(
-    rt: &impl Abort,
+/// 64 bytes at which no token begins.
+const MARKS: &str = "????????????????????????????????????????????????????????????????";
+
+const DEVICE: Pieces = ("; d :: ToDevice(link); x -> d;", 0, 1);
+
+/// Texts in pieces, and their answers.
+const TEXTS: [(&[Pieces], &str); 21] = [
+    // Inputs are 64 at most.
+    (&[("x :: PrioSched", 0, 1), DEVICE, (INPUT, 0, 64)], ""),
+    (
+        &[("x :: PrioSched", 0, 1), DEVICE, (INPUT, 0, 65)],
+        "fault 18: TooLarge",
+    ),
+    (
+        &[("x :: RoundRobinSched", 0, 1), DEVICE, (INPUT, 0, 64)],
+        "",
+    ),
+    (
+        &[("x :: RoundRobinSched", 0, 1), DEVICE, (INPUT, 0, 65)],
+        "fault 18: TooLarge",
+    ),
+    (&[("x :: DRRSched", 0, 1), DEVICE, (INPUT, 0, 64)], ""),
+    (
+        &[("x :: DRRSched", 0, 1), DEVICE, (INPUT, 0, 65)],
+        "fault 18: TooLarge",
+    ),
+    // And so are arguments. An input that isn't connected is told before too many inputs.
+    (
+        &[
+            ("x :: DRRSched(1", 0, 1),
+            (", %", 1, 64),
+            (")", 0, 1),
+            DEVICE,
+            (INPUT, 0, 64),
+        ],
+        "",
+    ),
+    (
+        &[
+            ("x :: DRRSched(1", 0, 1),
+            (", %", 1, 65),
+            (")", 0, 1),
+            DEVICE,
+            (INPUT, 0, 64),
+        ],
+        "fault 9: PortMissing 0",
+    ),
+    (
+        &[
+            ("x :: DRRSched(1", 0, 1),
+            (", %", 1, 65),
+            (")", 0, 1),
+            DEVICE,
+            (INPUT, 0, 65),
+        ],
+        "fault 18: TooLarge",
+    ),
+    (
+        &[
+            ("x :: StrideSched(1", 0, 1),
+            (", %", 1, 64),
+            (")", 0, 1),
+            DEVICE,
+            (INPUT, 0, 64),
+        ],
+        "",
+    ),
+    (
+        &[
+            ("x :: StrideSched(1", 0, 1),
+            (", %", 1, 65),
+            (")", 0, 1),
+            DEVICE,
+            (INPUT, 0, 64),
+        ],
+        "fault 9: PortMissing 0",
+    ),
+    (
+        &[
+            ("x :: StrideSched(1", 0, 1),
+            (", %", 1, 65),
+            (")", 0, 1),
+            DEVICE,
+            (INPUT, 0, 65),
+        ],
+        "fault 18: TooLarge",
+    ),
+    // Shapers on a path are 64 at most.
+    (
+        &[
+            ("q :: Queue; d :: ToDevice(l);", 0, 1),
+            ("h% :: Shaper(1);", 0, 64),
+            ("q", 0, 1),
+            (" -> h%", 0, 64),
+            (" -> d", 0, 1),
+        ],
+        "",
+    ),
+    (
+        &[
+            ("q :: Queue; d :: ToDevice(l);", 0, 1),
+            ("h% :: Shaper(1);", 0, 65),
+            ("q", 0, 1),
+            (" -> h%", 0, 65),
+            (" -> d", 0, 1),
+        ],
+        "fault 18: TooLarge",
+    ),
+    // Elements are 256 at most, of all trees together.
+    (
+        &[
+            ("q :: Queue; d :: ToDevice(l); q -> d;", 0, 1),
+            (SENDER, 2, 256),
+        ],
+        "",
+    ),
+    (
+        &[
+            ("q :: Queue; d :: ToDevice(l); q -> d;", 0, 1),
+            (SENDER, 2, 257),
+        ],
+        "fault 18: TooLarge",
+    ),
+    (&[(TREE, 0, 128)], ""),
+    (&[(TREE, 0, 129)], "fault 18: TooLarge"),
+    // A scheduler that leads to itself is told before too many elements.
+    (
+        &[
+            (
+                "r :: PrioSched; r -> r; q :: Queue; d :: ToDevice(l); q -> d;",
+                0,
+                1,
+            ),
+            (SENDER, 3, 257),
+        ],
+        "fault 13: NotATree 0",
+    ),
+    // Bytes are a mebibyte at most.
+    (&[(MARKS, 0, 16_384)], "fault 2: BadText 0"),
+    (&[(MARKS, 0, 16_384), ("?", 0, 1)], "fault 18: TooLarge"),
+];
+
+fn add_pieces(
     alloc: Global,
-    class: &str,
-    most: &str,
-    more: &str,
-) -> Result<(), Fail> {
-    assert_answer(rt, alloc, over_queues(alloc, class, 64)?.as_bytes(), most);
-    assert_answer(rt, alloc, over_queues(alloc, class, 65)?.as_bytes(), more);
-    Ok(())
-}
-
-#[test]
-fn inputs_are_64_at_most(rt: HostRuntime) -> Result<(), Fail> {
-    let alloc = rt.alloc();
-    for class in ["PrioSched", "RoundRobinSched", "DRRSched"] {
-        assert_inputs(&rt, alloc, class, "", "fault 18: TooLarge")?;
+    text: &mut String,
+    piece: &str,
+    from: u32,
+    to: u32,
+) -> Result<(), AllocError> {
+    for number in from..to {
+        let number = format!(in alloc; "{number}")?;
+        text.push_str(&piece.replace(alloc, "%", &number)?)?;
     }
     Ok(())
 }
 
-// An input that isn't connected is told before too many inputs.
-#[test]
-fn arguments_are_64_at_most(rt: HostRuntime) -> Result<(), Fail> {
-    let alloc = rt.alloc();
-    for class in ["DRRSched", "StrideSched"] {
-        let most = with_arguments(alloc, class, 64)?;
-        assert_answer(&rt, alloc, over_queues(alloc, &most, 64)?.as_bytes(), "");
-        let more = with_arguments(alloc, class, 65)?;
-        assert_inputs(
-            &rt,
-            alloc,
-            &more,
-            "fault 9: PortMissing 0",
-            "fault 18: TooLarge",
-        )?;
-    }
-    Ok(())
-}
-
-#[test]
-fn shapers_are_64_at_most_on_a_path(rt: HostRuntime) -> Result<(), Fail> {
-    let alloc = rt.alloc();
-    assert_answer(&rt, alloc, shapers(alloc, 64)?.as_bytes(), "");
-    assert_answer(
-        &rt,
-        alloc,
-        shapers(alloc, 65)?.as_bytes(),
-        "fault 18: TooLarge",
-    );
-    Ok(())
-}
-
-/// So many trees, each a queue that leads to a device.
-fn trees(alloc: Global, count: u32) -> Result<String, AllocError> {
+fn text_of(alloc: Global, pieces: &[Pieces]) -> Result<String, AllocError> {
     let mut text = String::new(alloc);
-    for place in 0..count {
-        write!(
-            text,
-            "q{place} :: Queue; d{place} :: ToDevice(l); q{place} -> d{place};"
-        )?;
+    for (piece, from, to) in pieces {
+        add_pieces(alloc, &mut text, piece, *from, *to)?;
     }
     Ok(text)
 }
 
-// Elements of all trees count together.
 #[test]
-fn trees_are_128_at_most(rt: HostRuntime) -> Result<(), Fail> {
-    let alloc = rt.alloc();
-    assert_answer(&rt, alloc, trees(alloc, 128)?.as_bytes(), "");
-    assert_answer(
-        &rt,
-        alloc,
-        trees(alloc, 129)?.as_bytes(),
-        "fault 18: TooLarge",
-    );
-    Ok(())
-}
-
-#[test]
-fn elements_are_256_at_most(rt: HostRuntime) -> Result<(), Fail> {
-    let alloc = rt.alloc();
-    assert_answer(&rt, alloc, elements(alloc, 256)?.as_bytes(), "");
-    assert_answer(
-        &rt,
-        alloc,
-        elements(alloc, 257)?.as_bytes(),
-        "fault 18: TooLarge",
-    );
-    Ok(())
-}
-
-/// So many bytes at which no token begins are answered by this line.
-fn assert_marks(rt: &impl Abort, alloc: Global, count: usize, line: &str) {
-    let mut text = Vec::new(alloc);
-    for _ in 0..count {
-        text.push(b'?').expect(rt, "memory");
+fn sizes_are_bounded(rt: HostRuntime) {
+    for (pieces, line) in TEXTS {
+        let text = text_of(rt.alloc(), pieces).expect(&rt, "memory");
+        assert_answer(&rt, rt.alloc(), text.as_bytes(), line);
     }
-    assert_answer(rt, alloc, &text, line);
-}
-
-#[test]
-fn bytes_are_a_mebibyte_at_most(rt: HostRuntime) {
-    assert_marks(&rt, rt.alloc(), 1_048_577, "fault 18: TooLarge");
-    assert_marks(&rt, rt.alloc(), 1_048_576, "fault 2: BadText 0");
 }

@@ -1,9 +1,11 @@
 //! The queues and the senders of plans.
 
+use crate::row::plan_of;
 use crate::sound::TWO_DEVICES;
 use clk_packet::Kind;
-use clk_tree::Plan;
+use clk_tree::{Plan, QueueSpec, SenderSpec};
 use std::alloc::{AllocError, Global};
+use std::process::Abort;
 
 /// Texts, and the queues and senders of their plans.
 const TEXTS: [(&str, &str); 7] = [
@@ -97,36 +99,46 @@ fn kind_name(kind: Kind) -> &'static str {
     }
 }
 
-/// How many devices a plan has, its queues by their numbers, and its senders with the numbers of their queues, each in a line.
-pub fn told_parts(alloc: Global, plan: &Plan) -> Result<String, AllocError> {
+/// A queue in a line.
+fn add_queue(told: &mut String, queue: &QueueSpec) -> Result<(), AllocError> {
+    let kind = kind_name(queue.kind);
+    write!(told, "{kind} {} {}:", queue.capacity, queue.device)?;
+    for sender in &queue.senders {
+        write!(told, " {sender}")?;
+    }
+    told.push_str("\n")
+}
+
+/// How many devices a plan has, and its queues by their numbers, each in a line.
+fn told_queues(alloc: Global, plan: &Plan) -> Result<String, AllocError> {
     let mut told = format!(in alloc; "devices: {}\n", plan.devices())?;
     told.push_str("TailDrop or FrontDrop, capacity, device: senders\n")?;
     for queue in plan.queues() {
-        write!(
-            told,
-            "{} {} {}:",
-            kind_name(queue.kind),
-            queue.capacity,
-            queue.device
-        )?;
-        for sender in &queue.senders {
-            write!(told, " {sender}")?;
-        }
-        told.push_str("\n")?;
-    }
-    told.push_str("sender: queue\n")?;
-    for sender in plan.senders() {
-        write!(told, "{}: {}\n", sender.number, sender.queue)?;
+        add_queue(&mut told, queue)?;
     }
     Ok(told)
 }
 
+/// The senders of a plan with the numbers of their queues, each in a line.
+fn add_senders(told: &mut String, senders: &[SenderSpec]) -> Result<(), AllocError> {
+    told.push_str("sender: queue\n")?;
+    for sender in senders {
+        write!(told, "{}: {}\n", sender.number, sender.queue)?;
+    }
+    Ok(())
+}
+
+/// All of them.
+pub fn told_parts(rt: &impl Abort, alloc: Global, plan: &Plan) -> String {
+    let mut told = told_queues(alloc, plan).expect(rt, "memory");
+    add_senders(&mut told, plan.senders()).expect(rt, "memory");
+    told
+}
+
 #[test]
 fn plans_have_queues_and_senders(rt: HostRuntime) {
-    let alloc = rt.alloc();
     for (text, parts) in &TEXTS {
-        let plan = Plan::read(alloc, text.as_bytes()).expect(&rt, "a plan");
-        let told = told_parts(alloc, &plan).expect(&rt, "memory");
-        assert_eq!(rt; told.as_str(), *parts);
+        let plan = plan_of(&rt, rt.alloc(), text.as_bytes());
+        assert_eq!(rt; told_parts(&rt, rt.alloc(), &plan).as_str(), *parts);
     }
 }

@@ -1,7 +1,5 @@
 //! Texts without a fault.
 
-use crate::row::assert_answers;
-
 /// A router of two senders, each with a queue, under a PrioSched.
 pub const TWO_QUEUES: &str = "s0 :: Sender(0); s1 :: Sender(1);
 q0 :: Queue(2); q1 :: Queue(2);
@@ -16,7 +14,7 @@ pub const TWO_DEVICES: &str =
     "s :: Sender(0); t :: Sender(1); p, q :: Queue; a, b :: ToDevice(x); s -> p -> a; t -> q -> b;";
 
 /// Texts of trees.
-const TEXTS: [(&str, &str); 10] = [
+pub const TEXTS: [(&str, &str); 10] = [
     (TWO_QUEUES, ""),
     (TWO_DEVICES, ""),
     // Devices that are declared after their chains, and no Sender.
@@ -47,8 +45,3 @@ const TEXTS: [(&str, &str); 10] = [
         "",
     ),
 ];
-
-#[test]
-fn texts_of_trees_have_no_fault(rt: HostRuntime) {
-    assert_answers(&rt, rt.alloc(), &TEXTS);
-}

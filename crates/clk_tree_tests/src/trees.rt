@@ -1,5 +1,6 @@
 //! The trees of plans.
 
+use crate::row::{plan_of, session_of};
 use crate::sound::TWO_DEVICES;
 use clk_packet::Packet;
 use clk_sched::{Ask, Session};
@@ -31,23 +32,14 @@ impl Ask for Asked {
     }
 }
 
-// A session over the tree of a text with one device.
-fn session(rt: &impl Abort, alloc: Global, text: &str) -> Session {
-    let plan = Plan::read(alloc, text.as_bytes()).expect(rt, "a plan");
-    assert_eq!(rt; plan.devices(), 1);
-    let tree = plan.tree(alloc, 0).expect(rt, "memory");
-    Session::new(alloc, tree).expect(rt, "a session")
-}
-
 // One packet takes at most 1 * 3 * (1 + 65,535 / 300, rounded up) pulls.
 #[test]
 fn quanta_of_a_text_bound_the_closing_pulls(rt: HostRuntime) {
-    let session = session(
-        &rt,
-        rt.alloc(),
-        "s :: Sender(0); q :: Queue; y :: DRRSched(300); x :: DRRSched(500); d :: ToDevice(link); s -> q -> y -> x -> d;",
-    );
-    assert_eq!(rt; session.bound(1), 660);
+    let text =
+        b"s :: Sender(0); q :: Queue; y :: DRRSched(300); x :: DRRSched(500); d :: ToDevice(link); s -> q -> y -> x -> d;";
+    let plan = plan_of(&rt, rt.alloc(), text);
+    assert_eq!(rt; plan.devices(), 1);
+    assert_eq!(rt; session_of(&rt, rt.alloc(), &plan, 0).bound(1), 660);
 }
 
 /// Texts, and when each queue of theirs is asked in a pull of each device, 0 where it isn't.
@@ -71,19 +63,23 @@ s -> b; b -> [1] p; a -> [2] p -> d; r -> p; c -> r;",
     ),
 ];
 
+/// When each queue is asked in the first pull of a session, which gives nothing.
+fn asked_first(rt: &impl Abort, session: &mut Session) -> [u32; 3] {
+    let mut asked = Asked {
+        order: [0; 3],
+        count: 0,
+    };
+    assert_eq!(rt; session.pull(&mut asked, 0), Ok(None));
+    asked.order
+}
+
 /// Each device of a plan pulls queues in this order.
-fn assert_asked(rt: &impl Abort, alloc: Global, text: &str, orders: &[[u32; 3]]) {
-    let plan = Plan::read(alloc, text.as_bytes()).expect(rt, "a plan");
+fn assert_asked(rt: &impl Abort, alloc: Global, plan: &Plan, orders: &[[u32; 3]]) {
     assert_eq!(rt; usize::from(plan.devices()), orders.len());
     for device in 0..plan.devices() {
-        let tree = plan.tree(alloc, device).expect(rt, "memory");
-        let mut session = Session::new(alloc, tree).expect(rt, "a session");
-        let mut asked = Asked {
-            order: [0; 3],
-            count: 0,
-        };
-        assert_eq!(rt; session.pull(&mut asked, 0), Ok(None));
-        assert_eq!(rt; Some(&asked.order), orders.get(usize::from(device)));
+        let mut session = session_of(rt, alloc, plan, device);
+        let order = asked_first(rt, &mut session);
+        assert_eq!(rt; Some(&order), orders.get(usize::from(device)));
     }
 }
 
@@ -91,6 +87,7 @@ fn assert_asked(rt: &impl Abort, alloc: Global, text: &str, orders: &[[u32; 3]])
 #[test]
 fn queues_are_asked_by_their_numbers(rt: HostRuntime) {
     for (text, orders) in &ASKED {
-        assert_asked(&rt, rt.alloc(), text, orders);
+        let plan = plan_of(&rt, rt.alloc(), text.as_bytes());
+        assert_asked(&rt, rt.alloc(), &plan, orders);
     }
 }

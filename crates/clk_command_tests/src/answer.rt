@@ -1,0 +1,86 @@
+//! What the program answers to words, over memory in place of standard input, output and error, and over files of the tests.
+
+use crate::files::{assert_left, write_all};
+use clk_command::command;
+use clk_packet::{FailingSink, FailingSource, Fault};
+use std::alloc::{AllocError, Global};
+use std::process::Abort;
+use std::rt::Files;
+use std::sync::Wait;
+use std::thread::Threads;
+
+/// How many bytes a writer takes that isn't meant to fail.
+pub const AMPLE: usize = 4096;
+
+/// The script on standard input.
+pub const SCRIPT: &[u8] = b"send 0 100\nsend 1 50\npull 0\npull 0\npull 0\n";
+
+/// Files that are there, each with its path and what it holds; words; what they answer to that script, and write to standard output, where
+/// nothing is told on standard error; and files with what they hold afterwards, or None where they aren't there.
+pub type Row = (
+    &'static [(&'static str, &'static str)],
+    &'static str,
+    Result<u8, Fault>,
+    &'static str,
+    &'static [(&'static str, Option<&'static str>)],
+);
+
+/// What words answer, and what they write to standard output and to standard error.
+#[derive(Drop)]
+pub struct Answered {
+    pub outcome: Result<u8, Fault>,
+    pub written: Vec<u8>,
+    pub told: Vec<u8>,
+}
+
+/// What words, with a space between them, answer to a script on standard input, where standard output takes `room` bytes and standard
+/// error `errors_room` before they fail.
+pub fn answer(
+    rt: &(impl Files + AllocGlobal + Threads + Wait + Sync),
+    words: &str,
+    script: &[u8],
+    room: usize,
+    errors_room: usize,
+) -> Result<Answered, Fault> {
+    let alloc = rt.alloc();
+    let mut reader = FailingSource::new(script.to_vec(alloc)?, usize::MAX);
+    let mut writer = FailingSink::new(vec![in alloc; 0; room]?);
+    let mut errors = FailingSink::new(vec![in alloc; 0; errors_room]?);
+    let words = words_of(alloc, words)?;
+    let outcome = command(rt, rt, words, &mut reader, &mut writer, &mut errors);
+    Ok(Answered {
+        outcome,
+        written: writer.taken().to_vec(alloc)?,
+        told: errors.taken().to_vec(alloc)?,
+    })
+}
+
+fn words_of(alloc: Global, words: &str) -> Result<Vec<String>, AllocError> {
+    let mut list = Vec::new(alloc);
+    for word in words.split_ascii_whitespace() {
+        list.push(String::from_str(alloc, word)?)?;
+    }
+    Ok(list)
+}
+
+/// Fails unless words answer this, write this to standard output, and say nothing else.
+pub fn assert_writes(
+    rt: &(impl Files + AllocGlobal + Threads + Wait + Sync + Abort),
+    words: &str,
+    outcome: Result<u8, Fault>,
+    expected: &[u8],
+) {
+    let answered = answer(rt, words, SCRIPT, AMPLE, AMPLE).expect(rt, "ample memory");
+    assert_eq!(rt; answered.outcome, outcome, "at {words}");
+    assert_eq!(rt; answered.written.as_slice(), expected, "at {words}");
+    assert!(rt; answered.told.is_empty(), "at {words}");
+}
+
+/// Fails unless each row is answered so.
+pub fn assert_rows(rt: &(impl Files + AllocGlobal + Threads + Wait + Sync + Abort), rows: &[Row]) {
+    for (files, words, outcome, written, left) in rows {
+        write_all(rt, files).expect(rt, "files");
+        assert_writes(rt, words, *outcome, written.as_bytes());
+        assert_left(rt, left);
+    }
+}

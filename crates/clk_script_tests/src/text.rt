@@ -1,0 +1,29 @@
+//! Long texts.
+
+use std::alloc::{AllocError, Global};
+
+/// A piece of a text for each number from the first to the one before the second, which stands in it for each `%`.
+pub type Pieces = (&'static str, u32, u32);
+
+/// The text that pieces make.
+pub fn text_of(alloc: Global, pieces: &[Pieces]) -> Result<String, AllocError> {
+    let mut text = String::new(alloc);
+    for (piece, from, to) in pieces {
+        add_pieces(alloc, &mut text, piece, *from, *to)?;
+    }
+    Ok(text)
+}
+
+fn add_pieces(
+    alloc: Global,
+    text: &mut String,
+    piece: &str,
+    from: u32,
+    to: u32,
+) -> Result<(), AllocError> {
+    for number in from..to {
+        let number = format!(in alloc; "{number}")?;
+        text.push_str(&piece.replace(alloc, "%", &number)?)?;
+    }
+    Ok(())
+}
