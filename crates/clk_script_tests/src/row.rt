@@ -32,7 +32,7 @@ pub struct Row {
     pub visits: &'static str,
 }
 
-/// Fails unless a script over a tree ends so, and writes what is expected, whether its visits are kept or not.
+/// Fails unless a script over a tree ends so, and writes what is expected.
 pub fn assert_ends(
     rt: &impl Abort,
     alloc: Global,
@@ -49,13 +49,13 @@ pub fn assert_ends(
         (outcome, expected),
         "at {script:?}"
     );
-    assert_logged(rt, alloc, tree, script, outcome, expected);
 }
 
-/// Fails unless each script is answered so.
+/// Fails unless each script is answered so, whether its visits are kept or not.
 fn assert_answers(rt: &impl Abort, alloc: Global, answers: &[Answer]) {
     for (tree, script, outcome, expected) in answers {
         assert_ends(rt, alloc, tree, script, *outcome, expected);
+        assert_logged(rt, alloc, tree, script, *outcome, expected);
     }
 }
 
@@ -77,14 +77,8 @@ pub fn run_within(
 /// Fails unless each script writes what its row says, and makes the visits that it shows.
 fn assert_rows(rt: &impl Abort, alloc: Global, rows: &[Row]) {
     for row in rows {
-        assert_ends(
-            rt,
-            alloc,
-            row.tree,
-            row.script.as_bytes(),
-            Ok(()),
-            row.written.as_bytes(),
-        );
+        let (script, written) = (row.script.as_bytes(), row.written.as_bytes());
+        assert_answers(rt, alloc, &[(row.tree, script, Ok(()), written)]);
         if !row.visits.is_empty() {
             assert_visits(rt, alloc, row);
         }
