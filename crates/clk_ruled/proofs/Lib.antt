@@ -18,4 +18,3 @@ mod InUse
 mod Settlement
 mod TapSteps
 mod Worked
-pub mod Closing

@@ -11,8 +11,6 @@ mod queue;
 mod seat;
 mod settling;
 mod tap;
-#[cfg(test)]
-mod tests;
 mod view;
 
 pub use closed::ClosedSeat;

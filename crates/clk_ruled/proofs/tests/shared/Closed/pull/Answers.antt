@@ -1,5 +1,0 @@
-use Rattle.clk_ruled.proofs.InUse.{pulled-in-use}
-use Rattle.clk_ruled.proofs.tests.shared.Closed.pull.Goals as goal
-
-pub invariant_of-self : goal.invariant_of-self
-invariant_of-self g c = pulled-in-use c.self.inside.queue c.self.inside.tap c.pull.new.self c.pull.result c.self.inside.seats.items c.pull.ensures.pulled c.self.invariant

@@ -1,0 +1,2 @@
+-- Lemmas on what the tests make.
+mod Closing
