@@ -167,9 +167,10 @@ fn packets_are_kept_in_order(rt: HostRuntime) {
         sender: 7,
         length: 20,
     };
-    let mut packets = Packets::from(Vec::new(rt.alloc()));
-    assert_eq!(rt; packets.push(first), Ok::<(), Fault>(()));
-    assert_eq!(rt; packets.push(second), Ok::<(), Fault>(()));
-    assert_eq!(rt; packets.as_slice(), [first, second].as_slice());
-    assert_eq!(rt; packets.into_vec().as_slice(), [first, second].as_slice());
+    let mut packets = Packets::new(rt.alloc());
+    for packet in [first, second] {
+        assert_eq!(rt; packets.push(packet), Ok::<(), Fault>(()));
+    }
+    assert!(rt; packets.as_slice() == [first, second].as_slice());
+    assert!(rt; packets.into_vec().as_slice() == [first, second].as_slice());
 }

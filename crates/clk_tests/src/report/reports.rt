@@ -1,22 +1,16 @@
 //! Reports of worked rows, and of many senders and packets.
 
-ghost use Rattle.std.specs.Prelude.{◌≤◌, length};
-
 use super::{packet, sink_of};
-use clk_packet::{FailingSink, Fault, Packet, Packets, Tally};
+use clk_packet::{Fault, Packet, Packets, Tally};
 use clk_report::{MAX_DEVICES, report};
 use std::alloc::{AllocError, Global};
 use std::process::Abort;
-use std::test::Fail;
 
-// The tally of a sender of these packets.
-fn tally(
-    alloc: Global,
-    sender: u16,
-    accepted: &[Packet],
-    refused: &[Packet],
-    evicted: &[Packet],
-) -> Result<Tally, AllocError> {
+/// What a sender's tally has: its number, and the packets that were accepted, refused and evicted.
+type Sent<'a> = (u16, &'a [Packet], &'a [Packet], &'a [Packet]);
+
+fn tally(alloc: Global, sent: Sent) -> Result<Tally, AllocError> {
+    let (sender, accepted, refused, evicted) = sent;
     Ok(Tally {
         sender,
         accepted: Packets::from(accepted.to_vec(alloc)?),
@@ -25,114 +19,121 @@ fn tally(
     })
 }
 
-// Fails unless this is the report, and a writer that fails after fewer bytes has taken them.
+fn tallies(alloc: Global, sent: &[Sent]) -> Result<Vec<Tally>, AllocError> {
+    let mut tallies = Vec::new(alloc);
+    for sent in sent {
+        tallies.push(tally(alloc, *sent)?)?;
+    }
+    Ok(tallies)
+}
+
+fn lists(alloc: Global, emitted: &[&[Packet]]) -> Result<Vec<Vec<Packet>>, AllocError> {
+    let mut lists = Vec::new(alloc);
+    for packets in emitted {
+        lists.push(packets.to_vec(alloc)?)?;
+    }
+    Ok(lists)
+}
+
+// Fails unless this is the report of these tallies and of what came out at each device, and a writer that fails after fewer bytes
+// has taken them.
 fn assert_reports(
     rt: &impl Abort,
     alloc: Global,
-    tallies: &[Tally],
-    emitted: &[Vec<Packet>],
+    sent: &[Sent],
+    emitted: &[&[Packet]],
     expected: &[u8],
-) -> Result<(), AllocError>
-    requires { length emitted.now ≤ MAX_DEVICES }
-{
+) {
+    let tallies = tallies(alloc, sent).expect(rt, "ample memory");
+    let emitted = lists(alloc, emitted).expect(rt, "ample memory");
     for room in 0..expected.len() {
-        let mut sink = sink_of(alloc, room)?;
-        assert_eq!(rt; report(tallies, emitted, &mut sink), Err(Fault::Write));
-        assert_eq!(rt; sink.taken(), &expected[..room]);
+        assert_takes(
+            rt,
+            alloc,
+            &tallies,
+            &emitted,
+            &expected[..room],
+            Err(Fault::Write),
+        );
     }
-    let sink = reported(rt, alloc, tallies, emitted, expected.len())?;
-    assert_eq!(rt; sink.taken(), expected);
-    Ok(())
+    assert_takes(rt, alloc, &tallies, &emitted, expected, Ok(()));
 }
 
-// What takes a report where there is room for so many bytes.
-fn reported(
+// Reports where there is room for so many bytes, and fails unless it ends so and these bytes were written.
+fn assert_takes(
     rt: &impl Abort,
     alloc: Global,
     tallies: &[Tally],
     emitted: &[Vec<Packet>],
-    room: usize,
-) -> Result<FailingSink, AllocError>
-    requires { length emitted.now ≤ MAX_DEVICES }
-{
-    let mut sink = sink_of(alloc, room)?;
-    assert_eq!(rt; report(tallies, emitted, &mut sink), Ok(()));
-    Ok(sink)
+    bytes: &[u8],
+    expected: Result<(), Fault>,
+) {
+    assert!(rt; emitted.len() <= MAX_DEVICES);
+    let mut sink = sink_of(alloc, bytes.len()).expect(rt, "ample memory");
+    assert_eq!(rt; report(tallies, emitted, &mut sink), expected);
+    assert!(rt; sink.taken() == bytes);
 }
 
 #[test]
-fn a_refused_packet_was_sent(rt: HostRuntime) -> Result<(), Fail> {
-    let first = packet(0, 0, 10);
-    let tallies = [tally(rt.alloc(), 0, &[first], &[packet(0, 1, 20)], &[])?];
+fn a_refused_packet_was_sent(rt: HostRuntime) {
+    let [first, second] = [packet(0, 0, 10), packet(0, 1, 20)];
+    let sent = [(0, &[first][..], &[second][..], &[][..])];
     let expected = b"sender 0: sent 2 30, accepted 1 10, refused 1 20, evicted 0 0, emitted 1 10\n";
-    let emitted = [[first].to_vec(rt.alloc())?];
-    assert_reports(&rt, rt.alloc(), &tallies, &emitted, expected)?;
-    Ok(())
+    assert_reports(&rt, rt.alloc(), &sent, &[&[first]], expected);
 }
 
 #[test]
-fn a_packet_is_evicted_by_another_sender(rt: HostRuntime) -> Result<(), Fail> {
-    let (first, second) = (packet(0, 0, 100), packet(1, 0, 60));
-    let tallies = [
-        tally(rt.alloc(), 0, &[first], &[], &[first])?,
-        tally(rt.alloc(), 1, &[second], &[], &[])?,
+fn a_packet_is_evicted_by_another_sender(rt: HostRuntime) {
+    let [first, second] = [packet(0, 0, 100), packet(1, 0, 60)];
+    let none = &[][..];
+    let sent = [
+        (0, &[first][..], none, &[first][..]),
+        (1, &[second], none, none),
     ];
     let expected =
         b"sender 0: sent 1 100, accepted 1 100, refused 0 0, evicted 1 100, emitted 0 0\n\
         sender 1: sent 1 60, accepted 1 60, refused 0 0, evicted 0 0, emitted 1 60\n";
-    let emitted = [[second].to_vec(rt.alloc())?];
-    assert_reports(&rt, rt.alloc(), &tallies, &emitted, expected)?;
-    Ok(())
+    assert_reports(&rt, rt.alloc(), &sent, &[&[second]], expected);
 }
 
 #[test]
-fn no_sender_has_no_line(rt: HostRuntime) -> Result<(), Fail> {
-    let emitted = [[packet(0, 0, 10)].to_vec(rt.alloc())?];
-    assert_reports(&rt, rt.alloc(), &[], &emitted, b"")?;
-    Ok(())
+fn no_sender_has_no_line(rt: HostRuntime) {
+    assert_reports(&rt, rt.alloc(), &[], &[&[packet(0, 0, 10)]], b"");
 }
 
 // Two of them ask for the larger table.
 #[test]
-fn a_sender_is_beyond_the_small_table(rt: HostRuntime) -> Result<(), Fail> {
-    let (few, next, last) = (
-        packet(255, 0, 10),
-        packet(256, 0, 20),
-        packet(65_535, 0, 30),
-    );
-    let tallies = [
-        tally(rt.alloc(), 255, &[few], &[], &[])?,
-        tally(rt.alloc(), 256, &[next], &[], &[])?,
-        tally(rt.alloc(), 65_535, &[last], &[], &[])?,
+fn a_sender_is_beyond_the_small_table(rt: HostRuntime) {
+    let [few, next] = [packet(255, 0, 10), packet(256, 0, 20)];
+    let last = packet(65_535, 0, 30);
+    let none = &[][..];
+    let sent = [
+        (255, &[few][..], none, none),
+        (256, &[next], none, none),
+        (65_535, &[last], none, none),
     ];
     let expected = b"sender 255: sent 1 10, accepted 1 10, refused 0 0, evicted 0 0, emitted 1 10\n\
         sender 256: sent 1 20, accepted 1 20, refused 0 0, evicted 0 0, emitted 1 20\n\
         sender 65535: sent 1 30, accepted 1 30, refused 0 0, evicted 0 0, emitted 1 30\n";
-    let emitted = [[last, few, next].to_vec(rt.alloc())?];
-    assert_reports(&rt, rt.alloc(), &tallies, &emitted, expected)?;
-    Ok(())
+    assert_reports(&rt, rt.alloc(), &sent, &[&[last, few, next]], expected);
 }
 
 // It is the least that asks for the larger table.
 #[test]
-fn sender_256_is_the_only_one(rt: HostRuntime) -> Result<(), Fail> {
+fn sender_256_is_the_only_one(rt: HostRuntime) {
     let least = packet(256, 0, 20);
-    let tallies = [tally(rt.alloc(), 256, &[least], &[], &[])?];
+    let sent = [(256, &[least][..], &[][..], &[][..])];
     let expected =
         b"sender 256: sent 1 20, accepted 1 20, refused 0 0, evicted 0 0, emitted 1 20\n";
-    let emitted = [[least].to_vec(rt.alloc())?];
-    assert_reports(&rt, rt.alloc(), &tallies, &emitted, expected)?;
-    Ok(())
+    assert_reports(&rt, rt.alloc(), &sent, &[&[least]], expected);
 }
 
 // Sender 2 has a place in the small table and no tally; 256, 257 and 65535 have neither.
 #[test]
-fn packets_of_senders_without_a_tally_are_left_out(rt: HostRuntime) -> Result<(), Fail> {
+fn packets_of_senders_without_a_tally_are_left_out(rt: HostRuntime) {
     let first = packet(1, 0, 10);
-    let tallies = [
-        tally(rt.alloc(), 0, &[], &[], &[])?,
-        tally(rt.alloc(), 1, &[first], &[], &[])?,
-    ];
+    let none = &[][..];
+    let sent = [(0, none, none, none), (1, &[first], none, none)];
     let packets = [
         packet(65_535, 0, 50),
         packet(256, 0, 40),
@@ -140,38 +141,33 @@ fn packets_of_senders_without_a_tally_are_left_out(rt: HostRuntime) -> Result<()
         packet(257, 0, 30),
         packet(2, 0, 20),
     ];
-    let emitted = [packets.to_vec(rt.alloc())?];
     let expected = b"sender 0: sent 0 0, accepted 0 0, refused 0 0, evicted 0 0, emitted 0 0\n\
         sender 1: sent 1 10, accepted 1 10, refused 0 0, evicted 0 0, emitted 1 10\n";
-    assert_reports(&rt, rt.alloc(), &tallies, &emitted, expected)?;
-    Ok(())
+    assert_reports(&rt, rt.alloc(), &sent, &[&packets], expected);
 }
 
 // Sender 0's packets came out at the first and at the last device, and none at the one between.
 #[test]
-fn packets_came_out_at_several_devices(rt: HostRuntime) -> Result<(), Fail> {
-    let (first, second, other) = (packet(0, 0, 10), packet(0, 1, 20), packet(1, 0, 5));
-    let tallies = [
-        tally(rt.alloc(), 0, &[first, second], &[], &[])?,
-        tally(rt.alloc(), 1, &[other], &[], &[])?,
+fn packets_came_out_at_several_devices(rt: HostRuntime) {
+    let [first, second] = [packet(0, 0, 10), packet(0, 1, 20)];
+    let other = packet(1, 0, 5);
+    let none = &[][..];
+    let sent = [
+        (0, &[first, second][..], none, none),
+        (1, &[other], none, none),
     ];
-    let emitted = [
-        [first].to_vec(rt.alloc())?,
-        Vec::new(rt.alloc()),
-        [other, second].to_vec(rt.alloc())?,
-    ];
+    let emitted = [&[first][..], none, &[other, second]];
     let expected = b"sender 0: sent 2 30, accepted 2 30, refused 0 0, evicted 0 0, emitted 2 30\n\
         sender 1: sent 1 5, accepted 1 5, refused 0 0, evicted 0 0, emitted 1 5\n";
-    assert_reports(&rt, rt.alloc(), &tallies, &emitted, expected)?;
-    Ok(())
+    assert_reports(&rt, rt.alloc(), &sent, &emitted, expected);
 }
 
 #[test]
-fn without_a_device_nothing_came_out(rt: HostRuntime) -> Result<(), Fail> {
-    let tallies = [tally(rt.alloc(), 7, &[], &[packet(7, 0, 10)], &[])?];
+fn without_a_device_nothing_came_out(rt: HostRuntime) {
+    let refused = packet(7, 0, 10);
+    let sent = [(7, &[][..], &[refused][..], &[][..])];
     let expected = b"sender 7: sent 1 10, accepted 0 0, refused 1 10, evicted 0 0, emitted 0 0\n";
-    assert_reports(&rt, rt.alloc(), &tallies, &[], expected)?;
-    Ok(())
+    assert_reports(&rt, rt.alloc(), &sent, &[], expected);
 }
 
 // A packet of each sender there may be.
@@ -184,23 +180,17 @@ fn one_of_each(alloc: Global) -> Result<Vec<Packet>, AllocError> {
 }
 
 // A tally for each of these packets, which was accepted.
-fn accepted_alone(alloc: Global, packets: &[Packet]) -> Result<Vec<Tally>, Fault> {
-    let mut tallies = Vec::new(alloc);
+fn accepted_alone(alloc: Global, packets: &[Packet]) -> Result<Vec<Tally>, AllocError> {
+    let mut all = Vec::new(alloc);
     for packet in packets {
-        tallies.push(one_accepted(alloc, *packet)?)?;
+        all.push(one_accepted(alloc, *packet)?)?;
     }
-    Ok(tallies)
+    Ok(all)
 }
 
-fn one_accepted(alloc: Global, packet: Packet) -> Result<Tally, Fault> {
-    let mut accepted = Packets::new(alloc);
-    accepted.push(packet)?;
-    Ok(Tally {
-        sender: packet.sender,
-        accepted,
-        refused: Packets::new(alloc),
-        evicted: Packets::new(alloc),
-    })
+fn one_accepted(alloc: Global, packet: Packet) -> Result<Tally, AllocError> {
+    let accepted = [packet];
+    tally(alloc, (packet.sender, &accepted, &[], &[]))
 }
 
 // The line of each sender there may be, where one packet of it of one byte came out.
@@ -216,25 +206,32 @@ fn line_of_each(alloc: Global) -> Result<String, AllocError> {
 }
 
 #[test]
-fn each_sender_has_its_line(rt: HostRuntime) -> Result<(), Fail> {
-    let packets = one_of_each(rt.alloc())?;
-    let tallies = accepted_alone(rt.alloc(), &packets)?;
-    let expected = line_of_each(rt.alloc())?;
-    let emitted = [packets];
-    let sink = reported(&rt, rt.alloc(), &tallies, &emitted, expected.len())?;
-    assert!(rt; sink.taken() == expected.as_bytes());
-    Ok(())
+fn each_sender_has_its_line(rt: HostRuntime) {
+    let packets = one_of_each(rt.alloc()).expect(&rt, "memory");
+    let tallies = accepted_alone(rt.alloc(), &packets).expect(&rt, "memory");
+    let expected = line_of_each(rt.alloc()).expect(&rt, "memory");
+    assert_takes(
+        &rt,
+        rt.alloc(),
+        &tallies,
+        &[packets],
+        expected.as_bytes(),
+        Ok(()),
+    );
 }
 
 #[test]
-fn a_sender_has_a_million_packets(rt: HostRuntime) -> Result<(), Fail> {
+fn a_sender_has_a_million_packets(rt: HostRuntime) {
     let longest = packet(65_535, 999_999, 65_535);
-    let packets = vec![in rt.alloc(); longest; 1_000_000]?;
-    let tallies = [tally(rt.alloc(), 65_535, &packets, &[], &[])?];
+    let packets = million(rt.alloc(), longest).expect(&rt, "memory");
+    let sent = (65_535, packets.as_slice(), &[][..], &[][..]);
+    let tally = tally(rt.alloc(), sent).expect(&rt, "memory");
     let expected = b"sender 65535: sent 1000000 65535000000, accepted 1000000 65535000000, \
         refused 0 0, evicted 0 0, emitted 1000000 65535000000\n";
-    let emitted = [packets];
-    let sink = reported(&rt, rt.alloc(), &tallies, &emitted, expected.len())?;
-    assert_eq!(rt; sink.taken(), expected.as_slice());
-    Ok(())
+    assert_takes(&rt, rt.alloc(), &[tally], &[packets], expected, Ok(()));
+}
+
+// A million times the same packet.
+fn million(alloc: Global, packet: Packet) -> Result<Vec<Packet>, AllocError> {
+    Ok(vec![in alloc; packet; 1_000_000]?)
 }

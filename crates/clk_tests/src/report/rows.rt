@@ -17,7 +17,7 @@ pub fn assert_writes(
     steps: &[Step],
     expected: &str,
 ) {
-    let session = session_after(rt, alloc, tree, steps).expect(rt, "ample memory");
+    let session = session_after(rt, alloc, tree, steps);
     let (log, _) = session.into_parts();
     assert_writes_all(rt, alloc, &[log], expected);
 }

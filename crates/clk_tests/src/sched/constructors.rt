@@ -48,21 +48,17 @@ fn a_shaper_takes_memory_once(rt: HostRuntime) {
 // A DRRSched over a StrideSched over the first two queues and a RoundRobinSched over the third.
 fn mixed(alloc: Global, queues: [u16; 3]) -> Result<Tree, Fault> {
     let [first, second, third] = queues;
-    let mut shared = Vec::new(alloc);
-    shared.push(Tree::leaf(first))?;
-    shared.push(Tree::leaf(second))?;
-    let mut tickets = Vec::new(alloc);
-    tickets.push(2)?;
-    tickets.push(1)?;
-    let mut alone = Vec::new(alloc);
-    alone.push(Tree::leaf(third))?;
-    let mut children = Vec::new(alloc);
-    children.push(Tree::stride(tickets, shared)?)?;
-    children.push(Tree::round_robin(alone)?)?;
-    let mut quanta = Vec::new(alloc);
-    quanta.push(500)?;
-    quanta.push(1000)?;
-    Tree::drr(quanta, children)
+    let alone = Tree::round_robin(vec![in alloc; Tree::leaf(third)]?);
+    drr_over(alloc, stride_over(alloc, first, second)?, alone?)
+}
+
+fn stride_over(alloc: Global, first: u16, second: u16) -> Result<Tree, Fault> {
+    let children = vec![in alloc; Tree::leaf(first), Tree::leaf(second)]?;
+    Tree::stride(vec![in alloc; 2, 1]?, children)
+}
+
+fn drr_over(alloc: Global, first: Tree, second: Tree) -> Result<Tree, Fault> {
+    Tree::drr(vec![in alloc; 500, 1000]?, vec![in alloc; first, second]?)
 }
 
 #[test]

@@ -21,18 +21,18 @@ fn show_departures(text: &mut String, departures: &[Departure]) -> Result<(), Al
 }
 
 // A session over two queues that keeps this.
-fn session_that(rt: &impl Abort, alloc: Global, keeps: Keeps) -> Result<Kernel, Fault> {
-    let tree = prio_over_two(alloc)?;
+fn session_that(rt: &impl Abort, alloc: Global, keeps: Keeps) -> Kernel {
+    let tree = prio_over_two(alloc).expect(rt, "a tree");
     assert!(rt; tree.leaves_distinct());
-    Kernel::new(alloc, tree, keeps)
+    Kernel::new(alloc, tree, keeps).expect(rt, "ample memory")
 }
 
 // Two queues, of two packets and of one.
-fn three_packets(rt: &impl Abort, alloc: Global) -> Result<Queues, Fault> {
-    let mut queues = Queues::new(alloc, 2)?;
-    queues.send(rt, 0, &[100, 200])?;
-    queues.send(rt, 1, &[300])?;
-    Ok(queues)
+fn three_packets(rt: &impl Abort, alloc: Global) -> Queues {
+    let mut queues = Queues::new(alloc, 2).expect(rt, "ample memory");
+    queues.send(rt, 0, &[100, 200]).expect(rt, "ample memory");
+    queues.send(rt, 1, &[300]).expect(rt, "ample memory");
+    queues
 }
 
 // Pulls a session once, and answers what came out.
@@ -57,38 +57,43 @@ fn close(
     session.close(alloc, queues, 2, 7)
 }
 
-// A session that was pulled once and closed, and what came out.
-fn closed(rt: &impl Abort, alloc: Global, keeps: Keeps) -> Result<(Kernel, String), Fault> {
-    let mut session = session_that(rt, alloc, keeps)?;
-    let mut queues = three_packets(rt, alloc)?;
-    let first = pull(rt, &mut session, &mut queues)?;
-    let departures = close(rt, alloc, &mut session, &mut queues)?;
-    let mut text = String::new(alloc);
-    show_got(&mut text, first)?;
-    text.push_str("\n")?;
-    show_departures(&mut text, &departures)?;
-    Ok((session, text))
+// A session that was pulled once and closed. Fails unless what came out is shown so.
+fn closed(rt: &impl Abort, alloc: Global, keeps: Keeps) -> Kernel {
+    let mut session = session_that(rt, alloc, keeps);
+    let mut queues = three_packets(rt, alloc);
+    let text = shown(rt, alloc, &mut session, &mut queues).expect(rt, "ample memory");
+    assert_eq!(rt; text.as_str(), CAME_OUT);
+    session
 }
 
-fn assert_kept(rt: &impl Abort, alloc: Global, keeps: Keeps) -> Result<(), Fault> {
-    let (session, text) = closed(rt, alloc, keeps)?;
-    assert_eq!(rt; text.as_str(), CAME_OUT);
-    assert_eq!(rt; session.log().len(), if keeps.visits { 7 } else { 0 });
+// What comes out of a pull and a closing.
+fn shown(
+    rt: &impl Abort,
+    alloc: Global,
+    session: &mut Kernel,
+    queues: &mut Queues,
+) -> Result<String, Fault> {
+    let mut text = String::new(alloc);
+    show_got(&mut text, pull(rt, session, queues)?)?;
+    text.push_str("\n")?;
+    show_departures(&mut text, &close(rt, alloc, session, queues)?)?;
+    Ok(text)
+}
+
+fn assert_kept(rt: &impl Abort, alloc: Global, keeps: Keeps) {
+    let session = closed(rt, alloc, keeps);
+    assert_kept_of_pulls(rt, &session, if keeps.visits { 7 } else { 0 }, 3);
     assert_eq!(rt; session.emitted().len(), if keeps.packets { 3 } else { 0 });
     assert_eq!(rt; session.count_emitted(), 3);
-    assert_eq!(rt; session.pulls(), 3);
-    Ok(())
 }
 
 #[test]
-fn sessions_keep_what_they_are_told_to(rt: HostRuntime) -> Result<(), Fault> {
-    let alloc = rt.alloc();
+fn sessions_keep_what_they_are_told_to(rt: HostRuntime) {
     for visits in [false, true] {
         for packets in [false, true] {
-            assert_kept(&rt, alloc, Keeps { visits, packets })?;
+            assert_kept(&rt, rt.alloc(), Keeps { visits, packets });
         }
     }
-    Ok(())
 }
 
 // Fails unless a session keeps so many visits, of so many pulls.
@@ -99,18 +104,17 @@ fn assert_kept_of_pulls(rt: &impl Abort, session: &Kernel, visits: usize, pulls:
 
 // Three pulls made seven visits. The fourth, which finds nothing, asks both inputs of the PrioSched.
 #[test]
-fn visits_that_were_let_go_of_leave_the_log(rt: HostRuntime) -> Result<(), Fault> {
-    let alloc = rt.alloc();
+fn visits_that_were_let_go_of_leave_the_log(rt: HostRuntime) {
     let keeps = Keeps {
         visits: true,
         packets: false,
     };
-    let (mut session, _) = closed(&rt, alloc, keeps)?;
+    let mut session = closed(&rt, rt.alloc(), keeps);
     assert_kept_of_pulls(&rt, &session, 7, 3);
     session.let_go();
     assert_kept_of_pulls(&rt, &session, 0, 3);
-    let mut queues = Queues::new(alloc, 2)?;
-    assert_eq!(rt; pull(&rt, &mut session, &mut queues)?, None);
+    let mut queues = Queues::new(rt.alloc(), 2).expect(&rt, "ample memory");
+    let got = pull(&rt, &mut session, &mut queues).expect(&rt, "ample memory");
+    assert_eq!(rt; got, None);
     assert_kept_of_pulls(&rt, &session, 3, 4);
-    Ok(())
 }

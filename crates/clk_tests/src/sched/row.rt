@@ -47,7 +47,8 @@ pub fn assert_shows(
     steps: &[Step],
     expected: &str,
 ) {
-    let row = taken(rt, alloc, tree, steps).expect(rt, "ample memory");
+    let mut row = Row::of(rt, alloc, tree);
+    row.take_all(rt, alloc, steps).expect(rt, "ample memory");
     assert_eq!(rt; row.text.as_str(), expected);
 }
 
@@ -62,25 +63,10 @@ pub fn session_after(
     alloc: Global,
     tree: Result<Tree, Fault>,
     steps: &[Step],
-) -> Result<Session, Fault> {
-    Ok(taken(rt, alloc, tree, steps)?.session)
-}
-
-fn taken(
-    rt: &impl Abort,
-    alloc: Global,
-    tree: Result<Tree, Fault>,
-    steps: &[Step],
-) -> Result<Row, Fault> {
-    let mut row = Row {
-        session: session(rt, alloc, tree?)?,
-        queues: Queues::new(alloc, QUEUES)?,
-        text: String::new(alloc),
-    };
-    for step in steps {
-        row.take(rt, alloc, *step)?;
-    }
-    Ok(row)
+) -> Session {
+    let mut row = Row::of(rt, alloc, tree);
+    row.take_all(rt, alloc, steps).expect(rt, "ample memory");
+    row.session
 }
 
 /// A session of a tree.
@@ -97,6 +83,22 @@ struct Row {
 }
 
 impl Row {
+    fn of(rt: &impl Abort, alloc: Global, tree: Result<Tree, Fault>) -> Row {
+        let tree = tree.expect(rt, "a tree");
+        Row {
+            session: session(rt, alloc, tree).expect(rt, "ample memory"),
+            queues: Queues::new(alloc, QUEUES).expect(rt, "ample memory"),
+            text: String::new(alloc),
+        }
+    }
+
+    fn take_all(&mut self, rt: &impl Abort, alloc: Global, steps: &[Step]) -> Result<(), Fault> {
+        for step in steps {
+            self.take(rt, alloc, *step)?;
+        }
+        Ok(())
+    }
+
     fn take(&mut self, rt: &impl Abort, alloc: Global, step: Step) -> Result<(), Fault> {
         match step {
             Step::Send(sender, lengths) => Ok(self.queues.send(rt, sender, lengths)?),

@@ -5,7 +5,7 @@ ghost use Rattle.clk_packet.specs.Limits.{most_quantum, most_tickets};
 
 use clk_packet::Fault;
 use clk_sched::Tree;
-use std::alloc::Global;
+use std::alloc::{AllocError, Global};
 use std::process::Abort;
 
 /// A PrioSched over queues 0 and 1.
@@ -112,10 +112,10 @@ pub fn drr_over_stride(alloc: Global) -> Result<Tree, Fault> {
 /// six more nodes than queues.
 pub fn wide(rt: &impl Abort, alloc: Global, queues: u16) -> Result<Tree, Fault> {
     Tree::prio(vec![in alloc;
-        prio_over(rt, alloc, 0, 64)?,
-        prio_over(rt, alloc, 64, 128)?,
-        prio_over(rt, alloc, 128, 192)?,
-        prio_over(rt, alloc, 192, queues)?,
+        prio_over(rt, alloc, 0, 64),
+        prio_over(rt, alloc, 64, 128),
+        prio_over(rt, alloc, 128, 192),
+        prio_over(rt, alloc, 192, queues),
     ]?)
 }
 
@@ -129,11 +129,16 @@ pub fn prio_path(alloc: Global, count: u8) -> Result<Tree, Fault> {
 }
 
 // A PrioSched over the queues from `first` to before `end`.
-fn prio_over(rt: &impl Abort, alloc: Global, first: u16, end: u16) -> Result<Tree, Fault> {
-    let mut children = Vec::new(alloc);
-    for queue in first..end {
-        children.push(Tree::leaf(queue))?;
-    }
+fn prio_over(rt: &impl Abort, alloc: Global, first: u16, end: u16) -> Tree {
+    let children = leaves(alloc, first, end).expect(rt, "ample memory");
     assert!(rt; !children.is_empty());
-    Tree::prio(children)
+    Tree::prio(children).expect(rt, "few children")
+}
+
+fn leaves(alloc: Global, first: u16, end: u16) -> Result<Vec<Tree>, AllocError> {
+    let mut leaves = Vec::new(alloc);
+    for queue in first..end {
+        leaves.push(Tree::leaf(queue))?;
+    }
+    Ok(leaves)
 }

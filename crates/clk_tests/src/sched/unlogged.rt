@@ -28,13 +28,13 @@ impl Both {
         alloc: Global,
         tree: Result<Tree, Fault>,
         again: Result<Tree, Fault>,
-    ) -> Result<Both, Fault> {
-        Ok(Both {
-            logged: session(rt, alloc, tree?)?,
-            queues: Queues::new(alloc, QUEUES)?,
-            unlogged: unlogged(rt, alloc, again?)?,
-            others: Queues::new(alloc, QUEUES)?,
-        })
+    ) -> Both {
+        Both {
+            logged: logged(rt, alloc, tree),
+            queues: queues(rt, alloc),
+            unlogged: unlogged(rt, alloc, again),
+            others: queues(rt, alloc),
+        }
     }
 
     // Packets of each sender go to its queues.
@@ -101,9 +101,18 @@ impl Both {
     }
 }
 
-fn unlogged(rt: &impl Abort, alloc: Global, tree: Tree) -> Result<Unlogged, Fault> {
+fn queues(rt: &impl Abort, alloc: Global) -> Queues {
+    Queues::new(alloc, QUEUES).expect(rt, "ample memory")
+}
+
+fn logged(rt: &impl Abort, alloc: Global, tree: Result<Tree, Fault>) -> Session {
+    session(rt, alloc, tree.expect(rt, "a tree")).expect(rt, "ample memory")
+}
+
+fn unlogged(rt: &impl Abort, alloc: Global, tree: Result<Tree, Fault>) -> Unlogged {
+    let tree = tree.expect(rt, "a tree");
     assert!(rt; tree.leaves_distinct());
-    Unlogged::new(alloc, tree)
+    Unlogged::new(alloc, tree).expect(rt, "ample memory")
 }
 
 // Sends three packets of each sender, pulls six times, after which so many came out, sends one more, and drains the tree of what is
@@ -111,7 +120,7 @@ fn unlogged(rt: &impl Abort, alloc: Global, tree: Tree) -> Result<Unlogged, Faul
 fn assert_alike(
     rt: &impl Abort,
     alloc: Global,
-    mut both: Both,
+    both: &mut Both,
     first: usize,
     left: usize,
 ) -> Result<(), Fault> {
@@ -119,44 +128,33 @@ fn assert_alike(
     both.pulls(rt, &[0, 0, 0, 2, 1, 7])?;
     both.assert_same(rt, alloc, first)?;
     both.send(rt, &[60_000])?;
-    assert_drained_alike(rt, alloc, both, first.saturating_add(left), left)
-}
-
-// Drains the tree of what is left, after which so many came out, and of a packet that it hasn't.
-fn assert_drained_alike(
-    rt: &impl Abort,
-    alloc: Global,
-    mut both: Both,
-    all: usize,
-    left: usize,
-) -> Result<(), Fault> {
     both.drain(rt, left as u64, 9);
-    both.assert_same(rt, alloc, all)?;
+    both.assert_same(rt, alloc, first.saturating_add(left))?;
     both.drain(rt, 1, 0);
-    both.assert_same(rt, alloc, all)
+    both.assert_same(rt, alloc, first.saturating_add(left))
 }
 
 #[test]
 fn priorities_need_no_log(rt: HostRuntime) -> Result<(), Fault> {
     let alloc = rt.alloc();
-    let both = Both::new(&rt, alloc, prio_over_two(alloc), prio_over_two(alloc))?;
-    assert_alike(&rt, alloc, both, 6, 2)
+    let mut both = Both::new(&rt, alloc, prio_over_two(alloc), prio_over_two(alloc));
+    assert_alike(&rt, alloc, &mut both, 6, 2)
 }
 
 #[test]
 fn turns_need_no_log(rt: HostRuntime) -> Result<(), Fault> {
     let alloc = rt.alloc();
     let tree = round_robin_over_three(alloc);
-    let both = Both::new(&rt, alloc, tree, round_robin_over_three(alloc))?;
-    assert_alike(&rt, alloc, both, 6, 6)
+    let mut both = Both::new(&rt, alloc, tree, round_robin_over_three(alloc));
+    assert_alike(&rt, alloc, &mut both, 6, 6)
 }
 
 // Of 52 packets, five come out in the first six pulls: none in the first, in which all five inputs come to hold a head.
 #[test]
 fn shares_need_no_log(rt: HostRuntime) -> Result<(), Fault> {
     let alloc = rt.alloc();
-    let both = Both::new(&rt, alloc, drr_over_stride(alloc), drr_over_stride(alloc))?;
-    assert_alike(&rt, alloc, both, 5, 47)
+    let mut both = Both::new(&rt, alloc, drr_over_stride(alloc), drr_over_stride(alloc));
+    assert_alike(&rt, alloc, &mut both, 5, 47)
 }
 
 // Two packets pass the Shaper, at moments 0 and 2. The third is held in a DRRSched.
@@ -164,6 +162,6 @@ fn shares_need_no_log(rt: HostRuntime) -> Result<(), Fault> {
 fn pace_needs_no_log(rt: HostRuntime) -> Result<(), Fault> {
     let alloc = rt.alloc();
     let tree = shaped_drr_path(alloc, 2, 500);
-    let both = Both::new(&rt, alloc, tree, shaped_drr_path(alloc, 2, 500))?;
-    assert_alike(&rt, alloc, both, 2, 2)
+    let mut both = Both::new(&rt, alloc, tree, shaped_drr_path(alloc, 2, 500));
+    assert_alike(&rt, alloc, &mut both, 2, 2)
 }
