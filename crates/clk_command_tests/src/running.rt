@@ -30,8 +30,24 @@ const WRONG: &str = "run out/sound.click out/wrong.trace --visits out/wrong.csv"
 
 const UNMADE: (&str, Option<&str>) = ("out/wrong.csv", None);
 
+/// A DRRSched over two queues, each with a sender.
+const SHARED: (&str, &str) = (
+    "out/shared.click",
+    "s0 :: Sender(0); s1 :: Sender(1); q0, q1 :: Queue; x :: DRRSched(500); d :: ToDevice(link);
+s0 -> q0 -> [0] x; s1 -> q1 -> [1] x; x -> d;",
+);
+
 /// Runs of traces, and words that run none.
-pub const ROWS: [Row; 13] = [
+pub const ROWS: [Row; 14] = [
+    // An empty trace is run, and each sender accounted for.
+    (
+        &[SHARED, ("out/empty.trace", "")],
+        "run out/shared.click out/empty.trace",
+        Ok(0),
+        "sender 0: sent 0 0, accepted 0 0, refused 0 0, evicted 0 0, emitted 0 0\n\
+        sender 1: sent 0 0, accepted 0 0, refused 0 0, evicted 0 0, emitted 0 0\n",
+        &[],
+    ),
     // A run may go at any pace.
     (
         &[TREE, SENT],
