@@ -26,7 +26,7 @@ pub fn run_each_tick<R: Threads + Wait, W: Wait + Sync>(
     ensures emitted { IfOk result (λ outcome. (devices : List Device) × AreDevicesFrom plan.now 0 devices
         × (map (λ packets. packets.items) outcome.emitted.items ≡ map (λ d. d.emitted) devices)
         × AllByRecursion (λ d. AllByRecursion (λ q. AllByRecursion (λ s. MatchOption (tally_for outcome.tallies.items s) ⊥
-            (λ t. IsDealt t.accepted t.evicted (of_sender t.sender d.emitted))) q.senders) d.queues) devices) }
+        (λ t. IsDealt t.accepted t.evicted (of_sender t.sender d.emitted))) q.senders) d.queues) devices) }
     ensures fault { IfErr result (IsFaultOfRun plan.now traces.now) }
 {
     run(rt, alloc, wait, plan, traces, 1, 1000, &Free)

@@ -25,12 +25,12 @@ dealt sent d q (Some t) h = h.emitted
 all-dealt : (sent : ℕ → List Packet) (tallies : List Tally) (d : Device) → IsDeviceSettled sent tallies d → DealsAllOut tallies d
 all-dealt sent tallies d settled =
     all-weaker (IsQueueSettled sent tallies d) _ d.queues
-      (λ q h. all-weaker (λ s. MatchOption (tally_for tallies s) ⊥ (IsTallied sent d q)) _ q.senders (λ s t. dealt sent d q (tally_for tallies s) t) h.each)
-      settled.queues
+    (λ q h. all-weaker (λ s. MatchOption (tally_for tallies s) ⊥ (IsTallied sent d q)) _ q.senders (λ s t. dealt sent d q (tally_for tallies s) t) h.each)
+    settled.queues
 
 pub returns-clause-emitted : goal.returns-clause-emitted
 returns-clause-emitted g c =
     let traces = c.args.traces.now in
     IfOk-weaker c.run.result (IsRunOutcome c.args.plan.now traces 1 1000) _
-      (λ outcome h. (h.devices, h.each, h.emitted, all-weaker (IsDeviceSettled (sent_by traces) outcome.tallies.items) _ h.devices (all-dealt (sent_by traces) outcome.tallies.items) h.settled.settled))
-      c.run.ensures.outcome
+    (λ outcome h. (h.devices, h.each, h.emitted, all-weaker (IsDeviceSettled (sent_by traces) outcome.tallies.items) _ h.devices (all-dealt (sent_by traces) outcome.tallies.items) h.settled.settled))
+    c.run.ensures.outcome
