@@ -149,13 +149,13 @@ fn runs_of_eight_senders_are_reported(rt: HostRuntime) -> Result<(), Fail> {
 // Fails unless 800 packets came out in the visits of two devices, those of the first four senders at the first.
 fn assert_apart(rt: &(impl Files + AllocGlobal + Abort)) -> Result<(), Fail> {
     let text = fs::read(rt, "out/row.devices.csv")?;
-    let mut packets = 0;
+    let mut packets = 0_u32;
     for row in Reader::from_reader(rt.alloc(), text.as_slice()).records() {
         let row = row.expect(rt, "a row");
         let device = row.get(0).expect(rt, "a device");
         let sender = row.get(5).expect(rt, "a sender or none");
         if !sender.is_empty() {
-            packets += 1;
+            packets = packets.saturating_add(1);
             assert_eq!(rt; device == "0", ["0", "1", "2", "3"].contains(&sender));
         }
     }
