@@ -44,7 +44,7 @@ fn tree_of(alloc: Global, shape: Shape) -> Result<Tree, Fault> {
 }
 
 // The log of a session that keeps all of it.
-fn log_of(rt: &impl Abort, alloc: Global, shape: Shape, left: u64) -> Result<Vec<Visit>, Fault> {
+fn log_of(rt: &impl Abort, alloc: Global, shape: Shape, left: u64) -> Vec<Visit> {
     let steps = [
         Send(0, &LENGTHS),
         Send(1, &LENGTHS),
@@ -52,8 +52,8 @@ fn log_of(rt: &impl Abort, alloc: Global, shape: Shape, left: u64) -> Result<Vec
         Pull(&MOMENTS),
         Drain(left, CLOSED),
     ];
-    let (log, _) = session_after(rt, alloc, tree_of(alloc, shape), &steps)?.into_parts();
-    Ok(log)
+    let (log, _) = session_after(rt, alloc, tree_of(alloc, shape), &steps).into_parts();
+    log
 }
 
 /// A session that lets go of its log, and the pieces of it so far, in one list.
@@ -131,7 +131,7 @@ fn in_pieces(
 fn a_log_may_be_let_go_of_in_pieces(rt: HostRuntime) -> Result<(), Fault> {
     let alloc = rt.alloc();
     for (shape, left) in SHAPES {
-        let log = log_of(&rt, alloc, shape, left)?;
+        let log = log_of(&rt, alloc, shape, left);
         for piece in 1..=log.len() {
             let pieces = in_pieces(&rt, alloc, shape, left, piece)?;
             assert!(rt; pieces == log, "{shape:?} in pieces of {piece}");
