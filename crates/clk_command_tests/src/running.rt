@@ -2,7 +2,7 @@
 
 use crate::answer::{AMPLE, Row, SCRIPT, answer, assert_writes};
 use crate::files::{write, write_all};
-use crate::visits::read_back;
+use crate::visits::{Numbers, assert_shown, read_back};
 use clk_command::{Pace, run_trace};
 use clk_packet::{FailingSink, FailingSource, Fault};
 use clk_report::visits_csv;
@@ -218,7 +218,8 @@ fn the_logs_of_a_run_are_read_back(rt: HostRuntime) {
     let logs = outcome.expect(&rt, "a run");
     let csv = visits_text(rt.alloc(), &logs).expect(&rt, "ample memory");
     write(&rt, "out/logs.csv", csv).expect(&rt, "a file");
-    assert_eq!(rt; logs.as_slice(), &[read_back(&rt, "out/logs.csv")][..]);
+    assert_eq!(rt; logs.len(), 1);
+    assert_shown(&rt, "out/logs.csv", logs.first().expect(&rt, "a log"));
 }
 
 const EIGHT_SENDERS: &str = "s0 :: Sender(0); s1 :: Sender(1); s2 :: Sender(2); s3 :: Sender(3);
@@ -261,29 +262,30 @@ fn visits_go_at_the_pace_of_the_run(rt: HostRuntime) {
     let words = "run --step 7 --visits out/visited.csv out/sound.click out/visited.trace";
     let answered = answer(&rt, words, SCRIPT, AMPLE, AMPLE).expect(&rt, "ample memory");
     assert_eq!(rt; answered.outcome, Ok(0));
-    let visits = read_back(&rt, "out/visited.csv");
-    assert_paced(&rt, &visits);
-    let lengths = lengths_of(rt.alloc(), &visits).expect(&rt, "ample memory");
+    let rows = read_back(&rt, "out/visited.csv");
+    assert_paced(&rt, &rows);
+    let lengths = lengths_of(rt.alloc(), &rows).expect(&rt, "ample memory");
     assert_eq!(rt; lengths.as_slice(), &[10, 20, 30][..]);
 }
 
 // Pulls are seven ticks apart, and one once the drain has begun, and each packet passes.
-fn assert_paced(rt: &impl Abort, visits: &[Visit]) {
+fn assert_paced(rt: &impl Abort, rows: &[Numbers]) {
     let (mut last, mut ticks) = (0, 7);
-    for visit in visits {
-        let since = visit.moment.saturating_sub(last);
+    for row in rows {
+        let moment = row[8].expect(rt, "a moment");
+        let since = moment.saturating_sub(last);
         assert!(rt; since == 1 || since == 7 && ticks == 7);
-        assert!(rt; visit.passed || visit.got.is_none());
-        (last, ticks) = (visit.moment, since);
+        assert!(rt; row[7] == Some(1) || row[6].is_none());
+        (last, ticks) = (moment, since);
     }
 }
 
 // The lengths of the packets that came out.
-fn lengths_of(alloc: Global, visits: &[Visit]) -> Result<Vec<u16>, AllocError> {
+fn lengths_of(alloc: Global, rows: &[Numbers]) -> Result<Vec<u64>, AllocError> {
     let mut lengths = Vec::new(alloc);
-    for visit in visits {
-        if let Some(packet) = visit.got {
-            lengths.push(packet.length)?;
+    for row in rows {
+        if let Some(length) = row[6] {
+            lengths.push(length)?;
         }
     }
     Ok(lengths)

@@ -2,7 +2,7 @@
 
 use crate::answer::{AMPLE, Row, answer};
 use crate::files::write_all;
-use clk_packet::{FailingSink, FailingSource, Fault, Packet};
+use clk_packet::{FailingSink, FailingSource, Fault};
 use clk_sched::Visit;
 use clk_script::run_script_logged;
 use clk_tree::Plan;
@@ -11,7 +11,6 @@ use std::alloc::Global;
 use std::fs;
 use std::process::Abort;
 use std::rt::Files;
-use std::str::FromStr;
 
 const TREE: &str = "v, b :: Queue(3); s :: Sender(4); t :: Sender(70);
 p :: DRRSched(500, 700); h :: Shaper(1, 2); d :: ToDevice(link);
@@ -89,65 +88,60 @@ pub const ROWS: [Row; 5] = [
     ),
 ];
 
-// The number in a field of a row.
-fn number<T: FromStr>(row: &StringRecord, place: usize) -> Option<T>
-where
-    T::Err: Drop,
-{
-    row.get(place)?.parse().ok()
-}
+/// A row of a visit file, by the order of the columns: its numbers, None where there is none.
+pub type Numbers = [Option<u64>; 9];
 
-// The packet that a row shows, if it shows one.
-fn packet_of(row: &StringRecord) -> Option<Packet> {
-    let length = number(row, 6)?;
-    if length == 0 {
-        return None;
-    }
-    Some(Packet {
-        number: number(row, 5)?,
-        sender: number(row, 4)?,
-        length,
-    })
-}
-
-fn flag_of(row: &StringRecord, place: usize) -> Option<bool> {
-    match row.get(place)? {
-        "0" => Some(false),
-        "1" => Some(true),
-        _ => None,
-    }
-}
-
-// The visit that a row shows, by the order of the columns.
-fn visit_of(row: &StringRecord) -> Option<Visit> {
-    let got = match row.get(4)? {
-        "" => None,
-        _ => Some(packet_of(row)?),
-    };
-    Some(Visit {
-        pull: number(row, 0)?,
-        node: number(row, 1)?,
-        input: number(row, 2)?,
-        fresh: flag_of(row, 3)?,
-        got,
-        passed: flag_of(row, 7)?,
-        moment: number(row, 8)?,
-    })
-}
-
-/// The visits in a file of one device's.
-pub fn read_back(rt: &(impl Files + AllocGlobal + Abort), path: &str) -> Vec<Visit> {
+/// The rows of a file of one device's visits, as `csv` reads them.
+pub fn read_back(rt: &(impl Files + AllocGlobal + Abort), path: &str) -> Vec<Numbers> {
     let alloc = rt.alloc();
     let text = fs::read(rt, path).expect(rt, "a file");
-    let mut visits = Vec::new(alloc);
+    let mut rows = Vec::new(alloc);
     for row in Reader::from_reader(alloc, text.as_slice()).records() {
         let row = row.expect(rt, "a row");
         assert_eq!(rt; row.len(), 9);
-        visits
-            .push(visit_of(&row).expect(rt, "a visit"))
-            .expect(rt, "ample memory");
+        rows.push(numbers_of(&row)).expect(rt, "ample memory");
     }
-    visits
+    rows
+}
+
+fn numbers_of(row: &StringRecord) -> Numbers {
+    let number = |place: usize| -> Option<u64> { row.get(place)?.parse().ok() };
+    [
+        number(0),
+        number(1),
+        number(2),
+        number(3),
+        number(4),
+        number(5),
+        number(6),
+        number(7),
+        number(8),
+    ]
+}
+
+/// The row that shows a visit.
+fn row_of(visit: &Visit) -> Numbers {
+    let got = visit.got;
+    [
+        Some(visit.pull),
+        Some(visit.node.into()),
+        Some(visit.input.into()),
+        Some(visit.fresh.into()),
+        got.map(|packet| packet.sender.into()),
+        got.map(|packet| packet.number.into()),
+        got.map(|packet| packet.length.into()),
+        Some(visit.passed.into()),
+        Some(visit.moment),
+    ]
+}
+
+/// Fails unless the rows of this file show these visits, in order.
+pub fn assert_shown(rt: &(impl Files + AllocGlobal + Abort), path: &str, visits: &[Visit]) {
+    let rows = read_back(rt, path);
+    assert_eq!(rt; rows.len(), visits.len());
+    for (row, visit) in rows.iter().zip(visits) {
+        assert_eq!(rt; *row, row_of(visit));
+    }
 }
 
 /// The visits that a script makes over a tree, of each device.
@@ -169,7 +163,7 @@ fn visits_are_read_back(rt: HostRuntime) {
     let answered = answer(&rt, words, b"", AMPLE, AMPLE).expect(&rt, "ample memory");
     assert_eq!(rt; answered.outcome, Ok(0));
     let logs = logs_of(rt.alloc(), TREE, SCRIPT).expect(&rt, "ample memory");
-    let visits = read_back(&rt, "out/read_back.csv");
-    assert!(rt; visits.len() > 10);
-    assert_eq!(rt; logs.as_slice(), &[visits][..]);
+    let log = logs.first().expect(&rt, "a log");
+    assert!(rt; logs.len() == 1 && log.len() > 10);
+    assert_shown(&rt, "out/read_back.csv", log);
 }

@@ -176,7 +176,7 @@ pub struct Ended<'a, W: Wait> {
 ///
 /// # Errors
 ///
-/// Fault 1 where memory or a thread is refused. Those that were started end with the scope.
+/// Fault 1 where memory or a thread is refused. Those that were started are joined then too.
 pub fn send_and_pull<'s, E, R: Threads, W: Wait + Sync, G: Gate + Sync>(
     rt: &R,
     scope: &Scope<'s, E>,
@@ -202,8 +202,10 @@ pub fn send_and_pull<'s, E, R: Threads, W: Wait + Sync, G: Gate + Sync>(
         return Ok(Ended { closed, consumers });
     };
     let handle = start_sending(scope, course, producer)?;
-    let mut ended = send_and_pull(rt, scope, course, producers, consumers, ended)?;
-    ended.closed.push(handle.join(rt))?;
+    let ended = send_and_pull(rt, scope, course, producers, consumers, ended);
+    let seat = handle.join(rt);
+    let mut ended = ended?;
+    ended.closed.push(seat)?;
     Ok(ended)
 }
 
@@ -228,8 +230,10 @@ fn pull_each<'s, E, R: Threads, W: Wait + Sync, G: Gate + Sync>(
         return pull_first(course, consumer, pulled);
     }
     let handle = start_pulling(scope, course, consumer)?;
-    let mut pulled = pull_each(rt, scope, course, consumers, pulled)?;
-    pulled.push(handle.join(rt)?)?;
+    let pulled = pull_each(rt, scope, course, consumers, pulled);
+    let consumer = handle.join(rt);
+    let mut pulled = pulled?;
+    pulled.push(consumer?)?;
     Ok(pulled)
 }
 
