@@ -13,6 +13,7 @@ use Rattle.clap.specs.declared.builder.command.Command.{Command}
 use Rattle.clap.specs.declared.builder.command.Command.TheViews.{out-Command as fields_of}
 use Rattle.clap.specs.declared.builder.value_parser.ValueParser.TheVariants.{Signed}
 use Rattle.std.specs.Borrow.{Bor}
+use Rattle.clk_drain.specs.Limits.{most_step, most_limit}
 use Rattle.clk_command.specs.declared.words.Asked.{Asked}
 use Rattle.clk_command.specs.declared.words.Asked.TheVariants.{Builtin, Check, Script, Run}
 
@@ -45,7 +46,7 @@ script_words = with_rule (with_rule (with_rule (new_app (codes "script")) (file_
 abbrev pub run_words : App
 run_words = with_rule (with_rule (with_rule (with_rule (with_rule (new_app (codes "run"))
     (file_word (codes "TREE"))) (file_word (codes "TRACE")))
-    (number_option (codes "step") 1000 (codes "1"))) (number_option (codes "limit") 1000000 (codes "1000"))) (file_option (codes "visits"))
+    (number_option (codes "step") most_step (codes "1"))) (number_option (codes "limit") most_limit (codes "1000"))) (file_option (codes "visits"))
 
 -- what stands above the commands: the first word isn't the program's name
 abbrev pub top_words : App
@@ -105,7 +106,7 @@ abbrev pub task_by : Text → List Row → Task
 task_by name rows =
     if bytes_eq name (codes "check") then check (path_of rows (codes "TREE"))
     else if bytes_eq name (codes "script") then script (path_of rows (codes "TREE")) (path_of rows (codes "SCRIPT")) (first_of (codes "visits") rows)
-    else if bytes_eq name (codes "run") then run (path_of rows (codes "TREE")) (path_of rows (codes "TRACE")) (number_of rows (codes "step") 1000) (number_of rows (codes "limit") 1000000) (first_of (codes "visits") rows)
+    else if bytes_eq name (codes "run") then run (path_of rows (codes "TREE")) (path_of rows (codes "TRACE")) (number_of rows (codes "step") most_step) (number_of rows (codes "limit") most_limit) (first_of (codes "visits") rows)
     else builtin
 
 abbrev pub task_of : Option (Text × List Row) → Task

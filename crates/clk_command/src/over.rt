@@ -14,13 +14,11 @@ use crate::running::run_trace;
 use clk_packet::{Fault, Sink, Source, read_up_to, write_all};
 use clk_report::visits_csv;
 use clk_script::{run_script, run_script_logged};
+use clk_syntax::MAX_TREE_BYTES;
 use clk_tree::Plan;
 use std::alloc::Global;
 use std::sync::Wait;
 use std::thread::Threads;
-
-/// The bytes of a tree text at most. One byte more tells that a text is too long.
-const MOST_TREE_BYTES: usize = 1_048_576;
 
 /// Reads the plan of a tree text, to one byte past the limit of 1,048,576 at most.
 ///
@@ -34,7 +32,7 @@ pub fn read_plan<T: Source>(alloc: Global, tree: &mut T) -> Result<Plan, Fault>
     ensures not_write { IfErr result (λ fault. fault ≢ Write) }
     ensures limit { Takes (most_bytes + 1) (T.Source.remaining tree.old) (T.Source.remaining tree.new) }
 {
-    let text = read_up_to(alloc, tree, MOST_TREE_BYTES + 1)?;
+    let text = read_up_to(alloc, tree, MAX_TREE_BYTES + 1)?;
     Plan::read(alloc, &text)
 }
 

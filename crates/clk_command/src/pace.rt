@@ -3,12 +3,6 @@
 ghost use Rattle.std.specs.Prelude.{◌≤◌};
 ghost use Rattle.clk_drain.specs.Limits.{most_limit, most_step};
 
-/// How many ticks lie between two pulls of a device at most.
-pub const MAX_STEP: u32 = 1000;
-
-/// How often a device may be pulled at most while producers run.
-pub const MAX_LIMIT: u32 = 1_000_000;
-
 /// How devices are pulled while producers run.
 #[derive(Clone, Copy, Debug, PartialEq, Eq)]
 pub struct Pace {

@@ -7,10 +7,12 @@ ghost use Rattle.clap.specs.Kinds.{FailsBy};
 ghost use Rattle.clap.specs.Matches.{found_of};
 ghost use Rattle.clap.specs.Simple.{new_app, subcommand_rows_of};
 ghost use Rattle.clap.specs.Walk.{first_of, rows_of};
+ghost use Rattle.clk_drain.specs.Limits.{most_step, most_limit};
 ghost use Rattle.clk_command.specs.Words.{file_word, file_option, number_option, top_words, check_words, script_words, run_words, program_words, number_of, path_of, within_one_and, task, task_of, text_of, task_in, Reads, IsWord};
 
-use crate::pace::{MAX_LIMIT, MAX_STEP, Pace};
+use crate::pace::Pace;
 use clap::{Arg, ArgMatches, Command, Error, value_parser};
+use clk_drain::{MAX_LIMIT, MAX_STEP};
 use std::alloc::{AllocError, Global};
 
 /// What the words ask for. A file is named by its path.
@@ -99,8 +101,8 @@ fn visits_of<'a>(matches: &ArgMatches<'a>) -> Option<&'a str>
 
 /// The pace that two options gave.
 fn pace_of(matches: &ArgMatches<'_>) -> Pace
-    ensures step { result.step ≡ number_of (rows_of (found_of matches.now)) (codes "step") 1000 }
-    ensures limit { result.limit ≡ number_of (rows_of (found_of matches.now)) (codes "limit") 1000000 }
+    ensures step { result.step ≡ number_of (rows_of (found_of matches.now)) (codes "step") most_step }
+    ensures limit { result.limit ≡ number_of (rows_of (found_of matches.now)) (codes "limit") most_limit }
 {
     Pace {
         step: number_of(matches, STEP, MAX_STEP),

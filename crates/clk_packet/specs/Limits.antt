@@ -1,38 +1,39 @@
 -- The limits of packets, queues and trees (this project's own choice).
 use Rattle.std.specs.Prelude.{ℕ}
+use Rattle.clk_packet.specs.declared.limits.TheConstants.{MAX_SENDER, MAX_LENGTH, MAX_CAPACITY, MAX_INPUTS, MAX_LEVELS, MAX_QUANTUM, MAX_TICKETS, MAX_RATE, MAX_BURST, MAX_ELEMENTS}
 
 -- the greatest number of a sender
 abbrev pub most_sender : ℕ
-most_sender = 65535
+most_sender = MAX_SENDER
 
 -- the greatest length of a packet, in bytes
 abbrev pub most_length : ℕ
-most_length = 65535
+most_length = MAX_LENGTH
 
 -- how many packets a queue holds at most
 abbrev pub most_capacity : ℕ
-most_capacity = 1000000
+most_capacity = MAX_CAPACITY
 
 -- how many inputs a scheduler has at most, and how many schedulers stand on a path
 abbrev pub most_inputs : ℕ
-most_inputs = 64
+most_inputs = MAX_INPUTS
 
 abbrev pub most_levels : ℕ
-most_levels = 64
+most_levels = MAX_LEVELS
 
 -- the greatest quantum in bytes, number of tickets, rate in packets a tick, and burst in packets
 abbrev pub most_quantum : ℕ
-most_quantum = 1000000
+most_quantum = MAX_QUANTUM
 
 abbrev pub most_tickets : ℕ
-most_tickets = 32768
+most_tickets = MAX_TICKETS
 
 abbrev pub most_rate : ℕ
-most_rate = 1000000
+most_rate = MAX_RATE
 
 abbrev pub most_burst : ℕ
-most_burst = 1000000
+most_burst = MAX_BURST
 
 -- how many queues and schedulers a tree of a session has at most, the device counted
 abbrev pub most_elements : ℕ
-most_elements = 256
+most_elements = MAX_ELEMENTS

@@ -5,16 +5,17 @@ use Rattle.std.specs.List.{filter_map}
 use Rattle.csv.specs.Reading.{default_config, records, strip_bom}
 use Rattle.clk_packet.specs.Limits.{most_sender, most_length}
 use Rattle.clk_packet.specs.Numbers.{number_in}
+use Rattle.clk_packet.specs.declared.limits.TheConstants.{MAX_TRACE_BYTES, MAX_RECORDS}
 use Rattle.clk_packet.specs.declared.packet.Packet.{Packet}
 use Rattle.clk_packet.specs.declared.fault.Fault.{Fault}
 use Rattle.clk_packet.specs.declared.fault.Fault.TheVariants.{Memory, Read, TooLarge, BadTrace}
 
 -- how many bytes and records a trace may have
 abbrev pub most_trace_bytes : ℕ
-most_trace_bytes = 33554432
+most_trace_bytes = MAX_TRACE_BYTES
 
 abbrev pub most_records : ℕ
-most_records = 1000000
+most_records = MAX_RECORDS
 
 -- The records of a text, each a list of fields: lines of fields between commas, as the crate csv reads them without a header row. A
 -- byte order mark at the front and empty lines are none.

@@ -9,6 +9,7 @@ mod fault;
 mod from_std;
 mod io;
 mod lengths;
+mod limits;
 mod number;
 mod packet;
 mod packets;
@@ -22,6 +23,10 @@ pub use failures::Failures;
 pub use fault::Fault;
 pub use from_std::{FromRead, ToWrite};
 pub use io::{Failed, Sink, Source};
+pub use limits::{
+    MAX_BURST, MAX_CAPACITY, MAX_ELEMENTS, MAX_INPUTS, MAX_LENGTH, MAX_LEVELS, MAX_QUANTUM, MAX_RATE,
+    MAX_RECORDS, MAX_SENDER, MAX_TICKETS, MAX_TRACE_BYTES,
+};
 pub use number::{number_before, number_in};
 pub use packet::{Kind, Offered, Packet};
 pub use packets::Packets;

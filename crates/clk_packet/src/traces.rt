@@ -7,8 +7,9 @@ use crate::bytes::{let_go, read_up_to};
 use crate::fault::Fault;
 use crate::io::Source;
 use crate::lengths::{Length, Lengths};
+use crate::limits::MAX_TRACE_BYTES;
 use crate::packet::Packet;
-use records::{MAX_BYTES, read_text};
+use records::read_text;
 use std::alloc::Global;
 use std::marker::Model;
 
@@ -59,7 +60,7 @@ impl Traces {
         // The reader is read to one byte past the limit at most.
         ensures limit { Takes (most_trace_bytes + 1) (R.Source.remaining reader.old) (R.Source.remaining reader.new) }
     {
-        let text = read_up_to(alloc, reader, MAX_BYTES + 1)?;
+        let text = read_up_to(alloc, reader, MAX_TRACE_BYTES + 1)?;
         let traces = read_text(alloc, &text);
         let_go(text);
         traces

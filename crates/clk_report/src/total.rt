@@ -6,10 +6,10 @@ ghost use Rattle.clk_report.specs.Devices.{came_out};
 ghost use Rattle.clk_report.specs.inside.Totals.{AreTotals, HasRoom};
 
 use crate::senders::MAX_DEVICES;
-use clk_packet::Packet;
+use clk_packet::{MAX_SENDER, Packet};
 
 /// How many senders there may be.
-pub const SENDERS: usize = 65_536;
+pub const SENDERS: usize = MAX_SENDER as usize + 1;
 
 /// How many totals a small table has, for a report whose senders' numbers are below it.
 pub const FEW: usize = 256;

@@ -9,15 +9,9 @@ ghost use Rattle.clk_packet.specs.Limits.{most_quantum, most_tickets, most_rate,
 ghost use Rattle.clk_sched.specs.Tree.{prio, round_robin, drr, stride, shaper, queue, height, IsWellFormed};
 ghost use Rattle.clk_sched.specs.Built.{built, row};
 
-use clk_packet::Fault;
+use clk_packet::{Fault, MAX_INPUTS, MAX_LEVELS};
 use std::alloc::Global;
 use std::marker::Model;
-
-/// How many inputs a scheduler has at most.
-const MAX_INPUTS: usize = 64;
-
-/// How many schedulers stand on a path at most.
-const MAX_LEVELS: u8 = 64;
 
 /// A tree of schedulers over queues: a queue alone, or a scheduler with its inputs.
 #[cycle(tree)]

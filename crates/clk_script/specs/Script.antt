@@ -8,6 +8,7 @@ use Rattle.clk_packet.specs.Limits.{most_sender, most_length}
 use Rattle.clk_packet.specs.Numbers.{has_bytes, number_in}
 use Rattle.clk_packet.specs.declared.fault.Fault.{Fault}
 use Rattle.clk_packet.specs.declared.fault.Fault.TheVariants.{TooLarge, BadScript, UnknownSender}
+use Rattle.clk_script.specs.declared.limits.TheConstants.{MAX_BYTES, MAX_LINES, MAX_MOMENT, MAX_DEVICE}
 use Rattle.clk_script.specs.declared.script.Command.{Command}
 use Rattle.clk_script.specs.declared.script.Command.TheVariants.{Send, Pull}
 use Rattle.clk_script.specs.declared.script.Line.{Line}
@@ -15,17 +16,17 @@ use Rattle.clk_script.specs.declared.script.Line.TheVariants as line
 
 -- how many bytes and lines a script may have, and the greatest moment that it may name, in ticks
 abbrev pub most_bytes : ℕ
-most_bytes = 33554432
+most_bytes = MAX_BYTES
 
 abbrev pub most_lines : ℕ
-most_lines = 1000000
+most_lines = MAX_LINES
 
 abbrev pub most_moment : ℕ
-most_moment = 2 ^ 40 - 1
+most_moment = MAX_MOMENT
 
 -- the greatest number of a device that a line may hold
 abbrev pub most_device : ℕ
-most_device = 65535
+most_device = MAX_DEVICE
 
 -- a space or a tab
 abbrev pub is_blank : ℕ → Bool

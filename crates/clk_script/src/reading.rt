@@ -7,8 +7,9 @@ ghost use Rattle.clk_script.specs.Script.{lines_of, drain_in, command_fault, fau
 ghost use Rattle.clk_script.specs.inside.Router.{tally_sender, named_by};
 ghost use Rattle.clk_script.specs.inside.Rows.{rows_in, IsReadFrom, CanBeRun};
 
+use crate::limits::{MAX_BYTES, MAX_LINES};
 use crate::rows::Row;
-use crate::script::{Command, Line, MAX_BYTES, MAX_LINES};
+use crate::script::{Command, Line};
 use crate::tallies::place_of;
 use clk_packet::{Fault, Tally};
 use std::alloc::Global;

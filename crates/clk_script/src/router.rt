@@ -41,6 +41,7 @@ impl Router {
     ghost use Rattle.std.specs.List.{AllByRecursion, list_any};
     ghost use Rattle.clk_packet.specs.declared.packet.Packet.{Packet};
     ghost use Rattle.clk_packet.specs.declared.fault.Fault.TheVariants.{Memory};
+    ghost use Rattle.clk_sched.specs.Limits.{end_of_moments};
     ghost use Rattle.clk_tree.specs.PlanParts.{queued, HasCapacity};
     ghost use Rattle.clk_script.specs.Script.{most_lines, most_moment};
     ghost use Rattle.clk_script.specs.Meaning.{Setup, Event, offered, setup_of};
@@ -131,7 +132,7 @@ impl Router {
     /// Pulls a device once, at this moment in ticks or, where that is later, at the greatest so far. Fault 1 where memory is refused.
     pub fn pull(&mut self, device: u16, moment: u64) -> Result<Option<Packet>, Fault>
         requires steady { IsSteadyAt (slice_get self.old.devices.items device) }
-        requires moment { moment < 2 ^ 44 }
+        requires moment { moment < end_of_moments }
         ensures leads { IfOk result (λ got. (setup : Setup) (events : _) → IsAt setup events self.old → LeadsOnByPull setup self.new device moment got events) }
         ensures given { IfOk result (λ got. self.new.given.items ≡ given_kept self.old got) }
         ensures visits { OnOk result (self.new.visits ≡ self.old.visits) }

@@ -15,10 +15,10 @@ ghost use Rattle.clk_script.specs.Script.{most_bytes};
 ghost use Rattle.clk_script.specs.Meaning.{IsMeaning, MeansWith, Explains, setup_of, MeansOver, MeansOverWith, ExplainsPlan};
 
 use crate::answer::answer_script;
+use crate::limits::MAX_BYTES;
 use crate::past::Past;
 use crate::reading::read_script;
 use crate::router::Router;
-use crate::script::MAX_BYTES;
 use crate::writing::write_answer;
 use clk_packet::{Fault, Sink, Source, let_go, read_up_to};
 use clk_sched::{Tree, Visit};

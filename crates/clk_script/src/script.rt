@@ -1,16 +1,8 @@
 //! The lines of a script.
 
 use crate::fields::{first_field, first_line, first_number};
-use clk_packet::number_before;
-
-/// How many bytes a script may have.
-pub const MAX_BYTES: usize = 33_554_432;
-
-/// How many lines a script may have.
-pub const MAX_LINES: u32 = 1_000_000;
-
-/// The greatest moment that a script may name, in ticks.
-const MAX_MOMENT: u64 = (1 << 40) - 1;
+use crate::limits::{MAX_DEVICE, MAX_MOMENT};
+use clk_packet::{MAX_LENGTH, MAX_SENDER, number_before};
 
 /// What a line of a script asks for.
 #[derive(Clone, Copy, Debug, PartialEq, Eq)]
@@ -74,8 +66,8 @@ impl Line {
     fn plain_send(text: &[u8]) -> Option<(Line, &[u8])>
         ensures { IfSome result (λ r. (lines_of (codes "send " ++ text.now) ≡ r.0 ∷ lines_of r.1.now) × (length r.1.now < length text.now)) }
     {
-        let (sender, rest) = number_before(text, b' ', 0, 65_535)?;
-        let (length, rest) = number_before(rest, b'\n', 1, 65_535)?;
+        let (sender, rest) = number_before(text, b' ', 0, MAX_SENDER)?;
+        let (length, rest) = number_before(rest, b'\n', 1, MAX_LENGTH)?;
         let line = Line::Command(Command::Send {
             sender: sender as u16,
             length: length as u16,
@@ -114,7 +106,7 @@ impl Line {
         if device.is_empty() {
             return Line::Command(Command::Pull { device: 0, moment });
         }
-        let Some((device, rest)) = first_number(rest, 0, 65_535) else {
+        let Some((device, rest)) = first_number(rest, 0, MAX_DEVICE) else {
             return Line::Malformed;
         };
         let (more, _) = first_field(rest);
@@ -150,10 +142,10 @@ impl Line {
     fn send(text: &[u8]) -> Line
         ensures { result ≡ line_of_fields (codes "send" ∷ fields text.now) }
     {
-        let Some((sender, rest)) = first_number(text, 0, 65_535) else {
+        let Some((sender, rest)) = first_number(text, 0, MAX_SENDER) else {
             return Line::Malformed;
         };
-        let Some((length, rest)) = first_number(rest, 1, 65_535) else {
+        let Some((length, rest)) = first_number(rest, 1, MAX_LENGTH) else {
             return Line::Malformed;
         };
         let (more, _) = first_field(rest);

@@ -1,10 +1,11 @@
 -- The limits of a tree text (this project's own choice).
 use Rattle.std.specs.Prelude.{ℕ}
+use Rattle.clk_syntax.specs.declared.limits.TheConstants.{MAX_TREE_BYTES, MAX_PORT}
 
 -- in bytes
 abbrev pub most_bytes : ℕ
-most_bytes = 1048576
+most_bytes = MAX_TREE_BYTES
 
 -- the greatest port
 abbrev pub most_port : ℕ
-most_port = 65535
+most_port = MAX_PORT

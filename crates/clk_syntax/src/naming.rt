@@ -17,6 +17,7 @@ ghost use Rattle.clk_syntax.specs.inside.Naming.{Declares, IsSlotted, IsTable, J
 ghost use Rattle.clk_syntax.specs.inside.Numbers.{has_number};
 ghost use Rattle.clk_syntax.specs.Within.{IsWithin, AreWithin, IsDeclaredWithin, IsConnectedWithin, IsLinkWithin, IsNamed, IsNumber, HasNumbers, words_in};
 
+use crate::limits::MAX_PORT;
 use crate::naming::class::{Class, ClassName, Role, letters};
 use crate::naming::names::Names;
 use crate::naming::numbers::Numbers;
@@ -299,9 +300,9 @@ fn port_at(text: &[u8], written: &Option<Token>) -> u32
     ensures { result ≡ port text.now written.now }
 {
     match written {
-        Some(number) => match number_in(letters(text, number), 0, 65_535) {
+        Some(number) => match number_in(letters(text, number), 0, MAX_PORT as u64) {
             Some(number) => number as u32,
-            None => 65_536,
+            None => MAX_PORT + 1,
         },
         None => 0,
     }

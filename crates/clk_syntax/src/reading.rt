@@ -11,15 +11,13 @@ ghost use Rattle.clk_syntax.specs.Classes.{is_class};
 ghost use Rattle.clk_syntax.specs.Within.{IsDeclaredWithin, IsLinkWithin, HasPorts, words_in};
 ghost use Rattle.clk_syntax.specs.Reading.{IsNamedText, HasFault};
 
+use crate::limits::MAX_TREE_BYTES;
 use crate::naming::{Named, name_all};
 use crate::texts::lexer::tokens_of;
 use crate::texts::parser::statements_of;
 use crate::texts::statements::Statements;
 use clk_packet::Fault;
 use std::alloc::Global;
-
-/// How many bytes a text may have.
-const MAX_BYTES: usize = 1_048_576;
 
 /// What a text declares and connects, by name. Fault 1 where memory is refused; else 18 for a text that is too long, 2, and then 5, 3, 4 and 6.
 pub fn named_text(alloc: Global, text: &[u8]) -> Result<(Statements, Named), Fault>
@@ -33,7 +31,7 @@ pub fn named_text(alloc: Global, text: &[u8]) -> Result<(Statements, Named), Fau
     ensures ports { IfOk result (λ r. AllByRecursion HasPorts r.1.links.items) }
     ensures fault { IfErr result (λ fault. (fault ≡ Memory) ⊎ HasFault text.now fault) }
 {
-    if text.len() > MAX_BYTES {
+    if text.len() > MAX_TREE_BYTES {
         return Err(Fault::TooLarge);
     }
     let tokens = tokens_of(alloc, text)?;

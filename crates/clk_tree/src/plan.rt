@@ -21,7 +21,7 @@ use crate::plan::element::Element;
 use crate::plan::parts::{queues_of, senders_of};
 use crate::plan::text::canonical_text;
 use crate::plan::tree::tree_at;
-use clk_packet::Fault;
+use clk_packet::{Fault, MAX_LEVELS};
 use clk_sched::Tree;
 use clk_syntax::{Class, Graph, check_graph, named_text};
 pub use parts::{QueueSpec, SenderSpec};
@@ -129,7 +129,7 @@ impl Plan {
         ensures leaves { IfOk result (λ tree. (q : ℕ) → stands_in q (leaves (root tree)) ≡ leads_to device (slice_get (queues_of self.now) q)) }
         ensures fault { IsOkUnless result Memory }
     {
-        tree_at(alloc, &self.elements, self.tops[device as usize], 64)
+        tree_at(alloc, &self.elements, self.tops[device as usize], MAX_LEVELS)
     }
 
     /// The queues of the plan, by their numbers.

@@ -7,9 +7,9 @@ ghost use Rattle.clk_packet.specs.Trace.{first_fault, most_records, packets_in, 
 
 use crate::fault::Fault;
 use crate::lengths::Length;
+use crate::limits::{MAX_LENGTH, MAX_RECORDS, MAX_SENDER};
 use crate::number::number_before;
 use crate::traces::Traces;
-use crate::traces::records::MAX_RECORDS;
 use std::alloc::Global;
 
 /// Reads the text of a trace by plain lines. None where a line isn't plain, or where there are too many of them. Fault 1 where memory
@@ -40,8 +40,8 @@ pub fn read_plain(alloc: Global, text: &[u8]) -> Result<Option<Traces>, Fault>
 fn plain_record(text: &[u8]) -> Option<(u16, Length, &[u8])>
     ensures { IfSome result (λ r. IsPlainLine text.now r.0 r.1.bytes r.2.now) }
 {
-    let (sender, text) = number_before(text, b',', 0, 65_535)?;
-    let (length, rest) = number_before(text, b'\n', 1, 65_535)?;
+    let (sender, text) = number_before(text, b',', 0, MAX_SENDER)?;
+    let (length, rest) = number_before(text, b'\n', 1, MAX_LENGTH)?;
     let length = Length {
         bytes: length as u16,
     };

@@ -7,17 +7,12 @@ ghost use Rattle.clk_packet.specs.Trace.{most_records, packets_in, pair_in, pair
 
 use crate::fault::Fault;
 use crate::lengths::Length;
+use crate::limits::{MAX_LENGTH, MAX_RECORDS, MAX_SENDER, MAX_TRACE_BYTES};
 use crate::number::number_in;
 use crate::traces::Traces;
 use crate::traces::plain::read_plain;
 use csv::{ByteRecord, ReaderBuilder};
 use std::alloc::Global;
-
-/// How many bytes a trace may have.
-pub const MAX_BYTES: usize = 33_554_432;
-
-/// How many records a trace may have.
-pub const MAX_RECORDS: u32 = 1_000_000;
 
 /// Reads the text of a trace: by plain lines, where all of its lines are plain, and otherwise as `csv` reads it. Fault 1 where memory
 /// is refused, and otherwise what is wrong with the text.
@@ -26,7 +21,7 @@ pub fn read_text(alloc: Global, text: &[u8]) -> Result<Traces, Fault>
         (λ traces. (trace_fault text.now ≡ None) × ((s : _) → shown (sent_by traces s) ≡ sent s (pairs_of text.now)) × (packets_in traces ≤ most_records))
         (λ fault. (fault ≡ Memory) ⊎ (trace_fault text.now ≡ Some fault)) }
 {
-    if text.len() > MAX_BYTES {
+    if text.len() > MAX_TRACE_BYTES {
         return Err(Fault::TooLarge);
     }
     if let Some(traces) = read_plain(alloc, text)? {
@@ -74,8 +69,8 @@ fn pair_in(fields: &ByteRecord) -> Option<(u16, Length)>
     if fields.len() != 2 {
         return None;
     }
-    let sender = number_in(fields.get(0)?, 0, 65_535)?;
-    let length = number_in(fields.get(1)?, 1, 65_535)?;
+    let sender = number_in(fields.get(0)?, 0, MAX_SENDER)?;
+    let length = number_in(fields.get(1)?, 1, MAX_LENGTH)?;
     Some((
         sender as u16,
         Length {

@@ -31,6 +31,7 @@ pub struct Nodes {
 impl Nodes {
     ghost use Rattle.std.specs.Prelude.{◌≡◌, ◌-◌, ◌<◌, ◌++◌, ◌∷◌, [], ◌+◌, ◌≤◌, length, IsSome, IfSome, Some, slice_get, true};
     ghost use Rattle.std.specs.List.{AllByRecursion, range_with_len};
+    ghost use Rattle.clk_packet.specs.Limits.{most_inputs};
     ghost use Rattle.clk_sched.specs.declared.visit.Visit.{Visit};
     ghost use Rattle.clk_sched.specs.declared.session.state.State.TheVariants.{Prio};
     ghost use Rattle.clk_sched.specs.Places.{Answers};
@@ -122,7 +123,7 @@ impl Nodes {
     ) -> Option<(u16, Packet)>
         requires can_pull { CanPull self.old node (edges_in self.old.inputs.items node (range_with_len first count)) }
         requires within { AllByRecursion (λ i. IsSome (input_at self.old.inputs.items node i)) (range_with_len first count) }
-        requires few { first + count ≤ 64 }
+        requires few { first + count ≤ most_inputs }
         ensures place { IfSome result (λ r. r.0 < count) }
         ensures asked { HasAskedAll Q.gives self.old self.new q.old q.new node (range_with_len first count) result }
     {

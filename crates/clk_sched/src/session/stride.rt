@@ -2,7 +2,7 @@
 
 ghost use Rattle.std.specs.Prelude.{◌≡◌, ◌≤◌, ◌<◌, ◌+◌, ◌^◌, ◌++◌, take, drop, length, map, IfOk};
 ghost use Rattle.std.specs.List.{All, AllByRecursion, range_with_len};
-ghost use Rattle.clk_packet.specs.Limits.{most_tickets};
+ghost use Rattle.clk_packet.specs.Limits.{most_inputs, most_tickets};
 ghost use Rattle.clk_sched.specs.Laws.Stride.{stride_of};
 ghost use Rattle.clk_sched.specs.inside.Ranks.{greatest_stride, IsRankOf, HasRisingPasses, HasRisingPasses-prop, is_up_to, put_rank, after_win, first_pass, first_rank, less};
 
@@ -55,7 +55,7 @@ impl Passes {
     ///
     /// Where the allocator refuses memory.
     pub fn new(alloc: Global, tickets: &[u32]) -> Result<Passes, AllocError>
-        requires inputs { length tickets.now ≤ 64 }
+        requires inputs { length tickets.now ≤ most_inputs }
         requires tickets { AllByRecursion (λ n. (1 ≤ n) × (n ≤ most_tickets)) tickets.now }
         ensures holds { IfOk result (λ p. HoldsPasses tickets.now [] p) }
         ensures inputs { IfOk result (λ p. length p.row.items ≡ length tickets.now) }

@@ -6,9 +6,7 @@ ghost use Rattle.clk_sched.specs.Built.{row};
 ghost use Rattle.clk_sched.specs.Bound.{lesser, least, least_quantum};
 
 use super::{Class, Node, Tree};
-
-/// The greatest length of a packet, in bytes.
-const MAX_LENGTH: u64 = 65_535;
+use clk_packet::MAX_LENGTH;
 
 impl Tree {
     ghost use Rattle.clk_sched.specs.Bound.{rounds, closing_bound};

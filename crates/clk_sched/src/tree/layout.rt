@@ -16,12 +16,9 @@ use crate::session::round_robin::Beginning;
 use crate::session::shaper::Bucket;
 use crate::session::state::State;
 use crate::session::stride::Passes;
-use clk_packet::Fault;
+use clk_packet::{Fault, MAX_ELEMENTS};
 use std::alloc::{AllocError, Global};
 use std::slice;
-
-/// How many queues and schedulers a tree of a session has at most, the device counted.
-const MAX_ELEMENTS: u16 = 256;
 
 /// The tables of nodes, by number, as they are filled.
 #[derive(Drop)]

@@ -1,9 +1,7 @@
 //! What the ports of an element are.
 
+use crate::limits::MAX_PORT;
 use crate::naming::class::Role;
-
-/// The greatest port.
-const MOST_PORT: u32 = 65_535;
 
 impl Role {
     ghost use Rattle.std.specs.Prelude.{◌≡◌, Some};
@@ -67,8 +65,8 @@ impl Role {
         match self {
             Role::Source => false,
             Role::Queue | Role::Device => input == 0,
-            Role::Scheduler => input <= MOST_PORT,
-            Role::SchedulerOf(inputs) => input < inputs && input <= MOST_PORT,
+            Role::Scheduler => input <= MAX_PORT,
+            Role::SchedulerOf(inputs) => input < inputs && input <= MAX_PORT,
         }
     }
 

@@ -11,17 +11,17 @@ use crate::checks::paths::ends_of;
 use crate::checks::tables::Graph;
 use crate::naming::class::Role;
 use crate::node::Node;
-use clk_packet::Fault;
+use clk_packet::{Fault, MAX_ELEMENTS, MAX_INPUTS, MAX_LEVELS};
 use std::alloc::Global;
 
 /// How many inputs an element has at most.
-const MOST_INPUTS: u32 = 64;
+const MOST_INPUTS: u32 = MAX_INPUTS as u32;
 
 /// How many schedulers and Shapers stand on a way at most.
-const MOST_LEVELS: u32 = 64;
+const MOST_LEVELS: u32 = MAX_LEVELS as u32;
 
 /// How many elements there are at most.
-const MOST_ELEMENTS: usize = 256;
+const MOST_ELEMENTS: usize = MAX_ELEMENTS as usize;
 
 /// Whether a device is declared.
 pub fn has_device(nodes: &[Node]) -> bool

@@ -9,7 +9,9 @@ ghost use Rattle.clk_syntax.specs.Source.{letters};
 ghost use Rattle.clk_syntax.specs.Within.{IsWithin, AreWithin};
 
 use crate::texts::token::Token;
-use clk_packet::{Fault, Kind, number_in};
+use clk_packet::{
+    Fault, Kind, MAX_BURST, MAX_CAPACITY, MAX_QUANTUM, MAX_RATE, MAX_SENDER, MAX_TICKETS, number_in,
+};
 use std::alloc::Global;
 
 /// The name of a class.
@@ -184,7 +186,7 @@ impl Class {
     {
         match arguments {
             [number] => {
-                let number = number_at(text, number, 0, 65_535)?;
+                let number = number_at(text, number, 0, MAX_SENDER as u32)?;
                 Some(Class::Sender(number as u16))
             }
             _ => None,
@@ -198,7 +200,7 @@ impl Class {
         match arguments {
             [] => Some(Class::Queue(kind, 1000)),
             [capacity] => {
-                let capacity = number_at(text, capacity, 1, 1_000_000)?;
+                let capacity = number_at(text, capacity, 1, MAX_CAPACITY)?;
                 Some(Class::Queue(kind, capacity))
             }
             _ => None,
@@ -233,7 +235,7 @@ impl Class {
             quanta.push(500)?;
             return Ok(Some(Class::DrrSched(quanta)));
         }
-        match numbers_at(alloc, text, arguments, 1_000_000)? {
+        match numbers_at(alloc, text, arguments, MAX_QUANTUM)? {
             Some(quanta) => Ok(Some(Class::DrrSched(quanta))),
             None => Ok(None),
         }
@@ -247,7 +249,7 @@ impl Class {
         if arguments.is_empty() {
             return Ok(None);
         }
-        match numbers_at(alloc, text, arguments, 32_768)? {
+        match numbers_at(alloc, text, arguments, MAX_TICKETS)? {
             Some(tickets) => Ok(Some(Class::StrideSched(tickets))),
             None => Ok(None),
         }
@@ -262,8 +264,8 @@ impl Class {
             [rate, burst] => (rate, burst),
             _ => return None,
         };
-        let rate = number_at(text, rate, 1, 1_000_000)?;
-        let burst = number_at(text, burst, 1, 1_000_000)?;
+        let rate = number_at(text, rate, 1, MAX_RATE)?;
+        let burst = number_at(text, burst, 1, MAX_BURST)?;
         Some(Class::Shaper(rate, burst))
     }
 

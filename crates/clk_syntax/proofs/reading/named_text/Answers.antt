@@ -24,14 +24,14 @@ name_all-requires-clause-few c =
     let r = c.in_ok-statements.ensures.read in
     let few = words-few c.deref.result.now r.0 r.1 in let less = tokens-few c.args.text.now in
     let same = ap length (c.deref.ensures.value ∙ c.in_ok-tokens.ensures.tokens) in
-    subst (λ d. words_in d ≤ most_bytes) (sym r.2) (omega (arith, few, less, same, c.if-text-gt-MAX_BYTES.false))
+    subst (λ d. words_in d ≤ most_bytes) (sym r.2) (omega (arith, few, less, same, c.if-text-gt-MAX_TREE_BYTES.false))
 
 pub returns-clause-words : goal.returns-clause-words
 returns-clause-words c =
     let r = c.in_ok-statements.ensures.read in
     let few = words-few c.deref.result.now r.0 r.1 in let less = tokens-few c.args.text.now in
     let same = ap length (c.deref.ensures.value ∙ c.in_ok-tokens.ensures.tokens) in
-    subst (λ d. words_in d ≤ most_bytes) (sym r.2) (omega (arith, few, less, same, c.if-text-gt-MAX_BYTES.false))
+    subst (λ d. words_in d ≤ most_bytes) (sym r.2) (omega (arith, few, less, same, c.if-text-gt-MAX_TREE_BYTES.false))
 
 pub returns-clause-few_nodes : goal.returns-clause-few_nodes
 returns-clause-few_nodes c =
@@ -40,7 +40,7 @@ returns-clause-few_nodes c =
     let same = ap length (c.deref.ensures.value ∙ c.in_ok-tokens.ensures.tokens) in
     let words = ap words_in r.2 in
     let all = elements-few c.args.text.now (map kept c.in_ok-statements.statements.declarations.items) in
-    omega (arith, few, less, same, words, all, c.in_ok-named.ensures.count, c.if-text-gt-MAX_BYTES.false)
+    omega (arith, few, less, same, words, all, c.in_ok-named.ensures.count, c.if-text-gt-MAX_TREE_BYTES.false)
 
 pub returns-clause-few_links : goal.returns-clause-few_links
 returns-clause-few_links c =
@@ -49,7 +49,7 @@ returns-clause-few_links c =
     let same = ap length (c.deref.ensures.value ∙ c.in_ok-tokens.ensures.tokens) in
     let connections = ap length r.3 in
     let links = ap length c.in_ok-named.ensures.links ∙ links-length c.args.text.now (elements c.args.text.now (map kept c.in_ok-statements.statements.declarations.items)) c.in_ok-statements.statements.connections.items in
-    omega (arith, few, less, same, connections, links, c.if-text-gt-MAX_BYTES.false)
+    omega (arith, few, less, same, connections, links, c.if-text-gt-MAX_TREE_BYTES.false)
 
 pub returns-clause-ports : goal.returns-clause-ports
 returns-clause-ports c =

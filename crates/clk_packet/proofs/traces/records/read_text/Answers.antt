@@ -26,7 +26,7 @@ returns-then-not-found c =
     let read = rw c.if-not-found.true at (c.in-Ok.ensures.reads inv.plain inv.ready) in
     let none = rows-end (λ (s : Bor (List ℕ)). Some s.now) c.loop-row.reader c.read_byte_record.new.self (fields_of c.read_byte_record.new.row) default_config stands.rest inv.config stands.left_is read in
     let end = Stands-end _ _ _ _ _ stands none in
-    (trace_fault-short c.args.text.now c.if-text-gt-MAX_BYTES.false ∙ end.sound, end.sent_is, omega (arith, few, short))
+    (trace_fault-short c.args.text.now c.if-text-gt-MAX_TRACE_BYTES.false ∙ end.sound, end.sent_is, omega (arith, few, short))
 
 pub returns-in_err-sender : goal.returns-in_err-sender
 returns-in_err-sender c =
@@ -35,7 +35,7 @@ returns-in_err-sender c =
     let stands = inv.stands in
     let read = rw c.if-not-found.false at (c.in-Ok.ensures.reads inv.plain inv.ready) in
     let goes = goes-read (λ (s : Bor (List ℕ)). Some s.now) c.loop-row.reader c.read_byte_record.new.self (fields_of c.read_byte_record.new.row) stands.rest inv.config stands.left_is read in
-    rw (p.1, p.2) (inr (trace_fault-short c.args.text.now c.if-text-gt-MAX_BYTES.false ∙ Stands-fault _ _ _ _ _ _ _ _ _ stands goes c.in_err-sender.ensures))
+    rw (p.1, p.2) (inr (trace_fault-short c.args.text.now c.if-text-gt-MAX_TRACE_BYTES.false ∙ Stands-fault _ _ _ _ _ _ _ _ _ stands goes c.in_err-sender.ensures))
 
 pub loop-row-preserved : goal.loop-row-preserved
 loop-row-preserved c =

@@ -1,0 +1,7 @@
+//! The limits of a tree text (this project's own choice).
+
+/// How many bytes a text may have.
+pub const MAX_TREE_BYTES: usize = 1_048_576;
+
+/// The greatest port.
+pub const MAX_PORT: u32 = 65_535;
