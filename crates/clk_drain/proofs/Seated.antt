@@ -4,12 +4,13 @@ use Rattle.std.specs.List.{AllByRecursion}
 use Rattle.std.proofs.lemmas.Bool.{eqb-true}
 use Rattle.std.proofs.lemmas.List.{map-append}
 use Rattle.clk_packet.specs.declared.packet.Packet.{Packet}
-use Rattle.clk_ruled.specs.Lists.{has_sender, IsIn}
+use Rattle.clk_packet.specs.Lists.{In}
+use Rattle.clk_ruled.specs.Lists.{has_sender}
 use Rattle.clk_ruled.specs.Queue.{SeatLists}
 use Rattle.clk_sched.specs.declared.visit.Visit.{Visit}
 use Rattle.clk_sched.specs.Tree.{Tree, root, leaves, stands_in}
 use Rattle.clk_sched.specs.Results.{Traced, leaf_packets}
-use Rattle.clk_sched.specs.Conservation.{IsAmong, CameFrom}
+use Rattle.clk_sched.specs.Conservation.{CameFrom}
 use Rattle.clk_sched.specs.Session.{Progress}
 use Rattle.clk_drain.specs.Senders.{AreApart}
 use Rattle.clk_drain.specs.Line.{LineLists, leaves_of, seats_of, seats_in, senders_at, AreLinesOf, HaveOwnSenders}
@@ -46,30 +47,25 @@ rooms-senders : (seats : List SeatLists) → map (λ (r : ℕ × ℕ). r.0) (map
 rooms-senders [] = refl
 rooms-senders (l ∷ seats) = ap (λ senders. l.sender ∷ senders) (rooms-senders seats)
 
-among-in : (p : Packet) (packets : List Packet) → IsAmong p packets → IsIn p packets
-among-in p [] h = h
-among-in p (q ∷ packets) (inl e) = inl (sym e)
-among-in p (q ∷ packets) (inr h) = inr (among-in p packets h)
-
 -- What a settled line's tap took is of the line's senders.
-knows-taken : (l : LineLists) (p : Packet) → IsSettledLine l → IsAmong p l.tap.taken → has_sender (line_senders l) p.sender ≡ true
+knows-taken : (l : LineLists) (p : Packet) → IsSettledLine l → In p l.tap.taken → has_sender (line_senders l) p.sender ≡ true
 knows-taken l p line h =
     subst (λ senders. has_sender senders p.sender ≡ true) (sym (ap (map (λ (r : ℕ × ℕ). r.0)) line.together.senders) ∙ rooms-senders (seats_of l))
-    (line.is.account.gives_known p (among-in p l.tap.taken h))
+    (line.is.account.gives_known p h)
 
 abbrev pub HaveTaken : Tree → List Visit → List LineLists → Type 0
 HaveTaken tree log lines = AllByRecursion (λ (l : LineLists). l.tap.taken ≡ leaf_packets tree l.leaf log) lines
 
 -- The sender of what a leaf gave has a seat on a line of that leaf.
 given-sits : (tree : Tree) (log : List Visit) (q : ℕ) (p : Packet) (lines : List LineLists) → HaveTaken tree log lines → AllByRecursion IsSettledLine lines
-    → stands_in q (leaves_of lines) ≡ true → IsAmong p (leaf_packets tree q log) → Sits p.sender q lines
+    → stands_in q (leaves_of lines) ≡ true → In p (leaf_packets tree q log) → Sits p.sender q lines
 given-sits tree log q p [] taken settled stands h = absurd (true≢false (sym stands))
 given-sits tree log q p (l ∷ lines) taken settled stands h = by_test (l.leaf == q) refl stands (λ e. given-sits tree log q p lines taken.1 settled.1 e h)
   where
     by_test : (b : Bool) → (l.leaf == q) ≡ b → (b || stands_in q (leaves_of lines)) ≡ true → (stands_in q (leaves_of lines) ≡ true → Sits p.sender q lines) → Sits p.sender q (l ∷ lines)
     by_test true e k again =
         let here = eqb-true l.leaf q e in
-        inl (here, knows-taken l p settled.0 (subst (IsAmong p) (ap (λ n. leaf_packets tree n log) (sym here) ∙ sym taken.0) h))
+        inl (here, knows-taken l p settled.0 (subst (In p) (ap (λ n. leaf_packets tree n log) (sym here) ∙ sym taken.0) h))
     by_test false e k again = inr (again k)
 
 -- A packet came from a queue on whose line its sender has a seat.
@@ -81,7 +77,7 @@ pub came-over : (session : Progress) (lines : List LineLists) → AreLinesOf ses
 came-over session lines are settled [] h = tt
 came-over session lines are settled (t ∷ ts) h = (by_origin t.1 t.0 h.0, came-over session lines are settled ts h.1)
   where
-    by_origin : (o : Option ℕ) (p : Packet) → MatchOption o ⊥ (λ q. (stands_in q (leaves (root session.tree)) ≡ true) × IsAmong p (leaf_packets session.tree q session.log))
+    by_origin : (o : Option ℕ) (p : Packet) → MatchOption o ⊥ (λ q. (stands_in q (leaves (root session.tree)) ≡ true) × In p (leaf_packets session.tree q session.log))
         → MatchOption o ⊥ (λ q. Sits p.sender q lines)
     by_origin None p k = k
     by_origin (Some q) p k = given-sits session.tree session.log q p lines are.taken settled (are.leaves q ∙ k.0) k.1

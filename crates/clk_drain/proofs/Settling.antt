@@ -5,7 +5,8 @@ use Rattle.std.proofs.lemmas.Bool.{eqb-false}
 use Rattle.clk_packet.specs.declared.packet.Kind.TheVariants.{TailDrop, FrontDrop}
 use Rattle.clk_packet.specs.declared.packet.Packet.{Packet}
 use Rattle.clk_packet.specs.declared.tally.Tally.{Tally}
-use Rattle.clk_ruled.specs.Lists.{of_sender, has_sender, has_packet, without}
+use Rattle.clk_packet.specs.Lists.{of_sender}
+use Rattle.clk_ruled.specs.Lists.{has_sender, has_packet, without}
 use Rattle.clk_ruled.specs.Queue.{SeatLists, TapLists, ClosedLists, IsDealt, IsSharedOut}
 use Rattle.clk_ruled.specs.Settle.{lists_of, of_seat, accepted_of, evicted_of, all_evicted, AreOfTap, tally_of}
 use Rattle.clk_sched.specs.Results.{emitted, heads, leaf_packets}

@@ -5,7 +5,8 @@ use Rattle.clk_packet.specs.declared.packet.Packet.{Packet}
 use Rattle.clk_packet.specs.declared.packet.Kind.{Kind}
 use Rattle.clk_packet.specs.declared.packet.Kind.TheVariants.{TailDrop, FrontDrop}
 use Rattle.clk_packet.specs.declared.tally.Tally.{Tally}
-use Rattle.clk_ruled.specs.Lists.{of_sender, has_sender}
+use Rattle.clk_packet.specs.Lists.{of_sender}
+use Rattle.clk_ruled.specs.Lists.{has_sender}
 use Rattle.clk_ruled.specs.Queue.{IsDealt}
 use Rattle.clk_sched.specs.declared.visit.Visit.{Visit}
 use Rattle.clk_sched.specs.Tree.{Tree}

@@ -5,6 +5,7 @@ pub mod Failing
 pub mod Fault
 pub mod Io
 pub mod Limits
+pub mod Lists
 pub mod Numbers
 pub mod Packets
 pub mod Trace

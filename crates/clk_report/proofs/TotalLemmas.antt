@@ -10,7 +10,8 @@ use Rattle.std.proofs.lemmas.Option.{slice_get-get_or, get_or_from_slice_get}
 use Rattle.clk_packet.specs.declared.packet.Packet.{Packet}
 use Rattle.clk_report.specs.declared.total.Total.{Total}
 use Rattle.clk_report.specs.Devices.{came_out}
-use Rattle.clk_report.specs.Report.{packets_from, bytes_of}
+use Rattle.clk_packet.specs.Lists.{of_sender}
+use Rattle.clk_report.specs.Report.{bytes_of}
 use Rattle.clk_report.specs.inside.Totals.{total_of, with_packet, both, AreTotals, HasRoom}
 
 pub bytes-few : (packets : List Packet) → bytes_of packets ≤ 65535 * length packets
@@ -32,15 +33,15 @@ total-more packets p =
     same-total (total_of (packets ++ p ∷ [])) (with_packet p (total_of packets)) (omega (arith, many)) (omega (arith, long))
 
 -- a packet is one of its sender's, and none of another's
-packets-mine : (s : ℕ) (packets : List Packet) (p : Packet) → (p.sender == s) ≡ true → packets_from s (packets ++ p ∷ []) ≡ packets_from s packets ++ p ∷ []
+packets-mine : (s : ℕ) (packets : List Packet) (p : Packet) → (p.sender == s) ≡ true → of_sender s (packets ++ p ∷ []) ≡ of_sender s packets ++ p ∷ []
 packets-mine s packets p mine =
-    let one : packets_from s (p ∷ []) ≡ p ∷ [] = rw mine refl in
-    filter-append (λ (q : Packet). q.sender == s) packets (p ∷ []) ∙ ap (λ l. packets_from s packets ++ l) one
+    let one : of_sender s (p ∷ []) ≡ p ∷ [] = rw mine refl in
+    filter-append (λ (q : Packet). q.sender == s) packets (p ∷ []) ∙ ap (λ l. of_sender s packets ++ l) one
 
-packets-others : (s : ℕ) (packets : List Packet) (p : Packet) → (p.sender == s) ≡ false → packets_from s (packets ++ p ∷ []) ≡ packets_from s packets
+packets-others : (s : ℕ) (packets : List Packet) (p : Packet) → (p.sender == s) ≡ false → of_sender s (packets ++ p ∷ []) ≡ of_sender s packets
 packets-others s packets p other =
-    let none : packets_from s (p ∷ []) ≡ [] = rw other refl in
-    filter-append (λ (q : Packet). q.sender == s) packets (p ∷ []) ∙ ap (λ l. packets_from s packets ++ l) none ∙ append-nil (packets_from s packets)
+    let none : of_sender s (p ∷ []) ≡ [] = rw other refl in
+    filter-append (λ (q : Packet). q.sender == s) packets (p ∷ []) ∙ ap (λ l. of_sender s packets ++ l) none ∙ append-nil (of_sender s packets)
 
 -- one packet more is counted at its sender
 AreTotals-more : (packets : List Packet) (p : Packet) (totals : List Total) (t d : Total) → p.sender < length totals → AreTotals packets totals → t ≡ with_packet p (get_or totals p.sender d)
@@ -48,12 +49,12 @@ AreTotals-more : (packets : List Packet) (p : Packet) (totals : List Total) (t d
 AreTotals-more packets p totals t d inside are is =
     record { each = λ s within. by_test s (subst (λ n. s < n) (length-set totals p.sender t) within) (p.sender == s) refl }
   where
-    by_test : (s : ℕ) → s < length totals → (b : Bool) → (p.sender == s) ≡ b → slice_get (set totals p.sender t) s ≡ Some (total_of (packets_from s (packets ++ p ∷ [])))
+    by_test : (s : ℕ) → s < length totals → (b : Bool) → (p.sender == s) ≡ b → slice_get (set totals p.sender t) s ≡ Some (total_of (of_sender s (packets ++ p ∷ [])))
     by_test s within true e =
         let same : p.sender ≡ s = grind (arith, nat_tests) in
         let here : get_or (set totals p.sender t) s d ≡ t = ap (λ n. get_or (set totals p.sender t) n d) (sym same) ∙ get_or-set_same totals p.sender t d inside in
-        let before : get_or totals p.sender d ≡ total_of (packets_from s packets) = ap (λ n. get_or totals n d) same ∙ get_or_from_slice_get totals s _ d (are.each s within) in
-        let counted : t ≡ total_of (packets_from s (packets ++ p ∷ [])) = is ∙ ap (with_packet p) before ∙ sym (total-more (packets_from s packets) p) ∙ ap total_of (sym (packets-mine s packets p e)) in
+        let before : get_or totals p.sender d ≡ total_of (of_sender s packets) = ap (λ n. get_or totals n d) same ∙ get_or_from_slice_get totals s _ d (are.each s within) in
+        let counted : t ≡ total_of (of_sender s (packets ++ p ∷ [])) = is ∙ ap (with_packet p) before ∙ sym (total-more (of_sender s packets) p) ∙ ap total_of (sym (packets-mine s packets p e)) in
         slice_get-get_or (set totals p.sender t) s d (subst (λ n. s < n) (sym (length-set totals p.sender t)) within) ∙ ap Some (here ∙ counted)
     by_test s within false e =
         let differs : s ≢ p.sender = λ same. let mine : (p.sender == s) ≡ true = grind (arith, nat_tests) in absurd (false≢true (sym e ∙ mine)) in
@@ -128,11 +129,11 @@ IsCountedTo-skip old new packets i p n within is at beyond so_far =
 pub all-counted : (old new : List Total) (packets : List Packet) (i : ℕ) → length packets ≤ i → IsCountedTo old new packets i → (before : List Packet) → AreTotals before old → AreTotals (before ++ packets) new
 all-counted old new packets i all so_far before are = subst (λ l. AreTotals (before ++ l) new) (take_all i packets all) (so_far.counted before are)
 
-packets-few : (s : ℕ) (packets : List Packet) → length (packets_from s packets) ≤ length packets
+packets-few : (s : ℕ) (packets : List Packet) → length (of_sender s packets) ≤ length packets
 packets-few s [] = omega arith
 packets-few s (p ∷ packets) = by_test (p.sender == s) refl (packets-few s packets)
   where
-    by_test : (b : Bool) → (p.sender == s) ≡ b → length (packets_from s packets) ≤ length packets → length (packets_from s (p ∷ packets)) ≤ length (p ∷ packets)
+    by_test : (b : Bool) → (p.sender == s) ≡ b → length (of_sender s packets) ≤ length packets → length (of_sender s (p ∷ packets)) ≤ length (p ∷ packets)
     by_test true e few = rw e (omega (arith, few))
     by_test false e few = rw e (omega (arith, few))
 
@@ -143,7 +144,7 @@ pub record AreCountedTo (emitted : List (Vec Packet Global)) (totals : List Tota
 
 pub AreCountedTo-room : (emitted : List (Vec Packet Global)) (totals : List Total) (i more : ℕ) → i ≤ 65535 → more < 2 ^ 64 → AreCountedTo emitted totals i → All (HasRoom more) totals
 AreCountedTo-room emitted totals i more below short so_far s d inside =
-    let packets = packets_from s (came_out (take i emitted)) in
+    let packets = of_sender s (came_out (take i emitted)) in
     let few = packets-few s (came_out (take i emitted)) in
     let all = so_far.few in
     let bytes = bytes-few packets in
@@ -178,5 +179,5 @@ pub both-of : (packets more : List Packet) → both (total_of packets) (total_of
 both-of packets more = λ i. record { packets = sym (length-append packets more) i; bytes = sym (bytes-append packets more) i }
 
 -- the total of a sender, read at its number
-pub total-at : (packets : List Packet) (totals : List Total) (s n : ℕ) (d : Total) → n ≡ s → s < length totals → AreTotals packets totals → get_or totals n d ≡ total_of (packets_from s packets)
-total-at packets totals s n d at inside are = ap (λ m. get_or totals m d) at ∙ get_or_from_slice_get totals s (total_of (packets_from s packets)) d (are.each s inside)
+pub total-at : (packets : List Packet) (totals : List Total) (s n : ℕ) (d : Total) → n ≡ s → s < length totals → AreTotals packets totals → get_or totals n d ≡ total_of (of_sender s packets)
+total-at packets totals s n d at inside are = ap (λ m. get_or totals m d) at ∙ get_or_from_slice_get totals s (total_of (of_sender s packets)) d (are.each s inside)

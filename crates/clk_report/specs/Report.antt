@@ -1,12 +1,9 @@
 -- What a report says of each sender (this project's own format).
-use Rattle.std.specs.Prelude.{ℕ, ◌+◌, List, [], ◌∷◌, ◌++◌, length, filter, ◌==◌, codes, decimal}
+use Rattle.std.specs.Prelude.{ℕ, ◌+◌, List, [], ◌∷◌, ◌++◌, length, codes, decimal}
 use Rattle.std.specs.List.{flat_map}
+use Rattle.clk_packet.specs.Lists.{of_sender}
 use Rattle.clk_packet.specs.declared.packet.Packet.{Packet}
 use Rattle.clk_packet.specs.declared.tally.Tally.{Tally}
-
--- the packets of a sender, in order
-abbrev pub packets_from : ℕ → List Packet → List Packet
-packets_from s packets = filter (λ (p : Packet). p.sender == s) packets
 
 -- the sum of the lengths of packets, in bytes
 abbrev pub bytes_of : List Packet → ℕ
@@ -26,7 +23,7 @@ abbrev pub tally_text : List Packet → Tally → List ℕ
 tally_text emitted tally =
     codes "sender " ++ (decimal tally.sender ++ (codes ": sent" ++ (total_text (tally.accepted ++ tally.refused)
     ++ (codes ", accepted" ++ (total_text tally.accepted ++ (codes ", refused" ++ (total_text tally.refused
-    ++ (codes ", evicted" ++ (total_text tally.evicted ++ (codes ", emitted" ++ (total_text (packets_from tally.sender emitted) ++ codes "\n")))))))))))
+    ++ (codes ", evicted" ++ (total_text tally.evicted ++ (codes ", emitted" ++ (total_text (of_sender tally.sender emitted) ++ codes "\n")))))))))))
 
 -- the report: a line for each tally, in order
 abbrev pub report_text : List Packet → List Tally → List ℕ

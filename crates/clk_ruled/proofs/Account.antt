@@ -4,7 +4,8 @@ use Rattle.std.proofs.lemmas.List.{append-nil, nil_from_length}
 use Rattle.std.proofs.lemmas.List.Elements.{filter-append}
 use Rattle.std.specs.List.{flat_map, AllByRecursion}
 use Rattle.clk_packet.specs.declared.packet.Packet.{Packet}
-use Rattle.clk_ruled.specs.Lists.{of_sender, IsIn, is_packet, has_packet, without, has_sender}
+use Rattle.clk_packet.specs.Lists.{of_sender, In}
+use Rattle.clk_ruled.specs.Lists.{is_packet, has_packet, without, has_sender}
 use Rattle.clk_ruled.specs.declared.view.Gathered.{Gathered}
 use Rattle.clk_ruled.specs.Rule.{Out, to_puller, put_out, went_out, taken_in, evicted_by, Books, IsSound, AreGathered, FitsSeat, FitsTap, senders_of}
 use Rattle.clk_ruled.specs.Account.{IsAccount}
@@ -26,13 +27,13 @@ drop-one f true p x l passes e = ap (λ (y : Bool). if not y then p ∷ filter (
 drop-one f false p x l passes e = e
 
 -- of a list of which none passes it all is kept
-keep-held : (f : Packet → Bool) (s : ℕ) (held : List Packet) → ((p : Packet) → IsIn p held → f p ≡ false) → filter (λ q. not (f q)) (of_sender s held) ≡ of_sender s held
+keep-held : (f : Packet → Bool) (s : ℕ) (held : List Packet) → ((p : Packet) → In p held → f p ≡ false) → filter (λ q. not (f q)) (of_sender s held) ≡ of_sender s held
 keep-held f s [] stays = refl
 keep-held f s (p ∷ held) stays =
     keep-one f (p.sender == s) p (of_sender s held) (of_sender s held) [] (stays p (inl refl)) (keep-held f s held (λ q i. stays q (inr i)) ∙ sym (append-nil (of_sender s held))) ∙ append-nil (if p.sender == s then p ∷ of_sender s held else of_sender s held)
 
 -- Where just those that were put out pass the test, the others are those that were taken, and then those that are held.
-keep-taken : (f : Packet → Bool) (s : ℕ) (gone : List Out) (held : List Packet) → ((p : Packet) → IsIn p (taken_in gone) → f p ≡ false) → ((p : Packet) → IsIn p (put_out_in gone) → f p ≡ true) → ((p : Packet) → IsIn p held → f p ≡ false)
+keep-taken : (f : Packet → Bool) (s : ℕ) (gone : List Out) (held : List Packet) → ((p : Packet) → In p (taken_in gone) → f p ≡ false) → ((p : Packet) → In p (put_out_in gone) → f p ≡ true) → ((p : Packet) → In p held → f p ≡ false)
     → filter (λ q. not (f q)) (of_sender s (went_out gone ++ held)) ≡ of_sender s (taken_in gone) ++ of_sender s held
 keep-taken f s [] held taken out kept = keep-held f s held kept
 keep-taken f s (to_puller p ∷ gone) held taken out kept =
@@ -41,21 +42,21 @@ keep-taken f s (put_out e p ∷ gone) held taken out kept =
     drop-one f (p.sender == s) p (of_sender s (went_out gone ++ held)) (of_sender s (taken_in gone) ++ of_sender s held) (out p (inl refl)) (keep-taken f s gone held taken (λ q i. out q (inr i)) kept)
 
 -- what was put out for a seat went out
-out-one : (b : Bool) (p q : Packet) (x y : List Packet) → (IsIn p x → IsIn p y) → IsIn p (if b then q ∷ x else x) → IsIn p (q ∷ y)
+out-one : (b : Bool) (p q : Packet) (x y : List Packet) → (In p x → In p y) → In p (if b then q ∷ x else x) → In p (q ∷ y)
 out-one true p q x y f i = ⊎_elim (λ e. inl e) (λ j. inr (f j)) i
 out-one false p q x y f i = inr (f i)
 
-in-evicted : (s : ℕ) (p : Packet) (gone : List Out) → IsIn p (evicted_by s gone) → IsIn p (went_out gone)
+in-evicted : (s : ℕ) (p : Packet) (gone : List Out) → In p (evicted_by s gone) → In p (went_out gone)
 in-evicted s p [] i = i
 in-evicted s p (to_puller q ∷ gone) i = inr (in-evicted s p gone i)
 in-evicted s p (put_out e q ∷ gone) i = out-one (e == s) p q (evicted_by s gone) (went_out gone) (in-evicted s p gone) i
 
 -- a packet that the queue took is of one of its senders
-some-long : (p : Packet) (l : List Packet) → IsIn p l → 1 ≤ length l
+some-long : (p : Packet) (l : List Packet) → In p l → 1 ≤ length l
 some-long p [] i = absurd i
 some-long p (q ∷ l) i = omega arith
 
-is-of : (b : Books) (held : List Packet) → IsSound b held → (p : Packet) → IsIn p b.all → has_sender (senders_of b.setup) p.sender ≡ true
+is-of : (b : Books) (held : List Packet) → IsSound b held → (p : Packet) → In p b.all → has_sender (senders_of b.setup) p.sender ≡ true
 is-of b held h p i = let some = some-long p (of_sender p.sender b.all) (in-own p b.all i) in let room = h.room p.sender in room-known b.setup.rooms p.sender (omega (arith, some, room))
 
 abbrev pub evicted_in : Books → List Packet
@@ -69,10 +70,10 @@ shared-out b held h p = let few = each-once b.all h.rises p in let sum = ap (cou
 pub account : (b : Books) (held : List Packet) → IsSound b held
     → IsAccount b.setup.kind b.setup.capacity (senders_of b.setup) (λ s. of_sender s b.all) (λ s. evicted_by s b.gone) (taken_in b.gone) held
 account b held h =
-    let all : (p : Packet) → IsIn p (went_out b.gone ++ held) → IsIn p b.all = λ p i. subst (IsIn p) (sym h.order) i in
+    let all : (p : Packet) → In p (went_out b.gone ++ held) → In p b.all = λ p i. subst (In p) (sym h.order) i in
     let few : (p : Packet) → count (is_packet p) (taken_in b.gone) + count (is_packet p) (put_out_in b.gone) + count (is_packet p) held ≤ 1 = shared-out b held h in
     let out : (p : Packet) → count (is_packet p) (evicted_in b) ≡ count (is_packet p) (put_out_in b.gone) = λ p. count-evicted (is_packet p) (senders_of b.setup) b.gone (rise-apart b.setup.rooms h.senders_rise) h.known in
-    let is_of : (p : Packet) → IsIn p b.all → has_sender (senders_of b.setup) p.sender ≡ true = is-of b held h in record {
+    let is_of : (p : Packet) → In p b.all → has_sender (senders_of b.setup) p.sender ≡ true = is-of b held h in record {
       balances = λ s. ap (λ l. without (of_sender s l) (evicted_in b)) h.order
           ∙ keep-taken (has_packet (evicted_in b)) s b.gone held
           (λ p i. has-none p (evicted_in b) (let some = in-counts p (taken_in b.gone) i in let one = few p in let same = out p in omega (arith, some, one, same)))
@@ -89,7 +90,7 @@ account b held h =
     }
 
 -- of a list of which all pass the test nothing is kept
-drop-held : (f : Packet → Bool) (s : ℕ) (l : List Packet) → ((p : Packet) → IsIn p l → f p ≡ true) → filter (λ q. not (f q)) (of_sender s l) ≡ []
+drop-held : (f : Packet → Bool) (s : ℕ) (l : List Packet) → ((p : Packet) → In p l → f p ≡ true) → filter (λ q. not (f q)) (of_sender s l) ≡ []
 drop-held f s [] passes = refl
 drop-held f s (p ∷ l) passes = drop-one f (p.sender == s) p (of_sender s l) [] (passes p (inl refl)) (drop-held f s l (λ q i. passes q (inr i)))
 

@@ -5,7 +5,7 @@ use lib.ListN.{get_elem?}
 use Rattle.crossbeam_queue.proofs.Lists.{at_set}
 use Rattle.clk_ruled.specs.declared.view.Gathered.{Gathered}
 use Rattle.clk_ruled.specs.declared.view.View.{View}
-use Rattle.clk_ruled.specs.Lists.{of_sender}
+use Rattle.clk_packet.specs.Lists.{of_sender}
 use Rattle.clk_ruled.specs.Rule.{Books, IsNew, IsGathered, AreGathered, FitsSeat, FitsTap, Fits, evicted_by, taken_in}
 use Rattle.clk_ruled.proofs.ListLemmas.{at-end}
 

@@ -4,7 +4,8 @@ use Rattle.std.specs.List.{AllWithin}
 use Rattle.std.proofs.lemmas.List.Elements.{AllWithin-more_set}
 use Rattle.clk_ruled.specs.declared.view.Gathered.{Gathered}
 use Rattle.clk_ruled.specs.Queue.{SeatLists, TapLists, ClosedLists, closed_with, gathering}
-use Rattle.clk_ruled.specs.Settle.{lists_of, as_gathered, IsAmong, IsOfTap, AreOfTap, HasEach}
+use Rattle.clk_packet.specs.Lists.{In}
+use Rattle.clk_ruled.specs.Settle.{lists_of, as_gathered, IsOfTap, AreOfTap, HasEach}
 
 -- So many of the seats were gathered, and nothing else has changed.
 pub record IsGathering (old : TapLists) (all : List ClosedLists) (tap : TapLists) (now : List ClosedLists) (n : ℕ) : Type 0 where
@@ -43,8 +44,8 @@ pub record IsStep (tap new : TapLists) (l : SeatLists) : Type 0 where
   pub id : new.id ≡ tap.id
   pub setup : new.setup ≡ tap.setup
   pub taken : new.taken ≡ tap.taken
-  pub more : (g : Gathered) → IsAmong g tap.gathered → IsAmong g new.gathered
-  pub has : IsAmong (as_gathered l) new.gathered
+  pub more : (g : Gathered) → In g tap.gathered → In g new.gathered
+  pub has : In (as_gathered l) new.gathered
 
 gather-step : (tap new : TapLists) (c : ClosedLists) (b : Bool) → c.is_gathered ≡ b → IsOfTap tap c → (c.is_gathered ≡ false → new ≡ gathering tap c.lists) → (c.is_gathered ≡ true → new ≡ tap) → IsStep tap new c.lists
 gather-step tap new c true is h first again = subst (λ (t : TapLists). IsStep tap t c.lists) (sym (again is)) record { id = refl; setup = refl; taken = refl; more = λ g a. a; has = h.had is }

@@ -6,7 +6,8 @@ use Rattle.std.proofs.lemmas.Bool.Decides.{nat_tests}
 use mathlib.Core.Option.{some, some-ne-none, some-injective}
 use lib.ListN.{get_elem?}
 use Rattle.clk_packet.specs.declared.packet.Packet.{Packet}
-use Rattle.clk_ruled.specs.Lists.{of_sender, has_sender}
+use Rattle.clk_packet.specs.Lists.{of_sender}
+use Rattle.clk_ruled.specs.Lists.{has_sender}
 use Rattle.clk_ruled.specs.Rule.{Out, to_puller, put_out, went_out, taken_in, evicted_by}
 
 pub eq-true : (m n : ℕ) → m ≡ n → (m == n) ≡ true

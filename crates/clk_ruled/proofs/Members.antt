@@ -2,48 +2,49 @@
 use Rattle.std.proofs.Common.{◌≡◌, ◌≢◌, ℕ, ◌+◌, ◌≤◌, ◌==◌, ◌&&◌, ◌||◌, Bool, true, false, true≢false, List, [], ◌∷◌, ◌++◌, refl, sym, ap, ◌∙◌, ⊎_elim, inl, inr, ◌⊎◌, arith, if◌then◌else◌}
 use Rattle.std.specs.List.{flat_map}
 use Rattle.clk_packet.specs.declared.packet.Packet.{Packet}
-use Rattle.clk_ruled.specs.Lists.{of_sender, AreAbove, IsRising, IsIn, is_packet, has_packet, IsOnceEach}
+use Rattle.clk_packet.specs.Lists.{of_sender, In}
+use Rattle.clk_ruled.specs.Lists.{AreAbove, IsRising, is_packet, has_packet, IsOnceEach}
 use Rattle.clk_ruled.proofs.ListLemmas.{eq-true, ne-false}
 use Rattle.clk_ruled.proofs.Counts.{count, one_if, eq-turned, true-eq}
 
-pub in-left : (p : Packet) (a b : List Packet) → IsIn p a → IsIn p (a ++ b)
+pub in-left : (p : Packet) (a b : List Packet) → In p a → In p (a ++ b)
 in-left p [] b i = absurd i
 in-left p (q ∷ a) b i = ⊎_elim (λ e. inl e) (λ j. inr (in-left p a b j)) i
 
-pub in-right : (p : Packet) (a b : List Packet) → IsIn p b → IsIn p (a ++ b)
+pub in-right : (p : Packet) (a b : List Packet) → In p b → In p (a ++ b)
 in-right p [] b i = i
 in-right p (q ∷ a) b i = inr (in-right p a b i)
 
-pub in-either : (p : Packet) (a b : List Packet) → IsIn p (a ++ b) → IsIn p a ⊎ IsIn p b
+pub in-either : (p : Packet) (a b : List Packet) → In p (a ++ b) → In p a ⊎ In p b
 in-either p [] b i = inr i
-in-either p (q ∷ a) b i = ⊎_elim (λ (e : p ≡ q). inl (inl e)) (λ (j : IsIn p (a ++ b)). ⊎_elim (λ k. inl (inr k)) (λ k. inr k) (in-either p a b j)) i
+in-either p (q ∷ a) b i = ⊎_elim (λ (e : q ≡ p). inl (inl e)) (λ (j : In p (a ++ b)). ⊎_elim (λ k. inl (inr k)) (λ k. inr k) (in-either p a b j)) i
 
 -- a packet of one of the lists
-pub in-some : (f : ℕ → List Packet) (p : Packet) (keys : List ℕ) → IsIn p (flat_map f keys) → (s : ℕ) × IsIn p (f s)
+pub in-some : (f : ℕ → List Packet) (p : Packet) (keys : List ℕ) → In p (flat_map f keys) → (s : ℕ) × In p (f s)
 in-some f p [] i = absurd i
 in-some f p (s ∷ keys) i = ⊎_elim (λ j. (s, j)) (λ j. in-some f p keys j) (in-either p (f s) (flat_map f keys) i)
 
-own-both : (b : Bool) (p q : Packet) (x : List Packet) → p ≡ q → b ≡ true → IsIn p (if b then q ∷ x else x)
+own-both : (b : Bool) (p q : Packet) (x : List Packet) → q ≡ p → b ≡ true → In p (if b then q ∷ x else x)
 own-both true p q x e is = inl e
 own-both false p q x e is = absurd (true≢false (sym is))
 
-own-more : (b : Bool) (p q : Packet) (x : List Packet) → IsIn p x → IsIn p (if b then q ∷ x else x)
+own-more : (b : Bool) (p q : Packet) (x : List Packet) → In p x → In p (if b then q ∷ x else x)
 own-more true p q x i = inr i
 own-more false p q x i = i
 
 -- a packet is among those of its sender
-pub in-own : (p : Packet) (l : List Packet) → IsIn p l → IsIn p (of_sender p.sender l)
+pub in-own : (p : Packet) (l : List Packet) → In p l → In p (of_sender p.sender l)
 in-own p [] i = absurd i
-in-own p (q ∷ l) i = ⊎_elim (λ (e : p ≡ q). own-both (q.sender == p.sender) p q (of_sender p.sender l) e (eq-true q.sender p.sender (ap (λ (x : Packet). x.sender) (sym e))))
-    (λ (j : IsIn p l). own-more (q.sender == p.sender) p q (of_sender p.sender l) (in-own p l j)) i
+in-own p (q ∷ l) i = ⊎_elim (λ (e : q ≡ p). own-both (q.sender == p.sender) p q (of_sender p.sender l) e (eq-true q.sender p.sender (ap (λ (x : Packet). x.sender) e)))
+    (λ (j : In p l). own-more (q.sender == p.sender) p q (of_sender p.sender l) (in-own p l j)) i
 
 -- a packet is itself
-is-itself : (p q : Packet) → p ≡ q → is_packet p q ≡ true
-is-itself p q e = ap (λ (x : Packet). is_packet p x) (sym e) ∙ ap (λ (y : Bool). y && (p.number == p.number)) (eq-true p.sender p.sender refl) ∙ eq-true p.number p.number refl
+is-itself : (p q : Packet) → q ≡ p → is_packet p q ≡ true
+is-itself p q e = ap (λ (x : Packet). is_packet p x) e ∙ ap (λ (y : Bool). y && (p.number == p.number)) (eq-true p.sender p.sender refl) ∙ eq-true p.number p.number refl
 
-pub in-counts : (p : Packet) (l : List Packet) → IsIn p l → 1 ≤ count (is_packet p) l
+pub in-counts : (p : Packet) (l : List Packet) → In p l → 1 ≤ count (is_packet p) l
 in-counts p [] i = absurd i
-in-counts p (q ∷ l) i = ⊎_elim (λ (e : p ≡ q). let one = ap one_if (is-itself p q e) in omega (arith, one)) (λ (j : IsIn p l). let more = in-counts p l j in omega (arith, more)) i
+in-counts p (q ∷ l) i = ⊎_elim (λ (e : q ≡ p). let one = ap one_if (is-itself p q e) in omega (arith, one)) (λ (j : In p l). let more = in-counts p l j in omega (arith, more)) i
 
 -- whether a packet stands in a list, by how often it does
 pub has-none : (p : Packet) (l : List Packet) → count (is_packet p) l ≤ 0 → has_packet l p ≡ false

@@ -8,7 +8,8 @@ use Rattle.clk_packet.specs.declared.packet.Kind.{Kind}
 use Rattle.clk_packet.specs.declared.packet.Kind.TheVariants.{TailDrop, FrontDrop}
 use Rattle.clk_ruled.specs.declared.view.Setup.{Setup}
 use Rattle.clk_ruled.specs.declared.view.View.{View}
-use Rattle.clk_ruled.specs.Lists.{of_sender, has_sender, IsRising, room_of, rooms_in_all}
+use Rattle.clk_packet.specs.Lists.{of_sender}
+use Rattle.clk_ruled.specs.Lists.{has_sender, IsRising, room_of, rooms_in_all}
 use Rattle.clk_ruled.specs.Queue.{places_of, IsShared}
 use Rattle.clk_ruled.specs.Rule.{Books, IsSound, FitsSeat, went_out}
 use Rattle.clk_ruled.specs.inside.Rule.{Knows, seat_view}

@@ -11,12 +11,13 @@ use Rattle.clk_ruled.specs.declared.view.Setup.{Setup}
 use Rattle.clk_ruled.specs.declared.view.View.{View}
 use Rattle.clk_ruled.specs.Account.{IsAccount}
 use Rattle.clk_ruled.specs.inside.Keys.{AreKeysOf, has_key}
-use Rattle.clk_ruled.specs.Lists.{of_sender, has_sender, without}
+use Rattle.clk_packet.specs.Lists.{of_sender, In}
+use Rattle.clk_ruled.specs.Lists.{has_sender, without}
 use Rattle.clk_ruled.specs.inside.Parts.{TapKeeps}
 use Rattle.clk_ruled.specs.Queue.{SeatLists, TapLists, ClosedLists, IsSharedOut}
 use Rattle.clk_ruled.specs.Rule.{Books, FitsTap, IsSound, AreGathered, evicted_by, taken_in, senders_of}
 use Rattle.clk_ruled.specs.inside.Rule.{Knows}
-use Rattle.clk_ruled.specs.Settle.{lists_of, as_gathered, accepted_of, evicted_of, all_evicted, accepted_count, evicted_count, lost_count, IsAmong, AreOfTap, AreTogether, HasEach, HasAllSeats, IsTakenWithin, IsAllTaken, tally_by, tally_of, IsSettled, IsAccounted}
+use Rattle.clk_ruled.specs.Settle.{lists_of, as_gathered, accepted_of, evicted_of, all_evicted, accepted_count, evicted_count, lost_count, AreOfTap, AreTogether, HasEach, HasAllSeats, IsTakenWithin, IsAllTaken, tally_by, tally_of, IsSettled, IsAccounted}
 use Rattle.clk_ruled.proofs.Account.{account, all-counted, as-many, left-held, evicted_in}
 use Rattle.clk_ruled.proofs.Counts.{true-eq}
 use Rattle.clk_ruled.proofs.KeyLemmas.{key-packet}
@@ -44,12 +45,12 @@ abbrev AreFit : Books → List SeatLists → Type 0
 AreFit b [] = Unit {0}
 AreFit b (l ∷ seats) = IsFit b l × AreFit b seats
 
-one-fit : (b : Books) (given : List ℕ) (l : SeatLists) (gathered : List Gathered) → AreGathered b given gathered → IsAmong (as_gathered l) gathered → IsFit b l
+one-fit : (b : Books) (given : List ℕ) (l : SeatLists) (gathered : List Gathered) → AreGathered b given gathered → In (as_gathered l) gathered → IsFit b l
 one-fit b given l [] h among = absurd among
 one-fit b given l (g ∷ gathered) h among = ⊎_elim
-    (λ (e : as_gathered l ≡ g).
-    let both = subst (λ (x : Gathered). (x.accepted ≡ of_sender x.sender b.all) × (x.evicted ≡ evicted_by x.sender b.gone)) (sym e) (h.0.accepted, h.0.evicted) in record { accepted = both.0; evicted = both.1 })
-    (λ (more : IsAmong (as_gathered l) gathered). one-fit b given l gathered h.2 more)
+    (λ (e : g ≡ as_gathered l).
+    let both = subst (λ (x : Gathered). (x.accepted ≡ of_sender x.sender b.all) × (x.evicted ≡ evicted_by x.sender b.gone)) e (h.0.accepted, h.0.evicted) in record { accepted = both.0; evicted = both.1 })
+    (λ (more : In (as_gathered l) gathered). one-fit b given l gathered h.2 more)
     among
 
 each-fit : (b : Books) (given : List ℕ) (tap : TapLists) (seats : List SeatLists) → AreGathered b given tap.gathered → HasEach tap seats → AreFit b seats

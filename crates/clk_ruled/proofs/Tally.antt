@@ -4,7 +4,8 @@ use Rattle.std.specs.Bool.{⊤}
 use mathlib.Core.Logic.{dite}
 use native.Mathlib.Decide.{ℕ_discrete}
 use Rattle.clk_packet.specs.declared.packet.Packet.{Packet}
-use Rattle.clk_ruled.specs.Lists.{of_sender, has_sender, room_of, rooms_in_all, SendersAbove, SendersRise}
+use Rattle.clk_packet.specs.Lists.{of_sender}
+use Rattle.clk_ruled.specs.Lists.{has_sender, room_of, rooms_in_all, SendersAbove, SendersRise}
 use Rattle.clk_ruled.specs.inside.Parts.{AreRoomed}
 use Rattle.clk_ruled.specs.Rule.{Out, to_puller, put_out, went_out, taken_in, evicted_by}
 use Rattle.clk_ruled.proofs.ListLemmas.{eq-true, ne-false, has-not}

@@ -6,7 +6,8 @@ use Rattle.clk_packet.specs.declared.packet.Packet.{Packet}
 use Rattle.clk_ruled.specs.declared.view.Setup.{Setup}
 use Rattle.clk_ruled.specs.declared.view.Gathered.{Gathered}
 use Rattle.clk_ruled.specs.declared.view.View.{View}
-use Rattle.clk_ruled.specs.Lists.{of_sender, has_sender, IsRising, IsIn, rooms_in_all}
+use Rattle.clk_packet.specs.Lists.{of_sender, In}
+use Rattle.clk_ruled.specs.Lists.{has_sender, IsRising, rooms_in_all}
 use Rattle.clk_ruled.specs.Queue.{AreOfSenders, accepted_in_all, evicted_in_all}
 use Rattle.clk_ruled.specs.Rule.{Out, to_puller, put_out, went_out, taken_in, Books, senders_of, gathered_senders, IsSound, AreGathered, FitsTap}
 use Rattle.clk_ruled.specs.inside.Rule.{Knows, KnowsAfter, tap_view}
@@ -74,26 +75,26 @@ taken-rises v taken k s =
     let known = tap-knows v taken k in subst (λ l. IsRising (of_sender s l)) (sym known.taken_is) (rising-taken s known.books.gone k.knows.0 (subst (λ l. IsRising (of_sender s l)) known.sound.order (known.sound.rises s)))
 
 -- Each packet that was taken is of one of the senders.
-pub in-all : (p : Packet) (gone : List Out) (held : List Packet) → IsIn p (taken_in gone) → IsIn p (went_out gone ++ held)
+pub in-all : (p : Packet) (gone : List Out) (held : List Packet) → In p (taken_in gone) → In p (went_out gone ++ held)
 in-all p [] held h = absurd h
-in-all p (to_puller q ∷ gone) held h = ⊎_elim (λ (e : p ≡ q). inl e) (λ (x : IsIn p (taken_in gone)). inr (in-all p gone held x)) h
+in-all p (to_puller q ∷ gone) held h = ⊎_elim (λ (e : q ≡ p). inl e) (λ (x : In p (taken_in gone)). inr (in-all p gone held x)) h
 in-all p (put_out e q ∷ gone) held h = inr (in-all p gone held h)
 
 some-more : (b : Bool) (n : ℕ) → 0 < n → 0 < one_more b n
 some-more true n lt = omega arith
 some-more false n lt = lt
 
-in-named : (p : Packet) (packets : List Packet) → IsIn p packets → 0 < times p.sender (senders_named packets)
+in-named : (p : Packet) (packets : List Packet) → In p packets → 0 < times p.sender (senders_named packets)
 in-named p [] h = absurd h
 in-named p (q ∷ packets) h = ⊎_elim
-    (λ (e : p ≡ q). subst (λ (b : Bool). 0 < one_more b (times p.sender (senders_named packets))) (sym (eq-true q.sender p.sender (ap (λ (x : Packet). x.sender) (sym e)))) (omega arith))
-    (λ (x : IsIn p packets). some-more (q.sender == p.sender) (times p.sender (senders_named packets)) (in-named p packets x))
+    (λ (e : q ≡ p). subst (λ (b : Bool). 0 < one_more b (times p.sender (senders_named packets))) (sym (eq-true q.sender p.sender (ap (λ (x : Packet). x.sender) e))) (omega arith))
+    (λ (x : In p packets). some-more (q.sender == p.sender) (times p.sender (senders_named packets)) (in-named p packets x))
     h
 
 pub taken-known : (v : View) (taken : List Packet) → TapKeeps v taken → AreOfSenders v.setup taken
 taken-known v taken k p h =
     let known = tap-knows v taken k in let b = known.books in
-    let came : IsIn p b.all = subst (IsIn p) (sym known.sound.order) (in-all p b.gone k.knows.0 (subst (IsIn p) known.taken_is h)) in
+    let came : In p b.all = subst (In p) (sym known.sound.order) (in-all p b.gone k.knows.0 (subst (In p) known.taken_is h)) in
     let some = in-named p b.all came in let count = of-times p.sender b.all in let room = known.sound.room p.sender in
     subst (λ (y : Setup). has_sender (senders_of y) p.sender ≡ true) (sym known.setup) (room-known b.setup.rooms p.sender (omega (arith, some, count, room)))
 

@@ -5,7 +5,8 @@ use Rattle.std.proofs.lemmas.List.{append-nil, length-append}
 use Rattle.std.specs.List.{AllByRecursion}
 use Rattle.clk_packet.specs.declared.packet.Packet.{Packet}
 use Rattle.clk_packet.specs.declared.packet.Kind.TheVariants.{TailDrop, FrontDrop}
-use Rattle.clk_ruled.specs.Lists.{IsIn, IsRising, without, has_sender}
+use Rattle.clk_packet.specs.Lists.{In}
+use Rattle.clk_ruled.specs.Lists.{IsRising, without, has_sender}
 use Rattle.clk_ruled.specs.Account.{IsAccount}
 use Rattle.clk_ruled.specs.Examples.{p0_0, p0_1, p1_0, p1_1, by_sender, for_seats, both, arrived, put_out, pulled, held}
 
@@ -34,9 +35,9 @@ not-last p q zero one (a ∷ []) e = let same = ap (λ (l : List Packet). (get_o
 not-last p q zero one (a ∷ b ∷ before) e = let counts = ap length e in let more = length-append before (p ∷ []) in omega (arith, counts, more)
 
 -- What holds of each packet of a list holds of one that stands there.
-pub of-all : (P : Packet → Type 0) (l : List Packet) → AllByRecursion P l → (p : Packet) → IsIn p l → P p
+pub of-all : (P : Packet → Type 0) (l : List Packet) → AllByRecursion P l → (p : Packet) → In p l → P p
 of-all P [] all p i = absurd i
-of-all P (q ∷ l) all p i = ⊎_elim (λ e. subst P (sym e) all.0) (λ (j : IsIn p l). of-all P l all.1 p j) i
+of-all P (q ∷ l) all p i = ⊎_elim (λ e. subst P e all.0) (λ (j : In p l). of-all P l all.1 p j) i
 
 -- the account of a FrontDropQueue that put a packet out
 pub front-account : IsAccount FrontDrop 2 both (by_sender arrived) (for_seats [] put_out) pulled held
@@ -45,7 +46,7 @@ front-account =
       balances = by-senders (λ a b. without (of_these a b arrived) put_out ≡ of_these a b pulled ++ of_these a b held) refl refl refl;
       is_last = by-senders (λ a b. (before : List Packet) × (of_these a b arrived ≡ before ++ of_these a b held)) (p0_0 ∷ p0_1 ∷ [], refl) ([], refl) ([], refl);
       rises = by-senders (λ a b. IsRising (of_these a b arrived)) ((lit≤ tt, tt), (tt, tt)) ((lit≤ tt, tt), (tt, tt)) tt;
-      was_taken = of-all (λ p. IsIn p (by_sender arrived p.sender)) put_out (inl refl, tt);
+      was_taken = of-all (λ p. In p (by_sender arrived p.sender)) put_out (inl refl, tt);
       once = (refl, tt);
       gives_known = of-all (λ p. has_sender both p.sender ≡ true) pulled (refl, tt);
       holds_known = of-all (λ p. has_sender both p.sender ≡ true) held (refl, (refl, tt));

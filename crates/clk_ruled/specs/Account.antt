@@ -4,7 +4,8 @@ use Rattle.std.specs.List.{flat_map}
 use Rattle.clk_packet.specs.declared.packet.Packet.{Packet}
 use Rattle.clk_packet.specs.declared.packet.Kind.{Kind}
 use Rattle.clk_packet.specs.declared.packet.Kind.TheVariants.{TailDrop}
-use Rattle.clk_ruled.specs.Lists.{of_sender, IsRising, IsIn, without, IsOnceEach, has_sender}
+use Rattle.clk_packet.specs.Lists.{of_sender, In}
+use Rattle.clk_ruled.specs.Lists.{IsRising, without, IsOnceEach, has_sender}
 
 -- A queue of this kind and capacity, shared by these senders, took the packets `accepted s` from each sender s, put out the
 -- packets `evicted s` for it, gave the packets `taken` to the puller and holds the packets `held`, from the front.
@@ -16,11 +17,11 @@ pub record IsAccount (kind : Kind) (capacity : ℕ) (senders : List ℕ) (accept
   -- the numbers that were taken from a sender rise
   pub rises : (s : ℕ) → IsRising (accepted s)
   -- each packet that was put out had been taken from its sender, and it was put out once
-  pub was_taken : (p : Packet) → IsIn p (flat_map evicted senders) → IsIn p (accepted p.sender)
+  pub was_taken : (p : Packet) → In p (flat_map evicted senders) → In p (accepted p.sender)
   pub once : IsOnceEach (flat_map evicted senders)
   -- what was given and what is held is of these senders, and no more is held than fits
-  pub gives_known : (p : Packet) → IsIn p taken → has_sender senders p.sender ≡ true
-  pub holds_known : (p : Packet) → IsIn p held → has_sender senders p.sender ≡ true
+  pub gives_known : (p : Packet) → In p taken → has_sender senders p.sender ≡ true
+  pub holds_known : (p : Packet) → In p held → has_sender senders p.sender ≡ true
   pub fits : length held ≤ capacity
   -- a Queue puts nothing out
   pub tail_drop : kind ≡ TailDrop → (s : ℕ) → evicted s ≡ []

@@ -3,7 +3,7 @@ use Rattle.std.specs.Prelude.{ℕ, ◌==◌, List, [], ◌∷◌, if◌then◌el
 use Rattle.std.proofs.Common.{lit≤}
 use Rattle.clk_packet.specs.Packets.{packet}
 use Rattle.clk_packet.specs.declared.packet.Packet.{Packet}
-use Rattle.clk_ruled.specs.Lists.{of_sender}
+use Rattle.clk_packet.specs.Lists.{of_sender}
 
 -- packets, each named by its sender and its number
 abbrev pub p0_0 : Packet

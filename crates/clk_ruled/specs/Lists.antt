@@ -1,11 +1,7 @@
 -- Lists of packets and of senders.
-use Rattle.std.specs.Prelude.{◌≡◌, ℕ, ◌+◌, ◌<◌, ◌⊎◌, ◌==◌, ◌&&◌, Bool, true, false, List, [], ◌∷◌, filter, not, ⊤, if◌then◌else◌}
+use Rattle.std.specs.Prelude.{◌≡◌, ℕ, ◌+◌, ◌<◌, ◌==◌, ◌&&◌, Bool, true, false, List, [], ◌∷◌, filter, not, ⊤, if◌then◌else◌}
 use Rattle.std.specs.List.{list_any}
 use Rattle.clk_packet.specs.declared.packet.Packet.{Packet}
-
--- the packets of one sender, in order
-abbrev pub of_sender : ℕ → List Packet → List Packet
-of_sender s packets = filter (λ (p : Packet). p.sender == s) packets
 
 -- each packet of the list has a greater number than this
 abbrev pub AreAbove : ℕ → List Packet → Type 0
@@ -16,11 +12,6 @@ AreAbove n (p ∷ packets) = (n < p.number) × AreAbove n packets
 abbrev pub IsRising : List Packet → Type 0
 IsRising [] = ⊤
 IsRising (p ∷ packets) = AreAbove p.number packets × IsRising packets
-
--- the packet stands in the list
-abbrev pub IsIn : Packet → List Packet → Type 0
-IsIn p [] = ⊥
-IsIn p (q ∷ packets) = (p ≡ q) ⊎ IsIn p packets
 
 -- One packet: the same sender, and the same number.
 abbrev pub is_packet : Packet → Packet → Bool

@@ -8,7 +8,8 @@ use Rattle.clk_packet.specs.declared.packet.Offered.{Offered}
 use Rattle.clk_packet.specs.declared.packet.Offered.TheVariants.{Accepted, Refused, Evicted}
 use Rattle.clk_ruled.specs.declared.view.Setup.{Setup}
 use Rattle.clk_ruled.specs.declared.view.Gathered.{Gathered}
-use Rattle.clk_ruled.specs.Lists.{rooms_in_all, IsIn, has_sender}
+use Rattle.clk_packet.specs.Lists.{In}
+use Rattle.clk_ruled.specs.Lists.{rooms_in_all, has_sender}
 use Rattle.clk_ruled.specs.Rule.{senders_of, gathered_senders, gathered_seat}
 
 -- which queue it is, its kind, how many packets it may hold, and how many places it has for them
@@ -105,7 +106,7 @@ gathering t s = record { id = t.id; setup = t.setup; taken = t.taken; gathered =
 
 -- each of the packets is of one of the setup's senders
 abbrev pub AreOfSenders : Setup → List Packet → Type 0
-AreOfSenders setup packets = (p : Packet) → IsIn p packets → has_sender (senders_of setup) p.sender ≡ true
+AreOfSenders setup packets = (p : Packet) → In p packets → has_sender (senders_of setup) p.sender ≡ true
 
 -- The tap gathered the seat of each sender.
 abbrev pub AreAllGathered : TapLists → Type 0

@@ -7,7 +7,8 @@ use Rattle.clk_packet.specs.declared.packet.Kind.TheVariants.{TailDrop}
 use Rattle.clk_ruled.specs.declared.view.Setup.{Setup}
 use Rattle.clk_ruled.specs.declared.view.Gathered.{Gathered}
 use Rattle.clk_ruled.specs.declared.view.View.{View}
-use Rattle.clk_ruled.specs.Lists.{of_sender, IsRising, has_sender, room_of, SendersRise}
+use Rattle.clk_packet.specs.Lists.{of_sender}
+use Rattle.clk_ruled.specs.Lists.{IsRising, has_sender, room_of, SendersRise}
 
 -- A packet went out at the front: to the puller, or because a packet of this sender's seat was forced in.
 pub data Out : Type 0 where

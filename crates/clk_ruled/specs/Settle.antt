@@ -7,7 +7,8 @@ use Rattle.clk_packet.specs.declared.fault.Fault.{Fault}
 use Rattle.clk_packet.specs.declared.fault.Fault.TheVariants.{Memory, Unsettled}
 use Rattle.clk_ruled.specs.declared.view.Gathered.{Gathered}
 use Rattle.clk_ruled.specs.declared.settling.Settled.{Settled}
-use Rattle.clk_ruled.specs.Lists.{of_sender, has_packet, without}
+use Rattle.clk_packet.specs.Lists.{In, of_sender}
+use Rattle.clk_ruled.specs.Lists.{has_packet, without}
 use Rattle.clk_ruled.specs.Queue.{Queue, SeatLists, TapLists, ClosedLists, IsTapOf, IsSharedOut, accepted_in_all, evicted_in_all}
 use Rattle.clk_ruled.specs.Rule.{Books, IsSound, AreGathered, gathered_seat, senders_of, taken_in}
 use Rattle.clk_ruled.specs.Account.{IsAccount}
@@ -47,16 +48,11 @@ abbrev pub lost_count : List SeatLists → ℕ
 lost_count [] = 0
 lost_count (l ∷ seats) = length l.refused + length l.evicted + lost_count seats
 
--- the lists stand in the list
-abbrev pub IsAmong : Gathered → List Gathered → Type 0
-IsAmong g [] = ⊥
-IsAmong g (h ∷ gathered) = (g ≡ h) ⊎ IsAmong g gathered
-
 -- The seat was opened with the tap, and where it was gathered the tap has its lists.
 pub record IsOfTap (tap : TapLists) (c : ClosedLists) : Type 0 where
   pub id : c.lists.id ≡ tap.id
   pub setup : c.lists.setup ≡ tap.setup
-  pub had : c.is_gathered ≡ true → IsAmong (as_gathered c.lists) tap.gathered
+  pub had : c.is_gathered ≡ true → In (as_gathered c.lists) tap.gathered
 
 abbrev pub AreOfTap : TapLists → List ClosedLists → Type 0
 AreOfTap tap [] = ⊤
@@ -132,4 +128,4 @@ pub record IsAccounted (tap : TapLists) : Type 0 where
 -- the tap has the lists of each of these seats
 abbrev pub HasEach : TapLists → List SeatLists → Type 0
 HasEach tap [] = ⊤
-HasEach tap (l ∷ seats) = IsAmong (as_gathered l) tap.gathered × HasEach tap seats
+HasEach tap (l ∷ seats) = In (as_gathered l) tap.gathered × HasEach tap seats

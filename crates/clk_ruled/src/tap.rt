@@ -38,7 +38,8 @@ impl Tap {
     ghost use Rattle.std.specs.Prelude.{◌≡◌, ℕ, ◌≤◌, ◌+◌, true, false, List, [], length, None, IfOk, IsOkUnless};
     ghost use Rattle.crossbeam_queue.specs.Passes.{view as known, IsPassOf};
     ghost use Rattle.clk_packet.specs.declared.fault.Fault.TheVariants.{Memory};
-    ghost use Rattle.clk_ruled.specs.Lists.{rooms_in_all, of_sender, IsRising};
+    ghost use Rattle.clk_packet.specs.Lists.{of_sender};
+    ghost use Rattle.clk_ruled.specs.Lists.{rooms_in_all, IsRising};
     ghost use Rattle.clk_ruled.specs.Queue.{ClosedLists, IsTapOf, IsPulled, AreOfSenders, AreAllGathered, accepted_in_all, evicted_in_all, gathering, empty_tap};
     ghost use Rattle.clk_ruled.specs.Settle.{HasAllSeats, IsTakenWithin, IsAllTaken};
 

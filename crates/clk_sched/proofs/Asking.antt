@@ -14,7 +14,8 @@ use Rattle.clk_sched.specs.Places.{Answers, at_queue}
 use Rattle.clk_sched.specs.inside.Places.{StandsIn, AreWired, AllFit, edges_at, edges_in, input_at, queue_asked}
 use Rattle.clk_sched.specs.inside.Pulling.{Now, AreApart, CanPull, Keeps, Asks, AsksAll, IsGoing, IsPulling, IsUnasked, added, now_of, asked_in_vain, asked_in_order}
 use Rattle.clk_sched.specs.inside.Turning.{HasAsked, HasAskedAll}
-use Rattle.clk_sched.proofs.Members.{In, of-all, to-all, all-append, all-split, in-slice}
+use Rattle.clk_packet.specs.Lists.{In}
+use Rattle.clk_sched.proofs.Members.{of-all, to-all, all-append, all-split, in-slice}
 use Rattle.clk_sched.proofs.Apart.{all-map}
 
 -- what was logged, where the log is known

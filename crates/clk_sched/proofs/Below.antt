@@ -13,7 +13,8 @@ use Rattle.clk_sched.specs.Tree.{Class, Row, end, leaf, node, nodes, width}
 use Rattle.clk_sched.specs.inside.Holds.OfClass.{Holds}
 use Rattle.clk_sched.specs.inside.Places.{inputs_of, EachHasInputs, StandsIn}
 use Rattle.clk_sched.specs.inside.Pulling.{Now, History, EachHolds, NodeHolds, asked_of, IsVisitAt, IsBlock, IsAskedAt}
-use Rattle.clk_sched.proofs.Members.{In, of-all, all-append, all-flat_map}
+use Rattle.clk_packet.specs.Lists.{In}
+use Rattle.clk_sched.proofs.Members.{of-all, all-append, all-flat_map}
 
 -- a node stands at an input of a row, or below what does
 abbrev pub LiesAt : ℕ → Row → ℕ → ℕ → Type 0

@@ -7,7 +7,8 @@ use Rattle.std.proofs.lemmas.List.Elements.{filter-append}
 use Rattle.clk_sched.specs.declared.visit.Visit.{Visit}
 use Rattle.clk_sched.specs.Tree.{Class, Row, end, leaf, node, Tree, root, nodes}
 use Rattle.clk_sched.specs.Log.{visits_of, block_at, block, asks}
-use Rattle.clk_sched.proofs.Members.{In, of-all, to-all, in-filter, all-append, all-flat_map, filter-all, filter-none}
+use Rattle.clk_packet.specs.Lists.{In}
+use Rattle.clk_sched.proofs.Members.{of-all, to-all, in-filter, all-append, all-flat_map, filter-all, filter-none}
 use Rattle.clk_sched.proofs.PullByPull.{asked}
 
 pub flat_map-same : {X Y : Type 0} (f g : X → List Y) (xs : List X) → ((x : X) → In x xs → f x ≡ g x) → flat_map f xs ≡ flat_map g xs

@@ -10,8 +10,9 @@ use Rattle.clk_sched.specs.Laws.{Manner, in_order, with_heads, manner}
 use Rattle.clk_sched.specs.Log.{visits_of, pulls, turn, pulls_below}
 use Rattle.clk_sched.specs.Run.{EachObeys}
 use Rattle.clk_sched.specs.Results.{Traced, traced, leaf_packets, asks_queue, traced_heads, own_heads, held_at, origin_in, asked_pull}
-use Rattle.clk_sched.specs.Conservation.{IsAmong, CameFrom, MakesNothing}
-use Rattle.clk_sched.proofs.Members.{In, of-all, in-filter, all-append, all-flat_map, all-split, all-weaker}
+use Rattle.clk_packet.specs.Lists.{In}
+use Rattle.clk_sched.specs.Conservation.{CameFrom, MakesNothing}
+use Rattle.clk_sched.proofs.Members.{of-all, in-filter, all-append, all-flat_map, all-split, all-weaker}
 use Rattle.clk_sched.proofs.Numbers.{same}
 use Rattle.clk_sched.proofs.Numbering.{StandsAt, stands-root, stands-after_leaf, stands-after_node, stands-inputs, at-leaf}
 use Rattle.clk_sched.proofs.Allowed.{AreWithin, turns-within}
@@ -43,12 +44,12 @@ or-right true b e = refl
 or-right false b e = e
 
 -- what was given by a visit of a log is among all that was
-among-given : (given : Visit → Option Packet) (v : Visit) (p : Packet) (log : List Visit) → In v log → given v ≡ Some p → IsAmong p (filter_map given log)
+among-given : (given : Visit → Option Packet) (v : Visit) (p : Packet) (log : List Visit) → In v log → given v ≡ Some p → In p (filter_map given log)
 among-given given v p [] m e = absurd m
-among-given given v p (u ∷ log) (inl s) e = subst (λ o. IsAmong p (cons_option o (filter_map given log))) (sym (ap given s ∙ e)) (inl refl)
+among-given given v p (u ∷ log) (inl s) e = subst (λ o. In p (cons_option o (filter_map given log))) (sym (ap given s ∙ e)) (inl refl)
 among-given given v p (u ∷ log) (inr m) e = by_given (given u) (among-given given v p log m e)
   where
-    by_given : (o : Option Packet) → IsAmong p (filter_map given log) → IsAmong p (cons_option o (filter_map given log))
+    by_given : (o : Option Packet) → In p (filter_map given log) → In p (cons_option o (filter_map given log))
     by_given None k = k
     by_given (Some x) k = inr k
 
@@ -58,8 +59,8 @@ AllFrom tree log row ts = AllByRecursion (CameFrom tree log row) ts
 came-wider : (tree : Tree) (log : List Visit) (row other : Row) → ((q : ℕ) → stands_in q (leaves row) ≡ true → stands_in q (leaves other) ≡ true) → (ts : List Traced) → AllFrom tree log row ts → AllFrom tree log other ts
 came-wider tree log row other wider ts h = all-weaker (CameFrom tree log row) (CameFrom tree log other) ts (λ t k. by_origin t.1 t.0 k) h
   where
-    by_origin : (o : Option ℕ) (p : Packet) → MatchOption o ⊥ (λ q. (stands_in q (leaves row) ≡ true) × IsAmong p (leaf_packets tree q log))
-        → MatchOption o ⊥ (λ q. (stands_in q (leaves other) ≡ true) × IsAmong p (leaf_packets tree q log))
+    by_origin : (o : Option ℕ) (p : Packet) → MatchOption o ⊥ (λ q. (stands_in q (leaves row) ≡ true) × In p (leaf_packets tree q log))
+        → MatchOption o ⊥ (λ q. (stands_in q (leaves other) ≡ true) × In p (leaf_packets tree q log))
     by_origin None p k = k
     by_origin (Some q) p k = (wider q k.0, k.1)
 

@@ -10,7 +10,8 @@ use Rattle.clk_sched.specs.Turns.{AsksInOrder}
 use Rattle.clk_sched.specs.Log.{visits_of, pulls, block_at, moment_of, NeverFalls, asking}
 use Rattle.clk_sched.specs.inside.Pulling.{AreApart, input_of, asked_of, with_asked}
 use Rattle.clk_sched.specs.Step.{EachAllows, IsPullWith, CanGoOn}
-use Rattle.clk_sched.proofs.Members.{In, of-all, all-weaker}
+use Rattle.clk_packet.specs.Lists.{In}
+use Rattle.clk_sched.proofs.Members.{of-all, all-weaker}
 use Rattle.clk_sched.proofs.Numbering.{stands-root}
 use Rattle.clk_sched.proofs.Allowed.{each-allowed}
 use Rattle.clk_sched.proofs.PullByPull.{asked}

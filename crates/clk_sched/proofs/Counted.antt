@@ -8,7 +8,8 @@ use Rattle.clk_sched.specs.declared.visit.Visit.{Visit}
 use Rattle.clk_sched.specs.Log.{visits_of}
 use Rattle.clk_sched.specs.Tree.{Tree, root, leaves, is_number, stands_in, are_distinct, leaves_distinct}
 use Rattle.clk_sched.specs.Results.{Traced, traced, origin_in, traced_emitted, traced_heads, leaf_packets}
-use Rattle.clk_sched.specs.Conservation.{from_queue, given_in_all, IsAmong, IsConserved, CameFrom, ConservesCounts}
+use Rattle.clk_packet.specs.Lists.{In}
+use Rattle.clk_sched.specs.Conservation.{from_queue, given_in_all, IsConserved, CameFrom, ConservesCounts}
 use Rattle.clk_sched.proofs.CameFrom.{makes-nothing}
 use Rattle.clk_sched.proofs.Conserved.{conserves-packets}
 use Rattle.clk_sched.proofs.Distinct.{or-neither}
@@ -106,7 +107,7 @@ counted-all qs d (t ∷ ts) h =
 came-comes : (tree : Tree) (log : List Visit) (t : Traced) → CameFrom tree log (root tree) t → ComesFrom (leaves (root tree)) t
 came-comes tree log t h = by_origin t.1 h
   where
-    by_origin : (o : Option ℕ) → MatchOption o ⊥ (λ q. (stands_in q (leaves (root tree)) ≡ true) × IsAmong t.0 (leaf_packets tree q log)) → MatchOption o ⊥ (λ q. stands_in q (leaves (root tree)) ≡ true)
+    by_origin : (o : Option ℕ) → MatchOption o ⊥ (λ q. (stands_in q (leaves (root tree)) ≡ true) × In t.0 (leaf_packets tree q log)) → MatchOption o ⊥ (λ q. stands_in q (leaves (root tree)) ≡ true)
     by_origin None s = s
     by_origin (Some k) s = s.0
 

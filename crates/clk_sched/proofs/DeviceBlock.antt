@@ -14,7 +14,8 @@ use Rattle.clk_sched.specs.Run.{IsRun}
 use Rattle.clk_sched.specs.Step.{EachAllows, IsNextPull}
 use Rattle.clk_sched.specs.inside.Pulling.{Now, History, as_turn, asked_of, with_asked, input_of, IsVisitAt, IsAskedAt, IsBlock}
 use Rattle.clk_sched.specs.inside.Session.{history_of}
-use Rattle.clk_sched.proofs.Members.{In, of-all, to-all, in-filter, all-weaker}
+use Rattle.clk_packet.specs.Lists.{In}
+use Rattle.clk_sched.proofs.Members.{of-all, to-all, in-filter, all-weaker}
 use Rattle.clk_sched.proofs.Numbers.{equal, differs}
 use Rattle.clk_sched.proofs.Allowed.{IsOneVisit, device-visit}
 use Rattle.clk_sched.proofs.PullByPull.{asked}

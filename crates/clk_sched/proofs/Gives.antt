@@ -8,7 +8,8 @@ use Rattle.clk_sched.specs.Laws.{manner, Follows, Obeys}
 use Rattle.clk_sched.specs.Log.{visits_of, in_pull, turn, asks, pulls_below, result_of}
 use Rattle.clk_sched.specs.Run.{GetsResult}
 use Rattle.clk_sched.specs.Results.{Traced, traced, origin_in, passed_input, asked_pull, passed_origin, held_at}
-use Rattle.clk_sched.proofs.Members.{In, of-all, in-filter, filter-in, all-filter}
+use Rattle.clk_packet.specs.Lists.{In}
+use Rattle.clk_sched.proofs.Members.{of-all, in-filter, filter-in, all-filter}
 use Rattle.clk_sched.proofs.Numbers.{equal, differs}
 use Rattle.clk_sched.proofs.PullByPull.{in_pull-number}
 use Rattle.clk_sched.proofs.Allowed.{each-follows}

@@ -13,7 +13,7 @@ use Rattle.clk_sched.specs.Laws.Stride.{passes_after, passes_of, in_rising_order
 use Rattle.clk_sched.specs.Laws.Shaper.{has_room}
 use Rattle.clk_sched.specs.inside.Pulling.{as_turn, with_turn}
 use Rattle.clk_sched.specs.inside.Session.{history_of}
-use Rattle.clk_sched.proofs.Members.{In}
+use Rattle.clk_packet.specs.Lists.{In}
 
 -- turns without those that have no visits
 abbrev pub busy : List Turn → List Turn

@@ -11,7 +11,8 @@ use Rattle.clk_sched.specs.Turns.{Turn, UpToFirst, IsPlain, AsksInOrder, giver}
 use Rattle.clk_sched.specs.Laws.{manner, Follows}
 use Rattle.clk_sched.specs.Log.{visits_of, result_of, asking}
 use Rattle.clk_sched.specs.inside.Pulling.{Now, History, AreApart, input_of, IsReady, HasTurned, AsksAll, IsUnasked, GoesOnBy, added, now_of, after, with_turn, as_turn, asked_in_vain, asked_in_order}
-use Rattle.clk_sched.proofs.Members.{In, of-all, to-all, all-weaker}
+use Rattle.clk_packet.specs.Lists.{In}
+use Rattle.clk_sched.proofs.Members.{of-all, to-all, all-weaker}
 use Rattle.clk_sched.proofs.Orders.{IsOrderOf}
 use Rattle.clk_sched.proofs.Pulling.{pulling-first, pulling-own}
 

@@ -13,7 +13,8 @@ use Rattle.clk_sched.specs.Run.{GetsResult}
 use Rattle.clk_sched.specs.inside.Pulling.{AreApart, input_of, as_turn, asked_of, with_asked}
 use Rattle.clk_sched.specs.Step.{EachAllows}
 use Rattle.clk_sched.proofs.Numbers.{equal, differs}
-use Rattle.clk_sched.proofs.Members.{In, of-all, to-all, in-filter, all-weaker}
+use Rattle.clk_packet.specs.Lists.{In}
+use Rattle.clk_sched.proofs.Members.{of-all, to-all, in-filter, all-weaker}
 use Rattle.clk_sched.proofs.Numbering.{StandsAt, queue_in-before, queue_in-earlier, stands-after_leaf, stands-after_node, stands-inputs}
 use Rattle.clk_sched.proofs.Allowed.{AreWithin}
 use Rattle.clk_sched.proofs.PullByPull.{asked}

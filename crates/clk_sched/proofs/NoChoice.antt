@@ -10,7 +10,8 @@ use Rattle.clk_sched.specs.Laws.Device.{IsDeviceTurn}
 use Rattle.clk_sched.specs.Log.{visits_of, pulls, block_at, block, moment_of, HasOneMoment, turn, asks, pulls_below, result_of}
 use Rattle.clk_sched.specs.Run.{GetsResult, IsRun}
 use Rattle.clk_sched.specs.Choice.{answers_of, LeavesNoChoice, PullsLeaveNoChoice}
-use Rattle.clk_sched.proofs.Members.{In, of-all, in-filter, filter-in, any-in, each-from_all, each-weaker, each-both, each-mapped}
+use Rattle.clk_packet.specs.Lists.{In}
+use Rattle.clk_sched.proofs.Members.{of-all, in-filter, filter-in, any-in, each-from_all, each-weaker, each-both, each-mapped}
 use Rattle.clk_sched.proofs.Numbering.{StandsAt, stands-root, stands-after_leaf, stands-after_node, stands-inputs, at-leaf}
 use Rattle.clk_sched.specs.Step.{EachAllows}
 use Rattle.clk_sched.proofs.Allowed.{AreWithin, each-allowed, device-visit, onto, each-split}

@@ -10,7 +10,8 @@ use Rattle.clk_sched.specs.Turns.{Turn, EachAfter, all_visits}
 use Rattle.clk_sched.specs.Log.{visits_of, in_pull, pulls, block, turn, asks, pulls_below}
 use Rattle.clk_sched.specs.Laws.{Manner, Follows}
 use Rattle.clk_sched.specs.Run.{IsRun}
-use Rattle.clk_sched.proofs.Members.{In, of-all, in-filter, all-append, all-filter, all-weaker}
+use Rattle.clk_packet.specs.Lists.{In}
+use Rattle.clk_sched.proofs.Members.{of-all, in-filter, all-append, all-filter, all-weaker}
 use Rattle.clk_sched.proofs.PullByPull.{each-whole, in_pull-number}
 use Rattle.clk_sched.proofs.Heads.{IsLater, IsOrdered}
 use Rattle.clk_sched.proofs.HeadsByManner.{PassesLast, turn-last}

@@ -11,7 +11,8 @@ use Rattle.clk_sched.specs.Tree.{Row}
 use Rattle.clk_sched.specs.Log.{visits_of}
 use Rattle.clk_sched.specs.inside.Pulling.{Now, History, after, with_turn, EachHolds, asked_of, with_asked, IsVisitAt, IsAskedAt, IsPulling, IsUnasked}
 use Rattle.clk_sched.proofs.Numbers.{equal, differs}
-use Rattle.clk_sched.proofs.Members.{In, of-all, to-all, all-append, all-weaker, all-flat_map}
+use Rattle.clk_packet.specs.Lists.{In}
+use Rattle.clk_sched.proofs.Members.{of-all, to-all, all-append, all-weaker, all-flat_map}
 use Rattle.clk_sched.proofs.Blocks.{flat_map-same}
 use Rattle.clk_sched.proofs.WithAsked.{absent, IsAbsent}
 use Rattle.clk_sched.proofs.Below.{LiesAt, lies-within, lies-apart, IsVisitBelow, asked-below, HoldsAt, holds-at, holds_at-same, holds-put, holds-same}

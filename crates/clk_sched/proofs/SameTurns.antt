@@ -13,7 +13,7 @@ use Rattle.clk_sched.specs.Heads.{head_at, is_covered, LooksAtHeads, EndAtPass}
 use Rattle.clk_sched.specs.Laws.{Manner, in_order, with_heads, Follows}
 use Rattle.clk_sched.specs.Results.{asks_queue}
 use Rattle.clk_sched.specs.Choice.{answers_of, GoAlike}
-use Rattle.clk_sched.proofs.Members.{In}
+use Rattle.clk_packet.specs.Lists.{In}
 
 -- in two parts of a log each queue gave the same answers, as far as it was asked in both
 abbrev pub AnswerAlike : Tree → (xs ys : List Visit) → Type 0

@@ -12,7 +12,8 @@ use Rattle.clk_sched.specs.Turns.{Turn, giver}
 use Rattle.clk_sched.specs.Laws.Stride.{stride_of, stride_at, pass_in, visits_input, passes_after, passes_of, put_in_order, in_rising_order, stride_order}
 use Rattle.clk_sched.specs.inside.Ranks.{with_pass, greatest_stride, IsRankOf, HasRisingPasses, is_up_to, put_rank, at_pass, after_win, first_pass, first_rank, less}
 use Rattle.clk_sched.specs.inside.Holds.Stride.{HoldsPasses}
-use Rattle.clk_sched.proofs.Members.{In, of-all, to-all, any-in, all-weaker, in-slice}
+use Rattle.clk_packet.specs.Lists.{In}
+use Rattle.clk_sched.proofs.Members.{of-all, to-all, any-in, all-weaker, in-slice}
 use Rattle.clk_sched.specs.inside.Pulling.{AreApart}
 use Rattle.clk_sched.proofs.Apart.{all-map}
 use Rattle.clk_sched.proofs.Orders.{paired_input, rising-apart, enumerated, passes-length}

@@ -11,7 +11,8 @@ use Rattle.clk_sched.specs.Tree.{is_number}
 use Rattle.clk_sched.specs.Turns.{Turn, EachAfter, giver, all_visits, UpToFirst, AsksInOrder}
 use Rattle.clk_sched.specs.Laws.Stride.{visits_input, passes_after, passes_of, put_in_order, in_rising_order, stride_order, pass_in, stride_at}
 use Rattle.clk_sched.specs.Service.{AlwaysGets, Near, largest_stride, given_in, pass_at, SharesByStride}
-use Rattle.clk_sched.proofs.Members.{In, of-all, all-split, in-slice}
+use Rattle.clk_packet.specs.Lists.{In}
+use Rattle.clk_sched.proofs.Members.{of-all, all-split, in-slice}
 use Rattle.clk_sched.proofs.Allowed.{onto, onto-reverse, each-split}
 use Rattle.clk_sched.proofs.Orders.{put-all, passes-length}
 

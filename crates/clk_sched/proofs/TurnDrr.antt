@@ -21,7 +21,8 @@ use Rattle.clk_sched.specs.inside.Pulling.{AreApart, input_of, CanPull, Keeps, A
 use Rattle.clk_sched.specs.inside.Looking.{Looks}
 use Rattle.clk_sched.specs.inside.Pulling.{TakesTurn}
 use Rattle.clk_sched.specs.inside.Turning.{HadTurn}
-use Rattle.clk_sched.proofs.Members.{In, to-all, all-append, all-weaker}
+use Rattle.clk_packet.specs.Lists.{In}
+use Rattle.clk_sched.proofs.Members.{to-all, all-append, all-weaker}
 use Rattle.clk_sched.proofs.Allowed.{onto, onto-append, each-join}
 use Rattle.clk_sched.proofs.Apart.{apart-map}
 use Rattle.clk_sched.proofs.Orders.{IsPlace, first-place, next-place, beyond-differs}

@@ -1,6 +1,7 @@
 -- That a tree loses nothing, and makes nothing.
-use Rattle.std.specs.Prelude.{◌≡◌, ◌⊎◌, ℕ, ◌+◌, true, List, [], ◌∷◌, ◌++◌, length, Some, None, MatchOption, if◌then◌else◌}
+use Rattle.std.specs.Prelude.{◌≡◌, ℕ, ◌+◌, true, List, [], ◌∷◌, ◌++◌, length, Some, None, MatchOption, if◌then◌else◌}
 use Rattle.std.specs.List.{filter_map, AllByRecursion}
+use Rattle.clk_packet.specs.Lists.{In}
 use Rattle.clk_packet.specs.declared.packet.Packet.{Packet}
 use Rattle.clk_sched.specs.declared.visit.Visit.{Visit}
 use Rattle.clk_sched.specs.Tree.{Row, Tree, root, leaves, stands_in, is_number}
@@ -10,11 +11,6 @@ use Rattle.clk_sched.specs.Results.{Traced, leaf_packets, traced_emitted, traced
 -- the packets that came from a queue
 abbrev pub from_queue : ℕ → List Traced → List Packet
 from_queue q traced = filter_map (λ (t : Traced). if is_number q t.1 then Some t.0 else None) traced
-
--- a packet is one of some
-abbrev pub IsAmong : Packet → List Packet → Type 0
-IsAmong p [] = ⊥
-IsAmong p (q ∷ packets) = (q ≡ p) ⊎ IsAmong p packets
 
 -- What a queue gave is what was emitted of it, in order, and then what is held of it, the nearest to the device first.
 abbrev pub IsConserved : Tree → List Visit → ℕ → Type 0
@@ -36,7 +32,7 @@ ConservesCounts tree = (log : List Visit) → IsRun tree log → given_in_all tr
 
 -- a packet came from a queue of a row: it is among those that the queue gave
 abbrev pub CameFrom : Tree → List Visit → Row → Traced → Type 0
-CameFrom tree log row t = MatchOption t.1 ⊥ (λ q. (stands_in q (leaves row) ≡ true) × IsAmong t.0 (leaf_packets tree q log))
+CameFrom tree log row t = MatchOption t.1 ⊥ (λ q. (stands_in q (leaves row) ≡ true) × In t.0 (leaf_packets tree q log))
 
 -- In every run of a tree, each packet that is emitted or held came from one of its queues.
 abbrev pub MakesNothing : Tree → Type 0

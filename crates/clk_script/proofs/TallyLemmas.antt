@@ -10,7 +10,7 @@ use Rattle.clk_packet.specs.declared.packet.Offered.{Offered}
 use Rattle.clk_packet.specs.declared.packet.Offered.TheVariants.{Accepted, Refused, Evicted}
 use Rattle.clk_packet.specs.declared.tally.Tally.{Tally}
 use Rattle.clk_sched.specs.declared.visit.Visit.{Visit}
-use Rattle.clk_report.specs.Report.{packets_from}
+use Rattle.clk_packet.specs.Lists.{of_sender}
 use Rattle.clk_tree.specs.PlanParts.{AreRising}
 use Rattle.clk_script.specs.Meaning.{Event, offered, pulled, accepted_in, refused_in, evicted_in, tally_after, pulls_from}
 use Rattle.clk_script.specs.inside.Router.{taken_in, turned_away, put_out, noted, tally_sender, IsNumber, IsPlaceOf}
@@ -18,12 +18,12 @@ use Rattle.clk_script.proofs.EventLemmas.{pulls-add_none}
 
 -- what an event adds to a sender's packets of some kind
 its-more : (f : Event → Option Packet) (s : ℕ) (events : List Event) (e : Event)
-    → packets_from s (filter_map f (events ++ e ∷ [])) ≡ packets_from s (filter_map f events) ++ packets_from s (cons_option (f e) [])
-its-more f s events e = ap (packets_from s) (filter_map-append f events (e ∷ [])) ∙ filter-append (λ (p : Packet). p.sender == s) (filter_map f events) (cons_option (f e) [])
+    → of_sender s (filter_map f (events ++ e ∷ [])) ≡ of_sender s (filter_map f events) ++ of_sender s (cons_option (f e) [])
+its-more f s events e = ap (of_sender s) (filter_map-append f events (e ∷ [])) ∙ filter-append (λ (p : Packet). p.sender == s) (filter_map f events) (cons_option (f e) [])
 
-its-same : (f : Event → Option Packet) (s : ℕ) (events : List Event) (e : Event) → packets_from s (cons_option (f e) []) ≡ []
-    → packets_from s (filter_map f (events ++ e ∷ [])) ≡ packets_from s (filter_map f events)
-its-same f s events e none = its-more f s events e ∙ ap (λ l. packets_from s (filter_map f events) ++ l) none ∙ append-nil (packets_from s (filter_map f events))
+its-same : (f : Event → Option Packet) (s : ℕ) (events : List Event) (e : Event) → of_sender s (cons_option (f e) []) ≡ []
+    → of_sender s (filter_map f (events ++ e ∷ [])) ≡ of_sender s (filter_map f events)
+its-same f s events e none = its-more f s events e ∙ ap (λ l. of_sender s (filter_map f events) ++ l) none ∙ append-nil (of_sender s (filter_map f events))
 
 -- a tally of these packets
 abbrev has : ℕ → List Packet → List Packet → List Packet → Tally
@@ -61,17 +61,17 @@ tallies-closed events d t more (s ∷ numbers) =
     (with-same s _ _ _ _ _ _ (same accepted_in (λ k n visits. refl)) (same refused_in (λ k n visits. refl)) (same evicted_in (λ k n visits. refl)))
     (tallies-closed events d t more numbers)
   where
-    same : (f : Event → Option Packet) → ((k n : ℕ) (visits : List Visit) → f (pulled k n visits) ≡ None) → packets_from s (filter_map f events) ≡ packets_from s (filter_map f (events ++ pulls_from d t more))
-    same f none = ap (packets_from s) (sym (pulls-add_none f none events d t more))
+    same : (f : Event → Option Packet) → ((k n : ℕ) (visits : List Visit) → f (pulled k n visits) ≡ None) → of_sender s (filter_map f events) ≡ of_sender s (filter_map f (events ++ pulls_from d t more))
+    same f none = ap (of_sender s) (sym (pulls-add_none f none events d t more))
 
 -- what changes the tallies of one sender alone, where the sender is another
 abbrev ChangesIts : ℕ → (Tally → Tally) → Type 0
 ChangesIts s f = (t : Tally) → (s == t.sender) ≡ false → f t ≡ t
 
-none-from : (p : Packet) (s : ℕ) → (p.sender == s) ≡ false → (l : List Packet) → l ++ packets_from s (p ∷ []) ≡ l
+none-from : (p : Packet) (s : ℕ) → (p.sender == s) ≡ false → (l : List Packet) → l ++ of_sender s (p ∷ []) ≡ l
 none-from p s e l = rw e (append-nil l)
 
-one-from : (p : Packet) (s : ℕ) → (p.sender == s) ≡ true → (l : List Packet) → l ++ packets_from s (p ∷ []) ≡ l ++ p ∷ []
+one-from : (p : Packet) (s : ℕ) → (p.sender == s) ≡ true → (l : List Packet) → l ++ of_sender s (p ∷ []) ≡ l ++ p ∷ []
 one-from p s e l = rw e refl
 
 taken_in-its : (p : Packet) → ChangesIts p.sender (taken_in p)

@@ -22,7 +22,8 @@ use Rattle.clk_tree.specs.Plan.{Planned}
 use Rattle.clk_tree.specs.Shares.{AreTreesOf}
 use Rattle.clk_tree.specs.PlanParts.{Queued, queues_of, senders_of, number_of}
 use Rattle.clk_script.specs.Script.{Names, script_fault, commands_of, closing_moment}
-use Rattle.clk_report.specs.Report.{packets_from, report_text}
+use Rattle.clk_packet.specs.Lists.{of_sender}
+use Rattle.clk_report.specs.Report.{report_text}
 
 -- what a script needs to know of a queue: what becomes of a packet that arrives when it is full, how many it holds at most, and the number
 -- of the device that its packets go to
@@ -126,9 +127,9 @@ evicted_in event = None
 abbrev pub tally_after : List Event → ℕ → Tally
 tally_after events s = record {
   sender = s;
-  accepted = packets_from s (filter_map accepted_in events);
-  refused = packets_from s (filter_map refused_in events);
-  evicted = packets_from s (filter_map evicted_in events);
+  accepted = of_sender s (filter_map accepted_in events);
+  refused = of_sender s (filter_map refused_in events);
+  evicted = of_sender s (filter_map evicted_in events);
 }
 
 -- how many packets are left in queues and heads: those accepted, less those put out, less those that came out

@@ -2,7 +2,7 @@
 
 ghost use Rattle.std.specs.Prelude.{◌≡◌, List, map, IfOk, IfErr, MatchOption};
 ghost use Rattle.std.specs.List.{AllByRecursion};
-ghost use Rattle.clk_ruled.specs.Lists.{of_sender};
+ghost use Rattle.clk_packet.specs.Lists.{of_sender};
 ghost use Rattle.clk_ruled.specs.Queue.{IsDealt};
 ghost use Rattle.clk_drain.specs.Outcome.{Device, tally_for};
 ghost use Rattle.clk_drain.specs.Run.{AreDevicesFrom, IsFaultOfRun};

@@ -4,7 +4,8 @@ use Rattle.clk_packet.specs.Limits.{most_length}
 use Rattle.clk_packet.specs.declared.packet.Packet.{Packet}
 use Rattle.clk_packet.specs.declared.tally.Tally.{Tally}
 use Rattle.clk_report.specs.declared.total.Total.{Total}
-use Rattle.clk_report.specs.Report.{packets_from, bytes_of, numbers_text}
+use Rattle.clk_packet.specs.Lists.{of_sender}
+use Rattle.clk_report.specs.Report.{bytes_of, numbers_text}
 
 abbrev pub total_of : List Packet → Total
 total_of packets = record { packets = length packets; bytes = bytes_of packets }
@@ -18,7 +19,7 @@ both one other = record { packets = one.packets + other.packets; bytes = one.byt
 
 -- at the number of each sender that the table has stands the total of its packets
 pub record AreTotals (packets : List Packet) (totals : List Total) : Type 0 where
-  pub each : (s : ℕ) → s < length totals → slice_get totals s ≡ Some (total_of (packets_from s packets))
+  pub each : (s : ℕ) → s < length totals → slice_get totals s ≡ Some (total_of (of_sender s packets))
 
 -- there is room to count so many packets more
 pub record HasRoom (more : ℕ) (total : Total) : Type 0 where

@@ -27,7 +27,7 @@ use Rattle.clk_sched.specs.Session.{counted_moment, elements}
 use Rattle.clk_sched.specs.Kinds.{progress_of, pulls_made}
 use Rattle.clk_sched.specs.declared.session.departures.Departure.{Departure}
 use Rattle.clk_script.specs.Script.{Names, most_lines, most_moment, most_device}
-use Rattle.clk_report.specs.Report.{packets_from}
+use Rattle.clk_packet.specs.Lists.{of_sender}
 use Rattle.clk_report.specs.Devices.{lists_of}
 use Rattle.clk_script.specs.Meaning.{Room, Setup, Event, offered, pulled, CanHappen, numbers_of, accepted_in, evicted_in, tally_after, history, log_of, events_at, sender_numbers, has_several, given_text, closing_text, Closes, CloseFirst}
 
@@ -66,13 +66,13 @@ tally_made spec = record { sender = spec.number; accepted = []; refused = []; ev
 
 -- a tally once a packet, where it is its sender's, was accepted, refused, and put out
 abbrev pub taken_in : Packet → Tally → Tally
-taken_in p t = record { sender = t.sender; accepted = t.accepted ++ packets_from t.sender (p ∷ []); refused = t.refused; evicted = t.evicted }
+taken_in p t = record { sender = t.sender; accepted = t.accepted ++ of_sender t.sender (p ∷ []); refused = t.refused; evicted = t.evicted }
 
 abbrev pub turned_away : Packet → Tally → Tally
-turned_away p t = record { sender = t.sender; accepted = t.accepted; refused = t.refused ++ packets_from t.sender (p ∷ []); evicted = t.evicted }
+turned_away p t = record { sender = t.sender; accepted = t.accepted; refused = t.refused ++ of_sender t.sender (p ∷ []); evicted = t.evicted }
 
 abbrev pub put_out : Packet → Tally → Tally
-put_out p t = record { sender = t.sender; accepted = t.accepted; refused = t.refused; evicted = t.evicted ++ packets_from t.sender (p ∷ []) }
+put_out p t = record { sender = t.sender; accepted = t.accepted; refused = t.refused; evicted = t.evicted ++ of_sender t.sender (p ∷ []) }
 
 -- a tally once a packet was offered, by its sender or another, with this outcome
 abbrev pub noted : Packet → Offered → Tally → Tally

@@ -6,7 +6,8 @@ use Rattle.clk_sched.specs.Tree.{stands_in}
 use Rattle.clk_tree.specs.Plan.{Planned}
 use Rattle.clk_tree.specs.PlanTree.{is_device, device_sources, device_count}
 use Rattle.clk_tree.specs.PlanPaths.{has_output, place_fed, place_after, device_of}
-use Rattle.clk_tree.proofs.Distinct.DistinctNumbers.{In, Distinct, distinct-below}
+use Rattle.clk_packet.specs.Lists.{In}
+use Rattle.clk_tree.proofs.Distinct.DistinctNumbers.{Distinct, distinct-below}
 use Rattle.clk_tree.proofs.Building.PathSteps.{path-stays}
 
 -- the element that has one among its sources: the only one

@@ -27,7 +27,8 @@ use Rattle.clk_tree.proofs.Sound.SoundPaths.{AreSound}
 use Rattle.clk_tree.proofs.Sound.SoundPlans.{IsPlanOf, is-plan, sound-nodes, pull-sources}
 use Rattle.clk_tree.proofs.Sound.SoundQueues.{IsLinkFrom, link-from, queue-role, IsSenderAt, IsSentTo, queue-senders, sender-sent}
 use Rattle.clk_tree.proofs.Sound.SoundParents.{sources-lead}
-use Rattle.clk_tree.proofs.Distinct.DistinctNumbers.{In, in-all, all-of, in-stands, stands-in}
+use Rattle.clk_packet.specs.Lists.{In}
+use Rattle.clk_tree.proofs.Distinct.DistinctNumbers.{in-all, all-of, in-stands, stands-in}
 use Rattle.clk_tree.proofs.Denoted.DevicePaths.{is_device_at, HasPath, has-path, fed-is}
 
 -- each source of an element that is no queue leads to it, and what is connected to a queue are Senders, each of which is connected to it alone

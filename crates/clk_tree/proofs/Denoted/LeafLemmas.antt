@@ -12,7 +12,8 @@ use Rattle.clk_tree.specs.PlanTree.{is_queue, is_device, queue_count, queue_numb
 use Rattle.clk_tree.specs.inside.PlanTree.{is_queue_at}
 use Rattle.clk_tree.specs.PlanPaths.{has_output, place_fed, device_of}
 use Rattle.clk_tree.specs.PlanParts.{Queued, queues_of, leads_to}
-use Rattle.clk_tree.proofs.Distinct.DistinctNumbers.{In, in-append, in-left, in-right, in-stands, stands-in, mapped-from, in-mapped}
+use Rattle.clk_packet.specs.Lists.{In}
+use Rattle.clk_tree.proofs.Distinct.DistinctNumbers.{in-append, in-left, in-right, in-stands, stands-in, mapped-from, in-mapped}
 use Rattle.clk_tree.proofs.Distinct.DistinctQueues.{number-of, one-number}
 use Rattle.clk_tree.proofs.Distinct.DistinctTrees.{Stands, places, leaf-stands, node-stands, node-queue, queue-device, leaves-places, device-queue}
 use Rattle.clk_tree.proofs.Distinct.DistinctPlans.{IsDeviceAt, device-at}

@@ -27,7 +27,8 @@ use Rattle.clk_syntax.specs.Reading.{elements_of, wires_of}
 use Rattle.clk_syntax.proofs.Callers.Graphs.{used_again}
 use Rattle.clk_tree.specs.Plan.{Planned, Known, all_known, source_at, sources_of, planned_at, planned_from, plan_of, Denotes}
 use Rattle.clk_tree.specs.PlanTree.{is_queue, is_device, device_sources, device_count, sources_of_device, IsRowOf, IsTreeOf}
-use Rattle.clk_tree.proofs.Distinct.DistinctNumbers.{In, Distinct, distinct-test}
+use Rattle.clk_packet.specs.Lists.{In}
+use Rattle.clk_tree.proofs.Distinct.DistinctNumbers.{Distinct, distinct-test}
 use Rattle.clk_tree.proofs.Distinct.DistinctTrees.{HasParents, tree-distinct, tree-fits}
 
 -- what fails nowhere

@@ -12,7 +12,8 @@ use Rattle.clk_syntax.specs.Classes as class
 use Rattle.clk_syntax.specs.Classes.{Class}
 use Rattle.clk_tree.specs.Plan.{Planned}
 use Rattle.clk_tree.specs.PlanTree.{is_queue, is_device, number_if, queue_number, scheduler_over, IsNode, sources_at, IsRowOf}
-use Rattle.clk_tree.proofs.Distinct.DistinctNumbers.{In, Distinct, in-all, test-distinct, distinct-test, in-append, distinct-append, distinct-mapped, distinct-below}
+use Rattle.clk_packet.specs.Lists.{In}
+use Rattle.clk_tree.proofs.Distinct.DistinctNumbers.{Distinct, in-all, test-distinct, distinct-test, in-append, distinct-append, distinct-mapped, distinct-below}
 use Rattle.clk_tree.proofs.Distinct.DistinctQueues.{one-number}
 
 -- What is known of a plan: each source of an element that is no queue leads to it, and no source stands twice.

@@ -4,7 +4,7 @@ use Rattle.std.proofs.lemmas.Result.{IfOk-weaker}
 use Rattle.clk_packet.specs.declared.packet.Packet.{Packet}
 use Rattle.clk_packet.specs.declared.tally.Tally.{Tally}
 use Rattle.clk_sched.proofs.Members.{all-weaker}
-use Rattle.clk_ruled.specs.Lists.{of_sender}
+use Rattle.clk_packet.specs.Lists.{of_sender}
 use Rattle.clk_ruled.specs.Queue.{IsDealt}
 use Rattle.clk_packet.specs.Trace.{sent_by}
 use Rattle.clk_drain.specs.Outcome.{Device, SharedQueue, tally_for, IsTallied, IsQueueSettled, IsDeviceSettled}
