@@ -7,7 +7,7 @@ use Rattle.clk_packet.specs.declared.packet.Packet.{Packet}
 use Rattle.clk_sched.specs.declared.visit.Visit.{Visit}
 use Rattle.clk_sched.specs.Turns.{Turn, EachAfter, all_visits}
 use Rattle.clk_sched.specs.Heads.{is_covered, LooksAtHeads}
-use Rattle.clk_sched.specs.Laws.Deficit.{next_input, arrives, arrivals, bytes_of, passed_bytes, quantum_at, deficit_covers}
+use Rattle.clk_sched.specs.Laws.Deficit.{IsDeficit, allowed_bytes, next_input, arrives, arrivals, bytes_of, passed_bytes, quantum_at, deficit_covers}
 use Rattle.clk_sched.specs.Service.{arrivals_in, bytes_in, AlwaysGets, Near, SharesByDeficit}
 use Rattle.clk_sched.proofs.Allowed.{onto, onto-reverse, each-split}
 
@@ -57,6 +57,10 @@ spare-none quantum inputs (u ∷ earlier) v i e d = by_passed u.passed (u.input 
     by_passed false c f k = refl
     by_passed true false f k = refl
     by_passed true true f k = let same : (v.input == i) ≡ true = grind (arith, nat_tests) in absurd (false≢true (sym d ∙ same))
+
+-- what is left of a number that is no smaller
+what-is-left : (passed allowed bound : ℕ) → (passed ≤ allowed) × (allowed ≤ passed + bound) → (left : ℕ) × (passed + left ≡ allowed) × (left ≤ bound)
+what-is-left passed allowed bound h = (allowed - passed, omega (arith, h.0), omega (arith, h.0, h.1))
 
 pub covers-visit : (quanta : List ℕ) (inputs : ℕ) (earlier : List Visit) (v : Visit) → IsDeficitVisit quanta inputs earlier v → IsCovered quanta earlier → IsCovered quanta (v ∷ earlier)
 covers-visit quanta inputs earlier v law h i = by_cases (v.input == i) v.passed v.got refl law.passes
@@ -289,11 +293,11 @@ deficit-shares quanta inputs turns run =
     covered before rest e = covers-all quanta inputs [] before (split before rest e).0 (λ i. (omega arith, omega arith))
 
     bound : (before after : List Visit) (v : Visit) → all_visits turns ≡ before ++ v ∷ after
-        → (passed_bytes v.input (reverse before) ≤ quantum_at quanta v.input * (arrives (reverse before) + arrivals v.input (reverse before)))
-        × (quantum_at quanta v.input * (arrives (reverse before) + arrivals v.input (reverse before)) ≤ passed_bytes v.input (reverse before) + (quantum_at quanta v.input + 65534))
+        → (deficit : ℕ) × IsDeficit quanta (reverse before) v.input deficit × (deficit ≤ quantum_at quanta v.input + 65534)
     bound before after v e =
-        subst (λ earlier. (passed_bytes v.input earlier ≤ quantum_at quanta v.input * (arrives earlier + arrivals v.input earlier)) × (quantum_at quanta v.input * (arrives earlier + arrivals v.input earlier) ≤ passed_bytes v.input earlier + (quantum_at quanta v.input + 65534)))
-        (onto-reverse before) (deficit-bound (quantum_at quanta v.input) inputs (onto before []) v.input (split before (v ∷ after) e).1.0.in_turn (covered before (v ∷ after) e v.input))
+        subst (λ earlier. (deficit : ℕ) × IsDeficit quanta earlier v.input deficit × (deficit ≤ quantum_at quanta v.input + 65534))
+        (onto-reverse before) (what-is-left (passed_bytes v.input (onto before [])) (allowed_bytes quanta (onto before []) v.input) (quantum_at quanta v.input + 65534)
+        (deficit-bound (quantum_at quanta v.input) inputs (onto before []) v.input (split before (v ∷ after) e).1.0.in_turn (covered before (v ∷ after) e v.input)))
 
     order : (before range after : List Visit) → all_visits turns ≡ before ++ (range ++ after) → (i j : ℕ) → i < inputs → j < inputs
         → Near 1 (arrivals_in i (reverse before) range) (arrivals_in j (reverse before) range)

@@ -7,7 +7,7 @@ use Rattle.clk_sched.specs.Tree.{Class, drr, stride, Row, end, leaf, node, Tree,
 use Rattle.clk_sched.specs.Log.{pulls, turn, pulls_below}
 use Rattle.clk_sched.specs.Run.{IsRun}
 use Rattle.clk_sched.specs.Turns.{Turn, giver, all_visits}
-use Rattle.clk_sched.specs.Laws.Deficit.{arrives, arrivals, passed_bytes, bytes_of, quantum_at}
+use Rattle.clk_sched.specs.Laws.Deficit.{IsDeficit, arrives, bytes_of, quantum_at}
 use Rattle.clk_sched.specs.Laws.Stride.{stride_of, stride_at, pass_in, passes_of}
 
 -- the arrivals at an input in a range of visits, and the bytes passed from it there; the visits before are given with the
@@ -35,8 +35,7 @@ pub record SharesByDeficit (quanta : List ℕ) (inputs : ℕ) (turns : List Turn
   pub arrivals_near : (before range after : List Visit) → all_visits turns ≡ before ++ (range ++ after) → (i j : ℕ) → i < inputs → j < inputs
       → Near 1 (arrivals_in i (reverse before) range) (arrivals_in j (reverse before) range)
   pub deficit_bound : (before after : List Visit) (v : Visit) → all_visits turns ≡ before ++ v ∷ after
-      → (passed_bytes v.input (reverse before) ≤ quantum_at quanta v.input * (arrives (reverse before) + arrivals v.input (reverse before)))
-      × (quantum_at quanta v.input * (arrives (reverse before) + arrivals v.input (reverse before)) ≤ passed_bytes v.input (reverse before) + (quantum_at quanta v.input + (most_length - 1)))
+      → (deficit : ℕ) × IsDeficit quanta (reverse before) v.input deficit × (deficit ≤ quantum_at quanta v.input + (most_length - 1))
   pub bytes_near : (before range after : List Visit) → all_visits turns ≡ before ++ (range ++ after) → (i : ℕ) → i < inputs → AlwaysGets i range
       → Near (quantum_at quanta i + (most_length - 1)) (bytes_in i range) (quantum_at quanta i * arrivals_in i (reverse before) range)
 

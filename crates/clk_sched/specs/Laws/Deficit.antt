@@ -1,6 +1,6 @@
 -- What a DRRSched does (Shreedhar and Varghese 1995, pull by pull): whose turn it is, and what is covered. All is over the visits
 -- of the node across its pulls, the earlier ones with the latest first.
-use Rattle.std.specs.Prelude.{ℕ, ◌+◌, ◌*◌, ◌%◌, ◌==◌, Bool, nat_le, List, [], ◌∷◌, is_some, Option, Some, None, unwrap_or, slice_get, if◌then◌else◌}
+use Rattle.std.specs.Prelude.{◌≡◌, ℕ, ◌+◌, ◌*◌, ◌%◌, ◌==◌, Bool, nat_le, List, [], ◌∷◌, is_some, Option, Some, None, unwrap_or, slice_get, if◌then◌else◌}
 use Rattle.clk_packet.specs.declared.packet.Packet.{Packet}
 use Rattle.clk_sched.specs.declared.visit.Visit.{Visit}
 
@@ -33,6 +33,15 @@ passed_bytes input (v ∷ earlier) =
 abbrev pub quantum_at : List ℕ → ℕ → ℕ
 quantum_at quanta input = unwrap_or (slice_get quanta input) 0
 
--- A packet is covered where its length and the bytes passed are within a quantum for each arrival, that of the visit too.
+-- the bytes that an input may have passed by the visit after these, since the latest visit to it that got nothing: a quantum for each
+-- arrival, that of the visit too
+abbrev pub allowed_bytes : List ℕ → List Visit → ℕ → ℕ
+allowed_bytes quanta earlier input = quantum_at quanta input * (arrives earlier + arrivals input earlier)
+
+-- The deficit of an input at the visit after these is what it may pass yet.
+abbrev pub IsDeficit : List ℕ → List Visit → ℕ → ℕ → Type 0
+IsDeficit quanta earlier input deficit = passed_bytes input earlier + deficit ≡ allowed_bytes quanta earlier input
+
+-- A packet is covered where it is no longer than the deficit: its length and the bytes passed are within what may be passed.
 abbrev pub deficit_covers : List ℕ → List Visit → ℕ → Packet → Bool
-deficit_covers quanta earlier input p = nat_le (p.length + passed_bytes input earlier) (quantum_at quanta input * (arrives earlier + arrivals input earlier))
+deficit_covers quanta earlier input p = nat_le (p.length + passed_bytes input earlier) (allowed_bytes quanta earlier input)
