@@ -50,9 +50,9 @@ of-own_queue s q lines own sits (t ∷ ts) h = by_origin t.1 t.0 h.0 (of-own_que
 
 -- what was emitted is what was traced, without where it came from
 emitted-traced : (tree : Tree) (log : List Visit) (visits : List Visit)
-    → filter_map (λ (v : Visit). if v.passed then v.got else None) visits ≡ map (λ (t : Traced). t.0) (flat_map (λ (v : Visit). if v.passed then traced v.got (origin_in log 0 1 (root tree) 0 v.pull) else []) visits)
+    → filter_map (λ (v : Visit). if v.passed then v.got else None) visits ≡ map (λ (t : Traced). t.0) (flat_map (λ (v : Visit). if v.passed then traced v.got (origin_in log 1 (root tree) 0 v.pull) else []) visits)
 emitted-traced tree log [] = refl
-emitted-traced tree log (v ∷ visits) = by_got v.passed v.got (origin_in log 0 1 (root tree) 0 v.pull) _ _ (emitted-traced tree log visits)
+emitted-traced tree log (v ∷ visits) = by_got v.passed v.got (origin_in log 1 (root tree) 0 v.pull) _ _ (emitted-traced tree log visits)
   where
     by_got : (b : Bool) (got : Option Packet) (origin : Option ℕ) (ts : List Traced) (packets : List Packet) → packets ≡ map (λ (t : Traced). t.0) ts
         → cons_option (if b then got else None) packets ≡ map (λ (t : Traced). t.0) ((if b then traced got origin else []) ++ ts)

@@ -1,5 +1,5 @@
 -- Every packet that a node passes or holds came from a queue below it.
-use Rattle.std.proofs.Common.{◌≡◌, ℕ, zero, suc, ◌+◌, ◌<◌, ◌≤◌, ◌==◌, ◌&&◌, ◌||◌, ◌⊎◌, inl, inr, if◌then◌else◌, Bool, true, false, List, [], ◌∷◌, map, reverse, Option, Some, None, MatchOption, eq-or-lt_of_le, refl, sym, ap, ap₂, ◌∙◌, subst, arith}
+use Rattle.std.proofs.Common.{◌≡◌, ℕ, zero, suc, ◌+◌, ◌<◌, ◌==◌, ◌&&◌, ◌||◌, inl, inr, if◌then◌else◌, Bool, true, false, List, [], ◌∷◌, map, reverse, Option, Some, None, MatchOption, refl, sym, ap, ap₂, ◌∙◌, subst, arith}
 use Rattle.std.specs.List.{flat_map, filter_map, cons_option, range_with_len, AllByRecursion}
 use Rattle.std.proofs.lemmas.Bool.{false≢true}
 use Rattle.std.proofs.lemmas.Bool.Decides.{nat_tests}
@@ -9,7 +9,7 @@ use Rattle.clk_sched.specs.Tree.{Class, Row, end, leaf, node, Tree, root, nodes,
 use Rattle.clk_sched.specs.Laws.{Manner, in_order, with_heads, manner}
 use Rattle.clk_sched.specs.Log.{visits_of, pulls, turn, pulls_below}
 use Rattle.clk_sched.specs.Run.{EachObeys}
-use Rattle.clk_sched.specs.Results.{Traced, traced, leaf_packets, asks_queue, traced_heads, own_heads, held_at, origin_in, asked_pull}
+use Rattle.clk_sched.specs.Results.{Traced, traced, leaf_packets, asks_queue, traced_heads, own_heads, held_at, up_to, latest_origin, origin_in}
 use Rattle.clk_packet.specs.Lists.{In}
 use Rattle.clk_sched.specs.Conservation.{CameFrom, MakesNothing}
 use Rattle.clk_sched.proofs.Members.{of-all, in-filter, all-append, all-flat_map, all-split, all-weaker}
@@ -75,11 +75,11 @@ in-inputs class inputs row q h = stands_in-append q (leaves inputs) (leaves row)
 
 -- what a row's parent got, and what is held in the row, came from queues of the row
 record AllCame (tree : Tree) (log : List Visit) (above first next : ℕ) (row : Row) : Type 0 where
-  got : (i : ℕ) → first ≤ i → i < first + width row → AllFrom tree log row (gives log above first next row i)
+  got : (i : ℕ) → i < width row → AllFrom tree log row (gives log above first next row i)
   held : AllFrom tree log row (traced_heads log next row)
 
 -- a queue gave what was got from it
-came-here : (tree : Tree) (log : List Visit) (above first next k : ℕ) (row : Row) → StandsAt tree above first next (leaf k row) → AllFrom tree log (leaf k row) (gives log above first next (leaf k row) first)
+came-here : (tree : Tree) (log : List Visit) (above first next k : ℕ) (row : Row) → StandsAt tree above first next (leaf k row) → AllFrom tree log (leaf k row) (gives log above first next (leaf k row) 0)
 came-here tree log above first next k row stands =
     subst (AllFrom tree log (leaf k row)) (sym (gives-queue log above first next k row))
     (all-flat_map (CameFrom tree log (leaf k row)) (got_by (λ _. Some k) first) (visits_of above log) (λ v m. by_ask v m v.fresh (v.input == first) v.got refl refl refl))
@@ -105,13 +105,13 @@ came-here tree log above first next k row stands =
 came-after_leaf : (tree : Tree) (log : List Visit) (above first next k : ℕ) (row : Row) → StandsAt tree above first next (leaf k row) → AllCame tree log above (suc first) next row
     → AllCame tree log above first next (leaf k row)
 came-after_leaf tree log above first next k row stands rest =
-    record { got = λ i l m. by_input i (eq-or-lt_of_le l) m; held = came-wider tree log row (leaf k row) (in-after_leaf k row) (traced_heads log next row) rest.held }
+    record { got = λ i l. by_input i l; held = came-wider tree log row (leaf k row) (in-after_leaf k row) (traced_heads log next row) rest.held }
   where
-    by_input : (i : ℕ) → (first ≡ i) ⊎ (first < i) → i < first + suc (width row) → AllFrom tree log (leaf k row) (gives log above first next (leaf k row) i)
-    by_input i (inl e) m = subst (λ j. AllFrom tree log (leaf k row) (gives log above first next (leaf k row) j)) e (came-here tree log above first next k row stands)
-    by_input i (inr l) m =
-        subst (AllFrom tree log (leaf k row)) (sym (gives-after_leaf log above first next k row i l))
-        (came-wider tree log row (leaf k row) (in-after_leaf k row) (gives log above (suc first) next row i) (rest.got i (omega arith) (omega arith)))
+    by_input : (i : ℕ) → i < suc (width row) → AllFrom tree log (leaf k row) (gives log above first next (leaf k row) i)
+    by_input zero l = came-here tree log above first next k row stands
+    by_input (suc i) l =
+        subst (AllFrom tree log (leaf k row)) (sym (gives-after_leaf log above first next k row i))
+        (came-wider tree log row (leaf k row) (in-after_leaf k row) (gives log above (suc first) next row i) (rest.got i (omega arith)))
 
 -- what a node passed, and what it holds
 came-own : (tree : Tree) (log : List Visit) (above first next : ℕ) (class : Class) (inputs row : Row) (pulled : List (List Visit)) → IsPulledIn log above first next (node class inputs row) pulled
@@ -131,20 +131,20 @@ came-own tree log above first next class inputs row pulled h obeys below = (
         (turns-within class (width inputs) [] (map (turn next) (pulls_below above first pulled)) obeys.0)
 
     origin : ℕ → ℕ → Option ℕ
-    origin i k = origin_in log 0 (suc next) inputs i k
+    origin i k = origin_in log (suc next) inputs i k
 
     both : (i : ℕ) → i < width inputs → AllFrom tree log inputs (flat_map (passed_by (origin i) i (reverse visits)) visits) × AllFrom tree log inputs (held_in (origin i) i (reverse visits))
     both i l =
         all-split (CameFrom tree log inputs) (flat_map (passed_by (origin i) i (reverse visits)) visits) (held_in (origin i) i (reverse visits))
-        (subst (AllFrom tree log inputs) (gives-passed_and_held log above first next class inputs row pulled h obeys.0 i) (below.got i (omega arith) (omega arith)))
+        (subst (AllFrom tree log inputs) (gives-passed_and_held log above first next class inputs row pulled h obeys.0 i) (below.got i l))
 
     passed : (v : Visit) → In v visits → AllFrom tree log inputs (result_by log next inputs v)
     passed v m =
         by_test v.passed (v.input == v.input) (same v.input)
         (all-flat_map-in (CameFrom tree log inputs) (passed_by (origin v.input) v.input (reverse visits)) v visits (both v.input (of-all _ v visits within m)).0 m)
       where
-        by_test : (b c : Bool) → c ≡ true → AllFrom tree log inputs (if b && c then traced v.got (origin v.input (asked_pull v.input v.pull (reverse visits))) else [])
-            → AllFrom tree log inputs (if b then traced v.got (origin v.input (asked_pull v.input v.pull (reverse visits))) else [])
+        by_test : (b c : Bool) → c ≡ true → AllFrom tree log inputs (if b && c then traced v.got (latest_origin (origin v.input) v.input (up_to v.pull (reverse visits))) else [])
+            → AllFrom tree log inputs (if b then traced v.got (latest_origin (origin v.input) v.input (up_to v.pull (reverse visits))) else [])
         by_test false c e k = tt
         by_test true true e k = k
         by_test true false e k = absurd (false≢true e)
@@ -158,7 +158,7 @@ came-node : (tree : Tree) (log : List Visit) (above first next : ℕ) (class : C
     → AllCame tree log above first next (node class inputs row)
 came-node tree log above first next class inputs row pulled h obeys below rest =
     record {
-      got = λ i l m. by_input i (eq-or-lt_of_le l) m;
+      got = λ i l. by_input i l;
       held =
           all-append (CameFrom tree log (node class inputs row)) (own_heads log next inputs (manner class (width inputs))) _ (from_inputs _ own.1)
           (all-append (CameFrom tree log (node class inputs row)) (traced_heads log (suc next) inputs) _ (from_inputs _ below.held)
@@ -171,17 +171,16 @@ came-node tree log above first next class inputs row pulled h obeys below rest =
     from_inputs : (ts : List Traced) → AllFrom tree log inputs ts → AllFrom tree log (node class inputs row) ts
     from_inputs ts k = came-wider tree log inputs (node class inputs row) (in-inputs class inputs row) ts k
 
-    by_input : (i : ℕ) → (first ≡ i) ⊎ (first < i) → i < first + suc (width row) → AllFrom tree log (node class inputs row) (gives log above first next (node class inputs row) i)
-    by_input i (inl e) m =
-        subst (λ j. AllFrom tree log (node class inputs row) (gives log above first next (node class inputs row) j)) e
-        (subst (AllFrom tree log (node class inputs row)) (sym (gives-results log above first next class inputs row pulled h obeys.0 obeys.1)) (from_inputs _ own.0))
-    by_input i (inr l) m =
-        subst (AllFrom tree log (node class inputs row)) (sym (gives-after_node log above first next class inputs row i l))
-        (came-wider tree log row (node class inputs row) (in-after_node class inputs row) (gives log above (suc first) (suc (next + nodes inputs)) row i) (rest.got i (omega arith) (omega arith)))
+    by_input : (i : ℕ) → i < suc (width row) → AllFrom tree log (node class inputs row) (gives log above first next (node class inputs row) i)
+    by_input zero l =
+        subst (AllFrom tree log (node class inputs row)) (sym (gives-results log above first next class inputs row pulled h obeys.0 obeys.1)) (from_inputs _ own.0)
+    by_input (suc i) l =
+        subst (AllFrom tree log (node class inputs row)) (sym (gives-after_node log above first next class inputs row i))
+        (came-wider tree log row (node class inputs row) (in-after_node class inputs row) (gives log above (suc first) (suc (next + nodes inputs)) row i) (rest.got i (omega arith)))
 
 all-came : (tree : Tree) (log : List Visit) (row : Row) (above first next : ℕ) (pulled : List (List Visit)) → StandsAt tree above first next row → IsPulledIn log above first next row pulled
     → EachObeys above pulled first next row → AllCame tree log above first next row
-all-came tree log end above first next pulled stands h obeys = record { got = λ i l m. absurd (omega arith); held = tt }
+all-came tree log end above first next pulled stands h obeys = record { got = λ i l. absurd (omega arith); held = tt }
 all-came tree log (leaf k row) above first next pulled stands h obeys =
     came-after_leaf tree log above first next k row stands
     (all-came tree log row above (suc first) next pulled (stands-after_leaf tree above first next k row stands) (pulled-after_leaf log above first next k row pulled h) obeys)
@@ -195,4 +194,4 @@ all-came tree log (node class inputs row) above first next pulled stands h obeys
 pub makes-nothing : (tree : Tree) → MakesNothing tree
 makes-nothing tree log run =
     let all = all-came tree log (root tree) 0 0 1 (pulls log) (stands-root tree) (pulled-root tree log run) run.below in
-    (subst (AllFrom tree log (root tree)) (device-emits tree log 0 refl run) (all.got 0 (omega arith) (omega (arith, root-width tree))), all.held)
+    (subst (AllFrom tree log (root tree)) (device-emits tree log run) (all.got 0 (omega (arith, root-width tree))), all.held)

@@ -12,7 +12,7 @@ use Rattle.clk_sched.specs.Laws.Device.{IsDeviceTurn}
 use Rattle.clk_sched.specs.Heads.{head_at}
 use Rattle.clk_sched.specs.Log.{visits_of, pulls, turn, pulls_below}
 use Rattle.clk_sched.specs.Run.{EachObeys, IsRun}
-use Rattle.clk_sched.specs.Results.{Traced, traced, leaf_packets, traced_emitted, traced_heads, own_heads, held_at, origin_in, passed_origin, asked_pull, first_pull}
+use Rattle.clk_sched.specs.Results.{Traced, traced, leaf_packets, traced_emitted, traced_heads, own_heads, held_at, up_to, latest_origin, origin_in}
 use Rattle.clk_sched.specs.Conservation.{from_queue, ConservesPackets}
 use Rattle.clk_sched.proofs.Members.{of-all}
 use Rattle.clk_sched.proofs.Allowed.{onto-reverse, each-follows, device-visit}
@@ -22,7 +22,7 @@ use Rattle.clk_sched.proofs.Blocks.{flat_map-same}
 use Rattle.clk_sched.proofs.TreeLemmas.{stands_in-append}
 use Rattle.clk_sched.proofs.Distinct.{distinct-parts}
 use Rattle.clk_sched.proofs.NoChoice.{root-width}
-use Rattle.clk_sched.proofs.Origins.{origin-not, from_queue-append, traced-not, heads-not, node-not, StandsOnlyIn, only-after_leaf, only-after_node, only-inputs, only-here}
+use Rattle.clk_sched.proofs.Origins.{latest-not, passed-not, origin-not, from_queue-append, traced-not, heads-not, node-not, StandsOnlyIn, only-after_leaf, only-after_node, only-inputs, only-here}
 use Rattle.clk_sched.proofs.Pulled.{IsPulledIn, pulled-after_leaf, pulled-after_node, pulled-inputs, pulled-root, turns-visits}
 use Rattle.clk_sched.proofs.Gives.{gives, results, gives-results, gives-queue, gives-after_leaf, gives-after_node, gives-passed_and_held}
 
@@ -52,10 +52,9 @@ from_queue-one q f i a (suc n) h l m =
 -- A queue stands at one input of a row, and what it gave is what the row's parent got from there and what is held below.
 record IsConservedBelow (tree : Tree) (log : List Visit) (q above first next : ℕ) (row : Row) : Type 0 where
   input : ℕ
-  low : first ≤ input
-  high : input < first + width row
+  within : input < width row
   conserved : leaf_packets tree q log ≡ from_queue q (gives log above first next row input) ++ from_queue q (traced_heads log next row)
-  alone : (j k : ℕ) → j ≢ input → is_number q (origin_in log first next row j k) ≡ false
+  alone : (j k : ℕ) → j ≢ input → is_number q (origin_in log next row j k) ≡ false
 
 -- the packets that a queue gave, in the log and among the visits of the node at which it stands
 leaf-log : (q k above first : ℕ) → (k == q) ≡ true → (log : List Visit)
@@ -93,82 +92,69 @@ conserved-here : (tree : Tree) (log : List Visit) (q above first next k : ℕ) (
     → IsConservedBelow tree log q above first next (leaf k row)
 conserved-here tree log q above first next k row e h only =
     record {
-      input = first;
-      low = omega arith;
-      high = omega arith;
+      input = 0;
+      within = omega arith;
       conserved =
           filter_map-same _ _ log (λ v. ap (λ b. if v.fresh && b then v.got else None) (only-here q tree above first next k row e h only v.node v.input))
           ∙ leaf-log q k above first e log ∙ ap (from_queue q) (sym (gives-queue log above first next k row))
-          ∙ sym (append-nil _) ∙ ap (λ l. from_queue q (gives log above first next (leaf k row) first) ++ l) (sym (heads-not q log next row h));
-      alone = λ j p d. by_test j p (first == j) refl d (origin-not q log (suc first) next row j p h);
+          ∙ sym (append-nil _) ∙ ap (λ l. from_queue q (gives log above first next (leaf k row) 0) ++ l) (sym (heads-not q log next row h));
+      alone = λ j p d. others j p d;
     }
   where
-    by_test : (j p : ℕ) (b : Bool) → (first == j) ≡ b → j ≢ first → is_number q (origin_in log (suc first) next row j p) ≡ false
-        → is_number q (if b then Some k else origin_in log (suc first) next row j p) ≡ false
-    by_test j p true t d rest = absurd (d (grind (arith, nat_tests)))
-    by_test j p false t d rest = rest
+    others : (j p : ℕ) → j ≢ 0 → is_number q (origin_in log next (leaf k row) j p) ≡ false
+    others zero p d = absurd (d refl)
+    others (suc j) p d = origin-not q log next row j p h
 
 conserved-after_leaf : (tree : Tree) (log : List Visit) (q above first next k : ℕ) (row : Row) → (k == q) ≡ false → IsConservedBelow tree log q above (suc first) next row → IsConservedBelow tree log q above first next (leaf k row)
 conserved-after_leaf tree log q above first next k row e rest =
     record {
-      input = rest.input;
-      low = let l = rest.low in omega arith;
-      high = let l = rest.high in omega arith;
-      conserved =
-          rest.conserved
-          ∙ ap (λ l. from_queue q l ++ from_queue q (traced_heads log next row)) (sym (gives-after_leaf log above first next k row rest.input (let l = rest.low in omega arith)));
-      alone = λ j p d. by_test j p (first == j) (rest.alone j p d);
+      input = suc rest.input;
+      within = let l = rest.within in omega arith;
+      conserved = rest.conserved ∙ ap (λ l. from_queue q l ++ from_queue q (traced_heads log next row)) (sym (gives-after_leaf log above first next k row rest.input));
+      alone = λ j p d. others j p d;
     }
   where
-    by_test : (j p : ℕ) (b : Bool) → is_number q (origin_in log (suc first) next row j p) ≡ false → is_number q (if b then Some k else origin_in log (suc first) next row j p) ≡ false
-    by_test j p true h = e
-    by_test j p false h = h
+    others : (j p : ℕ) → j ≢ suc rest.input → is_number q (origin_in log next (leaf k row) j p) ≡ false
+    others zero p d = e
+    others (suc j) p d = rest.alone j p (λ s. d (ap suc s))
 
 conserved-after_node : (tree : Tree) (log : List Visit) (q above first next : ℕ) (class : Class) (inputs row : Row) → stands_in q (leaves inputs) ≡ false
     → IsConservedBelow tree log q above (suc first) (suc (next + nodes inputs)) row → IsConservedBelow tree log q above first next (node class inputs row)
 conserved-after_node tree log q above first next class inputs row h rest =
     record {
-      input = rest.input;
-      low = let l = rest.low in omega arith;
-      high = let l = rest.high in omega arith;
+      input = suc rest.input;
+      within = let l = rest.within in omega arith;
       conserved =
           rest.conserved
-          ∙ ap₂ (λ l m. l ++ m)
-          (ap (from_queue q) (sym (gives-after_node log above first next class inputs row rest.input (let l = rest.low in omega arith))))
-          (sym (node-not q log next class inputs row h));
-      alone = λ j p d. by_test j p (first == j) (origin-not q log 0 (suc next) inputs _ _ h) (rest.alone j p d);
+          ∙ ap₂ (λ l m. l ++ m) (ap (from_queue q) (sym (gives-after_node log above first next class inputs row rest.input))) (sym (node-not q log next class inputs row h));
+      alone = λ j p d. others j p d;
     }
   where
-    inside : ℕ → Option ℕ
-    inside p = passed_origin (λ i k. origin_in log 0 (suc next) inputs i k) log next p
-
-    by_test : (j p : ℕ) (b : Bool) → is_number q (inside p) ≡ false → is_number q (origin_in log (suc first) (suc (next + nodes inputs)) row j p) ≡ false
-        → is_number q (if b then inside p else origin_in log (suc first) (suc (next + nodes inputs)) row j p) ≡ false
-    by_test j p true g k = g
-    by_test j p false g k = k
+    others : (j p : ℕ) → j ≢ suc rest.input → is_number q (origin_in log next (node class inputs row) j p) ≡ false
+    others zero p d = passed-not q (λ i k. origin_in log (suc next) inputs i k) p (visits_of next log) (λ i k. origin-not q log (suc next) inputs i k h)
+    others (suc j) p d = rest.alone j p (λ s. d (ap suc s))
 
 -- the heads of a node over the input from which a queue's packets come
 own-held : (log : List Visit) (q x : ℕ) (m : Manner) (inputs : Row) (turns : List Turn) (i : ℕ) → EachAfter (Follows m (width inputs)) [] turns → all_visits turns ≡ visits_of x log → i < width inputs
-    → ((j k : ℕ) → j ≢ i → is_number q (origin_in log 0 (suc x) inputs j k) ≡ false) → from_queue q (own_heads log x inputs m) ≡ from_queue q (held_at log x inputs i)
+    → ((j k : ℕ) → j ≢ i → is_number q (origin_in log (suc x) inputs j k) ≡ false) → from_queue q (own_heads log x inputs m) ≡ from_queue q (held_at log x inputs i)
 own-held log q x (in_order order) inputs turns i law all l alone =
-    ap (λ o. from_queue q (traced o (origin_in log 0 (suc x) inputs i (asked_pull i (first_pull (reverse (visits_of x log))) (reverse (visits_of x log))))))
+    ap (λ o. from_queue q (traced o (latest_origin (origin_in log (suc x) inputs i) i (reverse (visits_of x log)))))
     (sym (ap (head_at i) (ap reverse (sym all) ∙ sym (onto-reverse (all_visits turns))) ∙ in_order-holds order (width inputs) turns law i))
 own-held log q x (with_heads turn_of covers) inputs turns i law all l alone =
-    from_queue-one q (held_at log x inputs) i 0 (width inputs) (λ j d. traced-not q _ _ (alone j _ d)) (omega arith) (omega arith)
+    from_queue-one q (held_at log x inputs) i 0 (width inputs) (λ j d. traced-not q _ _ (latest-not q (origin_in log (suc x) inputs j) j (reverse (visits_of x log)) (λ k. alone j k d))) (omega arith) (omega arith)
 
 conserved-node : (tree : Tree) (log : List Visit) (q above first next : ℕ) (class : Class) (inputs row : Row) (pulled : List (List Visit)) → IsPulledIn log above first next (node class inputs row) pulled
     → EachObeys above pulled first next (node class inputs row) → stands_in q (leaves row) ≡ false → IsConservedBelow tree log q next 0 (suc next) inputs
     → IsConservedBelow tree log q above first next (node class inputs row)
 conserved-node tree log q above first next class inputs row pulled h obeys other below =
     record {
-      input = first;
-      low = omega arith;
-      high = omega arith;
+      input = 0;
+      within = omega arith;
       conserved =
           below.conserved ∙ ap (λ l. from_queue q l ++ inner) kept ∙ ap (λ l. l ++ inner) (from_queue-append q passed (held_at log next inputs below.input))
           ∙ append_assoc (from_queue q passed) (from_queue q (held_at log next inputs below.input)) inner
           ∙ ap₂ (λ l m. l ++ m) (passed_results ∙ ap (from_queue q) (sym (gives-results log above first next class inputs row pulled h obeys.0 obeys.1))) (sym heads);
-      alone = λ j p d. by_test j p (first == j) refl d (origin-not q log (suc first) (suc (next + nodes inputs)) row j p other);
+      alone = λ j p d. others j p d;
     }
   where
     turns : List Turn
@@ -181,7 +167,7 @@ conserved-node tree log q above first next class inputs row pulled h obeys other
     all = turns-visits log above first next class inputs row pulled h
 
     origin : ℕ → ℕ → Option ℕ
-    origin i k = origin_in log 0 (suc next) inputs i k
+    origin i k = origin_in log (suc next) inputs i k
 
     passed : List Traced
     passed = flat_map (passed_by (origin below.input) below.input (reverse visits)) visits
@@ -193,12 +179,15 @@ conserved-node tree log q above first next class inputs row pulled h obeys other
     kept = gives-passed_and_held log above first next class inputs row pulled h obeys.0 below.input
 
     one : (v : Visit) (b c : Bool) → (v.input == below.input) ≡ c
-        → from_queue q (if b && c then traced v.got (origin below.input (asked_pull below.input v.pull (reverse visits))) else [])
-        ≡ from_queue q (if b then traced v.got (origin v.input (asked_pull v.input v.pull (reverse visits))) else [])
+        → from_queue q (if b && c then traced v.got (latest_origin (origin below.input) below.input (up_to v.pull (reverse visits))) else [])
+        ≡ from_queue q (if b then traced v.got (latest_origin (origin v.input) v.input (up_to v.pull (reverse visits))) else [])
     one v false c e = refl
-    one v true true e = let same : below.input ≡ v.input = grind (arith, nat_tests) in ap (λ i. from_queue q (traced v.got (origin i (asked_pull i v.pull (reverse visits))))) same
+    one v true true e =
+        let same : below.input ≡ v.input = grind (arith, nat_tests) in ap (λ i. from_queue q (traced v.got (latest_origin (origin i) i (up_to v.pull (reverse visits))))) same
     one v true false e =
-        sym (traced-not q v.got (origin v.input (asked_pull v.input v.pull (reverse visits))) (below.alone v.input _ (λ s. let t : (v.input == below.input) ≡ true = grind (arith, nat_tests) in false≢true (sym e ∙ t))))
+        sym (traced-not q v.got (latest_origin (origin v.input) v.input (up_to v.pull (reverse visits)))
+        (latest-not q (origin v.input) v.input (up_to v.pull (reverse visits))
+        (λ k. below.alone v.input k (λ s. let t : (v.input == below.input) ≡ true = grind (arith, nat_tests) in false≢true (sym e ∙ t)))))
 
     passed_results : from_queue q passed ≡ from_queue q (results log next inputs)
     passed_results = from_queue-same q _ _ visits (λ v. one v v.passed (v.input == below.input) refl)
@@ -206,16 +195,12 @@ conserved-node tree log q above first next class inputs row pulled h obeys other
     heads : from_queue q (traced_heads log next (node class inputs row)) ≡ from_queue q (held_at log next inputs below.input) ++ inner
     heads =
         from_queue-append q (own_heads log next inputs (manner class (width inputs))) _
-        ∙ ap₂ (λ l m. l ++ m) (own-held log q next (manner class (width inputs)) inputs turns below.input (each-follows class (width inputs) turns obeys.0) all (let k = below.high in omega arith) below.alone)
+        ∙ ap₂ (λ l m. l ++ m) (own-held log q next (manner class (width inputs)) inputs turns below.input (each-follows class (width inputs) turns obeys.0) all below.within below.alone)
         (from_queue-append q (traced_heads log (suc next) inputs) _ ∙ ap (λ l. inner ++ l) (heads-not q log (suc (next + nodes inputs)) row other) ∙ append-nil inner)
 
-    inside : ℕ → Option ℕ
-    inside p = passed_origin (λ i k. origin_in log 0 (suc next) inputs i k) log next p
-
-    by_test : (j p : ℕ) (b : Bool) → (first == j) ≡ b → j ≢ first → is_number q (origin_in log (suc first) (suc (next + nodes inputs)) row j p) ≡ false
-        → is_number q (if b then inside p else origin_in log (suc first) (suc (next + nodes inputs)) row j p) ≡ false
-    by_test j p true t d rest = absurd (d (grind (arith, nat_tests)))
-    by_test j p false t d rest = rest
+    others : (j p : ℕ) → j ≢ 0 → is_number q (origin_in log next (node class inputs row) j p) ≡ false
+    others zero p d = absurd (d refl)
+    others (suc j) p d = origin-not q log (suc (next + nodes inputs)) row j p other
 
 conserved-below : (tree : Tree) (log : List Visit) (q : ℕ) (row : Row) (above first next : ℕ) (pulled : List (List Visit)) → IsPulledIn log above first next row pulled → EachObeys above pulled first next row
     → StandsOnlyIn q tree above first next row → stands_in q (leaves row) ≡ true → are_distinct (leaves row) ≡ true → IsConservedBelow tree log q above first next row
@@ -246,8 +231,8 @@ conserved-below tree log q (node class inputs row) above first next pulled h obe
     by_test false e s below other rest = conserved-after_node tree log q above first next class inputs row e (rest e s)
 
 -- what the device got is what was emitted
-pub device-emits : (tree : Tree) (log : List Visit) (i : ℕ) → i ≡ 0 → IsRun tree log → gives log 0 0 1 (root tree) i ≡ traced_emitted tree log
-device-emits tree log i zero_is run = flat_map-same _ _ (visits_of 0 log) (λ v m. one v (of-all (λ (u : Visit). IsPlain u × (u.input ≡ 0)) v (visits_of 0 log) plain m))
+pub device-emits : (tree : Tree) (log : List Visit) → IsRun tree log → gives log 0 0 1 (root tree) 0 ≡ traced_emitted tree log
+device-emits tree log run = flat_map-same _ _ (visits_of 0 log) (λ v m. one v (of-all (λ (u : Visit). IsPlain u × (u.input ≡ 0)) v (visits_of 0 log) plain m))
   where
     turns-plain : (ps : List (List Visit)) → AllByRecursion IsDeviceTurn (map (turn 0) ps) → AllByRecursion (λ (u : Visit). IsPlain u × (u.input ≡ 0)) (flat_map (visits_of 0) ps)
     turns-plain [] h = tt
@@ -258,19 +243,21 @@ device-emits tree log i zero_is run = flat_map-same _ _ (visits_of 0 log) (λ v 
     plain : AllByRecursion (λ (u : Visit). IsPlain u × (u.input ≡ 0)) (visits_of 0 log)
     plain = subst (AllByRecursion (λ (u : Visit). IsPlain u × (u.input ≡ 0))) (sym (pulled-root tree log run).own_visits) (turns-plain (pulls log) run.device)
 
-    by_got : (k : ℕ) (o : Option Packet) → traced o (origin_in log 0 1 (root tree) i k) ≡ (if is_some o then traced o (origin_in log 0 1 (root tree) 0 k) else [])
-    by_got k None = refl
-    by_got k (Some p) = ap (λ j. traced (Some p) (origin_in log 0 1 (root tree) j k)) zero_is
+    origin : ℕ → Option ℕ
+    origin k = origin_in log 1 (root tree) 0 k
 
-    one : (v : Visit) → IsPlain v × (v.input ≡ 0) → got_by (λ k. origin_in log 0 1 (root tree) i k) i v ≡ (if v.passed then traced v.got (origin_in log 0 1 (root tree) 0 v.pull) else [])
+    by_got : (k : ℕ) (o : Option Packet) → traced o (origin k) ≡ (if is_some o then traced o (origin k) else [])
+    by_got k None = refl
+    by_got k (Some p) = refl
+
+    one : (v : Visit) → IsPlain v × (v.input ≡ 0) → got_by origin 0 v ≡ (if v.passed then traced v.got (origin v.pull) else [])
     one v h =
-        ap (λ b. if b then traced v.got (origin_in log 0 1 (root tree) i v.pull) else []) (ap₂ (λ f j. f && (j == i)) h.0.fresh h.1 ∙ at_zero i zero_is) ∙ by_got v.pull v.got
-        ∙ ap (λ b. if b then traced v.got (origin_in log 0 1 (root tree) 0 v.pull) else []) (sym h.0.passed)
-      where
-        at_zero : (j : ℕ) → j ≡ 0 → (0 == j) ≡ true
-        at_zero j e = grind (arith, nat_tests)
+        ap (λ b. if b then traced v.got (origin v.pull) else []) (ap₂ (λ f j. f && (j == 0)) h.0.fresh h.1) ∙ by_got v.pull v.got
+        ∙ ap (λ b. if b then traced v.got (origin v.pull) else []) (sym h.0.passed)
 
 pub conserves-packets : (tree : Tree) → leaves_distinct tree ≡ true → ConservesPackets tree
 conserves-packets tree distinct log run q stands =
     let all = conserved-below tree log q (root tree) 0 0 1 (pulls log) (pulled-root tree log run) run.below (λ x i. refl) stands distinct in
-    all.conserved ∙ ap (λ l. from_queue q l ++ from_queue q (traced_heads log 1 (root tree))) (device-emits tree log all.input (let h = all.high in let w = root-width tree in omega (arith, w)) run)
+    let first : all.input ≡ 0 = (let l = all.within in let w = root-width tree in omega (arith, l, w)) in
+    all.conserved ∙ ap (λ i. from_queue q (gives log 0 0 1 (root tree) i) ++ from_queue q (traced_heads log 1 (root tree))) first
+    ∙ ap (λ l. from_queue q l ++ from_queue q (traced_heads log 1 (root tree))) (device-emits tree log run)

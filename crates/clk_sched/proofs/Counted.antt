@@ -124,9 +124,9 @@ given-counted tree log (q ∷ qs) each =
 
 -- as many were traced as came out
 emitted-counted : (tree : Tree) (log : List Visit) (visits : List Visit)
-    → length (flat_map (λ (v : Visit). if v.passed then traced v.got (origin_in log 0 1 (root tree) 0 v.pull) else []) visits) ≡ length (filter_map (λ (v : Visit). if v.passed then v.got else None) visits)
+    → length (flat_map (λ (v : Visit). if v.passed then traced v.got (origin_in log 1 (root tree) 0 v.pull) else []) visits) ≡ length (filter_map (λ (v : Visit). if v.passed then v.got else None) visits)
 emitted-counted tree log [] = refl
-emitted-counted tree log (v ∷ visits) = by_got v.passed v.got (origin_in log 0 1 (root tree) 0 v.pull) _ _ (emitted-counted tree log visits)
+emitted-counted tree log (v ∷ visits) = by_got v.passed v.got (origin_in log 1 (root tree) 0 v.pull) _ _ (emitted-counted tree log visits)
   where
     by_got : (b : Bool) (got : Option Packet) (origin : Option ℕ) (ts : List Traced) (packets : List Packet) → length ts ≡ length packets
         → length ((if b then traced got origin else []) ++ ts) ≡ length (cons_option (if b then got else None) packets)

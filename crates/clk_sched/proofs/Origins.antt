@@ -1,5 +1,5 @@
 -- Where a queue doesn't stand, no packet comes from it; and where it stands once.
-use Rattle.std.proofs.Common.{◌≡◌, ℕ, suc, ◌+◌, ◌<◌, ◌==◌, ◌&&◌, nat_lt, if◌then◌else◌, Bool, true, false, List, [], ◌∷◌, ◌++◌, Option, Some, None, refl, sym, ap, ap₂, ◌∙◌, arith}
+use Rattle.std.proofs.Common.{◌≡◌, ℕ, zero, suc, ◌+◌, ◌<◌, ◌==◌, ◌&&◌, nat_lt, if◌then◌else◌, Bool, true, false, List, [], ◌∷◌, ◌++◌, reverse, Option, Some, None, option_and_then, refl, sym, ap, ap₂, ◌∙◌, arith}
 use Rattle.std.specs.List.{flat_map, range_with_len}
 use Rattle.std.specs.Option.{option_or}
 use Rattle.std.proofs.lemmas.Bool.{false≢true}
@@ -9,7 +9,8 @@ use Rattle.clk_packet.specs.declared.packet.Packet.{Packet}
 use Rattle.clk_sched.specs.declared.visit.Visit.{Visit}
 use Rattle.clk_sched.specs.Tree.{Class, Row, end, leaf, node, Tree, nodes, width, queue_in, queue_at, leaves, stands_in, is_number}
 use Rattle.clk_sched.specs.Laws.{Manner, in_order, with_heads, manner}
-use Rattle.clk_sched.specs.Results.{Traced, traced, origin_in, passed_origin, held_at, own_heads, traced_heads}
+use Rattle.clk_sched.specs.Log.{visits_of, in_pull}
+use Rattle.clk_sched.specs.Results.{Traced, traced, up_to, passed_input, asked_pull, latest_origin, passed_origin, origin_in, held_at, own_heads, traced_heads}
 use Rattle.clk_sched.specs.Conservation.{from_queue}
 use Rattle.clk_sched.proofs.Numbering.{queue_in-before, queue_in-after, queue_in-earlier, or_none}
 use Rattle.clk_sched.proofs.Distinct.{or-neither, stands-neither}
@@ -31,25 +32,27 @@ queue_in-not q above first next (node class inputs row) x i h =
     by_queue None e rest = rest
     by_queue (Some k) e rest = e
 
-pub origin-not : (q : ℕ) (log : List Visit) (first next : ℕ) (row : Row) (i k : ℕ) → stands_in q (leaves row) ≡ false → is_number q (origin_in log first next row i k) ≡ false
-origin-not q log first next end i k h = refl
-origin-not q log first next (leaf p row) i k h =
-    let parts = or-neither (p == q) (stands_in q (leaves row)) h in by_test (first == i) parts.0 (origin-not q log (suc first) next row i k parts.1)
-  where
-    by_test : (b : Bool) → (p == q) ≡ false → is_number q (origin_in log (suc first) next row i k) ≡ false → is_number q (if b then Some p else origin_in log (suc first) next row i k) ≡ false
-    by_test true e rest = e
-    by_test false e rest = rest
-origin-not q log first next (node class inputs row) i k h =
-    let parts = stands-neither q (leaves inputs) (leaves row) h in
-    by_test (first == i) (origin-not q log 0 (suc next) inputs _ _ parts.0) (origin-not q log (suc first) (suc (next + nodes inputs)) row i k parts.1)
-  where
-    here : Option ℕ
-    here = passed_origin (λ j n. origin_in log 0 (suc next) inputs j n) log next k
+-- where nothing that is got at an input comes from a queue, nor does what was got there last, or what is passed from there
+and_then-not : (q : ℕ) (f : ℕ → Option ℕ) (o : Option ℕ) → ((n : ℕ) → is_number q (f n) ≡ false) → is_number q (option_and_then f o) ≡ false
+and_then-not q f None h = refl
+and_then-not q f (Some n) h = h n
 
-    by_test : (b : Bool) → is_number q here ≡ false → is_number q (origin_in log (suc first) (suc (next + nodes inputs)) row i k) ≡ false
-        → is_number q (if b then here else origin_in log (suc first) (suc (next + nodes inputs)) row i k) ≡ false
-    by_test true e rest = e
-    by_test false e rest = rest
+pub latest-not : (q : ℕ) (origin : ℕ → Option ℕ) (i : ℕ) (latest : List Visit) → ((k : ℕ) → is_number q (origin k) ≡ false) → is_number q (latest_origin origin i latest) ≡ false
+latest-not q origin i latest h = and_then-not q origin (asked_pull i latest) h
+
+pub passed-not : (q : ℕ) (origin : ℕ → ℕ → Option ℕ) (k : ℕ) (visits : List Visit) → ((i n : ℕ) → is_number q (origin i n) ≡ false) → is_number q (passed_origin origin k visits) ≡ false
+passed-not q origin k visits h =
+    and_then-not q (λ i. latest_origin (origin i) i (up_to k (reverse visits))) (passed_input (in_pull k visits)) (λ i. latest-not q (origin i) i (up_to k (reverse visits)) (h i))
+
+pub origin-not : (q : ℕ) (log : List Visit) (next : ℕ) (row : Row) (i k : ℕ) → stands_in q (leaves row) ≡ false → is_number q (origin_in log next row i k) ≡ false
+origin-not q log next end i k h = refl
+origin-not q log next (leaf p row) zero k h = (or-neither (p == q) (stands_in q (leaves row)) h).0
+origin-not q log next (leaf p row) (suc i) k h = origin-not q log next row i k (or-neither (p == q) (stands_in q (leaves row)) h).1
+origin-not q log next (node class inputs row) zero k h =
+    let parts = stands-neither q (leaves inputs) (leaves row) h in
+    passed-not q (λ j n. origin_in log (suc next) inputs j n) k (visits_of next log) (λ j n. origin-not q log (suc next) inputs j n parts.0)
+origin-not q log next (node class inputs row) (suc i) k h =
+    let parts = stands-neither q (leaves inputs) (leaves row) h in origin-not q log (suc (next + nodes inputs)) row i k parts.1
 
 pub from_queue-append : (q : ℕ) (xs ys : List Traced) → from_queue q (xs ++ ys) ≡ from_queue q xs ++ from_queue q ys
 from_queue-append q xs ys = filter_map-append _ xs ys
@@ -64,7 +67,7 @@ flat_map-not q f (x ∷ xs) h = from_queue-append q (f x) (flat_map f xs) ∙ ap
 
 own-not : (q : ℕ) (log : List Visit) (x : ℕ) (inputs : Row) (m : Manner) → stands_in q (leaves inputs) ≡ false → from_queue q (own_heads log x inputs m) ≡ []
 own-not q log x inputs (in_order order) h = refl
-own-not q log x inputs (with_heads turn_of covers) h = flat_map-not q (held_at log x inputs) (range_with_len 0 (width inputs)) (λ i. traced-not q _ _ (origin-not q log 0 (suc x) inputs i _ h))
+own-not q log x inputs (with_heads turn_of covers) h = flat_map-not q (held_at log x inputs) (range_with_len 0 (width inputs)) (λ i. traced-not q _ _ (latest-not q (origin_in log (suc x) inputs i) i (reverse (visits_of x log)) (λ k. origin-not q log (suc x) inputs i k h)))
 
 pub heads-not : (q : ℕ) (log : List Visit) (next : ℕ) (row : Row) → stands_in q (leaves row) ≡ false → from_queue q (traced_heads log next row) ≡ []
 heads-not q log next end h = refl

@@ -1,5 +1,5 @@
 -- What a log says went in and came out: answers of queues, packets emitted, heads held, and where packets came from.
-use Rattle.std.specs.Prelude.{Bool, ℕ, ◌+◌, ◌==◌, ◌&&◌, List, [], ◌∷◌, ◌++◌, map, reverse, suc, Option, Some, None, nat_lt, if◌then◌else◌}
+use Rattle.std.specs.Prelude.{Bool, ℕ, zero, suc, ◌+◌, ◌&&◌, nat_le, List, [], ◌∷◌, ◌++◌, map, filter, reverse, Option, Some, None, option_and_then, if◌then◌else◌}
 use Rattle.std.specs.List.{filter_map, flat_map, range_with_len}
 use Rattle.clk_packet.specs.declared.packet.Packet.{Packet}
 use Rattle.clk_sched.specs.declared.visit.Visit.{Visit}
@@ -20,31 +20,40 @@ asks_queue tree q v = v.fresh && is_number q (queue_at tree v.node v.input)
 abbrev pub leaf_packets : Tree → ℕ → List Visit → List Packet
 leaf_packets tree q log = filter_map (λ (v : Visit). if asks_queue tree q v then v.got else None) log
 
--- the input at which came in what a node passed in a pull
-abbrev pub passed_input : List Visit → ℕ
-passed_input [] = 0
-passed_input (v ∷ visits) = if v.passed then v.input else passed_input visits
+-- the visits of pull k and of those before it
+abbrev pub up_to : ℕ → List Visit → List Visit
+up_to k visits = filter (λ (v : Visit). nat_le v.pull k) visits
 
--- the pull in which an input was asked last, up to pull k, of visits with the latest first: in it was got what is passed in
--- pull k, as a held head or at once
-abbrev pub asked_pull : ℕ → ℕ → List Visit → ℕ
-asked_pull input k [] = 0
-asked_pull input k (v ∷ latest_first) =
-    if (asks input v) && nat_lt v.pull (suc k) then v.pull else asked_pull input k latest_first
+-- the input from which a node passed a packet in a pull, of its visits there; none where it passed nothing
+abbrev pub passed_input : List Visit → Option ℕ
+passed_input [] = None
+passed_input (v ∷ visits) = if v.passed then Some v.input else passed_input visits
 
--- The queue from which came what node x passed in pull k, by where came what was got at an input of it in a pull.
-abbrev pub passed_origin : (ℕ → ℕ → Option ℕ) → List Visit → ℕ → ℕ → Option ℕ
-passed_origin origin log x k =
-    origin (passed_input (visits_of x (in_pull k log))) (asked_pull (passed_input (visits_of x (in_pull k log))) k (reverse (visits_of x log)))
+-- the pull in which a node asked at an input last, of its visits with the latest first; none where it never asked there
+abbrev pub asked_pull : ℕ → List Visit → Option ℕ
+asked_pull input [] = None
+asked_pull input (v ∷ earlier) = if asks input v then Some v.pull else asked_pull input earlier
 
--- The queue from which came what was got in pull k at an input, in a row that stands at the inputs from `first` on and
--- whose schedulers are numbered from `next` on: the queue there, or that of what the scheduler there passed.
-abbrev pub origin_in : List Visit → ℕ → ℕ → Row → ℕ → ℕ → Option ℕ
-origin_in log first next end input k = None
-origin_in log first next (leaf q row) input k = if first == input then Some q else origin_in log (suc first) next row input k
-origin_in log first next (node class inputs row) input k =
-    if first == input then passed_origin (λ i n. origin_in log 0 (suc next) inputs i n) log next k
-    else origin_in log (suc first) (suc (next + nodes inputs)) row input k
+-- The queue from which came what a node got when it asked at an input last, of its visits with the latest first, by where
+-- came what was got there in a pull. Then it got what it holds of that input, and what it passes from there.
+abbrev pub latest_origin : (ℕ → Option ℕ) → ℕ → List Visit → Option ℕ
+latest_origin origin input latest_first = option_and_then origin (asked_pull input latest_first)
+
+-- The queue from which came what a node passed in pull k, of its visits, by where came what was got at an input of it in a
+-- pull; none where it passed nothing.
+abbrev pub passed_origin : (ℕ → ℕ → Option ℕ) → ℕ → List Visit → Option ℕ
+passed_origin origin k visits =
+    option_and_then (λ input. latest_origin (origin input) input (up_to k (reverse visits))) (passed_input (in_pull k visits))
+
+-- The queue from which came what was got in pull k at an input, in a row whose inputs are counted from 0 and whose
+-- schedulers are numbered from `next` on: the queue there, or that of what the scheduler there passed. None where nothing
+-- stands at such an input, and where the scheduler passed nothing.
+abbrev pub origin_in : List Visit → ℕ → Row → ℕ → ℕ → Option ℕ
+origin_in log next end input k = None
+origin_in log next (leaf q row) zero k = Some q
+origin_in log next (leaf q row) (suc input) k = origin_in log next row input k
+origin_in log next (node class inputs row) zero k = passed_origin (λ i n. origin_in log (suc next) inputs i n) k (visits_of next log)
+origin_in log next (node class inputs row) (suc input) k = origin_in log (suc (next + nodes inputs)) row input k
 
 -- a packet with the queue that it came from
 abbrev pub Traced : Type 0
@@ -56,18 +65,12 @@ traced (Some p) origin = (p, origin) ∷ []
 
 -- the packets emitted, with their origins
 abbrev pub traced_emitted : Tree → List Visit → List Traced
-traced_emitted tree log = flat_map (λ (v : Visit). if v.passed then traced v.got (origin_in log 0 1 (root tree) 0 v.pull) else []) (visits_of 0 log)
-
-abbrev pub first_pull : List Visit → ℕ
-first_pull [] = 0
-first_pull (v ∷ visits) = v.pull
+traced_emitted tree log = flat_map (λ (v : Visit). if v.passed then traced v.got (origin_in log 1 (root tree) 0 v.pull) else []) (visits_of 0 log)
 
 -- the head held at an input of node x at the end of a log, if there is one: what the last visit there got and didn't pass
 abbrev pub held_at : List Visit → ℕ → Row → ℕ → List Traced
-held_at log x inputs input = held (reverse (visits_of x log))
-  where
-    held : List Visit → List Traced
-    held latest = traced (head_at input latest) (origin_in log 0 (suc x) inputs input (asked_pull input (first_pull latest) latest))
+held_at log x inputs input =
+    traced (head_at input (reverse (visits_of x log))) (latest_origin (origin_in log (suc x) inputs input) input (reverse (visits_of x log)))
 
 -- the heads held by node x, by input: one in this manner has them, and one that asks in order has none
 abbrev pub own_heads : List Visit → ℕ → Row → Manner → List Traced

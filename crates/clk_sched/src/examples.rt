@@ -1,10 +1,11 @@
 //! What the definitions say of worked examples: which logs are runs and which are none, what went in and came out, and what a
 //! session's pull and its drain are. Each function does nothing.
 
-ghost use Rattle.std.specs.Prelude.{◌≡◌, List, [], ◌∷◌, map, Some, None};
+ghost use Rattle.std.specs.Prelude.{◌≡◌, List, [], ◌∷◌, map, reverse, Some, None};
 ghost use Rattle.clk_sched.specs.Tree.{root};
+ghost use Rattle.clk_sched.specs.Log.{visits_of, in_pull};
 ghost use Rattle.clk_sched.specs.Run.{IsRun};
-ghost use Rattle.clk_sched.specs.Results.{Traced, emitted, heads, leaf_packets, traced_emitted, traced_heads};
+ghost use Rattle.clk_sched.specs.Results.{Traced, emitted, heads, leaf_packets, up_to, passed_input, asked_pull, origin_in, traced_emitted, traced_heads};
 ghost use Rattle.clk_sched.specs.Conservation.{IsConserved};
 ghost use Rattle.clk_sched.specs.Bound.{closing_bound};
 ghost use Rattle.clk_sched.specs.LaidOut.{IsRefused};
@@ -149,6 +150,14 @@ pub fn result_examples()
     ensures emitted_with_origins { traced_emitted passed_later_tree passed_later ≡ (p2_0_5, Some 2) ∷ (p2_1, Some 2) ∷ (p1_0_10, Some 1) ∷ (p0_0_5, Some 0) ∷ [] }
     ensures emitted_of_last { traced_emitted three_heads_tree last_gives ≡ (p2_0_5, Some 2) ∷ [] }
     ensures held_with_origins { map (λ (t : Traced). t.1) (traced_heads three_heads 1 (root three_heads_tree)) ≡ Some 0 ∷ Some 1 ∷ Some 2 ∷ [] }
+    ensures passed_second { passed_input (in_pull 0 (visits_of 1 two_deficits)) ≡ Some 1 }
+    ensures passed_none { passed_input (in_pull 3 (visits_of 1 two_deficits)) ≡ None }
+    ensures asked_last { asked_pull 0 (reverse (visits_of 1 two_deficits)) ≡ Some 3 }
+    ensures asked_before { asked_pull 0 (up_to 2 (reverse (visits_of 1 two_deficits))) ≡ Some 0 }
+    ensures never_asked { asked_pull 2 (reverse (visits_of 1 two_deficits)) ≡ None }
+    ensures origin_of_head { origin_in two_deficits 1 (root two_deficits_tree) 0 2 ≡ Some 0 }
+    ensures no_origin_of_none { origin_in two_deficits 1 (root two_deficits_tree) 0 3 ≡ None }
+    ensures no_origin_beside { origin_in two_deficits 1 (root two_deficits_tree) 1 0 ≡ None }
     ensures conserved { IsConserved two_deficits_tree two_deficits 0 }
     ensures conserved_first { IsConserved two_deficits_tree (first_pulls 1 two_deficits) 0 }
     ensures conserved_inside { IsConserved nested_tree (first_pulls 2 nested) 0 }

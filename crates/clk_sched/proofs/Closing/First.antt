@@ -12,7 +12,7 @@ use Rattle.clk_sched.specs.Log.{turn, pulls_below}
 use Rattle.clk_sched.specs.Laws.{manner, Obeys}
 use Rattle.clk_sched.specs.Laws.Deficit.{next_input, arrives, arrivals, bytes_of, passed_bytes, quantum_at, deficit_covers}
 use Rattle.clk_sched.specs.Run.{EachObeys}
-use Rattle.clk_sched.specs.Results.{traced, own_heads, held_at, traced_heads, origin_in, asked_pull, first_pull}
+use Rattle.clk_sched.specs.Results.{traced, own_heads, held_at, traced_heads, latest_origin, origin_in}
 use Rattle.clk_sched.specs.Closing.{held_in_all}
 use Rattle.clk_sched.proofs.Allowed.{onto, onto-reverse, each-follows, turns-look}
 use Rattle.clk_sched.proofs.Pulled.{IsPulledIn, pulled-after_leaf, pulled-after_node, pulled-inputs, turns-visits}
@@ -133,7 +133,7 @@ length-heads : (log : List Visit) (x : ℕ) (inputs : Row) (a n : ℕ) → lengt
 length-heads log x inputs a zero = refl
 length-heads log x inputs a (suc n) =
     let whole = length-append (held_at log x inputs a) (flat_map (held_at log x inputs) (range_with_len (a + 1) n)) in
-    let here = length-traced (head_at a (latest log x)) (origin_in log 0 (suc x) inputs a (asked_pull a (first_pull (latest log x)) (latest log x))) in
+    let here = length-traced (head_at a (latest log x)) (latest_origin (origin_in log (suc x) inputs a) a (latest log x)) in
     let rest = length-heads log x inputs (a + 1) n in
     let next : sum_from (λ j. one_if (is_some (head_at j (latest log x)))) (a + 1) n ≡ sum_from (λ j. one_if (is_some (head_at j (latest log x)))) (suc a) n = ap (λ m. sum_from (λ j. one_if (is_some (head_at j (latest log x)))) m n) (let e : a + 1 ≡ suc a = omega arith in e) in
     omega (arith, whole, here, rest, next)
