@@ -25,8 +25,9 @@ pub struct Rank {
 
 impl Rank {
     /// Whether this rank stands before another by (pass, index), or is the same.
-    fn is_up_to(self, other: Rank) -> bool
-        ensures { result ≡ is_up_to self other }
+    // The other is looked at where it stands, field by field: a processor waits for a rank that was just written and is read as a whole.
+    fn is_up_to(self, other: &Rank) -> bool
+        ensures { result ≡ is_up_to self other.now }
     {
         self.pass < other.pass || (self.pass == other.pass && self.input <= other.input)
     }
@@ -186,11 +187,10 @@ fn put(row: &mut [Rank], from: usize, rank: Rank)
 {
     let mut place = from;
     for next in from + 1..row.len() {
-        let other = row[next];
-        if rank.is_up_to(other) {
+        if rank.is_up_to(&row[next]) {
             break;
         }
-        row[place] = other;
+        row[place] = row[next];
         place = next;
     }
     row[place] = rank;
