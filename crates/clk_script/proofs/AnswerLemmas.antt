@@ -1,6 +1,7 @@
 -- How a router goes on by the commands of some rows, and what it comes to.
 use Rattle.std.proofs.Common.{◌≡◌, ℕ, ◌+◌, ◌<◌, ◌≤◌, ◌==◌, zero, suc, nat_lt, Bool, true, false, List, [], ◌∷◌, ◌++◌, length, map, filter, take, drop, set, get_or, reverse, max, fold, Option, Some, None, IfSome, MatchOption, Vec, slice_get, refl, sym, ap, ap₂, subst, ◌∙◌, append_assoc, append-nil, zero-add, arith}
 use Rattle.std.specs.Bool.{⊤}
+use Rattle.std.specs.Option.{option_map}
 use Rattle.std.specs.List.{flat_map, filter_map, cons_option, range_with_len, AllByRecursion}
 use Rattle.std.specs.declared.alloc.Global.{Global}
 use Rattle.std.proofs.lemmas.List.{map-append, length-map, length-take, take_all, length-set, take-append-drop, take_more, take_more_set, drop_more, drop-set-lt}
@@ -8,7 +9,6 @@ use Rattle.std.proofs.lemmas.List.Elements.{filter_map-append}
 use Rattle.std.proofs.lemmas.Grind.{drop_more_same}
 use Rattle.clk_packet.specs.declared.packet.Packet.{Packet}
 use Rattle.clk_packet.specs.declared.packet.Offered.{Offered}
-use Rattle.clk_packet.specs.declared.tally.Tally.{Tally}
 use Rattle.clk_report.specs.Report.{report_text}
 use Rattle.clk_report.specs.Devices.{came_out}
 use Rattle.clk_sched.specs.declared.visit.Visit.{Visit}
@@ -23,22 +23,19 @@ use Rattle.clk_tree.specs.PlanParts.{AreRising, SendsWithin}
 use Rattle.clk_script.specs.declared.script.Command.{Command}
 use Rattle.clk_script.specs.declared.script.Command.TheVariants.{Send, Pull}
 use Rattle.clk_script.specs.declared.rows.Row.{Row}
+use Rattle.clk_script.specs.declared.rows.Row.TheVariants as row
 use Rattle.clk_script.specs.declared.past.Past.{Past}
 use Rattle.clk_script.specs.declared.devices.Device.{Device}
 use Rattle.clk_script.specs.declared.router.Router.{Router}
 use Rattle.clk_script.specs.Script.{Names, most_lines, most_moment}
 use Rattle.clk_script.specs.Meaning.{Room, Setup, sender_numbers, names_of, has_several, Event, offered, pulled, command_of, happens_at, events_at, number_from, moment_in, pull_in, accepted_in, log_of, tally_after, event_text, RunsTree, CloseFirst, logs_of, WritesWith}
-use Rattle.clk_script.specs.inside.Router.{IsNumber, sender_after, names_in, room_device, IsAt, AreDevicesAt, KeepsAs, KeepsAsAt, device_log, device_emitted, AreLogs, IsPastOf, CanSend, IsWhole, Starts, IsSteady, IsReady, given_kept, LeadsOnByPull, IsReadable}
+use Rattle.clk_script.specs.inside.Router.{IsSentFrom, sender_after, names_in, room_device, IsAt, AreDevicesAt, KeepsAs, KeepsAsAt, device_log, device_emitted, AreLogs, IsPastOf, CanSend, IsWhole, Starts, IsSteady, IsReady, given_kept, LeadsOnByPull, IsReadable}
 use Rattle.clk_script.specs.inside.Closable.{IsClosable, IsClosableRouter}
-use Rattle.clk_script.specs.inside.Rows.{row_asked, row_offered, row_pulled, row_of, given_by, IsToDo, CarriesOut, AnswersRows, IsClosedFrom, rows_text, closings_text, are_several, closings_of, given_first, given_of, ending_of}
+use Rattle.clk_script.specs.inside.Rows.{command_asked, asked_by, row_offered, row_pulled, row_of, given_by, IsToDo, CarriesOut, AnswersRows, IsClosedFrom, rows_text, closings_text, are_several, closings_of, given_first, given_of, ending_of}
 use Rattle.clk_script.proofs.EventLemmas.{latest-moment}
 use Rattle.clk_script.proofs.SenderLemmas.{numbers-its, alike-its}
+use Rattle.clk_script.proofs.PlaceLemmas.{number-there}
 use Rattle.clk_script.proofs.RowLemmas.{rows-written}
-
--- two numbers of the tally at a place
-pub same-number : (o : Option Tally) (one other : ℕ) → IsNumber one o → IsNumber other o → one ≡ other
-same-number None one other h k = absurd h
-same-number (Some s) one other h k = sym h ∙ k
 
 length-filter_map-le : {X Y : Type 0} (f : X → Option Y) (xs : List X) → length (filter_map f xs) ≤ length xs
 length-filter_map-le f [] = omega arith
@@ -140,42 +137,52 @@ IsReady-at setup events router at whole few readable =
       few = let count = at.device_count in let most = whole.few in omega (arith, count, most);
     }
 
--- the commands of rows that can be carried out are readable
-readable-asked : (names : Names) (commands : List Command) → AllByRecursion (IsToDo names) (map row_asked commands) → AllByRecursion IsReadable commands
-readable-asked names [] h = tt
-readable-asked names (Send sender size ∷ commands) h = (h.0.1, readable-asked names commands h.1)
-readable-asked names (Pull device moment ∷ commands) h = (h.0.1, readable-asked names commands h.1)
+-- the commands of rows that are to be carried out are readable
+row-readable : (names : Names) (r : Row) (command : Command) → IsToDo names r → command_asked names r ≡ Some command → IsReadable command
+row-readable names (row.Send place size) command h asks = by_sender (slice_get names.senders place) asks
+  where
+    by_sender : (o : Option ℕ) → option_map (λ sender. Send sender size) o ≡ Some command → IsReadable command
+    by_sender None e = absurd (cc)
+    by_sender (Some sender) e = let same : Send sender size ≡ command = cc in subst IsReadable same h.1
+row-readable names (row.Pull device moment) command h asks = let same : Pull device moment ≡ command = cc in subst IsReadable same h.1
+row-readable names r command h asks = absurd h
 
--- rows say of which commands they are
-row_asked-one : (a b : Command) → row_asked a ≡ row_asked b → a ≡ b
-row_asked-one (Send sender size) (Send s n) e = cc e
-row_asked-one (Send sender size) (Pull device moment) e = absurd (cc e)
-row_asked-one (Pull device moment) (Send s n) e = absurd (cc e)
-row_asked-one (Pull device moment) (Pull d m) e = cc e
+each-readable : (names : Names) (rows : List Row) (commands : List Command) → AllByRecursion (IsToDo names) rows → asked_by names rows ≡ map Some commands → AllByRecursion IsReadable commands
+each-readable names rows [] h e = tt
+each-readable names [] (command ∷ commands) h e = absurd (omega (arith, ap length e))
+each-readable names (r ∷ rows) (command ∷ commands) h e =
+    let first : command_asked names r ≡ Some command = cc e in
+    let rest : asked_by names rows ≡ map Some commands = cc e in
+    (row-readable names r command h.0 first, each-readable names rows commands h.1 rest)
 
-rows-one : (xs ys : List Command) → map row_asked xs ≡ map row_asked ys → xs ≡ ys
-rows-one [] [] e = refl
-rows-one [] (y ∷ ys) e = absurd (omega (arith, ap length e))
-rows-one (x ∷ xs) [] e = absurd (omega (arith, ap length e))
-rows-one (x ∷ xs) (y ∷ ys) e = ap₂ (λ (c : Command) cs. c ∷ cs) (row_asked-one x y (cc e)) (rows-one xs ys (cc e))
+-- rows ask for some commands alone
+asked-one : (xs ys : List Command) → map Some xs ≡ map Some ys → xs ≡ ys
+asked-one [] [] e = refl
+asked-one [] (y ∷ ys) e = absurd (omega (arith, ap length e))
+asked-one (x ∷ xs) [] e = absurd (omega (arith, ap length e))
+asked-one (x ∷ xs) (y ∷ ys) e =
+    let first : x ≡ y = cc e in
+    let rest : map Some xs ≡ map Some ys = cc e in
+    ap₂ (λ (c : Command) cs. c ∷ cs) first (asked-one xs ys rest)
 
-asked-commands : (events : List Event) → map (λ e. row_asked (command_of e)) events ≡ map row_asked (map command_of events)
+asked-commands : (events : List Event) → map (λ e. Some (command_of e)) events ≡ map Some (map command_of events)
 asked-commands [] = refl
-asked-commands (e ∷ events) = ap (λ l. row_asked (command_of e) ∷ l) (asked-commands events)
+asked-commands (e ∷ events) = ap (λ l. Some (command_of e) ∷ l) (asked-commands events)
 
 -- No row was carried out, one was, and some were after others.
 pub AnswersRows-none : (router : Router) (asked done : List Row) → asked ≡ [] → done ≡ [] → AnswersRows router router asked done
 AnswersRows-none router asked done none nothing =
     λ setup events at.
-    record { more = []; theirs = sym none; rows = nothing; given = λ several. sym (append-nil router.given.items); visits = refl; leads = subst (λ l. IsAt setup l router) (sym (append-nil events)) at }
+    record { more = []; theirs = ap (asked_by (names_of setup)) none; rows = nothing; given = λ several. sym (append-nil router.given.items); visits = refl; leads = subst (λ l. IsAt setup l router) (sym (append-nil events)) at }
 
-pub AnswersRows-sent : (old new : Router) (asked done : Row) (p : Packet) (outcome : Offered) → row_asked (Send p.sender p.length) ≡ asked → done ≡ row_offered p outcome → new.given ≡ old.given → new.visits ≡ old.visits
-    → ((setup : Setup) (events : List Event) → IsAt setup events old → IsAt setup (events ++ offered p outcome ∷ []) new) → AnswersRows old new (asked ∷ []) (done ∷ [])
-AnswersRows-sent old new asked done p outcome theirs is given visits leads =
+pub AnswersRows-sent : (old new : Router) (place size : ℕ) (done : Row) (p : Packet) (outcome : Offered) → IsSentFrom old.tallies.items place p → p.length ≡ size → done ≡ row_offered p outcome → new.given ≡ old.given
+    → new.visits ≡ old.visits → ((setup : Setup) (events : List Event) → IsAt setup events old → IsAt setup (events ++ offered p outcome ∷ []) new) → AnswersRows old new (row.Send place size ∷ []) (done ∷ [])
+AnswersRows-sent old new place size done p outcome from long is given visits leads =
     λ setup events at.
+    let sender : slice_get (sender_numbers setup) place ≡ Some p.sender = ap (λ numbers. slice_get numbers place) (sym (numbers-its setup events old at)) ∙ number-there old.tallies.items p.sender place from in
     record {
       more = offered p outcome ∷ [];
-      theirs = ap (λ r. r ∷ []) theirs;
+      theirs = ap₂ (λ (o : Option ℕ) (n : ℕ). option_map (λ s. Send s n) o ∷ []) sender (sym long);
       rows = ap (λ r. r ∷ []) is;
       given = λ several. ap (λ ps. ps.items) given ∙ sym (append-nil old.given.items);
       visits = visits;
@@ -183,7 +190,7 @@ AnswersRows-sent old new asked done p outcome theirs is given visits leads =
     }
 
 pub AnswersRows-pulled : (old new : Router) (device moment : ℕ) (done : Row) (got : Option Packet) → done ≡ row_pulled device moment got → new.given.items ≡ given_kept old got → new.visits ≡ old.visits
-    → ((setup : Setup) (events : List Event) → IsAt setup events old → LeadsOnByPull setup new device moment got events) → AnswersRows old new (row_asked (Pull device moment) ∷ []) (done ∷ [])
+    → ((setup : Setup) (events : List Event) → IsAt setup events old → LeadsOnByPull setup new device moment got events) → AnswersRows old new (row.Pull device moment ∷ []) (done ∷ [])
 AnswersRows-pulled old new device moment done got is given visits leads =
     λ setup events at.
     let led = leads setup events at in
@@ -206,7 +213,7 @@ AnswersRows-then a b c asked done later rows first next =
     let two = next setup (events ++ one.more) one.leads in
     record {
       more = one.more ++ two.more;
-      theirs = map-append (λ e. row_asked (command_of e)) one.more two.more ∙ ap₂ (λ x y. x ++ y) one.theirs two.theirs;
+      theirs = map-append (command_asked (names_of setup)) asked later ∙ ap₂ (λ x y. x ++ y) one.theirs two.theirs ∙ sym (map-append (λ e. Some (command_of e)) one.more two.more);
       rows = ap₂ (λ x y. x ++ y) one.rows two.rows ∙ sym (map-append row_of one.more two.more);
       given =
           λ several.
@@ -225,11 +232,12 @@ pub IsReady-answered : (setup : Setup) (old new : Router) (asked done : List Row
     → IsReady new × (names_in new ≡ names_in old)
 IsReady-answered setup old new asked done starts to_do few answers =
     let carried = answers setup [] starts.leads in
-    let commands = sym (asked-commands carried.more) ∙ carried.theirs in
-    let count = ap length carried.theirs in
-    let many = length-map carried.more (λ e. row_asked (command_of e)) in (
-      IsReady-at setup carried.more new carried.leads starts.whole (omega (arith, count, many, few))
-          (readable-asked (names_in old) (map command_of carried.more) (subst (AllByRecursion (IsToDo (names_in old))) (sym commands) to_do)),
+    let named : AllByRecursion (IsToDo (names_of setup)) asked = subst (λ names. AllByRecursion (IsToDo names) asked) (names-its setup [] old starts.leads) to_do in
+    let count : length asked ≡ length carried.more =
+    sym (length-map asked (command_asked (names_of setup))) ∙ ap length carried.theirs ∙ length-map carried.more (λ e. Some (command_of e))
+    in (
+      IsReady-at setup carried.more new carried.leads starts.whole (omega (arith, count, few))
+          (each-readable (names_of setup) asked (map command_of carried.more) named (carried.theirs ∙ asked-commands carried.more)),
       names-its setup carried.more new carried.leads ∙ sym (names-its setup [] old starts.leads),
     )
 
@@ -318,12 +326,14 @@ flat-mapped f g [] = refl
 flat-mapped f g (x ∷ xs) = ap (λ l. f (g x) ++ l) (flat-mapped f g xs)
 
 -- A router over which all commands of a script were carried out, from what was kept of it, and what was kept when it ended.
-module _ (setup : Setup) (old mid : Router) (commands : List Command) (asked done : List Row) (starts : Starts setup old) (are : asked ≡ map row_asked commands) (answers : AnswersRows old mid asked done) where
+module _ (setup : Setup) (old mid : Router) (commands : List Command) (asked done : List Row) (starts : Starts setup old) (are : asked_by (names_in old) asked ≡ map Some commands) (answers : AnswersRows old mid asked done) where
   carried : CarriesOut setup old mid asked done []
   carried = answers setup [] starts.leads
 
   theirs : map command_of carried.more ≡ commands
-  theirs = rows-one (map command_of carried.more) commands (sym (asked-commands carried.more) ∙ carried.theirs ∙ are)
+  theirs =
+      asked-one (map command_of carried.more) commands
+      (sym (asked-commands carried.more) ∙ sym carried.theirs ∙ subst (λ names. asked_by names asked ≡ map Some commands) (names-its setup [] old starts.leads) are)
 
   -- the pulls' packets that were kept, where there are several devices
   kept : has_several setup ≡ true → mid.given.items ≡ filter_map given_by carried.more

@@ -1,5 +1,5 @@
 -- How a router closes.
-use Rattle.std.proofs.Common.{◌≡◌, ℕ, ◌+◌, ◌-◌, ◌<◌, ◌==◌, zero, suc, Bool, true, false, List, [], ◌∷◌, ◌++◌, length, drop, map, reverse, max, fold, append-nil, Option, Some, None, MatchOption, slice_get, refl, sym, ap, ap₂, ◌∙◌, subst, arith}
+use Rattle.std.proofs.Common.{◌≡◌, ℕ, ◌+◌, ◌<◌, ◌==◌, zero, suc, Bool, true, false, List, [], ◌∷◌, ◌++◌, length, drop, map, reverse, max, fold, append-nil, Option, Some, None, MatchOption, slice_get, refl, sym, ap, ap₂, ◌∙◌, subst, arith}
 use Rattle.std.specs.Bool.{⊤}
 use Rattle.std.specs.List.{filter_map, flat_map, range_with_len}
 use Rattle.std.proofs.lemmas.List.Elements.{filter-append}
@@ -14,14 +14,14 @@ use Rattle.clk_sched.specs.Log.{pulls, visits_of, moment_of, result_of}
 use Rattle.clk_sched.specs.Run.{IsRun}
 use Rattle.clk_sched.specs.Places.{Answers}
 use Rattle.clk_sched.specs.Results.{emitted}
-use Rattle.clk_sched.specs.Session.{IsDrained, GivesAll, newly, latest_moment, counted_moment, tree_queue}
+use Rattle.clk_sched.specs.Session.{given_in, IsDrained, GivesAll, newly, latest_moment, counted_moment, tree_queue}
 use Rattle.clk_sched.specs.Kinds.{progress_of}
 use Rattle.clk_sched.specs.Departures.{departure_at, departures_in, pulls_since}
 use Rattle.clk_sched.specs.declared.session.departures.Departure.{Departure}
 use Rattle.clk_packet.specs.declared.packet.Packet.{Packet}
 use Rattle.clk_script.specs.declared.devices.Device.{Device}
 use Rattle.clk_script.specs.declared.router.Router.{Router}
-use Rattle.clk_script.specs.Meaning.{Setup, sender_numbers, has_several, Event, pulled, happens_at, events_at, moment_in, accepted_in, evicted_in, visits_in, log_of, at_queue, history, RunsTree, pulls_from, closing_pulls, given_text, closing_text, left_after}
+use Rattle.clk_script.specs.Meaning.{Setup, sender_numbers, has_several, Event, pulled, happens_at, events_at, moment_in, accepted_in, evicted_in, visits_in, log_of, at_queue, history, RunsTree, pulls_from, closing_pulls, given_text, closing_text}
 use Rattle.clk_script.specs.inside.Router.{AreQueuesAt, IsDeviceAt, AreDevicesAt, KeepsAsAt, IsAt, IsSteadyAt, departure_text, LeadsOnByDrain}
 use Rattle.clk_script.proofs.EventLemmas.{events-pulls, pulls-elsewhere, pulls-log, pulls-add_none, pulls-history, latest-moment, RunsTree-pulls, CanHappen-pulls}
 use Rattle.clk_script.proofs.SenderLemmas.{senders-closed}
@@ -32,12 +32,13 @@ use Rattle.clk_script.proofs.RouterLemmas.{its-history, StandAt, gives, queues-a
 its-latest : (setup : Setup) (events : List Event) (d : ℕ) (device : Device) → IsHere setup events d device → counted_moment (progress_of device.session) ≡ fold max 0 (filter_map moment_in (events_at setup d events))
 its-latest setup events d device here = ap (λ l. latest_moment (reverse (pulls l))) here.is.log ∙ latest-moment here.tree (events_at setup d events) here.runs
 
--- how many packets are left, as a device counts them
-pub its-left : (setup : Setup) (events : List Event) (d : ℕ) (device : Device) → IsHere setup events d device → device.kept - length (emitted device.session.log) ≡ left_after (events_at setup d events)
-its-left setup events d device here =
+-- What is accepted at a device was put out, came out before, or is left, as the device counts it.
+its-left : (setup : Setup) (events : List Event) (d : ℕ) (device : Device) → IsHere setup events d device → (left : ℕ) → length (emitted device.session.log) + left ≡ device.kept
+    → length (filter_map accepted_in (events_at setup d events)) ≡ length (filter_map evicted_in (events_at setup d events)) + length (emitted (log_of (events_at setup d events))) + left
+its-left setup events d device here left are =
     let kept = here.is.kept in
     let out = ap (λ l. length (emitted l)) here.is.log in
-    omega (arith, kept, out)
+    omega (arith, kept, out, are)
 
 -- A drain of a device, which changes no other, leads on.
 module _ (calls : CallsAreHistory) (setup : Setup) (events : List Event) (old new : Router) (d moment made given : ℕ) (before after : Device) (at : IsAt setup events old)
@@ -141,7 +142,7 @@ module _ (several : Bool) (d : ℕ) where
       ∙ sym (flat_map-append (departure_text several d) (departure_at (moment_of pull) got) (departures_in more))
 
 pub closes-all : CallsAreHistory → (setup : Setup) (events : List Event) (old new : Router) (d moment made left : ℕ) (before after : Device) (departures : List Departure) → IsAt setup events old
-    → IsSetAt old.devices.items d before after new.devices.items → after.kept ≡ before.kept → (after.session.keeps ≡ before.session.keeps) × (after.session.gone ≡ before.session.gone) → left ≡ before.kept - length (emitted before.session.log)
+    → IsSetAt old.devices.items d before after new.devices.items → after.kept ≡ before.kept → (after.session.keeps ≡ before.session.keeps) × (after.session.gone ≡ before.session.gone) → length (emitted before.session.log) + left ≡ before.kept
     → GivesAll (progress_of before.session) (progress_of after.session) (max (counted_moment (progress_of before.session)) moment) made left
     → departures ≡ departures_in (pulls_since (progress_of before.session) (progress_of after.session))
     → Answers gives (tree_queue before.session.tree) old.queues (newly (progress_of before.session) (progress_of after.session)) new.queues → new.senders ≡ old.senders → new.tallies ≡ old.tallies → new.paths ≡ old.paths
@@ -149,7 +150,14 @@ pub closes-all : CallsAreHistory → (setup : Setup) (events : List Event) (old 
 closes-all calls setup events old new d moment made left before after departures at set kept kind is all told answers senders tallies paths evicted visits =
     record {
       last = closing_pulls d moment (events_at setup d events) all.drained.more;
-      closes = record { closing = all.drained.more; are = refl; all = all.drained.given_are ∙ is ∙ its-left setup events d before (device-here setup events old d before at set.was); stops = all.stops };
+      closes = record {
+        closing = all.drained.more;
+        are = refl;
+        all =
+            its-left setup events d before (device-here setup events old d before at set.was) (length (given_in all.drained.more))
+            (ap (λ n. length (emitted before.session.log) + n) all.drained.given_are ∙ is);
+        stops = all.stops;
+      };
       lines =
           closing-lines (has_several setup) d _ all.drained.more (moments calls setup events old new d moment made left before after at set kept kind all.drained)
           ∙ ap (λ more. flat_map (departure_text (has_several setup) d) (departures_in more)) (sym since) ∙ ap (flat_map (departure_text (has_several setup) d)) (sym told);

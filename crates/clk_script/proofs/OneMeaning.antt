@@ -256,7 +256,7 @@ same-last setup wired law runs moment d done one other more rest a b can happens
     a.are
     ∙ ap (closing_pulls d moment (events_at setup d done))
     (same-closing setup wired law runs done d (max (fold max 0 (filter_map moment_in (events_at setup d done))) moment + 1) a.closing b.closing more rest
-    (subst (λ l. CanHappen setup (done ++ (l ++ more))) a.are can) (subst (λ l. CanHappen setup (done ++ (l ++ rest))) b.are happens) (a.all ∙ sym b.all) a.stops b.stops)
+    (subst (λ l. CanHappen setup (done ++ (l ++ more))) a.are can) (subst (λ l. CanHappen setup (done ++ (l ++ rest))) b.are happens) (let ours = a.all in let theirs = b.all in omega (arith, ours, theirs)) a.stops b.stops)
     ∙ sym b.are
 
 -- and those of the first so many devices

@@ -1,5 +1,5 @@
 -- Where a sender's tally stands among those whose tallies rise.
-use Rattle.std.proofs.Common.{◌≡◌, ◌≢◌, ℕ, ◌<◌, ◌≤◌, ◌==◌, ◌||◌, nat_lt, zero, suc, Bool, true, false, List, [], ◌∷◌, length, map, get_or, slice_get, Option, None, Result, Ok, Err, IfSome, refl, sym, subst, arith}
+use Rattle.std.proofs.Common.{◌≡◌, ◌≢◌, ℕ, ◌+◌, ◌<◌, ◌≤◌, ◌==◌, ◌||◌, nat_lt, zero, suc, Bool, true, false, List, [], ◌∷◌, length, map, get_or, slice_get, Option, Some, None, Result, Ok, Err, IfSome, refl, sym, ap, subst, arith}
 use Rattle.std.specs.Result.{result_ok}
 use Rattle.std.specs.List.{AllByRecursion, list_any}
 use Rattle.std.specs.List.Sorted.{IsSearchInRange, IsBinarySearchResult, IsNonDecreasingBy}
@@ -46,6 +46,29 @@ known-at (s ∷ tallies) n (suc place) is = by_first (s.sender == n) (known-at t
     by_first : (b : Bool) → list_any (λ x. x == n) (map tally_sender tallies) ≡ true → (b || list_any (λ x. x == n) (map tally_sender tallies)) ≡ true
     by_first true e = refl
     by_first false e = e
+
+-- the number at the place of a tally is its sender's
+pub number-there : (tallies : List Tally) (n place : ℕ) → IsNumber n (slice_get tallies place) → slice_get (map tally_sender tallies) place ≡ Some n
+number-there [] n place is = absurd is
+number-there (s ∷ tallies) n zero is = ap (λ k. Some k) is
+number-there (s ∷ tallies) n (suc place) is = number-there tallies n place is
+
+-- numbers that rise are no less than their places
+place-above : (first : ℕ) (tallies : List Tally) (n place : ℕ) → AllByRecursion (λ m. first < m) (map tally_sender tallies) → AreRising (map tally_sender tallies) → IsNumber n (slice_get tallies place) → first + place < n
+place-above first [] n place above rising is = absurd is
+place-above first (s ∷ tallies) n zero above rising is =
+    let more = above.0 in
+    let number : s.sender ≡ n = is in
+    omega (arith, more, number)
+place-above first (s ∷ tallies) n (suc place) above rising is =
+    let more = above.0 in
+    let rest = place-above s.sender tallies n place rising.0 rising.1 is in
+    omega (arith, more, rest)
+
+pub place-low : (tallies : List Tally) (n place : ℕ) → AreRising (map tally_sender tallies) → IsNumber n (slice_get tallies place) → place ≤ n
+place-low [] n place rising is = absurd is
+place-low (s ∷ tallies) n zero rising is = omega arith
+place-low (s ∷ tallies) n (suc place) rising is = let rest = place-above s.sender tallies n place rising.0 rising.1 is in omega (arith, rest)
 
 -- what a binary search says
 pub record IsSearched (tallies : List Tally) (n : ℕ) (o : Option ℕ) : Type 0 where

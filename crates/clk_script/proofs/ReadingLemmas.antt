@@ -1,8 +1,10 @@
 -- How the reading of a script goes on by one line.
-use Rattle.std.proofs.Common.{◌≡◌, ℕ, ◌+◌, ◌≤◌, List, [], ◌∷◌, ◌++◌, length, map, Option, Some, None, ◌⊎◌, inl, inr, nat_lt, Bool, true, false, refl, sym, ap, subst, ◌∙◌, append_assoc, append-nil, length-append, arith}
+use Rattle.std.proofs.Common.{◌≡◌, ℕ, ◌+◌, ◌≤◌, List, [], ◌∷◌, ◌++◌, length, map, slice_get, Option, Some, None, ◌⊎◌, inl, inr, nat_lt, Bool, true, false, refl, sym, ap, subst, ◌∙◌, append_assoc, append-nil, length-append, arith}
+use Rattle.std.specs.Option.{option_map}
 use Rattle.std.specs.List.{filter_map, cons_option, AllByRecursion}
 use Rattle.std.proofs.lemmas.Bool.Decides.{nat_tests}
-use Rattle.std.proofs.lemmas.List.{map-append}
+use Rattle.std.proofs.lemmas.List.{map-append, length-map}
+use Rattle.std.proofs.lemmas.Option.{slice_get_within}
 use Rattle.clk_packet.specs.declared.fault.Fault.{Fault}
 use Rattle.clk_packet.specs.declared.fault.Fault.TheVariants.{Memory}
 use Rattle.clk_script.specs.declared.script.Command.{Command}
@@ -10,10 +12,11 @@ use Rattle.clk_script.specs.declared.script.Command.TheVariants.{Send, Pull}
 use Rattle.clk_script.specs.declared.script.Line.{Line}
 use Rattle.clk_script.specs.declared.script.Line.TheVariants as line
 use Rattle.clk_script.specs.declared.rows.Row.{Row}
+use Rattle.clk_script.specs.declared.rows.Row.TheVariants as row
 use Rattle.clk_script.specs.declared.reading.Script.{Script}
 use Rattle.clk_script.specs.Script.{Names, lines_of, command_in, commands_of, drain_in, is_drain, closing_moment, line_fault, fault_at, first_fault, script_fault, most_bytes, most_lines}
 use Rattle.clk_script.specs.inside.Router.{IsReadable, IsSound}
-use Rattle.clk_script.specs.inside.Rows.{row_asked, rows_in, IsToDo, IsReadFrom, CanBeRun}
+use Rattle.clk_script.specs.inside.Rows.{command_asked, asked_by, asked_in, IsToDo, IsReadFrom, CanBeRun}
 use Rattle.clk_script.proofs.ScriptLemmas.{readable-first, readable-drain, readable-commands, each-command-sound}
 
 -- the commands of what is left, by its first line
@@ -72,40 +75,47 @@ fault_from names drained n text = first_fault names drained n (lines_of text)
 -- The lines of a text that were read have rows, no fault and no drain, and what is left follows them.
 pub record HasRead (names : Names) (text rest : List ℕ) (number : ℕ) (rows : List Row) : Type 0 where
   pub fault : fault_from names false (number + 1) rest ≡ fault_from names false 1 text
-  pub theirs : rows ++ map row_asked (commands_of rest) ≡ map row_asked (commands_of text)
+  pub theirs : asked_by names rows ++ map Some (commands_of rest) ≡ map Some (commands_of text)
   pub closing : closing_moment rest ≡ closing_moment text
   pub few : length rows ≤ number
 
 pub HasRead-none : (names : Names) (text : List ℕ) (rows : List Row) → rows ≡ [] → HasRead names text text 0 rows
-HasRead-none names text rows none = record { fault = refl; theirs = ap (λ l. l ++ map row_asked (commands_of text)) none; closing = refl; few = omega (arith, ap length none) }
+HasRead-none names text rows none = record { fault = refl; theirs = ap (λ l. asked_by names l ++ map Some (commands_of text)) none; closing = refl; few = omega (arith, ap length none) }
 
 -- a line without a fault
 fault-later : (names : Names) (rest after : List ℕ) (l : Line) (n : ℕ) (drained : Bool) → lines_of rest ≡ l ∷ lines_of after → fault_at names false n l ≡ None → is_drain l ≡ drained
     → fault_from names false n rest ≡ fault_from names drained (n + 1) after
 fault-later names rest after l n drained e f is = rw (e, f) (ap (λ b. fault_from names b (n + 1) after) is)
 
--- the rows with those of one line more
-rows-more : (text rest after : List ℕ) (l : Line) (before rows : List Row) → before ++ map row_asked (commands_of rest) ≡ map row_asked (commands_of text) → lines_of rest ≡ l ∷ lines_of after
-    → rows ≡ before ++ rows_in l → rows ++ map row_asked (commands_of after) ≡ map row_asked (commands_of text)
-rows-more text rest after l before rows theirs e more =
-    ap (λ l. l ++ map row_asked (commands_of after)) more ∙ append_assoc before (rows_in l) (map row_asked (commands_of after))
-    ∙ ap (λ l. before ++ l) (sym (ap (map row_asked) (commands_on rest after l e) ∙ map-append row_asked (cons_option (command_in l) []) (commands_of after))) ∙ theirs
+-- what rows ask for, with that of one more
+pub asked-pushed : (names : Names) (before rows : List Row) (r : Row) (command : Command) → rows ≡ before ++ r ∷ [] → command_asked names r ≡ Some command
+    → asked_by names rows ≡ asked_by names before ++ asked_in (line.Command command)
+asked-pushed names before rows r command more asks =
+    ap (asked_by names) more ∙ map-append (command_asked names) before (r ∷ []) ∙ ap (λ (o : Option Command). asked_by names before ++ o ∷ []) asks
+
+-- and with that of one line more
+asked-more : (text rest after : List ℕ) (l : Line) (before asked : List (Option Command)) → before ++ map Some (commands_of rest) ≡ map Some (commands_of text) → lines_of rest ≡ l ∷ lines_of after
+    → asked ≡ before ++ asked_in l → asked ++ map Some (commands_of after) ≡ map Some (commands_of text)
+asked-more text rest after l before asked theirs e more =
+    ap (λ l. l ++ map Some (commands_of after)) more ∙ append_assoc before (asked_in l) (map Some (commands_of after))
+    ∙ ap (λ l. before ++ l) (sym (ap (map Some) (commands_on rest after l e) ∙ map-append Some (cons_option (command_in l) []) (commands_of after))) ∙ theirs
 
 pub HasRead-line : (names : Names) (text rest after : List ℕ) (l : Line) (number : ℕ) (before rows : List Row) → HasRead names text rest number before → lines_of rest ≡ l ∷ lines_of after
-    → fault_at names false (number + 1) l ≡ None → drain_in l ≡ None → rows ≡ before ++ rows_in l → HasRead names text after (number + 1) rows
+    → fault_at names false (number + 1) l ≡ None → drain_in l ≡ None → asked_by names rows ≡ asked_by names before ++ asked_in l → HasRead names text after (number + 1) rows
 HasRead-line names text rest after l number before rows h e sound undrained more =
     record {
       fault = sym (fault-later names rest after l (number + 1) false e sound (is-no_drain l undrained)) ∙ h.fault;
-      theirs = rows-more text rest after l before rows h.theirs e more;
+      theirs = asked-more text rest after l (asked_by names before) (asked_by names rows) h.theirs e more;
       closing = sym (closing_on rest after l e undrained) ∙ h.closing;
       few =
           let few = h.few in
-          let longer = ap length more ∙ length-append before (rows_in l) in
+          let longer = sym (length-map rows (command_asked names)) ∙ ap length more ∙ length-append (asked_by names before) (asked_in l) in
+          let as_many = length-map before (command_asked names) in
           let one = at_most (command_in l) in
-          omega (arith, few, longer, one);
+          omega (arith, few, longer, as_many, one);
     }
   where
-    at_most : (o : Option Command) → length (map row_asked (cons_option o [])) ≤ 1
+    at_most : (o : Option Command) → length (map Some (cons_option o [])) ≤ 1
     at_most None = omega arith
     at_most (Some command) = omega arith
 
@@ -127,19 +137,37 @@ pub later-refused : (names : Names) (text rest after : List ℕ) (l : Line) (num
 later-refused names text rest after l number moment rows o small h e sound drains is =
     fault-whole names text rest false (number + 1) o small h.fault (fault-later names rest after l (number + 1) true e sound (is-drain l moment drains) ∙ is)
 
--- the commands of a script that has no fault can be carried out
-to_do : (names : Names) (commands : List Command) → AllByRecursion (IsSound names) commands → AllByRecursion IsReadable commands → AllByRecursion (IsToDo names) (map row_asked commands)
-to_do names [] sound readable = tt
-to_do names (Send sender length ∷ commands) sound readable = (sound.0, to_do names commands sound.1 readable.1)
-to_do names (Pull device moment ∷ commands) sound readable = ((sound.0, readable.0), to_do names commands sound.1 readable.1)
+-- a row that asks for a command that is sound and readable is to be carried out
+row-to_do : (names : Names) (r : Row) (command : Command) → command_asked names r ≡ Some command → IsSound names command → IsReadable command → IsToDo names r
+row-to_do names (row.Send place size) command asks sound readable = by_sender (slice_get names.senders place) refl asks
+  where
+    by_sender : (o : Option ℕ) → slice_get names.senders place ≡ o → option_map (λ sender. Send sender size) o ≡ Some command → IsToDo names (row.Send place size)
+    by_sender None e is = absurd (cc)
+    by_sender (Some sender) e is =
+        let same : Send sender size ≡ command = cc in
+        (slice_get_within names.senders place sender e, subst IsReadable (sym same) readable)
+row-to_do names (row.Pull device moment) command asks sound readable =
+    let same : Pull device moment ≡ command = cc in
+    (subst (IsSound names) (sym same) sound, subst IsReadable (sym same) readable)
+row-to_do names r command asks sound readable = absurd (cc)
 
-pub rows-to_do : (names : Names) (text : List ℕ) (rows : List Row) → script_fault names text ≡ None → rows ≡ map row_asked (commands_of text) → AllByRecursion (IsToDo names) rows
-rows-to_do names text rows sound are = subst (AllByRecursion (IsToDo names)) (sym are) (to_do names (commands_of text) (each-command-sound names text sound) (readable-commands text))
+-- the rows of a script that has no fault are to be carried out
+each-to_do : (names : Names) (rows : List Row) (commands : List Command) → asked_by names rows ≡ map Some commands → AllByRecursion (IsSound names) commands → AllByRecursion IsReadable commands
+    → AllByRecursion (IsToDo names) rows
+each-to_do names [] commands e sound readable = tt
+each-to_do names (r ∷ rows) [] e sound readable = absurd (omega (arith, ap length e))
+each-to_do names (r ∷ rows) (command ∷ commands) e sound readable =
+    let first : command_asked names r ≡ Some command = cc e in
+    let rest : asked_by names rows ≡ map Some commands = cc e in
+    (row-to_do names r command first sound.0 readable.0, each-to_do names rows commands rest sound.1 readable.1)
+
+pub rows-to_do : (names : Names) (text : List ℕ) (rows : List Row) → script_fault names text ≡ None → asked_by names rows ≡ map Some (commands_of text) → AllByRecursion (IsToDo names) rows
+rows-to_do names text rows sound are = each-to_do names rows (commands_of text) are (each-command-sound names text sound) (readable-commands text)
 
 -- A script that ended, without a drain and with one.
 pub record IsRead (names : Names) (text : List ℕ) (script : Script) : Type 0 where
   pub sound : script_fault names text ≡ None
-  pub holds : IsReadFrom text script
+  pub holds : IsReadFrom names text script
   pub can_be_run : CanBeRun names script
 
 pub IsRead-ended : (names : Names) (text rest : List ℕ) (number : ℕ) (script : Script) → length text ≤ most_bytes → HasRead names text rest number script.rows.items → number ≤ most_lines → length rest ≡ 0
@@ -147,7 +175,7 @@ pub IsRead-ended : (names : Names) (text rest : List ℕ) (number : ℕ) (script
 IsRead-ended names text (byte ∷ rest) number script small h bound none closing = absurd (omega arith)
 IsRead-ended names text [] number script small h bound none closing =
     let sound = fault-whole names text [] false (number + 1) None small h.fault refl in
-    let are = sym (append-nil script.rows.items) ∙ h.theirs in
+    let are = sym (append-nil (asked_by names script.rows.items)) ∙ h.theirs in
     record {
       sound = sound;
       holds = record { rows = are; closing = closing ∙ h.closing };
@@ -155,7 +183,7 @@ IsRead-ended names text [] number script small h bound none closing =
     }
 
 pub IsRead-drained : (names : Names) (text rest after : List ℕ) (l : Line) (number moment : ℕ) (before : List Row) (script : Script) → length text ≤ most_bytes → HasRead names text rest number before → number + 1 ≤ most_lines
-    → lines_of rest ≡ l ∷ lines_of after → fault_at names false (number + 1) l ≡ None → drain_in l ≡ Some moment → script.rows.items ≡ before ++ rows_in l
+    → lines_of rest ≡ l ∷ lines_of after → fault_at names false (number + 1) l ≡ None → drain_in l ≡ Some moment → asked_by names script.rows.items ≡ asked_by names before ++ asked_in l
     → fault_from names true (number + 1 + 1) after ≡ None → script.closing ≡ Some moment → IsRead names text script
 IsRead-drained names text rest after l number moment before script small h bound e sound drains more blank closing =
     record {
@@ -163,13 +191,16 @@ IsRead-drained names text rest after l number moment before script small h bound
       holds = record { rows = are; closing = closing ∙ sym (rw (e, drains) refl) ∙ h.closing };
       can_be_run = record {
         to_do = rows-to_do names text script.rows.items whole are;
-        few = let few = h.few in let same = ap length rows in omega (arith, few, same, bound);
+        few = let few = h.few in omega (arith, few, as_many, bound);
         closing = rw closing (readable-drain l moment (readable-first rest l (lines_of after) e) drains);
       };
     }
   where
-    rows : script.rows.items ≡ before
-    rows = more ∙ ap (λ o. before ++ map row_asked (cons_option o [])) (no-command l moment drains) ∙ append-nil before
+    as_many : length script.rows.items ≡ length before
+    as_many =
+        sym (length-map script.rows.items (command_asked names))
+        ∙ ap length (more ∙ ap (λ (o : Option Command). asked_by names before ++ map Some (cons_option o [])) (no-command l moment drains) ∙ append-nil (asked_by names before))
+        ∙ length-map before (command_asked names)
 
     whole : script_fault names text ≡ None
     whole = later-refused names text rest after l number moment before None small h e sound drains blank
@@ -177,7 +208,7 @@ IsRead-drained names text rest after l number moment before script small h bound
     none : commands_of after ≡ []
     none = blank-commands names (number + 1 + 1) (lines_of after) blank
 
-    are : script.rows.items ≡ map row_asked (commands_of text)
+    are : asked_by names script.rows.items ≡ map Some (commands_of text)
     are =
-        sym (append-nil script.rows.items) ∙ ap (λ cs. script.rows.items ++ map row_asked cs) (sym none)
-        ∙ rows-more text rest after l before script.rows.items h.theirs e more
+        sym (append-nil (asked_by names script.rows.items)) ∙ ap (λ cs. asked_by names script.rows.items ++ map Some cs) (sym none)
+        ∙ asked-more text rest after l (asked_by names before) (asked_by names script.rows.items) h.theirs e more

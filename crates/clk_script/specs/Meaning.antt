@@ -1,5 +1,5 @@
 -- What the answer to a script is.
-use Rattle.std.specs.Prelude.{◌≡◌, ℕ, ◌+◌, ◌-◌, ◌<◌, ◌⊎◌, List, [], ◌∷◌, ◌++◌, length, map, filter, fold, max, zero, suc, nat_lt, ◌==◌, ◌&&◌, Bool, false, if◌then◌else◌, Option, Some, None, MatchOption, IfSome, ⊤, codes, decimal, slice_get}
+use Rattle.std.specs.Prelude.{◌≡◌, ℕ, ◌+◌, ◌<◌, ◌⊎◌, List, [], ◌∷◌, ◌++◌, length, map, filter, fold, max, zero, suc, nat_lt, ◌==◌, ◌&&◌, Bool, false, if◌then◌else◌, Option, Some, None, MatchOption, IfSome, ⊤, codes, decimal, slice_get}
 use Rattle.std.specs.List.{flat_map, filter_map, range_with_len, list_any, AllByRecursion}
 use Rattle.clk_packet.specs.declared.packet.Packet.{Packet}
 use Rattle.clk_packet.specs.declared.packet.Kind.{Kind}
@@ -132,10 +132,6 @@ tally_after events s = record {
   evicted = of_sender s (filter_map evicted_in events);
 }
 
--- how many packets are left in queues and heads: those accepted, less those put out, less those that came out
-abbrev pub left_after : List Event → ℕ
-left_after events = length (filter_map accepted_in events) - length (filter_map evicted_in events) - length (emitted (log_of events))
-
 -- whether a sender sends to this queue
 abbrev pub sends_to : List SenderSpec → ℕ → ℕ → Bool
 sends_to senders sender q = list_any (λ (s : SenderSpec). (s.number == sender) && (s.queue == q)) senders
@@ -235,11 +231,12 @@ abbrev pub closing_text : Bool → Event → List ℕ
 closing_text several (offered p outcome) = []
 closing_text several (pulled device moment visits) = given_text several device moment (result_of (visits_of 0 visits))
 
--- The closing of a device after its events, from a moment on: as many pulls as it takes until all its packets that were left came out.
+-- The closing of a device after its events, from a moment on: as many pulls as it takes until all packets that were accepted at it were put
+-- out, came out before, or came out in the closing.
 pub record Closes (device moment : ℕ) (events closed : List Event) : Type 0 where
   pub closing : List (List Visit)
   pub are : closed ≡ closing_pulls device moment events closing
-  pub all : length (given_in closing) ≡ left_after events
+  pub all : length (filter_map accepted_in events) ≡ length (filter_map evicted_in events) + length (emitted (log_of events)) + length (given_in closing)
   pub stops : LastGives closing
 
 -- The closing of the first so many devices from a moment on, after some events: one after the other, by number.

@@ -7,7 +7,7 @@ ghost use Rattle.clk_report.specs.Devices.{lists_of};
 ghost use Rattle.clk_script.specs.Script.{most_lines, most_moment};
 ghost use Rattle.clk_script.specs.Meaning.{Setup, WritesWith};
 ghost use Rattle.clk_script.specs.inside.Router.{names_in, IsReady, Starts, AreLogs};
-ghost use Rattle.clk_script.specs.inside.Rows.{row_asked, answer_text, IsToDo, CanBeRun, AnswersRows, IsClosedFrom, IsClosedAt, closings_of};
+ghost use Rattle.clk_script.specs.inside.Rows.{asked_by, answer_text, IsToDo, CanBeRun, AnswersRows, IsClosedFrom, IsClosedAt, closings_of};
 ghost use Rattle.clk_script.specs.inside.Closable.{IsClosable, IsClosableRouter};
 
 use crate::past::Past;
@@ -37,7 +37,7 @@ pub struct Answer {
 pub fn answer_script(alloc: Global, router: Router, script: Script) -> Result<Answer, Fault>
     requires fresh { (setup : Setup) × Starts setup router × IsClosable setup }
     requires sound { CanBeRun (names_in router) script }
-    ensures means { IfOk result (λ answer. (setup : Setup) (commands : _) → Starts setup router → script.rows.items ≡ map row_asked commands
+    ensures means { IfOk result (λ answer. (setup : Setup) (commands : _) → Starts setup router → asked_by (names_in router) script.rows.items ≡ map Some commands
         → (logs : _) × AreLogs router.visits answer.past logs × WritesWith setup commands script.closing (answer_text answer) logs) }
     ensures devices { IfOk result (λ answer. length answer.past.came_out.items ≡ length router.devices.items) }
     ensures closings { IfOk result (λ answer. IfSome answer.closing (λ closings. length closings.items ≡ length router.devices.items)) }
@@ -78,11 +78,8 @@ fn carry_out_one(router: &mut Router, row: Row) -> Result<Row, Fault>
     ensures fault { IsOkUnless result Fault.Memory }
 {
     match row {
-        Row::Send { sender, length } => {
-            let Some(place) = router.place_of(sender) else {
-                unreachable!()
-            };
-            let (packet, outcome) = router.send(place, length)?;
+        Row::Send { place, length } => {
+            let (packet, outcome) = router.send(usize::from(place), length)?;
             Ok(Row::offered(packet, outcome))
         }
         Row::Pull { device, moment } => {

@@ -5,7 +5,7 @@ ghost use Rattle.clk_packet.specs.declared.fault.Fault.TheVariants.{Memory};
 ghost use Rattle.clk_tree.specs.PlanParts.{AreRising};
 ghost use Rattle.clk_script.specs.Script.{lines_of, drain_in, command_fault, fault_at, first_fault, script_fault, most_lines};
 ghost use Rattle.clk_script.specs.inside.Router.{tally_sender, named_by};
-ghost use Rattle.clk_script.specs.inside.Rows.{rows_in, IsReadFrom, CanBeRun};
+ghost use Rattle.clk_script.specs.inside.Rows.{command_asked, asked_by, asked_in, IsReadFrom, CanBeRun};
 
 use crate::limits::{MAX_BYTES, MAX_LINES};
 use crate::rows::Row;
@@ -37,7 +37,7 @@ pub fn read_script(
     requires rising { AreRising (map tally_sender tallies.now) }
     ensures { MatchResult result
         (λ script. (script_fault (named_by tallies.now devices) text.now ≡ None)
-        × IsReadFrom text.now script × CanBeRun (named_by tallies.now devices) script)
+        × IsReadFrom (named_by tallies.now devices) text.now script × CanBeRun (named_by tallies.now devices) script)
         (λ fault. (fault ≡ Memory) ⊎ (script_fault (named_by tallies.now devices) text.now ≡ Some fault)) }
 {
     if text.len() > MAX_BYTES {
@@ -78,7 +78,7 @@ fn read_line(
     ensures exact { MatchResult result
         (λ drain. (fault_at (named_by tallies.now devices) false number line ≡ None)
         × (drain ≡ drain_in line)
-        × (rows.new.items ≡ rows.old.items ++ rows_in line))
+        × (asked_by (named_by tallies.now devices) rows.new.items ≡ asked_by (named_by tallies.now devices) rows.old.items ++ asked_in line))
         (λ fault. (fault ≡ Memory) ⊎ (fault_at (named_by tallies.now devices) false number line ≡ Some fault)) }
     ensures within { OnOk result (number ≤ most_lines) }
 {
@@ -90,31 +90,33 @@ fn read_line(
         Line::Malformed => Err(Fault::BadScript { line: number }),
         Line::Drain { moment } => Ok(Some(moment)),
         Line::Command(command) => {
-            check_names(tallies, devices, number, command)?;
-            rows.push(Row::asked(command))?;
+            let row = row_asked(tallies, devices, number, command)?;
+            rows.push(row)?;
             Ok(None)
         }
     }
 }
 
-/// Whether the sender that the command in a line names has one of these tallies, or its device is one of so many. Fault 15 or 16 where
+/// The row of the command in a line, where its sender has one of these tallies, or its device is one of so many. Fault 15 or 16 where
 /// it isn't.
-fn check_names(
-    tallies: &[Tally],
-    devices: usize,
-    number: u32,
-    command: Command,
-) -> Result<(), Fault>
+fn row_asked(tallies: &[Tally], devices: usize, number: u32, command: Command) -> Result<Row, Fault>
     requires rising { AreRising (map tally_sender tallies.now) }
     ensures { MatchResult result
-        (λ known. command_fault (named_by tallies.now devices) number command ≡ None)
+        (λ row. (command_fault (named_by tallies.now devices) number command ≡ None)
+        × (command_asked (named_by tallies.now devices) row ≡ Some command))
         (λ fault. command_fault (named_by tallies.now devices) number command ≡ Some fault) }
 {
     match command {
-        Command::Pull { device, .. } if usize::from(device) < devices => Ok(()),
+        Command::Pull { device, moment } if usize::from(device) < devices => {
+            Ok(Row::Pull { device, moment })
+        }
         Command::Pull { .. } => Err(Fault::BadScript { line: number }),
-        Command::Send { sender, .. } => match place_of(tallies, sender) {
-            Some(_) => Ok(()),
+        Command::Send { sender, length } => match place_of(tallies, sender) {
+            Some(place) => {
+                // Numbers rise, so that a sender's place isn't above its number.
+                let place = place as u16;
+                Ok(Row::Send { place, length })
+            }
             None => Err(Fault::UnknownSender { sender }),
         },
     }

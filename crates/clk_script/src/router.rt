@@ -9,7 +9,7 @@ use crate::devices::{Device, devices_of};
 use crate::past::Past;
 use crate::queues::Queues;
 use crate::senders::{Sender, senders_of};
-use crate::tallies::{note, place_of, tallies_of};
+use crate::tallies::{note, tallies_of};
 use clk_packet::{Fault, Offered, Packet, Tally};
 use clk_ring::calls_are_history;
 use clk_sched::{Departure, Tree, runs_conserve_packets, runs_go_on};
@@ -37,15 +37,15 @@ pub struct Router {
 }
 
 impl Router {
-    ghost use Rattle.std.specs.Prelude.{◌≡◌, ◌+◌, ◌^◌, ◌<◌, ◌≤◌, ◌==◌, ◌++◌, ◌∷◌, ◌⊎◌, [], true, false, None, map, length, slice_get, IfOk, IfErr, OnOk, IfSome, IsOkUnless};
-    ghost use Rattle.std.specs.List.{AllByRecursion, list_any};
+    ghost use Rattle.std.specs.Prelude.{◌≡◌, ◌+◌, ◌^◌, ◌<◌, ◌≤◌, ◌++◌, ◌∷◌, ◌⊎◌, [], true, map, length, slice_get, IfOk, IfErr, OnOk, IsOkUnless};
+    ghost use Rattle.std.specs.List.{AllByRecursion};
     ghost use Rattle.clk_packet.specs.declared.packet.Packet.{Packet};
     ghost use Rattle.clk_packet.specs.declared.fault.Fault.TheVariants.{Memory};
     ghost use Rattle.clk_sched.specs.Limits.{end_of_moments};
     ghost use Rattle.clk_tree.specs.PlanParts.{queued, HasCapacity};
     ghost use Rattle.clk_script.specs.Script.{most_lines, most_moment};
     ghost use Rattle.clk_script.specs.Meaning.{Setup, Event, offered, setup_of};
-    ghost use Rattle.clk_script.specs.inside.Router.{CanStand, ChangesDevice, numbers_in, IsSteady, IsPlace, IsPlaceOf, IsSentFrom, IsReady, IsSteadyAt, IsWhole, IsAt, IsPastOf, Starts, Counts, ChangesGiven, given_kept, LeadsOnByPull, LeadsOnByDrain, KeepsAs};
+    ghost use Rattle.clk_script.specs.inside.Router.{CanStand, ChangesDevice, IsSteady, IsPlace, IsSentFrom, IsReady, IsSteadyAt, IsWhole, IsAt, IsPastOf, Starts, Counts, ChangesGiven, given_kept, LeadsOnByPull, LeadsOnByDrain, KeepsAs};
     ghost use Rattle.clk_script.specs.inside.Closable.{IsClosableRouter};
 
     /// The router over these parts before anything has happened, whose devices will keep their visits or won't. Fault 1 where memory is
@@ -77,15 +77,6 @@ impl Router {
             evicted: Vec::new(alloc),
             visits,
         })
-    }
-
-    /// The place of the sender of this number, if it is there.
-    pub fn place_of(&self, number: u16) -> Option<usize>
-        requires ready { IsReady self.now }
-        ensures found { IfSome result (IsPlaceOf self.now.tallies.items number) }
-        ensures missing { result ≡ None → list_any (λ s. s == number) (numbers_in self.now) ≡ false }
-    {
-        place_of(&self.tallies, number)
     }
 
     /// The sender at this place offers its next packet, of this length in bytes, to its queue. Fault 1 where memory is refused.

@@ -1,16 +1,15 @@
 //! What is kept of each command of a script.
 
-ghost use Rattle.clk_script.specs.inside.Rows.{row_asked, row_offered, row_pulled};
+ghost use Rattle.clk_script.specs.inside.Rows.{row_offered, row_pulled};
 
-use crate::script::Command;
 use clk_packet::{Offered, Packet};
 
 /// What is kept of a command, in 16 bytes: what it asks for, and once it is carried out, what it came to. Which packets came out of the
 /// tree and which were put out of queues is kept elsewhere.
 #[derive(Clone, Copy)]
 pub enum Row {
-    /// The sender is to offer its next packet, of this length in bytes.
-    Send { sender: u16, length: u16 },
+    /// The sender at this place is to offer its next packet, of this length in bytes.
+    Send { place: u16, length: u16 },
     /// A device is to be pulled, at this moment in ticks.
     Pull { device: u16, moment: u64 },
     /// The packet was offered, and accepted.
@@ -27,16 +26,6 @@ pub enum Row {
 
 impl Row {
     ghost use Rattle.std.specs.Prelude.{◌≡◌};
-
-    /// Of a command that is to be carried out.
-    pub fn asked(command: Command) -> Row
-        ensures { result ≡ row_asked command }
-    {
-        match command {
-            Command::Send { sender, length } => Row::Send { sender, length },
-            Command::Pull { device, moment } => Row::Pull { device, moment },
-        }
-    }
 
     /// Of a packet that was offered.
     pub fn offered(packet: Packet, outcome: Offered) -> Row

@@ -1,5 +1,6 @@
 -- What is kept of each command of a script, and what is written of it.
-use Rattle.std.specs.Prelude.{◌≡◌, ℕ, ◌≤◌, List, [], ◌∷◌, ◌++◌, length, map, drop, ◌+◌, nat_lt, Bool, true, Option, Some, None, IfSome, Vec, slice_get}
+use Rattle.std.specs.Prelude.{◌≡◌, ℕ, ◌<◌, ◌≤◌, List, [], ◌∷◌, ◌++◌, length, map, drop, ◌+◌, nat_lt, Bool, true, Option, Some, None, IfSome, Vec, slice_get}
+use Rattle.std.specs.Option.{option_map}
 use Rattle.std.specs.List.{flat_map, filter_map, cons_option, AllByRecursion}
 use Rattle.std.specs.declared.alloc.Global.{Global}
 use Rattle.clk_packet.specs.declared.packet.Packet.{Packet}
@@ -19,14 +20,23 @@ use Rattle.clk_script.specs.declared.answer.Answer.{Answer}
 use Rattle.clk_script.specs.declared.past.Past.{Past}
 use Rattle.clk_script.specs.declared.router.Router.{Router}
 use Rattle.clk_script.specs.Script.{Names, command_in, commands_of, closing_moment, most_lines, most_moment}
-use Rattle.clk_script.specs.Meaning.{Setup, has_several, Event, offered, pulled, command_of, offer_text, pull_text, closing_text}
-use Rattle.clk_script.specs.inside.Router.{IsAt, IsSound, departure_text, LeadsOnByClosing}
+use Rattle.clk_script.specs.Meaning.{Setup, names_of, has_several, Event, offered, pulled, command_of, offer_text, pull_text, closing_text}
+use Rattle.clk_script.specs.inside.Router.{IsAt, departure_text, LeadsOnByClosing}
 
--- what is kept of a command that is to be carried out, of an offer, and of a pull
-abbrev pub row_asked : Command → Row
-row_asked (Send sender length) = row.Send sender length
-row_asked (Pull device moment) = row.Pull device moment
+-- the command that a row asks for, if it is to be carried out: a send is kept with the place of its sender among those that may be named
+abbrev pub command_asked : Names → Row → Option Command
+command_asked names (row.Send place size) = option_map (λ sender. Send sender size) (slice_get names.senders place)
+command_asked names (row.Pull device moment) = Some (Pull device moment)
+command_asked names r = None
 
+-- what each of some rows asks for, and what a line does, if it holds a command
+abbrev pub asked_by : Names → List Row → List (Option Command)
+asked_by names rows = map (command_asked names) rows
+
+abbrev pub asked_in : Line → List (Option Command)
+asked_in l = map Some (cons_option (command_in l) [])
+
+-- what is kept of an offer, and of a pull
 abbrev pub row_offered : Packet → Offered → Row
 row_offered p Accepted = row.Accepted p
 row_offered p (Refused q) = row.Refused p
@@ -46,19 +56,15 @@ abbrev pub given_by : Event → Option Packet
 given_by (offered p outcome) = None
 given_by (pulled device moment visits) = result_of (visits_of 0 visits)
 
--- the row of the command that a line holds, if it holds one
-abbrev pub rows_in : Line → List Row
-rows_in l = map row_asked (cons_option (command_in l) [])
-
--- a command that names what is there, and whose numbers are those of a script
+-- a row that is to be carried out: it names what is there, and its numbers are those of a script
 abbrev pub IsToDo : Names → Row → Type 0
-IsToDo names (row.Send sender length) = IsSound names (Send sender length)
-IsToDo names (row.Pull device moment) = IsSound names (Pull device moment) × (moment ≤ most_moment)
+IsToDo names (row.Send place size) = (place < length names.senders) × (1 ≤ size)
+IsToDo names (row.Pull device moment) = (device < names.devices) × (moment ≤ most_moment)
 IsToDo names r = ⊥
 
--- The script holds what a text says.
-pub record IsReadFrom (text : List ℕ) (script : Script) : Type 0 where
-  pub rows : script.rows.items ≡ map row_asked (commands_of text)
+-- The script holds what a text says, and its rows name these.
+pub record IsReadFrom (names : Names) (text : List ℕ) (script : Script) : Type 0 where
+  pub rows : asked_by names script.rows.items ≡ map Some (commands_of text)
   pub closing : script.closing ≡ closing_moment text
 
 -- A script names what is there.
@@ -71,7 +77,7 @@ pub record CanBeRun (names : Names) (script : Script) : Type 0 where
 -- what the pulls gave was added to what was kept of it.
 pub record CarriesOut (setup : Setup) (old new : Router) (asked done : List Row) (events : List Event) : Type 0 where
   pub more : List Event
-  pub theirs : map (λ e. row_asked (command_of e)) more ≡ asked
+  pub theirs : asked_by (names_of setup) asked ≡ map (λ e. Some (command_of e)) more
   pub rows : done ≡ map row_of more
   pub given : has_several setup ≡ true → new.given.items ≡ old.given.items ++ filter_map given_by more
   pub visits : new.visits ≡ old.visits

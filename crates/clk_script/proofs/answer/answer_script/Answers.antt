@@ -1,9 +1,9 @@
-use Rattle.std.proofs.Common.{rules, ◌≡◌, ◌≤◌, length, sym, subst, ◌∙◌}
+use Rattle.std.proofs.Common.{rules, ◌≡◌, ◌≤◌, length, ap, sym, subst, ◌∙◌}
 use Rattle.std.specs.List.{AllByRecursion}
 use Rattle.std.proofs.lemmas.List.{with_items_is}
 use Rattle.clk_script.specs.Script.{most_lines}
 use Rattle.clk_script.specs.inside.Router.{names_in}
-use Rattle.clk_script.specs.inside.Rows.{IsToDo, closings_of}
+use Rattle.clk_script.specs.inside.Rows.{asked_by, IsToDo, closings_of}
 use Rattle.clk_script.proofs.AnswerLemmas.{IsReady-answered, closable-answered, Writes-answered, devices-kept, closings-kept, kinds-kept}
 use Rattle.clk_script.proofs.answer.answer_script.Goals as goal
 
@@ -26,7 +26,7 @@ pub returns-clause-means : goal.returns-clause-means
 returns-clause-means c =
     let many : length c.carry_out.new.rows ≡ c.args.script.rows.len = search rules in
     λ setup commands starts are. rw (with_items_is c.args.script.rows c.carry_out.new.rows many)
-    (Writes-answered setup c.args.router c.carry_out.new.router commands c.deref_mut.result.now c.carry_out.new.rows starts (c.deref_mut.ensures.value ∙ are) c.in_ok-carry_out.ensures.done c.close.new.router c.in_ok-into_past.field-0
+    (Writes-answered setup c.args.router c.carry_out.new.router commands c.deref_mut.result.now c.carry_out.new.rows starts (ap (asked_by (names_in c.args.router)) c.deref_mut.ensures.value ∙ are) c.in_ok-carry_out.ensures.done c.close.new.router c.in_ok-into_past.field-0
     c.args.script.closing (closings_of c.in_ok-closing.closing) c.in_ok-closing.ensures.closed c.in_ok-into_past.ensures.past)
 
 pub returns-clause-devices : goal.returns-clause-devices

@@ -44,7 +44,7 @@ pub returns-clause-not_without_a_pull : goal.returns-clause-not_without_a_pull
 returns-clause-not_without_a_pull c = λ h.
     let visits = ap (filter_map pull_in) h.are ∙ pulls-visits 0 5 h.closing in
     let given = ap (λ l. length (given_in l)) visits in
-    let all = h.all in
+    let all : 1 ≡ 0 + 0 + length (given_in h.closing) = h.all in
     absurd (omega (arith, given, all))
 
 pub returns-clause-not_a_tick_early : goal.returns-clause-not_a_tick_early
@@ -88,7 +88,7 @@ none-there t (visits ∷ closing) = none-there (t + 1) closing
 in-turn : (closed : List Event) → CloseFirst two_devices 4 2 one_at_each closed → AreInTurn closed
 in-turn closed h =
     let first : Closes 0 4 (events_at two_devices 0 one_at_each) h.2.1 = subst (λ l. Closes 0 4 (events_at two_devices 0 (one_at_each ++ l)) h.2.1) h.2.2 h.2.3 in
-    let all : length (given_in first.closing) ≡ 1 = first.all in
+    let all : 1 ≡ 0 + 0 + length (given_in first.closing) = first.all in
     let before : h.0 ≡ pulls_from 0 5 first.closing = h.2.4 ∙ ap₂ (λ x y. x ++ y) h.2.2 first.are in
     let second = subst (λ l. Closes 1 4 (events_at two_devices 1 (one_at_each ++ l)) h.1) before h.3 in
     let at : events_at two_devices 1 (one_at_each ++ pulls_from 0 5 first.closing) ≡ offered p1_0 Accepted ∷ [] = ap (λ l. offered p1_0 Accepted ∷ l) (none-there 5 first.closing) in

@@ -1,4 +1,4 @@
-use Rattle.std.proofs.Common.{◌≡◌, ◌-◌, length, ap, refl, subst, arith}
+use Rattle.std.proofs.Common.{◌≡◌, ◌+◌, ◌-◌, length, refl, subst, arith}
 use Rattle.std.proofs.lemmas.Result.{err_from_is_err_and}
 use Rattle.clk_sched.specs.Results.{emitted}
 use Rattle.clk_script.specs.declared.devices.Device.{Device}
@@ -44,7 +44,9 @@ returns-clause-leads c =
     let before = c.index_mut-device.result.now in
     let after : Device = record { session = c.close.new.self; kept = before.kept } in
     let set = set-device old.devices.items c.args.device c.from.result before after c.from.ensures (steady-within old.devices.items c.args.device c.requires.steady) c.index_mut-device.ensures.value in
-    let left : before.kept - c.count_emitted.result ≡ before.kept - length (emitted before.session.log) = ap (λ n. before.kept - n) c.count_emitted.ensures in
+    let kept = kept-is old c.args.device before c.requires.closable (λ tree. (c.runs_go_on.ensures tree).start) c.runs_conserve_packets.ensures.counts set.was in
+    let packets = c.count_emitted.ensures in
+    let left : length (emitted before.session.log) + (before.kept - c.count_emitted.result) ≡ before.kept = omega (arith, kept, packets) in
     λ setup events at. closes-all c.calls_are_history.ensures setup events old _ c.args.device c.args.moment c.in_ok-departures.ensures.all.0 _ before after c.in_ok-departures.departures.items at set refl (c.close.ensures.kind, c.close.ensures.gone) left c.in_ok-departures.ensures.all.1
     c.in_ok-departures.ensures.departures c.close.ensures.answers refl refl refl refl refl
 
