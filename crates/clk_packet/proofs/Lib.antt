@@ -1,10 +1,11 @@
--- Lemmas that answers cite.
-pub mod BytesLemmas
-pub mod Copies
-pub mod DigitLemmas
-pub mod FieldLemmas
-pub mod LengthLemmas
-pub mod NumberLemmas
-pub mod PlainLemmas
-pub mod RecordLemmas
-pub mod TraceLemmas
+-- Lemmas that answers cite, of which `Callers` has those that crates above may cite too.
+mod BytesLemmas
+pub mod Callers
+mod Copies
+mod DigitLemmas
+mod FieldLemmas
+mod LengthLemmas
+mod NumberLemmas
+mod PlainLemmas
+mod RecordLemmas
+mod TraceLemmas

@@ -7,7 +7,7 @@ use Rattle.std.specs.Io.KnownBytes.{Appends}
 use Rattle.clk_packet.specs.Bytes.{AppendsFront}
 use Rattle.clk_packet.specs.declared.packet.Packet.{Packet}
 use Rattle.clk_packet.specs.declared.tally.Tally.{Tally}
-use Rattle.clk_packet.proofs.BytesLemmas.{HasWritten, Appends-append}
+use Rattle.clk_packet.proofs.Callers.Bytes.{HasWritten, Appends-append}
 use Rattle.clk_report.specs.declared.total.Total.{Total}
 use Rattle.clk_packet.specs.Lists.{of_sender}
 use Rattle.clk_report.specs.Report.{tally_text, report_text, total_text}

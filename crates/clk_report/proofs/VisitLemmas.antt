@@ -6,7 +6,7 @@ use Rattle.std.specs.declared.alloc.Global.{Global}
 use Rattle.clk_packet.specs.declared.fault.Fault.{Fault}
 use Rattle.clk_packet.specs.declared.fault.Fault.TheVariants.{Memory}
 use Rattle.clk_packet.specs.Bytes.{Wrote, write_failures}
-use Rattle.clk_packet.proofs.BytesLemmas.{HasWritten, Appends-append}
+use Rattle.clk_packet.proofs.Callers.Bytes.{HasWritten, Appends-append}
 use Rattle.clk_sched.specs.declared.visit.Visit.{Visit}
 use Rattle.clk_report.specs.Devices.{lists_of}
 use Rattle.clk_report.specs.VisitCsv.{devices_text, header_text, rows_text, visits_text}

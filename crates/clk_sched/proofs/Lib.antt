@@ -1,61 +1,63 @@
-pub mod Numbers
-pub mod Members
-pub mod TreeLemmas
-pub mod LaidOut
-pub mod Added
-pub mod Distinct
-pub mod Numbering
-pub mod Allowed
-pub mod PullByPull
-pub mod SameTurns
-pub mod NoChoice
-pub mod Heads
-pub mod HeadsByManner
-pub mod Blocks
-pub mod Origins
-pub mod Pulled
-pub mod Gives
-pub mod Conserved
-pub mod CameFrom
-pub mod Counted
-pub mod GoesOn
-pub mod Apart
-pub mod Below
-pub mod Pulling
-pub mod Asking
-pub mod Asked
-pub mod QueuesAsked
-pub mod Edges
-pub mod InOrder
-pub mod Placed
-pub mod Ordered
-pub mod TurnPrio
-pub mod TurnRoundRobin
-pub mod TurnStride
-pub mod TurnShaper
-pub mod TurnOfClass
-pub mod Logged
-pub mod LooksDrr
-pub mod TurnDrr
-pub mod Orders
-pub mod Chosen
-pub mod WithAsked
-pub mod Made
-pub mod CanGoOn
-pub mod IdleTurns
-pub mod DeviceBlock
-pub mod DeficitShares
-pub mod StrideShares
-pub mod Bucket
-pub mod Deficits
-pub mod Rising
-pub mod RankLemmas
-pub mod StridePasses
-pub mod Shares
-pub mod Held
-pub mod TreeBound
-pub mod SessionPull
-pub mod Closing
-pub mod Departed
-pub mod SessionDrain
-pub mod WorkedPulls
+-- The lemmas of trees, runs and sessions, of which `Callers` has those that crates above may cite.
+pub mod Callers
+mod Numbers
+mod Members
+mod TreeLemmas
+mod LaidOut
+mod Added
+mod Distinct
+mod Numbering
+mod Allowed
+mod PullByPull
+mod SameTurns
+mod NoChoice
+mod Heads
+mod HeadsByManner
+mod Blocks
+mod Origins
+mod Pulled
+mod Gives
+mod Conserved
+mod CameFrom
+mod Counted
+mod GoesOn
+mod Apart
+mod Below
+mod Pulling
+mod Asking
+mod Asked
+mod QueuesAsked
+mod Edges
+mod InOrder
+mod Placed
+mod Ordered
+mod TurnPrio
+mod TurnRoundRobin
+mod TurnStride
+mod TurnShaper
+mod TurnOfClass
+mod Logged
+mod LooksDrr
+mod TurnDrr
+mod Orders
+mod Chosen
+mod WithAsked
+mod Made
+mod CanGoOn
+mod IdleTurns
+mod DeviceBlock
+mod DeficitShares
+mod StrideShares
+mod Bucket
+mod Deficits
+mod Rising
+mod RankLemmas
+mod StridePasses
+mod Shares
+mod Held
+mod TreeBound
+mod SessionPull
+mod Closing
+mod Departed
+mod SessionDrain
+mod WorkedPulls

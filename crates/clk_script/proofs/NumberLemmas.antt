@@ -8,7 +8,7 @@ use Rattle.std.proofs.lemmas.Bool.Decides.{nat_tests}
 use Rattle.std.proofs.lemmas.List.{nil_from_length}
 use Rattle.std.proofs.lemmas.Str.{digit_value_digit}
 use Rattle.clk_packet.specs.Numbers.{has_bytes, number_in}
-use Rattle.clk_packet.proofs.NumberLemmas.{more_digits, too_large}
+use Rattle.clk_packet.proofs.Callers.Numbers.{more_digits, too_large}
 use Rattle.clk_script.specs.Script.{is_blank, fields}
 use Rattle.clk_script.specs.inside.Fields.{field_at}
 use Rattle.clk_script.proofs.FieldLemmas.{fields-skip, fields-first, skipped}

@@ -6,7 +6,7 @@ use Rattle.std.proofs.Math.Seq.{drop-length}
 use Rattle.std.proofs.lemmas.List.{drop_more, take_all, length-drop}
 use Rattle.clk_packet.specs.declared.fault.Fault.{Fault}
 use Rattle.clk_packet.specs.Bytes.{Wrote, AppendsFront}
-use Rattle.clk_packet.proofs.BytesLemmas.{Appends-append, Appends-none, Wrote-cut}
+use Rattle.clk_packet.proofs.Callers.Bytes.{Appends-append, Appends-none, Wrote-cut}
 use Rattle.clk_script.specs.inside.Lines.{Passes}
 
 -- Nothing was passed on.

@@ -10,7 +10,7 @@ use Rattle.clk_packet.specs.Limits.{most_sender, most_length}
 use Rattle.clk_script.specs.declared.script.Command.TheVariants.{Send, Pull}
 use Rattle.clk_script.specs.declared.script.Line.TheVariants as line
 use Rattle.clk_packet.specs.Numbers.{BeginsWithNumber, has_bytes}
-use Rattle.clk_packet.proofs.DigitLemmas.{AreDigits, number-digits}
+use Rattle.clk_packet.proofs.Callers.Numbers.{AreDigits, number-digits}
 use Rattle.clk_script.specs.Script.{is_blank, fields, line_of_fields, line_of, lines_of, most_moment}
 
 -- each digit fails a test that no digit passes

@@ -5,7 +5,7 @@ use Rattle.std.specs.Option.{option_or}
 use Rattle.std.specs.List.{AllByRecursion, flat_map}
 use Rattle.std.proofs.lemmas.List.{map-append}
 use Rattle.std.proofs.lemmas.Option.{same_Some}
-use Rattle.clk_sched.proofs.Members.{all-append}
+use Rattle.clk_sched.proofs.Callers.Lists.{all-append}
 use Rattle.clk_syntax.specs.declared.node.Link.{Link}
 use Rattle.clk_syntax.specs.Source.{Element, Word, Wire}
 use Rattle.clk_syntax.specs.Classes.{Class, queue}

@@ -3,7 +3,7 @@ use Rattle.std.specs.List.{flat_map}
 use Rattle.std.proofs.lemmas.Result.{err_from_is_err_and}
 use Rattle.clk_packet.specs.declared.fault.Fault.{Fault}
 use Rattle.clk_packet.specs.Fault.{number_of, name_of, fields_of}
-use Rattle.clk_packet.proofs.BytesLemmas.{Wrote-then, Wrote-cut}
+use Rattle.clk_packet.proofs.Callers.Bytes.{Wrote-then, Wrote-cut}
 use Rattle.clk_command.proofs.faults.fault_line.Goals as goal
 
 -- the line from its last field on, from its name on, from the colon on, and from its number on

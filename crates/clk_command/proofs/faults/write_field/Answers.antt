@@ -1,6 +1,6 @@
 use Rattle.std.proofs.Common.{codes, decimal}
 use Rattle.std.proofs.lemmas.Result.{err_from_is_err_and}
-use Rattle.clk_packet.proofs.BytesLemmas.{Wrote-then, Wrote-cut}
+use Rattle.clk_packet.proofs.Callers.Bytes.{Wrote-then, Wrote-cut}
 use Rattle.clk_command.proofs.faults.write_field.Goals as goal
 
 pub returns-in_err-write_all : goal.returns-in_err-write_all

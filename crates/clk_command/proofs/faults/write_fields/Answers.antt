@@ -4,7 +4,7 @@ use Rattle.std.specs.Io.KnownBytes.{Appends}
 use Rattle.std.proofs.lemmas.List.{take_all}
 use Rattle.std.proofs.lemmas.Result.{err_from_is_err_and}
 use Rattle.clk_packet.specs.Bytes.{Wrote}
-use Rattle.clk_packet.proofs.BytesLemmas.{Wrote-then, Wrote-cut, Appends-none, Appends-piece, flat_map_at}
+use Rattle.clk_packet.proofs.Callers.Bytes.{Wrote-then, Wrote-cut, Appends-none, Appends-piece, flat_map_at}
 use Rattle.clk_command.proofs.faults.write_fields.Goals as goal
 
 abbrev text_of : ℕ → List ℕ

@@ -1,5 +1,5 @@
 use Rattle.std.proofs.Common.{◌≡◌, ◌<◌, All, length}
-use Rattle.clk_packet.proofs.BytesLemmas.{HasWritten}
+use Rattle.clk_packet.proofs.Callers.Bytes.{HasWritten}
 use Rattle.clk_report.specs.Devices.{came_out}
 use Rattle.clk_report.specs.Report.{report_text}
 use Rattle.clk_report.proofs.senders.write_lines.Given as goal

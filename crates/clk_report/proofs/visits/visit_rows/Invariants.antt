@@ -1,5 +1,5 @@
 use Rattle.std.proofs.Common.{◌≡◌, length}
-use Rattle.clk_packet.proofs.BytesLemmas.{HasWritten}
+use Rattle.clk_packet.proofs.Callers.Bytes.{HasWritten}
 use Rattle.clk_report.specs.VisitCsv.{rows_text}
 use Rattle.clk_report.proofs.visits.visit_rows.Given as goal
 

@@ -1,6 +1,6 @@
 use Rattle.std.proofs.Common.{None, arith}
 use Rattle.std.proofs.lemmas.Result.{err_from_is_err_and}
-use Rattle.clk_packet.proofs.BytesLemmas.{Wrote-cut}
+use Rattle.clk_packet.proofs.Callers.Bytes.{Wrote-cut}
 use Rattle.clk_report.specs.Devices.{lists_of}
 use Rattle.clk_report.specs.VisitCsv.{header_text, rows_text, devices_text}
 use Rattle.clk_report.proofs.VisitLemmas.{WroteOrStopped-wrote, WroteOrStopped-then, WroteOrStopped-same, devices_header, no-log, one-log, many-logs}

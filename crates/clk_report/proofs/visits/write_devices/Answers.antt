@@ -1,6 +1,6 @@
 use Rattle.std.proofs.Common.{refl, arith}
 use Rattle.std.proofs.lemmas.Result.{err_from_is_err_and}
-use Rattle.clk_packet.proofs.BytesLemmas.{HasWritten-none}
+use Rattle.clk_packet.proofs.Callers.Bytes.{HasWritten-none}
 use Rattle.clk_report.proofs.VisitLemmas.{AreWrittenTo-more, AreWrittenTo-cut, all-written}
 use Rattle.clk_report.proofs.visits.write_devices.Goals as goal
 

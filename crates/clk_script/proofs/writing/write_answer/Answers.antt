@@ -1,6 +1,6 @@
 use Rattle.std.proofs.Common.{◌++◌, sym, append_assoc, append-nil}
 use Rattle.std.proofs.lemmas.Result.{err_from_is_err_and}
-use Rattle.clk_packet.proofs.BytesLemmas.{Wrote-then, Wrote-cut}
+use Rattle.clk_packet.proofs.Callers.Bytes.{Wrote-then, Wrote-cut}
 use Rattle.clk_report.specs.Report.{report_text}
 use Rattle.clk_report.specs.Devices.{lists_of, came_out}
 use Rattle.clk_script.specs.inside.Rows.{are_several, given_of, rows_text, closings_text, closings_of, ending_of}

@@ -1,6 +1,6 @@
 use Rattle.std.proofs.Common.{ap}
 use Rattle.std.proofs.lemmas.Result.{err_from_is_err_and}
-use Rattle.clk_packet.proofs.BytesLemmas.{Wrote-then}
+use Rattle.clk_packet.proofs.Callers.Bytes.{Wrote-then}
 use Rattle.clk_script.proofs.PassLemmas.{Passes-wrote, Passes-failed}
 use Rattle.clk_script.proofs.lines.Lines.add.Goals as goal
 

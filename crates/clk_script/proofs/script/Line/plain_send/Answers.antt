@@ -1,6 +1,6 @@
 use Rattle.std.proofs.Common.{arith}
 use Rattle.clk_packet.specs.Limits.{most_sender, most_length}
-use Rattle.clk_packet.proofs.DigitLemmas.{number-shorter}
+use Rattle.clk_packet.proofs.Callers.Numbers.{number-shorter}
 use Rattle.clk_script.proofs.PlainLines.{plain-send}
 use Rattle.clk_script.proofs.script.Line.plain_send.Goals as goal
 

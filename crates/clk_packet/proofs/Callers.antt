@@ -1,0 +1,4 @@
+-- The lemmas that crates above may cite, and no others: of lists, and of what contracts say of bytes and numbers.
+pub mod Bytes
+pub mod Lists
+pub mod Numbers
