@@ -112,11 +112,7 @@ fn row_asked(tallies: &[Tally], devices: usize, number: u32, command: Command) -
         }
         Command::Pull { .. } => Err(Fault::BadScript { line: number }),
         Command::Send { sender, length } => match place_of(tallies, sender) {
-            Some(place) => {
-                // Numbers rise, so that a sender's place isn't above its number.
-                let place = place as u16;
-                Ok(Row::Send { place, length })
-            }
+            Some(place) => Ok(Row::Send { place, length }),
             None => Err(Fault::UnknownSender { sender }),
         },
     }

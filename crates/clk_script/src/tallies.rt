@@ -28,21 +28,22 @@ pub fn tallies_of(alloc: Global, specs: &[SenderSpec]) -> Result<Vec<Tally>, Fau
 }
 
 /// The place of a sender's tally among these, whose senders rise, if it is one of them.
-pub fn place_of(tallies: &[Tally], sender: u16) -> Option<usize>
+pub fn place_of(tallies: &[Tally], sender: u16) -> Option<u16>
     requires rising { AreRising (map tally_sender tallies.now) }
     ensures found { IfSome result (IsPlaceOf tallies.now sender) }
     ensures missing { result ≡ None → list_any (λ s. s == sender) (map tally_sender tallies.now) ≡ false }
 {
     // Numbers without gaps are places.
-    let place = usize::from(sender);
-    if let Some(tally) = tallies.get(place) {
+    if let Some(tally) = tallies.get(usize::from(sender)) {
         if tally.sender == sender {
-            return Some(place);
+            return Some(sender);
         }
     }
-    tallies
+    let place = tallies
         .binary_search_by_key(&sender, |tally| tally.sender)
-        .ok()
+        .ok()?;
+    // It fits, since numbers that rise are no less than their places.
+    Some(place as u16)
 }
 
 /// Keeps what became of a packet that the sender whose tally stands at this place offered. Fault 1 where memory is refused.
@@ -75,7 +76,7 @@ fn note_evicted(tallies: &mut Vec<Tally>, front: Packet) -> Result<(), Fault>
     ensures fault { IsOkUnless result Fault.Memory }
 {
     match place_of(tallies, front.sender) {
-        Some(place) => tallies[place].evicted.push(front),
+        Some(place) => tallies[usize::from(place)].evicted.push(front),
         None => Ok(()),
     }
 }

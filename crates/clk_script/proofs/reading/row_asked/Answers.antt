@@ -1,11 +1,11 @@
-use Rattle.std.proofs.Common.{◌≡◌, None, Some, refl, sym, ap, ◌∙◌, arith}
+use Rattle.std.proofs.Common.{◌≡◌, None, Some, refl, sym, ap, ◌∙◌}
 use Rattle.std.specs.Option.{option_map}
 use Rattle.clk_script.specs.declared.script.Command.TheVariants.{Send}
 use Rattle.clk_script.specs.declared.rows.Row.TheVariants as row
 use Rattle.clk_script.specs.Script.{command_fault}
 use Rattle.clk_script.specs.inside.Router.{named_by}
 use Rattle.clk_script.specs.inside.Rows.{command_asked}
-use Rattle.clk_script.proofs.PlaceLemmas.{known-at, number-there, place-low}
+use Rattle.clk_script.proofs.PlaceLemmas.{known-at, number-there}
 use Rattle.clk_script.proofs.reading.row_asked.Goals as goal
 
 pub returns-in-Some : goal.returns-in-Some
@@ -18,8 +18,3 @@ returns-in-Some c =
     let sound : command_fault names c.args.number (Send sender size) ≡ None = rw known refl in
     let asks : command_asked names (row.Send c.in-Some.place size) ≡ Some (Send sender size) = ap (option_map (λ s. Send s size)) (number-there c.args.tallies.now sender c.in-Some.place here) in
     (ap (command_fault names c.args.number) c.in-Send.is ∙ sound, asks ∙ ap (λ command. Some command) (sym c.in-Send.is))
-
-pub overflow_cast-place : goal.overflow_cast-place
-overflow_cast-place c =
-    let low = place-low c.args.tallies.now c.in-Send.sender c.in-Some.place c.requires.rising c.in-Some.ensures.found.here in
-    omega (arith, low)
