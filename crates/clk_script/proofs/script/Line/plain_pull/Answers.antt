@@ -1,4 +1,4 @@
-use Rattle.clk_packet.proofs.DigitLemmas.{number-shorter}
+use Rattle.clk_packet.proofs.Callers.Numbers.{number-shorter}
 use Rattle.clk_script.proofs.PlainLines.{plain-pull}
 use Rattle.clk_script.specs.Script.{most_moment}
 use Rattle.clk_script.proofs.script.Line.plain_pull.Goals as goal
