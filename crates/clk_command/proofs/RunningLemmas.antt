@@ -1,5 +1,5 @@
 -- What a run of a trace writes, and why it is refused, from what its parts say.
-use Rattle.std.proofs.Common.{◌≡◌, ◌+◌, ℕ, suc, Bool, List, [], ◌∷◌, length, Option, Some, None, IfSome, refl, sym, ap, ◌∙◌, arith}
+use Rattle.std.proofs.Common.{◌≡◌, ◌+◌, ℕ, suc, List, [], ◌∷◌, length, Option, Some, None, IfSome, refl, sym, ap, ◌∙◌, arith}
 use Rattle.std.proofs.lemmas.List.{length-map}
 use Rattle.clk_packet.specs.declared.packet.Packet.{Packet}
 use Rattle.clk_packet.specs.Trace.{pairs_of, sent, sent_by, shown, trace_fault}
@@ -8,11 +8,11 @@ use Rattle.clk_tree.specs.Plan.{Planned}
 use Rattle.clk_tree.specs.PlanTree.{device_count}
 use Rattle.clk_drain.specs.declared.outcome.Outcome.{Outcome}
 use Rattle.clk_drain.specs.Outcome.{Device}
-use Rattle.clk_drain.specs.Run.{AreDevicesFrom, IsRunWith, IsKeptRun}
-use Rattle.clk_report.specs.Devices.{came_out, lists_of}
+use Rattle.clk_drain.specs.Run.{AreDevicesFrom, IsRunWith}
+use Rattle.clk_report.specs.Devices.{came_out}
 use Rattle.clk_report.specs.Report.{report_text}
 use Rattle.clk_command.specs.declared.pace.Pace.{Pace}
-use Rattle.clk_command.specs.Running.{RunAnswers, RunWrites, Tells}
+use Rattle.clk_command.specs.Running.{RunWrites, Tells}
 
 -- devices from a number on are as many as a plan has from there
 devices-counted : (plan : List Planned) (number : ℕ) (devices : List Device) → AreDevicesFrom plan number devices → number + length devices ≡ device_count plan
@@ -32,17 +32,7 @@ pub trace-tells : (known : Option (List ℕ)) (traces : List (List Packet)) → 
 trace-tells None traces sound told = tt
 trace-tells (Some text) traces sound told = record { sound = sound; sent = told }
 
--- what a run over it writes and answers
-pub run-answers : (visits : Bool) (plan : List Planned) (pace : Pace) (known : Option (List ℕ)) (traces : List (List Packet)) (outcome : Outcome) (P : List ℕ → Type 0) → IfSome known (λ text. Tells text traces)
-    → IsKeptRun visits plan traces pace.step pace.limit outcome → P (report_text (came_out outcome.emitted.items) outcome.tallies.items)
-    → (text : List ℕ) × RunAnswers visits plan pace known text (lists_of outcome.logs.items) × P text
-run-answers visits plan pace known traces outcome P tells h p = (
-  report_text (came_out outcome.emitted.items) outcome.tallies.items,
-  record { logs = h.logs; kept = h.kept; writes = record { traces = traces; tells = tells; outcome = outcome; came_to = h.is; reported = refl } },
-  p,
-)
-
--- what it writes, whatever it answers
-pub run-writes : (visits : Bool) (plan : List Planned) (pace : Pace) (known : Option (List ℕ)) (answer : List (List Visit)) (P : List ℕ → Type 0) → (text : List ℕ) × RunAnswers visits plan pace known text answer × P text
-    → (text : List ℕ) × (logs : List (List Visit)) × RunWrites plan pace known text logs × P text
-run-writes visits plan pace known answer P h = (h.0, h.1.logs, h.1.writes, h.2)
+-- what a run over it writes
+pub run-writes : (plan : List Planned) (pace : Pace) (known : Option (List ℕ)) (traces : List (List Packet)) (logs : List (List Visit)) (outcome : Outcome) → IfSome known (λ text. Tells text traces)
+    → IsRunWith plan traces pace.step pace.limit logs outcome → RunWrites plan pace known (report_text (came_out outcome.emitted.items) outcome.tallies.items) logs
+run-writes plan pace known traces logs outcome tells is = record { traces = traces; tells = tells; outcome = outcome; came_to = is; reported = refl }

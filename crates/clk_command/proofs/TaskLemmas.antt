@@ -1,19 +1,19 @@
 -- What is read of a tree's text, and what follows for what is done over it.
-use Rattle.std.proofs.Common.{◌+◌, ◌≡◌, ℕ, Bool, true, false, nat_lt, List, length, take, Option, Some, None, Result, Ok, Err, IfSome, OnOk, refl, sym, subst, ap, ◌∙◌, inl, inr, arith}
+use Rattle.std.proofs.Common.{◌+◌, ◌≡◌, ◌≢◌, ◌⊎◌, ℕ, Bool, true, false, nat_lt, List, length, take, Option, Some, None, Result, Ok, Err, IfSome, IfErr, OnOk, OnErr, refl, sym, subst, ◌∙◌, inl, inr, arith}
+use Rattle.std.specs.Io.KnownBytes.{Appends}
+use Rattle.std.proofs.KnownBytes.{Keeps-refl}
 use Rattle.std.proofs.lemmas.Bool.Decides.{nat_tests}
 use Rattle.std.proofs.lemmas.List.{take_all, length-take}
 use Rattle.clk_packet.specs.declared.fault.Fault.{Fault}
-use Rattle.clk_packet.specs.declared.fault.Fault.TheVariants.{TooLarge}
+use Rattle.clk_packet.specs.declared.fault.Fault.TheVariants.{Memory, TooLarge, Write}
 use Rattle.clk_syntax.specs.Faults.{text_fault}
 use Rattle.clk_syntax.specs.Limits.{most_bytes}
 use Rattle.clk_tree.specs.Plan.{Planned, Denotes}
 use Rattle.clk_syntax.specs.Reading.{HasFault}
-use Rattle.clk_sched.specs.declared.visit.Visit.{Visit}
-use Rattle.clk_report.specs.VisitCsv.{visits_text}
-use Rattle.clk_packet.specs.Bytes.{OfBytes}
-use Rattle.clk_script.specs.Meaning.{MeansOver, MeansOverWith}
-use Rattle.clk_command.specs.Running.{RunAnswers}
-use Rattle.clk_command.specs.Tasks.{Does, IsPlanIn, WritesOver, WritesWithVisits, ReportsOver, ReportsWithVisits}
+use Rattle.clk_packet.specs.Bytes.{AppendsFront}
+use Rattle.clk_script.specs.Written.{WroteWhat}
+use Rattle.clk_script.proofs.RefusalLemmas.{without-logs}
+use Rattle.clk_command.specs.Tasks.{Does, IsPlanIn, WritesOver, WritesWithVisits, ReportsOver, ReportsWithVisits, WroteBoth}
 use Rattle.clk_command.specs.Words.{task}
 use Rattle.clk_command.specs.declared.pace.Pace.{Pace}
 use Rattle.clk_command.specs.declared.words.Asked.{Asked}
@@ -66,48 +66,49 @@ fault-read (Some all) bytes fault is has = by_test (nat_lt most_bytes (length al
         absurd (cc)
     by_test false t has = subst (λ (text : List ℕ). HasFault text fault) (is ∙ take_all 1048577 all (grind (arith, nat_tests))) has
 
--- what holds of bytes may be weakened
-of-weaker : (known : Option (List ℕ)) (P Q : List ℕ → Type 0) → ((bytes : List ℕ) → P bytes → Q bytes) → OfBytes known P → OfBytes known Q
-of-weaker None P Q weaker h = (h.0, weaker h.0 h.1)
-of-weaker (Some bytes) P Q weaker h = weaker bytes h
+-- neither a text nor visits were written
+pub both-nothing : {T : Type 0} (Means : List ℕ → List ℕ → Type 0) (fault : Fault) (old visits_old : Option (List ℕ)) → fault ≢ Write → WroteBoth {T = T} Means old old (Err fault) visits_old visits_old
+both-nothing Means fault old visits_old other =
+    record {
+      whole = tt;
+      front = λ failed. absurd (other (cc));
+      memory = λ _. inl (Keeps-refl old, Keeps-refl visits_old);
+      nothing = λ _ _. (Keeps-refl old, Keeps-refl visits_old);
+    }
 
--- a text that is told of bytes, whether they are known or not
-pub told-first : (known : Option (List ℕ)) (P : List ℕ → List ℕ → Type 0) (Q : List ℕ → Type 0) → OfBytes known (λ bytes. (text : List ℕ) × P bytes text × Q text)
-    → (text : List ℕ) × OfBytes known (λ bytes. P bytes text) × Q text
-told-first None P Q h = (h.1.0, (h.0, h.1.1), h.1.2)
-told-first (Some bytes) P Q h = h
+-- writing the text failed
+pub both-first : {T U : Type 0} (P : List ℕ → Type 0) (Q : List ℕ → List ℕ → Type 0) (fault : Fault) (old new visits_old : Option (List ℕ)) → ((text : List ℕ) → P text → (visits : List ℕ) × Q text visits)
+    → WroteWhat {T = T} P (Err fault) old new → WroteBoth {T = U} Q old new (Err fault) visits_old visits_old
+both-first P Q fault old new visits_old means w =
+    record {
+      whole = tt;
+      front = λ failed. let front = w.front (cc) in let both = means front.0 front.1 in (front.0, both.0, both.1, inl (front.2, Keeps-refl visits_old));
+      memory = λ failed. inl (w.nothing (λ write. cc), Keeps-refl visits_old);
+      nothing = λ other _. (w.nothing other, Keeps-refl visits_old);
+    }
 
--- what holds of a success may be weakened
-pub ok-weaker : {T E : Type 0} (r : Result T E) {P Q : Type 0} → (P → Q) → OnOk r P → OnOk r Q
-ok-weaker (Ok x) f p = f p
-ok-weaker (Err e) f p = tt
-
--- what a script over a plan that was read writes
-pub writes-over : (tree input : Option (List ℕ)) (plan : List Planned) (P : List ℕ → Type 0) → IsPlanIn tree plan → OfBytes input (λ script. (text : List ℕ) × MeansOver plan script text × P text)
-    → (text : List ℕ) × WritesOver tree input text × P text
-writes-over tree input plan P is h =
-    let told = told-first input (MeansOver plan) P h in
-    (told.0, record { plan = plan; is_plan = is; means = told.1 }, told.2)
-
--- the same, where its visits are written too
-pub writes-visits : (tree input : Option (List ℕ)) (plan : List Planned) (logs : List (List Visit)) (P Q : List ℕ → Type 0) → IsPlanIn tree plan
-    → OfBytes input (λ script. (text : List ℕ) × MeansOverWith plan script text logs × P text) → Q (visits_text logs)
-    → (text : List ℕ) × (csv : List ℕ) × WritesWithVisits tree input text csv × P text × Q csv
-writes-visits tree input plan logs P Q is h q =
-    let told = told-first input (λ script text. MeansOverWith plan script text logs) P h in
-    (told.0, visits_text logs, record { plan = plan; is_plan = is; logs = logs; means = told.1; csv = refl }, told.2, q)
-
--- what a run over a plan that was read writes, with its visits
-pub reports-visits : (tree trace : Option (List ℕ)) (plan : List Planned) (pace : Pace) (answer : List (List Visit)) (P Q : List ℕ → Type 0) → IsPlanIn tree plan
-    → (text : List ℕ) × RunAnswers true plan pace trace text answer × P text → Q (visits_text answer)
-    → (text : List ℕ) × (csv : List ℕ) × ReportsWithVisits tree trace pace text csv × P text × Q csv
-reports-visits tree trace plan pace answer P Q is h q = (
-  h.0,
-  visits_text answer,
-  record { reports = record { plan = plan; is_plan = is; logs = h.1.logs; writes = h.1.writes }; csv = ap visits_text (h.1.kept refl) },
-  h.2,
-  q,
-)
+-- the text was written, and then the visits as far as they went
+pub both-second : {T : Type 0} (P : List ℕ → Type 0) (Q : List ℕ → List ℕ → Type 0) (x : T) (result : Result (Unit {0}) Fault) (old new visits_old visits_new : Option (List ℕ)) (visits : List ℕ) → ((text : List ℕ) → P text → Q text visits)
+    → WroteWhat P (Ok x) old new → OnOk result (Appends visits_old visits_new visits) → OnErr result (AppendsFront visits_old visits_new visits) → IfErr result (λ fault. (fault ≡ Memory) ⊎ (fault ≡ Write))
+    → WroteBoth Q old new result visits_old visits_new
+both-second P Q x (Ok y) old new visits_old visits_new visits means w whole front fault =
+    record {
+      whole = (w.whole.0, visits, means w.whole.0 w.whole.1, w.whole.2, whole);
+      front = λ failed. absurd (cc);
+      memory = λ failed. absurd (cc);
+      nothing = tt;
+    }
+both-second P Q x (Err e) old new visits_old visits_new visits means w whole front fault =
+    record {
+      whole = tt;
+      front = λ _. (w.whole.0, visits, means w.whole.0 w.whole.1, inr (w.whole.2, front));
+      memory = λ _. inr (w.whole.0, visits, means w.whole.0 w.whole.1, w.whole.2, front);
+      nothing = λ write memory. absurd (neither fault write memory);
+    }
+  where
+    neither : (e ≡ Memory) ⊎ (e ≡ Write) → e ≢ Write → e ≢ Memory → ⊥
+    neither (inl is) write memory = memory is
+    neither (inr is) write memory = write is
 
 -- what holds without the visits
 pub without-visits : (tree input : Option (List ℕ)) (P Q : List ℕ → Type 0) → (text : List ℕ) × (csv : List ℕ) × WritesWithVisits tree input text csv × P text × Q csv → (text : List ℕ) × WritesOver tree input text × P text
@@ -116,7 +117,7 @@ without-visits tree input P Q h = (
   record {
     plan = h.2.plan;
     is_plan = h.2.is_plan;
-    means = of-weaker input _ _ (λ script m. record { trees = m.trees; are = m.are; means = record { sound = m.means.sound; written = m.means.written.writes } }) h.2.means;
+    means = without-logs h.2.plan input h.0 h.2.logs h.2.means;
   },
   h.3,
 )

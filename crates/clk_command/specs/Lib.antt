@@ -1,4 +1,5 @@
 -- What the words of the program ask for, and what is done for them.
 pub mod Running
 pub mod Tasks
+pub mod Examples
 pub mod Words

@@ -1,5 +1,5 @@
 -- What running a trace over a plan writes, and why it is refused (this project's own definition).
-use Rattle.std.specs.Prelude.{◌≡◌, ◌⊎◌, ℕ, Bool, true, List, Option, None, IfSome}
+use Rattle.std.specs.Prelude.{◌≡◌, ◌⊎◌, ℕ, List, Option, None, IfSome}
 use Rattle.clk_packet.specs.declared.packet.Packet.{Packet}
 use Rattle.clk_packet.specs.declared.fault.Fault.{Fault}
 use Rattle.clk_packet.specs.declared.fault.Fault.TheVariants.{Write}
@@ -25,12 +25,6 @@ pub record RunWrites (plan : List Planned) (pace : Pace) (trace : Option (List �
   pub outcome : Outcome
   pub came_to : IsRunWith plan traces pace.step pace.limit logs outcome
   pub reported : text ≡ report_text (came_out outcome.emitted.items) outcome.tallies.items
-
--- Running a trace over a plan, which writes this text, answers these logs, where visits are kept.
-pub record RunAnswers (visits : Bool) (plan : List Planned) (pace : Pace) (trace : Option (List ℕ)) (text : List ℕ) (answer : List (List Visit)) : Type 0 where
-  pub logs : List (List Visit)
-  pub kept : visits ≡ true → answer ≡ logs
-  pub writes : RunWrites plan pace trace text logs
 
 -- A run of the plan over what the trace tells is refused with this fault.
 pub record RefusesRun (plan : List Planned) (trace : Option (List ℕ)) (fault : Fault) : Type 0 where

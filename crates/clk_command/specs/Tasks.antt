@@ -1,5 +1,6 @@
 -- What is done for each task, by the bytes of its files, where these are known: each source of bytes gives what it holds.
-use Rattle.std.specs.Prelude.{◌≡◌, ◌≢◌, ◌⊎◌, ℕ, List, Option, None, Some, IfSome}
+use Rattle.std.specs.Prelude.{◌≡◌, ◌≢◌, ◌⊎◌, ℕ, List, Option, None, Some, IfSome, Result, OnOk, IfErr, IsErrOf}
+use Rattle.std.specs.Io.KnownBytes.{Appends, Keeps}
 use Rattle.clap.specs.Kinds.{Kinds, IsAmong}
 use Rattle.clap.specs.declared.error.kind.ErrorKind.{ErrorKind}
 use Rattle.clap.specs.declared.error.kind.ErrorKind.TheVariants.{DisplayHelp, DisplayVersion}
@@ -10,7 +11,7 @@ use Rattle.clk_tree.specs.Plan.{Planned, Denotes}
 use Rattle.clk_tree.specs.Canonical.{canonical_text}
 use Rattle.clk_syntax.specs.Reading.{HasFault}
 use Rattle.clk_report.specs.VisitCsv.{visits_text}
-use Rattle.clk_packet.specs.Bytes.{OfBytes}
+use Rattle.clk_packet.specs.Bytes.{AppendsFront, OfBytes}
 use Rattle.clk_script.specs.Meaning.{MeansOver, MeansOverWith, ExplainsPlan}
 use Rattle.clk_command.specs.Running.{RunWrites, ExplainsRun}
 use Rattle.clk_command.specs.Words.{Task, builtin, check, script, run}
@@ -20,6 +21,12 @@ use Rattle.clk_command.specs.declared.builtin.TheConstants.{TEXT}
 -- The text of a tree, whose bytes these are, denotes the plan.
 abbrev pub IsPlanIn : Option (List ℕ) → List Planned → Type 0
 IsPlanIn tree plan = OfBytes tree (λ text. Denotes text plan)
+
+-- The text is the canonical text of the plan that the text of a tree denotes.
+pub record IsCanonicalOf (tree : Option (List ℕ)) (text : List ℕ) : Type 0 where
+  pub plan : List Planned
+  pub is_plan : IsPlanIn tree plan
+  pub canonical : text ≡ canonical_text plan
 
 -- Why reading a plan is refused with a fault: memory ran out, the source failed, or its text has the fault.
 abbrev pub ExplainsTree : Option (List ℕ) → Fault → Type 0
@@ -51,6 +58,17 @@ pub record ReportsWithVisits (tree trace : Option (List ℕ)) (pace : Pace) (tex
   pub reports : ReportsOver tree trace pace text
   pub csv : visits ≡ visits_text reports.logs
 
+-- What a call has written that writes a text and, after all of it, a visit file to a sink of its own, for which it takes memory: both where it
+-- succeeded. Where a sink failed, a front of the text and no visits, or the text and a front of the visits; where memory ran out nothing,
+-- or the text and a front of the visits; and at any other fault nothing.
+pub record WroteBoth {T : Type 0} (Means : List ℕ → List ℕ → Type 0) (old new : Option (List ℕ)) (result : Result T Fault) (visits_old visits_new : Option (List ℕ)) : Type 0 where
+  pub whole : OnOk result ((text : List ℕ) × (visits : List ℕ) × Means text visits × Appends old new text × Appends visits_old visits_new visits)
+  pub front : IsErrOf result Write → (text : List ℕ) × (visits : List ℕ) × Means text visits
+      × ((AppendsFront old new text × Keeps visits_old visits_new) ⊎ (Appends old new text × AppendsFront visits_old visits_new visits))
+  pub memory : IsErrOf result Memory → (Keeps old new × Keeps visits_old visits_new)
+      ⊎ ((text : List ℕ) × (visits : List ℕ) × Means text visits × Appends old new text × AppendsFront visits_old visits_new visits)
+  pub nothing : IfErr result (λ fault. fault ≢ Write → fault ≢ Memory → Keeps old new × Keeps visits_old visits_new)
+
 -- The text of the built-in tree.
 abbrev pub builtin_text : List ℕ
 builtin_text = TEXT.now
@@ -58,7 +76,7 @@ builtin_text = TEXT.now
 -- What was done for a task, where the standard input held these bytes: a text that it tells of was written. Files hold some bytes.
 abbrev pub Does : Task → Option (List ℕ) → (List ℕ → Type 0) → Type 0
 Does builtin input Written = (text : List ℕ) × WritesOver (Some builtin_text) input text × Written text
-Does (check tree) input Written = (plan : List Planned) × IsPlanIn None plan × Written (canonical_text plan)
+Does (check tree) input Written = (text : List ℕ) × IsCanonicalOf None text × Written text
 Does (script tree lines visits) input Written = (text : List ℕ) × WritesOver None None text × Written text
 Does (run tree trace step limit visits) input Written =
     (text : List ℕ) × (pace : Pace) × (pace.step ≡ step) × (pace.limit ≡ limit) × ReportsOver None None pace text × Written text

@@ -9,6 +9,7 @@ ghost use Rattle.clap.specs.declared.error.kind.ErrorKind.TheVariants.{OutOfMemo
 ghost use Rattle.clk_packet.specs.declared.fault.Fault.TheVariants.{Memory, Write};
 ghost use Rattle.clk_packet.specs.Bytes.{read_failures, write_failures};
 ghost use Rattle.clk_tree.specs.Plan.{Denotes};
+ghost use Rattle.clk_script.specs.Written.{WroteWhat};
 ghost use Rattle.clk_command.specs.Tasks.{Does, IsQuestion, IsMistake, WritesOver, ReportsOver, builtin_text};
 ghost use Rattle.clk_command.specs.Words.{program_words, task, task_in};
 
@@ -125,8 +126,7 @@ fn script_builtin<R: Source, W: Sink>(
     reader: &mut R,
     writer: &mut W,
 ) -> Result<(), Fault>
-    ensures written { OnOk result ((text : _) × WritesOver (Some builtin_text) (R.Source.remaining reader.old) text × Appends (W.Sink.taken writer.old) (W.Sink.taken writer.new) text) }
-    ensures nothing { IfErr result (λ fault. fault ≢ Write → Keeps (W.Sink.taken writer.old) (W.Sink.taken writer.new)) }
+    ensures wrote { WroteWhat (WritesOver (Some builtin_text) (R.Source.remaining reader.old)) result (W.Sink.taken writer.old) (W.Sink.taken writer.new) }
     ensures write_failures { W.Sink.failures writer.new ≡ write_failures result (W.Sink.failures writer.old) }
     ensures read_failures { (R.Source.failures reader.new ≡ R.Source.failures reader.old)
         ⊎ (R.Source.failures reader.new ≡ read_failures result (R.Source.failures reader.old)) }

@@ -1,8 +1,13 @@
-//! What words ask for, on examples: a function that does nothing and whose contract tells it.
+//! What words ask for, and what is written with visits, on examples: functions that do nothing and whose contracts tell it.
 
 ghost use Rattle.std.specs.Prelude.{◌≡◌, ◌∷◌, [], None, Some, codes};
 ghost use Rattle.clap.specs.Faults.{fault_of};
 ghost use Rattle.clap.specs.declared.error.kind.ErrorKind.TheVariants.{DisplayHelp, DisplayVersion, MissingRequiredArgument, ValueValidation, UnknownArgument, InvalidSubcommand};
+ghost use Rattle.clk_packet.specs.declared.fault.Fault.TheVariants.{Memory, Read, Write};
+ghost use Rattle.clk_packet.specs.Examples.{success};
+ghost use Rattle.clk_script.specs.Examples.{failed};
+ghost use Rattle.clk_command.specs.Examples.{IsOneByteEach};
+ghost use Rattle.clk_command.specs.Tasks.{WroteBoth};
 ghost use Rattle.clk_command.specs.Words.{program_words, task_in, builtin, check, script, run};
 
 /// What some words ask for, and which kinds of error come where they are wrong.
@@ -19,4 +24,13 @@ pub fn word_examples()
     ensures no_command { fault_of program_words (codes "frob" ∷ []) ≡ UnknownArgument ∷ InvalidSubcommand ∷ [] }
     ensures help { fault_of program_words (codes "--help" ∷ []) ≡ DisplayHelp ∷ [] }
     ensures version { fault_of program_words (codes "--version" ∷ []) ≡ DisplayVersion ∷ [] }
+{}
+
+/// How no task with visits ends, whose text and visit file have a byte each: it succeeds without its visits, these are written without the
+/// text where a sink failed or memory ran out, or the text is written at another fault.
+pub fn visits_examples()
+    ensures not_without_visits { ¬ (WroteBoth IsOneByteEach (Some []) (Some (65 ∷ [])) success (Some []) (Some [])) }
+    ensures not_visits_alone { ¬ (WroteBoth IsOneByteEach (Some []) (Some []) (failed Write) (Some []) (Some (66 ∷ []))) }
+    ensures not_visits_alone_without_memory { ¬ (WroteBoth IsOneByteEach (Some []) (Some []) (failed Memory) (Some []) (Some (66 ∷ []))) }
+    ensures not_at_another_fault { ¬ (WroteBoth IsOneByteEach (Some []) (Some (65 ∷ [])) (failed Read) (Some []) (Some [])) }
 {}

@@ -1,13 +1,11 @@
 //! What each command does, over what stands for its files: sources of a tree, and of a script or a trace, and a sink for the visits.
 
-ghost use Rattle.std.specs.Prelude.{◌≡◌, ◌≢◌, ◌+◌, ◌⊎◌, true, false, List, IfOk, IfErr, OnOk, IsErrOf};
-ghost use Rattle.std.specs.Io.KnownBytes.{Appends, Keeps};
-ghost use Rattle.clk_packet.specs.Bytes.{AppendsFront, Takes, read_failures, write_failures};
-ghost use Rattle.clk_packet.specs.declared.fault.Fault.TheVariants.{Memory, Write};
-ghost use Rattle.clk_tree.specs.Canonical.{canonical_text};
+ghost use Rattle.std.specs.Prelude.{◌≡◌, ◌≢◌, ◌+◌, ◌⊎◌, IfOk, IfErr};
+ghost use Rattle.clk_packet.specs.Bytes.{Takes, read_failures, write_failures};
+ghost use Rattle.clk_packet.specs.declared.fault.Fault.TheVariants.{Write};
 ghost use Rattle.clk_syntax.specs.Limits.{most_bytes};
-ghost use Rattle.clk_tree.specs.Plan.{Planned};
-ghost use Rattle.clk_command.specs.Tasks.{IsPlanIn, ExplainsTree, ExplainsScriptOver, ExplainsRunOver, WritesOver, WritesWithVisits, ReportsOver, ReportsWithVisits};
+ghost use Rattle.clk_script.specs.Written.{WroteWhat};
+ghost use Rattle.clk_command.specs.Tasks.{IsPlanIn, IsCanonicalOf, ExplainsTree, ExplainsScriptOver, ExplainsRunOver, WritesOver, WritesWithVisits, ReportsOver, ReportsWithVisits, WroteBoth};
 
 use crate::pace::Pace;
 use crate::running::run_trace;
@@ -46,11 +44,7 @@ pub fn check_tree<T: Source, W: Sink>(
     tree: &mut T,
     writer: &mut W,
 ) -> Result<(), Fault>
-    ensures written { OnOk result ((plan : List Planned) × IsPlanIn (T.Source.remaining tree.old) plan
-        × Appends (W.Sink.taken writer.old) (W.Sink.taken writer.new) (canonical_text plan)) }
-    ensures front { IsErrOf result Fault.Write → (plan : List Planned) × IsPlanIn (T.Source.remaining tree.old) plan
-        × AppendsFront (W.Sink.taken writer.old) (W.Sink.taken writer.new) (canonical_text plan) }
-    ensures nothing { IfErr result (λ fault. fault ≢ Write → Keeps (W.Sink.taken writer.old) (W.Sink.taken writer.new)) }
+    ensures wrote { WroteWhat (IsCanonicalOf (T.Source.remaining tree.old)) result (W.Sink.taken writer.old) (W.Sink.taken writer.new) }
     ensures fault { IfErr result (λ fault. (fault ≡ Write) ⊎ ExplainsTree (T.Source.remaining tree.old) fault) }
     ensures read_failures { T.Source.failures tree.new ≡ read_failures result (T.Source.failures tree.old) }
     ensures write_failures { W.Sink.failures writer.new ≡ write_failures result (W.Sink.failures writer.old) }
@@ -70,11 +64,8 @@ pub fn script_over<T: Source, S: Source, W: Sink>(
     script: &mut S,
     writer: &mut W,
 ) -> Result<(), Fault>
-    ensures written { OnOk result ((text : _) × WritesOver (T.Source.remaining tree.old) (S.Source.remaining script.old) text
-        × Appends (W.Sink.taken writer.old) (W.Sink.taken writer.new) text) }
-    ensures front { IsErrOf result Fault.Write → (text : _) × WritesOver (T.Source.remaining tree.old) (S.Source.remaining script.old) text
-        × AppendsFront (W.Sink.taken writer.old) (W.Sink.taken writer.new) text }
-    ensures nothing { IfErr result (λ fault. fault ≢ Write → Keeps (W.Sink.taken writer.old) (W.Sink.taken writer.new)) }
+    ensures wrote { WroteWhat (WritesOver (T.Source.remaining tree.old) (S.Source.remaining script.old))
+        result (W.Sink.taken writer.old) (W.Sink.taken writer.new) }
     ensures fault { IfErr result (ExplainsScriptOver (T.Source.remaining tree.old) (S.Source.remaining script.old)) }
     ensures write_failures { W.Sink.failures writer.new ≡ write_failures result (W.Sink.failures writer.old) }
 {
@@ -94,10 +85,8 @@ pub fn script_with_visits<T: Source, S: Source, W: Sink, V: Sink>(
     writer: &mut W,
     visits: &mut V,
 ) -> Result<(), Fault>
-    ensures written { OnOk result ((text : _) × (csv : _) × WritesWithVisits (T.Source.remaining tree.old) (S.Source.remaining script.old) text csv
-        × Appends (W.Sink.taken writer.old) (W.Sink.taken writer.new) text × Appends (V.Sink.taken visits.old) (V.Sink.taken visits.new) csv) }
-    ensures nothing { IfErr result (λ fault. fault ≢ Write → fault ≢ Memory → Keeps (W.Sink.taken writer.old) (W.Sink.taken writer.new)) }
-    ensures no_visits { IfErr result (λ fault. fault ≢ Write → fault ≢ Memory → Keeps (V.Sink.taken visits.old) (V.Sink.taken visits.new)) }
+    ensures wrote { WroteBoth (WritesWithVisits (T.Source.remaining tree.old) (S.Source.remaining script.old))
+        (W.Sink.taken writer.old) (W.Sink.taken writer.new) result (V.Sink.taken visits.old) (V.Sink.taken visits.new) }
     ensures fault { IfErr result (ExplainsScriptOver (T.Source.remaining tree.old) (S.Source.remaining script.old)) }
     ensures write_failures { ((W.Sink.failures writer.new ≡ write_failures result (W.Sink.failures writer.old)) × (V.Sink.failures visits.new ≡ V.Sink.failures visits.old))
         ⊎ ((W.Sink.failures writer.new ≡ W.Sink.failures writer.old) × (V.Sink.failures visits.new ≡ write_failures result (V.Sink.failures visits.old))) }
@@ -121,11 +110,8 @@ pub fn run_over<H: Threads + Wait, P: Wait + Sync, T: Source, S: Source, W: Sink
     writer: &mut W,
     pace: Pace,
 ) -> Result<(), Fault>
-    ensures written { OnOk result ((text : _) × ReportsOver (T.Source.remaining tree.old) (S.Source.remaining trace.old) pace text
-        × Appends (W.Sink.taken writer.old) (W.Sink.taken writer.new) text) }
-    ensures front { IsErrOf result Fault.Write → (text : _) × ReportsOver (T.Source.remaining tree.old) (S.Source.remaining trace.old) pace text
-        × AppendsFront (W.Sink.taken writer.old) (W.Sink.taken writer.new) text }
-    ensures nothing { IfErr result (λ fault. fault ≢ Write → Keeps (W.Sink.taken writer.old) (W.Sink.taken writer.new)) }
+    ensures wrote { WroteWhat (ReportsOver (T.Source.remaining tree.old) (S.Source.remaining trace.old) pace)
+        result (W.Sink.taken writer.old) (W.Sink.taken writer.new) }
     ensures fault { IfErr result (ExplainsRunOver (T.Source.remaining tree.old) (S.Source.remaining trace.old)) }
     ensures write_failures { W.Sink.failures writer.new ≡ write_failures result (W.Sink.failures writer.old) }
 {
@@ -149,10 +135,8 @@ pub fn run_with_visits<H: Threads + Wait, P: Wait + Sync, T: Source, S: Source, 
     pace: Pace,
     visits: &mut V,
 ) -> Result<(), Fault>
-    ensures written { OnOk result ((text : _) × (csv : _) × ReportsWithVisits (T.Source.remaining tree.old) (S.Source.remaining trace.old) pace text csv
-        × Appends (W.Sink.taken writer.old) (W.Sink.taken writer.new) text × Appends (V.Sink.taken visits.old) (V.Sink.taken visits.new) csv) }
-    ensures nothing { IfErr result (λ fault. fault ≢ Write → fault ≢ Memory → Keeps (W.Sink.taken writer.old) (W.Sink.taken writer.new)) }
-    ensures no_visits { IfErr result (λ fault. fault ≢ Write → fault ≢ Memory → Keeps (V.Sink.taken visits.old) (V.Sink.taken visits.new)) }
+    ensures wrote { WroteBoth (ReportsWithVisits (T.Source.remaining tree.old) (S.Source.remaining trace.old) pace)
+        (W.Sink.taken writer.old) (W.Sink.taken writer.new) result (V.Sink.taken visits.old) (V.Sink.taken visits.new) }
     ensures fault { IfErr result (ExplainsRunOver (T.Source.remaining tree.old) (S.Source.remaining trace.old)) }
     ensures write_failures { ((W.Sink.failures writer.new ≡ write_failures result (W.Sink.failures writer.old)) × (V.Sink.failures visits.new ≡ V.Sink.failures visits.old))
         ⊎ ((W.Sink.failures writer.new ≡ W.Sink.failures writer.old) × (V.Sink.failures visits.new ≡ write_failures result (V.Sink.failures visits.old))) }

@@ -1,12 +1,11 @@
 //! One trace, over a plan, with producers on threads.
 
-ghost use Rattle.std.specs.Prelude.{◌≡◌, ◌≢◌, ◌+◌, IfOk, IfErr, IsErrOf};
-ghost use Rattle.std.specs.Io.KnownBytes.{Appends, Keeps};
-ghost use Rattle.clk_packet.specs.Bytes.{AppendsFront, Takes, read_failures, write_failures};
+ghost use Rattle.std.specs.Prelude.{◌≡◌, ◌+◌, true, IfOk, IfErr};
+ghost use Rattle.clk_packet.specs.Bytes.{Takes, read_failures, write_failures};
 ghost use Rattle.clk_packet.specs.Trace.{most_trace_bytes};
-ghost use Rattle.clk_packet.specs.declared.fault.Fault.TheVariants.{Write};
 ghost use Rattle.clk_report.specs.Devices.{lists_of};
-ghost use Rattle.clk_command.specs.Running.{ExplainsRun, RunAnswers, RunWrites};
+ghost use Rattle.clk_script.specs.Written.{WroteWhat};
+ghost use Rattle.clk_command.specs.Running.{ExplainsRun, RunWrites};
 
 use crate::pace::Pace;
 use clk_drain::{Free, Outcome, run_with};
@@ -38,11 +37,9 @@ pub fn run_trace<H: Threads + Wait, P: Wait + Sync, R: Source, W: Sink>(
     pace: Pace,
     visits: bool,
 ) -> Result<Vec<Vec<Visit>>, Fault>
-    ensures written { IfOk result (λ logs. (text : _) × RunAnswers visits plan.now pace (R.Source.remaining trace.old) text (lists_of logs.items)
-        × Appends (W.Sink.taken writer.old) (W.Sink.taken writer.new) text) }
-    ensures front { IsErrOf result Fault.Write → (text : _) × (logs : _) × RunWrites plan.now pace (R.Source.remaining trace.old) text logs
-        × AppendsFront (W.Sink.taken writer.old) (W.Sink.taken writer.new) text }
-    ensures nothing { IfErr result (λ fault. fault ≢ Write → Keeps (W.Sink.taken writer.old) (W.Sink.taken writer.new)) }
+    ensures wrote { WroteWhat (λ text. (logs : _) × IfOk result (λ answer. visits ≡ true → lists_of answer.items ≡ logs)
+        × RunWrites plan.now pace (R.Source.remaining trace.old) text logs)
+        result (W.Sink.taken writer.old) (W.Sink.taken writer.new) }
 
     // Each fault has its cause.
     ensures fault { IfErr result (ExplainsRun plan.now (R.Source.remaining trace.old)) }

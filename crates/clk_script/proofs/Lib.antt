@@ -23,4 +23,5 @@ pub mod QueueCounts
 pub mod NeverShort
 pub mod PlanLemmas
 pub mod ScriptLemmas
+pub mod WrittenLemmas
 pub mod RefusalLemmas

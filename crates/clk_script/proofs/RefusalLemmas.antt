@@ -17,10 +17,11 @@ use Rattle.clk_script.specs.declared.script.Line.{Line}
 use Rattle.clk_script.specs.declared.script.Line.TheVariants as line
 use Rattle.clk_script.specs.Script.{Names, most_lines, command_fault, line_fault, fault_at, is_drain, first_fault, lines_of, script_fault, commands_of, closing_moment, most_bytes}
 use Rattle.clk_packet.specs.Bytes.{read_failures, write_failures, OfBytes}
-use Rattle.clk_script.specs.Meaning.{Setup, plan_setup, names_of, WritesWith, IsMeaning, MeansWith, MeansOver, MeansOverWith, Explains}
+use Rattle.clk_script.specs.Meaning.{Setup, plan_setup, names_of, WritesWith, MeansWith, MeansOver, MeansOverWith, Explains}
 use Rattle.clk_script.specs.declared.router.Router.{Router}
 use Rattle.clk_script.specs.inside.Router.{names_in, Starts}
 use Rattle.clk_script.proofs.AnswerLemmas.{names-its}
+use Rattle.clk_script.proofs.WrittenLemmas.{of-weaker}
 
 -- one byte past the limit is enough to tell what is wrong
 fault-cut : (names : Names) (all : List ℕ) → script_fault names (take (most_bytes + 1) all) ≡ script_fault names all
@@ -43,45 +44,31 @@ whole names all e = by_test (nat_lt most_bytes (length all)) refl
         absurd (cc)
     by_test false f = take_all 33554433 all (grind (arith, nat_tests))
 
--- what holds of bytes may be weakened
-of-weaker : (known : Option (List ℕ)) (P Q : List ℕ → Type 0) → ((bytes : List ℕ) → P bytes → Q bytes) → OfBytes known P → OfBytes known Q
-of-weaker None P Q weaker h = (h.0, weaker h.0 h.1)
-of-weaker (Some bytes) P Q weaker h = weaker bytes h
-
 -- the meaning over a setup of a script whose first bytes were read
-pub meaning-known : (setup : Setup) (router : Router) → Starts setup router → (known : Option (List ℕ)) (bytes text : List ℕ) (logs : List (List Visit)) (P : List ℕ → Type 0)
-    → IfSome known (λ all. bytes ≡ take (most_bytes + 1) all) → script_fault (names_in router) bytes ≡ None → WritesWith setup (commands_of bytes) (closing_moment bytes) text logs → P text
-    → OfBytes known (λ script. (t : List ℕ) × MeansWith setup script t logs × P t)
-meaning-known setup router starts None bytes text logs P is e w p =
+pub meaning-known : (setup : Setup) (router : Router) → Starts setup router → (known : Option (List ℕ)) (bytes text : List ℕ) (logs : List (List Visit)) → IfSome known (λ all. bytes ≡ take (most_bytes + 1) all)
+    → script_fault (names_in router) bytes ≡ None → WritesWith setup (commands_of bytes) (closing_moment bytes) text logs → OfBytes known (λ script. MeansWith setup script text logs)
+meaning-known setup router starts None bytes text logs is e w =
     let here : script_fault (names_of setup) bytes ≡ None = subst (λ names. script_fault names bytes ≡ None) (names-its setup [] router starts.leads) e in
-    (bytes, (text, record { sound = here; written = w }, p))
-meaning-known setup router starts (Some all) bytes text logs P is e w p =
+    (bytes, record { sound = here; written = w })
+meaning-known setup router starts (Some all) bytes text logs is e w =
     let here : script_fault (names_of setup) bytes ≡ None = subst (λ names. script_fault names bytes ≡ None) (names-its setup [] router starts.leads) e in
     let sound = rw is at here in
-    let all_of_it : bytes ≡ all = is ∙ whole (names_of setup) all sound in (
-      text,
-      record {
-        sound = sym (fault-cut (names_of setup) all) ∙ sound;
-        written = subst (λ (script : List ℕ). WritesWith setup (commands_of script) (closing_moment script) text logs) all_of_it w;
-      },
-      p,
-    )
-
--- what is known of a text and logs, of the text alone
-pub meaning-alone : (setup : Setup) (known : Option (List ℕ)) (logs : List (List Visit)) (P : List ℕ → Type 0) → OfBytes known (λ script. (t : List ℕ) × MeansWith setup script t logs × P t)
-    → OfBytes known (λ script. (t : List ℕ) × IsMeaning setup script t × P t)
-meaning-alone setup known logs P h = of-weaker known _ _ (λ script m. (m.0, record { sound = m.1.sound; written = m.1.written.writes }, m.2)) h
+    let all_of_it : bytes ≡ all = is ∙ whole (names_of setup) all sound in
+    record {
+      sound = sym (fault-cut (names_of setup) all) ∙ sound;
+      written = subst (λ (script : List ℕ). WritesWith setup (commands_of script) (closing_moment script) text logs) all_of_it w;
+    }
 
 -- the meaning over a plan
-pub meaning-over : (plan : List Planned) (trees : List Tree) (setup : Setup) → AreTreesOf plan trees → setup ≡ plan_setup trees plan → (known : Option (List ℕ)) (logs : List (List Visit)) (P : List ℕ → Type 0)
-    → OfBytes known (λ script. (t : List ℕ) × MeansWith setup script t logs × P t) → OfBytes known (λ script. (t : List ℕ) × MeansOverWith plan script t logs × P t)
-meaning-over plan trees setup are same known logs P h =
-    of-weaker known _ _ (λ script m. (m.0, record { trees = trees; are = are; means = subst (λ (s : Setup). MeansWith s script m.0 logs) same m.1 }, m.2)) h
+pub meaning-over : (plan : List Planned) (trees : List Tree) (setup : Setup) → AreTreesOf plan trees → setup ≡ plan_setup trees plan → (known : Option (List ℕ)) (text : List ℕ) (logs : List (List Visit))
+    → OfBytes known (λ script. MeansWith setup script text logs) → OfBytes known (λ script. MeansOverWith plan script text logs)
+meaning-over plan trees setup are same known text logs h =
+    of-weaker known _ _ (λ script m. record { trees = trees; are = are; means = subst (λ (s : Setup). MeansWith s script text logs) same m }) h
 
-pub meaning-over-alone : (plan : List Planned) (known : Option (List ℕ)) (logs : List (List Visit)) (P : List ℕ → Type 0) → OfBytes known (λ script. (t : List ℕ) × MeansOverWith plan script t logs × P t)
-    → OfBytes known (λ script. (t : List ℕ) × MeansOver plan script t × P t)
-meaning-over-alone plan known logs P h =
-    of-weaker known _ _ (λ script m. (m.0, record { trees = m.1.trees; are = m.1.are; means = record { sound = m.1.means.sound; written = m.1.means.written.writes } }, m.2)) h
+-- the same without the logs
+pub without-logs : (plan : List Planned) (known : Option (List ℕ)) (text : List ℕ) (logs : List (List Visit)) → OfBytes known (λ script. MeansOverWith plan script text logs) → OfBytes known (λ script. MeansOver plan script text)
+without-logs plan known text logs h =
+    of-weaker known _ _ (λ script m. record { trees = m.trees; are = m.are; means = record { sound = m.means.sound; written = m.means.written.writes } }) h
 
 -- the faults that a script may have
 abbrev IsOfScript : Fault → Type 0

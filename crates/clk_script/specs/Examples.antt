@@ -1,6 +1,7 @@
 -- Events that cannot happen and closings that are none, each but for one thing.
-use Rattle.std.specs.Prelude.{ℕ, List, [], ◌∷◌, Option, Some, None}
+use Rattle.std.specs.Prelude.{ℕ, List, [], ◌∷◌, Option, Some, None, Result, Err}
 use Rattle.std.proofs.Common.{lit≤}
+use Rattle.clk_packet.specs.declared.fault.Fault.{Fault}
 use Rattle.clk_packet.specs.declared.packet.Packet.{Packet}
 use Rattle.clk_packet.specs.declared.packet.Kind.TheVariants.{TailDrop}
 use Rattle.clk_packet.specs.declared.packet.Offered.TheVariants.{Accepted, Refused}
@@ -118,3 +119,7 @@ closed_last_first = pulled 1 5 (asking 0 5 0 0 (Some p1_0) ∷ []) ∷ pulled 0 
 
 abbrev pub closed_on : List Event
 closed_on = pulled 0 5 (asking 0 5 0 0 (Some p0_0) ∷ []) ∷ pulled 1 6 (asking 0 6 0 0 (Some p1_0) ∷ []) ∷ []
+
+-- a call fails
+abbrev pub failed : Fault → Result (Unit {0}) Fault
+failed fault = Err fault

@@ -1,5 +1,6 @@
 -- What a script and its answer are.
 pub mod Script
+pub mod Written
 pub mod Meaning
 pub mod OneMeaning
 pub mod OneDevice

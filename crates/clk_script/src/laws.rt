@@ -2,13 +2,15 @@
 
 ghost use Rattle.std.specs.Prelude.{◌≡◌, ℕ, List, [], ◌∷◌, Some, codes};
 ghost use Rattle.clk_packet.specs.Bytes.{Takes, AppendsFront};
-ghost use Rattle.clk_packet.specs.declared.fault.Fault.TheVariants.{TooLarge};
+ghost use Rattle.clk_packet.specs.declared.fault.Fault.TheVariants.{Memory, TooLarge, Write};
+ghost use Rattle.clk_packet.specs.Examples.{text, first_byte, second_byte, success};
 ghost use Rattle.clk_sched.specs.Tree.{Tree};
 ghost use Rattle.clk_tree.specs.Shares.{AreTreesOf};
+ghost use Rattle.clk_script.specs.Written.{WroteWhat};
 ghost use Rattle.clk_script.specs.Meaning.{CanHappen, Closes, CloseFirst, IsMeaning, MeansOver, Explains, ExplainsPlan, plan_setup};
 ghost use Rattle.clk_script.specs.OneMeaning.{IsWired, IsApart, HasAtMostOneMeaning, DevicesAreApart};
 ghost use Rattle.clk_script.specs.OneDevice.{HasOneDevice, IsMeaningAlone};
-ghost use Rattle.clk_script.specs.Examples.{two_queues, two_devices, shaped, moment_not_counted, moment_ahead, second_first, number_left_out, refused_early, never_sent, other_refused, swapped, moment_shared, no_device, one_left, closed_at_once, closed_without_a_pull, closed_a_tick_early, closed_a_pull_late, one_at_each, closed_in_turn, closed_last_first, closed_on};
+ghost use Rattle.clk_script.specs.Examples.{two_queues, two_devices, shaped, moment_not_counted, moment_ahead, second_first, number_left_out, refused_early, never_sent, other_refused, swapped, moment_shared, no_device, one_left, closed_at_once, closed_without_a_pull, closed_a_tick_early, closed_a_pull_late, one_at_each, closed_in_turn, closed_last_first, closed_on, failed};
 
 use clk_ring::histories_leave_no_choice;
 use clk_sched::{runs_go_on, runs_leave_no_choice};
@@ -95,10 +97,14 @@ pub fn closing_examples()
 {}
 
 /// What the words of `run_script`'s contract don't let through: more bytes read than the limit, bytes written that are no
-/// front of the text, and a fault of another script.
+/// front of the text, a text that is cut short where the call succeeds, whose end alone is written where the sink fails, or of which
+/// anything is written at another fault, and a fault of another script.
 pub fn word_examples()
     ensures not_taken { ¬ (Takes 1 (Some (65 ∷ 66 ∷ [])) (Some [])) }
     ensures not_front { ¬ (AppendsFront (Some []) (Some (66 ∷ [])) (65 ∷ 66 ∷ [])) }
+    ensures not_cut_in_success { ¬ (WroteWhat (λ written. written ≡ text) success (Some []) (Some first_byte)) }
+    ensures not_end_alone { ¬ (WroteWhat (λ written. written ≡ text) (failed Write) (Some []) (Some second_byte)) }
+    ensures not_at_another_fault { ¬ (WroteWhat (λ written. written ≡ text) (failed Memory) (Some []) (Some first_byte)) }
     ensures not_too_large { ¬ (Explains two_queues (Some (codes "pull 0\n")) TooLarge) }
     ensures not_too_large_over_a_plan { (plan : _) → ¬ (ExplainsPlan plan (Some (codes "pull 0\n")) TooLarge) }
 {}

@@ -1,10 +1,9 @@
 //! One script, over a plan.
 
-ghost use Rattle.std.specs.Prelude.{◌≡◌, ◌≢◌, ◌≤◌, ◌+◌, ◌++◌, ◌∷◌, [], true, map, length, IfOk, IfErr, OnOk, IsErrOf, IsOkUnless};
+ghost use Rattle.std.specs.Prelude.{◌≡◌, ◌≤◌, ◌+◌, map, length, IfOk, IfErr, IsOkUnless};
 ghost use Rattle.std.specs.List.{AllByRecursion};
-ghost use Rattle.std.specs.Io.KnownBytes.{Appends, Keeps};
-ghost use Rattle.clk_packet.specs.Bytes.{Takes, AppendsFront, Wrote, read_failures, write_failures, OfBytes};
-ghost use Rattle.clk_packet.specs.declared.fault.Fault.TheVariants.{Memory, Write};
+ghost use Rattle.clk_packet.specs.Bytes.{Takes, read_failures, write_failures, OfBytes};
+ghost use Rattle.clk_packet.specs.declared.fault.Fault.TheVariants.{Memory};
 ghost use Rattle.clk_packet.specs.Limits.{most_elements};
 ghost use Rattle.clk_tree.specs.PlanParts.{queued, HasCapacity};
 ghost use Rattle.clk_tree.specs.Shares.{AreTreesOf};
@@ -12,7 +11,8 @@ ghost use Rattle.clk_report.specs.Devices.{lists_of};
 ghost use Rattle.clk_script.specs.inside.Router.{CanStand, IsWhole, AreLogs};
 ghost use Rattle.clk_script.specs.inside.Closable.{IsClosable};
 ghost use Rattle.clk_script.specs.Script.{most_bytes};
-ghost use Rattle.clk_script.specs.Meaning.{IsMeaning, MeansWith, Explains, setup_of, MeansOver, MeansOverWith, ExplainsPlan};
+ghost use Rattle.clk_script.specs.Written.{WroteWhat};
+ghost use Rattle.clk_script.specs.Meaning.{MeansWith, Explains, setup_of, MeansOver, MeansOverWith, ExplainsPlan};
 
 use crate::answer::answer_script;
 use crate::limits::MAX_BYTES;
@@ -39,11 +39,8 @@ pub fn run_script<R: Source, W: Sink>(
     writer: &mut W,
     plan: &Plan,
 ) -> Result<(), Fault>
-    ensures written { OnOk result (OfBytes (R.Source.remaining reader.old) (λ script.
-        (text : _) × MeansOver plan.now script text × Appends (W.Sink.taken writer.old) (W.Sink.taken writer.new) text)) }
-    ensures front { IsErrOf result Fault.Write → OfBytes (R.Source.remaining reader.old) (λ script.
-        (text : _) × MeansOver plan.now script text × AppendsFront (W.Sink.taken writer.old) (W.Sink.taken writer.new) text) }
-    ensures nothing { IfErr result (λ fault. fault ≢ Write → Keeps (W.Sink.taken writer.old) (W.Sink.taken writer.new)) }
+    ensures wrote { WroteWhat (λ text. OfBytes (R.Source.remaining reader.old) (λ script. MeansOver plan.now script text))
+        result (W.Sink.taken writer.old) (W.Sink.taken writer.new) }
 
     // Each fault has its cause.
     ensures fault { IfErr result (ExplainsPlan plan.now (R.Source.remaining reader.old)) }
@@ -64,11 +61,9 @@ pub fn run_script_logged<R: Source, W: Sink>(
     writer: &mut W,
     plan: &Plan,
 ) -> Result<Vec<Vec<Visit>>, Fault>
-    ensures written { IfOk result (λ logs. OfBytes (R.Source.remaining reader.old) (λ script.
-        (text : _) × MeansOverWith plan.now script text (lists_of logs.items) × Appends (W.Sink.taken writer.old) (W.Sink.taken writer.new) text)) }
-    ensures front { IsErrOf result Fault.Write → OfBytes (R.Source.remaining reader.old) (λ script.
-        (text : _) × MeansOver plan.now script text × AppendsFront (W.Sink.taken writer.old) (W.Sink.taken writer.new) text) }
-    ensures nothing { IfErr result (λ fault. fault ≢ Write → Keeps (W.Sink.taken writer.old) (W.Sink.taken writer.new)) }
+    ensures wrote { WroteWhat (λ text. (logs : _) × IfOk result (λ answer. lists_of answer.items ≡ logs)
+        × OfBytes (R.Source.remaining reader.old) (λ script. MeansOverWith plan.now script text logs))
+        result (W.Sink.taken writer.old) (W.Sink.taken writer.new) }
     ensures fault { IfErr result (ExplainsPlan plan.now (R.Source.remaining reader.old)) }
     ensures read_failures { R.Source.failures reader.new ≡ read_failures result (R.Source.failures reader.old) }
     ensures write_failures { W.Sink.failures writer.new ≡ write_failures result (W.Sink.failures writer.old) }
@@ -85,11 +80,9 @@ fn run_plan<R: Source, W: Sink>(
     plan: &Plan,
     visits: bool,
 ) -> Result<Past, Fault>
-    ensures written { IfOk result (λ past. (logs : _) × AreLogs visits past logs × OfBytes (R.Source.remaining reader.old) (λ script.
-        (text : _) × MeansOverWith plan.now script text logs × Appends (W.Sink.taken writer.old) (W.Sink.taken writer.new) text)) }
-    ensures front { IsErrOf result Fault.Write → OfBytes (R.Source.remaining reader.old) (λ script.
-        (text : _) × MeansOver plan.now script text × AppendsFront (W.Sink.taken writer.old) (W.Sink.taken writer.new) text) }
-    ensures nothing { IfErr result (λ fault. fault ≢ Write → Keeps (W.Sink.taken writer.old) (W.Sink.taken writer.new)) }
+    ensures wrote { WroteWhat (λ text. (logs : _) × IfOk result (λ past. AreLogs visits past logs)
+        × OfBytes (R.Source.remaining reader.old) (λ script. MeansOverWith plan.now script text logs))
+        result (W.Sink.taken writer.old) (W.Sink.taken writer.new) }
     ensures fault { IfErr result (ExplainsPlan plan.now (R.Source.remaining reader.old)) }
     ensures read_failures { R.Source.failures reader.new ≡ read_failures result (R.Source.failures reader.old) }
     ensures write_failures { W.Sink.failures writer.new ≡ write_failures result (W.Sink.failures writer.old) }
@@ -135,11 +128,9 @@ fn run_parts<R: Source, W: Sink>(
     requires capacities { AllByRecursion HasCapacity (map queued queues.now) }
     requires whole { IsWhole (setup_of trees.items (map queued queues.now) senders.now) }
     requires closable { IsClosable (setup_of trees.items (map queued queues.now) senders.now) }
-    ensures written { IfOk result (λ past. (logs : _) × AreLogs visits past logs × OfBytes (R.Source.remaining reader.old) (λ script.
-        (text : _) × MeansWith (setup_of trees.items (map queued queues.now) senders.now) script text logs × Appends (W.Sink.taken writer.old) (W.Sink.taken writer.new) text)) }
-    ensures front { IsErrOf result Fault.Write → OfBytes (R.Source.remaining reader.old) (λ script.
-        (text : _) × IsMeaning (setup_of trees.items (map queued queues.now) senders.now) script text × AppendsFront (W.Sink.taken writer.old) (W.Sink.taken writer.new) text) }
-    ensures nothing { IfErr result (λ fault. fault ≢ Write → Keeps (W.Sink.taken writer.old) (W.Sink.taken writer.new)) }
+    ensures wrote { WroteWhat (λ text. (logs : _) × IfOk result (λ past. AreLogs visits past logs)
+        × OfBytes (R.Source.remaining reader.old) (λ script. MeansWith (setup_of trees.items (map queued queues.now) senders.now) script text logs))
+        result (W.Sink.taken writer.old) (W.Sink.taken writer.new) }
     ensures fault { IfErr result (Explains (setup_of trees.items (map queued queues.now) senders.now) (R.Source.remaining reader.old)) }
     ensures read_failures { R.Source.failures reader.new ≡ read_failures result (R.Source.failures reader.old) }
     ensures write_failures { W.Sink.failures writer.new ≡ write_failures result (W.Sink.failures writer.old) }

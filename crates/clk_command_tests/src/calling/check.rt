@@ -1,9 +1,8 @@
 //! A text of a tree that stands in memory, checked.
 
-ghost use Rattle.std.specs.Prelude.{List, OnOk};
-ghost use Rattle.std.specs.Io.KnownBytes.{Appends};
-ghost use Rattle.clk_tree.specs.Canonical.{canonical_text};
-ghost use Rattle.clk_tree.specs.Plan.{Denotes, Planned};
+ghost use Rattle.std.specs.Prelude.{Some};
+ghost use Rattle.clk_script.specs.Written.{WroteWhat};
+ghost use Rattle.clk_command.specs.Tasks.{IsCanonicalOf};
 
 use clk_command::check_tree;
 use clk_packet::{Fault, FromRead, Sink};
@@ -11,7 +10,7 @@ use std::alloc::Global;
 
 /// Checks a tree text that stands in memory, as the words `check TREE` check a file, and writes the canonical text of the plan that it denotes.
 pub fn check_text<W: Sink>(alloc: Global, tree: &[u8], writer: &mut W) -> Result<(), Fault>
-    ensures { OnOk result ((plan : List Planned) × Denotes tree.now plan × Appends (W.Sink.taken writer.old) (W.Sink.taken writer.new) (canonical_text plan)) }
+    ensures { WroteWhat (IsCanonicalOf (Some tree.now)) result (W.Sink.taken writer.old) (W.Sink.taken writer.new) }
 {
     check_tree(alloc, &mut FromRead::new(tree), writer)
 }

@@ -1,5 +1,6 @@
-use Rattle.clk_command.proofs.TaskLemmas.{does-run, ok-weaker}
+use Rattle.std.proofs.lemmas.Result.{on_ok_weaker}
+use Rattle.clk_command.proofs.TaskLemmas.{does-run}
 use Rattle.clk_command.proofs.commands.perform.Goals as goal
 
 pub returns-in-Run-clause-done : goal.returns-in-Run-clause-done
-returns-in-Run-clause-done g c = ok-weaker c.run_files.result (λ h. does-run _ _ _ _ _ _ _ c.in-Run.is h) c.run_files.ensures.written
+returns-in-Run-clause-done g c = on_ok_weaker c.run_files.result (λ h. does-run _ _ _ _ _ _ _ c.in-Run.is h) c.run_files.ensures.written

@@ -1,11 +1,7 @@
-use Rattle.std.proofs.Common.{◌∙◌, List, ℕ, subst}
-use Rattle.clk_packet.specs.Bytes.{AppendsFront}
+use Rattle.std.proofs.Common.{◌∙◌}
+use Rattle.clk_script.proofs.WrittenLemmas.{wrote-so}
 use Rattle.clk_command.proofs.over.check_tree.Goals as goal
 
-pub returns-clause-front : goal.returns-clause-front
-returns-clause-front g c = λ failed.
-    let front = rw failed at c.write_all.ensures.front in (
-      c.in_ok-read_plan.field-0,
-      c.in_ok-read_plan.ensures.plan,
-      subst (λ (text : List ℕ). AppendsFront (g.W.Sink.taken c.args.writer.now) (g.W.Sink.taken c.write_all.new.writer) text) (c.deref.ensures.value ∙ c.in_ok-text.ensures.text) front,
-    )
+pub returns-clause-wrote : goal.returns-clause-wrote
+returns-clause-wrote g c =
+    wrote-so _ _ _ _ _ _ _ (record { plan = c.in_ok-read_plan.field-0; is_plan = c.in_ok-read_plan.ensures.plan; canonical = c.deref.ensures.value ∙ c.in_ok-text.ensures.text }) c.write_all.ensures
