@@ -7,7 +7,7 @@ use Rattle.std.proofs.lemmas.List.{take_all, length-take}
 use Rattle.clk_packet.specs.declared.fault.Fault.{Fault}
 use Rattle.clk_packet.specs.declared.fault.Fault.TheVariants.{Memory, TooLarge, Write}
 use Rattle.clk_syntax.specs.Faults.{text_fault}
-use Rattle.clk_syntax.specs.Limits.{most_bytes}
+use Rattle.clk_syntax.specs.Limits.{most_tree_bytes}
 use Rattle.clk_tree.specs.Plan.{Planned, Denotes}
 use Rattle.clk_syntax.specs.Reading.{HasFault}
 use Rattle.clk_packet.specs.Bytes.{AppendsFront}
@@ -21,40 +21,40 @@ use Rattle.clk_command.specs.declared.words.Asked.TheVariants.{Run}
 use Rattle.std.specs.Borrow.{Bor}
 
 -- a text without a fault of its own isn't too long
-short : (text : List ℕ) → text_fault text ≡ None → nat_lt most_bytes (length text) ≡ false
-short text e = by_test (nat_lt most_bytes (length text)) refl
+short : (text : List ℕ) → text_fault text ≡ None → nat_lt most_tree_bytes (length text) ≡ false
+short text e = by_test (nat_lt most_tree_bytes (length text)) refl
   where
-    by_test : (b : Bool) → nat_lt most_bytes (length text) ≡ b → nat_lt most_bytes (length text) ≡ false
+    by_test : (b : Bool) → nat_lt most_tree_bytes (length text) ≡ b → nat_lt most_tree_bytes (length text) ≡ false
     by_test true t =
         let too_large : text_fault text ≡ Some TooLarge = rw t refl in
         absurd (cc)
     by_test false t = t
 
 -- one byte past the limit tells that a text is too long
-cut-long : (all : List ℕ) → nat_lt most_bytes (length all) ≡ true → nat_lt most_bytes (length (take (most_bytes + 1) all)) ≡ true
+cut-long : (all : List ℕ) → nat_lt most_tree_bytes (length all) ≡ true → nat_lt most_tree_bytes (length (take (most_tree_bytes + 1) all)) ≡ true
 cut-long all e = rw length-take (grind (arith, nat_tests))
 
 -- a text that isn't too long is read whole
-whole : (all : List ℕ) → nat_lt most_bytes (length (take (most_bytes + 1) all)) ≡ false → take (most_bytes + 1) all ≡ all
-whole all e = by_test (nat_lt most_bytes (length all)) refl
+whole : (all : List ℕ) → nat_lt most_tree_bytes (length (take (most_tree_bytes + 1) all)) ≡ false → take (most_tree_bytes + 1) all ≡ all
+whole all e = by_test (nat_lt most_tree_bytes (length all)) refl
   where
-    by_test : (b : Bool) → nat_lt most_bytes (length all) ≡ b → take (most_bytes + 1) all ≡ all
+    by_test : (b : Bool) → nat_lt most_tree_bytes (length all) ≡ b → take (most_tree_bytes + 1) all ≡ all
     by_test true t = let long = cut-long all t in absurd (cc)
     by_test false t = take_all 1048577 all (grind (arith, nat_tests))
 
 -- the plan that the first bytes of a text denote
-pub plan-read : (known : Option (List ℕ)) (bytes : List ℕ) (plan : List Planned) → IfSome known (λ all. bytes ≡ take (most_bytes + 1) all) → Denotes bytes plan → IsPlanIn known plan
+pub plan-read : (known : Option (List ℕ)) (bytes : List ℕ) (plan : List Planned) → IfSome known (λ all. bytes ≡ take (most_tree_bytes + 1) all) → Denotes bytes plan → IsPlanIn known plan
 plan-read None bytes plan is denotes = (bytes, denotes)
 plan-read (Some all) bytes plan is denotes =
     let read = rw is at (short bytes denotes.faultless.short_and_right) in
     subst (λ (text : List ℕ). Denotes text plan) (is ∙ whole all read) denotes
 
 -- the fault that they have
-pub fault-read : (known : Option (List ℕ)) (bytes : List ℕ) (fault : Fault) → IfSome known (λ all. bytes ≡ take (most_bytes + 1) all) → HasFault bytes fault → IfSome known (λ all. HasFault all fault)
+pub fault-read : (known : Option (List ℕ)) (bytes : List ℕ) (fault : Fault) → IfSome known (λ all. bytes ≡ take (most_tree_bytes + 1) all) → HasFault bytes fault → IfSome known (λ all. HasFault all fault)
 fault-read None bytes fault is has = tt
-fault-read (Some all) bytes fault is has = by_test (nat_lt most_bytes (length all)) refl has
+fault-read (Some all) bytes fault is has = by_test (nat_lt most_tree_bytes (length all)) refl has
   where
-    by_test : (b : Bool) → nat_lt most_bytes (length all) ≡ b → HasFault bytes fault → HasFault all fault
+    by_test : (b : Bool) → nat_lt most_tree_bytes (length all) ≡ b → HasFault bytes fault → HasFault all fault
     by_test true t (inl e) =
         let long = cut-long all t in
         let cut : text_fault bytes ≡ Some TooLarge = rw (is, long) refl in

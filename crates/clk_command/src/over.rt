@@ -3,7 +3,7 @@
 ghost use Rattle.std.specs.Prelude.{◌≡◌, ◌≢◌, ◌+◌, ◌⊎◌, IfOk, IfErr};
 ghost use Rattle.clk_packet.specs.Bytes.{Takes, read_failures, write_failures};
 ghost use Rattle.clk_packet.specs.declared.fault.Fault.TheVariants.{Write};
-ghost use Rattle.clk_syntax.specs.Limits.{most_bytes};
+ghost use Rattle.clk_syntax.specs.Limits.{most_tree_bytes};
 ghost use Rattle.clk_script.specs.Written.{WroteWhat};
 ghost use Rattle.clk_command.specs.Tasks.{IsPlanIn, IsCanonicalOf, ExplainsTree, ExplainsScriptOver, ExplainsRunOver, WritesOver, WritesWithVisits, ReportsOver, ReportsWithVisits, WroteBoth};
 
@@ -28,7 +28,7 @@ pub fn read_plan<T: Source>(alloc: Global, tree: &mut T) -> Result<Plan, Fault>
     ensures fault { IfErr result (ExplainsTree (T.Source.remaining tree.old)) }
     ensures failures { T.Source.failures tree.new ≡ read_failures result (T.Source.failures tree.old) }
     ensures not_write { IfErr result (λ fault. fault ≢ Write) }
-    ensures limit { Takes (most_bytes + 1) (T.Source.remaining tree.old) (T.Source.remaining tree.new) }
+    ensures limit { Takes (most_tree_bytes + 1) (T.Source.remaining tree.old) (T.Source.remaining tree.new) }
 {
     let text = read_up_to(alloc, tree, MAX_TREE_BYTES + 1)?;
     Plan::read(alloc, &text)

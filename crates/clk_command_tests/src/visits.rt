@@ -99,24 +99,37 @@ pub fn read_back(rt: &(impl Files + AllocGlobal + Abort), path: &str) -> Vec<Num
     for row in Reader::from_reader(alloc, text.as_slice()).records() {
         let row = row.expect(rt, "a row");
         assert_eq!(rt; row.len(), 9);
-        rows.push(numbers_of(&row)).expect(rt, "ample memory");
+        let numbers = numbers_of(rt, &row);
+        let [pull, node, input, fresh, .., passed, moment] = numbers;
+        for number in [pull, node, input, fresh, passed, moment] {
+            assert!(rt; number.is_some());
+        }
+        rows.push(numbers).expect(rt, "ample memory");
     }
     rows
 }
 
-fn numbers_of(row: &StringRecord) -> Numbers {
-    let number = |place: usize| -> Option<u64> { row.get(place)?.parse().ok() };
+fn numbers_of(rt: &impl Abort, row: &StringRecord) -> Numbers {
     [
-        number(0),
-        number(1),
-        number(2),
-        number(3),
-        number(4),
-        number(5),
-        number(6),
-        number(7),
-        number(8),
+        number(rt, row, 0),
+        number(rt, row, 1),
+        number(rt, row, 2),
+        number(rt, row, 3),
+        number(rt, row, 4),
+        number(rt, row, 5),
+        number(rt, row, 6),
+        number(rt, row, 7),
+        number(rt, row, 8),
     ]
+}
+
+// The number in a field of a row, or None where the field is empty.
+fn number(rt: &impl Abort, row: &StringRecord, place: usize) -> Option<u64> {
+    let field = row.get(place).expect(rt, "a field");
+    match field {
+        "" => None,
+        _ => Some(field.parse().expect(rt, "a number")),
+    }
 }
 
 /// The row that shows a visit.

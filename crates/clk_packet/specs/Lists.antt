@@ -1,4 +1,4 @@
--- What lists have, and lists of packets.
+-- Members of lists, and the packets of a sender.
 use Rattle.std.specs.Prelude.{◌≡◌, ◌⊎◌, ℕ, ◌==◌, List, [], ◌∷◌, filter}
 use Rattle.clk_packet.specs.declared.packet.Packet.{Packet}
 

@@ -35,7 +35,7 @@ asked_pull input [] = None
 asked_pull input (v ∷ earlier) = if asks input v then Some v.pull else asked_pull input earlier
 
 -- The queue from which came what a node got when it asked at an input last, of its visits with the latest first, by where
--- came what was got there in a pull. Then it got what it holds of that input, and what it passes from there.
+-- came what was got there in a pull. What it holds of that input, and what it passes from there, it got then.
 abbrev pub latest_origin : (ℕ → Option ℕ) → ℕ → List Visit → Option ℕ
 latest_origin origin input latest_first = option_and_then origin (asked_pull input latest_first)
 
@@ -46,8 +46,8 @@ passed_origin origin k visits =
     option_and_then (λ input. latest_origin (origin input) input (up_to k (reverse visits))) (passed_input (in_pull k visits))
 
 -- The queue from which came what was got in pull k at an input, in a row whose inputs are counted from 0 and whose
--- schedulers are numbered from `next` on: the queue there, or that of what the scheduler there passed. None where nothing
--- stands at such an input, and where the scheduler passed nothing.
+-- schedulers are numbered from `next` on: the queue there, whether it gave a packet or not, or that of what the scheduler there
+-- passed. None where nothing stands at such an input, and where the scheduler passed nothing.
 abbrev pub origin_in : List Visit → ℕ → Row → ℕ → ℕ → Option ℕ
 origin_in log next end input k = None
 origin_in log next (leaf q row) zero k = Some q

@@ -1,10 +1,11 @@
 //! What the definitions say of worked examples: which logs are runs and which are none, what went in and came out, and what a
 //! session's pull and its drain are. Each function does nothing.
 
-ghost use Rattle.std.specs.Prelude.{◌≡◌, List, [], ◌∷◌, map, reverse, Some, None};
+ghost use Rattle.std.specs.Prelude.{◌≡◌, [], ◌∷◌, map, reverse, take, Some, None};
 ghost use Rattle.clk_sched.specs.Tree.{root};
 ghost use Rattle.clk_sched.specs.Log.{visits_of, in_pull};
 ghost use Rattle.clk_sched.specs.Run.{IsRun};
+ghost use Rattle.clk_sched.specs.Laws.Deficit.{IsDeficit};
 ghost use Rattle.clk_sched.specs.Results.{Traced, emitted, heads, leaf_packets, up_to, passed_input, asked_pull, origin_in, traced_emitted, traced_heads};
 ghost use Rattle.clk_sched.specs.Conservation.{IsConserved};
 ghost use Rattle.clk_sched.specs.Bound.{closing_bound};
@@ -62,13 +63,17 @@ pub fn round_robin_examples()
     ensures not_round_robin_asks_beside { ¬ (IsRun none_keeps_beginning_tree round_robin_asks_beside) }
 {}
 
-/// Which logs of worked examples of a DRRSched are runs.
+/// Which logs of worked examples of a DRRSched are runs, and what its deficits are in one.
 pub fn deficit_examples()
     ensures is_two_deficits { IsRun two_deficits_tree two_deficits }
     ensures is_held_at_close { IsRun held_at_close_tree held_at_close }
     ensures is_nested { IsRun nested_tree nested }
     ensures is_head_below { IsRun head_below_tree head_below }
     ensures is_own_quanta { IsRun own_quanta_tree own_quanta }
+    ensures first_deficit { IsDeficit (500 ∷ 500 ∷ []) [] 0 500 }
+    ensures deficit_of_two_arrivals { IsDeficit (500 ∷ 500 ∷ []) (reverse (take 4 (visits_of 1 two_deficits))) 0 1000 }
+    ensures deficit_left_over { IsDeficit (500 ∷ 500 ∷ []) (reverse (take 5 (visits_of 1 two_deficits))) 0 400 }
+    ensures deficit_lost { IsDeficit (500 ∷ 500 ∷ []) (reverse (take 6 (visits_of 1 two_deficits))) 1 500 }
     ensures not_deficit_kept { ¬ (IsRun nested_tree deficit_kept) }
     ensures not_asks_over_head { ¬ (IsRun held_at_close_tree asks_over_head) }
     ensures not_visits_twice { ¬ (IsRun held_at_close_tree visits_twice) }

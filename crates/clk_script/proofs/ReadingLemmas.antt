@@ -14,7 +14,7 @@ use Rattle.clk_script.specs.declared.script.Line.TheVariants as line
 use Rattle.clk_script.specs.declared.rows.Row.{Row}
 use Rattle.clk_script.specs.declared.rows.Row.TheVariants as row
 use Rattle.clk_script.specs.declared.reading.Script.{Script}
-use Rattle.clk_script.specs.Script.{Names, lines_of, command_in, commands_of, drain_in, is_drain, closing_moment, line_fault, fault_at, first_fault, script_fault, most_bytes, most_lines}
+use Rattle.clk_script.specs.Script.{Names, lines_of, command_in, commands_of, drain_in, is_drain, closing_moment, line_fault, fault_at, first_fault, script_fault, most_script_bytes, most_lines}
 use Rattle.clk_script.specs.inside.Router.{IsReadable, IsSound}
 use Rattle.clk_script.specs.inside.Rows.{command_asked, asked_by, asked_in, IsToDo, IsReadFrom, CanBeRun}
 use Rattle.clk_script.proofs.ScriptLemmas.{readable-first, readable-drain, readable-commands, each-command-sound}
@@ -120,19 +120,19 @@ HasRead-line names text rest after l number before rows h e sound undrained more
     at_most (Some command) = omega arith
 
 -- what is wrong with what is left is wrong with the script
-fault-whole : (names : Names) (text rest : List ℕ) (drained : Bool) (n : ℕ) (o : Option Fault) → length text ≤ most_bytes → fault_from names drained n rest ≡ fault_from names false 1 text
+fault-whole : (names : Names) (text rest : List ℕ) (drained : Bool) (n : ℕ) (o : Option Fault) → length text ≤ most_script_bytes → fault_from names drained n rest ≡ fault_from names false 1 text
     → fault_from names drained n rest ≡ o → script_fault names text ≡ o
 fault-whole names text rest drained n o small e f =
-    let no : nat_lt most_bytes (length text) ≡ false = grind (arith, nat_tests) in
+    let no : nat_lt most_script_bytes (length text) ≡ false = grind (arith, nat_tests) in
     rw no (sym e ∙ f)
 
 -- the first line that has a fault decides
-pub line-refused : (names : Names) (text rest after : List ℕ) (l : Line) (number : ℕ) (rows : List Row) (fault : Fault) → length text ≤ most_bytes → HasRead names text rest number rows → lines_of rest ≡ l ∷ lines_of after
+pub line-refused : (names : Names) (text rest after : List ℕ) (l : Line) (number : ℕ) (rows : List Row) (fault : Fault) → length text ≤ most_script_bytes → HasRead names text rest number rows → lines_of rest ≡ l ∷ lines_of after
     → (fault ≡ Memory) ⊎ (fault_at names false (number + 1) l ≡ Some fault) → (fault ≡ Memory) ⊎ (script_fault names text ≡ Some fault)
 line-refused names text rest after l number rows fault small h e (inl memory) = inl memory
 line-refused names text rest after l number rows fault small h e (inr is) = inr (fault-whole names text rest false (number + 1) (Some fault) small h.fault (rw (e, is) refl))
 
-pub later-refused : (names : Names) (text rest after : List ℕ) (l : Line) (number moment : ℕ) (rows : List Row) (o : Option Fault) → length text ≤ most_bytes → HasRead names text rest number rows → lines_of rest ≡ l ∷ lines_of after
+pub later-refused : (names : Names) (text rest after : List ℕ) (l : Line) (number moment : ℕ) (rows : List Row) (o : Option Fault) → length text ≤ most_script_bytes → HasRead names text rest number rows → lines_of rest ≡ l ∷ lines_of after
     → fault_at names false (number + 1) l ≡ None → drain_in l ≡ Some moment → fault_from names true (number + 1 + 1) after ≡ o → script_fault names text ≡ o
 later-refused names text rest after l number moment rows o small h e sound drains is =
     fault-whole names text rest false (number + 1) o small h.fault (fault-later names rest after l (number + 1) true e sound (is-drain l moment drains) ∙ is)
@@ -170,7 +170,7 @@ pub record IsRead (names : Names) (text : List ℕ) (script : Script) : Type 0 w
   pub holds : IsReadFrom names text script
   pub can_be_run : CanBeRun names script
 
-pub IsRead-ended : (names : Names) (text rest : List ℕ) (number : ℕ) (script : Script) → length text ≤ most_bytes → HasRead names text rest number script.rows.items → number ≤ most_lines → length rest ≡ 0
+pub IsRead-ended : (names : Names) (text rest : List ℕ) (number : ℕ) (script : Script) → length text ≤ most_script_bytes → HasRead names text rest number script.rows.items → number ≤ most_lines → length rest ≡ 0
     → script.closing ≡ None → IsRead names text script
 IsRead-ended names text (byte ∷ rest) number script small h bound none closing = absurd (omega arith)
 IsRead-ended names text [] number script small h bound none closing =
@@ -182,7 +182,7 @@ IsRead-ended names text [] number script small h bound none closing =
       can_be_run = record { to_do = rows-to_do names text script.rows.items sound are; few = let few = h.few in omega (arith, few, bound); closing = rw closing tt };
     }
 
-pub IsRead-drained : (names : Names) (text rest after : List ℕ) (l : Line) (number moment : ℕ) (before : List Row) (script : Script) → length text ≤ most_bytes → HasRead names text rest number before → number + 1 ≤ most_lines
+pub IsRead-drained : (names : Names) (text rest after : List ℕ) (l : Line) (number moment : ℕ) (before : List Row) (script : Script) → length text ≤ most_script_bytes → HasRead names text rest number before → number + 1 ≤ most_lines
     → lines_of rest ≡ l ∷ lines_of after → fault_at names false (number + 1) l ≡ None → drain_in l ≡ Some moment → asked_by names script.rows.items ≡ asked_by names before ++ asked_in l
     → fault_from names true (number + 1 + 1) after ≡ None → script.closing ≡ Some moment → IsRead names text script
 IsRead-drained names text rest after l number moment before script small h bound e sound drains more blank closing =

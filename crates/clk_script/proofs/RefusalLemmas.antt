@@ -15,7 +15,7 @@ use Rattle.clk_script.specs.declared.script.Command.{Command}
 use Rattle.clk_script.specs.declared.script.Command.TheVariants.{Send, Pull}
 use Rattle.clk_script.specs.declared.script.Line.{Line}
 use Rattle.clk_script.specs.declared.script.Line.TheVariants as line
-use Rattle.clk_script.specs.Script.{Names, most_lines, command_fault, line_fault, fault_at, is_drain, first_fault, lines_of, script_fault, commands_of, closing_moment, most_bytes}
+use Rattle.clk_script.specs.Script.{Names, most_lines, command_fault, line_fault, fault_at, is_drain, first_fault, lines_of, script_fault, commands_of, closing_moment, most_script_bytes}
 use Rattle.clk_packet.specs.Bytes.{read_failures, write_failures, OfBytes}
 use Rattle.clk_script.specs.Meaning.{Setup, plan_setup, names_of, WritesWith, MeansWith, MeansOver, MeansOverWith, Explains}
 use Rattle.clk_script.specs.declared.router.Router.{Router}
@@ -24,20 +24,20 @@ use Rattle.clk_script.proofs.AnswerLemmas.{names-its}
 use Rattle.clk_script.proofs.WrittenLemmas.{of-weaker}
 
 -- one byte past the limit is enough to tell what is wrong
-fault-cut : (names : Names) (all : List ℕ) → script_fault names (take (most_bytes + 1) all) ≡ script_fault names all
-fault-cut names all = by_test (nat_lt most_bytes (length all)) refl
+fault-cut : (names : Names) (all : List ℕ) → script_fault names (take (most_script_bytes + 1) all) ≡ script_fault names all
+fault-cut names all = by_test (nat_lt most_script_bytes (length all)) refl
   where
-    by_test : (b : Bool) → nat_lt most_bytes (length all) ≡ b → script_fault names (take (most_bytes + 1) all) ≡ script_fault names all
+    by_test : (b : Bool) → nat_lt most_script_bytes (length all) ≡ b → script_fault names (take (most_script_bytes + 1) all) ≡ script_fault names all
     by_test true e =
-        let cut : nat_lt most_bytes (length (take (most_bytes + 1) all)) ≡ true = rw length-take (grind (arith, nat_tests)) in
+        let cut : nat_lt most_script_bytes (length (take (most_script_bytes + 1) all)) ≡ true = rw length-take (grind (arith, nat_tests)) in
         rw (cut, e) refl
     by_test false e = ap (script_fault names) (take_all 33554433 all (grind (arith, nat_tests)))
 
 -- a script that isn't too long is read whole
-whole : (names : Names) (all : List ℕ) → script_fault names (take (most_bytes + 1) all) ≡ None → take (most_bytes + 1) all ≡ all
-whole names all e = by_test (nat_lt most_bytes (length all)) refl
+whole : (names : Names) (all : List ℕ) → script_fault names (take (most_script_bytes + 1) all) ≡ None → take (most_script_bytes + 1) all ≡ all
+whole names all e = by_test (nat_lt most_script_bytes (length all)) refl
   where
-    by_test : (b : Bool) → nat_lt most_bytes (length all) ≡ b → take (most_bytes + 1) all ≡ all
+    by_test : (b : Bool) → nat_lt most_script_bytes (length all) ≡ b → take (most_script_bytes + 1) all ≡ all
     by_test true f =
         let too_large : script_fault names all ≡ Some TooLarge = rw f refl in
         let none = sym (fault-cut names all) ∙ e in
@@ -45,7 +45,7 @@ whole names all e = by_test (nat_lt most_bytes (length all)) refl
     by_test false f = take_all 33554433 all (grind (arith, nat_tests))
 
 -- the meaning over a setup of a script whose first bytes were read
-pub meaning-known : (setup : Setup) (router : Router) → Starts setup router → (known : Option (List ℕ)) (bytes text : List ℕ) (logs : List (List Visit)) → IfSome known (λ all. bytes ≡ take (most_bytes + 1) all)
+pub meaning-known : (setup : Setup) (router : Router) → Starts setup router → (known : Option (List ℕ)) (bytes text : List ℕ) (logs : List (List Visit)) → IfSome known (λ all. bytes ≡ take (most_script_bytes + 1) all)
     → script_fault (names_in router) bytes ≡ None → WritesWith setup (commands_of bytes) (closing_moment bytes) text logs → OfBytes known (λ script. MeansWith setup script text logs)
 meaning-known setup router starts None bytes text logs is e w =
     let here : script_fault (names_of setup) bytes ≡ None = subst (λ names. script_fault names bytes ≡ None) (names-its setup [] router starts.leads) e in
@@ -114,9 +114,9 @@ of_first names drained number (l ∷ ls) = by_fault (fault_at names drained numb
     by_fault (Some fault) e here rest = rw e (rw e at here)
 
 of_script : (names : Names) (script : List ℕ) → IfSome (script_fault names script) IsOfScript
-of_script names script = by_test (nat_lt most_bytes (length script)) refl
+of_script names script = by_test (nat_lt most_script_bytes (length script)) refl
   where
-    by_test : (b : Bool) → nat_lt most_bytes (length script) ≡ b → IfSome (script_fault names script) IsOfScript
+    by_test : (b : Bool) → nat_lt most_script_bytes (length script) ≡ b → IfSome (script_fault names script) IsOfScript
     by_test true e = rw e tt
     by_test false e = rw e (of_first names false 1 (lines_of script))
 
@@ -127,7 +127,7 @@ pub record IsRefusal (setup : Setup) (known : Option (List ℕ)) (fault : Fault)
   pub writes : (n : ℕ) → write_failures {T = Unit {0}} (Err fault) n ≡ n
   pub not_write : fault ≢ Write
 
-named : (names : Names) (known : Option (List ℕ)) (bytes : List ℕ) (fault : Fault) → IfSome known (λ all. bytes ≡ take (most_bytes + 1) all) → script_fault names bytes ≡ Some fault
+named : (names : Names) (known : Option (List ℕ)) (bytes : List ℕ) (fault : Fault) → IfSome known (λ all. bytes ≡ take (most_script_bytes + 1) all) → script_fault names bytes ≡ Some fault
     → IfSome known (λ all. script_fault names all ≡ Some fault)
 named names None bytes fault is e = tt
 named names (Some all) bytes fault is e = sym (fault-cut names all) ∙ ap (script_fault names) (sym is) ∙ e
@@ -143,7 +143,7 @@ of-memory : (setup : Setup) (known : Option (List ℕ)) (fault : Fault) → faul
 of-memory setup known fault e = subst (λ (f : Fault). IsRefusal setup known f) (sym e) (record { explains = tt; reads = λ n. refl; writes = λ n. refl; not_write = λ d. cc })
 
 -- why a script is refused as it is read
-pub IsRefusal-read : (setup : Setup) (router : Router) → Starts setup router → (known : Option (List ℕ)) (bytes : List ℕ) (fault : Fault) → IfSome known (λ all. bytes ≡ take (most_bytes + 1) all)
+pub IsRefusal-read : (setup : Setup) (router : Router) → Starts setup router → (known : Option (List ℕ)) (bytes : List ℕ) (fault : Fault) → IfSome known (λ all. bytes ≡ take (most_script_bytes + 1) all)
     → (fault ≡ Memory) ⊎ (script_fault (names_in router) bytes ≡ Some fault) → IsRefusal setup known fault
 IsRefusal-read setup router starts known bytes fault is (inl e) = of-memory setup known fault e
 IsRefusal-read setup router starts known bytes fault is (inr e) =

@@ -12,7 +12,7 @@ use Rattle.clk_script.specs.declared.script.Command.TheVariants.{Send, Pull}
 use Rattle.clk_script.specs.declared.script.Line.{Line}
 use Rattle.clk_script.specs.declared.script.Line.TheVariants as line
 use Rattle.clk_packet.specs.Numbers.{has_bytes, number_in}
-use Rattle.clk_script.specs.Script.{Names, most_bytes, send_of, pull_of, drain_of, sender_and_length, moment_and_device, only_moment, line_of_fields, line_of, fields, line_fault, fault_at, is_drain, first_fault, lines_of, script_fault, command_in, commands_of, drain_in, most_lines, most_moment, most_device}
+use Rattle.clk_script.specs.Script.{Names, most_script_bytes, send_of, pull_of, drain_of, sender_and_length, moment_and_device, only_moment, line_of_fields, line_of, fields, line_fault, fault_at, is_drain, first_fault, lines_of, script_fault, command_in, commands_of, drain_in, most_lines, most_moment, most_device}
 use Rattle.clk_script.specs.inside.Router.{IsReadable, IsReadableLine, IsSound}
 
 -- a test that answers with its number
@@ -156,8 +156,8 @@ texts_sound names drained n (text ∷ texts) e = by_fault (fault_at names draine
 
 -- so can a script
 pub each-command-sound : (names : Names) (script : List ℕ) → script_fault names script ≡ None → AllByRecursion (IsSound names) (commands_of script)
-each-command-sound names script e = by_test (nat_lt most_bytes (length script)) refl
+each-command-sound names script e = by_test (nat_lt most_script_bytes (length script)) refl
   where
-    by_test : (b : Bool) → nat_lt most_bytes (length script) ≡ b → AllByRecursion (IsSound names) (commands_of script)
+    by_test : (b : Bool) → nat_lt most_script_bytes (length script) ≡ b → AllByRecursion (IsSound names) (commands_of script)
     by_test true f = let no = rw f at e in absurd (cc)
     by_test false f = texts_sound names false 1 (lines script) (rw f at e)

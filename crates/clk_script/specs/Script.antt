@@ -1,5 +1,5 @@
 -- The lines of a script, and what is wrong with it (this project's own format).
-use Rattle.std.specs.Prelude.{ℕ, ◌+◌, ◌-◌, ◌^◌, List, [], ◌∷◌, length, map, filter, Bool, true, false, ◌==◌, ◌||◌, nat_lt, if◌then◌else◌, Option, Some, None, codes, slice_get}
+use Rattle.std.specs.Prelude.{ℕ, ◌+◌, List, [], ◌∷◌, length, map, filter, Bool, true, false, ◌==◌, ◌||◌, nat_lt, if◌then◌else◌, Option, Some, None, codes, slice_get}
 use Rattle.std.specs.Option.{option_or}
 use Rattle.std.specs.List.{slice_split, filter_map, list_any}
 use Rattle.std.specs.Str.{bytes_eq}
@@ -8,15 +8,15 @@ use Rattle.clk_packet.specs.Limits.{most_sender, most_length}
 use Rattle.clk_packet.specs.Numbers.{has_bytes, number_in}
 use Rattle.clk_packet.specs.declared.fault.Fault.{Fault}
 use Rattle.clk_packet.specs.declared.fault.Fault.TheVariants.{TooLarge, BadScript, UnknownSender}
-use Rattle.clk_script.specs.declared.limits.TheConstants.{MAX_BYTES, MAX_LINES, MAX_MOMENT, MAX_DEVICE}
+use Rattle.clk_script.specs.declared.limits.TheConstants.{MAX_SCRIPT_BYTES, MAX_LINES, MAX_MOMENT, MAX_DEVICE}
 use Rattle.clk_script.specs.declared.script.Command.{Command}
 use Rattle.clk_script.specs.declared.script.Command.TheVariants.{Send, Pull}
 use Rattle.clk_script.specs.declared.script.Line.{Line}
 use Rattle.clk_script.specs.declared.script.Line.TheVariants as line
 
 -- how many bytes and lines a script may have, and the greatest moment that it may name, in ticks
-abbrev pub most_bytes : ℕ
-most_bytes = MAX_BYTES
+abbrev pub most_script_bytes : ℕ
+most_script_bytes = MAX_SCRIPT_BYTES
 
 abbrev pub most_lines : ℕ
 most_lines = MAX_LINES
@@ -113,7 +113,7 @@ lines_of script = map line_of (lines script)
 
 -- What is wrong with a script: it has too many bytes, or else what is wrong with the first line that has something wrong.
 abbrev pub script_fault : Names → List ℕ → Option Fault
-script_fault names script = if nat_lt most_bytes (length script) then Some TooLarge else first_fault names false 1 (lines_of script)
+script_fault names script = if nat_lt most_script_bytes (length script) then Some TooLarge else first_fault names false 1 (lines_of script)
 
 abbrev pub command_in : Line → Option Command
 command_in (line.Command command) = Some command

@@ -1,7 +1,7 @@
 //! The limits of a script (this project's own choice).
 
 /// How many bytes a script may have.
-pub const MAX_BYTES: usize = 33_554_432;
+pub const MAX_SCRIPT_BYTES: usize = 33_554_432;
 
 /// How many lines a script may have.
 pub const MAX_LINES: u32 = 1_000_000;

@@ -7,7 +7,7 @@ ghost use Rattle.clk_script.specs.Script.{lines_of, drain_in, command_fault, fau
 ghost use Rattle.clk_script.specs.inside.Router.{tally_sender, named_by};
 ghost use Rattle.clk_script.specs.inside.Rows.{command_asked, asked_by, asked_in, IsReadFrom, CanBeRun};
 
-use crate::limits::{MAX_BYTES, MAX_LINES};
+use crate::limits::{MAX_SCRIPT_BYTES, MAX_LINES};
 use crate::rows::Row;
 use crate::script::{Command, Line};
 use crate::tallies::place_of;
@@ -40,7 +40,7 @@ pub fn read_script(
         × IsReadFrom (named_by tallies.now devices) text.now script × CanBeRun (named_by tallies.now devices) script)
         (λ fault. (fault ≡ Memory) ⊎ (script_fault (named_by tallies.now devices) text.now ≡ Some fault)) }
 {
-    if text.len() > MAX_BYTES {
+    if text.len() > MAX_SCRIPT_BYTES {
         return Err(Fault::TooLarge);
     }
     let mut rows = Vec::new(alloc);

@@ -10,12 +10,12 @@ ghost use Rattle.clk_tree.specs.Shares.{AreTreesOf};
 ghost use Rattle.clk_report.specs.Devices.{lists_of};
 ghost use Rattle.clk_script.specs.inside.Router.{CanStand, IsWhole, AreLogs};
 ghost use Rattle.clk_script.specs.inside.Closable.{IsClosable};
-ghost use Rattle.clk_script.specs.Script.{most_bytes};
+ghost use Rattle.clk_script.specs.Script.{most_script_bytes};
 ghost use Rattle.clk_script.specs.Written.{WroteWhat};
 ghost use Rattle.clk_script.specs.Meaning.{MeansWith, Explains, setup_of, MeansOver, MeansOverWith, ExplainsPlan};
 
 use crate::answer::answer_script;
-use crate::limits::MAX_BYTES;
+use crate::limits::MAX_SCRIPT_BYTES;
 use crate::past::Past;
 use crate::reading::read_script;
 use crate::router::Router;
@@ -48,7 +48,7 @@ pub fn run_script<R: Source, W: Sink>(
     ensures write_failures { W.Sink.failures writer.new ≡ write_failures result (W.Sink.failures writer.old) }
 
     // The reader is read to one byte past the limit at most.
-    ensures limit { Takes (most_bytes + 1) (R.Source.remaining reader.old) (R.Source.remaining reader.new) }
+    ensures limit { Takes (most_script_bytes + 1) (R.Source.remaining reader.old) (R.Source.remaining reader.new) }
 {
     run_plan(alloc, reader, writer, plan, false)?;
     Ok(())
@@ -67,7 +67,7 @@ pub fn run_script_logged<R: Source, W: Sink>(
     ensures fault { IfErr result (ExplainsPlan plan.now (R.Source.remaining reader.old)) }
     ensures read_failures { R.Source.failures reader.new ≡ read_failures result (R.Source.failures reader.old) }
     ensures write_failures { W.Sink.failures writer.new ≡ write_failures result (W.Sink.failures writer.old) }
-    ensures limit { Takes (most_bytes + 1) (R.Source.remaining reader.old) (R.Source.remaining reader.new) }
+    ensures limit { Takes (most_script_bytes + 1) (R.Source.remaining reader.old) (R.Source.remaining reader.new) }
 {
     Ok(run_plan(alloc, reader, writer, plan, true)?.logs)
 }
@@ -86,7 +86,7 @@ fn run_plan<R: Source, W: Sink>(
     ensures fault { IfErr result (ExplainsPlan plan.now (R.Source.remaining reader.old)) }
     ensures read_failures { R.Source.failures reader.new ≡ read_failures result (R.Source.failures reader.old) }
     ensures write_failures { W.Sink.failures writer.new ≡ write_failures result (W.Sink.failures writer.old) }
-    ensures limit { Takes (most_bytes + 1) (R.Source.remaining reader.old) (R.Source.remaining reader.new) }
+    ensures limit { Takes (most_script_bytes + 1) (R.Source.remaining reader.old) (R.Source.remaining reader.new) }
 {
     // Its trees share out its queues, by this law.
     plan.trees_share_queues();
@@ -134,10 +134,10 @@ fn run_parts<R: Source, W: Sink>(
     ensures fault { IfErr result (Explains (setup_of trees.items (map queued queues.now) senders.now) (R.Source.remaining reader.old)) }
     ensures read_failures { R.Source.failures reader.new ≡ read_failures result (R.Source.failures reader.old) }
     ensures write_failures { W.Sink.failures writer.new ≡ write_failures result (W.Sink.failures writer.old) }
-    ensures limit { Takes (most_bytes + 1) (R.Source.remaining reader.old) (R.Source.remaining reader.new) }
+    ensures limit { Takes (most_script_bytes + 1) (R.Source.remaining reader.old) (R.Source.remaining reader.new) }
 {
     let router = Router::new(alloc, trees, queues, senders, visits)?;
-    let text = read_up_to(alloc, reader, MAX_BYTES + 1)?;
+    let text = read_up_to(alloc, reader, MAX_SCRIPT_BYTES + 1)?;
     let script = read_script(alloc, &router.tallies, router.devices.len(), &text)?;
     let_go(text);
     let answer = answer_script(alloc, router, script)?;

@@ -8,7 +8,7 @@ use Rattle.clk_packet.specs.declared.fault.Fault.TheVariants.{BadText, UnknownCl
 use Rattle.clk_syntax.specs.declared.texts.token.Token.{Token}
 use Rattle.clk_syntax.specs.declared.node.Node.{Node}
 use Rattle.clk_syntax.specs.declared.node.Link.{Link}
-use Rattle.clk_syntax.specs.Limits.{most_bytes}
+use Rattle.clk_syntax.specs.Limits.{most_tree_bytes}
 use Rattle.clk_syntax.specs.Tokens.{tokens_of}
 use Rattle.clk_syntax.specs.Diagram.{start, wrong_from}
 use Rattle.clk_syntax.specs.Classes.{Class, role_of}
@@ -86,4 +86,4 @@ fault_of elements wires =
 
 -- what is wrong with a text before its statements are looked at: it has too many bytes, or it breaks the grammar
 abbrev pub text_fault : List ℕ → Option Fault
-text_fault text = if nat_lt most_bytes (length text) then Some TooLarge else option_map BadText (bad_text text)
+text_fault text = if nat_lt most_tree_bytes (length text) then Some TooLarge else option_map BadText (bad_text text)

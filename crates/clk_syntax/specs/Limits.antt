@@ -3,8 +3,8 @@ use Rattle.std.specs.Prelude.{ℕ}
 use Rattle.clk_syntax.specs.declared.limits.TheConstants.{MAX_TREE_BYTES, MAX_PORT}
 
 -- in bytes
-abbrev pub most_bytes : ℕ
-most_bytes = MAX_TREE_BYTES
+abbrev pub most_tree_bytes : ℕ
+most_tree_bytes = MAX_TREE_BYTES
 
 -- the greatest port
 abbrev pub most_port : ℕ

@@ -9,7 +9,7 @@ ghost use Rattle.std.specs.Option.{option_map};
 ghost use Rattle.std.specs.List.{AllByRecursion};
 ghost use Rattle.clk_packet.specs.declared.fault.Fault.TheVariants.{Memory, NameTwice, UnknownClass, BadArgument, UnknownName};
 ghost use Rattle.clk_syntax.specs.Classes.{class_named, class_view, role_of, is_class};
-ghost use Rattle.clk_syntax.specs.Limits.{most_bytes};
+ghost use Rattle.clk_syntax.specs.Limits.{most_tree_bytes};
 ghost use Rattle.clk_syntax.specs.Source.{Declared, Element, Wire, letters, kept, elements_in, elements, word, port, wire, wires};
 ghost use Rattle.clk_syntax.specs.Declarations.{name_twice, unknown_class, bad_argument, unknown_name, unknown_end, is_sender, class_in};
 ghost use Rattle.clk_syntax.specs.Faults.{naming_fault, place_of, nodes_of, link_of, links_of};
@@ -43,7 +43,7 @@ pub fn name_all(alloc: Global, text: &[u8], statements: &Statements) -> Result<N
     requires connected_within { AllByRecursion (IsConnectedWithin (length text.now)) statements.now.connections.items }
     requires named { AllByRecursion IsNamed (map kept statements.now.declarations.items) }
     requires numbers { AllByRecursion (HasNumbers text.now) statements.now.connections.items }
-    requires few { words_in (map kept statements.now.declarations.items) ≤ most_bytes }
+    requires few { words_in (map kept statements.now.declarations.items) ≤ most_tree_bytes }
     ensures faultless { let all = elements text.now (map kept statements.now.declarations.items) in
         OnOk result (naming_fault all (wires text.now statements.now.connections.items) ≡ None) }
     ensures classes { IfOk result (λ named. map (class_in text.now) (map kept statements.now.declarations.items) ≡ map is_class named.classes.items) }
@@ -80,7 +80,7 @@ fn names_of<'a>(
     declarations: &[Declaration],
 ) -> Result<Names<'a>, Fault>
     requires within { AllByRecursion (IsDeclaredWithin (length text.now)) (map kept declarations.now) }
-    requires few { words_in (map kept declarations.now) ≤ most_bytes }
+    requires few { words_in (map kept declarations.now) ≤ most_tree_bytes }
     ensures { let all = elements text.now (map kept declarations.now) in
         MatchResult result (λ names. (name_twice all ≡ None) × IsTable all names) (Stops (option_map NameTwice (name_twice all))) }
 {
@@ -147,7 +147,7 @@ struct Judged {
 fn judge_all(alloc: Global, text: &[u8], declarations: &[Declaration]) -> Result<Judged, Fault>
     requires within { AllByRecursion (IsDeclaredWithin (length text.now)) (map kept declarations.now) }
     requires named { AllByRecursion IsNamed (map kept declarations.now) }
-    requires few { words_in (map kept declarations.now) ≤ most_bytes }
+    requires few { words_in (map kept declarations.now) ≤ most_tree_bytes }
     ensures { let all = elements text.now (map kept declarations.now) in
         MatchResult result
         (λ judged. (bad_argument all ≡ None)
@@ -172,7 +172,7 @@ impl Judged {
     fn judge(&mut self, alloc: Global, text: &[u8], declaration: &Declaration) -> Result<(), Fault>
         requires within { IsDeclaredWithin (length text.now) (kept declaration.now) }
         requires named { IsNamed (kept declaration.now) }
-        requires few { length declaration.now.arguments.items ≤ most_bytes }
+        requires few { length declaration.now.arguments.items ≤ most_tree_bytes }
         ensures { (all left : List Declared) → Judges text.now all (kept declaration.now ∷ left) self.old
             → MatchResult result (λ _. Judges text.now all left self.new) (Stops (option_map BadArgument (bad_argument (elements text.now all)))) }
     {

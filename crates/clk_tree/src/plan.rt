@@ -58,7 +58,7 @@ impl Plan {
     ghost use Rattle.clk_packet.specs.Limits.{most_elements};
     ghost use Rattle.clk_sched.specs.Tree.{Tree, root, leaves, stands_in, leaves_distinct};
     ghost use Rattle.clk_sched.specs.Session.{elements};
-    ghost use Rattle.clk_syntax.specs.Limits.{most_bytes};
+    ghost use Rattle.clk_syntax.specs.Limits.{most_tree_bytes};
     ghost use Rattle.clk_syntax.specs.Reading.{HasFault};
     ghost use Rattle.clk_tree.specs.Plan.{Denotes};
     ghost use Rattle.clk_tree.specs.PlanTree.{device_count, IsTreeOf};
@@ -99,7 +99,7 @@ impl Plan {
     pub fn write(&self, alloc: Global) -> Result<Vec<u8>, Fault>
         ensures text { IfOk result (λ text. text.items ≡ canonical_text self.now) }
         // Where it is no longer than a text may be, it denotes this plan.
-        ensures again { IfOk result (λ text. length text.items ≤ most_bytes → Denotes text.items self.now) }
+        ensures again { IfOk result (λ text. length text.items ≤ most_tree_bytes → Denotes text.items self.now) }
         ensures fault { IsOkUnless result Memory }
     {
         canonical_text(alloc, &self.elements)

@@ -33,12 +33,12 @@ passed_bytes input (v ∷ earlier) =
 abbrev pub quantum_at : List ℕ → ℕ → ℕ
 quantum_at quanta input = unwrap_or (slice_get quanta input) 0
 
--- the bytes that an input may have passed by the visit after these, since the latest visit to it that got nothing: a quantum for each
+-- the bytes that an input may have passed by a visit to it after these, since the latest visit to it that got nothing: a quantum for each
 -- arrival, that of the visit too
 abbrev pub allowed_bytes : List ℕ → List Visit → ℕ → ℕ
 allowed_bytes quanta earlier input = quantum_at quanta input * (arrives earlier + arrivals input earlier)
 
--- The deficit of an input at the visit after these is what it may pass yet.
+-- The deficit of an input at a visit to it after these is what it may pass yet.
 abbrev pub IsDeficit : List ℕ → List Visit → ℕ → ℕ → Type 0
 IsDeficit quanta earlier input deficit = passed_bytes input earlier + deficit ≡ allowed_bytes quanta earlier input
 

@@ -6,7 +6,7 @@ ghost use Rattle.clk_sched.specs.inside.Holds.Served.{AreQuantaWithin, AreDefici
 ghost use Rattle.clk_sched.specs.declared.session.drr.Served.{Served};
 
 use crate::ask::Ask;
-use crate::session::inputs::next_input;
+use crate::session::inputs::input_after;
 use crate::session::nodes::Nodes;
 use crate::session::state::State;
 use crate::visit::Visit;
@@ -221,7 +221,7 @@ impl Deficits {
         ensures cursor { self.new.cursor ≡ (self.old.cursor + 1) % length self.old.row.items }
         ensures row { (s : Served) → slice_get self.old.row.items self.new.cursor ≡ Some s → self.new.row.items ≡ slice_set self.old.row.items self.new.cursor (with_quantum s) }
     {
-        self.cursor = next_input(self.cursor, self.row.len() as u16);
+        self.cursor = input_after(self.cursor, self.row.len() as u16);
         add_quantum(self.row.as_mut_slice(), usize::from(self.cursor));
     }
 

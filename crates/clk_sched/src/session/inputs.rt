@@ -21,7 +21,7 @@ pub struct Inputs {
 /// The input after this one, of so many, wrapping round.
 // A processor compares faster than it divides.
 #[inline]
-pub fn next_input(input: u16, inputs: u16) -> u16
+pub fn input_after(input: u16, inputs: u16) -> u16
     requires { input < inputs }
     ensures { result ≡ (input + 1) % inputs }
 {

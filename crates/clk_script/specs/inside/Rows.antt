@@ -62,7 +62,7 @@ IsToDo names (row.Send place size) = (place < length names.senders) × (1 ≤ si
 IsToDo names (row.Pull device moment) = (device < names.devices) × (moment ≤ most_moment)
 IsToDo names r = ⊥
 
--- The script holds what a text says that names these.
+-- The script holds what a text says, over what it may name.
 pub record IsReadFrom (names : Names) (text : List ℕ) (script : Script) : Type 0 where
   pub rows : asked_by names script.rows.items ≡ map Some (commands_of text)
   pub closing : script.closing ≡ closing_moment text

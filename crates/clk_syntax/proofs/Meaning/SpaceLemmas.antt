@@ -3,7 +3,7 @@ use Rattle.std.proofs.Common.{◌≡◌, ◌≤◌, ◌<◌, ◌+◌, ℕ, zero,
 use Rattle.std.proofs.lemmas.Bool.Decides.{nat_tests}
 use Rattle.std.proofs.lemmas.List.{length-replicate}
 use Rattle.clk_packet.specs.declared.fault.Fault.TheVariants.{BadText, TooLarge, NoDevice}
-use Rattle.clk_syntax.specs.Limits.{most_bytes}
+use Rattle.clk_syntax.specs.Limits.{most_tree_bytes}
 use Rattle.clk_syntax.specs.Tokens.{tokens_from}
 use Rattle.clk_syntax.specs.Diagram.{start, wrong_from}
 use Rattle.clk_syntax.specs.Grammar.{nothing, bare}
@@ -16,26 +16,26 @@ less : (m n : ℕ) → m < n → nat_lt m n ≡ true
 less m n l = grind (arith, nat_tests)
 
 -- of a text that is too long that is told
-pub too-long : (byte n : ℕ) → most_bytes < n → text_fault (replicate n byte) ≡ Some TooLarge
+pub too-long : (byte n : ℕ) → most_tree_bytes < n → text_fault (replicate n byte) ≡ Some TooLarge
 too-long byte n l =
     ap (λ b. if b then Some TooLarge else option_map BadText (bad_text (replicate n byte)))
-    (ap (nat_lt most_bytes) (length-replicate n byte) ∙ less most_bytes n l)
+    (ap (nat_lt most_tree_bytes) (length-replicate n byte) ∙ less most_tree_bytes n l)
 
 -- of any other it is told where a token is wrong
-short : (byte n : ℕ) → n ≤ most_bytes → text_fault (replicate n byte) ≡ option_map BadText (bad_text (replicate n byte))
+short : (byte n : ℕ) → n ≤ most_tree_bytes → text_fault (replicate n byte) ≡ option_map BadText (bad_text (replicate n byte))
 short byte n l =
     ap (λ b. if b then Some TooLarge else option_map BadText (bad_text (replicate n byte)))
-    (ap (nat_lt most_bytes) (length-replicate n byte) ∙ not-less most_bytes n l)
+    (ap (nat_lt most_tree_bytes) (length-replicate n byte) ∙ not-less most_tree_bytes n l)
 
 -- spaces are no token
 none-shown : (n place : ℕ) → tokens_from place 0 (spaces n) ≡ []
 none-shown zero place = refl
 none-shown (suc n) place = none-shown n (place + 1)
 
-spaces-right : (n : ℕ) → n ≤ most_bytes → text_fault (spaces n) ≡ None
+spaces-right : (n : ℕ) → n ≤ most_tree_bytes → text_fault (spaces n) ≡ None
 spaces-right n l = short 32 n l ∙ ap (λ ts. option_map BadText (option_map (offset_of (length (spaces n))) (wrong_from start ts))) (none-shown n 0)
 
-pub spaces-told : (n : ℕ) → n ≤ most_bytes → HasFault (spaces n) NoDevice
+pub spaces-told : (n : ℕ) → n ≤ most_tree_bytes → HasFault (spaces n) NoDevice
 spaces-told n l = inr (record {
   short_and_right = spaces-right n l;
   statements = nothing ∷ [];
@@ -44,6 +44,6 @@ spaces-told n l = inr (record {
 })
 
 -- the first question mark is wrong
-pub question-marks-told : (n : ℕ) → 1 ≤ n → n ≤ most_bytes → text_fault (question_marks n) ≡ Some (BadText 0)
+pub question-marks-told : (n : ℕ) → 1 ≤ n → n ≤ most_tree_bytes → text_fault (question_marks n) ≡ Some (BadText 0)
 question-marks-told zero some l = absurd (omega (arith, some))
 question-marks-told (suc n) some l = short 63 (suc n) l

@@ -14,15 +14,6 @@ use crate::node::Node;
 use clk_packet::{Fault, MAX_ELEMENTS, MAX_INPUTS, MAX_LEVELS};
 use std::alloc::Global;
 
-/// How many inputs an element has at most.
-const MOST_INPUTS: u32 = MAX_INPUTS as u32;
-
-/// How many schedulers and Shapers stand on a way at most.
-const MOST_LEVELS: u32 = MAX_LEVELS as u32;
-
-/// How many elements there are at most.
-const MOST_ELEMENTS: usize = MAX_ELEMENTS as usize;
-
 /// Whether a device is declared.
 pub fn has_device(nodes: &[Node]) -> bool
     ensures { result ≡ has_device nodes.now }
@@ -82,10 +73,10 @@ fn is_too_large(graph: &Graph, place: u32, node: Node) -> bool
     requires place { place < length graph.now.nodes.now }
     ensures { result ≡ is_too_large place node graph.now.nodes.now graph.now.links.now }
 {
-    if node.role.inputs_with(graph.inputs(place).end) > MOST_INPUTS {
+    if node.role.inputs_with(graph.inputs(place).end) > MAX_INPUTS as u32 {
         return true;
     }
-    levels(graph, place) > MOST_LEVELS
+    levels(graph, place) > MAX_LEVELS as u32
 }
 
 /// Whether there are too many elements, or one is too large.
@@ -93,7 +84,7 @@ pub fn too_large(graph: &Graph) -> bool
     requires { IsTabled graph.now }
     ensures { result ≡ too_large graph.now.nodes.now graph.now.links.now }
 {
-    if graph.nodes.len() > MOST_ELEMENTS {
+    if graph.nodes.len() > MAX_ELEMENTS as usize {
         return true;
     }
     for (place, node) in graph.nodes.iter().enumerate() {

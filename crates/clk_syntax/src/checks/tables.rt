@@ -3,7 +3,7 @@
 ghost use Rattle.std.specs.Prelude.{◌≡◌, ◌≤◌, ◌<◌, length, Some, None, IfOk, IsOkUnless};
 ghost use Rattle.std.specs.List.{AllByRecursion};
 ghost use Rattle.clk_packet.specs.declared.fault.Fault.TheVariants.{Memory};
-ghost use Rattle.clk_syntax.specs.Limits.{most_bytes};
+ghost use Rattle.clk_syntax.specs.Limits.{most_tree_bytes};
 ghost use Rattle.clk_syntax.specs.Ports.{role_at, next, target};
 ghost use Rattle.clk_syntax.specs.Within.{IsLinkWithin, HasPorts};
 ghost use Rattle.clk_syntax.specs.Tables.{IsTargets, IsInputs, IsTabled, inputs_at};
@@ -36,8 +36,8 @@ pub struct Graph<'a> {
 impl<'a> Graph<'a> {
     /// These elements and connections with their tables. Fault 1 where memory is refused.
     pub fn new(alloc: Global, nodes: &'a [Node], links: &'a [Link]) -> Result<Graph<'a>, Fault>
-        requires few_nodes { length nodes.now ≤ most_bytes }
-        requires few_links { length links.now ≤ most_bytes }
+        requires few_nodes { length nodes.now ≤ most_tree_bytes }
+        requires few_links { length links.now ≤ most_tree_bytes }
         requires within { AllByRecursion (IsLinkWithin nodes.now) links.now }
         requires ports { AllByRecursion HasPorts links.now }
         ensures nodes { IfOk result (λ graph. graph.nodes.now ≡ nodes.now) }
@@ -108,7 +108,7 @@ fn targets_of(alloc: Global, nodes: &[Node], links: &[Link]) -> Result<Vec<Optio
 
 /// What the connections use of the inputs of each element. Fault 1 where memory is refused.
 fn inputs_of(alloc: Global, nodes: &[Node], links: &[Link]) -> Result<Vec<Inputs>, Fault>
-    requires few { length links.now ≤ most_bytes }
+    requires few { length links.now ≤ most_tree_bytes }
     requires within { AllByRecursion (IsLinkWithin nodes.now) links.now }
     requires ports { AllByRecursion HasPorts links.now }
     ensures made { IfOk result (λ inputs. IsInputs (length nodes.now) links.now inputs.items) }

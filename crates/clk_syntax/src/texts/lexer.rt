@@ -4,7 +4,7 @@ ghost use Rattle.std.specs.Prelude.{◌≡◌, ◌+◌, ◌<◌, ◌≤◌, ◌=
 ghost use Rattle.std.specs.List.{position_or_len, prefix_len};
 ghost use Rattle.std.specs.Str.{all_ascii_digits};
 ghost use Rattle.clk_packet.specs.declared.fault.Fault.TheVariants.{Memory};
-ghost use Rattle.clk_syntax.specs.Limits.{most_bytes};
+ghost use Rattle.clk_syntax.specs.Limits.{most_tree_bytes};
 ghost use Rattle.clk_syntax.specs.Within.{AreWithin};
 ghost use Rattle.clk_syntax.specs.Tokens.{is_blank, is_word_byte, begins_with, comment_end, comment, word_symbol, word, mark_of, piece_at, piece_len, shown, tokens_of};
 
@@ -215,7 +215,7 @@ fn keep(tokens: &mut Vec<Token>, place: usize, piece: Piece) -> Result<usize, Fa
 
 /// The tokens of a text. Fault 1 where memory is refused.
 pub fn tokens_of(alloc: Global, text: &[u8]) -> Result<Vec<Token>, Fault>
-    requires { length text.now ≤ most_bytes }
+    requires { length text.now ≤ most_tree_bytes }
     ensures tokens { IfOk result (λ tokens. tokens.items ≡ tokens_of text.now) }
     ensures within { IfOk result (λ tokens. AreWithin (length text.now) tokens.items) }
     ensures fault { IsOkUnless result Memory }

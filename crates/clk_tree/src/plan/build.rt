@@ -4,7 +4,7 @@ ghost use Rattle.std.specs.Prelude.{◌≡◌, ◌<◌, ◌≤◌, ◌+◌, ◌+
 ghost use Rattle.std.specs.List.{AllByRecursion};
 ghost use Rattle.clk_packet.specs.declared.fault.Fault.TheVariants.{Memory};
 ghost use Rattle.clk_packet.specs.Limits.{most_elements};
-ghost use Rattle.clk_syntax.specs.Limits.{most_bytes};
+ghost use Rattle.clk_syntax.specs.Limits.{most_tree_bytes};
 ghost use Rattle.clk_syntax.specs.Classes.{class_view, numbers_in, is_class};
 ghost use Rattle.clk_syntax.specs.Source.{elements, kept};
 ghost use Rattle.clk_syntax.specs.Declarations.{class_in};
@@ -32,7 +32,7 @@ pub fn elements_of(
     requires within { AllByRecursion (IsDeclaredWithin (length text.now)) (map kept declarations.now) }
     requires classes { map (class_in text.now) (map kept declarations.now) ≡ map is_class classes.now }
     requires all { length graph.now.nodes.now ≡ length (all_known (elements text.now (map kept declarations.now))) }
-    requires words { words_in (map kept declarations.now) ≤ most_bytes }
+    requires words { words_in (map kept declarations.now) ≤ most_tree_bytes }
     ensures made { IfOk result (λ made. map planned made.items
         ≡ planned_from (length graph.now.nodes.now) graph.now.links.now 0 (all_known (elements text.now (map kept declarations.now)))) }
     ensures fault { IsOkUnless result Memory }

@@ -8,8 +8,8 @@ add_quantum-requires-clause-fits c s e = let d = c.args.self.now in sum-fits d.c
 pub invariant_of-self : goal.invariant_of-self
 invariant_of-self c =
     let d = c.args.self.now in
-    let next : ℕ = c.next_input-self.result in
-    let within : next < length d.row.items = subst (λ n. n < length d.row.items) (sym c.next_input-self.ensures)
+    let next : ℕ = c.input_after-self.result in
+    let within : next < length d.row.items = subst (λ n. n < length d.row.items) (sym c.input_after-self.ensures)
         (subst (λ n. (d.cursor + 1) % n < length d.row.items) (sym c.len.ensures.value) (mod-lt (d.cursor + 1) (omega arith))) in
     let adds = adds-within d.row c.as_mut_slice.result.now c.add_quantum.new.row _ _ c.as_mut_slice.ensures.value (search rules) c.from.ensures c.add_quantum.ensures.adds in
     let after = limits-moved d.cursor d.row.items _ next (limits-of d) c.requires within adds in
