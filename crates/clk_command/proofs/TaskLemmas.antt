@@ -12,8 +12,7 @@ use Rattle.clk_tree.specs.Plan.{Planned, Denotes}
 use Rattle.clk_syntax.specs.Reading.{HasFault}
 use Rattle.clk_packet.specs.Bytes.{AppendsFront}
 use Rattle.clk_script.specs.Written.{WroteWhat}
-use Rattle.clk_script.proofs.RefusalLemmas.{without-logs}
-use Rattle.clk_command.specs.Tasks.{Does, IsPlanIn, WritesOver, WritesWithVisits, ReportsOver, ReportsWithVisits, WroteBoth}
+use Rattle.clk_command.specs.Tasks.{Does, IsPlanIn, ReportsOver, WroteBoth}
 use Rattle.clk_command.specs.Words.{task}
 use Rattle.clk_command.specs.declared.pace.Pace.{Pace}
 use Rattle.clk_command.specs.declared.words.Asked.{Asked}
@@ -66,16 +65,6 @@ fault-read (Some all) bytes fault is has = by_test (nat_lt most_tree_bytes (leng
         absurd (cc)
     by_test false t has = subst (λ (text : List ℕ). HasFault text fault) (is ∙ take_all 1048577 all (grind (arith, nat_tests))) has
 
--- neither a text nor visits were written
-pub both-nothing : {T : Type 0} (Means : List ℕ → List ℕ → Type 0) (fault : Fault) (old visits_old : Option (List ℕ)) → fault ≢ Write → WroteBoth {T = T} Means old old (Err fault) visits_old visits_old
-both-nothing Means fault old visits_old other =
-    record {
-      whole = tt;
-      front = λ failed. absurd (other (cc));
-      memory = λ _. inl (Keeps-refl old, Keeps-refl visits_old);
-      nothing = λ _ _. (Keeps-refl old, Keeps-refl visits_old);
-    }
-
 -- writing the text failed
 pub both-first : {T U : Type 0} (P : List ℕ → Type 0) (Q : List ℕ → List ℕ → Type 0) (fault : Fault) (old new visits_old : Option (List ℕ)) → ((text : List ℕ) → P text → (visits : List ℕ) × Q text visits)
     → WroteWhat {T = T} P (Err fault) old new → WroteBoth {T = U} Q old new (Err fault) visits_old visits_old
@@ -109,21 +98,6 @@ both-second P Q x (Err e) old new visits_old visits_new visits means w whole fro
     neither : (e ≡ Memory) ⊎ (e ≡ Write) → e ≢ Write → e ≢ Memory → ⊥
     neither (inl is) write memory = memory is
     neither (inr is) write memory = write is
-
--- what holds without the visits
-pub without-visits : (tree input : Option (List ℕ)) (P Q : List ℕ → Type 0) → (text : List ℕ) × (csv : List ℕ) × WritesWithVisits tree input text csv × P text × Q csv → (text : List ℕ) × WritesOver tree input text × P text
-without-visits tree input P Q h = (
-  h.0,
-  record {
-    plan = h.2.plan;
-    is_plan = h.2.is_plan;
-    means = without-logs h.2.plan input h.0 h.2.logs h.2.means;
-  },
-  h.3,
-)
-
-pub reported-only : (tree trace : Option (List ℕ)) (pace : Pace) (P Q : List ℕ → Type 0) → (text : List ℕ) × (csv : List ℕ) × ReportsWithVisits tree trace pace text csv × P text × Q csv → (text : List ℕ) × ReportsOver tree trace pace text × P text
-reported-only tree trace pace P Q h = (h.0, h.2.reports, h.3)
 
 -- a run was done, as it was asked for
 pub does-run : (asked : Asked) (tree trace : Bor (List ℕ)) (pace : Pace) (visits : Option (Bor (List ℕ))) (input : Option (List ℕ)) (P : List ℕ → Type 0) → asked ≡ Run tree trace pace visits

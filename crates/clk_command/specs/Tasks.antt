@@ -32,7 +32,7 @@ pub record IsCanonicalOf (tree : Option (List ℕ)) (text : List ℕ) : Type 0 w
 abbrev pub ExplainsTree : Option (List ℕ) → Fault → Type 0
 ExplainsTree tree fault = ((fault ≡ Memory) ⊎ (fault ≡ Read)) ⊎ IfSome tree (λ text. HasFault text fault)
 
--- A script over a tree writes this text, where a device's visits are these logs.
+-- A script over a tree writes this text.
 pub record WritesOver (tree input : Option (List ℕ)) (text : List ℕ) : Type 0 where
   pub plan : List Planned
   pub is_plan : IsPlanIn tree plan

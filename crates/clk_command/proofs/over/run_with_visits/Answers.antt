@@ -1,13 +1,8 @@
 use Rattle.std.proofs.Common.{ap, refl}
 use Rattle.std.proofs.lemmas.Result.{err_from_is_err_and}
 use Rattle.clk_report.specs.VisitCsv.{visits_text}
-use Rattle.clk_command.proofs.TaskLemmas.{both-nothing, both-first, both-second}
+use Rattle.clk_command.proofs.TaskLemmas.{both-first, both-second}
 use Rattle.clk_command.proofs.over.run_with_visits.Goals as goal
-
-pub returns-in_err-plan-clause-wrote : goal.returns-in_err-plan-clause-wrote
-returns-in_err-plan-clause-wrote g c =
-    let p = err_from_is_err_and c.from_residual.result c.from_residual.ensures.1 in
-    rw (p.1, p.2) (both-nothing _ _ _ _ c.in_err-plan.ensures.not_write)
 
 pub returns-in_err-logs-clause-wrote : goal.returns-in_err-logs-clause-wrote
 returns-in_err-logs-clause-wrote g c =
