@@ -1,11 +1,12 @@
 -- Once a drain gave all that was left, nothing is held, and each queue's packets were all taken that weren't evicted.
-use Rattle.std.proofs.Common.{◌≡◌, ℕ, ◌+◌, ◌≤◌, ◌==◌, ◌&&◌, ◌||◌, Bool, true, false, true≢false, not, List, [], ◌∷◌, length, refl, sym, ap, ◌∙◌, arith, eq-eqb, if◌then◌else◌}
+use Rattle.std.proofs.Common.{◌≡◌, ℕ, ◌+◌, ◌≤◌, ◌==◌, ◌&&◌, ◌||◌, Bool, true, false, true≢false, not, List, [], ◌∷◌, length, refl, sym, ap, ◌∙◌, arith, if◌then◌else◌}
 use Rattle.std.proofs.lemmas.Bool.{eqb-true}
 use Rattle.std.proofs.lemmas.Bool.Decides.{nat_tests}
 use Rattle.std.proofs.lemmas.List.{nil_from_length}
 use Rattle.std.specs.List.{AllByRecursion}
 use Rattle.clk_sched.specs.declared.visit.Visit.{Visit}
-use Rattle.clk_sched.specs.Tree.{Tree, root, leaves, stands_in, are_distinct, leaves_distinct}
+use Rattle.clk_packet.specs.Lists.{stands_in, are_distinct}
+use Rattle.clk_sched.specs.Tree.{Tree, root, leaves, leaves_distinct}
 use Rattle.clk_sched.specs.Conservation.{given_in_all, ConservesCounts}
 use Rattle.clk_sched.specs.Closing.{held_in_all}
 use Rattle.clk_sched.specs.Results.{emitted, heads, leaf_packets}
@@ -14,7 +15,8 @@ use Rattle.clk_sched.specs.Session.{Progress, IsDrained}
 use Rattle.clk_drain.specs.Closing.{accepted_over, evicted_over, left_over}
 use Rattle.clk_drain.specs.Line.{LineLists, leaves_of, AreLinesOf}
 use Rattle.clk_drain.specs.Parts.{IsWithin, HasAllTaken}
-use Rattle.clk_drain.specs.Senders.{IsBelowAll, Rise}
+use Rattle.clk_drain.specs.Senders.{Rise}
+use Rattle.clk_drain.proofs.Apart.{has-here, below-none}
 use Rattle.clk_drain.proofs.Emitting.{emitted-more}
 
 and-both : (a b : Bool) → (not a && b) ≡ true → (a ≡ false) × (b ≡ true)
@@ -25,16 +27,9 @@ and-are : (a b : Bool) → a ≡ false → b ≡ true → (not a && b) ≡ true
 and-are true b e f = absurd (true≢false e)
 and-are false b e f = f
 
--- a number that rises above all doesn't stand among them
-below-apart : (n : ℕ) (ns : List ℕ) → IsBelowAll n ns → stands_in n ns ≡ false
-below-apart n [] h = refl
-below-apart n (m ∷ ns) h =
-    let other : (m == n) ≡ false = grind (arith, nat_tests, h.0) in
-    ap (λ b. b || stands_in n ns) other ∙ below-apart n ns h.1
-
 pub rise-distinct : (ns : List ℕ) → Rise ns → are_distinct ns ≡ true
 rise-distinct [] h = refl
-rise-distinct (n ∷ ns) h = and-are (stands_in n ns) (are_distinct ns) (below-apart n ns h.0) (rise-distinct ns h.1)
+rise-distinct (n ∷ ns) h = and-are (stands_in n ns) (are_distinct ns) (below-none n ns h.0) (rise-distinct ns h.1)
 
 -- a list without the first place of a number
 abbrev drop_one : ℕ → List ℕ → List ℕ
@@ -91,10 +86,10 @@ sum-dropped f x (y ∷ ys) s = by_test (y == x) refl s (sum-dropped f x ys)
 -- Over the same numbers, each once on both sides, it is the same.
 pub sum-same : (f : ℕ → ℕ) (xs ys : List ℕ) → are_distinct xs ≡ true → are_distinct ys ≡ true → ((q : ℕ) → stands_in q xs ≡ stands_in q ys) → held_in_all f xs ≡ held_in_all f ys
 sum-same f [] [] c d same = refl
-sum-same f [] (y ∷ ys) c d same = absurd (true≢false (sym (same y ∙ ap (λ b. b || stands_in y ys) (eq-eqb y y refl))))
+sum-same f [] (y ∷ ys) c d same = absurd (true≢false (sym (same y ∙ has-here y ys)))
 sum-same f (x ∷ xs) ys c d same =
     let parts = and-both (stands_in x xs) (are_distinct xs) c in
-    let here : stands_in x ys ≡ true = sym (same x) ∙ ap (λ b. b || stands_in x xs) (eq-eqb x x refl) in
+    let here : stands_in x ys ≡ true = sym (same x) ∙ has-here x xs in
     let rest = sum-same f xs (drop_one x ys) parts.1 (distinct-dropped x ys d) (λ q. stands-behind q x xs parts.0 ∙ ap (λ b. b && not (x == q)) (same q) ∙ sym (stands-dropped q x ys d)) in
     let all = sum-dropped f x ys here in
     omega (arith, rest, all)

@@ -1,5 +1,5 @@
 -- Tallies in order: they rise by their senders, each is found, and they count what their seats count.
-use Rattle.std.proofs.Common.{◌≡◌, ℕ, ◌+◌, ◌≤◌, ◌<◌, ◌==◌, ⊎_elim, Bool, true, false, true≢false, List, [], ◌∷◌, ◌++◌, length, map, filter, Some, refl, sym, ap, ◌∙◌, subst, arith, if◌then◌else◌, eq-eqb, ne_eqb, eq-zero-or-pos, suc, sum_by}
+use Rattle.std.proofs.Common.{◌≡◌, ℕ, ◌+◌, ◌≤◌, ◌<◌, ◌==◌, ◌||◌, ⊎_elim, Bool, true, false, true≢false, List, [], ◌∷◌, ◌++◌, length, map, filter, Some, refl, sym, ap, ◌∙◌, subst, arith, if◌then◌else◌, eq-eqb, ne_eqb, eq-zero-or-pos, suc, sum_by}
 use Rattle.std.specs.List.{AllByRecursion}
 use Rattle.std.specs.List.Sorted.{IsNonDecreasingBy}
 use Rattle.std.proofs.lemmas.Bool.{eqb-false, eqb-true}
@@ -9,7 +9,8 @@ use Rattle.std.proofs.lemmas.List.Sorted.{All-permutation, IsPermutation-sym, su
 use Rattle.std.proofs.lemmas.List.Sums.{sum_by-cons}
 use Rattle.clk_packet.specs.declared.packet.Packet.{Packet}
 use Rattle.clk_packet.specs.declared.tally.Tally.{Tally}
-use Rattle.clk_ruled.specs.Lists.{has_sender, has_packet}
+use Rattle.clk_packet.specs.Lists.{stands_in}
+use Rattle.clk_ruled.specs.Lists.{has_packet}
 use Rattle.clk_ruled.specs.Queue.{SeatLists}
 use Rattle.clk_ruled.specs.Settle.{all_evicted, accepted_count, lost_count, tally_of}
 use Rattle.clk_drain.specs.Senders.{AreApart, IsBelowAll, Rise}
@@ -32,11 +33,11 @@ times s tallies = sum_by (λ (t : Tally). one_if (t.sender == s)) tallies
 times-more : (s : ℕ) (t : Tally) (tallies : List Tally) → times s (t ∷ tallies) ≡ one_if (t.sender == s) + times s tallies
 times-more s t tallies = sum_by-cons (λ (u : Tally). one_if (u.sender == s)) t tallies
 
-times-none : (s : ℕ) (tallies : List Tally) → has_sender (tellers tallies) s ≡ false → times s tallies ≡ 0
+times-none : (s : ℕ) (tallies : List Tally) → stands_in s (tellers tallies) ≡ false → times s tallies ≡ 0
 times-none s [] e = refl
 times-none s (t ∷ tallies) e = times-more s t tallies ∙ by_test (t.sender == s) e (times-none s tallies)
   where
-    by_test : (b : Bool) → (if b then true else has_sender (tellers tallies) s) ≡ false → (has_sender (tellers tallies) s ≡ false → times s tallies ≡ 0) → one_if b + times s tallies ≡ 0
+    by_test : (b : Bool) → (b || stands_in s (tellers tallies)) ≡ false → (stands_in s (tellers tallies) ≡ false → times s tallies ≡ 0) → one_if b + times s tallies ≡ 0
     by_test true k again = absurd (true≢false k)
     by_test false k again = let rest = again k in omega (arith, rest)
 
@@ -45,7 +46,7 @@ times-once : (s : ℕ) (tallies : List Tally) → AreApart (tellers tallies) →
 times-once s [] h = omega arith
 times-once s (t ∷ tallies) h =
     let more = times-more s t tallies in
-    let one = by_test (t.sender == s) (λ e. times-none s tallies (subst (λ n. has_sender (tellers tallies) n ≡ false) (eqb-true t.sender s e) h.0)) (times-once s tallies h.1) in
+    let one = by_test (t.sender == s) (λ e. times-none s tallies (subst (λ n. stands_in n (tellers tallies) ≡ false) (eqb-true t.sender s e) h.0)) (times-once s tallies h.1) in
     omega (arith, more, one)
   where
     by_test : (b : Bool) → (b ≡ true → times s tallies ≡ 0) → times s tallies ≤ 1 → one_if b + times s tallies ≤ 1

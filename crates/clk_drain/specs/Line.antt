@@ -5,7 +5,8 @@ use Rattle.clk_packet.specs.declared.packet.Packet.{Packet}
 use Rattle.clk_ruled.specs.declared.view.Setup.{Setup}
 use Rattle.clk_ruled.specs.Queue.{SeatLists, TapLists, ClosedLists}
 use Rattle.clk_ruled.specs.Settle.{lists_of}
-use Rattle.clk_sched.specs.Tree.{root, leaves, stands_in}
+use Rattle.clk_packet.specs.Lists.{stands_in}
+use Rattle.clk_sched.specs.Tree.{root, leaves}
 use Rattle.clk_sched.specs.Results.{leaf_packets}
 use Rattle.clk_sched.specs.Session.{Progress}
 use Rattle.clk_drain.specs.Senders.{AreApart, Rise}

@@ -1,17 +1,13 @@
-use Rattle.std.proofs.Common.{rules, ◌≡◌, ℕ, ◌≤◌, ◌==◌, ◌||◌, Bool, true, false, List, [], ◌∷◌, length, get_or, drop, refl, sym, ap, ◌∙◌, subst, if◌then◌else◌}
+use Rattle.std.proofs.Common.{rules, ◌≡◌, ℕ, ◌≤◌, ◌==◌, ◌||◌, false, List, [], ◌∷◌, length, get_or, drop, refl, sym, ap, ◌∙◌, subst}
 use Rattle.std.proofs.lemmas.List.{take_rest}
 use Rattle.std.specs.List.{list_any}
-use Rattle.clk_ruled.specs.Lists.{has_sender}
+use Rattle.clk_packet.specs.Lists.{stands_in}
 use Rattle.clk_drain.specs.Senders.{AreApart}
 use Rattle.clk_drain_tests.proofs.shared.+assert_apart.Goals as goal
 
-has-any : (s : ℕ) (senders : List ℕ) → has_sender senders s ≡ list_any (λ t. t == s) senders
+has-any : (s : ℕ) (senders : List ℕ) → stands_in s senders ≡ list_any (λ t. t == s) senders
 has-any s [] = refl
-has-any s (t ∷ senders) = by_test (t == s) ∙ ap (λ b. (t == s) || b) (has-any s senders)
-  where
-    by_test : (b : Bool) → (if b then true else has_sender senders s) ≡ (b || has_sender senders s)
-    by_test true = refl
-    by_test false = refl
+has-any s (t ∷ senders) = ap (λ b. (t == s) || b) (has-any s senders)
 
 apart-more : (senders : List ℕ) → 1 ≤ length senders → list_any (λ t. t == get_or senders 0 0) (drop 1 senders) ≡ false → AreApart (drop 1 senders) → AreApart senders
 apart-more [] some none h = tt
