@@ -5,8 +5,7 @@ use Rattle.std.proofs.lemmas.Bool.{eqb-true}
 use Rattle.std.proofs.lemmas.List.{append-nil, map-append}
 use Rattle.clk_packet.specs.declared.packet.Packet.{Packet}
 use Rattle.clk_packet.specs.declared.tally.Tally.{Tally}
-use Rattle.clk_packet.specs.Lists.{stands_in}
-use Rattle.clk_drain.specs.Senders.{AreApart}
+use Rattle.clk_packet.specs.Lists.{stands_in, are_distinct}
 use Rattle.clk_drain.specs.Outcome.{SharedQueue, Device, senders_to, IsTallied, tally_for, accepted_by, lost_by, in_all, IsQueueSettled, IsDeviceSettled, IsSettledOutcome}
 use Rattle.clk_drain.specs.inside.Parts.{AreInOrder}
 use Rattle.clk_drain.proofs.Apart.{has-left, has-right, not-both, apart-parts, apart-joined, rise-apart}
@@ -96,20 +95,20 @@ teller-known names (t ∷ tallies) s known has = by_test (t.sender == s) refl (t
     by_test false e again k = again k
 
 -- No sender has two tallies, where none sends to two devices.
-tellers-apart : (sent : ℕ → List Packet) (parts : List Part) → AreSettled sent parts → AreApart (flat_map senders_to (devices_of parts)) → AreApart (tellers (tallies_in_all parts))
-tellers-apart sent [] h apart = tt
+tellers-apart : (sent : ℕ → List Packet) (parts : List Part) → AreSettled sent parts → are_distinct (flat_map senders_to (devices_of parts)) ≡ true → are_distinct (tellers (tallies_in_all parts)) ≡ true
+tellers-apart sent [] h apart = refl
 tellers-apart sent (p ∷ parts) h apart =
     let here : List ℕ = senders_to p.device in
     let there : List ℕ = flat_map senders_to (devices_of parts) in
-    subst AreApart (sym (map-append (λ (t : Tally). t.sender) p.tallies (tallies_in_all parts)))
+    subst (λ ns. are_distinct ns ≡ true) (sym (map-append (λ (t : Tally). t.sender) p.tallies (tallies_in_all parts)))
     (apart-joined (tellers p.tallies) (tellers (tallies_in_all parts)) (rise-apart (tellers p.tallies) h.0.rise) (tellers-apart sent parts h.1 (apart-parts here there apart).1)
     (λ s has more. not-both here there s apart (teller-known here p.tallies s (part-known sent p h.0) has) (teller-known there (tallies_in_all parts) s (all-known sent parts h.1) more)))
 
 -- Devices to which no sender sends twice, each settled with its own tallies, are settled together with all of these in order.
-pub devices-settled : (sent : ℕ → List Packet) (parts : List Part) (tallies : List Tally) → AreSettled sent parts → AreApart (flat_map senders_to (devices_of parts)) → AreInOrder (tallies_in_all parts) tallies
+pub devices-settled : (sent : ℕ → List Packet) (parts : List Part) (tallies : List Tally) → AreSettled sent parts → are_distinct (flat_map senders_to (devices_of parts)) ≡ true → AreInOrder (tallies_in_all parts) tallies
     → IsSettledOutcome sent (devices_of parts) tallies
 devices-settled sent parts tallies h apart order =
-    let once : AreApart (tellers (tallies_in_all parts)) = tellers-apart sent parts h apart in record {
+    let once : are_distinct (tellers (tallies_in_all parts)) ≡ true = tellers-apart sent parts h apart in record {
       rise = in-order-rise (tallies_in_all parts) tallies once order;
       known = in-order-all (λ (t : Tally). stands_in t.sender (flat_map senders_to (devices_of parts)) ≡ true) (tallies_in_all parts) tallies order (all-known sent parts h);
       settled = each-together sent tallies parts h (in-order-found (tallies_in_all parts) tallies once order);

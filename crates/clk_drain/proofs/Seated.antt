@@ -4,14 +4,13 @@ use Rattle.std.specs.List.{AllByRecursion}
 use Rattle.std.proofs.lemmas.Bool.{eqb-true}
 use Rattle.std.proofs.lemmas.List.{map-append}
 use Rattle.clk_packet.specs.declared.packet.Packet.{Packet}
-use Rattle.clk_packet.specs.Lists.{In, stands_in}
+use Rattle.clk_packet.specs.Lists.{In, stands_in, are_distinct}
 use Rattle.clk_ruled.specs.Queue.{SeatLists}
 use Rattle.clk_sched.specs.declared.visit.Visit.{Visit}
 use Rattle.clk_sched.specs.Tree.{Tree, root, leaves}
 use Rattle.clk_sched.specs.Results.{Traced, leaf_packets}
 use Rattle.clk_sched.specs.Conservation.{CameFrom}
 use Rattle.clk_sched.specs.Session.{Progress}
-use Rattle.clk_drain.specs.Senders.{AreApart}
 use Rattle.clk_drain.specs.Line.{LineLists, leaves_of, seats_of, seats_in, senders_at, AreLinesOf, HaveOwnSenders}
 use Rattle.clk_drain.specs.inside.Parts.{IsSettledLine}
 use Rattle.clk_drain.proofs.Apart.{has-left, has-right, not-both, apart-parts}
@@ -37,9 +36,9 @@ sits-has s q (l ∷ lines) (inr h) = ap (λ senders. stands_in s senders) (joine
 pub one-leaf : (s q r : ℕ) (lines : List LineLists) → HaveOwnSenders lines → Sits s q lines → Sits s r lines → q ≡ r
 one-leaf s q r [] own h k = absurd h
 one-leaf s q r (l ∷ lines) own (inl h) (inl k) = sym h.0 ∙ k.0
-one-leaf s q r (l ∷ lines) own (inl h) (inr k) = absurd (not-both (line_senders l) (senders_at (seats_in lines)) s (subst AreApart (joined l lines) own) h.1 (sits-has s r lines k))
-one-leaf s q r (l ∷ lines) own (inr h) (inl k) = absurd (not-both (line_senders l) (senders_at (seats_in lines)) s (subst AreApart (joined l lines) own) k.1 (sits-has s q lines h))
-one-leaf s q r (l ∷ lines) own (inr h) (inr k) = one-leaf s q r lines (apart-parts (line_senders l) (senders_at (seats_in lines)) (subst AreApart (joined l lines) own)).1 h k
+one-leaf s q r (l ∷ lines) own (inl h) (inr k) = absurd (not-both (line_senders l) (senders_at (seats_in lines)) s (subst (λ ns. are_distinct ns ≡ true) (joined l lines) own) h.1 (sits-has s r lines k))
+one-leaf s q r (l ∷ lines) own (inr h) (inl k) = absurd (not-both (line_senders l) (senders_at (seats_in lines)) s (subst (λ ns. are_distinct ns ≡ true) (joined l lines) own) k.1 (sits-has s q lines h))
+one-leaf s q r (l ∷ lines) own (inr h) (inr k) = one-leaf s q r lines (apart-parts (line_senders l) (senders_at (seats_in lines)) (subst (λ ns. are_distinct ns ≡ true) (joined l lines) own)).1 h k
 
 -- the senders that a queue was opened with are those of its seats
 rooms-senders : (seats : List SeatLists) → map (λ (r : ℕ × ℕ). r.0) (map (λ (l : SeatLists). (l.sender, l.room)) seats) ≡ senders_at seats

@@ -3,10 +3,10 @@ use Rattle.std.proofs.Common.{◌≡◌, ℕ, ◌+◌, ◌==◌, ◌||◌, Bool,
 use Rattle.std.proofs.lemmas.Bool.Decides.{nat_tests}
 use Rattle.std.specs.List.{flat_map}
 use Rattle.clk_packet.specs.declared.packet.Packet.{Packet}
-use Rattle.clk_packet.specs.Lists.{stands_in}
+use Rattle.clk_packet.specs.Lists.{stands_in, are_distinct}
+use Rattle.clk_packet.proofs.Callers.Lists.{distinct-parts}
 use Rattle.clk_ruled.specs.Rule.{Out, to_puller, put_out, went_out, taken_in, evicted_by}
 use Rattle.clk_ruled.proofs.ListLemmas.{eq-true}
-use Rattle.clk_ruled.proofs.Tally.{AreApart}
 
 -- the packets that were put out, for any seat
 abbrev pub put_out_in : List Out → List Packet
@@ -53,15 +53,16 @@ first-or true false h n e f = absurd (true≢false e)
 first-or false true h n e f = absurd (true≢false (sym e))
 first-or false false h n e f = omega arith
 
-put-out-more : (f : Packet → Bool) (e : ℕ) (p : Packet) (gone : List Out) (senders : List ℕ) → AreApart senders
+put-out-more : (f : Packet → Bool) (e : ℕ) (p : Packet) (gone : List Out) (senders : List ℕ) → are_distinct senders ≡ true
     → count f (flat_map (λ s. evicted_by s (put_out e p ∷ gone)) senders) ≡ (if stands_in e senders then one_if (f p) else 0) + count f (flat_map (λ s. evicted_by s gone) senders)
 put-out-more f e p gone [] d = refl
 put-out-more f e p gone (t ∷ senders) d =
-    let rest = put-out-more f e p gone senders d.1 in
+    let parts = distinct-parts t senders d in
+    let rest = put-out-more f e p gone senders parts.1 in
     let own = count-if f (e == t) p (evicted_by t gone) in
     let left = count-append f (evicted_by t (put_out e p ∷ gone)) (flat_map (λ s. evicted_by s (put_out e p ∷ gone)) senders) in
     let right = count-append f (evicted_by t gone) (flat_map (λ s. evicted_by s gone) senders) in
-    let both = first-or (e == t) (t == e) (stands_in e senders) (one_if (f p)) (eq-turned e t) (λ is. ap (λ (s : ℕ). stands_in s senders) (true-eq e t is) ∙ d.0) in
+    let both = first-or (e == t) (t == e) (stands_in e senders) (one_if (f p)) (eq-turned e t) (λ is. ap (λ (s : ℕ). stands_in s senders) (true-eq e t is) ∙ parts.0) in
     omega (arith, rest, own, left, right, both)
 
 -- only senders of the queue put something out
@@ -82,7 +83,7 @@ none-out f [] = refl
 none-out f (s ∷ senders) = none-out f senders
 
 -- What the seats put out, sender by sender, is what was put out.
-pub count-evicted : (f : Packet → Bool) (senders : List ℕ) (gone : List Out) → AreApart senders → KnowsEach senders gone → count f (flat_map (λ s. evicted_by s gone) senders) ≡ count f (put_out_in gone)
+pub count-evicted : (f : Packet → Bool) (senders : List ℕ) (gone : List Out) → are_distinct senders ≡ true → KnowsEach senders gone → count f (flat_map (λ s. evicted_by s gone) senders) ≡ count f (put_out_in gone)
 count-evicted f senders [] d known = none-out f senders
 count-evicted f senders (to_puller p ∷ gone) d known = count-evicted f senders gone d known
 count-evicted f senders (put_out e p ∷ gone) d known =

@@ -6,7 +6,8 @@ use Rattle.clk_packet.specs.declared.packet.Packet.{Packet}
 use Rattle.clk_ruled.specs.declared.view.Setup.{Setup}
 use Rattle.clk_ruled.specs.declared.view.Gathered.{Gathered}
 use Rattle.clk_ruled.specs.declared.view.View.{View}
-use Rattle.clk_packet.specs.Lists.{of_sender, In, stands_in}
+use Rattle.clk_packet.specs.Lists.{of_sender, In, stands_in, are_distinct}
+use Rattle.clk_packet.proofs.Callers.Lists.{distinct-more}
 use Rattle.clk_ruled.specs.Lists.{IsRising, rooms_in_all}
 use Rattle.clk_ruled.specs.Queue.{AreOfSenders, accepted_in_all, evicted_in_all}
 use Rattle.clk_ruled.specs.Rule.{Out, to_puller, put_out, went_out, taken_in, Books, senders_of, gathered_senders, IsSound, AreGathered, FitsTap}
@@ -14,7 +15,7 @@ use Rattle.clk_ruled.specs.inside.Rule.{Knows, KnowsAfter, tap_view}
 use Rattle.clk_ruled.specs.inside.Parts.{TapKeeps}
 use Rattle.clk_ruled.proofs.ListLemmas.{eq-true}
 use Rattle.clk_ruled.proofs.SeatSteps.{room-known}
-use Rattle.clk_ruled.proofs.Tally.{one_more, times, times_in_all, AreApart, counted, senders_named, put_for, of-times, evicted-times, named-length, gone-length, unroomed, all-within}
+use Rattle.clk_ruled.proofs.Tally.{one_more, times, times_in_all, counted, senders_named, put_for, of-times, evicted-times, named-length, gone-length, unroomed, all-within}
 use Rattle.clk_ruled.proofs.TapLemmas.{rising-taken, fewer-taken}
 
 -- the tap after a pull
@@ -99,9 +100,9 @@ taken-known v taken k p h =
     subst (λ (y : Setup). stands_in p.sender (senders_of y) ≡ true) (sym known.setup) (room-known b.setup.rooms p.sender (omega (arith, some, count, room)))
 
 -- What the gathered seats' lists have in all.
-gathered-apart : (b : Books) (given : List ℕ) (gathered : List Gathered) → AreGathered b given gathered → AreApart (gathered_senders gathered)
-gathered-apart b given [] h = tt
-gathered-apart b given (g ∷ gathered) h = (h.1, gathered-apart b given gathered h.2)
+gathered-apart : (b : Books) (given : List ℕ) (gathered : List Gathered) → AreGathered b given gathered → are_distinct (gathered_senders gathered) ≡ true
+gathered-apart b given [] h = refl
+gathered-apart b given (g ∷ gathered) h = distinct-more g.sender (gathered_senders gathered) h.1 (gathered-apart b given gathered h.2)
 
 accepted-counted : (b : Books) (given : List ℕ) (gathered : List Gathered) → AreGathered b given gathered → accepted_in_all gathered ≡ times_in_all (gathered_senders gathered) (senders_named b.all)
 accepted-counted b given [] h = refl
