@@ -1,11 +1,13 @@
 -- Once a drain gave all that was left, nothing is held, and each queue's packets were all taken that weren't evicted.
-use Rattle.std.proofs.Common.{◌≡◌, ℕ, ◌+◌, ◌≤◌, ◌==◌, ◌&&◌, ◌||◌, Bool, true, false, true≢false, not, List, [], ◌∷◌, length, refl, sym, ap, ◌∙◌, arith, eq-eqb, if◌then◌else◌}
+use Rattle.std.proofs.Common.{◌≡◌, ℕ, ◌+◌, ◌≤◌, ◌==◌, ◌&&◌, ◌||◌, Bool, true, false, true≢false, not, List, [], ◌∷◌, length, refl, sym, ap, ◌∙◌, arith, if◌then◌else◌}
 use Rattle.std.proofs.lemmas.Bool.{eqb-true}
 use Rattle.std.proofs.lemmas.Bool.Decides.{nat_tests}
 use Rattle.std.proofs.lemmas.List.{nil_from_length}
 use Rattle.std.specs.List.{AllByRecursion}
 use Rattle.clk_sched.specs.declared.visit.Visit.{Visit}
-use Rattle.clk_sched.specs.Tree.{Tree, root, leaves, stands_in, are_distinct, leaves_distinct}
+use Rattle.clk_packet.specs.Lists.{stands_in, are_distinct}
+use Rattle.clk_packet.proofs.Callers.Lists.{distinct-parts, distinct-more}
+use Rattle.clk_sched.specs.Tree.{Tree, root, leaves, leaves_distinct}
 use Rattle.clk_sched.specs.Conservation.{given_in_all, ConservesCounts}
 use Rattle.clk_sched.specs.Closing.{held_in_all}
 use Rattle.clk_sched.specs.Results.{emitted, heads, leaf_packets}
@@ -14,27 +16,8 @@ use Rattle.clk_sched.specs.Session.{Progress, IsDrained}
 use Rattle.clk_drain.specs.Closing.{accepted_over, evicted_over, left_over}
 use Rattle.clk_drain.specs.Line.{LineLists, leaves_of, AreLinesOf}
 use Rattle.clk_drain.specs.Parts.{IsWithin, HasAllTaken}
-use Rattle.clk_drain.specs.Senders.{IsBelowAll, Rise}
+use Rattle.clk_drain.proofs.Apart.{has-here, rise-apart}
 use Rattle.clk_drain.proofs.Emitting.{emitted-more}
-
-and-both : (a b : Bool) → (not a && b) ≡ true → (a ≡ false) × (b ≡ true)
-and-both true b e = absurd (true≢false (sym e))
-and-both false b e = (refl, e)
-
-and-are : (a b : Bool) → a ≡ false → b ≡ true → (not a && b) ≡ true
-and-are true b e f = absurd (true≢false e)
-and-are false b e f = f
-
--- a number that rises above all doesn't stand among them
-below-apart : (n : ℕ) (ns : List ℕ) → IsBelowAll n ns → stands_in n ns ≡ false
-below-apart n [] h = refl
-below-apart n (m ∷ ns) h =
-    let other : (m == n) ≡ false = grind (arith, nat_tests, h.0) in
-    ap (λ b. b || stands_in n ns) other ∙ below-apart n ns h.1
-
-pub rise-distinct : (ns : List ℕ) → Rise ns → are_distinct ns ≡ true
-rise-distinct [] h = refl
-rise-distinct (n ∷ ns) h = and-are (stands_in n ns) (are_distinct ns) (below-apart n ns h.0) (rise-distinct ns h.1)
 
 -- a list without the first place of a number
 abbrev drop_one : ℕ → List ℕ → List ℕ
@@ -58,7 +41,7 @@ stands-dropped q x [] d = refl
 stands-dropped q x (y ∷ ys) d = by_test (y == x) refl (stands-dropped q x ys parts.1)
   where
     parts : (stands_in y ys ≡ false) × (are_distinct ys ≡ true)
-    parts = and-both (stands_in y ys) (are_distinct ys) d
+    parts = distinct-parts y ys d
 
     other : (b : Bool) → (y == q) ≡ b → (y == x) ≡ false → stands_in q (drop_one x ys) ≡ (stands_in q ys && not (x == q)) → (b || stands_in q (drop_one x ys)) ≡ ((b || stands_in q ys) && not (x == q))
     other true e t again = let apart : (x == q) ≡ false = grind (arith, nat_tests, e, t) in ap not (sym apart)
@@ -73,11 +56,11 @@ distinct-dropped x [] d = refl
 distinct-dropped x (y ∷ ys) d = by_test (y == x) (distinct-dropped x ys parts.1)
   where
     parts : (stands_in y ys ≡ false) × (are_distinct ys ≡ true)
-    parts = and-both (stands_in y ys) (are_distinct ys) d
+    parts = distinct-parts y ys d
 
     by_test : (b : Bool) → are_distinct (drop_one x ys) ≡ true → are_distinct (if b then ys else y ∷ drop_one x ys) ≡ true
     by_test true again = parts.1
-    by_test false again = and-are (stands_in y (drop_one x ys)) (are_distinct (drop_one x ys)) (stands-dropped y x ys parts.1 ∙ ap (λ b. b && not (x == y)) parts.0) again
+    by_test false again = distinct-more y (drop_one x ys) (stands-dropped y x ys parts.1 ∙ ap (λ b. b && not (x == y)) parts.0) again
 
 -- A sum over numbers is that of one of them, and of the others.
 sum-dropped : (f : ℕ → ℕ) (x : ℕ) (ys : List ℕ) → stands_in x ys ≡ true → held_in_all f ys ≡ f x + held_in_all f (drop_one x ys)
@@ -91,10 +74,10 @@ sum-dropped f x (y ∷ ys) s = by_test (y == x) refl s (sum-dropped f x ys)
 -- Over the same numbers, each once on both sides, it is the same.
 pub sum-same : (f : ℕ → ℕ) (xs ys : List ℕ) → are_distinct xs ≡ true → are_distinct ys ≡ true → ((q : ℕ) → stands_in q xs ≡ stands_in q ys) → held_in_all f xs ≡ held_in_all f ys
 sum-same f [] [] c d same = refl
-sum-same f [] (y ∷ ys) c d same = absurd (true≢false (sym (same y ∙ ap (λ b. b || stands_in y ys) (eq-eqb y y refl))))
+sum-same f [] (y ∷ ys) c d same = absurd (true≢false (sym (same y ∙ has-here y ys)))
 sum-same f (x ∷ xs) ys c d same =
-    let parts = and-both (stands_in x xs) (are_distinct xs) c in
-    let here : stands_in x ys ≡ true = sym (same x) ∙ ap (λ b. b || stands_in x xs) (eq-eqb x x refl) in
+    let parts = distinct-parts x xs c in
+    let here : stands_in x ys ≡ true = sym (same x) ∙ has-here x xs in
     let rest = sum-same f xs (drop_one x ys) parts.1 (distinct-dropped x ys d) (λ q. stands-behind q x xs parts.0 ∙ ap (λ b. b && not (x == q)) (same q) ∙ sym (stands-dropped q x ys d)) in
     let all = sum-dropped f x ys here in
     omega (arith, rest, all)
@@ -129,7 +112,7 @@ pub taken-counts : (session : Progress) (lines : List LineLists) → leaves_dist
     → taken_over lines ≡ length (emitted session.log) + length (heads session.tree session.log)
 taken-counts session lines distinct conserves run own =
     sym (given-taken session.tree session.log lines own.taken) ∙ given-sum session.tree session.log (leaves_of lines)
-    ∙ sum-same (λ q. length (leaf_packets session.tree q session.log)) (leaves_of lines) (leaves (root session.tree)) (rise-distinct (leaves_of lines) own.rise) distinct own.leaves
+    ∙ sum-same (λ q. length (leaf_packets session.tree q session.log)) (leaves_of lines) (leaves (root session.tree)) (rise-apart (leaves_of lines) own.rise) distinct own.leaves
     ∙ sym (given-sum session.tree session.log (leaves (root session.tree))) ∙ conserves session.log run
 
 -- A drain that gave all that was left leaves no head held, and each line has all taken.

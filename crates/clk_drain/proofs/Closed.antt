@@ -2,6 +2,7 @@
 use Rattle.std.proofs.Common.{◌≡◌, ℕ, ◌+◌, ◌-◌, true, List, [], ◌∷◌, length, map, max, refl, sym, ◌∙◌, subst}
 use Rattle.std.specs.List.{AllByRecursion}
 use Rattle.clk_packet.specs.declared.packet.Packet.{Packet}
+use Rattle.clk_packet.specs.Lists.{are_distinct}
 use Rattle.clk_sched.specs.Tree.{Tree, leaves_distinct}
 use Rattle.clk_sched.specs.Conservation.{ConservesPackets, ConservesCounts, MakesNothing}
 use Rattle.clk_sched.specs.Results.{emitted}
@@ -10,7 +11,6 @@ use Rattle.clk_drain.specs.declared.drained.Drained.{Drained}
 use Rattle.clk_drain.specs.Line.{LineLists, seats_in, senders_at, HaveOwnSenders}
 use Rattle.clk_drain.specs.Closing.{left_over, queue_of_line, device_of, HasSent, IsDrainedTo}
 use Rattle.clk_drain.specs.Outcome.{Device, IsSettledOutcome}
-use Rattle.clk_drain.specs.Senders.{AreApart}
 use Rattle.clk_drain.specs.Parts.{IsWithin}
 use Rattle.clk_drain.specs.inside.Parts.{IsDrainOf, IsSettledLine, AreInOrder, tallies_in}
 use Rattle.clk_drain.proofs.Left.{IsLeft, left-is}
@@ -36,7 +36,7 @@ pub drained-over : (session new : Progress) (lines gathered after : List LineLis
 drained-over session new lines gathered after moment left drained conserves counts nothing h tallies out =
     let still = h.drained.still ∙ h.leaves_some.gathers.still in
     let run = h.drained.gives.drained.run in
-    let apart : HaveOwnSenders after = subst (λ seats. AreApart (senders_at seats)) (sym (still-seats lines after still)) h.own in
+    let apart : HaveOwnSenders after = subst (λ seats. are_distinct (senders_at seats) ≡ true) (sym (still-seats lines after still)) h.own in
     let is_left : left ≡ left_over session after = left-is session lines gathered left h.leaves_some ∙ (λ i. sym (still-accepted lines after still) i - (sym (still-evicted lines after still) i + length (emitted session.log))) in
     let given = all-given session new after (max (counted_moment session) moment) h.drained.made h.distinct (counts new.tree h.distinct) (subst (λ n. IsDrained session new (max (counted_moment session) moment) h.drained.made n) is_left h.drained.gives.drained) h.drained.own (each-within after h.settled) in
     let emits = emitted-of new after (conserves new.tree h.distinct) (nothing new.tree) run given.0 h.drained.own apart h.settled in

@@ -7,13 +7,13 @@ use Rattle.std.proofs.lemmas.List.{map-append}
 use Rattle.clk_packet.specs.declared.fault.Fault.{Fault}
 use Rattle.clk_packet.specs.declared.fault.Fault.TheVariants.{Memory}
 use Rattle.clk_packet.specs.Trace.{sent_by}
+use Rattle.clk_packet.specs.Lists.{are_distinct}
 use Rattle.clk_sched.specs.declared.visit.Visit.{Visit}
 use Rattle.clk_sched.specs.Limits.{end_of_drains}
 use Rattle.clk_sched.specs.Log.{pulls, moment_of}
 use Rattle.clk_sched.specs.Session.{counted_moment}
 use Rattle.clk_drain.specs.declared.drained.Drained.{Drained}
 use Rattle.clk_drain.specs.declared.outcome.Outcome.{Outcome}
-use Rattle.clk_drain.specs.Senders.{AreApart}
 use Rattle.clk_drain.specs.Line.{seats_in, senders_at}
 use Rattle.clk_drain.specs.Outcome.{SharedQueue, Device, senders_to}
 use Rattle.clk_drain.specs.Closing.{device_of, IsDrainedTo, IsFaultOfDrain}
@@ -143,6 +143,6 @@ all-closed terms all done left old new none logs emitted order apart h =
       closed = closed;
       logs = subst (λ (x : List Feed × List (List Visit)). AreKeptLogs x.0 x.1 (devices_of h.parts)) (λ i. (done_are i, sym (ap (map (λ log. log.items)) logs) i)) h.logs;
       emitted = ap (map (λ packets. packets.items)) emitted ∙ h.emitted;
-      settled = devices-settled (sent_by terms.traces) h.parts new.tallies.items h.settled (subst AreApart (sym (closed-senders terms all (devices_of h.parts) closed)) apart)
+      settled = devices-settled (sent_by terms.traces) h.parts new.tallies.items h.settled (subst (λ ns. are_distinct ns ≡ true) (sym (closed-senders terms all (devices_of h.parts) closed)) apart)
           (subst (λ tallies. AreInOrder tallies new.tallies.items) h.tallies order);
     }

@@ -5,7 +5,8 @@ use Rattle.std.proofs.lemmas.List.{append-nil, map-append, length-map, length-ta
 use Rattle.clk_packet.specs.declared.packet.Packet.{Packet}
 use Rattle.clk_ruled.specs.Queue.{SeatLists, TapLists}
 use Rattle.clk_sched.specs.Session.{Progress}
-use Rattle.clk_sched.specs.Tree.{Tree, root, leaves, stands_in}
+use Rattle.clk_packet.specs.Lists.{stands_in}
+use Rattle.clk_sched.specs.Tree.{Tree, root, leaves}
 use Rattle.clk_tree.specs.Plan.{Planned}
 use Rattle.clk_tree.specs.PlanTree.{IsTreeOf, device_count}
 use Rattle.clk_tree.specs.declared.plan.parts.QueueSpec.{QueueSpec}

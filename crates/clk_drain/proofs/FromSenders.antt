@@ -1,21 +1,20 @@
 -- What was emitted of a sender is what its queue's tap took, and nothing else was emitted.
-use Rattle.std.proofs.Common.{◌≡◌, ℕ, ◌==◌, ◌||◌, inl, inr, Bool, true, false, true≢false, List, [], ◌∷◌, ◌++◌, map, Option, Some, None, MatchOption, refl, sym, ap, ◌∙◌, subst, eq-eqb, if◌then◌else◌}
+use Rattle.std.proofs.Common.{◌≡◌, ℕ, ◌==◌, inl, inr, Bool, true, false, true≢false, List, [], ◌∷◌, ◌++◌, map, Option, Some, None, MatchOption, refl, sym, ap, ◌∙◌, subst, eq-eqb, if◌then◌else◌}
 use Rattle.std.specs.List.{AllByRecursion, cons_option, flat_map, filter_map}
-use Rattle.std.proofs.lemmas.Bool.{eqb-true}
+use Rattle.std.proofs.lemmas.Bool.{eqb-true, or_right}
 use Rattle.std.proofs.lemmas.List.{append-nil}
 use Rattle.clk_packet.specs.declared.packet.Packet.{Packet}
-use Rattle.clk_packet.specs.Lists.{of_sender}
-use Rattle.clk_ruled.specs.Lists.{has_sender}
+use Rattle.clk_packet.specs.Lists.{of_sender, stands_in}
 use Rattle.clk_sched.specs.declared.visit.Visit.{Visit}
 use Rattle.clk_sched.specs.Log.{visits_of}
-use Rattle.clk_sched.specs.Tree.{Tree, root, stands_in, is_number}
+use Rattle.clk_sched.specs.Tree.{Tree, root, is_number}
 use Rattle.clk_sched.specs.Run.{IsRun}
 use Rattle.clk_sched.specs.Results.{Traced, traced, origin_in, leaf_packets, traced_emitted, traced_heads, emitted, heads}
 use Rattle.clk_sched.specs.Conservation.{from_queue, ConservesPackets, MakesNothing}
 use Rattle.clk_sched.specs.Session.{Progress}
 use Rattle.clk_drain.specs.Line.{LineLists, leaves_of, seats_of, seats_in, senders_at, AreLinesOf, HaveOwnSenders}
 use Rattle.clk_drain.specs.inside.Parts.{IsSettledLine}
-use Rattle.clk_drain.proofs.Truths.{or-there}
+use Rattle.clk_drain.proofs.Apart.{has-here}
 use Rattle.clk_drain.proofs.Seated.{line_senders, Sits, HaveTaken, CameOver, sits-has, one-leaf, came-over}
 
 -- Of a sender's packets all came from its own queue.
@@ -79,36 +78,36 @@ taken-emitted session lines conserves run no_heads are q stands =
 -- the same for some of the lines
 some-emitted : (tree : Tree) (log : List Visit) (ts : List Traced) (lines : List LineLists) → HaveOwnSenders lines → AllByRecursion (CameOver lines) ts
     → (some : List LineLists) → ((s q : ℕ) → Sits s q some → Sits s q lines) → ((q : ℕ) → stands_in q (leaves_of some) ≡ true → leaf_packets tree q log ≡ from_queue q ts) → HaveTaken tree log some
-    → AllByRecursion (λ (l : LineLists). (s : ℕ) → has_sender (line_senders l) s ≡ true → of_sender s (map (λ (t : Traced). t.0) ts) ≡ of_sender s l.tap.taken) some
+    → AllByRecursion (λ (l : LineLists). (s : ℕ) → stands_in s (line_senders l) ≡ true → of_sender s (map (λ (t : Traced). t.0) ts) ≡ of_sender s l.tap.taken) some
 some-emitted tree log ts lines own over [] wider each taken = tt
 some-emitted tree log ts lines own over (l ∷ some) wider each taken = (
   (λ s has. of-own_queue s l.leaf lines own (wider s l.leaf (inl (refl, has))) ts over
-      ∙ ap (of_sender s) (sym (taken.0 ∙ each l.leaf (ap (λ (b : Bool). b || stands_in l.leaf (leaves_of some)) (eq-eqb l.leaf l.leaf refl))))),
-  some-emitted tree log ts lines own over some (λ s q h. wider s q (inr h)) (λ q e. each q (or-there (l.leaf == q) (stands_in q (leaves_of some)) e)) taken.1,
+      ∙ ap (of_sender s) (sym (taken.0 ∙ each l.leaf (has-here l.leaf (leaves_of some))))),
+  some-emitted tree log ts lines own over some (λ s q h. wider s q (inr h)) (λ q e. each q (or_right (l.leaf == q) (stands_in q (leaves_of some)) e)) taken.1,
 )
 
 -- What was emitted of a sender is what its queue's tap took.
 pub emitted-of : (session : Progress) (lines : List LineLists) → ConservesPackets session.tree → MakesNothing session.tree → IsRun session.tree session.log → heads session.tree session.log ≡ [] → AreLinesOf session lines → HaveOwnSenders lines → AllByRecursion IsSettledLine lines
-    → AllByRecursion (λ (l : LineLists). (s : ℕ) → has_sender (senders_at (seats_of l)) s ≡ true → of_sender s (emitted session.log) ≡ of_sender s l.tap.taken) lines
+    → AllByRecursion (λ (l : LineLists). (s : ℕ) → stands_in s (senders_at (seats_of l)) ≡ true → of_sender s (emitted session.log) ≡ of_sender s l.tap.taken) lines
 emitted-of session lines conserves makes run no_heads are own settled =
-    subst (λ packets. AllByRecursion (λ (l : LineLists). (s : ℕ) → has_sender (senders_at (seats_of l)) s ≡ true → of_sender s packets ≡ of_sender s l.tap.taken) lines)
+    subst (λ packets. AllByRecursion (λ (l : LineLists). (s : ℕ) → stands_in s (senders_at (seats_of l)) ≡ true → of_sender s packets ≡ of_sender s l.tap.taken) lines)
     (sym (emitted-traced session.tree session.log (visits_of 0 session.log)))
     (some-emitted session.tree session.log (traced_emitted session.tree session.log) lines own
     (came-over session lines are settled (traced_emitted session.tree session.log) (makes session.log run).0)
     lines (λ s q h. h) (taken-emitted session lines conserves run no_heads are) are.taken)
 
 all-over : (lines : List LineLists) (ts : List Traced) → AllByRecursion (CameOver lines) ts
-    → AllByRecursion (λ (p : Packet). has_sender (senders_at (seats_in lines)) p.sender ≡ true) (map (λ (t : Traced). t.0) ts)
+    → AllByRecursion (λ (p : Packet). stands_in p.sender (senders_at (seats_in lines)) ≡ true) (map (λ (t : Traced). t.0) ts)
 all-over lines [] h = tt
 all-over lines (t ∷ ts) h = (by_origin t.1 t.0 h.0, all-over lines ts h.1)
   where
-    by_origin : (o : Option ℕ) (p : Packet) → MatchOption o ⊥ (λ q. Sits p.sender q lines) → has_sender (senders_at (seats_in lines)) p.sender ≡ true
+    by_origin : (o : Option ℕ) (p : Packet) → MatchOption o ⊥ (λ q. Sits p.sender q lines) → stands_in p.sender (senders_at (seats_in lines)) ≡ true
     by_origin None p over = absurd over
     by_origin (Some q) p over = sits-has p.sender q lines over
 
 -- All that was emitted is of senders that have a seat.
 pub emitted-own : (session : Progress) (lines : List LineLists) → ConservesPackets session.tree → MakesNothing session.tree → IsRun session.tree session.log → heads session.tree session.log ≡ [] → AreLinesOf session lines → HaveOwnSenders lines → AllByRecursion IsSettledLine lines
-    → AllByRecursion (λ (p : Packet). has_sender (senders_at (seats_in lines)) p.sender ≡ true) (emitted session.log)
+    → AllByRecursion (λ (p : Packet). stands_in p.sender (senders_at (seats_in lines)) ≡ true) (emitted session.log)
 emitted-own session lines conserves makes run no_heads are own settled =
-    subst (AllByRecursion (λ (p : Packet). has_sender (senders_at (seats_in lines)) p.sender ≡ true)) (sym (emitted-traced session.tree session.log (visits_of 0 session.log)))
+    subst (AllByRecursion (λ (p : Packet). stands_in p.sender (senders_at (seats_in lines)) ≡ true)) (sym (emitted-traced session.tree session.log (visits_of 0 session.log)))
     (all-over lines (traced_emitted session.tree session.log) (came-over session lines are settled (traced_emitted session.tree session.log) (makes session.log run).0))

@@ -5,7 +5,8 @@ use Rattle.std.proofs.lemmas.List.{append-nil, append_assoc}
 use Rattle.std.proofs.lemmas.List.Elements.{filter_map-append}
 use Rattle.clk_packet.specs.declared.packet.Packet.{Packet}
 use Rattle.clk_sched.specs.declared.visit.Visit.{Visit}
-use Rattle.clk_sched.specs.Tree.{Tree, is_number, queue_at, stands_in}
+use Rattle.clk_packet.specs.Lists.{stands_in}
+use Rattle.clk_sched.specs.Tree.{Tree, is_number, queue_at}
 use Rattle.clk_sched.specs.Places.{at_queue, Answers}
 use Rattle.clk_sched.specs.Results.{asks_queue, leaf_packets}
 use Rattle.clk_sched.specs.Session.{tree_queue}

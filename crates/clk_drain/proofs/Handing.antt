@@ -5,7 +5,8 @@ use Rattle.clk_packet.specs.declared.packet.Packet.{Packet}
 use Rattle.clk_ruled.specs.declared.view.Setup.{Setup}
 use Rattle.clk_ruled.specs.Queue.{Queue, SeatLists, TapLists, IsTapOf, queue_of, empty_seat, empty_tap}
 use Rattle.clk_ruled.specs.Closing.{AreSeatsOf}
-use Rattle.clk_sched.specs.Tree.{Tree, root, leaves, stands_in}
+use Rattle.clk_packet.specs.Lists.{stands_in}
+use Rattle.clk_sched.specs.Tree.{Tree, root, leaves}
 use Rattle.clk_sched.specs.Results.{leaf_packets}
 use Rattle.clk_sched.specs.declared.visit.Visit.{Visit}
 use Rattle.clk_drain.specs.declared.running.opening.LeafQueue.{LeafQueue}

@@ -1,9 +1,10 @@
 -- What the threads of a run gave, joined by device, can be closed.
-use Rattle.std.proofs.Common.{◌≡◌, ℕ, ◌*◌, ◌≤◌, Bool, true≢false, List, [], ◌∷◌, ◌++◌, length, map, take, drop, refl, sym, ap, ◌∙◌, subst, arith, length-append, append_assoc}
+use Rattle.std.proofs.Common.{◌≡◌, ℕ, ◌*◌, ◌≤◌, Bool, true≢false, true, List, [], ◌∷◌, ◌++◌, length, map, take, drop, refl, sym, ap, ◌∙◌, subst, arith, length-append, append_assoc}
 use Rattle.std.specs.Prelude.{⊤}
 use Rattle.std.specs.List.{flat_map, AllByRecursion}
 use Rattle.clk_packet.specs.declared.packet.Packet.{Packet}
 use Rattle.clk_packet.specs.Trace.{sent_by, packets_in}
+use Rattle.clk_packet.specs.Lists.{are_distinct}
 use Rattle.clk_ruled.specs.declared.view.Setup.{Setup}
 use Rattle.clk_ruled.specs.Queue.{Queue, SeatLists, TapLists, ClosedLists, queue_of, empty_seat}
 use Rattle.clk_ruled.specs.Settle.{AreOfTap, AreOpenedTogether, lists_of}
@@ -11,7 +12,6 @@ use Rattle.clk_sched.specs.Limits.{most_left}
 use Rattle.clk_sched.specs.Log.{pulls, moment_of}
 use Rattle.clk_sched.specs.Session.{counted_moment}
 use Rattle.clk_drain.specs.declared.running.opening.LeafQueue.{LeafQueue}
-use Rattle.clk_drain.specs.Senders.{AreApart}
 use Rattle.clk_drain.specs.Line.{LineLists, seats_of, seats_in, senders_at, taking_all, pulling_all, AreLinesOf, HaveOwnSenders}
 use Rattle.clk_drain.specs.Outcome.{SharedQueue}
 use Rattle.clk_drain.specs.Closing.{queue_of_line, AreOffered, HasSent}
@@ -223,9 +223,9 @@ senders_over shared = flat_map (λ (q : SharedQueue). q.senders) shared
 feed-senders : (terms : Terms) (shared : List SharedQueue) (e : EndLists) (f : Feed) → IsJoinedFeed terms shared e f → senders_at (seats_in f.lines) ≡ senders_over shared
 feed-senders terms shared e f h = sym (senders-same f.lines) ∙ ap senders_over h.queues_are
 
-feed-ready : (terms : Terms) (shared : List SharedQueue) (e : EndLists) (f : Feed) → AreApart (senders_over shared) → packets_in terms.traces ≤ most_left → IsJoinedFeed terms shared e f → IsReadyToClose terms f
+feed-ready : (terms : Terms) (shared : List SharedQueue) (e : EndLists) (f : Feed) → are_distinct (senders_over shared) ≡ true → packets_in terms.traces ≤ most_left → IsJoinedFeed terms shared e f → IsReadyToClose terms f
 feed-ready terms shared e f own most h =
-    let apart : HaveOwnSenders f.lines = subst AreApart (sym (feed-senders terms shared e f h)) own in
+    let apart : HaveOwnSenders f.lines = subst (λ ns. are_distinct ns ≡ true) (sym (feed-senders terms shared e f h)) own in
     let accepted = accepted-over-within terms.traces f.lines h.sent in
     let sent = within-trace terms.traces (senders_at (seats_in f.lines)) apart in record {
       own = h.own;
@@ -238,7 +238,7 @@ feed-ready terms shared e f own most h =
       counted = h.counted;
     }
 
-pub all-ready : (terms : Terms) (all : List (List SharedQueue)) (ends : List EndLists) (feeds : List Feed) → AreApart (flat_map senders_over all) → packets_in terms.traces ≤ most_left → AreJoinedFeeds terms all ends feeds → AllByRecursion (IsReadyToClose terms) feeds
+pub all-ready : (terms : Terms) (all : List (List SharedQueue)) (ends : List EndLists) (feeds : List Feed) → are_distinct (flat_map senders_over all) ≡ true → packets_in terms.traces ≤ most_left → AreJoinedFeeds terms all ends feeds → AllByRecursion (IsReadyToClose terms) feeds
 all-ready terms [] [] [] own most h = tt
 all-ready terms (shared ∷ all) (e ∷ ends) (f ∷ feeds) own most h =
     let both = apart-parts (senders_over shared) (flat_map senders_over all) own in
@@ -250,8 +250,8 @@ feeds-senders terms [] [] [] h = refl
 feeds-senders terms (shared ∷ all) (e ∷ ends) (f ∷ feeds) h = λ i. feed-senders terms shared e f h.0 i ++ feeds-senders terms all ends feeds h.1 i
 feeds-senders terms all ends feeds h = absurd h
 
-pub all-apart : (terms : Terms) (all : List (List SharedQueue)) (ends : List EndLists) (feeds : List Feed) → AreApart (flat_map senders_over all) → AreJoinedFeeds terms all ends feeds → AreApartDevices feeds
-all-apart terms all ends feeds own h = subst AreApart (sym (feeds-senders terms all ends feeds h)) own
+pub all-apart : (terms : Terms) (all : List (List SharedQueue)) (ends : List EndLists) (feeds : List Feed) → are_distinct (flat_map senders_over all) ≡ true → AreJoinedFeeds terms all ends feeds → AreApartDevices feeds
+all-apart terms all ends feeds own h = subst (λ ns. are_distinct ns ≡ true) (sym (feeds-senders terms all ends feeds h)) own
 
 -- The visits of all joined devices are kept, or not, as those of the opened ones.
 pub joined-kept : (visits : Bool) (terms : Terms) (all : List (List SharedQueue)) (ends : List EndLists) (feeds : List Feed) → AllByRecursion (KeepVisits visits) ends → AreJoinedFeeds terms all ends feeds → AllByRecursion (λ (f : Feed). f.visits ≡ visits) feeds

@@ -16,7 +16,8 @@ use Rattle.clk_drain.specs.Closing.{accepted_over, evicted_over, left_over, HasU
 use Rattle.clk_drain.specs.Parts.{IsWithin}
 use Rattle.clk_drain.specs.inside.Parts.{AreGatheredFrom, IsDrainOf, IsGathered, held_of, held_at}
 use Rattle.clk_drain.proofs.Still.{still-accepted, still-evicted, still-unsettled}
-use Rattle.clk_drain.proofs.AllGiven.{taken_over, taken-counts, sum-same, rise-distinct}
+use Rattle.clk_drain.proofs.Apart.{rise-apart}
+use Rattle.clk_drain.proofs.AllGiven.{taken_over, taken-counts, sum-same}
 
 -- how many packets the queues of lines hold in all
 abbrev held_over : List LineLists → ℕ
@@ -57,7 +58,7 @@ pub rest-held : (session : Progress) (lines : List LineLists) → leaves_distinc
 rest-held session lines distinct conserves run own gathered =
     let taken = taken-counts session lines distinct conserves run own in
     let all = held-counts lines (each-within lines gathered) in
-    let at_leaves = sum-same (held_at lines) (leaves (root session.tree)) (leaves_of lines) distinct (rise-distinct (leaves_of lines) own.rise) (λ q. sym (own.leaves q)) ∙ held-sum lines own.rise in
+    let at_leaves = sum-same (held_at lines) (leaves (root session.tree)) (leaves_of lines) distinct (rise-apart (leaves_of lines) own.rise) (λ q. sym (own.leaves q)) ∙ held-sum lines own.rise in
     record { within = omega (arith, taken, all); held = omega (arith, taken, all, at_leaves) }
 
 -- What was to be drained from the gathered lines.

@@ -1,5 +1,4 @@
 -- Lemmas on lines, on what is left to them, and on what became of it all.
-mod Truths
 mod Growing
 mod Placing
 mod Taking

@@ -1,12 +1,11 @@
 -- Devices that are settled one by one are settled together.
-use Rattle.std.proofs.Common.{◌≡◌, ℕ, ◌+◌, ◌<◌, ◌≤◌, ◌==◌, Bool, true, false, true≢false, List, [], ◌∷◌, ◌++◌, map, Option, Some, MatchOption, refl, sym, ap, ◌∙◌, subst, if◌then◌else◌}
+use Rattle.std.proofs.Common.{◌≡◌, ℕ, ◌+◌, ◌<◌, ◌≤◌, ◌==◌, ◌||◌, Bool, true, false, true≢false, List, [], ◌∷◌, ◌++◌, map, Option, Some, MatchOption, refl, sym, ap, ◌∙◌, subst, if◌then◌else◌}
 use Rattle.std.specs.List.{flat_map, AllByRecursion}
 use Rattle.std.proofs.lemmas.Bool.{eqb-true}
 use Rattle.std.proofs.lemmas.List.{append-nil, map-append}
 use Rattle.clk_packet.specs.declared.packet.Packet.{Packet}
 use Rattle.clk_packet.specs.declared.tally.Tally.{Tally}
-use Rattle.clk_ruled.specs.Lists.{has_sender}
-use Rattle.clk_drain.specs.Senders.{AreApart}
+use Rattle.clk_packet.specs.Lists.{stands_in, are_distinct}
 use Rattle.clk_drain.specs.Outcome.{SharedQueue, Device, senders_to, IsTallied, tally_for, accepted_by, lost_by, in_all, IsQueueSettled, IsDeviceSettled, IsSettledOutcome}
 use Rattle.clk_drain.specs.inside.Parts.{AreInOrder}
 use Rattle.clk_drain.proofs.Apart.{has-left, has-right, not-both, apart-parts, apart-joined, rise-apart}
@@ -71,7 +70,7 @@ each-together sent all (p ∷ parts) h found =
 
 -- Each tally is of a sender of its device.
 abbrev AreOf : List ℕ → List Tally → Type 0
-AreOf names tallies = AllByRecursion (λ (t : Tally). has_sender names t.sender ≡ true) tallies
+AreOf names tallies = AllByRecursion (λ (t : Tally). stands_in t.sender names ≡ true) tallies
 
 part-known : (sent : ℕ → List Packet) (p : Part) → IsSettledOutcome sent (p.device ∷ []) p.tallies → AreOf (senders_to p.device) p.tallies
 part-known sent p h = subst (λ names. AreOf names p.tallies) (append-nil (senders_to p.device)) h.known
@@ -81,36 +80,36 @@ all-known sent [] h = tt
 all-known sent (p ∷ parts) h =
     let here : List ℕ = senders_to p.device in
     let there : List ℕ = flat_map senders_to (devices_of parts) in
-    let Named : List ℕ → Tally → Type 0 = λ names t. has_sender names t.sender ≡ true in
+    let Named : List ℕ → Tally → Type 0 = λ names t. stands_in t.sender names ≡ true in
     all-join (Named (here ++ there)) p.tallies (tallies_in_all parts)
     (all-weaker (Named here) (Named (here ++ there)) p.tallies (λ t has. has-left here there t.sender has) (part-known sent p h.0))
     (all-weaker (Named there) (Named (here ++ there)) (tallies_in_all parts) (λ t has. has-right here there t.sender has) (all-known sent parts h.1))
 
 -- who has a tally is one of those that all the tallies are of
-teller-known : (names : List ℕ) (tallies : List Tally) (s : ℕ) → AreOf names tallies → has_sender (tellers tallies) s ≡ true → has_sender names s ≡ true
+teller-known : (names : List ℕ) (tallies : List Tally) (s : ℕ) → AreOf names tallies → stands_in s (tellers tallies) ≡ true → stands_in s names ≡ true
 teller-known names [] s known has = absurd (true≢false (sym has))
 teller-known names (t ∷ tallies) s known has = by_test (t.sender == s) refl (teller-known names tallies s known.1) has
   where
-    by_test : (b : Bool) → (t.sender == s) ≡ b → (has_sender (tellers tallies) s ≡ true → has_sender names s ≡ true) → (if b then true else has_sender (tellers tallies) s) ≡ true → has_sender names s ≡ true
-    by_test true e again k = subst (λ r. has_sender names r ≡ true) (eqb-true t.sender s e) known.0
+    by_test : (b : Bool) → (t.sender == s) ≡ b → (stands_in s (tellers tallies) ≡ true → stands_in s names ≡ true) → (b || stands_in s (tellers tallies)) ≡ true → stands_in s names ≡ true
+    by_test true e again k = subst (λ r. stands_in r names ≡ true) (eqb-true t.sender s e) known.0
     by_test false e again k = again k
 
 -- No sender has two tallies, where none sends to two devices.
-tellers-apart : (sent : ℕ → List Packet) (parts : List Part) → AreSettled sent parts → AreApart (flat_map senders_to (devices_of parts)) → AreApart (tellers (tallies_in_all parts))
-tellers-apart sent [] h apart = tt
+tellers-apart : (sent : ℕ → List Packet) (parts : List Part) → AreSettled sent parts → are_distinct (flat_map senders_to (devices_of parts)) ≡ true → are_distinct (tellers (tallies_in_all parts)) ≡ true
+tellers-apart sent [] h apart = refl
 tellers-apart sent (p ∷ parts) h apart =
     let here : List ℕ = senders_to p.device in
     let there : List ℕ = flat_map senders_to (devices_of parts) in
-    subst AreApart (sym (map-append (λ (t : Tally). t.sender) p.tallies (tallies_in_all parts)))
+    subst (λ ns. are_distinct ns ≡ true) (sym (map-append (λ (t : Tally). t.sender) p.tallies (tallies_in_all parts)))
     (apart-joined (tellers p.tallies) (tellers (tallies_in_all parts)) (rise-apart (tellers p.tallies) h.0.rise) (tellers-apart sent parts h.1 (apart-parts here there apart).1)
     (λ s has more. not-both here there s apart (teller-known here p.tallies s (part-known sent p h.0) has) (teller-known there (tallies_in_all parts) s (all-known sent parts h.1) more)))
 
 -- Devices to which no sender sends twice, each settled with its own tallies, are settled together with all of these in order.
-pub devices-settled : (sent : ℕ → List Packet) (parts : List Part) (tallies : List Tally) → AreSettled sent parts → AreApart (flat_map senders_to (devices_of parts)) → AreInOrder (tallies_in_all parts) tallies
+pub devices-settled : (sent : ℕ → List Packet) (parts : List Part) (tallies : List Tally) → AreSettled sent parts → are_distinct (flat_map senders_to (devices_of parts)) ≡ true → AreInOrder (tallies_in_all parts) tallies
     → IsSettledOutcome sent (devices_of parts) tallies
 devices-settled sent parts tallies h apart order =
-    let once : AreApart (tellers (tallies_in_all parts)) = tellers-apart sent parts h apart in record {
+    let once : are_distinct (tellers (tallies_in_all parts)) ≡ true = tellers-apart sent parts h apart in record {
       rise = in-order-rise (tallies_in_all parts) tallies once order;
-      known = in-order-all (λ (t : Tally). has_sender (flat_map senders_to (devices_of parts)) t.sender ≡ true) (tallies_in_all parts) tallies order (all-known sent parts h);
+      known = in-order-all (λ (t : Tally). stands_in t.sender (flat_map senders_to (devices_of parts)) ≡ true) (tallies_in_all parts) tallies order (all-known sent parts h);
       settled = each-together sent tallies parts h (in-order-found (tallies_in_all parts) tallies once order);
     }

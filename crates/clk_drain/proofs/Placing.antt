@@ -3,12 +3,12 @@ use Rattle.std.proofs.Common.{◌≡◌, ℕ, ◌<◌, ◌==◌, Bool, true, fal
 use Rattle.std.specs.declared.cmp.Ordering.TheVariants.{Equal}
 use Rattle.std.specs.Ordering.{nat_cmp}
 use Rattle.std.proofs.Math.Seq.{map-set_same}
+use Rattle.std.proofs.lemmas.Bool.{or_left, or_right}
 use Rattle.std.proofs.lemmas.Bool.Decides.{nat_tests}
 use Rattle.std.proofs.lemmas.Cmp.{ranked}
 use Rattle.clk_packet.specs.declared.packet.Packet.{Packet}
 use Rattle.clk_drain.specs.Senders.{IsBelowAll, Rise}
 use Rattle.clk_drain.specs.Line.{LineLists, leaves_of, pulling, pulling_all, packets_of, answered, PullsAt, has_line}
-use Rattle.clk_drain.proofs.Truths.{or-here, or-there}
 use Rattle.clk_drain.proofs.Growing.{pulling-none, all-none}
 
 pub other-are : (m n : ℕ) → m < n → ((m == n) ≡ false) × ((n == m) ≡ false)
@@ -51,8 +51,8 @@ unanswered leaf lines = sym (none-pulled leaf lines)
 -- a leaf at a place stands among the leaves
 has-at : (lines : List LineLists) (leaf i : ℕ) (d : LineLists) → i < length lines → (get_or lines i d).leaf ≡ leaf → has_line lines leaf ≡ true
 has-at [] leaf i d lt e = absurd (omega arith)
-has-at (l ∷ lines) leaf zero d lt e = or-here (l.leaf == leaf) (has_line lines leaf) (eq-eqb l.leaf leaf e)
-has-at (l ∷ lines) leaf (suc i) d lt e = or-there (l.leaf == leaf) (has_line lines leaf) (has-at lines leaf i d (omega arith) e)
+has-at (l ∷ lines) leaf zero d lt e = or_left (l.leaf == leaf) (has_line lines leaf) (eq-eqb l.leaf leaf e)
+has-at (l ∷ lines) leaf (suc i) d lt e = or_right (l.leaf == leaf) (has_line lines leaf) (has-at lines leaf i d (omega arith) e)
 
 -- What a pull of the line that the search found for a leaf leaves.
 pub record IsAsked (old : List LineLists) (leaf : ℕ) (got : Option Packet) (new : List LineLists) : Type 0 where

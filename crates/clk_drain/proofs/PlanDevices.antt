@@ -1,12 +1,12 @@
 -- The devices of a plan by number: what was opened for each, what each came to, and that no sender sends to two.
-use Rattle.std.proofs.Common.{◌≡◌, ℕ, zero, suc, ◌+◌, ◌==◌, List, [], ◌∷◌, ◌++◌, length, map, filter, refl, sym, ◌∙◌, subst, add-one}
+use Rattle.std.proofs.Common.{◌≡◌, ℕ, zero, suc, ◌+◌, ◌==◌, true, List, [], ◌∷◌, ◌++◌, length, map, filter, refl, sym, ◌∙◌, subst, add-one}
 use Rattle.std.specs.List.{flat_map, range_with_len, AllByRecursion}
 use Rattle.clk_packet.specs.declared.packet.Packet.{Packet}
+use Rattle.clk_packet.specs.Lists.{are_distinct}
 use Rattle.clk_tree.specs.Plan.{Planned}
 use Rattle.clk_tree.specs.PlanTree.{IsTreeOf}
 use Rattle.clk_tree.specs.PlanParts.{Queued, queues_of}
 use Rattle.clk_drain.specs.declared.running.opening.LeafQueue.{LeafQueue}
-use Rattle.clk_drain.specs.Senders.{AreApart}
 use Rattle.clk_drain.specs.Outcome.{SharedQueue, Device}
 use Rattle.clk_drain.specs.Moments.{HasMoments}
 use Rattle.clk_drain.specs.inside.Threads.{Terms, Feed}
@@ -27,8 +27,8 @@ senders-by-device queues first zero = refl
 senders-by-device queues first (suc count) = λ i. senders-at first 0 queues i ++ senders-by-device queues (first + 1) count i
 
 -- Where no sender sends to two queues, none sends to two devices.
-pub apart-by-device : (queues : List Queued) (first count : ℕ) → AreApart (flat_map (λ (q : Queued). q.senders) queues) → AreApart (flat_map senders_over (queues_by_device queues first count))
-apart-by-device queues first count apart = subst AreApart (sym (senders-by-device queues first count)) (apart-by-kind (λ (q : Queued). q.senders) (λ (q : Queued). q.device) queues first count apart)
+pub apart-by-device : (queues : List Queued) (first count : ℕ) → are_distinct (flat_map (λ (q : Queued). q.senders) queues) ≡ true → are_distinct (flat_map senders_over (queues_by_device queues first count)) ≡ true
+apart-by-device queues first count apart = subst (λ ns. are_distinct ns ≡ true) (sym (senders-by-device queues first count)) (apart-by-kind (λ (q : Queued). q.senders) (λ (q : Queued). q.device) queues first count apart)
 
 -- Each device's queues were opened.
 pub opened-by-device : (plan : List Planned) (traces : List (List Packet)) (device : ℕ) (queues : List (List LeafQueue)) (ends : List EndLists) → AreOpenFrom plan traces device queues ends

@@ -2,38 +2,39 @@
 use Rattle.std.proofs.Common.{◌≡◌, ℕ, zero, suc, ◌+◌, ◌<◌, ◌≤◌, ◌==◌, inl, inr, Bool, true, false, true≢false, List, [], ◌∷◌, ◌++◌, length, map, take, drop, filter, refl, sym, ap, ◌∙◌, subst, add-one, arith, if◌then◌else◌}
 use Rattle.std.specs.List.{AllByRecursion, flat_map, range_with_len, cons_option}
 use Rattle.std.proofs.lemmas.Bool.{eqb-true}
-use Rattle.clk_ruled.specs.Lists.{has_sender, SendersAbove, SendersRise}
+use Rattle.clk_packet.specs.Lists.{stands_in, are_distinct}
+use Rattle.clk_ruled.specs.Lists.{SendersAbove, SendersRise}
 use Rattle.clk_syntax.specs.Classes.{Class, queue}
 use Rattle.clk_tree.specs.declared.plan.parts.SenderSpec.{SenderSpec}
 use Rattle.clk_tree.specs.Plan.{Planned}
 use Rattle.clk_tree.specs.PlanTree.{is_queue, queue_count}
 use Rattle.clk_tree.specs.PlanParts.{Queued, number_of, senders_of, senders_to, queue_of, queues_from, queues_of, AreRising}
-use Rattle.clk_drain.specs.Senders.{AreApart, IsBelowAll, Rise}
+use Rattle.clk_drain.specs.Senders.{IsBelowAll, Rise}
 use Rattle.clk_drain.proofs.Apart.{has-left, has-right, has-one, not-both, apart-parts, apart-joined, rise-apart}
 
 -- Senders that some things have, and those that some of the things have.
-filtered-has : {X : Type 0} (f : X → List ℕ) (test : X → Bool) (xs : List X) (s : ℕ) → has_sender (flat_map f (filter test xs)) s ≡ true → has_sender (flat_map f xs) s ≡ true
+filtered-has : {X : Type 0} (f : X → List ℕ) (test : X → Bool) (xs : List X) (s : ℕ) → stands_in s (flat_map f (filter test xs)) ≡ true → stands_in s (flat_map f xs) ≡ true
 filtered-has f test [] s h = h
 filtered-has {X} f test (x ∷ xs) s h = by_test (test x) (filtered-has f test xs s) h
   where
     some : List X
     some = filter test xs
 
-    by_test : (b : Bool) → (has_sender (flat_map f some) s ≡ true → has_sender (flat_map f xs) s ≡ true) → has_sender (flat_map f (if b then x ∷ some else some)) s ≡ true → has_sender (f x ++ flat_map f xs) s ≡ true
+    by_test : (b : Bool) → (stands_in s (flat_map f some) ≡ true → stands_in s (flat_map f xs) ≡ true) → stands_in s (flat_map f (if b then x ∷ some else some)) ≡ true → stands_in s (f x ++ flat_map f xs) ≡ true
     by_test true again k = elim (has-one (f x) (flat_map f some) s k) [ inl here ↦ has-left (f x) (flat_map f xs) s here | inr later ↦ has-right (f x) (flat_map f xs) s (again later) ]
     by_test false again k = has-right (f x) (flat_map f xs) s (again k)
 
-pub apart-filtered : {X : Type 0} (f : X → List ℕ) (test : X → Bool) (xs : List X) → AreApart (flat_map f xs) → AreApart (flat_map f (filter test xs))
-apart-filtered f test [] apart = tt
+pub apart-filtered : {X : Type 0} (f : X → List ℕ) (test : X → Bool) (xs : List X) → are_distinct (flat_map f xs) ≡ true → are_distinct (flat_map f (filter test xs)) ≡ true
+apart-filtered f test [] apart = refl
 apart-filtered {X} f test (x ∷ xs) apart = by_test (test x) (apart-filtered f test xs parts.1)
   where
     some : List X
     some = filter test xs
 
-    parts : AreApart (f x) × AreApart (flat_map f xs)
+    parts : (are_distinct (f x) ≡ true) × (are_distinct (flat_map f xs) ≡ true)
     parts = apart-parts (f x) (flat_map f xs) apart
 
-    by_test : (b : Bool) → AreApart (flat_map f some) → AreApart (flat_map f (if b then x ∷ some else some))
+    by_test : (b : Bool) → are_distinct (flat_map f some) ≡ true → are_distinct (flat_map f (if b then x ∷ some else some)) ≡ true
     by_test true rest = apart-joined (f x) (flat_map f some) parts.0 rest (λ s here later. not-both (f x) (flat_map f xs) s apart here (filtered-has f test xs s later))
     by_test false rest = rest
 
@@ -42,7 +43,7 @@ abbrev of_kind : {X : Type 0} → (X → ℕ) → List X → ℕ → List X
 of_kind {X} kind xs d = filter (λ (x : X). kind x == d) xs
 
 -- A sender is had by things of one kind alone.
-one-kind : {X : Type 0} (f : X → List ℕ) (kind : X → ℕ) (xs : List X) (s c d : ℕ) → AreApart (flat_map f xs) → has_sender (flat_map f (of_kind kind xs c)) s ≡ true → has_sender (flat_map f (of_kind kind xs d)) s ≡ true → c ≡ d
+one-kind : {X : Type 0} (f : X → List ℕ) (kind : X → ℕ) (xs : List X) (s c d : ℕ) → are_distinct (flat_map f xs) ≡ true → stands_in s (flat_map f (of_kind kind xs c)) ≡ true → stands_in s (flat_map f (of_kind kind xs d)) ≡ true → c ≡ d
 one-kind f kind [] s c d apart h k = absurd (true≢false (sym h))
 one-kind {X} f kind (x ∷ xs) s c d apart h k = by_tests (kind x == c) (kind x == d) refl refl (one-kind f kind xs s c d (apart-parts (f x) (flat_map f xs) apart).1) h k
   where
@@ -50,32 +51,32 @@ one-kind {X} f kind (x ∷ xs) s c d apart h k = by_tests (kind x == c) (kind x 
     some e = of_kind kind xs e
 
     -- what the first has no other of a kind has
-    once : (e : ℕ) → has_sender (f x) s ≡ true → has_sender (flat_map f (some e)) s ≡ true → ⊥
+    once : (e : ℕ) → stands_in s (f x) ≡ true → stands_in s (flat_map f (some e)) ≡ true → ⊥
     once e here later = not-both (f x) (flat_map f xs) s apart here (filtered-has f (λ (y : X). kind y == e) xs s later)
 
-    by_tests : (b t : Bool) → (kind x == c) ≡ b → (kind x == d) ≡ t → (has_sender (flat_map f (some c)) s ≡ true → has_sender (flat_map f (some d)) s ≡ true → c ≡ d)
-        → has_sender (flat_map f (if b then x ∷ some c else some c)) s ≡ true → has_sender (flat_map f (if t then x ∷ some d else some d)) s ≡ true → c ≡ d
+    by_tests : (b t : Bool) → (kind x == c) ≡ b → (kind x == d) ≡ t → (stands_in s (flat_map f (some c)) ≡ true → stands_in s (flat_map f (some d)) ≡ true → c ≡ d)
+        → stands_in s (flat_map f (if b then x ∷ some c else some c)) ≡ true → stands_in s (flat_map f (if t then x ∷ some d else some d)) ≡ true → c ≡ d
     by_tests true true e g again m n = sym (eqb-true (kind x) c e) ∙ eqb-true (kind x) d g
     by_tests true false e g again m n = elim (has-one (f x) (flat_map f (some c)) s m) [ inl here ↦ absurd (once d here n) | inr later ↦ again later n ]
     by_tests false true e g again m n = elim (has-one (f x) (flat_map f (some d)) s n) [ inl here ↦ absurd (once c here m) | inr later ↦ again m later ]
     by_tests false false e g again m n = again m n
 
 -- Lists by number, of which no two have a sender in common, stand apart when they are joined.
-in-range : (g : ℕ → List ℕ) (first n s : ℕ) → has_sender (flat_map g (range_with_len first n)) s ≡ true → (d : ℕ) × (first ≤ d) × (has_sender (g d) s ≡ true)
+in-range : (g : ℕ → List ℕ) (first n s : ℕ) → stands_in s (flat_map g (range_with_len first n)) ≡ true → (d : ℕ) × (first ≤ d) × (stands_in s (g d) ≡ true)
 in-range g first zero s h = absurd (true≢false (sym h))
 in-range g first (suc n) s h = elim (has-one (g first) (flat_map g (range_with_len (first + 1) n)) s h) [
   | inl here ↦ (first, omega arith, here)
   | inr later ↦ let rest = in-range g (first + 1) n s later in (rest.0, (let le = rest.1 in omega (arith, le)), rest.2)
 ]
 
-range-apart : (g : ℕ → List ℕ) (first n : ℕ) → ((d : ℕ) → AreApart (g d)) → ((s c d : ℕ) → has_sender (g c) s ≡ true → has_sender (g d) s ≡ true → c ≡ d) → AreApart (flat_map g (range_with_len first n))
-range-apart g first zero each one = tt
+range-apart : (g : ℕ → List ℕ) (first n : ℕ) → ((d : ℕ) → are_distinct (g d) ≡ true) → ((s c d : ℕ) → stands_in s (g c) ≡ true → stands_in s (g d) ≡ true → c ≡ d) → are_distinct (flat_map g (range_with_len first n)) ≡ true
+range-apart g first zero each one = refl
 range-apart g first (suc n) each one =
     apart-joined (g first) (flat_map g (range_with_len (first + 1) n)) (each first) (range-apart g (first + 1) n each one)
     (λ s here later. let rest = in-range g (first + 1) n s later in let same = one s first rest.0 here rest.2 in let le = rest.1 in omega (arith, same, le))
 
 -- Things that have no sender in common, taken kind by kind.
-pub apart-by-kind : {X : Type 0} (f : X → List ℕ) (kind : X → ℕ) (xs : List X) (first n : ℕ) → AreApart (flat_map f xs) → AreApart (flat_map (λ (d : ℕ). flat_map f (filter (λ (x : X). kind x == d) xs)) (range_with_len first n))
+pub apart-by-kind : {X : Type 0} (f : X → List ℕ) (kind : X → ℕ) (xs : List X) (first n : ℕ) → are_distinct (flat_map f xs) ≡ true → are_distinct (flat_map (λ (d : ℕ). flat_map f (filter (λ (x : X). kind x == d) xs)) (range_with_len first n)) ≡ true
 apart-by-kind {X} f kind xs first n apart =
     range-apart (λ d. flat_map f (of_kind kind xs d)) first n (λ d. apart-filtered f (λ (x : X). kind x == d) xs apart) (λ s c d h k. one-kind f kind xs s c d apart h k)
 
@@ -97,10 +98,10 @@ own-are [] = refl
 own-are (s ∷ senders) = ap (λ ns. number_of s ∷ ns) (own-are senders)
 
 -- No sender sends to two queues.
-queues-numbered : (senders : List SenderSpec) (first n : ℕ) → AreRising (map number_of senders) → AreApart (flat_map (senders_to senders) (range_with_len first n))
+queues-numbered : (senders : List SenderSpec) (first n : ℕ) → AreRising (map number_of senders) → are_distinct (flat_map (senders_to senders) (range_with_len first n)) ≡ true
 queues-numbered senders first n h =
-    subst (λ (g : ℕ → List ℕ). AreApart (flat_map g (range_with_len first n))) (λ i d. own-are (filter (λ (s : SenderSpec). s.queue == d) senders) i)
-    (apart-by-kind own (λ (s : SenderSpec). s.queue) senders first n (subst AreApart (sym (own-are senders)) (rise-apart (map number_of senders) (rising-rise (map number_of senders) h))))
+    subst (λ (g : ℕ → List ℕ). are_distinct (flat_map g (range_with_len first n)) ≡ true) (λ i d. own-are (filter (λ (s : SenderSpec). s.queue == d) senders) i)
+    (apart-by-kind own (λ (s : SenderSpec). s.queue) senders first n (subst (λ ns. are_distinct ns ≡ true) (sym (own-are senders)) (rise-apart (map number_of senders) (rising-rise (map number_of senders) h))))
 
 -- The queues of a plan have the senders that send to their numbers.
 abbrev senders_in : List Queued → List (List ℕ)
@@ -155,13 +156,13 @@ joined-map : {X : Type 0} (f : X → List ℕ) (xs : List X) → flat_map f xs �
 joined-map f [] = refl
 joined-map f (x ∷ xs) = ap (λ rest. f x ++ rest) (joined-map f xs)
 
-pub queues-apart : (plan : List Planned) → AreRising (map number_of (senders_of plan)) → AreApart (flat_map (λ (q : Queued). q.senders) (queues_of plan))
+pub queues-apart : (plan : List Planned) → AreRising (map number_of (senders_of plan)) → are_distinct (flat_map (λ (q : Queued). q.senders) (queues_of plan)) ≡ true
 queues-apart plan h =
     let queues : List Queued = queues_of plan in
     let numbers : List ℕ = range_with_len 0 (length queues) in
     let same : flat_map (λ (q : Queued). q.senders) queues ≡ flat_map (senders_to (senders_of plan)) numbers =
     joined-map (λ (q : Queued). q.senders) queues ∙ ap (flat_map (λ (ns : List ℕ). ns)) (queues-senders plan 0 plan refl) ∙ sym (joined-map (senders_to (senders_of plan)) numbers) in
-    subst AreApart (sym same) (queues-numbered (senders_of plan) 0 (length queues) h)
+    subst (λ ns. are_distinct ns ≡ true) (sym same) (queues-numbered (senders_of plan) 0 (length queues) h)
 
 -- Rooms of senders that rise.
 rooms-above : (f : ℕ → ℕ) (n : ℕ) (senders : List ℕ) → IsBelowAll n senders → SendersAbove n (map (λ (s : ℕ). (s, f s)) senders)

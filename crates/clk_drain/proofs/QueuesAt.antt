@@ -1,13 +1,13 @@
 -- The queues of one device of a plan, and the leaves at which they stand.
 use Rattle.std.proofs.Common.{◌≡◌, ℕ, zero, suc, ◌+◌, ◌<◌, ◌==◌, ◌||◌, Bool, true, false, List, [], ◌∷◌, ◌++◌, map, filter, slice_get, refl, ap, ◌∙◌, arith, eq-eqb, ne_eqb, if◌then◌else◌}
+use Rattle.std.proofs.lemmas.Bool.{or_left}
 use Rattle.std.specs.List.{flat_map}
-use Rattle.clk_sched.specs.Tree.{stands_in}
+use Rattle.clk_packet.specs.Lists.{stands_in}
 use Rattle.clk_tree.specs.PlanParts.{Queued, leads_to}
 use Rattle.clk_drain.specs.Senders.{IsBelowAll, Rise}
 use Rattle.clk_drain.specs.Outcome.{SharedQueue}
 use Rattle.clk_drain.specs.Opening.{shared_at}
 use Rattle.clk_drain.specs.Run.{queues_at}
-use Rattle.clk_drain.proofs.Truths.{or-here}
 
 -- the leaves of the queues of a device, where the first of all stands at this one
 abbrev leaves_at : ℕ → ℕ → List Queued → List ℕ
@@ -50,7 +50,7 @@ stands-from device n leaf place [] e = refl
 stands-from device n leaf zero (q ∷ queues) e = by_test (q.device == device)
   where
     by_test : (b : Bool) → stands_in n (map (λ (s : SharedQueue). s.leaf) (if b then shared_at leaf q ∷ queues_at device (suc leaf) queues else queues_at device (suc leaf) queues)) ≡ b
-    by_test true = or-here (leaf == n) (stands_in n (leaves_at device (suc leaf) queues)) (eq-eqb leaf n (omega (arith, e)))
+    by_test true = or_left (leaf == n) (stands_in n (leaves_at device (suc leaf) queues)) (eq-eqb leaf n (omega (arith, e)))
     by_test false = none-at device n (suc leaf) queues (omega (arith, e))
 stands-from device n leaf (suc place) (q ∷ queues) e = by_test (q.device == device) (stands-from device n (suc leaf) place queues (omega (arith, e)))
   where

@@ -4,15 +4,13 @@ use Rattle.std.specs.List.{AllByRecursion}
 use Rattle.std.proofs.lemmas.Bool.{eqb-true}
 use Rattle.std.proofs.lemmas.List.{map-append}
 use Rattle.clk_packet.specs.declared.packet.Packet.{Packet}
-use Rattle.clk_packet.specs.Lists.{In}
-use Rattle.clk_ruled.specs.Lists.{has_sender}
+use Rattle.clk_packet.specs.Lists.{In, stands_in, are_distinct}
 use Rattle.clk_ruled.specs.Queue.{SeatLists}
 use Rattle.clk_sched.specs.declared.visit.Visit.{Visit}
-use Rattle.clk_sched.specs.Tree.{Tree, root, leaves, stands_in}
+use Rattle.clk_sched.specs.Tree.{Tree, root, leaves}
 use Rattle.clk_sched.specs.Results.{Traced, leaf_packets}
 use Rattle.clk_sched.specs.Conservation.{CameFrom}
 use Rattle.clk_sched.specs.Session.{Progress}
-use Rattle.clk_drain.specs.Senders.{AreApart}
 use Rattle.clk_drain.specs.Line.{LineLists, leaves_of, seats_of, seats_in, senders_at, AreLinesOf, HaveOwnSenders}
 use Rattle.clk_drain.specs.inside.Parts.{IsSettledLine}
 use Rattle.clk_drain.proofs.Apart.{has-left, has-right, not-both, apart-parts}
@@ -27,20 +25,20 @@ joined l lines = map-append (λ (r : SeatLists). r.sender) (seats_of l) (seats_i
 -- The sender has a seat on a line of this leaf.
 abbrev pub Sits : ℕ → ℕ → List LineLists → Type 0
 Sits s q [] = ⊥
-Sits s q (l ∷ lines) = ((l.leaf ≡ q) × (has_sender (line_senders l) s ≡ true)) ⊎ Sits s q lines
+Sits s q (l ∷ lines) = ((l.leaf ≡ q) × (stands_in s (line_senders l) ≡ true)) ⊎ Sits s q lines
 
-pub sits-has : (s q : ℕ) (lines : List LineLists) → Sits s q lines → has_sender (senders_at (seats_in lines)) s ≡ true
+pub sits-has : (s q : ℕ) (lines : List LineLists) → Sits s q lines → stands_in s (senders_at (seats_in lines)) ≡ true
 sits-has s q [] h = absurd h
-sits-has s q (l ∷ lines) (inl h) = ap (λ senders. has_sender senders s) (joined l lines) ∙ has-left (line_senders l) (senders_at (seats_in lines)) s h.1
-sits-has s q (l ∷ lines) (inr h) = ap (λ senders. has_sender senders s) (joined l lines) ∙ has-right (line_senders l) (senders_at (seats_in lines)) s (sits-has s q lines h)
+sits-has s q (l ∷ lines) (inl h) = ap (λ senders. stands_in s senders) (joined l lines) ∙ has-left (line_senders l) (senders_at (seats_in lines)) s h.1
+sits-has s q (l ∷ lines) (inr h) = ap (λ senders. stands_in s senders) (joined l lines) ∙ has-right (line_senders l) (senders_at (seats_in lines)) s (sits-has s q lines h)
 
 -- A sender has seats on lines of one leaf alone.
 pub one-leaf : (s q r : ℕ) (lines : List LineLists) → HaveOwnSenders lines → Sits s q lines → Sits s r lines → q ≡ r
 one-leaf s q r [] own h k = absurd h
 one-leaf s q r (l ∷ lines) own (inl h) (inl k) = sym h.0 ∙ k.0
-one-leaf s q r (l ∷ lines) own (inl h) (inr k) = absurd (not-both (line_senders l) (senders_at (seats_in lines)) s (subst AreApart (joined l lines) own) h.1 (sits-has s r lines k))
-one-leaf s q r (l ∷ lines) own (inr h) (inl k) = absurd (not-both (line_senders l) (senders_at (seats_in lines)) s (subst AreApart (joined l lines) own) k.1 (sits-has s q lines h))
-one-leaf s q r (l ∷ lines) own (inr h) (inr k) = one-leaf s q r lines (apart-parts (line_senders l) (senders_at (seats_in lines)) (subst AreApart (joined l lines) own)).1 h k
+one-leaf s q r (l ∷ lines) own (inl h) (inr k) = absurd (not-both (line_senders l) (senders_at (seats_in lines)) s (subst (λ ns. are_distinct ns ≡ true) (joined l lines) own) h.1 (sits-has s r lines k))
+one-leaf s q r (l ∷ lines) own (inr h) (inl k) = absurd (not-both (line_senders l) (senders_at (seats_in lines)) s (subst (λ ns. are_distinct ns ≡ true) (joined l lines) own) k.1 (sits-has s q lines h))
+one-leaf s q r (l ∷ lines) own (inr h) (inr k) = one-leaf s q r lines (apart-parts (line_senders l) (senders_at (seats_in lines)) (subst (λ ns. are_distinct ns ≡ true) (joined l lines) own)).1 h k
 
 -- the senders that a queue was opened with are those of its seats
 rooms-senders : (seats : List SeatLists) → map (λ (r : ℕ × ℕ). r.0) (map (λ (l : SeatLists). (l.sender, l.room)) seats) ≡ senders_at seats
@@ -48,9 +46,9 @@ rooms-senders [] = refl
 rooms-senders (l ∷ seats) = ap (λ senders. l.sender ∷ senders) (rooms-senders seats)
 
 -- What a settled line's tap took is of the line's senders.
-knows-taken : (l : LineLists) (p : Packet) → IsSettledLine l → In p l.tap.taken → has_sender (line_senders l) p.sender ≡ true
+knows-taken : (l : LineLists) (p : Packet) → IsSettledLine l → In p l.tap.taken → stands_in p.sender (line_senders l) ≡ true
 knows-taken l p line h =
-    subst (λ senders. has_sender senders p.sender ≡ true) (sym (ap (map (λ (r : ℕ × ℕ). r.0)) line.together.senders) ∙ rooms-senders (seats_of l))
+    subst (λ senders. stands_in p.sender senders ≡ true) (sym (ap (map (λ (r : ℕ × ℕ). r.0)) line.together.senders) ∙ rooms-senders (seats_of l))
     (line.is.account.gives_known p h)
 
 abbrev pub HaveTaken : Tree → List Visit → List LineLists → Type 0

@@ -1,24 +1,24 @@
 -- Settled lines, all of whose packets came out, have a settled outcome.
 use Rattle.std.proofs.Common.{◌≡◌, ℕ, ◌==◌, inl, inr, Bool, true, false, not, List, [], ◌∷◌, ◌++◌, map, filter, MatchOption, refl, sym, ap, ◌∙◌, subst, arith, if◌then◌else◌, eq-eqb, ne_eqb, append-nil}
 use Rattle.std.specs.List.{flat_map, AllByRecursion}
-use Rattle.std.proofs.lemmas.Bool.{eqb-false}
+use Rattle.std.proofs.lemmas.Bool.{eqb-false, or_parts, or_right}
 use Rattle.clk_packet.specs.declared.packet.Kind.TheVariants.{TailDrop, FrontDrop}
 use Rattle.clk_packet.specs.declared.packet.Packet.{Packet}
 use Rattle.clk_packet.specs.declared.tally.Tally.{Tally}
-use Rattle.clk_packet.specs.Lists.{of_sender}
-use Rattle.clk_ruled.specs.Lists.{has_sender, has_packet, without}
+use Rattle.clk_packet.specs.Lists.{of_sender, stands_in, are_distinct}
+use Rattle.clk_packet.proofs.Callers.Lists.{distinct-parts}
+use Rattle.clk_ruled.specs.Lists.{has_packet, without}
 use Rattle.clk_ruled.specs.Queue.{SeatLists, TapLists, ClosedLists, IsDealt, IsSharedOut}
 use Rattle.clk_ruled.specs.Settle.{lists_of, of_seat, accepted_of, evicted_of, all_evicted, AreOfTap, tally_of}
 use Rattle.clk_sched.specs.Results.{emitted, heads, leaf_packets}
 use Rattle.clk_sched.specs.Run.{IsRun}
 use Rattle.clk_sched.specs.Session.{Progress}
-use Rattle.clk_drain.specs.Senders.{AreApart}
 use Rattle.clk_drain.specs.Line.{LineLists, seats_of, seats_in, senders_at, AreLinesOf, HaveOwnSenders}
 use Rattle.clk_drain.specs.Outcome.{SharedQueue, Device, senders_to, IsTallied, tally_for, IsQueueSettled, IsSettledOutcome}
 use Rattle.clk_drain.specs.Closing.{queue_of_line, AreOffered, HasSent}
 use Rattle.clk_drain.specs.Parts.{HasAllTaken}
 use Rattle.clk_drain.specs.inside.Parts.{IsSettledLine, tallies_in, AreInOrder}
-use Rattle.clk_drain.proofs.Apart.{has-here, has-later, not-either, apart-parts}
+use Rattle.clk_drain.proofs.Apart.{has-here, apart-parts}
 use Rattle.clk_drain.proofs.Seated.{joined}
 use Rattle.clk_drain.proofs.Tallies.{tellers, in-order-rise, in-order-found, in-order-all, all-split, all-weaker, tellers-in, AreFound, each-found, none-filtered, no-evicted, accepted-same, lost-some}
 
@@ -32,25 +32,25 @@ all-both P Q R [] f h k = tt
 all-both P Q R (x ∷ xs) f h k = (f x h.0 k.0, all-both P Q R xs f h.1 k.1)
 
 -- each member's name is among all names
-all-named : {X : Type 0} (name : X → ℕ) (xs : List X) → AllByRecursion (λ x. has_sender (map name xs) (name x) ≡ true) xs
+all-named : {X : Type 0} (name : X → ℕ) (xs : List X) → AllByRecursion (λ x. stands_in (name x) (map name xs) ≡ true) xs
 all-named name [] = tt
 all-named {X} name (x ∷ xs) = (
   has-here (name x) (map name xs),
-  all-weaker (λ (y : X). has_sender (map name xs) (name y) ≡ true) (λ (y : X). has_sender (map name (x ∷ xs)) (name y) ≡ true) xs (λ y e. has-later (name x == name y) (has_sender (map name xs) (name y)) e) (all-named name xs),
+  all-weaker (λ (y : X). stands_in (name y) (map name xs) ≡ true) (λ (y : X). stands_in (name y) (map name (x ∷ xs)) ≡ true) xs (λ y e. or_right (name x == name y) (stands_in (name y) (map name xs)) e) (all-named name xs),
 )
 
 -- a sender that no seat has is another than each seat's
-others : (s : ℕ) (seats : List SeatLists) → has_sender (senders_at seats) s ≡ false → AllByRecursion (λ (c : SeatLists). (s == c.sender) ≡ false) seats
+others : (s : ℕ) (seats : List SeatLists) → stands_in s (senders_at seats) ≡ false → AllByRecursion (λ (c : SeatLists). (s == c.sender) ≡ false) seats
 others s [] e = tt
-others s (c ∷ seats) e = let both = not-either (c.sender == s) (has_sender (senders_at seats) s) e in (ne_eqb s c.sender (λ k. eqb-false c.sender s both.0 (sym k)), others s seats both.1)
+others s (c ∷ seats) e = let both = or_parts (c.sender == s) (stands_in s (senders_at seats)) e in (ne_eqb s c.sender (λ k. eqb-false c.sender s both.0 (sym k)), others s seats both.1)
 
 -- each seat's list is what is found under its sender
-own-list : (list : SeatLists → List Packet) (seats : List SeatLists) → AreApart (senders_at seats) → AllByRecursion (λ (c : SeatLists). of_seat list seats c.sender ≡ list c) seats
+own-list : (list : SeatLists → List Packet) (seats : List SeatLists) → are_distinct (senders_at seats) ≡ true → AllByRecursion (λ (c : SeatLists). of_seat list seats c.sender ≡ list c) seats
 own-list list [] apart = tt
-own-list list (c ∷ seats) apart = (
+own-list list (c ∷ seats) apart = let parts = distinct-parts c.sender (senders_at seats) apart in (
   ap (λ (b : Bool). if b then list c else of_seat list seats c.sender) (eq-eqb c.sender c.sender refl),
   all-both (λ (e : SeatLists). (c.sender == e.sender) ≡ false) (λ (e : SeatLists). of_seat list seats e.sender ≡ list e) (λ (e : SeatLists). of_seat list (c ∷ seats) e.sender ≡ list e) seats
-      (λ e other own. ap (λ (b : Bool). if b then list c else of_seat list seats e.sender) other ∙ own) (others c.sender seats apart.0) (own-list list seats apart.1),
+      (λ e other own. ap (λ (b : Bool). if b then list c else of_seat list seats e.sender) other ∙ own) (others c.sender seats parts.0) (own-list list seats parts.1),
 )
 
 -- What each seat offered is what its sender sent.
@@ -58,12 +58,12 @@ abbrev sent_of : (seats : List SeatLists) → AllByRecursion IsSharedOut seats �
 sent_of [] h s = []
 sent_of (c ∷ seats) h s = if c.sender == s then h.0.shared.offered else sent_of seats h.1 s
 
-own-sent : (seats : List SeatLists) (h : AllByRecursion IsSharedOut seats) → AreApart (senders_at seats) → AllByRecursion (λ (c : SeatLists). AreOffered (sent_of seats h c.sender) c) seats
+own-sent : (seats : List SeatLists) (h : AllByRecursion IsSharedOut seats) → are_distinct (senders_at seats) ≡ true → AllByRecursion (λ (c : SeatLists). AreOffered (sent_of seats h c.sender) c) seats
 own-sent [] h apart = tt
-own-sent (c ∷ seats) h apart = (
+own-sent (c ∷ seats) h apart = let parts = distinct-parts c.sender (senders_at seats) apart in (
   subst (λ (b : Bool). AreOffered (if b then h.0.shared.offered else sent_of seats h.1 c.sender) c) (sym (eq-eqb c.sender c.sender refl)) (h.0.shared.count, h.0.shared.numbers, h.0.shared.dealt),
   all-both (λ (e : SeatLists). (c.sender == e.sender) ≡ false) (λ (e : SeatLists). AreOffered (sent_of seats h.1 e.sender) e) (λ (e : SeatLists). AreOffered (sent_of (c ∷ seats) h e.sender) e) seats
-      (λ e other own. subst (λ (b : Bool). AreOffered (if b then h.0.shared.offered else sent_of seats h.1 e.sender) e) (sym other) own) (others c.sender seats apart.0) (own-sent seats h.1 apart.1),
+      (λ e other own. subst (λ (b : Bool). AreOffered (if b then h.0.shared.offered else sent_of seats h.1 e.sender) e) (sym other) own) (others c.sender seats parts.0) (own-sent seats h.1 parts.1),
 )
 
 -- What holds of all lines' seats holds of each line's.
@@ -76,9 +76,9 @@ all-shared [] h = tt
 all-shared (l ∷ lines) h = all-join IsSharedOut (seats_of l) (seats_in lines) h.0.is.shared (all-shared lines h.1)
 
 -- where all senders stand apart each line's do
-each-apart : (lines : List LineLists) → HaveOwnSenders lines → AllByRecursion (λ (l : LineLists). AreApart (senders_at (seats_of l))) lines
+each-apart : (lines : List LineLists) → HaveOwnSenders lines → AllByRecursion (λ (l : LineLists). are_distinct (senders_at (seats_of l)) ≡ true) lines
 each-apart [] h = tt
-each-apart (l ∷ lines) h = let both = apart-parts (senders_at (seats_of l)) (senders_at (seats_in lines)) (subst AreApart (joined l lines) h) in (both.0, each-apart lines both.1)
+each-apart (l ∷ lines) h = let both = apart-parts (senders_at (seats_of l)) (senders_at (seats_in lines)) (subst (λ ns. are_distinct ns ≡ true) (joined l lines) h) in (both.0, each-apart lines both.1)
 
 -- the senders to a device's queues are those of the lines
 pub senders-same : (lines : List LineLists) → flat_map (λ (q : SharedQueue). q.senders) (map queue_of_line lines) ≡ senders_at (seats_in lines)
@@ -108,20 +108,20 @@ setups tap (c ∷ closed) h = (h.0.setup, setups tap closed h.1)
 record IsReady (sent : ℕ → List Packet) (d : Device) (tallies : List Tally) (l : LineLists) : Type 0 where
   settled : IsSettledLine l
   taken : HasAllTaken l
-  apart : AreApart (senders_at (seats_of l))
+  apart : are_distinct (senders_at (seats_of l)) ≡ true
   shared : AllByRecursion (λ (c : SeatLists). AreOffered (sent c.sender) c) (seats_of l)
   found : AreFound tallies (all_evicted (seats_of l)) (seats_of l)
-  emitted : (s : ℕ) → has_sender (senders_at (seats_of l)) s ≡ true → of_sender s d.emitted ≡ of_sender s l.tap.taken
+  emitted : (s : ℕ) → stands_in s (senders_at (seats_of l)) ≡ true → of_sender s d.emitted ≡ of_sender s l.tap.taken
   given : l.tap.taken ≡ leaf_packets d.tree l.leaf d.log
 
 -- What a seat tells besides.
 record IsOwn (l : LineLists) (c : SeatLists) : Type 0 where
   accepted : accepted_of (seats_of l) c.sender ≡ c.accepted
-  named : has_sender (senders_at (seats_of l)) c.sender ≡ true
+  named : stands_in c.sender (senders_at (seats_of l)) ≡ true
   front_drop : l.tap.setup.kind ≡ FrontDrop → c.refused ≡ []
 
 -- a Queue puts nothing out
-none-put_out : (l : LineLists) → IsSettledLine l → AreApart (senders_at (seats_of l)) → l.tap.setup.kind ≡ TailDrop → all_evicted (seats_of l) ≡ []
+none-put_out : (l : LineLists) → IsSettledLine l → are_distinct (senders_at (seats_of l)) ≡ true → l.tap.setup.kind ≡ TailDrop → all_evicted (seats_of l) ≡ []
 none-put_out l h apart k =
     no-evicted (seats_of l)
     (all-weaker (λ (c : SeatLists). evicted_of (seats_of l) c.sender ≡ c.evicted) (λ (c : SeatLists). c.evicted ≡ []) (seats_of l) (λ c e. sym e ∙ h.is.account.tail_drop k c.sender) (own-list (λ c. c.evicted) (seats_of l) apart))
@@ -149,11 +149,11 @@ each-tallied sent d tallies l ready (c ∷ seats) found shared own = (
   each-tallied sent d tallies l ready seats found.1 shared.1 own.1,
 )
 
-all-own : (l : LineLists) → IsSettledLine l → AreApart (senders_at (seats_of l)) → AllByRecursion (IsOwn l) (seats_of l)
+all-own : (l : LineLists) → IsSettledLine l → are_distinct (senders_at (seats_of l)) ≡ true → AllByRecursion (IsOwn l) (seats_of l)
 all-own l h apart =
-    all-both (λ (c : SeatLists). accepted_of (seats_of l) c.sender ≡ c.accepted) (λ (c : SeatLists). (has_sender (senders_at (seats_of l)) c.sender ≡ true) × (l.tap.setup.kind ≡ FrontDrop → c.refused ≡ []))
+    all-both (λ (c : SeatLists). accepted_of (seats_of l) c.sender ≡ c.accepted) (λ (c : SeatLists). (stands_in c.sender (senders_at (seats_of l)) ≡ true) × (l.tap.setup.kind ≡ FrontDrop → c.refused ≡ []))
     (IsOwn l) (seats_of l) (λ c e k. record { accepted = e; named = k.0; front_drop = k.1 }) (own-list (λ c. c.accepted) (seats_of l) apart)
-    (all-both (λ (c : SeatLists). has_sender (senders_at (seats_of l)) c.sender ≡ true) (λ (c : SeatLists). l.tap.setup.kind ≡ FrontDrop → c.refused ≡ []) _ (seats_of l) (λ c e k. (e, k)) (all-named (λ (c : SeatLists). c.sender) (seats_of l))
+    (all-both (λ (c : SeatLists). stands_in c.sender (senders_at (seats_of l)) ≡ true) (λ (c : SeatLists). l.tap.setup.kind ≡ FrontDrop → c.refused ≡ []) _ (seats_of l) (λ c e k. (e, k)) (all-named (λ (c : SeatLists). c.sender) (seats_of l))
     (all-both IsSharedOut (λ (c : SeatLists). c.setup ≡ l.tap.setup) _ (seats_of l) (λ c s e k. s.front_drop (ap (λ setup. setup.kind) e ∙ k)) h.is.shared (setups l.tap l.closed h.together.each)))
 
 -- A ready line's queue is settled.
@@ -171,10 +171,10 @@ queues-settled sent d tallies [] h = tt
 queues-settled sent d tallies (l ∷ lines) h = (queue-settled sent d tallies l h.0, queues-settled sent d tallies lines h.1)
 
 all-ready : (sent : ℕ → List Packet) (d : Device) (tallies : List Tally) (lines : List LineLists) → AllByRecursion IsSettledLine lines → AllByRecursion HasAllTaken lines
-    → AllByRecursion (λ (l : LineLists). AreApart (senders_at (seats_of l))) lines
+    → AllByRecursion (λ (l : LineLists). are_distinct (senders_at (seats_of l)) ≡ true) lines
     → AllByRecursion (λ (l : LineLists). AllByRecursion (λ (c : SeatLists). AreOffered (sent c.sender) c) (seats_of l)) lines
     → AllByRecursion (λ (l : LineLists). AreFound tallies (all_evicted (seats_of l)) (seats_of l)) lines
-    → AllByRecursion (λ (l : LineLists). (s : ℕ) → has_sender (senders_at (seats_of l)) s ≡ true → of_sender s d.emitted ≡ of_sender s l.tap.taken) lines
+    → AllByRecursion (λ (l : LineLists). (s : ℕ) → stands_in s (senders_at (seats_of l)) ≡ true → of_sender s d.emitted ≡ of_sender s l.tap.taken) lines
     → AllByRecursion (λ (l : LineLists). l.tap.taken ≡ leaf_packets d.tree l.leaf d.log) lines → AllByRecursion (IsReady sent d tallies) lines
 all-ready sent d tallies [] settled taken apart shared found came given = tt
 all-ready sent d tallies (l ∷ lines) settled taken apart shared found came given = (
@@ -190,18 +190,18 @@ some-sent lines own settled = let shared = all-shared lines settled in (sent_of 
 pub settled-outcome : (sent : ℕ → List Packet) (session : Progress) (lines : List LineLists) (tallies : List Tally) (emits : List Packet)
     → IsRun session.tree session.log → emits ≡ emitted session.log → heads session.tree session.log ≡ []
     → AreLinesOf session lines → HaveOwnSenders lines → AllByRecursion (HasSent sent) (seats_in lines) → AllByRecursion IsSettledLine lines → AllByRecursion HasAllTaken lines
-    → AllByRecursion (λ (l : LineLists). (s : ℕ) → has_sender (senders_at (seats_of l)) s ≡ true → of_sender s emits ≡ of_sender s l.tap.taken) lines
-    → AllByRecursion (λ (p : Packet). has_sender (senders_at (seats_in lines)) p.sender ≡ true) emits
+    → AllByRecursion (λ (l : LineLists). (s : ℕ) → stands_in s (senders_at (seats_of l)) ≡ true → of_sender s emits ≡ of_sender s l.tap.taken) lines
+    → AllByRecursion (λ (p : Packet). stands_in p.sender (senders_at (seats_in lines)) ≡ true) emits
     → AreInOrder (tallies_in lines) tallies
     → IsSettledOutcome sent (record { tree = session.tree; queues = map queue_of_line lines; log = session.log; emitted = emits } ∷ []) tallies
 settled-outcome sent session lines tallies emits run out none own_lines own offered settled taken came known order =
     let d : Device = record { tree = session.tree; queues = map queue_of_line lines; log = session.log; emitted = emits } in
-    let apart : AreApart (tellers (tallies_in lines)) = subst AreApart (sym (tellers-in lines)) own in
+    let apart : are_distinct (tellers (tallies_in lines)) ≡ true = subst (λ ns. are_distinct ns ≡ true) (sym (tellers-in lines)) own in
     let found = each-found tallies lines (in-order-found (tallies_in lines) tallies apart order) in
     let senders : tellers (tallies_in lines) ≡ senders_to d ++ [] = tellers-in lines ∙ sym (senders-same lines) ∙ sym (append-nil (senders_to d)) in record {
       rise = in-order-rise (tallies_in lines) tallies apart order;
-      known = in-order-all (λ (t : Tally). has_sender (senders_to d ++ []) t.sender ≡ true) (tallies_in lines) tallies order
-          (subst (λ names. AllByRecursion (λ (t : Tally). has_sender names t.sender ≡ true) (tallies_in lines)) senders (all-named (λ (t : Tally). t.sender) (tallies_in lines)));
+      known = in-order-all (λ (t : Tally). stands_in t.sender (senders_to d ++ []) ≡ true) (tallies_in lines) tallies order
+          (subst (λ names. AllByRecursion (λ (t : Tally). stands_in t.sender names ≡ true) (tallies_in lines)) senders (all-named (λ (t : Tally). t.sender) (tallies_in lines)));
       settled = (
         record {
           run = run;
@@ -209,7 +209,7 @@ settled-outcome sent session lines tallies emits run out none own_lines own offe
           heads = none;
           queues = queues-settled sent d tallies lines
               (all-ready sent d tallies lines settled taken (each-apart lines own) (each-line (λ (c : SeatLists). AreOffered (sent c.sender) c) lines offered) found came own_lines.taken);
-          own = subst (λ names. AllByRecursion (λ (p : Packet). has_sender names p.sender ≡ true) emits) (sym (senders-same lines)) known;
+          own = subst (λ names. AllByRecursion (λ (p : Packet). stands_in p.sender names ≡ true) emits) (sym (senders-same lines)) known;
         },
         tt,
       );

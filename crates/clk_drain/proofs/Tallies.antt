@@ -1,5 +1,5 @@
 -- Tallies in order: they rise by their senders, each is found, and they count what their seats count.
-use Rattle.std.proofs.Common.{◌≡◌, ℕ, ◌+◌, ◌≤◌, ◌<◌, ◌==◌, ⊎_elim, Bool, true, false, true≢false, List, [], ◌∷◌, ◌++◌, length, map, filter, Some, refl, sym, ap, ◌∙◌, subst, arith, if◌then◌else◌, eq-eqb, ne_eqb, eq-zero-or-pos, suc, sum_by}
+use Rattle.std.proofs.Common.{◌≡◌, ℕ, ◌+◌, ◌≤◌, ◌<◌, ◌==◌, ◌||◌, ⊎_elim, Bool, true, false, true≢false, List, [], ◌∷◌, ◌++◌, length, map, filter, Some, refl, sym, ap, ◌∙◌, subst, arith, if◌then◌else◌, eq-eqb, ne_eqb, eq-zero-or-pos, suc, sum_by}
 use Rattle.std.specs.List.{AllByRecursion}
 use Rattle.std.specs.List.Sorted.{IsNonDecreasingBy}
 use Rattle.std.proofs.lemmas.Bool.{eqb-false, eqb-true}
@@ -9,10 +9,12 @@ use Rattle.std.proofs.lemmas.List.Sorted.{All-permutation, IsPermutation-sym, su
 use Rattle.std.proofs.lemmas.List.Sums.{sum_by-cons}
 use Rattle.clk_packet.specs.declared.packet.Packet.{Packet}
 use Rattle.clk_packet.specs.declared.tally.Tally.{Tally}
-use Rattle.clk_ruled.specs.Lists.{has_sender, has_packet}
+use Rattle.clk_packet.specs.Lists.{stands_in, are_distinct}
+use Rattle.clk_packet.proofs.Callers.Lists.{distinct-parts}
+use Rattle.clk_ruled.specs.Lists.{has_packet}
 use Rattle.clk_ruled.specs.Queue.{SeatLists}
 use Rattle.clk_ruled.specs.Settle.{all_evicted, accepted_count, lost_count, tally_of}
-use Rattle.clk_drain.specs.Senders.{AreApart, IsBelowAll, Rise}
+use Rattle.clk_drain.specs.Senders.{IsBelowAll, Rise}
 use Rattle.clk_drain.specs.Line.{LineLists, seats_of, seats_in, senders_at}
 use Rattle.clk_drain.specs.Outcome.{tally_for, accepted_by, lost_by, in_all}
 use Rattle.clk_drain.specs.inside.Parts.{tallies_of, tallies_in, AreInOrder}
@@ -32,20 +34,21 @@ times s tallies = sum_by (λ (t : Tally). one_if (t.sender == s)) tallies
 times-more : (s : ℕ) (t : Tally) (tallies : List Tally) → times s (t ∷ tallies) ≡ one_if (t.sender == s) + times s tallies
 times-more s t tallies = sum_by-cons (λ (u : Tally). one_if (u.sender == s)) t tallies
 
-times-none : (s : ℕ) (tallies : List Tally) → has_sender (tellers tallies) s ≡ false → times s tallies ≡ 0
+times-none : (s : ℕ) (tallies : List Tally) → stands_in s (tellers tallies) ≡ false → times s tallies ≡ 0
 times-none s [] e = refl
 times-none s (t ∷ tallies) e = times-more s t tallies ∙ by_test (t.sender == s) e (times-none s tallies)
   where
-    by_test : (b : Bool) → (if b then true else has_sender (tellers tallies) s) ≡ false → (has_sender (tellers tallies) s ≡ false → times s tallies ≡ 0) → one_if b + times s tallies ≡ 0
+    by_test : (b : Bool) → (b || stands_in s (tellers tallies)) ≡ false → (stands_in s (tellers tallies) ≡ false → times s tallies ≡ 0) → one_if b + times s tallies ≡ 0
     by_test true k again = absurd (true≢false k)
     by_test false k again = let rest = again k in omega (arith, rest)
 
 -- senders that stand apart have one tally each
-times-once : (s : ℕ) (tallies : List Tally) → AreApart (tellers tallies) → times s tallies ≤ 1
+times-once : (s : ℕ) (tallies : List Tally) → are_distinct (tellers tallies) ≡ true → times s tallies ≤ 1
 times-once s [] h = omega arith
 times-once s (t ∷ tallies) h =
     let more = times-more s t tallies in
-    let one = by_test (t.sender == s) (λ e. times-none s tallies (subst (λ n. has_sender (tellers tallies) n ≡ false) (eqb-true t.sender s e) h.0)) (times-once s tallies h.1) in
+    let parts = distinct-parts t.sender (tellers tallies) h in
+    let one = by_test (t.sender == s) (λ e. times-none s tallies (subst (λ n. stands_in n (tellers tallies) ≡ false) (eqb-true t.sender s e) parts.0)) (times-once s tallies parts.1) in
     omega (arith, more, one)
   where
     by_test : (b : Bool) → (b ≡ true → times s tallies ≡ 0) → times s tallies ≤ 1 → one_if b + times s tallies ≤ 1
@@ -70,7 +73,7 @@ rise-sorted (t ∷ tallies) order few = (
 )
 
 -- Tallies in order rise, where their senders stand apart.
-pub in-order-rise : (tallies sorted : List Tally) → AreApart (tellers tallies) → AreInOrder tallies sorted → Rise (tellers sorted)
+pub in-order-rise : (tallies sorted : List Tally) → are_distinct (tellers tallies) ≡ true → AreInOrder tallies sorted → Rise (tellers sorted)
 in-order-rise tallies sorted apart h =
     rise-sorted sorted h.order (λ s. let same = sum_by-IsPermutation (λ (t : Tally). one_if (t.sender == s)) tallies sorted h.same in let few = times-once s tallies apart in omega (arith, same, few))
 
@@ -91,7 +94,7 @@ found-rising (t ∷ tallies) rise = (
 )
 
 -- Each of the tallies is found among those in order.
-pub in-order-found : (tallies sorted : List Tally) → AreApart (tellers tallies) → AreInOrder tallies sorted → AllByRecursion (λ (t : Tally). tally_for sorted t.sender ≡ Some t) tallies
+pub in-order-found : (tallies sorted : List Tally) → are_distinct (tellers tallies) ≡ true → AreInOrder tallies sorted → AllByRecursion (λ (t : Tally). tally_for sorted t.sender ≡ Some t) tallies
 in-order-found tallies sorted apart h = let P : Tally → Type 0 = λ (t : Tally). tally_for sorted t.sender ≡ Some t in
     recursion_from_All P tallies (All-permutation P sorted tallies (IsPermutation-sym tallies sorted h.same) (All-from_recursion P sorted (found-rising sorted (in-order-rise tallies sorted apart h))))
 

@@ -1,14 +1,15 @@
 -- Lines: the shared queues of a tree, whose seats are all closed.
-use Rattle.std.specs.Prelude.{◌≡◌, ℕ, ◌==◌, Bool, List, [], ◌∷◌, ◌++◌, map, Option, Some, None, if◌then◌else◌}
+use Rattle.std.specs.Prelude.{◌≡◌, ℕ, ◌==◌, Bool, true, List, [], ◌∷◌, ◌++◌, map, Option, Some, None, if◌then◌else◌}
 use Rattle.std.specs.List.{flat_map, AllByRecursion}
 use Rattle.clk_packet.specs.declared.packet.Packet.{Packet}
 use Rattle.clk_ruled.specs.declared.view.Setup.{Setup}
 use Rattle.clk_ruled.specs.Queue.{SeatLists, TapLists, ClosedLists}
 use Rattle.clk_ruled.specs.Settle.{lists_of}
-use Rattle.clk_sched.specs.Tree.{root, leaves, stands_in}
+use Rattle.clk_packet.specs.Lists.{stands_in, are_distinct}
+use Rattle.clk_sched.specs.Tree.{root, leaves}
 use Rattle.clk_sched.specs.Results.{leaf_packets}
 use Rattle.clk_sched.specs.Session.{Progress}
-use Rattle.clk_drain.specs.Senders.{AreApart, Rise}
+use Rattle.clk_drain.specs.Senders.{Rise}
 
 -- A line: the leaf of its queue, the queue's tap, and all of its seats, closed, in order.
 pub record LineLists : Type 0 where
@@ -79,4 +80,4 @@ pub record AreLinesOf (session : Progress) (lines : List LineLists) : Type 0 whe
 
 -- No sender has a seat on two lines, nor two on one.
 abbrev pub HaveOwnSenders : List LineLists → Type 0
-HaveOwnSenders lines = AreApart (senders_at (seats_in lines))
+HaveOwnSenders lines = are_distinct (senders_at (seats_in lines)) ≡ true

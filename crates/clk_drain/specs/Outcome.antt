@@ -5,8 +5,7 @@ use Rattle.clk_packet.specs.declared.packet.Packet.{Packet}
 use Rattle.clk_packet.specs.declared.packet.Kind.{Kind}
 use Rattle.clk_packet.specs.declared.packet.Kind.TheVariants.{TailDrop, FrontDrop}
 use Rattle.clk_packet.specs.declared.tally.Tally.{Tally}
-use Rattle.clk_packet.specs.Lists.{of_sender}
-use Rattle.clk_ruled.specs.Lists.{has_sender}
+use Rattle.clk_packet.specs.Lists.{of_sender, stands_in}
 use Rattle.clk_ruled.specs.Queue.{IsDealt}
 use Rattle.clk_sched.specs.declared.visit.Visit.{Visit}
 use Rattle.clk_sched.specs.Tree.{Tree}
@@ -77,10 +76,10 @@ pub record IsDeviceSettled (sent : ℕ → List Packet) (tallies : List Tally) (
   pub heads : heads d.tree d.log ≡ []
   pub queues : AllByRecursion (IsQueueSettled sent tallies d) d.queues
   -- what it emitted is of those alone who send to its queues
-  pub own : AllByRecursion (λ (p : Packet). has_sender (senders_to d) p.sender ≡ true) d.emitted
+  pub own : AllByRecursion (λ (p : Packet). stands_in p.sender (senders_to d) ≡ true) d.emitted
 
 -- What became of all that each sender sent: one tally a sender, by rising number, and all devices settled.
 pub record IsSettledOutcome (sent : ℕ → List Packet) (devices : List Device) (tallies : List Tally) : Type 0 where
   pub rise : Rise (map (λ (t : Tally). t.sender) tallies)
-  pub known : AllByRecursion (λ (t : Tally). has_sender (flat_map senders_to devices) t.sender ≡ true) tallies
+  pub known : AllByRecursion (λ (t : Tally). stands_in t.sender (flat_map senders_to devices) ≡ true) tallies
   pub settled : AllByRecursion (IsDeviceSettled sent tallies) devices

@@ -6,7 +6,7 @@ use Rattle.clk_packet.specs.declared.fault.Fault.{Fault}
 use Rattle.clk_packet.specs.declared.fault.Fault.TheVariants.{Memory, UnknownSender, Unsettled}
 use Rattle.clk_packet.specs.Limits.{most_sender}
 use Rattle.clk_packet.specs.Trace.{sent_by}
-use Rattle.clk_ruled.specs.Lists.{has_sender}
+use Rattle.clk_packet.specs.Lists.{stands_in}
 use Rattle.clk_ruled.specs.Queue.{SeatLists}
 use Rattle.clk_ruled.specs.Settle.{accepted_count, lost_count}
 use Rattle.clk_sched.specs.declared.visit.Visit.{Visit}
@@ -62,7 +62,7 @@ senders_in plan = map number_of (senders_of plan)
 
 -- Of the senders below a number each that sends something is one of these.
 abbrev pub AreKnownBelow : List ℕ → List (List Packet) → ℕ → Type 0
-AreKnownBelow senders traces n = (s : ℕ) → s < n → 0 < length (sent_by traces s) → has_sender senders s ≡ true
+AreKnownBelow senders traces n = (s : ℕ) → s < n → 0 < length (sent_by traces s) → stands_in s senders ≡ true
 
 -- Each sender that sends something is one of these.
 abbrev pub AreKnown : List ℕ → List (List Packet) → Type 0
@@ -71,7 +71,7 @@ AreKnown senders traces = AreKnownBelow senders traces (suc most_sender)
 -- It is the least sender that sends something and isn't one of these.
 pub record IsFirstUnknown (senders : List ℕ) (traces : List (List Packet)) (s : ℕ) : Type 0 where
   pub sends : 0 < length (sent_by traces s)
-  pub unknown : has_sender senders s ≡ false
+  pub unknown : stands_in s senders ≡ false
   pub least : AreKnownBelow senders traces s
 
 -- The fault that names it.

@@ -1,11 +1,5 @@
 -- Lists of senders.
-use Rattle.std.specs.Prelude.{◌≡◌, ◌<◌, ℕ, false, List, [], ◌∷◌, ⊤}
-use Rattle.clk_ruled.specs.Lists.{has_sender}
-
--- no sender stands twice
-abbrev pub AreApart : List ℕ → Type 0
-AreApart [] = ⊤
-AreApart (s ∷ senders) = (has_sender senders s ≡ false) × AreApart senders
+use Rattle.std.specs.Prelude.{◌<◌, ℕ, List, [], ◌∷◌, ⊤}
 
 -- each number is below those that follow it
 abbrev pub IsBelowAll : ℕ → List ℕ → Type 0

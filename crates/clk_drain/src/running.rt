@@ -14,7 +14,7 @@ mod threads;
 ghost use Rattle.std.specs.Prelude.{◌≡◌, ◌≤◌, ◌<◌, true, false, [], map, length, IfOk, IfErr};
 ghost use Rattle.clk_packet.specs.declared.fault.Fault.TheVariants.{UnknownSender};
 ghost use Rattle.clk_packet.specs.Trace.{sent_by};
-ghost use Rattle.clk_ruled.specs.Lists.{has_sender};
+ghost use Rattle.clk_packet.specs.Lists.{stands_in};
 ghost use Rattle.clk_tree.specs.PlanParts.{number_of};
 ghost use Rattle.clk_drain.specs.Limits.{most_step, most_limit};
 ghost use Rattle.clk_drain.specs.Run.{IsRunOutcome, IsKeptRun, senders_in, AreKnown, IsFaultOfRun, IsUnknownSender};
@@ -139,8 +139,8 @@ fn check_senders(senders: &[SenderSpec], traces: &Traces) -> Result<(), Fault>
 
 // Whether a sender sends nothing, or is among these. Else fault 15.
 fn check_sender(senders: &[SenderSpec], traces: &Traces, sender: u16) -> Result<(), Fault>
-    ensures known { IfOk result (λ _. 0 < length (sent_by traces.now sender) → has_sender (map number_of senders.now) sender ≡ true) }
-    ensures fault { IfErr result (λ fault. (fault ≡ UnknownSender sender) × (0 < length (sent_by traces.now sender)) × (has_sender (map number_of senders.now) sender ≡ false)) }
+    ensures known { IfOk result (λ _. 0 < length (sent_by traces.now sender) → stands_in sender (map number_of senders.now) ≡ true) }
+    ensures fault { IfErr result (λ fault. (fault ≡ UnknownSender sender) × (0 < length (sent_by traces.now sender)) × (stands_in sender (map number_of senders.now) ≡ false)) }
 {
     if traces.count(sender) == 0 {
         return Ok(());
@@ -153,7 +153,7 @@ fn check_sender(senders: &[SenderSpec], traces: &Traces, sender: u16) -> Result<
 
 // Whether a sender is among these.
 fn is_among(senders: &[SenderSpec], number: u16) -> bool
-    ensures { result ≡ has_sender (map number_of senders.now) number }
+    ensures { result ≡ stands_in number (map number_of senders.now) }
 {
     let [first, rest @ ..] = senders else {
         return false;

@@ -3,11 +3,12 @@
 ghost use Rattle.std.specs.Prelude.{◌≡◌, ◌≤◌, [], true, map, IfOk};
 ghost use Rattle.std.specs.List.{AllByRecursion};
 ghost use Rattle.clk_packet.specs.Limits.{most_capacity};
+ghost use Rattle.clk_packet.specs.Lists.{are_distinct};
 ghost use Rattle.clk_ruled.specs.Lists.{rooms_in_all, SendersRise};
 ghost use Rattle.clk_ruled.specs.Settle.{AreOpenedTogether, closing};
 ghost use Rattle.clk_sched.specs.Limits.{most_left};
 ghost use Rattle.clk_sched.specs.Tree.{root, leaves, leaves_distinct, queue};
-ghost use Rattle.clk_drain.specs.Senders.{AreApart, Rise};
+ghost use Rattle.clk_drain.specs.Senders.{Rise};
 ghost use Rattle.clk_drain.specs.Line.{leaves_of, seats_in, senders_at};
 ghost use Rattle.clk_drain.specs.Closing.{accepted_over};
 
@@ -104,7 +105,7 @@ pub fn line<R: Abort + Wait>(
 
 // Fails unless no sender stands twice.
 fn assert_apart(rt: &impl Abort, senders: &[u16])
-    ensures { AreApart senders.now }
+    ensures { are_distinct senders.now ≡ true }
 {
     let [first, rest @ ..] = senders else {
         return;

@@ -1,11 +1,21 @@
 -- Members of lists, and the packets of a sender.
-use Rattle.std.specs.Prelude.{◌≡◌, ◌⊎◌, ℕ, ◌==◌, List, [], ◌∷◌, filter}
+use Rattle.std.specs.Prelude.{◌≡◌, ◌⊎◌, ℕ, ◌==◌, ◌&&◌, ◌||◌, not, Bool, true, false, List, [], ◌∷◌, filter}
 use Rattle.clk_packet.specs.declared.packet.Packet.{Packet}
 
 -- a member stands in the list
 abbrev pub In : {X : Type 0} → X → List X → Type 0
 In x [] = ⊥
 In x (y ∷ ys) = (y ≡ x) ⊎ In x ys
+
+-- whether the number stands in the list
+abbrev pub stands_in : ℕ → List ℕ → Bool
+stands_in n [] = false
+stands_in n (m ∷ numbers) = (m == n) || stands_in n numbers
+
+-- no number stands twice
+abbrev pub are_distinct : List ℕ → Bool
+are_distinct [] = true
+are_distinct (n ∷ numbers) = not (stands_in n numbers) && are_distinct numbers
 
 -- the packets of one sender, in order
 abbrev pub of_sender : ℕ → List Packet → List Packet

@@ -4,8 +4,8 @@ use Rattle.std.proofs.lemmas.List.{append-nil, nil_from_length}
 use Rattle.std.proofs.lemmas.List.Elements.{filter-append}
 use Rattle.std.specs.List.{flat_map, AllByRecursion}
 use Rattle.clk_packet.specs.declared.packet.Packet.{Packet}
-use Rattle.clk_packet.specs.Lists.{of_sender, In}
-use Rattle.clk_ruled.specs.Lists.{is_packet, has_packet, without, has_sender}
+use Rattle.clk_packet.specs.Lists.{of_sender, In, stands_in}
+use Rattle.clk_ruled.specs.Lists.{is_packet, has_packet, without}
 use Rattle.clk_ruled.specs.declared.view.Gathered.{Gathered}
 use Rattle.clk_ruled.specs.Rule.{Out, to_puller, put_out, went_out, taken_in, evicted_by, Books, IsSound, AreGathered, FitsSeat, FitsTap, senders_of}
 use Rattle.clk_ruled.specs.Account.{IsAccount}
@@ -56,7 +56,7 @@ some-long : (p : Packet) (l : List Packet) → In p l → 1 ≤ length l
 some-long p [] i = absurd i
 some-long p (q ∷ l) i = omega arith
 
-is-of : (b : Books) (held : List Packet) → IsSound b held → (p : Packet) → In p b.all → has_sender (senders_of b.setup) p.sender ≡ true
+is-of : (b : Books) (held : List Packet) → IsSound b held → (p : Packet) → In p b.all → stands_in p.sender (senders_of b.setup) ≡ true
 is-of b held h p i = let some = some-long p (of_sender p.sender b.all) (in-own p b.all i) in let room = h.room p.sender in room-known b.setup.rooms p.sender (omega (arith, some, room))
 
 abbrev pub evicted_in : Books → List Packet
@@ -73,7 +73,7 @@ account b held h =
     let all : (p : Packet) → In p (went_out b.gone ++ held) → In p b.all = λ p i. subst (In p) (sym h.order) i in
     let few : (p : Packet) → count (is_packet p) (taken_in b.gone) + count (is_packet p) (put_out_in b.gone) + count (is_packet p) held ≤ 1 = shared-out b held h in
     let out : (p : Packet) → count (is_packet p) (evicted_in b) ≡ count (is_packet p) (put_out_in b.gone) = λ p. count-evicted (is_packet p) (senders_of b.setup) b.gone (rise-apart b.setup.rooms h.senders_rise) h.known in
-    let is_of : (p : Packet) → In p b.all → has_sender (senders_of b.setup) p.sender ≡ true = is-of b held h in record {
+    let is_of : (p : Packet) → In p b.all → stands_in p.sender (senders_of b.setup) ≡ true = is-of b held h in record {
       balances = λ s. ap (λ l. without (of_sender s l) (evicted_in b)) h.order
           ∙ keep-taken (has_packet (evicted_in b)) s b.gone held
           (λ p i. has-none p (evicted_in b) (let some = in-counts p (taken_in b.gone) i in let one = few p in let same = out p in omega (arith, some, one, same)))

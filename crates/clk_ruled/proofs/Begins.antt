@@ -5,7 +5,8 @@ use Rattle.crossbeam_queue.specs.Fifo.{Forks}
 use Rattle.clk_packet.specs.declared.packet.Packet.{Packet}
 use Rattle.clk_ruled.specs.declared.view.Setup.{Setup}
 use Rattle.clk_ruled.specs.declared.view.View.{View}
-use Rattle.clk_ruled.specs.Lists.{has_sender, SendersRise}
+use Rattle.clk_packet.specs.Lists.{stands_in}
+use Rattle.clk_ruled.specs.Lists.{SendersRise}
 use Rattle.clk_ruled.specs.Rule.{Books, FitsTap, Fits, Keeps}
 use Rattle.clk_ruled.specs.inside.Rule.{no_setup, spent_view, blank_view, tap_view}
 use Rattle.clk_ruled.proofs.Changes.{all-set, all-snoc}
@@ -32,7 +33,7 @@ opens pass v setup rise is items views h at =
     let nothing : items ≡ [] = no-items items (subst (λ (y : Setup). length items ≤ y.capacity) (sym f.setup ∙ ap (λ (y : View). y.setup) is) h.1.fits) in
     let c : Books = record { setup = setup; all = []; gone = []; seat = λ _. none; tap = pass } in
     let left : View = tap_view setup [] [] [] in
-    let no_seat : (s : ℕ) → b.seat s ≡ none = λ s. (f.fresh s (ap (λ l. has_sender l s) none_given)).seat in
+    let no_seat : (s : ℕ) → b.seat s ≡ none = λ s. (f.fresh s (ap (λ l. stands_in s l) none_given)).seat in
     let tap : FitsTap c pass left = record { tap = refl; setup = refl; taken = refl; fresh = λ s _. record { seat = refl; accepted = refl; evicted = refl }; gathered = tt } in (
       c,
       record { senders_rise = rise; order = sym nothing; fits = subst (λ (l : List Packet). length l ≤ setup.capacity) (sym nothing) (omega arith); room = λ s. omega arith; rises = λ s. tt; known = λ s _. refl; tail_drop = λ _ s. refl },

@@ -1,13 +1,13 @@
 -- Lists of packets by sender, and what went out.
-use Rattle.std.proofs.Common.{◌≡◌, ◌≢◌, ℕ, ◌==◌, Bool, true, false, true≢false, zero, suc, List, [], ◌∷◌, ◌++◌, length, refl, sym, ap, ◌∙◌, ⊎_elim, inl, inr, ◌⊎◌, if◌then◌else◌, arith}
+use Rattle.std.proofs.Common.{◌≡◌, ◌≢◌, ℕ, ◌==◌, ◌||◌, Bool, true, false, true≢false, zero, suc, List, [], ◌∷◌, ◌++◌, length, refl, sym, ap, ◌∙◌, ⊎_elim, inl, inr, ◌⊎◌, if◌then◌else◌, arith}
+use Rattle.std.proofs.lemmas.Bool.{or_parts, or_right}
 use Rattle.std.proofs.lemmas.List.{append-nil}
 use Rattle.std.proofs.lemmas.List.Elements.{filter-append}
 use Rattle.std.proofs.lemmas.Bool.Decides.{nat_tests}
 use mathlib.Core.Option.{some, some-ne-none, some-injective}
 use lib.ListN.{get_elem?}
 use Rattle.clk_packet.specs.declared.packet.Packet.{Packet}
-use Rattle.clk_packet.specs.Lists.{of_sender}
-use Rattle.clk_ruled.specs.Lists.{has_sender}
+use Rattle.clk_packet.specs.Lists.{of_sender, stands_in}
 use Rattle.clk_ruled.specs.Rule.{Out, to_puller, put_out, went_out, taken_in, evicted_by}
 
 pub eq-true : (m n : ℕ) → m ≡ n → (m == n) ≡ true
@@ -59,22 +59,14 @@ pub evicted-pulled : (s : ℕ) (gone : List Out) (p : Packet) → evicted_by s (
 evicted-pulled s gone p = evicted-more s gone (to_puller p ∷ []) ∙ append-nil (evicted_by s gone)
 
 -- one sender more
-if-true : (b : Bool) (x : Bool) → x ≡ true → (if b then true else x) ≡ true
-if-true true x e = refl
-if-true false x e = e
+pub has-more : (t s : ℕ) (senders : List ℕ) → stands_in s senders ≡ true → stands_in s (t ∷ senders) ≡ true
+has-more t s senders h = or_right (t == s) (stands_in s senders) h
 
-pub has-more : (t s : ℕ) (senders : List ℕ) → has_sender senders s ≡ true → has_sender (t ∷ senders) s ≡ true
-has-more t s senders h = if-true (t == s) (has_sender senders s) h
+pub has-not : (t s : ℕ) (senders : List ℕ) → stands_in s (t ∷ senders) ≡ false → (t ≢ s) × (stands_in s senders ≡ false)
+has-not t s senders h = let both = or_parts (t == s) (stands_in s senders) h in ((λ e. true≢false (sym (eq-true t s e) ∙ both.0)), both.1)
 
-if-false : (b : Bool) (x : Bool) → (if b then true else x) ≡ false → (b ≡ false) × (x ≡ false)
-if-false true x e = absurd (true≢false e)
-if-false false x e = (refl, e)
-
-pub has-not : (t s : ℕ) (senders : List ℕ) → has_sender (t ∷ senders) s ≡ false → (t ≢ s) × (has_sender senders s ≡ false)
-has-not t s senders h = let both = if-false (t == s) (has_sender senders s) h in ((λ e. true≢false (sym (eq-true t s e) ∙ both.0)), both.1)
-
-pub has-itself : (s : ℕ) (senders : List ℕ) → has_sender (s ∷ senders) s ≡ true
-has-itself s senders = ap (λ b. if b then true else has_sender senders s) (eq-true s s refl)
+pub has-itself : (s : ℕ) (senders : List ℕ) → stands_in s (s ∷ senders) ≡ true
+has-itself s senders = ap (λ b. b || stands_in s senders) (eq-true s s refl)
 
 -- a place of a list with one member more
 pub at-end : {A : Type 0} (l : List A) (a b : A) (j : ℕ) → get_elem? (l ++ a ∷ []) j ≡ some b → (get_elem? l j ≡ some b) ⊎ ((j ≡ length l) × (a ≡ b))

@@ -1,10 +1,11 @@
 -- How seats are given one after another.
-use Rattle.std.proofs.Common.{◌≡◌, ℕ, ◌-◌, ◌≤◌, zero, suc, Bool, true, List, [], ◌∷◌, ◌++◌, length, map, take, drop, slice_index_or, refl, sym, ap, ◌∙◌, subst, arith, if◌then◌else◌}
+use Rattle.std.proofs.Common.{◌≡◌, ◌||◌, ℕ, ◌-◌, ◌≤◌, zero, suc, Bool, List, [], ◌∷◌, ◌++◌, length, map, take, drop, slice_index_or, refl, sym, ap, ◌∙◌, subst, arith, if◌then◌else◌}
 use Rattle.std.proofs.lemmas.List.{append_assoc}
 use Rattle.atomic_table.specs.Seated.{TableId}
 use Rattle.clk_ruled.specs.declared.view.Setup.{Setup}
 use Rattle.clk_ruled.specs.declared.view.View.{View}
-use Rattle.clk_ruled.specs.Lists.{has_sender, room_of, SendersAbove, SendersRise}
+use Rattle.clk_packet.specs.Lists.{stands_in}
+use Rattle.clk_ruled.specs.Lists.{room_of, SendersAbove, SendersRise}
 use Rattle.clk_ruled.specs.Queue.{SeatLists, empty_seat}
 use Rattle.clk_ruled.specs.inside.Rule.{tap_view}
 use Rattle.clk_ruled.specs.inside.Parts.{AreFree, AreRoomed, IsSeated}
@@ -13,7 +14,7 @@ use Rattle.clk_ruled.proofs.ListLemmas.{eq-true, ne-false}
 free-more : (s : ℕ) (given : List ℕ) (rest : List (ℕ × ℕ)) → SendersAbove s rest → AreFree given rest → AreFree (s ∷ given) rest
 free-more s given [] above h = tt
 free-more s given (r ∷ rest) above h = let lt = above.0 in (
-  ap (λ (y : Bool). if y then true else has_sender given r.0) (ne-false s r.0 (λ e. omega (arith, lt, e))) ∙ h.0,
+  ap (λ (y : Bool). y || stands_in r.0 given) (ne-false s r.0 (λ e. omega (arith, lt, e))) ∙ h.0,
   free-more s given rest above.1 h.1,
 )
 

@@ -1,5 +1,5 @@
 -- What a seat keeps as its offers go on.
-use Rattle.std.proofs.Common.{◌≡◌, ◌≢◌, ℕ, ◌+◌, ◌<◌, ◌≤◌, ◌==◌, Bool, true, false, suc, List, [], ◌∷◌, ◌++◌, length, map, min, max, refl, sym, ap, ◌∙◌, subst, arith, if◌then◌else◌}
+use Rattle.std.proofs.Common.{◌≡◌, ◌≢◌, ℕ, ◌+◌, ◌<◌, ◌≤◌, ◌==◌, ◌||◌, Bool, true, false, suc, List, [], ◌∷◌, ◌++◌, length, map, min, max, refl, sym, ap, ◌∙◌, subst, arith, if◌then◌else◌}
 use Rattle.std.proofs.lemmas.List.{length-append}
 use Rattle.std.proofs.lemmas.Bool.Decides.{nat_tests}
 use Rattle.crossbeam_queue.specs.Fifo.{Held}
@@ -8,8 +8,8 @@ use Rattle.clk_packet.specs.declared.packet.Kind.{Kind}
 use Rattle.clk_packet.specs.declared.packet.Kind.TheVariants.{TailDrop, FrontDrop}
 use Rattle.clk_ruled.specs.declared.view.Setup.{Setup}
 use Rattle.clk_ruled.specs.declared.view.View.{View}
-use Rattle.clk_packet.specs.Lists.{of_sender}
-use Rattle.clk_ruled.specs.Lists.{has_sender, IsRising, room_of, rooms_in_all}
+use Rattle.clk_packet.specs.Lists.{of_sender, stands_in}
+use Rattle.clk_ruled.specs.Lists.{IsRising, room_of, rooms_in_all}
 use Rattle.clk_ruled.specs.Queue.{places_of, IsShared}
 use Rattle.clk_ruled.specs.Rule.{Books, IsSound, FitsSeat, went_out}
 use Rattle.clk_ruled.specs.inside.Rule.{Knows, seat_view}
@@ -32,13 +32,13 @@ may-offer v s room next accepted refused evicted p f own number lt =
     }
 
 -- one that may offer something is a sender of the queue
-one-known : (y : Bool) (n m : ℕ) (b : Bool) → 0 < (if y then n else m) → (0 < m → b ≡ true) → (if y then true else b) ≡ true
+one-known : (y : Bool) (n m : ℕ) (b : Bool) → 0 < (if y then n else m) → (0 < m → b ≡ true) → (y || b) ≡ true
 one-known true n m b lt h = refl
 one-known false n m b lt h = h lt
 
-pub room-known : (rooms : List (ℕ × ℕ)) (s : ℕ) → 0 < room_of rooms s → has_sender (map (λ (r : ℕ × ℕ). r.0) rooms) s ≡ true
+pub room-known : (rooms : List (ℕ × ℕ)) (s : ℕ) → 0 < room_of rooms s → stands_in s (map (λ (r : ℕ × ℕ). r.0) rooms) ≡ true
 room-known [] s lt = absurd (omega arith)
-room-known (r ∷ rooms) s lt = one-known (r.0 == s) r.1 (room_of rooms s) (has_sender (map (λ (r : ℕ × ℕ). r.0) rooms) s) lt (room-known rooms s)
+room-known (r ∷ rooms) s lt = one-known (r.0 == s) r.1 (room_of rooms s) (stands_in s (map (λ (r : ℕ × ℕ). r.0) rooms)) lt (room-known rooms s)
 
 pub may-evict : (v : View) (s room next : ℕ) (accepted refused evicted : List Packet) → SeatFits v s room next accepted refused evicted → v.setup.kind ≡ FrontDrop → next < room → MayEvict v
 may-evict v s room next accepted refused evicted f front lt =

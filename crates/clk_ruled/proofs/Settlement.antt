@@ -1,5 +1,5 @@
 -- What is known of a queue, once the tap has the lists of all its seats.
-use Rattle.std.proofs.Common.{◌≡◌, ℕ, ◌+◌, ◌<◌, ◌≤◌, ◌==◌, Bool, true, false, List, [], ◌∷◌, ◌++◌, length, map, refl, sym, ap, ◌∙◌, subst, ⊎_elim, arith, if◌then◌else◌}
+use Rattle.std.proofs.Common.{◌≡◌, ℕ, ◌+◌, ◌<◌, ◌≤◌, ◌==◌, ◌||◌, Bool, true, false, List, [], ◌∷◌, ◌++◌, length, map, refl, sym, ap, ◌∙◌, subst, ⊎_elim, arith, if◌then◌else◌}
 use Rattle.std.proofs.lemmas.List.{append-nil, length-append, nil_from_length}
 use Rattle.std.specs.List.{flat_map, AllByRecursion}
 use Rattle.atomic_table.specs.Seated.{TableId}
@@ -11,8 +11,8 @@ use Rattle.clk_ruled.specs.declared.view.Setup.{Setup}
 use Rattle.clk_ruled.specs.declared.view.View.{View}
 use Rattle.clk_ruled.specs.Account.{IsAccount}
 use Rattle.clk_ruled.specs.inside.Keys.{AreKeysOf, has_key}
-use Rattle.clk_packet.specs.Lists.{of_sender, In}
-use Rattle.clk_ruled.specs.Lists.{has_sender, without}
+use Rattle.clk_packet.specs.Lists.{of_sender, In, stands_in}
+use Rattle.clk_ruled.specs.Lists.{without}
 use Rattle.clk_ruled.specs.inside.Parts.{TapKeeps}
 use Rattle.clk_ruled.specs.Queue.{SeatLists, TapLists, ClosedLists, IsSharedOut}
 use Rattle.clk_ruled.specs.Rule.{Books, FitsTap, IsSound, AreGathered, evicted_by, taken_in, senders_of}
@@ -61,18 +61,18 @@ abbrev senders_at : List SeatLists → List ℕ
 senders_at seats = map (λ (l : SeatLists). l.sender) seats
 
 -- The list of a sender's seat is what the books say of the sender, where they say nothing of one that has no seat.
-one-list : (y has : Bool) (x rest all : List Packet) → (y ≡ true → x ≡ all) → ((has ≡ false → all ≡ []) → rest ≡ all) → ((if y then true else has) ≡ false → all ≡ []) → (if y then x else rest) ≡ all
+one-list : (y has : Bool) (x rest all : List Packet) → (y ≡ true → x ≡ all) → ((has ≡ false → all ≡ []) → rest ≡ all) → ((y || has) ≡ false → all ≡ []) → (if y then x else rest) ≡ all
 one-list true has x rest all here there none = here refl
 one-list false has x rest all here there none = there none
 
-accepted-fits : (b : Books) (s : ℕ) (seats : List SeatLists) → AreFit b seats → (has_sender (senders_at seats) s ≡ false → of_sender s b.all ≡ []) → accepted_of seats s ≡ of_sender s b.all
+accepted-fits : (b : Books) (s : ℕ) (seats : List SeatLists) → AreFit b seats → (stands_in s (senders_at seats) ≡ false → of_sender s b.all ≡ []) → accepted_of seats s ≡ of_sender s b.all
 accepted-fits b s [] fit none = sym (none refl)
-accepted-fits b s (l ∷ seats) fit none = one-list (l.sender == s) (has_sender (senders_at seats) s) l.accepted (accepted_of seats s) (of_sender s b.all)
+accepted-fits b s (l ∷ seats) fit none = one-list (l.sender == s) (stands_in s (senders_at seats)) l.accepted (accepted_of seats s) (of_sender s b.all)
     (λ e. fit.0.accepted ∙ ap (λ t. of_sender t b.all) (true-eq l.sender s e)) (accepted-fits b s seats fit.1) none
 
-evicted-fits : (b : Books) (s : ℕ) (seats : List SeatLists) → AreFit b seats → (has_sender (senders_at seats) s ≡ false → evicted_by s b.gone ≡ []) → evicted_of seats s ≡ evicted_by s b.gone
+evicted-fits : (b : Books) (s : ℕ) (seats : List SeatLists) → AreFit b seats → (stands_in s (senders_at seats) ≡ false → evicted_by s b.gone ≡ []) → evicted_of seats s ≡ evicted_by s b.gone
 evicted-fits b s [] fit none = sym (none refl)
-evicted-fits b s (l ∷ seats) fit none = one-list (l.sender == s) (has_sender (senders_at seats) s) l.evicted (evicted_of seats s) (evicted_by s b.gone)
+evicted-fits b s (l ∷ seats) fit none = one-list (l.sender == s) (stands_in s (senders_at seats)) l.evicted (evicted_of seats s) (evicted_by s b.gone)
     (λ e. fit.0.evicted ∙ ap (λ t. evicted_by t b.gone) (true-eq l.sender s e)) (evicted-fits b s seats fit.1) none
 
 -- all seats' lists together
@@ -106,9 +106,9 @@ record AreBooked (b : Books) (seats : List SeatLists) : Type 0 where
 booked : (b : Books) (held : List Packet) (setup : Setup) (seats : List SeatLists) → IsSound b held → b.setup ≡ setup → map (λ (l : SeatLists). (l.sender, l.room)) seats ≡ setup.rooms → AreFit b seats → AreBooked b seats
 booked b held setup seats sound same rooms fit =
     let senders : senders_of b.setup ≡ senders_at seats = ap (λ (y : Setup). senders_of y) same ∙ ap (map (λ (r : ℕ × ℕ). r.0)) (sym rooms) ∙ same-senders seats in
-    let unknown : (s : ℕ) → has_sender (senders_at seats) s ≡ false → has_sender (senders_of b.setup) s ≡ false = λ s e. ap (λ l. has_sender l s) senders ∙ e in
-    let none_came : (s : ℕ) → has_sender (senders_at seats) s ≡ false → of_sender s b.all ≡ [] = λ s e. nil_from_length (of_sender s b.all) (unroomed b.setup.rooms s (length (of_sender s b.all)) (sound.room s) (unknown s e)) in
-    let apart = subst (λ (l : List ℕ). (t : ℕ) → has_sender l t ≡ false → length (of_sender t b.all) ≡ 0) (sym senders) (λ t e. ap length (none_came t e)) in record {
+    let unknown : (s : ℕ) → stands_in s (senders_at seats) ≡ false → stands_in s (senders_of b.setup) ≡ false = λ s e. ap (λ l. stands_in s l) senders ∙ e in
+    let none_came : (s : ℕ) → stands_in s (senders_at seats) ≡ false → of_sender s b.all ≡ [] = λ s e. nil_from_length (of_sender s b.all) (unroomed b.setup.rooms s (length (of_sender s b.all)) (sound.room s) (unknown s e)) in
+    let apart = subst (λ (l : List ℕ). (t : ℕ) → stands_in t l ≡ false → length (of_sender t b.all) ≡ 0) (sym senders) (λ t e. ap length (none_came t e)) in record {
       accepted = λ s. sym (accepted-fits b s seats fit (none_came s));
       evicted = λ s. sym (evicted-fits b s seats fit (λ e. sound.known s (unknown s e)));
       out = ap (flat_map (λ s. evicted_by s b.gone)) senders ∙ sym (all-evicted-fit b seats fit);

@@ -1,5 +1,5 @@
 -- Each kind of step keeps the rule of the queue.
-use Rattle.std.proofs.Common.{◌≡◌, ◌≢◌, ℕ, ◌<◌, ◌≤◌, ◌==◌, Bool, true, false, true≢false, List, [], ◌∷◌, ◌++◌, length, set, refl, sym, ap, ◌∙◌, subst, ⊎_elim, arith, if◌then◌else◌}
+use Rattle.std.proofs.Common.{◌≡◌, ◌≢◌, ℕ, ◌<◌, ◌≤◌, ◌==◌, ◌||◌, Bool, true, false, true≢false, List, [], ◌∷◌, ◌++◌, length, set, refl, sym, ap, ◌∙◌, subst, ⊎_elim, arith, if◌then◌else◌}
 use Rattle.std.proofs.lemmas.List.{append_assoc, append-nil, length-append}
 use mathlib.Core.Option.{Option, some, none, some-ne-none}
 use mathlib.Core.Logic.{dite}
@@ -13,8 +13,8 @@ use Rattle.clk_packet.specs.declared.packet.Kind.TheVariants.{TailDrop, FrontDro
 use Rattle.clk_ruled.specs.declared.view.Setup.{Setup}
 use Rattle.clk_ruled.specs.declared.view.Gathered.{Gathered}
 use Rattle.clk_ruled.specs.declared.view.View.{View}
-use Rattle.clk_packet.specs.Lists.{of_sender}
-use Rattle.clk_ruled.specs.Lists.{has_sender, IsRising, room_of}
+use Rattle.clk_packet.specs.Lists.{of_sender, stands_in}
+use Rattle.clk_ruled.specs.Lists.{IsRising, room_of}
 use Rattle.clk_ruled.specs.Rule.{Out, to_puller, put_out, went_out, taken_in, Books, senders_of, gathered_senders, IsSound, IsNew, AreGathered, FitsSeat, FitsTap, Fits, Keeps, gathered_seat}
 use Rattle.clk_ruled.specs.inside.Rule.{Knows, KnowsAfter, spent_view, retired_view, seat_view, tap_view}
 use Rattle.clk_ruled.proofs.ListLemmas.{eq-true, ne-false, of-own, of-other, went-more, taken-more, evicted-own, evicted-other, evicted-pulled, has-more, has-not}
@@ -87,19 +87,19 @@ front-out b o p items one order = order ∙ sym (append_assoc (went_out b.gone) 
 pub record MayEvict (v : View) : Type 0 where
   pub sits : v.sits ≡ true
   pub front_drop : v.setup.kind ≡ FrontDrop
-  pub known : has_sender (senders_of v.setup) v.sender ≡ true
+  pub known : stands_in v.sender (senders_of v.setup) ≡ true
 
 front-is_not-tail : (k : Kind) → k ≡ FrontDrop → k ≢ TailDrop
 front-is_not-tail k e n = absurd (cc)
 
-evicted-sound : (b : Books) (s : ℕ) (p : Packet) (items : List Packet) → b.setup.kind ≡ FrontDrop → has_sender (senders_of b.setup) s ≡ true → IsSound b (p ∷ items) → IsSound (with_out b (put_out s p)) items
+evicted-sound : (b : Books) (s : ℕ) (p : Packet) (items : List Packet) → b.setup.kind ≡ FrontDrop → stands_in s (senders_of b.setup) ≡ true → IsSound b (p ∷ items) → IsSound (with_out b (put_out s p)) items
 evicted-sound b s p items front has h = record {
   senders_rise = h.senders_rise;
   order = front-out b (put_out s p) p items refl h.order;
   fits = let fits = h.fits in omega arith;
   room = h.room;
   rises = h.rises;
-  known = λ t e. evicted-other t s b.gone p (λ is. true≢false (sym has ∙ ap (has_sender (senders_of b.setup)) is ∙ e)) ∙ h.known t e;
+  known = λ t e. evicted-other t s b.gone p (λ is. true≢false (sym has ∙ ap (λ (n : ℕ). stands_in n (senders_of b.setup)) is ∙ e)) ∙ h.known t e;
   tail_drop = λ e. absurd (front-is_not-tail b.setup.kind front e);
 }
 
@@ -108,7 +108,7 @@ evicts n pass v may p items views room h at =
     let b : Books = h.0 in let f : FitsSeat b pass v = (h.2 pass v at).0 may.sits in
     let w : View = seat_view v.setup v.sender v.accepted (v.evicted ++ p ∷ []) in
     let c : Books = with_out b (put_out v.sender p) in
-    let sound : IsSound c items = evicted-sound b v.sender p items (ap (λ (y : Setup). y.kind) (sym f.setup) ∙ may.front_drop) (ap (λ (y : Setup). has_sender (senders_of y) v.sender) (sym f.setup) ∙ may.known) h.1 in
+    let sound : IsSound c items = evicted-sound b v.sender p items (ap (λ (y : Setup). y.kind) (sym f.setup) ∙ may.front_drop) (ap (λ (y : Setup). stands_in v.sender (senders_of y)) (sym f.setup) ∙ may.known) h.1 in
     let mine : FitsSeat c pass w = record {
       seat = f.seat;
       setup = f.setup;
@@ -184,16 +184,16 @@ seated-sound : (b : Books) (s : ℕ) (pass : Option ℕ) (items : List Packet) �
 seated-sound b s pass items h = record { senders_rise = h.senders_rise; order = h.order; fits = h.fits; room = h.room; rises = h.rises; known = h.known; tail_drop = h.tail_drop }
 
 -- more senders have a seat
-given-more : (b c : Books) (s : ℕ) (given : List ℕ) (gathered : List Gathered) → ((t : ℕ) → t ≢ s → IsSame b c t) → has_sender given s ≡ false → AreGathered b given gathered → AreGathered c (s ∷ given) gathered
+given-more : (b c : Books) (s : ℕ) (given : List ℕ) (gathered : List Gathered) → ((t : ℕ) → t ≢ s → IsSame b c t) → stands_in s given ≡ false → AreGathered b given gathered → AreGathered c (s ∷ given) gathered
 given-more b c s given [] same new f = tt
 given-more b c s given (g ∷ gathered) same new f =
-    let k = same g.sender (λ e. true≢false (sym f.0.had ∙ ap (has_sender given) e ∙ new)) in (
+    let k = same g.sender (λ e. true≢false (sym f.0.had ∙ ap (λ (n : ℕ). stands_in n given) e ∙ new)) in (
       record { had = has-more s g.sender given f.0.had; seat = k.seat ∙ f.0.seat; accepted = f.0.accepted ∙ sym k.accepted; evicted = f.0.evicted ∙ sym k.evicted },
       f.1,
       given-more b c s given gathered same new f.2,
     )
 
-pub seats : (pass : ℕ) (v : View) (s : ℕ) → v.taps ≡ true → has_sender v.given s ≡ false → Forks Keeps pass v (tap_view v.setup v.taken (s ∷ v.given) v.gathered) (seat_view v.setup s [] [])
+pub seats : (pass : ℕ) (v : View) (s : ℕ) → v.taps ≡ true → stands_in s v.given ≡ false → Forks Keeps pass v (tap_view v.setup v.taken (s ∷ v.given) v.gathered) (seat_view v.setup s [] [])
 seats pass v s taps new items views h at =
     let b : Books = h.0 in let f : FitsTap b pass v = (h.2 pass v at).1 taps in
     let left : View = tap_view v.setup v.taken (s ∷ v.given) v.gathered in let right : View = seat_view v.setup s [] [] in
@@ -221,12 +221,12 @@ seats pass v s taps new items views h at =
     )
 
 -- a sender that was gathered isn't one that has a seat
-not-gathered : (b : Books) (pass s : ℕ) (given : List ℕ) (gathered : List Gathered) → b.seat s ≡ some pass → AreGathered b given gathered → has_sender (gathered_senders gathered) s ≡ false
+not-gathered : (b : Books) (pass s : ℕ) (given : List ℕ) (gathered : List Gathered) → b.seat s ≡ some pass → AreGathered b given gathered → stands_in s (gathered_senders gathered) ≡ false
 not-gathered b pass s given [] mine f = refl
 not-gathered b pass s given (g ∷ gathered) mine f =
-    ap (λ (y : Bool). if y then true else has_sender (gathered_senders gathered) s) (ne-false g.sender s (seatless-apart b pass s g.sender mine f.0.seat)) ∙ not-gathered b pass s given gathered mine f.2
+    ap (λ (y : Bool). y || stands_in s (gathered_senders gathered)) (ne-false g.sender s (seatless-apart b pass s g.sender mine f.0.seat)) ∙ not-gathered b pass s given gathered mine f.2
 
-had-seat : (b : Books) (pass s : ℕ) (given : List ℕ) → b.seat s ≡ some pass → ((t : ℕ) → has_sender given t ≡ false → IsNew b t) → (y : Bool) → has_sender given s ≡ y → has_sender given s ≡ true
+had-seat : (b : Books) (pass s : ℕ) (given : List ℕ) → b.seat s ≡ some pass → ((t : ℕ) → stands_in t given ≡ false → IsNew b t) → (y : Bool) → stands_in s given ≡ y → stands_in s given ≡ true
 had-seat b pass s given mine fresh true e = e
 had-seat b pass s given mine fresh false e = absurd (some-ne-none pass (sym mine ∙ (fresh s e).seat))
 
@@ -252,7 +252,7 @@ gathers pass v other w taps sits items views h at two at' =
       taken = f.taken;
       fresh = λ t e. new-kept b c t (seatless t (f.fresh t e).seat) (f.fresh t e);
       gathered = (
-        record { had = had-seat b other w.sender v.given g.seat f.fresh (has_sender v.given w.sender) refl; seat = seat-own b w.sender none; accepted = g.accepted; evicted = g.evicted },
+        record { had = had-seat b other w.sender v.given g.seat f.fresh (stands_in w.sender v.given) refl; seat = seat-own b w.sender none; accepted = g.accepted; evicted = g.evicted },
         not-gathered b other w.sender v.given v.gathered g.seat f.gathered,
         gathered-kept b c v.given v.gathered seatless f.gathered,
       );

@@ -1,11 +1,11 @@
 -- How often senders are named in a list, and how long the list is then.
-use Rattle.std.proofs.Common.{◌≡◌, ℕ, ◌+◌, ◌≤◌, ◌==◌, Bool, true, false, true≢false, zero, suc, List, [], ◌∷◌, length, map, refl, sym, ap, ◌∙◌, arith, if◌then◌else◌}
-use Rattle.std.specs.Bool.{⊤}
+use Rattle.std.proofs.Common.{◌≡◌, ℕ, ◌+◌, ◌≤◌, ◌==◌, ◌||◌, Bool, true, false, true≢false, zero, suc, List, [], ◌∷◌, length, map, refl, sym, ap, ◌∙◌, arith, if◌then◌else◌}
 use mathlib.Core.Logic.{dite}
 use native.Mathlib.Decide.{ℕ_discrete}
 use Rattle.clk_packet.specs.declared.packet.Packet.{Packet}
-use Rattle.clk_packet.specs.Lists.{of_sender}
-use Rattle.clk_ruled.specs.Lists.{has_sender, room_of, rooms_in_all, SendersAbove, SendersRise}
+use Rattle.clk_packet.specs.Lists.{of_sender, stands_in, are_distinct}
+use Rattle.clk_packet.proofs.Callers.Lists.{distinct-parts, distinct-more}
+use Rattle.clk_ruled.specs.Lists.{room_of, rooms_in_all, SendersAbove, SendersRise}
 use Rattle.clk_ruled.specs.inside.Parts.{AreRoomed}
 use Rattle.clk_ruled.specs.Rule.{Out, to_puller, put_out, went_out, taken_in, evicted_by}
 use Rattle.clk_ruled.proofs.ListLemmas.{eq-true, ne-false, has-not}
@@ -22,11 +22,6 @@ abbrev pub times_in_all : List ℕ → List ℕ → ℕ
 times_in_all [] named = 0
 times_in_all (s ∷ senders) named = times s named + times_in_all senders named
 
--- no sender is named twice
-abbrev pub AreApart : List ℕ → Type 0
-AreApart [] = ⊤
-AreApart (s ∷ senders) = (has_sender senders s ≡ false) × AreApart senders
-
 abbrev pub one_more : Bool → ℕ → ℕ
 one_more b n = if b then suc n else n
 
@@ -35,23 +30,23 @@ none-of-none [] = refl
 none-of-none (s ∷ senders) = let rest = none-of-none senders in omega (arith, rest)
 
 -- one is named that isn't among the senders, or that is
-other-named : (senders : List ℕ) (n : ℕ) (named : List ℕ) → has_sender senders n ≡ false → times_in_all senders (n ∷ named) ≡ times_in_all senders named
+other-named : (senders : List ℕ) (n : ℕ) (named : List ℕ) → stands_in n senders ≡ false → times_in_all senders (n ∷ named) ≡ times_in_all senders named
 other-named [] n named e = refl
 other-named (s ∷ senders) n named e =
     let both = has-not s n senders e in
     let here : times s (n ∷ named) ≡ times s named = ap (λ b. one_more b (times s named)) (ne-false n s (λ is. both.0 (sym is))) in
     let rest : times_in_all senders (n ∷ named) ≡ times_in_all senders named = other-named senders n named both.1 in omega (arith, here, rest)
 
-one-named : (senders : List ℕ) (n : ℕ) (named : List ℕ) → AreApart senders → has_sender senders n ≡ true → times_in_all senders (n ∷ named) ≡ suc (times_in_all senders named)
+one-named : (senders : List ℕ) (n : ℕ) (named : List ℕ) → are_distinct senders ≡ true → stands_in n senders ≡ true → times_in_all senders (n ∷ named) ≡ suc (times_in_all senders named)
 one-named [] n named a e = absurd (true≢false (sym e))
-one-named (s ∷ senders) n named a e = dite (ℕ_discrete n s)
+one-named (s ∷ senders) n named a e = let parts = distinct-parts s senders a in dite (ℕ_discrete n s)
     (λ is.
     let here : times s (n ∷ named) ≡ suc (times s named) = ap (λ b. one_more b (times s named)) (eq-true n s is) in
-    let rest : times_in_all senders (n ∷ named) ≡ times_in_all senders named = other-named senders n named (ap (has_sender senders) is ∙ a.0) in omega (arith, here, rest))
+    let rest : times_in_all senders (n ∷ named) ≡ times_in_all senders named = other-named senders n named (ap (λ (m : ℕ). stands_in m senders) is ∙ parts.0) in omega (arith, here, rest))
     (λ no.
     let here : times s (n ∷ named) ≡ times s named = ap (λ b. one_more b (times s named)) (ne-false n s no) in
-    let has : has_sender senders n ≡ true = sym (ap (λ b. if b then true else has_sender senders n) (ne-false s n (λ is. no (sym is)))) ∙ e in
-    let rest : times_in_all senders (n ∷ named) ≡ suc (times_in_all senders named) = one-named senders n named a.1 has in omega (arith, here, rest))
+    let has : stands_in n senders ≡ true = sym (ap (λ b. b || stands_in n senders) (ne-false s n (λ is. no (sym is)))) ∙ e in
+    let rest : times_in_all senders (n ∷ named) ≡ suc (times_in_all senders named) = one-named senders n named parts.1 has in omega (arith, here, rest))
 
 no-less : (b : Bool) (n : ℕ) → one_more b n ≡ 0 → n ≡ 0
 no-less true n e = absurd (omega (arith, e))
@@ -62,11 +57,11 @@ is-named true h = refl
 is-named false h = absurd (h refl)
 
 -- Where each that is named is one of the senders, the list is as long as they are named in all.
-pub counted : (senders named : List ℕ) → AreApart senders → ((s : ℕ) → has_sender senders s ≡ false → times s named ≡ 0) → times_in_all senders named ≡ length named
+pub counted : (senders named : List ℕ) → are_distinct senders ≡ true → ((s : ℕ) → stands_in s senders ≡ false → times s named ≡ 0) → times_in_all senders named ≡ length named
 counted senders [] a none = none-of-none senders
 counted senders (n ∷ named) a none =
     let here : times n (n ∷ named) ≡ suc (times n named) = ap (λ b. one_more b (times n named)) (eq-true n n refl) in
-    let has : has_sender senders n ≡ true = is-named (has_sender senders n) (λ e. let no = none n e in absurd (omega (arith, here, no))) in
+    let has : stands_in n senders ≡ true = is-named (stands_in n senders) (λ e. let no = none n e in absurd (omega (arith, here, no))) in
     let one : times_in_all senders (n ∷ named) ≡ suc (times_in_all senders named) = one-named senders n named a has in
     let rest : times_in_all senders named ≡ length named = counted senders named a (λ s e. no-less (n == s) (times s named) (none s e)) in omega (arith, one, rest)
 
@@ -107,21 +102,21 @@ abbrev pub named_in : List (ℕ × ℕ) → List ℕ
 named_in rooms = map (λ (r : ℕ × ℕ). r.0) rooms
 
 -- senders that rise are apart
-above-unnamed : (s : ℕ) (rooms : List (ℕ × ℕ)) → SendersAbove s rooms → has_sender (named_in rooms) s ≡ false
+above-unnamed : (s : ℕ) (rooms : List (ℕ × ℕ)) → SendersAbove s rooms → stands_in s (named_in rooms) ≡ false
 above-unnamed s [] above = refl
 above-unnamed s (r ∷ rooms) above = let lt = above.0 in
-    ap (λ b. if b then true else has_sender (named_in rooms) s) (ne-false r.0 s (λ e. omega (arith, lt, e))) ∙ above-unnamed s rooms above.1
+    ap (λ b. b || stands_in s (named_in rooms)) (ne-false r.0 s (λ e. omega (arith, lt, e))) ∙ above-unnamed s rooms above.1
 
-pub rise-apart : (rooms : List (ℕ × ℕ)) → SendersRise rooms → AreApart (named_in rooms)
-rise-apart [] h = tt
-rise-apart (r ∷ rooms) h = (above-unnamed r.0 rooms h.0, rise-apart rooms h.1)
+pub rise-apart : (rooms : List (ℕ × ℕ)) → SendersRise rooms → are_distinct (named_in rooms) ≡ true
+rise-apart [] h = refl
+rise-apart (r ∷ rooms) h = distinct-more r.0 (named_in rooms) (above-unnamed r.0 rooms h.0) (rise-apart rooms h.1)
 
 within-rooms : (rooms rest : List (ℕ × ℕ)) (named : List ℕ) → AreRoomed rooms rest → ((s : ℕ) → times s named ≤ room_of rooms s) → times_in_all (named_in rest) named ≤ rooms_in_all rest
 within-rooms rooms [] named h fits = omega arith
 within-rooms rooms (r ∷ rest) named h fits =
     let here = fits r.0 in let is = h.0 in let more : times_in_all (named_in rest) named ≤ rooms_in_all rest = within-rooms rooms rest named h.1 fits in omega (arith, here, is, more)
 
-pub unroomed : (rooms : List (ℕ × ℕ)) (s n : ℕ) → n ≤ room_of rooms s → has_sender (named_in rooms) s ≡ false → n ≡ 0
+pub unroomed : (rooms : List (ℕ × ℕ)) (s n : ℕ) → n ≤ room_of rooms s → stands_in s (named_in rooms) ≡ false → n ≡ 0
 unroomed rooms s zero le e = refl
 unroomed rooms s (suc n) le e = absurd (true≢false (sym (room-known rooms s (omega (arith, le))) ∙ e))
 

@@ -6,15 +6,16 @@ use Rattle.clk_packet.specs.declared.packet.Packet.{Packet}
 use Rattle.clk_ruled.specs.declared.view.Setup.{Setup}
 use Rattle.clk_ruled.specs.declared.view.Gathered.{Gathered}
 use Rattle.clk_ruled.specs.declared.view.View.{View}
-use Rattle.clk_packet.specs.Lists.{of_sender, In}
-use Rattle.clk_ruled.specs.Lists.{has_sender, IsRising, rooms_in_all}
+use Rattle.clk_packet.specs.Lists.{of_sender, In, stands_in, are_distinct}
+use Rattle.clk_packet.proofs.Callers.Lists.{distinct-more}
+use Rattle.clk_ruled.specs.Lists.{IsRising, rooms_in_all}
 use Rattle.clk_ruled.specs.Queue.{AreOfSenders, accepted_in_all, evicted_in_all}
 use Rattle.clk_ruled.specs.Rule.{Out, to_puller, put_out, went_out, taken_in, Books, senders_of, gathered_senders, IsSound, AreGathered, FitsTap}
 use Rattle.clk_ruled.specs.inside.Rule.{Knows, KnowsAfter, tap_view}
 use Rattle.clk_ruled.specs.inside.Parts.{TapKeeps}
 use Rattle.clk_ruled.proofs.ListLemmas.{eq-true}
 use Rattle.clk_ruled.proofs.SeatSteps.{room-known}
-use Rattle.clk_ruled.proofs.Tally.{one_more, times, times_in_all, AreApart, counted, senders_named, put_for, of-times, evicted-times, named-length, gone-length, unroomed, all-within}
+use Rattle.clk_ruled.proofs.Tally.{one_more, times, times_in_all, counted, senders_named, put_for, of-times, evicted-times, named-length, gone-length, unroomed, all-within}
 use Rattle.clk_ruled.proofs.TapLemmas.{rising-taken, fewer-taken}
 
 -- the tap after a pull
@@ -96,12 +97,12 @@ taken-known v taken k p h =
     let known = tap-knows v taken k in let b = known.books in
     let came : In p b.all = subst (In p) (sym known.sound.order) (in-all p b.gone k.knows.0 (subst (In p) known.taken_is h)) in
     let some = in-named p b.all came in let count = of-times p.sender b.all in let room = known.sound.room p.sender in
-    subst (λ (y : Setup). has_sender (senders_of y) p.sender ≡ true) (sym known.setup) (room-known b.setup.rooms p.sender (omega (arith, some, count, room)))
+    subst (λ (y : Setup). stands_in p.sender (senders_of y) ≡ true) (sym known.setup) (room-known b.setup.rooms p.sender (omega (arith, some, count, room)))
 
 -- What the gathered seats' lists have in all.
-gathered-apart : (b : Books) (given : List ℕ) (gathered : List Gathered) → AreGathered b given gathered → AreApart (gathered_senders gathered)
-gathered-apart b given [] h = tt
-gathered-apart b given (g ∷ gathered) h = (h.1, gathered-apart b given gathered h.2)
+gathered-apart : (b : Books) (given : List ℕ) (gathered : List Gathered) → AreGathered b given gathered → are_distinct (gathered_senders gathered) ≡ true
+gathered-apart b given [] h = refl
+gathered-apart b given (g ∷ gathered) h = distinct-more g.sender (gathered_senders gathered) h.1 (gathered-apart b given gathered h.2)
 
 accepted-counted : (b : Books) (given : List ℕ) (gathered : List Gathered) → AreGathered b given gathered → accepted_in_all gathered ≡ times_in_all (gathered_senders gathered) (senders_named b.all)
 accepted-counted b given [] h = refl
@@ -115,10 +116,10 @@ evicted-counted b given (g ∷ gathered) h =
 
 -- the seat of each sender was gathered
 abbrev pub EachGathered : View → Type 0
-EachGathered v = (s : ℕ) → has_sender (senders_of v.setup) s ≡ true → has_sender (gathered_senders v.gathered) s ≡ true
+EachGathered v = (s : ℕ) → stands_in s (senders_of v.setup) ≡ true → stands_in s (gathered_senders v.gathered) ≡ true
 
 -- A sender whose seat wasn't gathered isn't one of the queue's, where all were gathered.
-unknown : (v : View) (s : ℕ) → EachGathered v → has_sender (gathered_senders v.gathered) s ≡ false → (b : Bool) → has_sender (senders_of v.setup) s ≡ b → b ≡ false
+unknown : (v : View) (s : ℕ) → EachGathered v → stands_in s (gathered_senders v.gathered) ≡ false → (b : Bool) → stands_in s (senders_of v.setup) ≡ b → b ≡ false
 unknown v s all e true is = sym (all s is) ∙ e
 unknown v s all e false is = refl
 
@@ -127,7 +128,7 @@ taken-balances : (v : View) (taken held : List Packet) → TapKnows v taken held
     → length taken + evicted_in_all v.gathered + length held ≡ accepted_in_all v.gathered
 taken-balances v taken held known all =
     let b = known.books in let sound = known.sound in let senders : List ℕ = gathered_senders v.gathered in
-    let no_sender : (s : ℕ) → has_sender senders s ≡ false → has_sender (senders_of b.setup) s ≡ false = λ s e. ap (λ (y : Setup). has_sender (senders_of y) s) (sym known.setup) ∙ unknown v s all e (has_sender (senders_of v.setup) s) refl in
+    let no_sender : (s : ℕ) → stands_in s senders ≡ false → stands_in s (senders_of b.setup) ≡ false = λ s e. ap (λ (y : Setup). stands_in s (senders_of y)) (sym known.setup) ∙ unknown v s all e (stands_in s (senders_of v.setup)) refl in
     let apart = gathered-apart b v.given v.gathered known.gathered in
     let came = counted senders (senders_named b.all) apart (λ s e. sym (of-times s b.all) ∙ unroomed b.setup.rooms s (length (of_sender s b.all)) (sound.room s) (no_sender s e)) in
     let out = counted senders (put_for b.gone) apart (λ s e. sym (evicted-times s b.gone) ∙ ap length (sound.known s (no_sender s e))) in

@@ -5,8 +5,8 @@ use Rattle.std.proofs.lemmas.List.{append-nil, length-append}
 use Rattle.std.specs.List.{AllByRecursion}
 use Rattle.clk_packet.specs.declared.packet.Packet.{Packet}
 use Rattle.clk_packet.specs.declared.packet.Kind.TheVariants.{TailDrop, FrontDrop}
-use Rattle.clk_packet.specs.Lists.{In}
-use Rattle.clk_ruled.specs.Lists.{IsRising, without, has_sender}
+use Rattle.clk_packet.specs.Lists.{In, stands_in}
+use Rattle.clk_ruled.specs.Lists.{IsRising, without}
 use Rattle.clk_ruled.specs.Account.{IsAccount}
 use Rattle.clk_ruled.specs.Examples.{p0_0, p0_1, p1_0, p1_1, by_sender, for_seats, both, arrived, put_out, pulled, held}
 
@@ -48,8 +48,8 @@ front-account =
       rises = by-senders (λ a b. IsRising (of_these a b arrived)) ((lit≤ tt, tt), (tt, tt)) ((lit≤ tt, tt), (tt, tt)) tt;
       was_taken = of-all (λ p. In p (by_sender arrived p.sender)) put_out (inl refl, tt);
       once = (refl, tt);
-      gives_known = of-all (λ p. has_sender both p.sender ≡ true) pulled (refl, tt);
-      holds_known = of-all (λ p. has_sender both p.sender ≡ true) held (refl, (refl, tt));
+      gives_known = of-all (λ p. stands_in p.sender both ≡ true) pulled (refl, tt);
+      holds_known = of-all (λ p. stands_in p.sender both ≡ true) held (refl, (refl, tt));
       fits = lit≤ tt;
       tail_drop = λ e. absurd (cc);
     }
@@ -69,7 +69,7 @@ tail-account =
       rises = by-senders (λ a b. IsRising (of_these a b (p0_0 ∷ []))) (tt, tt) tt tt;
       was_taken = λ p none. absurd none;
       once = tt;
-      gives_known = of-all (λ p. has_sender (0 ∷ []) p.sender ≡ true) (p0_0 ∷ []) (refl, tt);
+      gives_known = of-all (λ p. stands_in p.sender (0 ∷ []) ≡ true) (p0_0 ∷ []) (refl, tt);
       holds_known = λ p none. absurd none;
       fits = omega arith;
       tail_drop = λ e. by-senders (λ a b. of_seats a false [] [] ≡ []) refl refl refl;

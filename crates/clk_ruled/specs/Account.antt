@@ -4,8 +4,8 @@ use Rattle.std.specs.List.{flat_map}
 use Rattle.clk_packet.specs.declared.packet.Packet.{Packet}
 use Rattle.clk_packet.specs.declared.packet.Kind.{Kind}
 use Rattle.clk_packet.specs.declared.packet.Kind.TheVariants.{TailDrop}
-use Rattle.clk_packet.specs.Lists.{of_sender, In}
-use Rattle.clk_ruled.specs.Lists.{IsRising, without, IsOnceEach, has_sender}
+use Rattle.clk_packet.specs.Lists.{of_sender, In, stands_in}
+use Rattle.clk_ruled.specs.Lists.{IsRising, without, IsOnceEach}
 
 -- A queue of this kind and capacity, shared by these senders, took the packets `accepted s` from each sender s, put out the
 -- packets `evicted s` for it, gave the packets `taken` to the puller and holds the packets `held`, from the front.
@@ -20,8 +20,8 @@ pub record IsAccount (kind : Kind) (capacity : ℕ) (senders : List ℕ) (accept
   pub was_taken : (p : Packet) → In p (flat_map evicted senders) → In p (accepted p.sender)
   pub once : IsOnceEach (flat_map evicted senders)
   -- what was given and what is held is of these senders, and no more is held than fits
-  pub gives_known : (p : Packet) → In p taken → has_sender senders p.sender ≡ true
-  pub holds_known : (p : Packet) → In p held → has_sender senders p.sender ≡ true
+  pub gives_known : (p : Packet) → In p taken → stands_in p.sender senders ≡ true
+  pub holds_known : (p : Packet) → In p held → stands_in p.sender senders ≡ true
   pub fits : length held ≤ capacity
   -- a Queue puts nothing out
   pub tail_drop : kind ≡ TailDrop → (s : ℕ) → evicted s ≡ []

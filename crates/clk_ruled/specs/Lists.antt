@@ -1,5 +1,5 @@
 -- Lists of packets and of senders.
-use Rattle.std.specs.Prelude.{◌≡◌, ℕ, ◌+◌, ◌<◌, ◌==◌, ◌&&◌, Bool, true, false, List, [], ◌∷◌, filter, not, ⊤, if◌then◌else◌}
+use Rattle.std.specs.Prelude.{◌≡◌, ℕ, ◌+◌, ◌<◌, ◌==◌, ◌&&◌, Bool, false, List, [], ◌∷◌, filter, not, ⊤, if◌then◌else◌}
 use Rattle.std.specs.List.{list_any}
 use Rattle.clk_packet.specs.declared.packet.Packet.{Packet}
 
@@ -29,11 +29,6 @@ without packets away = filter (λ p. not (has_packet away p)) packets
 abbrev pub IsOnceEach : List Packet → Type 0
 IsOnceEach [] = ⊤
 IsOnceEach (p ∷ packets) = (has_packet packets p ≡ false) × IsOnceEach packets
-
--- whether the sender is named in the list
-abbrev pub has_sender : List ℕ → ℕ → Bool
-has_sender [] s = false
-has_sender (t ∷ senders) s = if t == s then true else has_sender senders s
 
 -- how many packets the sender may offer: none, where it isn't a sender of the queue
 abbrev pub room_of : List (ℕ × ℕ) → ℕ → ℕ

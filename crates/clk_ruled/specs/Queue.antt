@@ -8,8 +8,8 @@ use Rattle.clk_packet.specs.declared.packet.Offered.{Offered}
 use Rattle.clk_packet.specs.declared.packet.Offered.TheVariants.{Accepted, Refused, Evicted}
 use Rattle.clk_ruled.specs.declared.view.Setup.{Setup}
 use Rattle.clk_ruled.specs.declared.view.Gathered.{Gathered}
-use Rattle.clk_packet.specs.Lists.{In}
-use Rattle.clk_ruled.specs.Lists.{rooms_in_all, has_sender}
+use Rattle.clk_packet.specs.Lists.{In, stands_in}
+use Rattle.clk_ruled.specs.Lists.{rooms_in_all}
 use Rattle.clk_ruled.specs.Rule.{senders_of, gathered_senders, gathered_seat}
 
 -- which queue it is, its kind, how many packets it may hold, and how many places it has for them
@@ -106,11 +106,11 @@ gathering t s = record { id = t.id; setup = t.setup; taken = t.taken; gathered =
 
 -- each of the packets is of one of the setup's senders
 abbrev pub AreOfSenders : Setup → List Packet → Type 0
-AreOfSenders setup packets = (p : Packet) → In p packets → has_sender (senders_of setup) p.sender ≡ true
+AreOfSenders setup packets = (p : Packet) → In p packets → stands_in p.sender (senders_of setup) ≡ true
 
 -- The tap gathered the seat of each sender.
 abbrev pub AreAllGathered : TapLists → Type 0
-AreAllGathered t = (s : ℕ) → has_sender (senders_of t.setup) s ≡ true → has_sender (gathered_senders t.gathered) s ≡ true
+AreAllGathered t = (s : ℕ) → stands_in s (senders_of t.setup) ≡ true → stands_in s (gathered_senders t.gathered) ≡ true
 
 -- how many packets the queue took from these seats in all, and how many it put out for them
 abbrev pub accepted_in_all : List Gathered → ℕ

@@ -7,8 +7,8 @@ use Rattle.clk_packet.specs.declared.packet.Kind.TheVariants.{TailDrop}
 use Rattle.clk_ruled.specs.declared.view.Setup.{Setup}
 use Rattle.clk_ruled.specs.declared.view.Gathered.{Gathered}
 use Rattle.clk_ruled.specs.declared.view.View.{View}
-use Rattle.clk_packet.specs.Lists.{of_sender}
-use Rattle.clk_ruled.specs.Lists.{IsRising, has_sender, room_of, SendersRise}
+use Rattle.clk_packet.specs.Lists.{of_sender, stands_in}
+use Rattle.clk_ruled.specs.Lists.{IsRising, room_of, SendersRise}
 
 -- A packet went out at the front: to the puller, or because a packet of this sender's seat was forced in.
 pub data Out : Type 0 where
@@ -52,7 +52,7 @@ pub record IsSound (b : Books) (held : List Packet) : Type 0 where
   pub fits : length held ≤ b.setup.capacity
   pub room : (s : ℕ) → length (of_sender s b.all) ≤ room_of b.setup.rooms s
   pub rises : (s : ℕ) → IsRising (of_sender s b.all)
-  pub known : (s : ℕ) → has_sender (senders_of b.setup) s ≡ false → evicted_by s b.gone ≡ []
+  pub known : (s : ℕ) → stands_in s (senders_of b.setup) ≡ false → evicted_by s b.gone ≡ []
   pub tail_drop : b.setup.kind ≡ TailDrop → (s : ℕ) → evicted_by s b.gone ≡ []
 
 -- the sender has had no seat
@@ -63,7 +63,7 @@ pub record IsNew (b : Books) (s : ℕ) : Type 0 where
 
 -- the seat was gathered with these lists
 pub record IsGathered (b : Books) (given : List ℕ) (g : Gathered) : Type 0 where
-  pub had : has_sender given g.sender ≡ true
+  pub had : stands_in g.sender given ≡ true
   pub seat : b.seat g.sender ≡ none
   pub accepted : g.accepted ≡ of_sender g.sender b.all
   pub evicted : g.evicted ≡ evicted_by g.sender b.gone
@@ -74,7 +74,7 @@ gathered_senders gathered = map (λ (g : Gathered). g.sender) gathered
 -- each seat of the list was gathered with these lists, and once
 abbrev pub AreGathered : Books → List ℕ → List Gathered → Type 0
 AreGathered b given [] = ⊤
-AreGathered b given (g ∷ gathered) = IsGathered b given g × (has_sender (gathered_senders gathered) g.sender ≡ false) × AreGathered b given gathered
+AreGathered b given (g ∷ gathered) = IsGathered b given g × (stands_in g.sender (gathered_senders gathered) ≡ false) × AreGathered b given gathered
 
 -- A seat's view is what the books say of its sender.
 pub record FitsSeat (b : Books) (pass : ℕ) (v : View) : Type 0 where
@@ -88,7 +88,7 @@ pub record FitsTap (b : Books) (pass : ℕ) (v : View) : Type 0 where
   pub tap : pass ≡ b.tap
   pub setup : v.setup ≡ b.setup
   pub taken : v.taken ≡ taken_in b.gone
-  pub fresh : (s : ℕ) → has_sender v.given s ≡ false → IsNew b s
+  pub fresh : (s : ℕ) → stands_in s v.given ≡ false → IsNew b s
   pub gathered : AreGathered b v.given v.gathered
 
 abbrev pub Fits : Books → ℕ → View → Type 0

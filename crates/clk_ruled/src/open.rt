@@ -4,7 +4,8 @@ ghost use Rattle.std.specs.Prelude.{◌≡◌, ◌≤◌, [], ◌∷◌, ◌++�
 ghost use Rattle.crossbeam_queue.specs.Passes.{view, IsPassOf, IsSamePass};
 ghost use Rattle.clk_packet.specs.Limits.{most_capacity};
 ghost use Rattle.clk_packet.specs.declared.fault.Fault.TheVariants.{Memory};
-ghost use Rattle.clk_ruled.specs.Lists.{has_sender, room_of, rooms_in_all, SendersRise};
+ghost use Rattle.clk_packet.specs.Lists.{stands_in};
+ghost use Rattle.clk_ruled.specs.Lists.{room_of, rooms_in_all, SendersRise};
 ghost use Rattle.clk_ruled.specs.Queue.{setup_of, empty_seat};
 ghost use Rattle.clk_ruled.specs.inside.Parts.{IsSeated};
 ghost use Rattle.clk_ruled.specs.inside.Rule.{blank_view, tap_view, seat_view};
@@ -49,7 +50,7 @@ fn seat_for<S: Sending>(
     requires sending { sender ≡ S.sender }
     requires queue { IsPassOf line.now pass.old }
     requires taps { (view pass.old).taps ≡ true }
-    requires new { has_sender (view pass.old).given sender ≡ false }
+    requires new { stands_in sender (view pass.old).given ≡ false }
     ensures queue { IsSamePass pass.old pass.new × IsPassOf line.now result }
     ensures tap { view pass.new ≡ tap_view (view pass.old).setup (view pass.old).taken (sender ∷ (view pass.old).given) (view pass.old).gathered }
     ensures seat { view result ≡ seat_view (view pass.old).setup sender [] [] }
@@ -83,7 +84,7 @@ fn add_seat(
 ) -> Result<(), Fault>
     requires queue { IsPassOf line.now pass.old }
     requires taps { (view pass.old).taps ≡ true }
-    requires new { has_sender (view pass.old).given sender ≡ false }
+    requires new { stands_in sender (view pass.old).given ≡ false }
     requires some { 1 ≤ (view pass.old).setup.capacity }
     requires room { room_of (view pass.old).setup.rooms sender ≡ room }
     ensures queue { IsSamePass pass.old pass.new }

@@ -5,12 +5,12 @@ use Rattle.std.proofs.lemmas.Bool.{false≢true}
 use Rattle.std.proofs.lemmas.Bool.Decides.{nat_tests}
 use Rattle.clk_packet.specs.declared.packet.Packet.{Packet}
 use Rattle.clk_sched.specs.declared.visit.Visit.{Visit}
-use Rattle.clk_sched.specs.Tree.{Class, Row, end, leaf, node, Tree, root, nodes, width, leaves, stands_in, queue_at, is_number}
+use Rattle.clk_packet.specs.Lists.{stands_in, In}
+use Rattle.clk_sched.specs.Tree.{Class, Row, end, leaf, node, Tree, root, nodes, width, leaves, queue_at, is_number}
 use Rattle.clk_sched.specs.Laws.{Manner, in_order, with_heads, manner}
 use Rattle.clk_sched.specs.Log.{visits_of, pulls, turn, pulls_below}
 use Rattle.clk_sched.specs.Run.{EachObeys}
 use Rattle.clk_sched.specs.Results.{Traced, traced, leaf_packets, asks_queue, traced_heads, own_heads, held_at, up_to, latest_origin, origin_in}
-use Rattle.clk_packet.specs.Lists.{In}
 use Rattle.clk_sched.specs.Conservation.{CameFrom, MakesNothing}
 use Rattle.clk_sched.proofs.Members.{of-all, in-filter, all-append, all-flat_map, all-split, all-weaker}
 use Rattle.clk_sched.proofs.Numbers.{same}

@@ -5,7 +5,8 @@ use Rattle.std.proofs.lemmas.Bool.{false≢true}
 use Rattle.std.proofs.lemmas.Bool.Decides.{nat_tests}
 use Rattle.clk_packet.specs.declared.packet.Packet.{Packet}
 use Rattle.clk_sched.specs.declared.visit.Visit.{Visit}
-use Rattle.clk_sched.specs.Tree.{Class, Row, end, leaf, node, Tree, root, nodes, width, leaves, stands_in, are_distinct, leaves_distinct, is_number}
+use Rattle.clk_packet.specs.Lists.{stands_in, are_distinct}
+use Rattle.clk_sched.specs.Tree.{Class, Row, end, leaf, node, Tree, root, nodes, width, leaves, leaves_distinct, is_number}
 use Rattle.clk_sched.specs.Turns.{Turn, EachAfter, all_visits, IsPlain}
 use Rattle.clk_sched.specs.Laws.{Manner, in_order, with_heads, manner, Follows}
 use Rattle.clk_sched.specs.Laws.Device.{IsDeviceTurn}

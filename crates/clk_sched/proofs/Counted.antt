@@ -6,9 +6,9 @@ use Rattle.std.specs.List.{AllByRecursion, cons_option, filter_map, flat_map}
 use Rattle.clk_packet.specs.declared.packet.Packet.{Packet}
 use Rattle.clk_sched.specs.declared.visit.Visit.{Visit}
 use Rattle.clk_sched.specs.Log.{visits_of}
-use Rattle.clk_sched.specs.Tree.{Tree, root, leaves, is_number, stands_in, are_distinct, leaves_distinct}
+use Rattle.clk_packet.specs.Lists.{stands_in, In, are_distinct}
+use Rattle.clk_sched.specs.Tree.{Tree, root, leaves, is_number, leaves_distinct}
 use Rattle.clk_sched.specs.Results.{Traced, traced, origin_in, traced_emitted, traced_heads, leaf_packets}
-use Rattle.clk_packet.specs.Lists.{In}
 use Rattle.clk_sched.specs.Conservation.{from_queue, given_in_all, IsConserved, CameFrom, ConservesCounts}
 use Rattle.clk_sched.proofs.CameFrom.{makes-nothing}
 use Rattle.clk_sched.proofs.Conserved.{conserves-packets}

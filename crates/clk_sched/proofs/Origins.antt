@@ -7,7 +7,8 @@ use Rattle.std.proofs.lemmas.Bool.Decides.{nat_tests}
 use Rattle.std.proofs.lemmas.List.Elements.{filter_map-append}
 use Rattle.clk_packet.specs.declared.packet.Packet.{Packet}
 use Rattle.clk_sched.specs.declared.visit.Visit.{Visit}
-use Rattle.clk_sched.specs.Tree.{Class, Row, end, leaf, node, Tree, nodes, width, queue_in, queue_at, leaves, stands_in, is_number}
+use Rattle.clk_packet.specs.Lists.{stands_in}
+use Rattle.clk_sched.specs.Tree.{Class, Row, end, leaf, node, Tree, nodes, width, queue_in, queue_at, leaves, is_number}
 use Rattle.clk_sched.specs.Laws.{Manner, in_order, with_heads, manner}
 use Rattle.clk_sched.specs.Log.{visits_of, in_pull}
 use Rattle.clk_sched.specs.Results.{Traced, traced, up_to, passed_input, asked_pull, latest_origin, passed_origin, origin_in, held_at, own_heads, traced_heads}

@@ -4,7 +4,8 @@ use Rattle.std.proofs.lemmas.Bool.Decides.{nat_tests}
 use Rattle.std.proofs.lemmas.List.{take_all}
 use Rattle.clk_packet.specs.declared.fault.Fault.TheVariants.{TooLarge}
 use Rattle.clk_packet.specs.Limits.{most_inputs, most_levels}
-use Rattle.clk_sched.specs.Tree.{Class, Tree, queue, scheduler, root, height, width, leaves, stands_in, Row, end, leaf, node, IsWellFormed, IsSound}
+use Rattle.clk_packet.specs.Lists.{stands_in}
+use Rattle.clk_sched.specs.Tree.{Class, Tree, queue, scheduler, root, height, width, leaves, Row, end, leaf, node, IsWellFormed, IsSound}
 use Rattle.clk_sched.specs.Built.{built, row, leaves_of}
 use Rattle.clk_sched.specs.Session.{elements}
 use Rattle.clk_sched.specs.inside.LaidOut.{elements_of}

@@ -1,10 +1,10 @@
 -- That a tree loses nothing, and makes nothing.
 use Rattle.std.specs.Prelude.{◌≡◌, ℕ, ◌+◌, true, List, [], ◌∷◌, ◌++◌, length, Some, None, MatchOption, if◌then◌else◌}
 use Rattle.std.specs.List.{filter_map, AllByRecursion}
-use Rattle.clk_packet.specs.Lists.{In}
+use Rattle.clk_packet.specs.Lists.{In, stands_in}
 use Rattle.clk_packet.specs.declared.packet.Packet.{Packet}
 use Rattle.clk_sched.specs.declared.visit.Visit.{Visit}
-use Rattle.clk_sched.specs.Tree.{Row, Tree, root, leaves, stands_in, is_number}
+use Rattle.clk_sched.specs.Tree.{Row, Tree, root, leaves, is_number}
 use Rattle.clk_sched.specs.Run.{IsRun}
 use Rattle.clk_sched.specs.Results.{Traced, leaf_packets, traced_emitted, traced_heads, emitted, heads}
 

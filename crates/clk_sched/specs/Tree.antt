@@ -1,7 +1,8 @@
 -- Trees of schedulers over queues, below a device that has one input.
-use Rattle.std.specs.Prelude.{◌≡◌, ℕ, ◌+◌, ◌≤◌, ◌==◌, ◌&&◌, ◌||◌, ◌++◌, Bool, true, false, not, List, [], ◌∷◌, length, ⊤, Option, Some, None, suc, max, if◌then◌else◌}
+use Rattle.std.specs.Prelude.{◌≡◌, ℕ, ◌+◌, ◌≤◌, ◌==◌, ◌&&◌, ◌++◌, Bool, false, List, [], ◌∷◌, length, ⊤, Option, Some, None, suc, max, if◌then◌else◌}
 use Rattle.std.specs.Option.{option_or}
 use Rattle.std.specs.List.{AllByRecursion}
+use Rattle.clk_packet.specs.Lists.{are_distinct}
 use Rattle.clk_packet.specs.Limits.{most_inputs, most_quantum, most_tickets, most_rate, most_burst}
 
 -- What a scheduler does with its inputs, and its arguments: the quantum of each input in bytes, the tickets of each input, and
@@ -65,15 +66,6 @@ leaves (node class inputs row) = leaves inputs ++ leaves row
 abbrev pub is_number : ℕ → Option ℕ → Bool
 is_number n None = false
 is_number n (Some other) = other == n
-
-abbrev pub stands_in : ℕ → List ℕ → Bool
-stands_in q [] = false
-stands_in q (p ∷ ps) = (p == q) || stands_in q ps
-
--- no number stands twice
-abbrev pub are_distinct : List ℕ → Bool
-are_distinct [] = true
-are_distinct (q ∷ qs) = not (stands_in q qs) && are_distinct qs
 
 -- no queue stands twice in a tree
 abbrev pub leaves_distinct : Tree → Bool

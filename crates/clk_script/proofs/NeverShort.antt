@@ -8,7 +8,8 @@ use Rattle.std.proofs.lemmas.List.{append-nil}
 use Rattle.clk_packet.specs.declared.packet.Packet.{Packet}
 use Rattle.clk_ring.specs.Queue.{Queue}
 use Rattle.clk_ring.specs.QueueHistory.{QueueEvent, held, IsInOrder, EachStands, IsQueueHistory}
-use Rattle.clk_sched.specs.Tree.{Tree, root, leaves, leaves_distinct, stands_in}
+use Rattle.clk_packet.specs.Lists.{stands_in}
+use Rattle.clk_sched.specs.Tree.{Tree, root, leaves, leaves_distinct}
 use Rattle.clk_sched.specs.Run.{IsRun}
 use Rattle.clk_sched.specs.Results.{emitted, heads}
 use Rattle.clk_sched.specs.Conservation.{given_in_all, ConservesCounts}

@@ -11,7 +11,8 @@ use Rattle.clk_packet.specs.declared.packet.Offered.{Offered}
 use Rattle.clk_packet.specs.declared.packet.Offered.TheVariants.{Accepted, Refused, Evicted}
 use Rattle.clk_ring.specs.QueueHistory.{QueueEvent, accept, refuse, evict, give, empty, accepted, gone, held, IsInOrder, EachStands, offer_events, pull_event}
 use Rattle.clk_sched.specs.declared.visit.Visit.{Visit}
-use Rattle.clk_sched.specs.Tree.{Tree, root, leaves, stands_in, are_distinct}
+use Rattle.clk_packet.specs.Lists.{stands_in, are_distinct}
+use Rattle.clk_sched.specs.Tree.{Tree, root, leaves}
 use Rattle.clk_sched.specs.Results.{asks_queue, leaf_packets, emitted, heads}
 use Rattle.clk_sched.specs.Conservation.{given_in_all}
 use Rattle.clk_sched.specs.Closing.{held_in_all, left_in}

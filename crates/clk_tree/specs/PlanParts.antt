@@ -3,7 +3,7 @@ use Rattle.std.specs.Prelude.{◌≡◌, ℕ, ◌+◌, ◌<◌, ◌≤◌, List,
 use Rattle.std.specs.List.{cons_option, AllByRecursion}
 use Rattle.clk_packet.specs.Limits.{most_capacity}
 use Rattle.clk_packet.specs.declared.packet.Kind.{Kind}
-use Rattle.clk_sched.specs.Tree.{stands_in}
+use Rattle.clk_packet.specs.Lists.{stands_in}
 use Rattle.clk_syntax.specs.Classes.{Class, sender, queue}
 use Rattle.clk_tree.specs.declared.plan.parts.QueueSpec.{QueueSpec}
 use Rattle.clk_tree.specs.declared.plan.parts.SenderSpec.{SenderSpec}

@@ -1,6 +1,6 @@
 -- Where the outputs in a plan lead (Click's connections, followed from the output on).
 use Rattle.std.specs.Prelude.{ℕ, ◌+◌, zero, suc, List, [], ◌∷◌, length, take, Bool, false, not, if◌then◌else◌, Option, Some, None, slice_get}
-use Rattle.clk_sched.specs.Tree.{stands_in}
+use Rattle.clk_packet.specs.Lists.{stands_in}
 use Rattle.clk_tree.specs.Plan.{Planned}
 use Rattle.clk_tree.specs.PlanTree.{is_device, device_count}
 

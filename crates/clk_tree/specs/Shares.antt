@@ -1,7 +1,8 @@
 -- How the queues of a plan are shared out among its trees (this project's own choice).
 use Rattle.std.specs.Prelude.{◌≡◌, ℕ, List, length, nat_lt, true, Some, slice_get}
 use Rattle.std.specs.List.{flat_map}
-use Rattle.clk_sched.specs.Tree.{Tree, root, leaves, stands_in, are_distinct}
+use Rattle.clk_packet.specs.Lists.{stands_in, are_distinct}
+use Rattle.clk_sched.specs.Tree.{Tree, root, leaves}
 use Rattle.clk_tree.specs.Plan.{Planned}
 use Rattle.clk_tree.specs.PlanTree.{device_count, IsTreeOf}
 use Rattle.clk_tree.specs.PlanParts.{Queued}

@@ -56,7 +56,8 @@ impl Plan {
     ghost use Rattle.std.specs.List.{AllByRecursion};
     ghost use Rattle.clk_packet.specs.declared.fault.Fault.TheVariants.{Memory};
     ghost use Rattle.clk_packet.specs.Limits.{most_elements};
-    ghost use Rattle.clk_sched.specs.Tree.{Tree, root, leaves, stands_in, leaves_distinct};
+    ghost use Rattle.clk_packet.specs.Lists.{stands_in};
+    ghost use Rattle.clk_sched.specs.Tree.{Tree, root, leaves, leaves_distinct};
     ghost use Rattle.clk_sched.specs.Session.{elements};
     ghost use Rattle.clk_syntax.specs.Limits.{most_tree_bytes};
     ghost use Rattle.clk_syntax.specs.Reading.{HasFault};

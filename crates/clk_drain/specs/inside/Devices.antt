@@ -1,7 +1,8 @@
 -- What a run opens of a plan.
 use Rattle.std.specs.Prelude.{◌≡◌, ℕ, Bool, List, [], ◌∷◌, map, suc}
 use Rattle.clk_packet.specs.declared.packet.Packet.{Packet}
-use Rattle.clk_sched.specs.Tree.{root, leaves, stands_in}
+use Rattle.clk_packet.specs.Lists.{stands_in}
+use Rattle.clk_sched.specs.Tree.{root, leaves}
 use Rattle.clk_tree.specs.Plan.{Planned}
 use Rattle.clk_tree.specs.PlanTree.{IsTreeOf, device_count}
 use Rattle.clk_tree.specs.PlanParts.{queues_of}

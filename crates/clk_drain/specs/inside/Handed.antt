@@ -4,6 +4,7 @@ use Rattle.std.specs.List.{flat_map, AllByRecursion}
 use Rattle.clk_packet.specs.declared.fault.Fault.{Fault}
 use Rattle.clk_packet.specs.declared.fault.Fault.TheVariants.{Memory}
 use Rattle.clk_packet.specs.Trace.{sent_by}
+use Rattle.clk_packet.specs.Lists.{are_distinct}
 use Rattle.clk_ruled.specs.Queue.{SeatLists, TapLists, ClosedLists, IsTapOf}
 use Rattle.clk_ruled.specs.Closing.{AreSeatsOf}
 use Rattle.clk_ruled.specs.Settle.{AreOpenedTogether}
@@ -13,7 +14,7 @@ use Rattle.clk_sched.specs.Log.{pulls, moment_of}
 use Rattle.clk_sched.specs.Session.{Progress, counted_moment}
 use Rattle.clk_drain.specs.declared.outcome.Outcome.{Outcome}
 use Rattle.clk_drain.specs.declared.running.opening.LeafQueue.{LeafQueue}
-use Rattle.clk_drain.specs.Senders.{AreApart, Rise}
+use Rattle.clk_drain.specs.Senders.{Rise}
 use Rattle.clk_drain.specs.Line.{LineLists, leaves_of, seats_in, senders_at, AreLinesOf, HaveOwnSenders}
 use Rattle.clk_drain.specs.Outcome.{Device, IsSettledOutcome}
 use Rattle.clk_drain.specs.Closing.{accepted_over, HasSent, queue_of_line, IsFaultOfDrain}
@@ -130,7 +131,7 @@ pub record IsReadyToClose (terms : Terms) (f : Feed) : Type 0 where
 
 -- no sender has seats at two devices
 abbrev pub AreApartDevices : List Feed → Type 0
-AreApartDevices feeds = AreApart (flat_map (λ (f : Feed). senders_at (seats_in f.lines)) feeds)
+AreApartDevices feeds = are_distinct (flat_map (λ (f : Feed). senders_at (seats_in f.lines)) feeds) ≡ true
 
 -- A closed device, with what it came to.
 pub record IsClosedDevice (terms : Terms) (f : Feed) (d : Device) : Type 0 where

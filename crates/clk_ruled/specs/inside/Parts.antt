@@ -3,7 +3,8 @@ use Rattle.std.specs.Prelude.{◌≡◌, ℕ, ◌≤◌, true, false, List, [], 
 use Rattle.clk_packet.specs.declared.packet.Packet.{Packet}
 use Rattle.clk_packet.specs.declared.packet.Kind.TheVariants.{TailDrop, FrontDrop}
 use Rattle.clk_ruled.specs.declared.view.View.{View}
-use Rattle.clk_ruled.specs.Lists.{room_of, has_sender, SendersRise}
+use Rattle.clk_packet.specs.Lists.{stands_in}
+use Rattle.clk_ruled.specs.Lists.{room_of, SendersRise}
 use Rattle.clk_ruled.specs.Queue.{SeatLists, IsShared, empty_seat}
 use Rattle.clk_ruled.specs.inside.Rule.{KnowsAfter, tap_view}
 use Rattle.atomic_table.specs.Seated.{TableId}
@@ -32,7 +33,7 @@ pub record TapKeeps (v : View) (taken : List Packet) : Type 0 where
 -- none of these senders has had a seat, and each may offer so many packets as is said
 abbrev pub AreFree : List ℕ → List (ℕ × ℕ) → Type 0
 AreFree given [] = ⊤
-AreFree given (r ∷ rest) = (has_sender given r.0 ≡ false) × AreFree given rest
+AreFree given (r ∷ rest) = (stands_in r.0 given ≡ false) × AreFree given rest
 
 abbrev pub AreRoomed : List (ℕ × ℕ) → List (ℕ × ℕ) → Type 0
 AreRoomed rooms [] = ⊤

@@ -1,6 +1,6 @@
 -- Tables that mark queues by their numbers.
 use Rattle.std.specs.Prelude.{◌≡◌, ℕ, ◌<◌, Bool, true, false, List, get_or}
-use Rattle.clk_sched.specs.Tree.{stands_in, are_distinct}
+use Rattle.clk_packet.specs.Lists.{stands_in, are_distinct}
 
 -- just these queues are marked
 abbrev pub Marks : List Bool → List ℕ → Type 0

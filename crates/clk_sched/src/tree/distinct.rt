@@ -1,7 +1,8 @@
 //! Whether no queue stands twice in a tree.
 
 ghost use Rattle.std.specs.Prelude.{◌≡◌, ◌++◌, ℕ, List, true};
-ghost use Rattle.clk_sched.specs.Tree.{leaves, are_distinct};
+ghost use Rattle.clk_packet.specs.Lists.{are_distinct};
+ghost use Rattle.clk_sched.specs.Tree.{leaves};
 ghost use Rattle.clk_sched.specs.Built.{row, leaves_of};
 ghost use Rattle.clk_sched.specs.inside.Marks.{Marks, AreMarked};
 

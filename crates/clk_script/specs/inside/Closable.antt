@@ -1,6 +1,7 @@
 -- A setup over which each closing comes to its end.
 use Rattle.std.specs.Prelude.{◌≡◌, ℕ, List, true, slice_get, Some}
-use Rattle.clk_sched.specs.Tree.{Tree, root, leaves, stands_in, are_distinct, IsSound}
+use Rattle.clk_packet.specs.Lists.{stands_in, are_distinct}
+use Rattle.clk_sched.specs.Tree.{Tree, root, leaves, IsSound}
 use Rattle.clk_tree.specs.PlanParts.{AreRising}
 use Rattle.clk_script.specs.declared.router.Router.{Router}
 use Rattle.clk_script.specs.Meaning.{Setup, Event, sender_numbers, is_at}

@@ -5,7 +5,8 @@ ghost use Rattle.clk_sched.specs.Conservation.{IsConserved};
 ghost use Rattle.clk_sched.specs.Limits.{end_of_moments};
 ghost use Rattle.clk_sched.specs.Log.{pulls};
 ghost use Rattle.clk_sched.specs.Run.{IsRun};
-ghost use Rattle.clk_sched.specs.Tree.{root, leaves, stands_in};
+ghost use Rattle.clk_packet.specs.Lists.{stands_in};
+ghost use Rattle.clk_sched.specs.Tree.{root, leaves};
 
 use clk_packet::Fault;
 use clk_sched::{Ask, Session, runs_conserve_packets};

@@ -2,7 +2,7 @@
 use Rattle.std.proofs.Common.{◌≡◌, ℕ, ◌+◌, ◌<◌, ◌==◌, ◌||◌, Bool, true, false, if◌then◌else◌, List, [], ◌∷◌, length, map, get_or, drop, nat_lt, nat_le, refl, sym, ap, ◌∙◌, add-one, add-zero, add_comm, arith, cond}
 use Rattle.std.specs.List.{insert, prefix_len, list_any}
 use Rattle.std.proofs.lemmas.Bool.{leb-true, leb-false, le-ltb, lt-ltb}
-use Rattle.clk_sched.specs.Tree.{stands_in}
+use Rattle.clk_packet.specs.Lists.{stands_in}
 use Rattle.clk_syntax.proofs.Callers.Lists.{drop-item}
 use Rattle.clk_tree.specs.declared.plan.element.Element.{Element}
 use Rattle.clk_tree.specs.declared.plan.parts.SenderSpec.{SenderSpec}

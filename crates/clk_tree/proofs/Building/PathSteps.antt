@@ -4,7 +4,7 @@ use Rattle.std.specs.List.{list_any}
 use Rattle.std.proofs.lemmas.List.{length-map, take-map, take_all, drop_all}
 use Rattle.std.proofs.lemmas.Bool.{cases_lt}
 use Rattle.std.proofs.lemmas.Option.{slice_get-map, slice_get-get_or, slice_get_past}
-use Rattle.clk_sched.specs.Tree.{stands_in}
+use Rattle.clk_packet.specs.Lists.{stands_in}
 use Rattle.clk_syntax.specs.Classes.{class_view}
 use Rattle.clk_tree.specs.declared.plan.element.Element.{Element}
 use Rattle.clk_tree.specs.Plan.{Planned}

@@ -2,11 +2,10 @@
 use Rattle.std.proofs.Common.{◌≡◌, ℕ, ◌+◌, ◌≤◌, ◌<◌, zero, suc, Bool, true, false, not, if◌then◌else◌, List, [], ◌∷◌, length, take, Option, Some, None, slice_get, inl, inr, refl, sym, ap, subst, ◌∙◌, add-one, arith}
 use Rattle.std.proofs.lemmas.Bool.{false≢true, cases_order}
 use Rattle.std.proofs.lemmas.Option.{slice_get_within, same_Some}
-use Rattle.clk_sched.specs.Tree.{stands_in}
+use Rattle.clk_packet.specs.Lists.{stands_in, In}
 use Rattle.clk_tree.specs.Plan.{Planned}
 use Rattle.clk_tree.specs.PlanTree.{is_device, device_sources, device_count}
 use Rattle.clk_tree.specs.PlanPaths.{has_output, place_fed, place_after, device_of}
-use Rattle.clk_packet.specs.Lists.{In}
 use Rattle.clk_tree.proofs.Distinct.DistinctNumbers.{Distinct, distinct-below}
 use Rattle.clk_tree.proofs.Building.PathSteps.{path-stays}
 

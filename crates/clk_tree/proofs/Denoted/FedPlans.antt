@@ -4,7 +4,7 @@ use Rattle.std.proofs.Common.{◌≡◌, ℕ, ◌+◌, ◌<◌, ◌≤◌, ◌==
 use Rattle.std.specs.List.{AllByRecursion, range_with_len}
 use Rattle.std.proofs.lemmas.Bool.{and_from, and_parts, or_parts, or_right, ltb-true, cases_eq, cases_Bool, false≢true}
 use Rattle.std.proofs.lemmas.Option.{same_Some}
-use Rattle.clk_sched.specs.Tree.{stands_in}
+use Rattle.clk_packet.specs.Lists.{stands_in, In}
 use Rattle.clk_syntax.specs.declared.naming.class.Role.{Role}
 use Rattle.clk_syntax.specs.declared.naming.class.Role.TheVariants as role
 use Rattle.clk_syntax.specs.declared.node.Node.{Node}
@@ -27,7 +27,6 @@ use Rattle.clk_tree.proofs.Sound.SoundPaths.{AreSound}
 use Rattle.clk_tree.proofs.Sound.SoundPlans.{IsPlanOf, is-plan, sound-nodes, pull-sources}
 use Rattle.clk_tree.proofs.Sound.SoundQueues.{IsLinkFrom, link-from, queue-role, IsSenderAt, IsSentTo, queue-senders, sender-sent}
 use Rattle.clk_tree.proofs.Sound.SoundParents.{sources-lead}
-use Rattle.clk_packet.specs.Lists.{In}
 use Rattle.clk_tree.proofs.Distinct.DistinctNumbers.{in-all, all-of, in-stands, stands-in}
 use Rattle.clk_tree.proofs.Denoted.DevicePaths.{is_device_at, HasPath, has-path, fed-is}
 

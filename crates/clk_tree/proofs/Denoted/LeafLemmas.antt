@@ -4,7 +4,8 @@ use Rattle.std.specs.List.{AllByRecursion}
 use Rattle.std.proofs.lemmas.Bool.{cases_eq, false≢true, false_from_ne_true, not_from_false, not-true}
 use Rattle.std.proofs.lemmas.Option.{same_Some}
 use Rattle.clk_sched.specs.Tree as tree
-use Rattle.clk_sched.specs.Tree.{Row, end, leaf, node, Tree, root, leaves, stands_in}
+use Rattle.clk_packet.specs.Lists.{stands_in, In}
+use Rattle.clk_sched.specs.Tree.{Row, end, leaf, node, Tree, root, leaves}
 use Rattle.clk_syntax.specs.Classes.{Class, role_of}
 use Rattle.clk_syntax.specs.Ports.{is_source}
 use Rattle.clk_tree.specs.Plan.{Planned, Denotes}
@@ -12,7 +13,6 @@ use Rattle.clk_tree.specs.PlanTree.{is_queue, is_device, queue_count, queue_numb
 use Rattle.clk_tree.specs.inside.PlanTree.{is_queue_at}
 use Rattle.clk_tree.specs.PlanPaths.{has_output, place_fed, device_of}
 use Rattle.clk_tree.specs.PlanParts.{Queued, queues_of, leads_to}
-use Rattle.clk_packet.specs.Lists.{In}
 use Rattle.clk_tree.proofs.Distinct.DistinctNumbers.{in-append, in-left, in-right, in-stands, stands-in, mapped-from, in-mapped}
 use Rattle.clk_tree.proofs.Distinct.DistinctQueues.{number-of, one-number}
 use Rattle.clk_tree.proofs.Distinct.DistinctTrees.{Stands, places, leaf-stands, node-stands, node-queue, queue-device, leaves-places, device-queue}

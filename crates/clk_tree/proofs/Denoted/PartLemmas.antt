@@ -3,7 +3,7 @@ use Rattle.std.proofs.Common.{◌≡◌, ℕ, ◌+◌, ◌<◌, ◌≤◌, ◌==
 use Rattle.std.specs.List.{AllByRecursion, cons_option}
 use Rattle.std.proofs.lemmas.Bool.{ltb-true, ltb-false, or_parts, and_parts, not-true, false≢true}
 use Rattle.std.proofs.lemmas.Option.{same_Some}
-use Rattle.clk_sched.specs.Tree.{stands_in, are_distinct}
+use Rattle.clk_packet.specs.Lists.{stands_in, are_distinct}
 use Rattle.clk_syntax.specs.declared.node.Link.{Link}
 use Rattle.clk_syntax.specs.Classes.{Class, sender, queue}
 use Rattle.clk_syntax.specs.Source.{Element}

@@ -2,10 +2,10 @@
 use Rattle.std.proofs.Common.{◌≡◌, ℕ, ◌<◌, zero, suc, true, nat_lt, List, [], ◌∷◌, length, Option, Some, None, slice_get, inl, inr, refl, sym, ap, subst, ◌∙◌, eq-eqb, eqb-true, arith}
 use Rattle.std.proofs.lemmas.Bool.{false≢true, false_from_ne_true, lt-ltb, ltb-true}
 use Rattle.std.proofs.lemmas.Option.{same_Some, slice_get_within}
-use Rattle.clk_sched.specs.Tree.{Tree, root, leaves, stands_in, leaves_distinct}
+use Rattle.clk_packet.specs.Lists.{stands_in, In}
+use Rattle.clk_sched.specs.Tree.{Tree, root, leaves, leaves_distinct}
 use Rattle.clk_tree.specs.PlanParts.{Queued, leads_to}
 use Rattle.clk_tree.specs.Shares.{all_leaves, AreSharedOut}
-use Rattle.clk_packet.specs.Lists.{In}
 use Rattle.clk_tree.proofs.Distinct.DistinctNumbers.{Distinct, in-append, in-left, in-right, in-stands, stands-in, test-distinct, distinct-test, distinct-append}
 
 -- What is known of trees and queues: each tree's leaves are distinct and are the queues of its device, and each queue's device has a tree.

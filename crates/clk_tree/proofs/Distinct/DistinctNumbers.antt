@@ -5,8 +5,7 @@ use Rattle.std.specs.List.{AllByRecursion, list_any, filter_map, cons_option, Is
 use Rattle.std.proofs.lemmas.Bool.{or_right, and_parts, and_from, not-true, not_from_false, false_from_ne_true, false≢true, both_ways}
 use Rattle.std.proofs.lemmas.Map.Steps.{length-le_from_distinct_below}
 use Rattle.std.proofs.lemmas.Option.{same_Some}
-use Rattle.clk_packet.specs.Lists.{In}
-use Rattle.clk_sched.specs.Tree.{stands_in, are_distinct}
+use Rattle.clk_packet.specs.Lists.{In, stands_in, are_distinct}
 
 abbrev pub Distinct : List ℕ → Type 0
 Distinct [] = ⊤

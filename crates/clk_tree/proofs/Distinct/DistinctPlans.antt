@@ -9,7 +9,8 @@ use Rattle.std.proofs.lemmas.Option.{same_Some}
 use Rattle.clk_packet.specs.declared.fault.Fault.TheVariants.{BadPort, PortTwice, PortMissing, NoDevice, NotATree, TooLarge}
 use Rattle.clk_packet.specs.Limits.{most_elements}
 use Rattle.clk_sched.specs.Session as session
-use Rattle.clk_sched.specs.Tree.{Tree, root, are_distinct, leaves_distinct}
+use Rattle.clk_packet.specs.Lists.{are_distinct, In}
+use Rattle.clk_sched.specs.Tree.{Tree, root, leaves_distinct}
 use Rattle.clk_syntax.specs.declared.naming.class.Role.{Role}
 use Rattle.clk_syntax.specs.declared.naming.class.Role.TheVariants as role
 use Rattle.clk_syntax.specs.declared.node.Node.{Node}
@@ -27,7 +28,6 @@ use Rattle.clk_syntax.specs.Reading.{elements_of, wires_of}
 use Rattle.clk_syntax.proofs.Callers.Graphs.{used_again}
 use Rattle.clk_tree.specs.Plan.{Planned, Known, all_known, source_at, sources_of, planned_at, planned_from, plan_of, Denotes}
 use Rattle.clk_tree.specs.PlanTree.{is_queue, is_device, device_sources, device_count, sources_of_device, IsRowOf, IsTreeOf}
-use Rattle.clk_packet.specs.Lists.{In}
 use Rattle.clk_tree.proofs.Distinct.DistinctNumbers.{Distinct, distinct-test}
 use Rattle.clk_tree.proofs.Distinct.DistinctTrees.{HasParents, tree-distinct, tree-fits}
 

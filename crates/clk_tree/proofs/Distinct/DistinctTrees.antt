@@ -7,12 +7,12 @@ use Rattle.std.proofs.lemmas.List.Elements.{filter_map-append}
 use Rattle.std.proofs.lemmas.Option.{slice_get_within}
 use Rattle.clk_sched.specs.Session.{elements}
 use Rattle.clk_sched.specs.Tree as tree
-use Rattle.clk_sched.specs.Tree.{Row, end, leaf, node, Tree, queue, scheduler, root, leaves, are_distinct, leaves_distinct}
+use Rattle.clk_packet.specs.Lists.{are_distinct, In}
+use Rattle.clk_sched.specs.Tree.{Row, end, leaf, node, Tree, queue, scheduler, root, leaves, leaves_distinct}
 use Rattle.clk_syntax.specs.Classes as class
 use Rattle.clk_syntax.specs.Classes.{Class}
 use Rattle.clk_tree.specs.Plan.{Planned}
 use Rattle.clk_tree.specs.PlanTree.{is_queue, is_device, number_if, queue_number, scheduler_over, IsNode, sources_at, IsRowOf}
-use Rattle.clk_packet.specs.Lists.{In}
 use Rattle.clk_tree.proofs.Distinct.DistinctNumbers.{Distinct, in-all, test-distinct, distinct-test, in-append, distinct-append, distinct-mapped, distinct-below}
 use Rattle.clk_tree.proofs.Distinct.DistinctQueues.{one-number}
 

@@ -4,7 +4,7 @@ use Rattle.std.specs.List.{AllByRecursion, range_with_len}
 use Rattle.std.proofs.lemmas.Bool.{and_parts, not-true, false_from_ne_true, cases_Bool, false≢true}
 use Rattle.std.proofs.lemmas.Option.{same_Some}
 use Rattle.clk_sched.proofs.Callers.Lists.{all-weaker}
-use Rattle.clk_sched.specs.Tree.{stands_in, are_distinct}
+use Rattle.clk_packet.specs.Lists.{stands_in, are_distinct}
 use Rattle.clk_syntax.specs.declared.naming.class.Role.{Role}
 use Rattle.clk_syntax.specs.declared.naming.class.Role.TheVariants as role
 use Rattle.clk_syntax.specs.declared.node.Node.{Node}

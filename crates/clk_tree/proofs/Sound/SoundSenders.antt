@@ -4,7 +4,7 @@ use Rattle.std.specs.List.{AllByRecursion, list_any, cons_option}
 use Rattle.std.proofs.lemmas.Bool.{or_parts, and_parts, or_from, or_right, not-true, false≢true}
 use Rattle.std.proofs.lemmas.Option.{same_Some}
 use Rattle.clk_packet.specs.declared.fault.Fault.TheVariants.{NameTwice, UnknownClass, BadArgument, UnknownName}
-use Rattle.clk_sched.specs.Tree.{stands_in, are_distinct}
+use Rattle.clk_packet.specs.Lists.{stands_in, are_distinct}
 use Rattle.clk_syntax.specs.declared.node.Link.{Link}
 use Rattle.clk_syntax.specs.Classes.{Class, sender, queue, prio, round_robin, drr, stride, shaper, device}
 use Rattle.clk_syntax.specs.Source.{Element, Wire}

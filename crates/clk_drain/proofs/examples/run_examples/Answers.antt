@@ -4,7 +4,7 @@ use Rattle.std.specs.List.{flat_map, AllByRecursion}
 use Rattle.clk_packet.specs.declared.packet.Packet.{Packet}
 use Rattle.clk_packet.specs.declared.packet.Kind.TheVariants.{TailDrop}
 use Rattle.clk_packet.specs.Trace.{sent_by}
-use Rattle.clk_ruled.specs.Lists.{has_sender}
+use Rattle.clk_packet.specs.Lists.{stands_in}
 use Rattle.clk_sched.specs.Tree.{Tree, queue, scheduler}
 use Rattle.clk_sched.specs.Run.{IsRun}
 use Rattle.clk_sched.specs.Results.{emitted}
@@ -185,8 +185,8 @@ pub returns-clause-not_devices_swapped : goal.returns-clause-not_devices_swapped
 returns-clause-not_devices_swapped c =
     λ outcome h o.
     let t = of-two plan devices_swapped outcome refl h o in
-    let own = subst (AllByRecursion (λ (p : Packet). has_sender (senders_to t.a) p.sender ≡ true)) (sym (first-emitted plan devices_swapped t)) t.settled.settled.0.own in
-    let none : has_sender (senders_to t.a) 1 ≡ false = ap (λ qs. has_sender (flat_map (λ (q : SharedQueue). q.senders) qs) 1) t.is_a.queues in
+    let own = subst (AllByRecursion (λ (p : Packet). stands_in p.sender (senders_to t.a) ≡ true)) (sym (first-emitted plan devices_swapped t)) t.settled.settled.0.own in
+    let none : stands_in 1 (senders_to t.a) ≡ false = ap (λ qs. stands_in 1 (flat_map (λ (q : SharedQueue). q.senders) qs)) t.is_a.queues in
     absurd (false≢true (sym none ∙ own.0))
 
 pub returns-clause-not_in_other_list : goal.returns-clause-not_in_other_list

@@ -1,6 +1,7 @@
 use Rattle.std.proofs.Common.{◌≡◌, List, [], ◌∷◌, sym, ap, ◌∙◌, subst}
 use Rattle.std.specs.List.{AllByRecursion}
-use Rattle.clk_sched.specs.Tree.{root, leaves, stands_in}
+use Rattle.clk_packet.specs.Lists.{stands_in}
+use Rattle.clk_sched.specs.Tree.{root, leaves}
 use Rattle.clk_sched.specs.Results.{leaf_packets}
 use Rattle.clk_sched.specs.Session.{Progress}
 use Rattle.clk_drain.specs.Senders.{Rise}

@@ -1,6 +1,7 @@
 use Rattle.std.proofs.Common.{◌≡◌, ◌∷◌, [], ℕ, map, slice_get, IfOk, sym, subst}
 use Rattle.clk_packet.specs.Limits.{most_levels}
-use Rattle.clk_sched.specs.Tree.{Tree, root, leaves, stands_in}
+use Rattle.clk_packet.specs.Lists.{stands_in}
+use Rattle.clk_sched.specs.Tree.{Tree, root, leaves}
 use Rattle.clk_tree.specs.inside.Kept.{planned}
 use Rattle.clk_tree.specs.PlanParts.{queued, queues_of, leads_to}
 use Rattle.clk_tree.specs.PlanTree.{IsRowOf}
