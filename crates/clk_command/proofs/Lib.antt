@@ -1,4 +1,4 @@
 -- Lemmas that answers cite.
-pub mod RunningLemmas
-pub mod WordLemmas
-pub mod TaskLemmas
+mod RunningLemmas
+mod WordLemmas
+mod TaskLemmas

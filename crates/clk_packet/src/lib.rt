@@ -24,8 +24,8 @@ pub use fault::Fault;
 pub use from_std::{FromRead, ToWrite};
 pub use io::{Failed, Sink, Source};
 pub use limits::{
-    MAX_BURST, MAX_CAPACITY, MAX_ELEMENTS, MAX_INPUTS, MAX_LENGTH, MAX_LEVELS, MAX_QUANTUM, MAX_RATE,
-    MAX_RECORDS, MAX_SENDER, MAX_TICKETS, MAX_TRACE_BYTES,
+    MAX_BURST, MAX_CAPACITY, MAX_ELEMENTS, MAX_INPUTS, MAX_LENGTH, MAX_LEVELS, MAX_QUANTUM,
+    MAX_RATE, MAX_RECORDS, MAX_SENDER, MAX_TICKETS, MAX_TRACE_BYTES,
 };
 pub use number::{number_before, number_in};
 pub use packet::{Kind, Offered, Packet};

@@ -1,4 +1,4 @@
 -- Lemmas that answers cite.
-pub mod ReportLemmas
-pub mod TotalLemmas
-pub mod VisitLemmas
+mod ReportLemmas
+mod TotalLemmas
+mod VisitLemmas

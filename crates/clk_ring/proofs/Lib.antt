@@ -1,3 +1,3 @@
 -- Lemmas on histories of queues.
-pub mod Histories
-pub mod CallsOfQueues
+mod Histories
+mod CallsOfQueues

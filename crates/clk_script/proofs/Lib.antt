@@ -1,27 +1,27 @@
--- Lemmas that answers cite.
-pub mod FieldLemmas
-pub mod NumberLemmas
-pub mod LineLemmas
-pub mod PlainLines
-pub mod Alike
-pub mod EventLemmas
-pub mod DrainLemmas
-pub mod SenderLemmas
-pub mod RouterLemmas
-pub mod TallyLemmas
-pub mod ClosingLemmas
-pub mod PlaceLemmas
-pub mod ReadingLemmas
-pub mod RowLemmas
-pub mod PassLemmas
-pub mod AnswerLemmas
-pub mod OneMeaning
-pub mod OneDevice
-pub mod OneTree
-pub mod Apart
-pub mod QueueCounts
-pub mod NeverShort
-pub mod PlanLemmas
-pub mod ScriptLemmas
-pub mod WrittenLemmas
-pub mod RefusalLemmas
+-- Lemmas that answers cite, of which `Callers` has those that crates above may cite too.
+pub mod Callers
+mod FieldLemmas
+mod NumberLemmas
+mod LineLemmas
+mod PlainLines
+mod Alike
+mod EventLemmas
+mod DrainLemmas
+mod SenderLemmas
+mod RouterLemmas
+mod TallyLemmas
+mod ClosingLemmas
+mod PlaceLemmas
+mod ReadingLemmas
+mod RowLemmas
+mod PassLemmas
+mod AnswerLemmas
+mod OneMeaning
+mod OneDevice
+mod OneTree
+mod Apart
+mod QueueCounts
+mod NeverShort
+mod PlanLemmas
+mod ScriptLemmas
+mod RefusalLemmas

@@ -21,7 +21,7 @@ use Rattle.clk_script.specs.Meaning.{Setup, plan_setup, names_of, WritesWith, Me
 use Rattle.clk_script.specs.declared.router.Router.{Router}
 use Rattle.clk_script.specs.inside.Router.{names_in, Starts}
 use Rattle.clk_script.proofs.AnswerLemmas.{names-its}
-use Rattle.clk_script.proofs.WrittenLemmas.{of-weaker}
+use Rattle.clk_script.proofs.Callers.Written.{of-weaker}
 
 -- one byte past the limit is enough to tell what is wrong
 fault-cut : (names : Names) (all : List ℕ) → script_fault names (take (most_script_bytes + 1) all) ≡ script_fault names all

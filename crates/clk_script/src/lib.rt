@@ -24,6 +24,6 @@ pub use laws::{
     one_device_needs_no_number, plans_have_at_most_one_meaning, script_examples,
     scripts_have_at_most_one_meaning, word_examples,
 };
-pub use limits::{MAX_SCRIPT_BYTES, MAX_DEVICE, MAX_LINES, MAX_MOMENT};
+pub use limits::{MAX_DEVICE, MAX_LINES, MAX_MOMENT, MAX_SCRIPT_BYTES};
 pub use run::{run_script, run_script_logged};
 pub use script::{Command, Line};

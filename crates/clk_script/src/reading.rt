@@ -7,7 +7,7 @@ ghost use Rattle.clk_script.specs.Script.{lines_of, drain_in, command_fault, fau
 ghost use Rattle.clk_script.specs.inside.Router.{tally_sender, named_by};
 ghost use Rattle.clk_script.specs.inside.Rows.{command_asked, asked_by, asked_in, IsReadFrom, CanBeRun};
 
-use crate::limits::{MAX_SCRIPT_BYTES, MAX_LINES};
+use crate::limits::{MAX_LINES, MAX_SCRIPT_BYTES};
 use crate::rows::Row;
 use crate::script::{Command, Line};
 use crate::tallies::place_of;

@@ -1,7 +1,7 @@
 -- What the code meets its contracts by.
-pub mod Building
-pub mod Sound
-pub mod Distinct
-pub mod Denoted
-pub mod Canonical
-pub mod Rewired
+mod Building
+mod Sound
+mod Distinct
+mod Denoted
+mod Canonical
+mod Rewired

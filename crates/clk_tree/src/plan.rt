@@ -130,7 +130,12 @@ impl Plan {
         ensures leaves { IfOk result (λ tree. (q : ℕ) → stands_in q (leaves (root tree)) ≡ leads_to device (slice_get (queues_of self.now) q)) }
         ensures fault { IsOkUnless result Memory }
     {
-        tree_at(alloc, &self.elements, self.tops[device as usize], MAX_LEVELS)
+        tree_at(
+            alloc,
+            &self.elements,
+            self.tops[device as usize],
+            MAX_LEVELS,
+        )
     }
 
     /// The queues of the plan, by their numbers.

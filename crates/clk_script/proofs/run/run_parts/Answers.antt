@@ -4,7 +4,7 @@ use Rattle.clk_tree.specs.PlanParts.{queued, AreRising}
 use Rattle.clk_script.specs.Meaning.{setup_of}
 use Rattle.clk_script.specs.inside.Rows.{answer_text}
 use Rattle.clk_script.proofs.SenderLemmas.{numbers-its}
-use Rattle.clk_script.proofs.WrittenLemmas.{wrote-whole, wrote-front, wrote-nothing}
+use Rattle.clk_script.proofs.Callers.Written.{wrote-whole, wrote-front, wrote-nothing}
 use Rattle.clk_script.proofs.RefusalLemmas.{IsRefusal-read, meaning-known, few-devices, few-closings}
 use Rattle.clk_script.proofs.run.run_parts.Goals as goal
 

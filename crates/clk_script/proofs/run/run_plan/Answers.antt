@@ -5,7 +5,7 @@ use Rattle.clk_script.specs.Meaning.{setup_of}
 use Rattle.clk_script.specs.inside.Closable.{IsClosable}
 use Rattle.clk_script.proofs.PlanLemmas.{plan-whole}
 use Rattle.clk_script.proofs.NeverShort.{plan-closable}
-use Rattle.clk_script.proofs.WrittenLemmas.{wrote-ended, wrote-failed}
+use Rattle.clk_script.proofs.Callers.Written.{wrote-ended, wrote-failed}
 use Rattle.clk_script.proofs.RefusalLemmas.{meaning-over}
 use Rattle.clk_script.proofs.run.run_plan.Goals as goal
 

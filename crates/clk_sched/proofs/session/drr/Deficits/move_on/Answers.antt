@@ -10,7 +10,7 @@ invariant_of-self c =
     let d = c.args.self.now in
     let next : ℕ = c.input_after-self.result in
     let within : next < length d.row.items = subst (λ n. n < length d.row.items) (sym c.input_after-self.ensures)
-        (subst (λ n. (d.cursor + 1) % n < length d.row.items) (sym c.len.ensures.value) (mod-lt (d.cursor + 1) (omega arith))) in
+    (subst (λ n. (d.cursor + 1) % n < length d.row.items) (sym c.len.ensures.value) (mod-lt (d.cursor + 1) (omega arith))) in
     let adds = adds-within d.row c.as_mut_slice.result.now c.add_quantum.new.row _ _ c.as_mut_slice.ensures.value (search rules) c.from.ensures c.add_quantum.ensures.adds in
     let after = limits-moved d.cursor d.row.items _ next (limits-of d) c.requires within adds in
     record { few = after.few; cursor_within = after.cursor_within; quanta_within = after.quanta_within; deficits_within = after.deficits_within }
