@@ -10,7 +10,7 @@ use Rattle.clk_syntax.specs.Faults.{text_fault}
 use Rattle.clk_syntax.specs.Limits.{most_tree_bytes}
 use Rattle.clk_tree.specs.Plan.{Planned, Denotes}
 use Rattle.clk_syntax.specs.Reading.{HasFault}
-use Rattle.clk_packet.specs.Bytes.{AppendsFront}
+use Rattle.clk_packet.specs.Bytes.{AppendsFront, OfBytes}
 use Rattle.clk_script.specs.Written.{WroteWhat}
 use Rattle.clk_command.specs.Tasks.{Does, IsPlanIn, ReportsOver, WroteBoth}
 use Rattle.clk_command.specs.Words.{task}
@@ -49,8 +49,8 @@ plan-read (Some all) bytes plan is denotes =
     subst (λ (text : List ℕ). Denotes text plan) (is ∙ whole all read) denotes
 
 -- the fault that they have
-pub fault-read : (known : Option (List ℕ)) (bytes : List ℕ) (fault : Fault) → IfSome known (λ all. bytes ≡ take (most_tree_bytes + 1) all) → HasFault bytes fault → IfSome known (λ all. HasFault all fault)
-fault-read None bytes fault is has = tt
+pub fault-read : (known : Option (List ℕ)) (bytes : List ℕ) (fault : Fault) → IfSome known (λ all. bytes ≡ take (most_tree_bytes + 1) all) → HasFault bytes fault → OfBytes known (λ all. HasFault all fault)
+fault-read None bytes fault is has = (bytes, has)
 fault-read (Some all) bytes fault is has = by_test (nat_lt most_tree_bytes (length all)) refl has
   where
     by_test : (b : Bool) → nat_lt most_tree_bytes (length all) ≡ b → HasFault bytes fault → HasFault all fault

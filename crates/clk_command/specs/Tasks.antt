@@ -1,5 +1,5 @@
 -- What is done for each task, by the bytes of its files, where these are known: each source of bytes gives what it holds.
-use Rattle.std.specs.Prelude.{◌≡◌, ◌≢◌, ◌⊎◌, ℕ, List, Option, None, Some, IfSome, Result, OnOk, IfErr, IsErrOf}
+use Rattle.std.specs.Prelude.{◌≡◌, ◌≢◌, ◌⊎◌, ℕ, List, Option, None, Some, Result, OnOk, IfErr, IsErrOf}
 use Rattle.std.specs.Io.KnownBytes.{Appends, Keeps}
 use Rattle.clap.specs.Kinds.{Kinds, IsAmong}
 use Rattle.clap.specs.declared.error.kind.ErrorKind.{ErrorKind}
@@ -30,7 +30,7 @@ pub record IsCanonicalOf (tree : Option (List ℕ)) (text : List ℕ) : Type 0 w
 
 -- Why reading a plan is refused with a fault: memory ran out, the source failed, or its text has the fault.
 abbrev pub ExplainsTree : Option (List ℕ) → Fault → Type 0
-ExplainsTree tree fault = ((fault ≡ Memory) ⊎ (fault ≡ Read)) ⊎ IfSome tree (λ text. HasFault text fault)
+ExplainsTree tree fault = ((fault ≡ Memory) ⊎ (fault ≡ Read)) ⊎ OfBytes tree (λ text. HasFault text fault)
 
 -- A script over a tree writes this text.
 pub record WritesOver (tree input : Option (List ℕ)) (text : List ℕ) : Type 0 where
@@ -95,3 +95,10 @@ ExplainsScriptOver tree input fault = ((fault ≡ Write) ⊎ ExplainsTree tree f
 -- Why a run of a trace over a tree is refused with a fault: a writer failed, memory ran out, the tree has it, or the run over its plan.
 abbrev pub ExplainsRunOver : Option (List ℕ) → Option (List ℕ) → Fault → Type 0
 ExplainsRunOver tree trace fault = ((fault ≡ Write) ⊎ ExplainsTree tree fault) ⊎ ((plan : List Planned) × IsPlanIn tree plan × ExplainsRun plan trace fault)
+
+-- Why a task is refused with a fault, where the standard input held these bytes.
+abbrev pub ExplainsTask : Task → Option (List ℕ) → Fault → Type 0
+ExplainsTask builtin input fault = ExplainsScriptOver (Some builtin_text) input fault
+ExplainsTask (check tree) input fault = (fault ≡ Write) ⊎ ExplainsTree None fault
+ExplainsTask (script tree lines visits) input fault = ExplainsScriptOver None None fault
+ExplainsTask (run tree trace step limit visits) input fault = ExplainsRunOver None None fault

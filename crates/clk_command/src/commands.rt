@@ -10,7 +10,7 @@ ghost use Rattle.clk_packet.specs.declared.fault.Fault.TheVariants.{Memory, Writ
 ghost use Rattle.clk_packet.specs.Bytes.{read_failures, write_failures};
 ghost use Rattle.clk_tree.specs.Plan.{Denotes};
 ghost use Rattle.clk_script.specs.Written.{WroteWhat};
-ghost use Rattle.clk_command.specs.Tasks.{Does, IsQuestion, IsMistake, WritesOver, ReportsOver, builtin_text};
+ghost use Rattle.clk_command.specs.Tasks.{Does, ExplainsRunOver, ExplainsScriptOver, ExplainsTask, ExplainsTree, IsQuestion, IsMistake, WritesOver, ReportsOver, builtin_text};
 ghost use Rattle.clk_command.specs.Words.{program_words, task, task_in};
 
 use crate::builtin;
@@ -73,6 +73,9 @@ pub fn command<
     ensures refused { result ≡ Ok 2 → (reader.new ≡ reader.old) × (writer.new ≡ writer.old) }
     // At a fault nothing is written, but where a write failed, or there was no memory for the visits.
     ensures nothing { IfErr result (λ fault. fault ≢ Write → fault ≢ Memory → Keeps (W.Sink.taken writer.old) (W.Sink.taken writer.new)) }
+    // At such a fault the words are right, and what they ask for has it.
+    ensures fault { IfErr result (λ fault. fault ≢ Write → fault ≢ Memory → (fault_of program_words (map string_bytes words.items) ≡ [])
+        × ExplainsTask (task_in (map string_bytes words.items)) (R.Source.remaining reader.old) fault) }
     // Where `writer` or `errors` failed the fault is 20, and 19 where `reader` failed.
     ensures write_failures { (W.Sink.failures writer.new + E.Sink.failures errors.new ≡ W.Sink.failures writer.old + E.Sink.failures errors.old)
         ⊎ (W.Sink.failures writer.new + E.Sink.failures errors.new ≡ write_failures result (W.Sink.failures writer.old + E.Sink.failures errors.old)) }
@@ -98,6 +101,7 @@ fn perform<H: Files + AllocGlobal + Threads + Wait, P: Wait + Sync, R: Source, W
 ) -> Result<(), Fault>
     ensures done { OnOk result (Does (task asked.entry) (R.Source.remaining reader.old) (λ text. Appends (W.Sink.taken writer.old) (W.Sink.taken writer.new) text)) }
     ensures nothing { IfErr result (λ fault. fault ≢ Write → fault ≢ Memory → Keeps (W.Sink.taken writer.old) (W.Sink.taken writer.new)) }
+    ensures fault { IfErr result (ExplainsTask (task asked.entry) (R.Source.remaining reader.old)) }
     ensures write_failures { (W.Sink.failures writer.new ≡ W.Sink.failures writer.old)
         ⊎ (W.Sink.failures writer.new ≡ write_failures result (W.Sink.failures writer.old)) }
     ensures read_failures { (R.Source.failures reader.new ≡ R.Source.failures reader.old)
@@ -127,6 +131,7 @@ fn script_builtin<R: Source, W: Sink>(
     writer: &mut W,
 ) -> Result<(), Fault>
     ensures wrote { WroteWhat (WritesOver (Some builtin_text) (R.Source.remaining reader.old)) result (W.Sink.taken writer.old) (W.Sink.taken writer.new) }
+    ensures fault { IfErr result (ExplainsScriptOver (Some builtin_text) (R.Source.remaining reader.old)) }
     ensures write_failures { W.Sink.failures writer.new ≡ write_failures result (W.Sink.failures writer.old) }
     ensures read_failures { (R.Source.failures reader.new ≡ R.Source.failures reader.old)
         ⊎ (R.Source.failures reader.new ≡ read_failures result (R.Source.failures reader.old)) }
@@ -144,6 +149,7 @@ fn script_files<H: Files + AllocGlobal, W: Sink>(
     writer: &mut W,
 ) -> Result<(), Fault>
     ensures written { OnOk result ((text : _) × WritesOver None None text × Appends (W.Sink.taken writer.old) (W.Sink.taken writer.new) text) }
+    ensures fault { IfErr result (ExplainsScriptOver None None) }
     ensures nothing { IfErr result (λ fault. fault ≢ Write → fault ≢ Memory → Keeps (W.Sink.taken writer.old) (W.Sink.taken writer.new)) }
     ensures write_failures { (W.Sink.failures writer.new ≡ W.Sink.failures writer.old)
         ⊎ (W.Sink.failures writer.new ≡ write_failures result (W.Sink.failures writer.old)) }
@@ -169,6 +175,7 @@ fn run_files<H: Files + AllocGlobal + Threads + Wait, P: Wait + Sync, W: Sink>(
     writer: &mut W,
 ) -> Result<(), Fault>
     ensures written { OnOk result ((text : _) × ReportsOver None None pace text × Appends (W.Sink.taken writer.old) (W.Sink.taken writer.new) text) }
+    ensures fault { IfErr result (ExplainsRunOver None None) }
     ensures nothing { IfErr result (λ fault. fault ≢ Write → fault ≢ Memory → Keeps (W.Sink.taken writer.old) (W.Sink.taken writer.new)) }
     ensures write_failures { (W.Sink.failures writer.new ≡ W.Sink.failures writer.old)
         ⊎ (W.Sink.failures writer.new ≡ write_failures result (W.Sink.failures writer.old)) }
@@ -205,7 +212,8 @@ fn sink<'a, H: Files>(rt: &'a H, path: &'a str) -> ToWrite<FileToWrite<'a, H>> {
 
 fn builtin_plan(alloc: Global) -> Result<Plan, Fault>
     ensures denotes { IfOk result (Denotes builtin_text) }
-    ensures fault { IfErr result (λ fault. fault ≢ Write) }
+    ensures fault { IfErr result (ExplainsTree (Some builtin_text)) }
+    ensures not_write { IfErr result (λ fault. fault ≢ Write) }
 {
     Plan::read(alloc, builtin::TEXT.as_bytes())
 }
@@ -223,6 +231,7 @@ fn tell<W: Sink, E: Sink>(
     ensures silent { result ≡ Ok 0 → errors.new ≡ errors.old }
     ensures refused { result ≡ Ok 2 → writer.new ≡ writer.old }
     ensures nothing { IfErr result (λ fault. fault ≢ Write → Keeps (W.Sink.taken writer.old) (W.Sink.taken writer.new)) }
+    ensures fault { IfErr result (λ fault. (fault ≡ Memory) ⊎ (fault ≡ Write)) }
     ensures write_failures { W.Sink.failures writer.new + E.Sink.failures errors.new ≡ write_failures result (W.Sink.failures writer.old + E.Sink.failures errors.old) }
 {
     if error.kind() == ErrorKind::OutOfMemory {
