@@ -11,7 +11,7 @@ use Rattle.clk_syntax.specs.Limits.{most_tree_bytes}
 use Rattle.clk_tree.specs.Plan.{Planned, Denotes}
 use Rattle.clk_syntax.specs.Reading.{HasFault}
 use Rattle.clk_packet.specs.Bytes.{AppendsFront, OfBytes}
-use Rattle.clk_script.specs.Written.{WroteWhat}
+use Rattle.clk_packet.specs.Written.{WroteWhat}
 use Rattle.clk_command.specs.Tasks.{Does, IsPlanIn, ReportsOver, WroteBoth}
 use Rattle.clk_command.specs.Words.{task}
 use Rattle.clk_command.specs.declared.pace.Pace.{Pace}

@@ -9,7 +9,7 @@ ghost use Rattle.clap.specs.declared.error.kind.ErrorKind.TheVariants.{OutOfMemo
 ghost use Rattle.clk_packet.specs.declared.fault.Fault.TheVariants.{Memory, Write};
 ghost use Rattle.clk_packet.specs.Bytes.{read_failures, write_failures};
 ghost use Rattle.clk_tree.specs.Plan.{Denotes};
-ghost use Rattle.clk_script.specs.Written.{WroteWhat};
+ghost use Rattle.clk_packet.specs.Written.{WroteWhat};
 ghost use Rattle.clk_command.specs.Tasks.{Does, ExplainsRunOver, ExplainsScriptOver, ExplainsTask, ExplainsTree, IsQuestion, IsMistake, WritesOver, ReportsOver, builtin_text};
 ghost use Rattle.clk_command.specs.Words.{program_words, task, task_in};
 

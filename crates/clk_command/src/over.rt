@@ -4,7 +4,7 @@ ghost use Rattle.std.specs.Prelude.{◌≡◌, ◌≢◌, ◌+◌, ◌⊎◌, If
 ghost use Rattle.clk_packet.specs.Bytes.{Takes, read_failures, write_failures};
 ghost use Rattle.clk_packet.specs.declared.fault.Fault.TheVariants.{Write};
 ghost use Rattle.clk_syntax.specs.Limits.{most_tree_bytes};
-ghost use Rattle.clk_script.specs.Written.{WroteWhat};
+ghost use Rattle.clk_packet.specs.Written.{WroteWhat};
 ghost use Rattle.clk_command.specs.Tasks.{IsPlanIn, IsCanonicalOf, ExplainsTree, ExplainsScriptOver, ExplainsRunOver, WritesOver, WritesWithVisits, ReportsOver, ReportsWithVisits, WroteBoth};
 
 use crate::pace::Pace;

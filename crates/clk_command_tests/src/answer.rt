@@ -3,6 +3,7 @@
 use crate::files::{assert_left, write_all};
 use clk_command::command;
 use clk_packet::{FailingSink, FailingSource, Fault};
+use clk_rows::PRIO_TWO_QUEUES;
 use std::alloc::{AllocError, Global};
 use std::process::Abort;
 use std::rt::Files;
@@ -13,7 +14,9 @@ use std::thread::Threads;
 pub const AMPLE: usize = 4096;
 
 /// The script on standard input.
-pub const SCRIPT: &[u8] = b"send 0 100\nsend 1 50\npull 0\npull 0\npull 0\n";
+pub fn input() -> &'static [u8] {
+    PRIO_TWO_QUEUES.script.as_bytes()
+}
 
 /// Files that are there, each with its path and what it holds; words; what they answer to that script, and write to standard output, where
 /// nothing is told on standard error; and files with what they hold afterwards, or None where they aren't there.
@@ -70,7 +73,7 @@ pub fn assert_writes(
     outcome: Result<u8, Fault>,
     expected: &[u8],
 ) {
-    let answered = answer(rt, words, SCRIPT, AMPLE, AMPLE).expect(rt, "ample memory");
+    let answered = answer(rt, words, input(), AMPLE, AMPLE).expect(rt, "ample memory");
     assert_eq!(rt; answered.outcome, outcome, "at {words}");
     assert_eq!(rt; answered.written.as_slice(), expected, "at {words}");
     assert!(rt; answered.told.is_empty(), "at {words}");

@@ -1,6 +1,6 @@
 //! The program by its words.
 
-use crate::answer::{AMPLE, Row, SCRIPT, answer, assert_rows, assert_writes};
+use crate::answer::{AMPLE, Row, answer, assert_rows, assert_writes, input};
 use crate::files::{write, write_all};
 use crate::{examples, running, visits};
 use clk_packet::Fault;
@@ -18,26 +18,7 @@ const BAD: (&str, &str) = ("out/bad.click", "q :: Que;");
 const BAD_FAULT: Fault = Fault::UnknownClass { offset: 5 };
 
 /// Trees that are checked, and scripts.
-const ROWS: [Row; 11] = [
-    // No words run standard input over the built-in tree.
-    (
-        &[],
-        "",
-        Ok(0),
-        "0#0 100 accepted\n1#0 50 accepted\npull 0: 0#0 100\npull 0: 1#0 50\npull 0: none\n",
-        &[],
-    ),
-    (
-        &[(
-            "out/checked.click",
-            "s :: Sender(0); q :: Queue; sh :: Shaper(5); d :: ToDevice(eth0); s -> q -> sh /* 5 per tick */ -> d;",
-        )],
-        "check out/checked.click",
-        Ok(0),
-        "s :: Sender(0);\nq :: Queue(1000);\nsh :: Shaper(5, 5);\nd :: ToDevice(eth0);\n\
-            s [0] -> [0] q;\nq [0] -> [0] sh;\nsh [0] -> [0] d;\n",
-        &[],
-    ),
+const ROWS: [Row; 9] = [
     (
         &[
             (
@@ -204,7 +185,7 @@ fn begins_and_has(text: &[u8], begin: &str, part: &str) -> bool {
 #[test]
 fn wrong_words_and_help_are_told(rt: HostRuntime) {
     for (words, status, begin, part) in SAID {
-        let answered = answer(&rt, words, SCRIPT, AMPLE, AMPLE).expect(&rt, "ample memory");
+        let answered = answer(&rt, words, input(), AMPLE, AMPLE).expect(&rt, "ample memory");
         assert_eq!(rt; answered.outcome, Ok(status), "at {words}");
         let (said, other) = match status {
             0 => (answered.written, answered.told),
@@ -215,18 +196,16 @@ fn wrong_words_and_help_are_told(rt: HostRuntime) {
     }
 }
 
-/// Words, a script on standard input, how many bytes standard output and standard error take, the outcome, and how many they took.
-const ROOMS: [(&str, &[u8], usize, usize, Result<u8, Fault>, usize); 4] = [
-    ("frob", SCRIPT, AMPLE, 7, Err(Fault::Write), 7),
-    ("--version", SCRIPT, 7, AMPLE, Err(Fault::Write), 7),
-    ("", SCRIPT, 7, AMPLE, Err(Fault::Write), 7),
-    // An empty script writes nothing.
-    ("", b"", AMPLE, AMPLE, Ok(0), 0),
-];
-
+// Words, a script on standard input, how many bytes standard output and standard error take, the outcome, and how many they took.
 #[test]
 fn what_takes_the_text_may_fail(rt: HostRuntime) {
-    for (words, script, room, errors_room, outcome, taken) in ROOMS {
+    for (words, script, room, errors_room, outcome, taken) in [
+        ("frob", input(), AMPLE, 7, Err(Fault::Write), 7),
+        ("--version", input(), 7, AMPLE, Err(Fault::Write), 7),
+        ("", input(), 7, AMPLE, Err(Fault::Write), 7),
+        // An empty script writes nothing.
+        ("", b"".as_slice(), AMPLE, AMPLE, Ok(0), 0),
+    ] {
         let answered = answer(&rt, words, script, room, errors_room).expect(&rt, "ample memory");
         assert_eq!(rt; answered.outcome, outcome, "at {words}");
         assert_eq!(rt;

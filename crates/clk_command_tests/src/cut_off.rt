@@ -1,20 +1,14 @@
 //! Standard output and standard error that fail in mid-stream: a front of the text went out.
 
-use crate::answer::{AMPLE, Answered, SCRIPT, answer};
+use crate::answer::{AMPLE, Answered, answer, input};
 use crate::files::write;
 use clk_packet::Fault;
+use clk_rows::CANONICAL_TEXT;
 use std::process::Abort;
 use std::rt::Files;
 use std::sync::Wait;
 use std::test::Fail;
 use std::thread::Threads;
-
-const TREE: &str =
-    "s :: Sender(0); q :: Queue; sh :: Shaper(5); d :: ToDevice(eth0); s -> q -> sh /* 5 per tick */ -> d;";
-
-const CANONICAL: &str =
-    "s :: Sender(0);\nq :: Queue(1000);\nsh :: Shaper(5, 5);\nd :: ToDevice(eth0);\n\
-    s [0] -> [0] q;\nq [0] -> [0] sh;\nsh [0] -> [0] d;\n";
 
 const REPORT: &str = "sender 0: sent 2 30, accepted 2 30, refused 0 0, evicted 0 0, emitted 2 30\n";
 
@@ -25,7 +19,7 @@ fn answered<H: Files + AllocGlobal + Threads + Wait + Sync + Abort>(
     room: usize,
     errors_room: usize,
 ) -> Answered {
-    answer(rt, words, SCRIPT, room, errors_room).expect(rt, "ample memory")
+    answer(rt, words, input(), room, errors_room).expect(rt, "ample memory")
 }
 
 // Fails unless words write this text to standard output, or as much of it as is taken before a failure, and nothing else.
@@ -47,9 +41,10 @@ fn assert_written_so_far<H: Files + AllocGlobal + Threads + Wait + Sync + Abort>
 
 #[test]
 fn standard_output_may_fail_after_any_byte(rt: HostRuntime) -> Result<(), Fail> {
-    write(&rt, "out/cut.click", TREE)?;
+    let row = CANONICAL_TEXT;
+    write(&rt, "out/cut.click", row.tree)?;
     write(&rt, "out/cut.trace", "0,10\n0,20\n")?;
-    assert_written_so_far(&rt, "check out/cut.click", CANONICAL.as_bytes());
+    assert_written_so_far(&rt, "check out/cut.click", row.canonical.as_bytes());
     assert_written_so_far(&rt, "run out/cut.click out/cut.trace", REPORT.as_bytes());
     for words in ["--help", "script --help"] {
         let help = answered(&rt, words, AMPLE, AMPLE).written;

@@ -3,22 +3,9 @@
 use crate::answer::AMPLE;
 use clk_command::{check_tree, script_with_visits};
 use clk_packet::{FailingSink, FailingSource, Fault};
+use clk_rows::PRIO_TWO_QUEUES;
 use std::alloc::{AllocError, Global};
 use std::test::Fail;
-
-const TREE: &str =
-    "s0 :: Sender(0); s1 :: Sender(1); q0, q1 :: Queue(2); p :: PrioSched; d :: ToDevice(link);
-s0 -> q0 -> p -> d; s1 -> q1 -> [1] p;";
-
-const SCRIPT: &str = "send 0 100\nsend 1 50\npull 0\npull 0\npull 0\n";
-
-const ANSWER: &str =
-    "0#0 100 accepted\n1#0 50 accepted\npull 0: 0#0 100\npull 0: 1#0 50\npull 0: none\n";
-
-const VISITS: &str = "pull,node,input,fresh,sender,number,length,passed,moment\n\
-    0,1,0,1,0,0,100,1,0\n0,0,0,1,0,0,100,1,0\n\
-    1,1,0,1,,,,0,0\n1,1,1,1,1,0,50,1,0\n1,0,0,1,1,0,50,1,0\n\
-    2,1,0,1,,,,0,0\n2,1,1,1,,,,0,0\n2,0,0,1,,,,0,0\n";
 
 /// A source of this text, which fails once it has given so many bytes.
 fn source(alloc: Global, text: &str, limit: usize) -> Result<FailingSource, AllocError> {
@@ -33,9 +20,13 @@ fn sink(alloc: Global, room: usize) -> Result<FailingSink, AllocError> {
 #[test]
 fn a_tree_may_fail_after_any_byte(rt: HostRuntime) -> Result<(), Fail> {
     let alloc = rt.alloc();
-    for limit in 0..=TREE.len() {
+    for limit in 0..=PRIO_TWO_QUEUES.tree.len() {
         let mut writer = sink(alloc, AMPLE)?;
-        let outcome = check_tree(alloc, &mut source(alloc, TREE, limit)?, &mut writer);
+        let outcome = check_tree(
+            alloc,
+            &mut source(alloc, PRIO_TWO_QUEUES.tree, limit)?,
+            &mut writer,
+        );
         assert_eq!(rt; outcome, Err(Fault::Read), "{limit} bytes");
         assert!(rt; writer.taken().is_empty());
     }
@@ -48,8 +39,8 @@ fn visited(
     limit: usize,
     room: usize,
 ) -> Result<(Result<(), Fault>, FailingSink, FailingSink), AllocError> {
-    let mut tree = source(alloc, TREE, usize::MAX)?;
-    let mut script = source(alloc, SCRIPT, limit)?;
+    let mut tree = source(alloc, PRIO_TWO_QUEUES.tree, usize::MAX)?;
+    let mut script = source(alloc, PRIO_TWO_QUEUES.script, limit)?;
     let (mut writer, mut visits) = (sink(alloc, AMPLE)?, sink(alloc, room)?);
     let outcome = script_with_visits(alloc, &mut tree, &mut script, &mut writer, &mut visits);
     Ok((outcome, writer, visits))
@@ -57,24 +48,26 @@ fn visited(
 
 #[test]
 fn visits_come_after_the_whole_answer(rt: HostRuntime) -> Result<(), Fail> {
-    for room in 0..VISITS.len() {
+    let answer = PRIO_TWO_QUEUES.answer.as_bytes();
+    let text = format!(in rt.alloc();
+        "pull,node,input,fresh,sender,number,length,passed,moment\n{}",
+        PRIO_TWO_QUEUES.visits
+    )?;
+    for room in 0..text.len() {
         let (outcome, writer, visits) = visited(rt.alloc(), usize::MAX, room)?;
         assert_eq!(rt; outcome, Err(Fault::Write), "{room} bytes");
-        assert_eq!(rt; writer.taken(), ANSWER.as_bytes());
-        assert_eq!(rt; visits.taken(), &VISITS.as_bytes()[..room]);
+        assert_eq!(rt; writer.taken(), answer);
+        assert_eq!(rt; visits.taken(), &text.as_bytes()[..room]);
     }
-    let (outcome, writer, visits) = visited(rt.alloc(), usize::MAX, VISITS.len())?;
+    let (outcome, writer, visits) = visited(rt.alloc(), usize::MAX, text.len())?;
     assert_eq!(rt; outcome, Ok(()));
-    assert_eq!(rt;
-        (writer.taken(), visits.taken()),
-        (ANSWER.as_bytes(), VISITS.as_bytes())
-    );
+    assert_eq!(rt; (writer.taken(), visits.taken()), (answer, text.as_bytes()));
     Ok(())
 }
 
 #[test]
 fn a_script_that_fails_writes_neither_answer_nor_visits(rt: HostRuntime) -> Result<(), Fail> {
-    for limit in 0..=SCRIPT.len() {
+    for limit in 0..=PRIO_TWO_QUEUES.script.len() {
         let (outcome, writer, visits) = visited(rt.alloc(), limit, AMPLE)?;
         assert_eq!(rt; outcome, Err(Fault::Read), "{limit} bytes");
         assert!(rt; writer.taken().is_empty() && visits.taken().is_empty());

@@ -1,6 +1,6 @@
 //! Traces that run over trees, with producers on threads.
 
-use crate::answer::{AMPLE, Row, SCRIPT, answer, assert_writes};
+use crate::answer::{AMPLE, Row, answer, input};
 use crate::files::{write, write_all};
 use crate::visits::{Numbers, assert_shown, read_back};
 use clk_command::{Pace, run_trace};
@@ -30,24 +30,8 @@ const WRONG: &str = "run out/sound.click out/wrong.trace --visits out/wrong.csv"
 
 const UNMADE: (&str, Option<&str>) = ("out/wrong.csv", None);
 
-/// A DRRSched over two queues, each with a sender.
-const SHARED: (&str, &str) = (
-    "out/shared.click",
-    "s0 :: Sender(0); s1 :: Sender(1); q0, q1 :: Queue; x :: DRRSched(500); d :: ToDevice(link);
-s0 -> q0 -> [0] x; s1 -> q1 -> [1] x; x -> d;",
-);
-
 /// Runs of traces, and words that run none.
-pub const ROWS: [Row; 14] = [
-    // An empty trace is run, and each sender accounted for.
-    (
-        &[SHARED, ("out/empty.trace", "")],
-        "run out/shared.click out/empty.trace",
-        Ok(0),
-        "sender 0: sent 0 0, accepted 0 0, refused 0 0, evicted 0 0, emitted 0 0\n\
-        sender 1: sent 0 0, accepted 0 0, refused 0 0, evicted 0 0, emitted 0 0\n",
-        &[],
-    ),
+pub const ROWS: [Row; 13] = [
     // A run may go at any pace.
     (
         &[TREE, SENT],
@@ -222,45 +206,12 @@ fn the_logs_of_a_run_are_read_back(rt: HostRuntime) {
     assert_shown(&rt, "out/logs.csv", logs.first().expect(&rt, "a log"));
 }
 
-const EIGHT_SENDERS: &str = "s0 :: Sender(0); s1 :: Sender(1); s2 :: Sender(2); s3 :: Sender(3);
-s4 :: Sender(4); s5 :: Sender(5); s6 :: Sender(6); s7 :: Sender(7); q :: Queue(1000); d :: ToDevice(link);
-s0 -> q; s1 -> q; s2 -> q; s3 -> q; s4 -> q; s5 -> q; s6 -> q; s7 -> q; q -> d;";
-
-// The trace of eight senders that send a hundred packets each.
-fn eight_traces(alloc: Global) -> Result<String, AllocError> {
-    let mut trace = String::new(alloc);
-    for record in 0..800 {
-        let sender = record / 100;
-        write!(trace, "{sender},64\n")?;
-    }
-    Ok(trace)
-}
-
-const EIGHT_REPORTS: &str = "\
-sender 0: sent 100 6400, accepted 100 6400, refused 0 0, evicted 0 0, emitted 100 6400\n\
-sender 1: sent 100 6400, accepted 100 6400, refused 0 0, evicted 0 0, emitted 100 6400\n\
-sender 2: sent 100 6400, accepted 100 6400, refused 0 0, evicted 0 0, emitted 100 6400\n\
-sender 3: sent 100 6400, accepted 100 6400, refused 0 0, evicted 0 0, emitted 100 6400\n\
-sender 4: sent 100 6400, accepted 100 6400, refused 0 0, evicted 0 0, emitted 100 6400\n\
-sender 5: sent 100 6400, accepted 100 6400, refused 0 0, evicted 0 0, emitted 100 6400\n\
-sender 6: sent 100 6400, accepted 100 6400, refused 0 0, evicted 0 0, emitted 100 6400\n\
-sender 7: sent 100 6400, accepted 100 6400, refused 0 0, evicted 0 0, emitted 100 6400\n";
-
-#[test]
-fn eight_senders_one_queue(rt: HostRuntime) {
-    let trace = eight_traces(rt.alloc()).expect(&rt, "ample memory");
-    write(&rt, "out/eight.click", EIGHT_SENDERS).expect(&rt, "a file");
-    write(&rt, "out/eight.trace", trace).expect(&rt, "a file");
-    let words = "run out/eight.click out/eight.trace";
-    assert_writes(&rt, words, Ok(0), EIGHT_REPORTS.as_bytes());
-}
-
 // A device over a queue makes a visit a pull.
 #[test]
 fn visits_go_at_the_pace_of_the_run(rt: HostRuntime) {
     write_all(&rt, &[TREE, ("out/visited.trace", "0,10\n0,20\n0,30\n")]).expect(&rt, "files");
     let words = "run --step 7 --visits out/visited.csv out/sound.click out/visited.trace";
-    let answered = answer(&rt, words, SCRIPT, AMPLE, AMPLE).expect(&rt, "ample memory");
+    let answered = answer(&rt, words, input(), AMPLE, AMPLE).expect(&rt, "ample memory");
     assert_eq!(rt; answered.outcome, Ok(0));
     let rows = read_back(&rt, "out/visited.csv");
     assert_paced(&rt, &rows);

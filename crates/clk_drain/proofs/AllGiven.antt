@@ -6,7 +6,7 @@ use Rattle.std.proofs.lemmas.List.{nil_from_length}
 use Rattle.std.specs.List.{AllByRecursion}
 use Rattle.clk_sched.specs.declared.visit.Visit.{Visit}
 use Rattle.clk_packet.specs.Lists.{stands_in, are_distinct}
-use Rattle.clk_packet.proofs.Callers.Lists.{distinct-parts, distinct-more}
+use Rattle.clk_packet.proofs.Callers.Lists.{distinct-parts, distinct-more, rising-distinct}
 use Rattle.clk_sched.specs.Tree.{Tree, root, leaves, leaves_distinct}
 use Rattle.clk_sched.specs.Conservation.{given_in_all, ConservesCounts}
 use Rattle.clk_sched.specs.Closing.{held_in_all}
@@ -16,7 +16,7 @@ use Rattle.clk_sched.specs.Session.{Progress, IsDrained}
 use Rattle.clk_drain.specs.Closing.{accepted_over, evicted_over, left_over}
 use Rattle.clk_drain.specs.Line.{LineLists, leaves_of, AreLinesOf}
 use Rattle.clk_drain.specs.Parts.{IsWithin, HasAllTaken}
-use Rattle.clk_drain.proofs.Apart.{has-here, rise-apart}
+use Rattle.clk_drain.proofs.Apart.{has-here}
 use Rattle.clk_drain.proofs.Emitting.{emitted-more}
 
 -- a list without the first place of a number
@@ -112,7 +112,7 @@ pub taken-counts : (session : Progress) (lines : List LineLists) → leaves_dist
     → taken_over lines ≡ length (emitted session.log) + length (heads session.tree session.log)
 taken-counts session lines distinct conserves run own =
     sym (given-taken session.tree session.log lines own.taken) ∙ given-sum session.tree session.log (leaves_of lines)
-    ∙ sum-same (λ q. length (leaf_packets session.tree q session.log)) (leaves_of lines) (leaves (root session.tree)) (rise-apart (leaves_of lines) own.rise) distinct own.leaves
+    ∙ sum-same (λ q. length (leaf_packets session.tree q session.log)) (leaves_of lines) (leaves (root session.tree)) (rising-distinct (leaves_of lines) own.rise) distinct own.leaves
     ∙ sym (given-sum session.tree session.log (leaves (root session.tree))) ∙ conserves session.log run
 
 -- A drain that gave all that was left leaves no head held, and each line has all taken.

@@ -5,21 +5,19 @@ use Rattle.std.proofs.lemmas.List.{append-nil, map-append, length-map, length-ta
 use Rattle.clk_packet.specs.declared.packet.Packet.{Packet}
 use Rattle.clk_ruled.specs.Queue.{SeatLists, TapLists}
 use Rattle.clk_sched.specs.Session.{Progress}
-use Rattle.clk_packet.specs.Lists.{stands_in}
+use Rattle.clk_packet.specs.Lists.{stands_in, AreRising}
 use Rattle.clk_sched.specs.Tree.{Tree, root, leaves}
 use Rattle.clk_tree.specs.Plan.{Planned}
 use Rattle.clk_tree.specs.PlanTree.{IsTreeOf, device_count}
 use Rattle.clk_tree.specs.declared.plan.parts.QueueSpec.{QueueSpec}
-use Rattle.clk_tree.specs.PlanParts.{Queued, queued, queues_of, leads_to, HasCapacity, AreRising}
+use Rattle.clk_tree.specs.PlanParts.{Queued, queued, queues_of, leads_to, HasCapacity}
 use Rattle.clk_drain.specs.declared.running.opening.LeafQueue.{LeafQueue}
-use Rattle.clk_drain.specs.Senders.{Rise}
 use Rattle.clk_drain.specs.Outcome.{SharedQueue}
 use Rattle.clk_drain.specs.inside.Handed.{EndLists}
 use Rattle.clk_drain.specs.Opening.{shared_at}
 use Rattle.clk_drain.specs.inside.Opening.{IsOpenAs, AreOpenAs, IsAdded}
 use Rattle.clk_drain.specs.Run.{queues_at}
 use Rattle.clk_drain.specs.inside.Devices.{IsOpenOf, AreOpenFrom}
-use Rattle.clk_drain.proofs.PlanSenders.{rising-rise}
 use Rattle.clk_drain.proofs.QueuesAt.{stands-at}
 
 -- What is known of the queue that stands at a leaf.
@@ -27,7 +25,7 @@ pub record IsQueueOf (plan : List Queued) (leaf : ℕ) (q : Queued) : Type 0 whe
   pub within : leaf < length plan
   pub is : q ≡ get_or plan leaf q
   pub capacity : HasCapacity q
-  pub rises : Rise q.senders
+  pub rises : AreRising q.senders
 
 all-at : {X : Type 0} (P : X → Type 0) (xs : List X) (i : ℕ) (x : X) → AllByRecursion P xs → i < length xs → x ≡ get_or xs i x → P x
 all-at P [] i x all lt is = absurd (omega (arith, lt))
@@ -43,7 +41,7 @@ queue-of specs plan leaf s are capacities senders lt is =
       within = within;
       is = at;
       capacity = all-at HasCapacity plan leaf (queued s) capacities within at;
-      rises = rising-rise s.senders.items (all-at (λ (q : Queued). AreRising q.senders) plan leaf (queued s) senders within at);
+      rises = all-at (λ (q : Queued). AreRising q.senders) plan leaf (queued s) senders within at;
     }
 
 -- a queue more that was opened

@@ -1,16 +1,14 @@
 -- Taps grow by what a log says of their leaves.
-use Rattle.std.proofs.Common.{◌≡◌, ℕ, ◌==◌, ◌&&◌, Bool, true, false, List, [], ◌∷◌, ◌++◌, Option, Some, None, refl, sym, ap, ◌∙◌, subst, if◌then◌else◌}
+use Rattle.std.proofs.Common.{◌≡◌, ℕ, ◌==◌, Bool, true, false, List, [], ◌∷◌, ◌++◌, Option, Some, None, refl, sym, ap, ◌∙◌, subst, if◌then◌else◌}
 use Rattle.std.specs.List.{AllByRecursion, cons_option}
 use Rattle.std.proofs.lemmas.List.{append-nil, append_assoc}
 use Rattle.std.proofs.lemmas.List.Elements.{filter_map-append}
 use Rattle.clk_packet.specs.declared.packet.Packet.{Packet}
 use Rattle.clk_sched.specs.declared.visit.Visit.{Visit}
-use Rattle.clk_packet.specs.Lists.{stands_in}
+use Rattle.clk_packet.specs.Lists.{stands_in, AreRising}
 use Rattle.clk_sched.specs.Tree.{Tree, is_number, queue_at}
-use Rattle.clk_sched.specs.Places.{at_queue, Answers}
+use Rattle.clk_sched.specs.Places.{at_queue, Answers, tree_queue}
 use Rattle.clk_sched.specs.Results.{asks_queue, leaf_packets}
-use Rattle.clk_sched.specs.Session.{tree_queue}
-use Rattle.clk_drain.specs.Senders.{Rise}
 use Rattle.clk_drain.specs.Line.{LineLists, leaves_of, pulling, pulling_all, packets_of, answered, PullsAt, AreLinesOf}
 
 -- the line with this list of what was taken
@@ -44,7 +42,7 @@ visit-more tree v visits q = by_fresh v.fresh (queue_at tree v.node v.input)
     by_test true None = refl
     by_test true (Some p) = refl
 
-    by_fresh : (b : Bool) (o : Option ℕ) → cons_option (if b && is_number q o then v.got else None) (leaf_packets tree q visits) ≡ at_visit (if b then o else None) v.got q ++ leaf_packets tree q visits
+    by_fresh : (b : Bool) (o : Option ℕ) → cons_option (if is_number q (if b then o else None) then v.got else None) (leaf_packets tree q visits) ≡ at_visit (if b then o else None) v.got q ++ leaf_packets tree q visits
     by_fresh false o = refl
     by_fresh true None = refl
     by_fresh true (Some leaf) = by_test (leaf == q) v.got
@@ -75,7 +73,7 @@ pub lines-grown : (tree : Tree) (log more : List Visit) (lines : List LineLists)
     → AreLinesOf (record { tree = tree; log = log ++ more }) (pulling_all (λ q. leaf_packets tree q more) lines)
 lines-grown tree log more lines h =
     let same = leaves-same (λ q. leaf_packets tree q more) lines in record {
-      rise = subst Rise (sym same) h.rise;
+      rise = subst AreRising (sym same) h.rise;
       leaves = λ q. ap (stands_in q) same ∙ h.leaves q;
       taken = taken-grown tree log more lines h.taken;
     }

@@ -5,12 +5,11 @@ use Rattle.clk_packet.specs.declared.packet.Packet.{Packet}
 use Rattle.clk_ruled.specs.declared.view.Setup.{Setup}
 use Rattle.clk_ruled.specs.Queue.{Queue, SeatLists, TapLists, IsTapOf, queue_of, empty_seat, empty_tap}
 use Rattle.clk_ruled.specs.Closing.{AreSeatsOf}
-use Rattle.clk_packet.specs.Lists.{stands_in}
+use Rattle.clk_packet.specs.Lists.{stands_in, AreRising}
 use Rattle.clk_sched.specs.Tree.{Tree, root, leaves}
 use Rattle.clk_sched.specs.Results.{leaf_packets}
 use Rattle.clk_sched.specs.declared.visit.Visit.{Visit}
 use Rattle.clk_drain.specs.declared.running.opening.LeafQueue.{LeafQueue}
-use Rattle.clk_drain.specs.Senders.{Rise}
 use Rattle.clk_drain.specs.Line.{LineLists, leaves_of}
 use Rattle.clk_drain.specs.Outcome.{SharedQueue}
 use Rattle.clk_drain.specs.inside.Threads.{Terms, IsUnused, IsUnpulled}
@@ -45,9 +44,9 @@ seats-open traces (q ∷ shared) (at ∷ queues) (t ∷ taps) (s ∷ seats) h =
 seats-open traces shared queues taps seats h = absurd h
 
 -- What a device's threads are given fits the queues that were opened with it.
-pub fits-open : (traces : List (List Packet)) (shared : List SharedQueue) (queues : List LeafQueue) (ends : EndLists) → Rise (map (λ (s : SharedQueue). s.leaf) shared) → AreOpenAs traces shared queues ends.taps ends.seats → FitsQueues queues ends
+pub fits-open : (traces : List (List Packet)) (shared : List SharedQueue) (queues : List LeafQueue) (ends : EndLists) → AreRising (map (λ (s : SharedQueue). s.leaf) shared) → AreOpenAs traces shared queues ends.taps ends.seats → FitsQueues queues ends
 fits-open traces shared queues ends rise h = record {
-  rise = subst Rise (sym (leaves-open traces shared queues ends.taps ends.seats h)) rise;
+  rise = subst AreRising (sym (leaves-open traces shared queues ends.taps ends.seats h)) rise;
   taps = taps-open traces shared queues ends.taps ends.seats h;
   seats = seats-open traces shared queues ends.taps ends.seats h;
 }
@@ -81,14 +80,14 @@ taken-none traces tree (q ∷ shared) (at ∷ queues) (t ∷ taps) (s ∷ seats)
 taken-none traces tree shared queues taps seats h = absurd h
 
 -- A device's session is to be pulled over the queues that were opened with it for the first time.
-pub unpulled-open : (traces : List (List Packet)) (shared : List SharedQueue) (queues : List LeafQueue) (ends : EndLists) → ends.session.log ≡ [] → Rise (map (λ (s : SharedQueue). s.leaf) shared)
+pub unpulled-open : (traces : List (List Packet)) (shared : List SharedQueue) (queues : List LeafQueue) (ends : EndLists) → ends.session.log ≡ [] → AreRising (map (λ (s : SharedQueue). s.leaf) shared)
     → ((q : ℕ) → stands_in q (leaves (root ends.session.tree)) ≡ stands_in q (map (λ (s : SharedQueue). s.leaf) shared)) → AreOpenAs traces shared queues ends.taps ends.seats
     → IsUnpulled (feed_from queues ends)
 unpulled-open traces shared queues ends none rise stand h =
     let are = leaves-open traces shared queues ends.taps ends.seats h in record {
       none = none;
       own = record {
-        rise = subst Rise (sym are) rise;
+        rise = subst AreRising (sym are) rise;
         leaves = λ q. ap (stands_in q) are ∙ sym (stand q);
         taken = subst (λ (log : List Visit). AllByRecursion (λ (l : LineLists). l.tap.taken ≡ leaf_packets ends.session.tree l.leaf log) (lines_from queues ends.taps)) (sym none) (taken-none traces ends.session.tree shared queues ends.taps ends.seats h);
       };

@@ -1,5 +1,5 @@
 -- What is left to a drain, and why it isn't given.
-use Rattle.std.proofs.Common.{◌≡◌, ◌⊎◌, ℕ, ◌+◌, ◌-◌, ◌≤◌, ◌==◌, true, false, List, [], ◌∷◌, length, refl, sym, ap, ◌∙◌, inl, inr, arith, if◌then◌else◌}
+use Rattle.std.proofs.Common.{◌≡◌, ◌⊎◌, ℕ, ◌+◌, ◌-◌, ◌≤◌, ◌<◌, ◌==◌, true, false, List, [], ◌∷◌, length, refl, sym, ap, ◌∙◌, inl, inr, arith, if◌then◌else◌}
 use Rattle.std.proofs.lemmas.Bool.Decides.{nat_tests}
 use Rattle.std.specs.List.{AllByRecursion}
 use Rattle.clk_packet.specs.declared.fault.Fault.{Fault}
@@ -10,13 +10,13 @@ use Rattle.clk_sched.specs.Conservation.{ConservesCounts}
 use Rattle.clk_sched.specs.Results.{emitted}
 use Rattle.clk_sched.specs.Run.{IsRun}
 use Rattle.clk_sched.specs.Session.{Progress}
-use Rattle.clk_drain.specs.Senders.{IsBelowAll, Rise}
+use Rattle.clk_packet.specs.Lists.{AreRising}
 use Rattle.clk_drain.specs.Line.{LineLists, leaves_of, AreLinesOf}
 use Rattle.clk_drain.specs.Closing.{accepted_over, evicted_over, left_over, HasUnsettled, IsFaultOfDrain}
 use Rattle.clk_drain.specs.Parts.{IsWithin}
 use Rattle.clk_drain.specs.inside.Parts.{AreGatheredFrom, IsDrainOf, IsGathered, held_of, held_at}
 use Rattle.clk_drain.proofs.Still.{still-accepted, still-evicted, still-unsettled}
-use Rattle.clk_drain.proofs.Apart.{rise-apart}
+use Rattle.clk_packet.proofs.Callers.Lists.{rising-distinct}
 use Rattle.clk_drain.proofs.AllGiven.{taken_over, taken-counts, sum-same}
 
 -- how many packets the queues of lines hold in all
@@ -25,14 +25,14 @@ held_over [] = 0
 held_over (l ∷ lines) = held_of l + held_over lines
 
 -- That is what is held at their leaves.
-held-behind : (l : LineLists) (lines : List LineLists) (qs : List ℕ) → IsBelowAll l.leaf qs → held_in_all (held_at (l ∷ lines)) qs ≡ held_in_all (held_at lines) qs
+held-behind : (l : LineLists) (lines : List LineLists) (qs : List ℕ) → AllByRecursion (λ m. l.leaf < m) qs → held_in_all (held_at (l ∷ lines)) qs ≡ held_in_all (held_at lines) qs
 held-behind l lines [] h = refl
 held-behind l lines (q ∷ qs) h =
     let other : (l.leaf == q) ≡ false = grind (arith, nat_tests, h.0) in
     let here : held_at (l ∷ lines) q ≡ held_at lines q = ap (λ b. if b then held_of l else held_at lines q) other in
     let rest = held-behind l lines qs h.1 in omega (arith, here, rest)
 
-held-sum : (lines : List LineLists) → Rise (leaves_of lines) → held_in_all (held_at lines) (leaves_of lines) ≡ held_over lines
+held-sum : (lines : List LineLists) → AreRising (leaves_of lines) → held_in_all (held_at lines) (leaves_of lines) ≡ held_over lines
 held-sum [] rise = refl
 held-sum (l ∷ lines) rise =
     let same : (l.leaf == l.leaf) ≡ true = grind (arith, nat_tests) in
@@ -58,7 +58,7 @@ pub rest-held : (session : Progress) (lines : List LineLists) → leaves_distinc
 rest-held session lines distinct conserves run own gathered =
     let taken = taken-counts session lines distinct conserves run own in
     let all = held-counts lines (each-within lines gathered) in
-    let at_leaves = sum-same (held_at lines) (leaves (root session.tree)) (leaves_of lines) distinct (rise-apart (leaves_of lines) own.rise) (λ q. sym (own.leaves q)) ∙ held-sum lines own.rise in
+    let at_leaves = sum-same (held_at lines) (leaves (root session.tree)) (leaves_of lines) distinct (rising-distinct (leaves_of lines) own.rise) (λ q. sym (own.leaves q)) ∙ held-sum lines own.rise in
     record { within = omega (arith, taken, all); held = omega (arith, taken, all, at_leaves) }
 
 -- What was to be drained from the gathered lines.

@@ -8,7 +8,8 @@ use Rattle.clk_packet.specs.declared.tally.Tally.{Tally}
 use Rattle.clk_packet.specs.Lists.{stands_in, are_distinct}
 use Rattle.clk_drain.specs.Outcome.{SharedQueue, Device, senders_to, IsTallied, tally_for, accepted_by, lost_by, in_all, IsQueueSettled, IsDeviceSettled, IsSettledOutcome}
 use Rattle.clk_drain.specs.inside.Parts.{AreInOrder}
-use Rattle.clk_drain.proofs.Apart.{has-left, has-right, not-both, apart-parts, apart-joined, rise-apart}
+use Rattle.clk_packet.proofs.Callers.Lists.{stands-left, stands-right, rising-distinct}
+use Rattle.clk_drain.proofs.Apart.{not-both, apart-parts, apart-joined}
 use Rattle.clk_drain.proofs.Tallies.{tellers, in-order-rise, in-order-found, in-order-all, all-split, all-weaker}
 use Rattle.clk_drain.proofs.Settling.{all-join, all-both}
 
@@ -82,8 +83,8 @@ all-known sent (p ∷ parts) h =
     let there : List ℕ = flat_map senders_to (devices_of parts) in
     let Named : List ℕ → Tally → Type 0 = λ names t. stands_in t.sender names ≡ true in
     all-join (Named (here ++ there)) p.tallies (tallies_in_all parts)
-    (all-weaker (Named here) (Named (here ++ there)) p.tallies (λ t has. has-left here there t.sender has) (part-known sent p h.0))
-    (all-weaker (Named there) (Named (here ++ there)) (tallies_in_all parts) (λ t has. has-right here there t.sender has) (all-known sent parts h.1))
+    (all-weaker (Named here) (Named (here ++ there)) p.tallies (λ t has. stands-left t.sender here there has) (part-known sent p h.0))
+    (all-weaker (Named there) (Named (here ++ there)) (tallies_in_all parts) (λ t has. stands-right t.sender here there has) (all-known sent parts h.1))
 
 -- who has a tally is one of those that all the tallies are of
 teller-known : (names : List ℕ) (tallies : List Tally) (s : ℕ) → AreOf names tallies → stands_in s (tellers tallies) ≡ true → stands_in s names ≡ true
@@ -101,7 +102,7 @@ tellers-apart sent (p ∷ parts) h apart =
     let here : List ℕ = senders_to p.device in
     let there : List ℕ = flat_map senders_to (devices_of parts) in
     subst (λ ns. are_distinct ns ≡ true) (sym (map-append (λ (t : Tally). t.sender) p.tallies (tallies_in_all parts)))
-    (apart-joined (tellers p.tallies) (tellers (tallies_in_all parts)) (rise-apart (tellers p.tallies) h.0.rise) (tellers-apart sent parts h.1 (apart-parts here there apart).1)
+    (apart-joined (tellers p.tallies) (tellers (tallies_in_all parts)) (rising-distinct (tellers p.tallies) h.0.rise) (tellers-apart sent parts h.1 (apart-parts here there apart).1)
     (λ s has more. not-both here there s apart (teller-known here p.tallies s (part-known sent p h.0) has) (teller-known there (tallies_in_all parts) s (all-known sent parts h.1) more)))
 
 -- Devices to which no sender sends twice, each settled with its own tallies, are settled together with all of these in order.

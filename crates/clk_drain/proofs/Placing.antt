@@ -6,8 +6,9 @@ use Rattle.std.proofs.Math.Seq.{map-set_same}
 use Rattle.std.proofs.lemmas.Bool.{or_left, or_right}
 use Rattle.std.proofs.lemmas.Bool.Decides.{nat_tests}
 use Rattle.std.proofs.lemmas.Cmp.{ranked}
+use Rattle.std.specs.List.{AllByRecursion}
 use Rattle.clk_packet.specs.declared.packet.Packet.{Packet}
-use Rattle.clk_drain.specs.Senders.{IsBelowAll, Rise}
+use Rattle.clk_packet.specs.Lists.{AreRising}
 use Rattle.clk_drain.specs.Line.{LineLists, leaves_of, pulling, pulling_all, packets_of, answered, PullsAt, has_line}
 use Rattle.clk_drain.proofs.Growing.{pulling-none, all-none}
 
@@ -18,21 +19,21 @@ other-are m n lt = (grind (arith, nat_tests, lt), grind (arith, nat_tests, lt))
 pub stays : (leaf : ℕ) (got : Option Packet) (l : LineLists) → (leaf == l.leaf) ≡ false → pulling l (answered leaf got l.leaf) ≡ l
 stays leaf got l e = ap (λ b. pulling l (if b then packets_of got else [])) e ∙ pulling-none l
 
-all-stay : (leaf : ℕ) (got : Option Packet) (lines : List LineLists) → IsBelowAll leaf (leaves_of lines) → pulling_all (answered leaf got) lines ≡ lines
+all-stay : (leaf : ℕ) (got : Option Packet) (lines : List LineLists) → AllByRecursion (λ m. leaf < m) (leaves_of lines) → pulling_all (answered leaf got) lines ≡ lines
 all-stay leaf got [] h = refl
 all-stay leaf got (l ∷ lines) h = λ i. stays leaf got l (other-are leaf l.leaf h.0).0 i ∷ all-stay leaf got lines h.1 i
 
 -- a leaf below all is not that at a place
-pub below-at : (n : ℕ) (lines : List LineLists) (i : ℕ) (d : LineLists) → i < length lines → IsBelowAll n (leaves_of lines) → n < (get_or lines i d).leaf
+pub below-at : (n : ℕ) (lines : List LineLists) (i : ℕ) (d : LineLists) → i < length lines → AllByRecursion (λ m. n < m) (leaves_of lines) → n < (get_or lines i d).leaf
 below-at n [] i d lt h = absurd (omega arith)
 below-at n (l ∷ lines) zero d lt h = h.0
 below-at n (l ∷ lines) (suc i) d lt h = below-at n lines i d (omega arith) h.1
 
 -- The line at the place of a leaf pulled, and no other.
-pulled-at : (lines : List LineLists) (leaf : ℕ) (got : Option Packet) (i : ℕ) (d : LineLists) → i < length lines → Rise (leaves_of lines) → (get_or lines i d).leaf ≡ leaf
+pulled-at : (lines : List LineLists) (leaf : ℕ) (got : Option Packet) (i : ℕ) (d : LineLists) → i < length lines → AreRising (leaves_of lines) → (get_or lines i d).leaf ≡ leaf
     → set lines i (pulling (get_or lines i d) (packets_of got)) ≡ pulling_all (answered leaf got) lines
 pulled-at [] leaf got i d lt rise e = absurd (omega arith)
-pulled-at (l ∷ lines) leaf got zero d lt rise e = λ i. pulling l (ap (λ b. if b then packets_of got else []) (sym (eq-eqb leaf l.leaf (sym e))) i) ∷ sym (all-stay leaf got lines (subst (λ n. IsBelowAll n (leaves_of lines)) e rise.0)) i
+pulled-at (l ∷ lines) leaf got zero d lt rise e = λ i. pulling l (ap (λ b. if b then packets_of got else []) (sym (eq-eqb leaf l.leaf (sym e))) i) ∷ sym (all-stay leaf got lines (subst (λ n. AllByRecursion (λ m. n < m) (leaves_of lines)) e rise.0)) i
 pulled-at (l ∷ lines) leaf got (suc i) d lt rise e =
     let below : l.leaf < leaf = subst (λ n. l.leaf < n) e (below-at l.leaf lines i d (omega arith) rise.0) in
     λ j. sym (stays leaf got l (other-are l.leaf leaf below).1) j ∷ pulled-at lines leaf got i d (omega arith) rise.1 e j
@@ -56,20 +57,20 @@ has-at (l ∷ lines) leaf (suc i) d lt e = or_right (l.leaf == leaf) (has_line l
 
 -- What a pull of the line that the search found for a leaf leaves.
 pub record IsAsked (old : List LineLists) (leaf : ℕ) (got : Option Packet) (new : List LineLists) : Type 0 where
-  pub rise : Rise (leaves_of new)
+  pub rise : AreRising (leaves_of new)
   pub pulls : PullsAt old leaf got new
   pub has : has_line old leaf ≡ true
 
-asked-there : (lines : List LineLists) (leaf : ℕ) (got : Option Packet) (place : ℕ) (d : LineLists) → Rise (leaves_of lines) → place < length lines → (get_or lines place d).leaf ≡ leaf
+asked-there : (lines : List LineLists) (leaf : ℕ) (got : Option Packet) (place : ℕ) (d : LineLists) → AreRising (leaves_of lines) → place < length lines → (get_or lines place d).leaf ≡ leaf
     → IsAsked lines leaf got (set lines place (pulling (get_or lines place d) (packets_of got)))
 asked-there lines leaf got place d rise lt e = record {
-  rise = subst Rise (sym (map-set_same (λ (l : LineLists). l.leaf) lines place (pulling (get_or lines place d) (packets_of got)) d refl)) rise;
+  rise = subst AreRising (sym (map-set_same (λ (l : LineLists). l.leaf) lines place (pulling (get_or lines place d) (packets_of got)) d refl)) rise;
   pulls = pulled-at lines leaf got place d lt rise e;
   has = has-at lines leaf place d lt e;
 }
 
 -- `seen` is what the search looks at, and `line` what was read at the place.
-pub asked-at : (lines seen old : List LineLists) (leaf : ℕ) (got : Option Packet) (place : ℕ) (line new : LineLists) → seen ≡ lines → lines ≡ old → Rise (leaves_of lines)
+pub asked-at : (lines seen old : List LineLists) (leaf : ℕ) (got : Option Packet) (place : ℕ) (line new : LineLists) → seen ≡ lines → lines ≡ old → AreRising (leaves_of lines)
     → ((d : LineLists) → nat_cmp (get_or seen place d).leaf leaf ≡ Equal) → place < length seen → line ≡ get_or lines place line → new ≡ pulling line (packets_of got) → IsAsked old leaf got (set lines place new)
 asked-at lines seen old leaf got place line new same is rise found lt read pulled =
     let found_here : (get_or lines place line).leaf ≡ leaf = ranked (get_or lines place line).leaf leaf _ (sym (subst (λ ls. nat_cmp (get_or ls place line).leaf leaf ≡ Equal) same (found line))) in

@@ -1,16 +1,15 @@
 -- The senders of a plan's queues: none sends to two queues, nor to two devices.
-use Rattle.std.proofs.Common.{◌≡◌, ℕ, zero, suc, ◌+◌, ◌<◌, ◌≤◌, ◌==◌, inl, inr, Bool, true, false, true≢false, List, [], ◌∷◌, ◌++◌, length, map, take, drop, filter, refl, sym, ap, ◌∙◌, subst, add-one, arith, if◌then◌else◌}
-use Rattle.std.specs.List.{AllByRecursion, flat_map, range_with_len, cons_option}
+use Rattle.std.proofs.Common.{◌≡◌, ℕ, zero, suc, ◌+◌, ◌≤◌, ◌==◌, inl, inr, Bool, true, false, true≢false, List, [], ◌∷◌, ◌++◌, length, map, take, drop, filter, refl, sym, ap, ◌∙◌, subst, add-one, arith, if◌then◌else◌}
+use Rattle.std.specs.List.{flat_map, range_with_len, cons_option}
 use Rattle.std.proofs.lemmas.Bool.{eqb-true}
-use Rattle.clk_packet.specs.Lists.{stands_in, are_distinct}
-use Rattle.clk_ruled.specs.Lists.{SendersAbove, SendersRise}
+use Rattle.clk_packet.specs.Lists.{stands_in, are_distinct, AreRising}
 use Rattle.clk_syntax.specs.Classes.{Class, queue}
 use Rattle.clk_tree.specs.declared.plan.parts.SenderSpec.{SenderSpec}
 use Rattle.clk_tree.specs.Plan.{Planned}
 use Rattle.clk_tree.specs.PlanTree.{is_queue, queue_count}
-use Rattle.clk_tree.specs.PlanParts.{Queued, number_of, senders_of, senders_to, queue_of, queues_from, queues_of, AreRising}
-use Rattle.clk_drain.specs.Senders.{IsBelowAll, Rise}
-use Rattle.clk_drain.proofs.Apart.{has-left, has-right, has-one, not-both, apart-parts, apart-joined, rise-apart}
+use Rattle.clk_tree.specs.PlanParts.{Queued, number_of, senders_of, senders_to, queue_of, queues_from, queues_of}
+use Rattle.clk_packet.proofs.Callers.Lists.{stands-left, stands-right, stands-either, rising-distinct}
+use Rattle.clk_drain.proofs.Apart.{not-both, apart-parts, apart-joined}
 
 -- Senders that some things have, and those that some of the things have.
 filtered-has : {X : Type 0} (f : X → List ℕ) (test : X → Bool) (xs : List X) (s : ℕ) → stands_in s (flat_map f (filter test xs)) ≡ true → stands_in s (flat_map f xs) ≡ true
@@ -21,8 +20,8 @@ filtered-has {X} f test (x ∷ xs) s h = by_test (test x) (filtered-has f test x
     some = filter test xs
 
     by_test : (b : Bool) → (stands_in s (flat_map f some) ≡ true → stands_in s (flat_map f xs) ≡ true) → stands_in s (flat_map f (if b then x ∷ some else some)) ≡ true → stands_in s (f x ++ flat_map f xs) ≡ true
-    by_test true again k = elim (has-one (f x) (flat_map f some) s k) [ inl here ↦ has-left (f x) (flat_map f xs) s here | inr later ↦ has-right (f x) (flat_map f xs) s (again later) ]
-    by_test false again k = has-right (f x) (flat_map f xs) s (again k)
+    by_test true again k = elim (stands-either s (f x) (flat_map f some) k) [ inl here ↦ stands-left s (f x) (flat_map f xs) here | inr later ↦ stands-right s (f x) (flat_map f xs) (again later) ]
+    by_test false again k = stands-right s (f x) (flat_map f xs) (again k)
 
 pub apart-filtered : {X : Type 0} (f : X → List ℕ) (test : X → Bool) (xs : List X) → are_distinct (flat_map f xs) ≡ true → are_distinct (flat_map f (filter test xs)) ≡ true
 apart-filtered f test [] apart = refl
@@ -57,14 +56,14 @@ one-kind {X} f kind (x ∷ xs) s c d apart h k = by_tests (kind x == c) (kind x 
     by_tests : (b t : Bool) → (kind x == c) ≡ b → (kind x == d) ≡ t → (stands_in s (flat_map f (some c)) ≡ true → stands_in s (flat_map f (some d)) ≡ true → c ≡ d)
         → stands_in s (flat_map f (if b then x ∷ some c else some c)) ≡ true → stands_in s (flat_map f (if t then x ∷ some d else some d)) ≡ true → c ≡ d
     by_tests true true e g again m n = sym (eqb-true (kind x) c e) ∙ eqb-true (kind x) d g
-    by_tests true false e g again m n = elim (has-one (f x) (flat_map f (some c)) s m) [ inl here ↦ absurd (once d here n) | inr later ↦ again later n ]
-    by_tests false true e g again m n = elim (has-one (f x) (flat_map f (some d)) s n) [ inl here ↦ absurd (once c here m) | inr later ↦ again m later ]
+    by_tests true false e g again m n = elim (stands-either s (f x) (flat_map f (some c)) m) [ inl here ↦ absurd (once d here n) | inr later ↦ again later n ]
+    by_tests false true e g again m n = elim (stands-either s (f x) (flat_map f (some d)) n) [ inl here ↦ absurd (once c here m) | inr later ↦ again m later ]
     by_tests false false e g again m n = again m n
 
 -- Lists by number, of which no two have a sender in common, stand apart when they are joined.
 in-range : (g : ℕ → List ℕ) (first n s : ℕ) → stands_in s (flat_map g (range_with_len first n)) ≡ true → (d : ℕ) × (first ≤ d) × (stands_in s (g d) ≡ true)
 in-range g first zero s h = absurd (true≢false (sym h))
-in-range g first (suc n) s h = elim (has-one (g first) (flat_map g (range_with_len (first + 1) n)) s h) [
+in-range g first (suc n) s h = elim (stands-either s (g first) (flat_map g (range_with_len (first + 1) n)) h) [
   | inl here ↦ (first, omega arith, here)
   | inr later ↦ let rest = in-range g (first + 1) n s later in (rest.0, (let le = rest.1 in omega (arith, le)), rest.2)
 ]
@@ -80,15 +79,6 @@ pub apart-by-kind : {X : Type 0} (f : X → List ℕ) (kind : X → ℕ) (xs : L
 apart-by-kind {X} f kind xs first n apart =
     range-apart (λ d. flat_map f (of_kind kind xs d)) first n (λ d. apart-filtered f (λ (x : X). kind x == d) xs apart) (λ s c d h k. one-kind f kind xs s c d apart h k)
 
--- Numbers that rise.
-below-all : (n : ℕ) (ns : List ℕ) → AllByRecursion (λ m. n < m) ns → IsBelowAll n ns
-below-all n [] h = tt
-below-all n (m ∷ ns) h = (h.0, below-all n ns h.1)
-
-pub rising-rise : (ns : List ℕ) → AreRising ns → Rise ns
-rising-rise [] h = tt
-rising-rise (n ∷ ns) h = (below-all n ns h.0, rising-rise ns h.1)
-
 -- a sender's own number, as a list
 abbrev own : SenderSpec → List ℕ
 own s = number_of s ∷ []
@@ -101,7 +91,7 @@ own-are (s ∷ senders) = ap (λ ns. number_of s ∷ ns) (own-are senders)
 queues-numbered : (senders : List SenderSpec) (first n : ℕ) → AreRising (map number_of senders) → are_distinct (flat_map (senders_to senders) (range_with_len first n)) ≡ true
 queues-numbered senders first n h =
     subst (λ (g : ℕ → List ℕ). are_distinct (flat_map g (range_with_len first n)) ≡ true) (λ i d. own-are (filter (λ (s : SenderSpec). s.queue == d) senders) i)
-    (apart-by-kind own (λ (s : SenderSpec). s.queue) senders first n (subst (λ ns. are_distinct ns ≡ true) (sym (own-are senders)) (rise-apart (map number_of senders) (rising-rise (map number_of senders) h))))
+    (apart-by-kind own (λ (s : SenderSpec). s.queue) senders first n (subst (λ ns. are_distinct ns ≡ true) (sym (own-are senders)) (rising-distinct (map number_of senders) h)))
 
 -- The queues of a plan have the senders that send to their numbers.
 abbrev senders_in : List Queued → List (List ℕ)
@@ -163,12 +153,3 @@ queues-apart plan h =
     let same : flat_map (λ (q : Queued). q.senders) queues ≡ flat_map (senders_to (senders_of plan)) numbers =
     joined-map (λ (q : Queued). q.senders) queues ∙ ap (flat_map (λ (ns : List ℕ). ns)) (queues-senders plan 0 plan refl) ∙ sym (joined-map (senders_to (senders_of plan)) numbers) in
     subst (λ ns. are_distinct ns ≡ true) (sym same) (queues-numbered (senders_of plan) 0 (length queues) h)
-
--- Rooms of senders that rise.
-rooms-above : (f : ℕ → ℕ) (n : ℕ) (senders : List ℕ) → IsBelowAll n senders → SendersAbove n (map (λ (s : ℕ). (s, f s)) senders)
-rooms-above f n [] h = tt
-rooms-above f n (s ∷ senders) h = (h.0, rooms-above f n senders h.1)
-
-pub rooms-rise : (f : ℕ → ℕ) (senders : List ℕ) → Rise senders → SendersRise (map (λ (s : ℕ). (s, f s)) senders)
-rooms-rise f [] h = tt
-rooms-rise f (s ∷ senders) h = (rooms-above f s senders h.0, rooms-rise f senders h.1)

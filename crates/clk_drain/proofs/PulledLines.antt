@@ -6,9 +6,9 @@ use Rattle.clk_packet.specs.declared.packet.Packet.{Packet}
 use Rattle.clk_packet.specs.declared.fault.Fault.{Fault}
 use Rattle.clk_sched.specs.declared.visit.Visit.{Visit}
 use Rattle.clk_sched.specs.Tree.{Tree}
-use Rattle.clk_sched.specs.Places.{at_queue, Answers}
+use Rattle.clk_sched.specs.Places.{at_queue, Answers, tree_queue}
 use Rattle.clk_sched.specs.Results.{leaf_packets}
-use Rattle.clk_sched.specs.Session.{Progress, newly, counted_moment, tree_queue, IsPulledOnce, IsDrained, GivesAll}
+use Rattle.clk_sched.specs.Session.{Progress, newly, counted_moment, IsPulledOnce, IsDrained, GivesAll}
 use Rattle.clk_drain.specs.inside.DeviceSession.{DeviceLists}
 use Rattle.clk_drain.specs.Line.{LineLists, PullsAt, pulling_all, AreLinesOf, lasting_of, AreStill}
 use Rattle.clk_drain.specs.inside.Parts.{IsDrainOf}

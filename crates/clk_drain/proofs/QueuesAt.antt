@@ -1,10 +1,9 @@
 -- The queues of one device of a plan, and the leaves at which they stand.
 use Rattle.std.proofs.Common.{◌≡◌, ℕ, zero, suc, ◌+◌, ◌<◌, ◌==◌, ◌||◌, Bool, true, false, List, [], ◌∷◌, ◌++◌, map, filter, slice_get, refl, ap, ◌∙◌, arith, eq-eqb, ne_eqb, if◌then◌else◌}
 use Rattle.std.proofs.lemmas.Bool.{or_left}
-use Rattle.std.specs.List.{flat_map}
-use Rattle.clk_packet.specs.Lists.{stands_in}
+use Rattle.std.specs.List.{AllByRecursion, flat_map}
+use Rattle.clk_packet.specs.Lists.{stands_in, AreRising}
 use Rattle.clk_tree.specs.PlanParts.{Queued, leads_to}
-use Rattle.clk_drain.specs.Senders.{IsBelowAll, Rise}
 use Rattle.clk_drain.specs.Outcome.{SharedQueue}
 use Rattle.clk_drain.specs.Opening.{shared_at}
 use Rattle.clk_drain.specs.Run.{queues_at}
@@ -14,20 +13,20 @@ abbrev leaves_at : ℕ → ℕ → List Queued → List ℕ
 leaves_at device leaf queues = map (λ (s : SharedQueue). s.leaf) (queues_at device leaf queues)
 
 -- They rise.
-below-at : (device n leaf : ℕ) (queues : List Queued) → n < leaf → IsBelowAll n (leaves_at device leaf queues)
+below-at : (device n leaf : ℕ) (queues : List Queued) → n < leaf → AllByRecursion (λ m. n < m) (leaves_at device leaf queues)
 below-at device n leaf [] lt = tt
 below-at device n leaf (q ∷ queues) lt = by_test (q.device == device) (below-at device n (suc leaf) queues (omega arith))
   where
-    by_test : (b : Bool) → IsBelowAll n (leaves_at device (suc leaf) queues)
-        → IsBelowAll n (map (λ (s : SharedQueue). s.leaf) (if b then shared_at leaf q ∷ queues_at device (suc leaf) queues else queues_at device (suc leaf) queues))
+    by_test : (b : Bool) → AllByRecursion (λ m. n < m) (leaves_at device (suc leaf) queues)
+        → AllByRecursion (λ m. n < m) (map (λ (s : SharedQueue). s.leaf) (if b then shared_at leaf q ∷ queues_at device (suc leaf) queues else queues_at device (suc leaf) queues))
     by_test true rest = (lt, rest)
     by_test false rest = rest
 
-pub rise-at : (device leaf : ℕ) (queues : List Queued) → Rise (leaves_at device leaf queues)
+pub rise-at : (device leaf : ℕ) (queues : List Queued) → AreRising (leaves_at device leaf queues)
 rise-at device leaf [] = tt
 rise-at device leaf (q ∷ queues) = by_test (q.device == device) (rise-at device (suc leaf) queues)
   where
-    by_test : (b : Bool) → Rise (leaves_at device (suc leaf) queues) → Rise (map (λ (s : SharedQueue). s.leaf) (if b then shared_at leaf q ∷ queues_at device (suc leaf) queues else queues_at device (suc leaf) queues))
+    by_test : (b : Bool) → AreRising (leaves_at device (suc leaf) queues) → AreRising (map (λ (s : SharedQueue). s.leaf) (if b then shared_at leaf q ∷ queues_at device (suc leaf) queues else queues_at device (suc leaf) queues))
     by_test true rest = (below-at device leaf (suc leaf) queues (omega arith), rest)
     by_test false rest = rest
 

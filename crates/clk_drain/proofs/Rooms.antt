@@ -1,14 +1,13 @@
 -- Rooms are made for one sender after another, each for all that its sender sends.
-use Rattle.std.proofs.Common.{◌≡◌, ℕ, ◌+◌, ◌<◌, ◌≤◌, List, [], ◌∷◌, ◌++◌, length, drop, get_or, sym, ap, ◌∙◌, arith}
+use Rattle.std.proofs.Common.{◌≡◌, ℕ, ◌+◌, ◌<◌, ◌≤◌, List, [], ◌∷◌, ◌++◌, length, drop, get_or, refl, sym, ap, ◌∙◌, arith}
 use Rattle.std.proofs.lemmas.List.{append-nil, append_assoc, at_drop_more, at_drop_all}
 use Rattle.clk_packet.specs.declared.packet.Packet.{Packet}
 use Rattle.clk_packet.specs.Limits.{most_capacity}
 use Rattle.clk_packet.specs.Trace.{sent_by, packets_in, most_records}
-use Rattle.clk_ruled.specs.Lists.{rooms_in_all, SendersRise}
-use Rattle.clk_drain.specs.Senders.{Rise}
+use Rattle.clk_packet.specs.Lists.{AreRising}
+use Rattle.clk_ruled.specs.Rooms.{named_in, rooms_in_all}
 use Rattle.clk_drain.specs.inside.Opening.{rooms_for}
-use Rattle.clk_drain.proofs.Apart.{rise-apart}
-use Rattle.clk_drain.proofs.PlanSenders.{rooms-rise}
+use Rattle.clk_packet.proofs.Callers.Lists.{rising-distinct}
 use Rattle.clk_drain.proofs.TraceSums.{within-trace, rooms-sent}
 
 -- Rooms were made for the first so many of the senders. Where there is one, it is known how long a trace may be.
@@ -29,11 +28,12 @@ pub rooms-all : (traces : List (List Packet)) (senders : List ℕ) (made : List 
 rooms-all traces senders made i le h = sym (append-nil made) ∙ ap (λ (rooms : List (ℕ × ℕ)). made ++ rooms) (sym (at_drop_all (rooms_for traces) senders i le)) ∙ h.are
 
 -- Senders that rise have rooms in which they rise, and which no trace exceeds.
-pub rooms-for-rise : (traces : List (List Packet)) (senders : List ℕ) → Rise senders → SendersRise (rooms_for traces senders)
-rooms-for-rise traces senders rise = rooms-rise (λ s. length (sent_by traces s)) senders rise
+pub rooms-named : (traces : List (List Packet)) (senders : List ℕ) → named_in (rooms_for traces senders) ≡ senders
+rooms-named traces [] = refl
+rooms-named traces (s ∷ senders) = ap (λ ns. s ∷ ns) (rooms-named traces senders)
 
-pub rooms-few : (traces : List (List Packet)) (senders : List ℕ) → Rise senders → (0 < length senders → packets_in traces ≤ most_records) → rooms_in_all (rooms_for traces senders) ≤ most_capacity
+pub rooms-few : (traces : List (List Packet)) (senders : List ℕ) → AreRising senders → (0 < length senders → packets_in traces ≤ most_records) → rooms_in_all (rooms_for traces senders) ≤ most_capacity
 rooms-few traces [] rise few = omega arith
 rooms-few traces (s ∷ senders) rise few =
-    let are = rooms-sent traces (s ∷ senders) in let least = within-trace traces (s ∷ senders) (rise-apart (s ∷ senders) rise) in let most : packets_in traces ≤ most_records = few (omega arith) in
+    let are = rooms-sent traces (s ∷ senders) in let least = within-trace traces (s ∷ senders) (rising-distinct (s ∷ senders) rise) in let most : packets_in traces ≤ most_records = few (omega arith) in
     omega (arith, are, least, most)

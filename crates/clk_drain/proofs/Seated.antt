@@ -13,7 +13,8 @@ use Rattle.clk_sched.specs.Conservation.{CameFrom}
 use Rattle.clk_sched.specs.Session.{Progress}
 use Rattle.clk_drain.specs.Line.{LineLists, leaves_of, seats_of, seats_in, senders_at, AreLinesOf, HaveOwnSenders}
 use Rattle.clk_drain.specs.inside.Parts.{IsSettledLine}
-use Rattle.clk_drain.proofs.Apart.{has-left, has-right, not-both, apart-parts}
+use Rattle.clk_packet.proofs.Callers.Lists.{stands-left, stands-right}
+use Rattle.clk_drain.proofs.Apart.{not-both, apart-parts}
 
 -- the senders that have seats on a line
 abbrev pub line_senders : LineLists → List ℕ
@@ -29,8 +30,8 @@ Sits s q (l ∷ lines) = ((l.leaf ≡ q) × (stands_in s (line_senders l) ≡ tr
 
 pub sits-has : (s q : ℕ) (lines : List LineLists) → Sits s q lines → stands_in s (senders_at (seats_in lines)) ≡ true
 sits-has s q [] h = absurd h
-sits-has s q (l ∷ lines) (inl h) = ap (λ senders. stands_in s senders) (joined l lines) ∙ has-left (line_senders l) (senders_at (seats_in lines)) s h.1
-sits-has s q (l ∷ lines) (inr h) = ap (λ senders. stands_in s senders) (joined l lines) ∙ has-right (line_senders l) (senders_at (seats_in lines)) s (sits-has s q lines h)
+sits-has s q (l ∷ lines) (inl h) = ap (λ senders. stands_in s senders) (joined l lines) ∙ stands-left s (line_senders l) (senders_at (seats_in lines)) h.1
+sits-has s q (l ∷ lines) (inr h) = ap (λ senders. stands_in s senders) (joined l lines) ∙ stands-right s (line_senders l) (senders_at (seats_in lines)) (sits-has s q lines h)
 
 -- A sender has seats on lines of one leaf alone.
 pub one-leaf : (s q r : ℕ) (lines : List LineLists) → HaveOwnSenders lines → Sits s q lines → Sits s r lines → q ≡ r

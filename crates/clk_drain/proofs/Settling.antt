@@ -7,7 +7,7 @@ use Rattle.clk_packet.specs.declared.packet.Packet.{Packet}
 use Rattle.clk_packet.specs.declared.tally.Tally.{Tally}
 use Rattle.clk_packet.specs.Lists.{of_sender, stands_in, are_distinct}
 use Rattle.clk_packet.proofs.Callers.Lists.{distinct-parts}
-use Rattle.clk_ruled.specs.Lists.{has_packet, without}
+use Rattle.clk_ruled.specs.PacketLists.{has_packet, without}
 use Rattle.clk_ruled.specs.Queue.{SeatLists, TapLists, ClosedLists, IsDealt, IsSharedOut}
 use Rattle.clk_ruled.specs.Settle.{lists_of, of_seat, accepted_of, evicted_of, all_evicted, AreOfTap, tally_of}
 use Rattle.clk_sched.specs.Results.{emitted, heads, leaf_packets}

@@ -7,11 +7,10 @@ use Rattle.clk_packet.specs.declared.fault.Fault.TheVariants.{Memory, Unsettled}
 use Rattle.clk_ruled.specs.Queue.{SeatLists}
 use Rattle.clk_ruled.specs.Settle.{accepted_count, evicted_count, lost_count, IsFaultOfSettle}
 use Rattle.clk_sched.specs.declared.visit.Visit.{Visit}
-use Rattle.clk_packet.specs.Lists.{stands_in}
+use Rattle.clk_packet.specs.Lists.{stands_in, AreRising}
 use Rattle.clk_sched.specs.Tree.{Tree}
 use Rattle.clk_sched.specs.Results.{leaf_packets}
 use Rattle.clk_sched.specs.Session.{Progress}
-use Rattle.clk_drain.specs.Senders.{Rise}
 use Rattle.clk_drain.specs.Line.{LineLists, leaves_of, seats_of, seats_in, senders_at, pulling_all, AreLinesOf, Lasting, lasting_of, AreStill}
 use Rattle.clk_drain.specs.Closing.{accepted_over, evicted_over, queue_of_line, HasReached, HasUnsettled}
 use Rattle.clk_drain.specs.inside.Parts.{taken_at, AreGatheredFrom}
@@ -85,7 +84,7 @@ leaves-through (l ∷ lines) = ap (λ rest. l.leaf ∷ rest) (leaves-through lin
 pub same-lines : (session : Progress) (old new : List LineLists) → map taken_at new ≡ map taken_at old → AreLinesOf session old → AreLinesOf session new
 same-lines session old new same h =
     let leaves : leaves_of new ≡ leaves_of old = leaves-through new ∙ ap (map (λ (x : ℕ × List Packet). x.0)) same ∙ sym (leaves-through old) in record {
-      rise = subst Rise (sym leaves) h.rise;
+      rise = subst AreRising (sym leaves) h.rise;
       leaves = λ q. ap (stands_in q) leaves ∙ h.leaves q;
       taken = subst (λ (t : Type 0). t) (taken-through session.tree session.log old ∙ ap (AllByRecursion (λ (x : ℕ × List Packet). x.1 ≡ leaf_packets session.tree x.0 session.log)) (sym same) ∙ sym (taken-through session.tree session.log new)) h.taken;
     }

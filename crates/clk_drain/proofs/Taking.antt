@@ -11,7 +11,7 @@ use Rattle.std.proofs.lemmas.Cmp.{ranked}
 use Rattle.std.proofs.lemmas.List.{length-append}
 use Rattle.clk_packet.specs.declared.packet.Packet.{Packet}
 use Rattle.clk_sched.specs.Closing.{GivesOut, TakesOne}
-use Rattle.clk_drain.specs.Senders.{Rise}
+use Rattle.clk_packet.specs.Lists.{AreRising}
 use Rattle.clk_drain.specs.Line.{LineLists, leaves_of, pulling, pulling_all, packets_of, answered, PullsAt, has_line}
 use Rattle.clk_drain.specs.Parts.{HasGathered, IsWithin, HasAllTaken}
 use Rattle.clk_drain.specs.inside.Parts.{IsGathered, held_of, held_at}
@@ -29,7 +29,7 @@ line-gives l (Some p) within none =
     (held_of (pulling l (p ∷ [])), omega (arith, least, more), refl)
 
 -- It is that of its leaf.
-leaf-gives : (lines : List LineLists) (leaf : ℕ) (got : Option Packet) (i : ℕ) (d : LineLists) → i < length lines → Rise (leaves_of lines) → (get_or lines i d).leaf ≡ leaf
+leaf-gives : (lines : List LineLists) (leaf : ℕ) (got : Option Packet) (i : ℕ) (d : LineLists) → i < length lines → AreRising (leaves_of lines) → (get_or lines i d).leaf ≡ leaf
     → GivesOut (held_of (get_or lines i d)) (got ∷ []) (held_of (pulling (get_or lines i d) (packets_of got))) → GivesOut (held_at lines leaf) (got ∷ []) (held_at (pulling_all (answered leaf got) lines) leaf)
 leaf-gives [] leaf got i d lt rise e h = absurd (omega arith)
 leaf-gives (l ∷ lines) leaf got zero d lt rise e h =
@@ -73,7 +73,7 @@ pub record AreTaken (old : List LineLists) (leaf : ℕ) (got : Option Packet) (n
   pub takes : TakesOne (held_at old) (held_at new) leaf got
 
 -- `seen` is what the search looks at, and `line` what was read at the place and pulled.
-pub taken-at : (lines seen : List LineLists) (leaf : ℕ) (got : Option Packet) (place : ℕ) (line new : LineLists) → seen ≡ lines → Rise (leaves_of lines) → ((d : LineLists) → nat_cmp (get_or seen place d).leaf leaf ≡ Equal) → place < length seen
+pub taken-at : (lines seen : List LineLists) (leaf : ℕ) (got : Option Packet) (place : ℕ) (line new : LineLists) → seen ≡ lines → AreRising (leaves_of lines) → ((d : LineLists) → nat_cmp (get_or seen place d).leaf leaf ≡ Equal) → place < length seen
     → line ≡ get_or lines place line → new ≡ pulling line (packets_of got) → (HasGathered new → IsWithin new) → (got ≡ None → HasGathered new → HasAllTaken new) → PullsAt lines leaf got (set lines place new) → AllByRecursion IsGathered lines
     → AreTaken lines leaf got (set lines place new)
 taken-at lines seen leaf got place line new same rise found bound read pulled within none pulls all =
@@ -90,7 +90,7 @@ taken-at lines seen leaf got place line new same rise found bound read pulled wi
     }
 
 -- A leaf that the search doesn't find has no line.
-rises-at : (lines : List LineLists) (i j : ℕ) (d : LineLists) → Rise (leaves_of lines) → i ≤ j → j < length lines → (get_or lines i d).leaf ≤ (get_or lines j d).leaf
+rises-at : (lines : List LineLists) (i j : ℕ) (d : LineLists) → AreRising (leaves_of lines) → i ≤ j → j < length lines → (get_or lines i d).leaf ≤ (get_or lines j d).leaf
 rises-at [] i j d rise le lt = absurd (omega arith)
 rises-at (l ∷ lines) zero zero d rise le lt = omega arith
 rises-at (l ∷ lines) zero (suc j) d rise le lt = let below = below-at l.leaf lines j d (omega arith) rise.0 in omega (arith, below)
@@ -128,7 +128,7 @@ apart-none (l ∷ lines) leaf h = by_test (l.leaf == leaf) refl (apart-none line
     by_test true e rest = absurd (h 0 l (omega arith) (eqb-true l.leaf leaf e))
     by_test false e rest = rest
 
-pub not-found : (lines seen : List LineLists) (leaf place : ℕ) → seen ≡ lines → Rise (leaves_of lines) → IsBinarySearchResult (λ (l : LineLists). nat_cmp l.leaf leaf) seen (Err place) → has_line lines leaf ≡ false
+pub not-found : (lines seen : List LineLists) (leaf place : ℕ) → seen ≡ lines → AreRising (leaves_of lines) → IsBinarySearchResult (λ (l : LineLists). nat_cmp l.leaf leaf) seen (Err place) → has_line lines leaf ≡ false
 not-found lines seen leaf place same rise search = apart-none lines leaf (λ k d lt same. apart k d lt same (nat_lt k place) refl)
   where
     parted : IsPartitionPoint (λ (l : LineLists). nat_cmp l.leaf leaf ≡ Less) (λ (l : LineLists). nat_cmp l.leaf leaf ≡ Greater) lines place

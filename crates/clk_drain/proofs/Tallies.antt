@@ -9,12 +9,11 @@ use Rattle.std.proofs.lemmas.List.Sorted.{All-permutation, IsPermutation-sym, su
 use Rattle.std.proofs.lemmas.List.Sums.{sum_by-cons}
 use Rattle.clk_packet.specs.declared.packet.Packet.{Packet}
 use Rattle.clk_packet.specs.declared.tally.Tally.{Tally}
-use Rattle.clk_packet.specs.Lists.{stands_in, are_distinct}
+use Rattle.clk_packet.specs.Lists.{stands_in, are_distinct, AreRising}
 use Rattle.clk_packet.proofs.Callers.Lists.{distinct-parts}
-use Rattle.clk_ruled.specs.Lists.{has_packet}
+use Rattle.clk_ruled.specs.PacketLists.{has_packet}
 use Rattle.clk_ruled.specs.Queue.{SeatLists}
 use Rattle.clk_ruled.specs.Settle.{all_evicted, accepted_count, lost_count, tally_of}
-use Rattle.clk_drain.specs.Senders.{IsBelowAll, Rise}
 use Rattle.clk_drain.specs.Line.{LineLists, seats_of, seats_in, senders_at}
 use Rattle.clk_drain.specs.Outcome.{tally_for, accepted_by, lost_by, in_all}
 use Rattle.clk_drain.specs.inside.Parts.{tallies_of, tallies_in, AreInOrder}
@@ -56,7 +55,7 @@ times-once s (t ∷ tallies) h =
     by_test false none few = omega (arith, few)
 
 -- a sender below or at all, of which none is its own, is below all
-below-all : (n : ℕ) (tallies : List Tally) → AllByRecursion (λ (t : Tally). n ≤ t.sender) tallies → times n tallies ≡ 0 → IsBelowAll n (tellers tallies)
+below-all : (n : ℕ) (tallies : List Tally) → AllByRecursion (λ (t : Tally). n ≤ t.sender) tallies → times n tallies ≡ 0 → AllByRecursion (λ m. n < m) (tellers tallies)
 below-all n [] h e = tt
 below-all n (t ∷ tallies) h e = let more = times-more n t tallies in (by_test (t.sender == n) refl, below-all n tallies h.1 (omega (arith, more, e)))
   where
@@ -64,7 +63,7 @@ below-all n (t ∷ tallies) h e = let more = times-more n t tallies in (by_test 
     by_test true k = let one = ap one_if k in let more = times-more n t tallies in absurd (omega (arith, one, more, e))
     by_test false k = let other = eqb-false t.sender n k in let le = h.0 in omega (arith, other, le)
 
-rise-sorted : (tallies : List Tally) → IsNonDecreasingBy (λ (t : Tally). t.sender) tallies → ((s : ℕ) → times s tallies ≤ 1) → Rise (tellers tallies)
+rise-sorted : (tallies : List Tally) → IsNonDecreasingBy (λ (t : Tally). t.sender) tallies → ((s : ℕ) → times s tallies ≤ 1) → AreRising (tellers tallies)
 rise-sorted [] order few = tt
 rise-sorted (t ∷ tallies) order few = (
   below-all t.sender tallies (recursion_from_All (λ (u : Tally). t.sender ≤ u.sender) tallies (λ k d lt. order 0 (suc k) d (omega arith) (omega (arith, lt))))
@@ -73,12 +72,12 @@ rise-sorted (t ∷ tallies) order few = (
 )
 
 -- Tallies in order rise, where their senders stand apart.
-pub in-order-rise : (tallies sorted : List Tally) → are_distinct (tellers tallies) ≡ true → AreInOrder tallies sorted → Rise (tellers sorted)
+pub in-order-rise : (tallies sorted : List Tally) → are_distinct (tellers tallies) ≡ true → AreInOrder tallies sorted → AreRising (tellers sorted)
 in-order-rise tallies sorted apart h =
     rise-sorted sorted h.order (λ s. let same = sum_by-IsPermutation (λ (t : Tally). one_if (t.sender == s)) tallies sorted h.same in let few = times-once s tallies apart in omega (arith, same, few))
 
 -- one tally more, of another sender, is passed over
-found-later : (t : Tally) (all some : List Tally) → IsBelowAll t.sender (tellers some) → AllByRecursion (λ (u : Tally). tally_for all u.sender ≡ Some u) some
+found-later : (t : Tally) (all some : List Tally) → AllByRecursion (λ m. t.sender < m) (tellers some) → AllByRecursion (λ (u : Tally). tally_for all u.sender ≡ Some u) some
     → AllByRecursion (λ (u : Tally). tally_for (t ∷ all) u.sender ≡ Some u) some
 found-later t all [] below h = tt
 found-later t all (u ∷ some) below h = (
@@ -86,7 +85,7 @@ found-later t all (u ∷ some) below h = (
   found-later t all some below.1 h.1,
 )
 
-found-rising : (tallies : List Tally) → Rise (tellers tallies) → AllByRecursion (λ (t : Tally). tally_for tallies t.sender ≡ Some t) tallies
+found-rising : (tallies : List Tally) → AreRising (tellers tallies) → AllByRecursion (λ (t : Tally). tally_for tallies t.sender ≡ Some t) tallies
 found-rising [] rise = tt
 found-rising (t ∷ tallies) rise = (
   ap (λ (b : Bool). if b then Some t else tally_for tallies t.sender) (eq-eqb t.sender t.sender refl),

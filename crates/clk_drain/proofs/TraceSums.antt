@@ -6,7 +6,7 @@ use Rattle.clk_packet.specs.Trace.{sent_by, packets_in}
 use Rattle.clk_packet.specs.declared.packet.Packet.{Packet}
 use Rattle.clk_packet.specs.Lists.{stands_in, are_distinct}
 use Rattle.clk_packet.proofs.Callers.Lists.{distinct-parts, distinct-more}
-use Rattle.clk_ruled.specs.Lists.{rooms_in_all}
+use Rattle.clk_ruled.specs.Rooms.{rooms_in_all}
 use Rattle.clk_ruled.specs.Queue.{SeatLists, IsDealt}
 use Rattle.clk_ruled.specs.Settle.{accepted_count}
 use Rattle.clk_drain.specs.Line.{LineLists, seats_of, seats_in, senders_at}

@@ -9,7 +9,8 @@ use Rattle.clk_sched.specs.declared.visit.Visit.{Visit}
 use Rattle.clk_sched.specs.Limits.{most_left}
 use Rattle.clk_tree.specs.Plan.{Planned}
 use Rattle.clk_tree.specs.declared.plan.parts.SenderSpec.{SenderSpec}
-use Rattle.clk_tree.specs.PlanParts.{queues_of, senders_of, number_of, AreRising}
+use Rattle.clk_tree.specs.PlanParts.{queues_of, senders_of, number_of}
+use Rattle.clk_packet.specs.Lists.{AreRising}
 use Rattle.clk_drain.specs.declared.outcome.Outcome.{Outcome}
 use Rattle.clk_drain.specs.declared.running.opening.LeafQueue.{LeafQueue}
 use Rattle.clk_drain.specs.inside.Threads.{Terms, Feed, HaveSentAll}

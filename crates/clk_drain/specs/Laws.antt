@@ -2,9 +2,8 @@
 use Rattle.std.specs.Prelude.{◌≡◌, List}
 use Rattle.clk_sched.specs.declared.visit.Visit.{Visit}
 use Rattle.clk_sched.specs.Tree.{Tree}
-use Rattle.clk_sched.specs.Places.{Answers}
+use Rattle.clk_sched.specs.Places.{Answers, tree_queue}
 use Rattle.clk_sched.specs.Results.{leaf_packets}
-use Rattle.clk_sched.specs.Session.{tree_queue}
 use Rattle.clk_drain.specs.Line.{LineLists, pulling_all, PullsAt}
 
 -- The tap of each line takes, in order, just what its leaf gave in the visits that the lines answered.

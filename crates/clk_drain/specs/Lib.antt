@@ -1,5 +1,4 @@
 -- What closing a session and its shared queues comes to.
-pub mod Senders
 pub mod Line
 pub mod Outcome
 pub mod Closing

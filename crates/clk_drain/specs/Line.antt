@@ -5,11 +5,10 @@ use Rattle.clk_packet.specs.declared.packet.Packet.{Packet}
 use Rattle.clk_ruled.specs.declared.view.Setup.{Setup}
 use Rattle.clk_ruled.specs.Queue.{SeatLists, TapLists, ClosedLists}
 use Rattle.clk_ruled.specs.Settle.{lists_of}
-use Rattle.clk_packet.specs.Lists.{stands_in, are_distinct}
+use Rattle.clk_packet.specs.Lists.{stands_in, are_distinct, AreRising}
 use Rattle.clk_sched.specs.Tree.{root, leaves}
 use Rattle.clk_sched.specs.Results.{leaf_packets}
 use Rattle.clk_sched.specs.Session.{Progress}
-use Rattle.clk_drain.specs.Senders.{Rise}
 
 -- A line: the leaf of its queue, the queue's tap, and all of its seats, closed, in order.
 pub record LineLists : Type 0 where
@@ -73,7 +72,7 @@ AreStill old new = map lasting_of new ≡ map lasting_of old
 -- Lines are those of a session, which was pulled over them alone.
 pub record AreLinesOf (session : Progress) (lines : List LineLists) : Type 0 where
   -- one for each queue of its tree, by rising leaf
-  pub rise : Rise (leaves_of lines)
+  pub rise : AreRising (leaves_of lines)
   pub leaves : (q : ℕ) → stands_in q (leaves_of lines) ≡ stands_in q (leaves (root session.tree))
   -- what a tap took is what the log got at its leaf
   pub taken : AllByRecursion (λ (l : LineLists). l.tap.taken ≡ leaf_packets session.tree l.leaf session.log) lines

@@ -5,13 +5,12 @@ use Rattle.clk_packet.specs.declared.packet.Packet.{Packet}
 use Rattle.clk_packet.specs.declared.packet.Kind.{Kind}
 use Rattle.clk_packet.specs.declared.packet.Kind.TheVariants.{TailDrop, FrontDrop}
 use Rattle.clk_packet.specs.declared.tally.Tally.{Tally}
-use Rattle.clk_packet.specs.Lists.{of_sender, stands_in}
+use Rattle.clk_packet.specs.Lists.{of_sender, stands_in, AreRising}
 use Rattle.clk_ruled.specs.Queue.{IsDealt}
 use Rattle.clk_sched.specs.declared.visit.Visit.{Visit}
 use Rattle.clk_sched.specs.Tree.{Tree}
 use Rattle.clk_sched.specs.Run.{IsRun}
 use Rattle.clk_sched.specs.Results.{emitted, heads, leaf_packets}
-use Rattle.clk_drain.specs.Senders.{Rise}
 
 -- a queue: the leaf at which it stands, its kind, how many packets it holds at most, and who sends to it
 pub record SharedQueue : Type 0 where
@@ -80,6 +79,6 @@ pub record IsDeviceSettled (sent : ℕ → List Packet) (tallies : List Tally) (
 
 -- What became of all that each sender sent: one tally a sender, by rising number, and all devices settled.
 pub record IsSettledOutcome (sent : ℕ → List Packet) (devices : List Device) (tallies : List Tally) : Type 0 where
-  pub rise : Rise (map (λ (t : Tally). t.sender) tallies)
+  pub rise : AreRising (map (λ (t : Tally). t.sender) tallies)
   pub known : AllByRecursion (λ (t : Tally). stands_in t.sender (flat_map senders_to devices) ≡ true) tallies
   pub settled : AllByRecursion (IsDeviceSettled sent tallies) devices

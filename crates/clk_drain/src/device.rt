@@ -34,10 +34,10 @@ impl DeviceSession {
     ghost use Rattle.clk_sched.specs.Kinds.{pulls_made};
     ghost use Rattle.clk_sched.specs.LaidOut.{IsRefused};
     ghost use Rattle.clk_sched.specs.Limits.{most_left, end_of_moments, end_of_drains, end_of_pulls, end_of_drained_pulls};
-    ghost use Rattle.clk_sched.specs.Places.{Answers};
+    ghost use Rattle.clk_sched.specs.Places.{Answers, tree_queue};
     ghost use Rattle.clk_sched.specs.Results.{emitted};
     ghost use Rattle.clk_sched.specs.Run.{IsRun};
-    ghost use Rattle.clk_sched.specs.Session.{IsPulledOnce, GivesAll, counted_moment, newly, tree_queue};
+    ghost use Rattle.clk_sched.specs.Session.{IsPulledOnce, GivesAll, counted_moment, newly};
     ghost use Rattle.clk_sched.specs.Tree.{leaves_distinct};
 
     /// A session of this tree, in which no queue stands twice, before its first pull.

@@ -3,7 +3,7 @@
 ghost use Rattle.std.specs.Prelude.{◌≡◌, false, None};
 ghost use Rattle.std.specs.List.{AllByRecursion};
 ghost use Rattle.clk_sched.specs.Closing.{TakesOne};
-ghost use Rattle.clk_drain.specs.Senders.{Rise};
+ghost use Rattle.clk_packet.specs.Lists.{AreRising};
 ghost use Rattle.clk_drain.specs.Line.{PullsAt, has_line, leaves_of};
 ghost use Rattle.clk_drain.specs.inside.Parts.{IsGathered, held_at};
 
@@ -22,14 +22,14 @@ pub struct Lines<'a, W: Wait> {
 
 impl<'a, W: Wait> Model for Lines<'a, W> {
     ghost use Rattle.std.specs.Prelude.{List};
-    ghost use Rattle.clk_drain.specs.Senders.{Rise};
+    ghost use Rattle.clk_packet.specs.Lists.{AreRising};
     ghost use Rattle.clk_drain.specs.Line.{LineLists, leaves_of};
 
     ghost Value = { List LineLists };
 
     ghost view = { λ l. l.each.items };
 
-    ghost invariant = { λ l. Rise (leaves_of l.each.items) };
+    ghost invariant = { λ l. AreRising (leaves_of l.each.items) };
 }
 
 impl<'a, W: Wait> Lines<'a, W> {
@@ -37,12 +37,12 @@ impl<'a, W: Wait> Lines<'a, W> {
     ghost use Rattle.clk_packet.specs.declared.fault.Fault.TheVariants.{Memory};
     ghost use Rattle.clk_sched.specs.Limits.{end_of_moments};
     ghost use Rattle.clk_sched.specs.Session.{IsPulledOnce};
-    ghost use Rattle.clk_drain.specs.Senders.{Rise};
+    ghost use Rattle.clk_packet.specs.Lists.{AreRising};
     ghost use Rattle.clk_drain.specs.Line.{AreStill, AreLinesOf, leaves_of};
 
     /// Lines of rising leaves. `wait` is what their queues wait by.
     pub fn new(wait: &'a W, each: Vec<Line>) -> Lines<'a, W>
-        requires rise { Rise (leaves_of each.items) }
+        requires rise { AreRising (leaves_of each.items) }
         ensures { result ≡ each.items }
     {
         Lines { wait, each }
@@ -101,7 +101,7 @@ pub(crate) struct GatheredLines<'a, W: Wait> {
 impl<'a, W: Wait> Model for GatheredLines<'a, W> {
     ghost use Rattle.std.specs.Prelude.{List};
     ghost use Rattle.std.specs.List.{AllByRecursion};
-    ghost use Rattle.clk_drain.specs.Senders.{Rise};
+    ghost use Rattle.clk_packet.specs.Lists.{AreRising};
     ghost use Rattle.clk_drain.specs.Line.{LineLists, leaves_of};
     ghost use Rattle.clk_drain.specs.inside.Parts.{IsGathered};
 
@@ -109,19 +109,19 @@ impl<'a, W: Wait> Model for GatheredLines<'a, W> {
 
     ghost view = { λ l. l.each.items };
 
-    ghost invariant = { λ l. Rise (leaves_of l.each.items) × AllByRecursion IsGathered l.each.items };
+    ghost invariant = { λ l. AreRising (leaves_of l.each.items) × AllByRecursion IsGathered l.each.items };
 }
 
 impl<'a, W: Wait> GatheredLines<'a, W> {
     ghost use Rattle.std.specs.Prelude.{◌≡◌};
     ghost use Rattle.std.specs.List.{AllByRecursion};
-    ghost use Rattle.clk_drain.specs.Senders.{Rise};
+    ghost use Rattle.clk_packet.specs.Lists.{AreRising};
     ghost use Rattle.clk_drain.specs.Line.{leaves_of};
     ghost use Rattle.clk_drain.specs.inside.Parts.{IsGathered};
 
     // Lines of rising leaves, whose seats are all gathered. `wait` is what their queues wait by.
     pub(crate) fn new(wait: &'a W, each: Vec<Line>) -> GatheredLines<'a, W>
-        requires rise { Rise (leaves_of each.items) }
+        requires rise { AreRising (leaves_of each.items) }
         requires gathered { AllByRecursion IsGathered each.items }
         ensures { result ≡ each.items }
     {
@@ -154,8 +154,8 @@ impl<'a, W: Wait> Ask for GatheredLines<'a, W> {
 
 // Pulls the line of a leaf, if there is one.
 fn pull_at<W: Wait>(lines: &mut Vec<Line>, wait: &W, leaf: u16) -> Option<Packet>
-    requires rise { Rise (leaves_of lines.old.items) }
-    ensures rise { Rise (leaves_of lines.new.items) }
+    requires rise { AreRising (leaves_of lines.old.items) }
+    ensures rise { AreRising (leaves_of lines.new.items) }
     ensures pulled { PullsAt lines.old.items leaf result lines.new.items }
     ensures missing { has_line lines.old.items leaf ≡ false → result ≡ None }
     ensures gathered { AllByRecursion IsGathered lines.old.items → AllByRecursion IsGathered lines.new.items }

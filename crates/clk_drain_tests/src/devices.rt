@@ -4,23 +4,18 @@ ghost use Rattle.std.specs.Prelude.{◌≤◌};
 ghost use Rattle.clk_drain.specs.Limits.{most_limit};
 
 use crate::gates::{Calls, DevicesMeet};
-use crate::running::{assert_all_accepted, assert_all_accounted, records, run_text, traces};
+use crate::running::{
+    assert_all_accepted, assert_all_accounted, records, run_text, traces, traces_of,
+};
 use clk_drain::{Free, Outcome, run};
 use clk_packet::Fault;
+use clk_rows::EIGHT_SENDERS_TWO_DEVICES;
+use clk_rows::trees::TWO_DEVICES;
 use clk_tree::Plan;
 use std::alloc::Global;
 use std::process::Abort;
 use std::sync::Wait;
 use std::thread::Threads;
-
-/// Two devices, each fed by a queue that may hold a thousand packets, with four senders each.
-const FOUR_AT_EACH: &str =
-    "s0 :: Sender(0); s1 :: Sender(1); s2 :: Sender(2); s3 :: Sender(3); q :: Queue(1000); a :: ToDevice(link); s0 -> q; s1 -> q; s2 -> q; s3 -> q; q -> a;
-    s4 :: Sender(4); s5 :: Sender(5); s6 :: Sender(6); s7 :: Sender(7); r :: Queue(1000); b :: ToDevice(link); s4 -> r; s5 -> r; s6 -> r; s7 -> r; r -> b;";
-
-/// Two devices with a sender each.
-const ONE_AT_EACH: &str =
-    "s :: Sender(0); t :: Sender(1); p, q :: Queue; a, b :: ToDevice(x); s -> p -> a; t -> q -> b;";
 
 /// How many devices there are where there are many, how many senders each has, and how many packets each of these sends.
 const DEVICES: u16 = 8;
@@ -100,8 +95,9 @@ fn assert_logged(rt: &impl Abort, alloc: Global, outcome: &Outcome) -> Result<()
 #[test]
 fn two_devices_run(rt: HostRuntime) -> Result<(), Fault> {
     let alloc = rt.alloc();
-    let traces = traces(alloc, records(alloc, b"01234567", 100)?)?;
-    let outcome = run_text(&rt, alloc, FOUR_AT_EACH, &traces, 1000, &Free)?;
+    let row = EIGHT_SENDERS_TWO_DEVICES;
+    let traces = traces_of(alloc, &row)?;
+    let outcome = run_text(&rt, alloc, row.tree, &traces, 1000, &Free)?;
     assert_all_accounted(&rt, alloc, &traces, &outcome, 8)?;
     for tally in &outcome.tallies {
         assert_eq!(rt; tally.accepted.as_slice().len(), 100);
@@ -119,7 +115,7 @@ fn two_devices_threads(rt: HostRuntime) -> Result<(), Fault> {
         first: Calls::none(),
         second: Calls::none(),
     };
-    let outcome = run_text(&rt, alloc, ONE_AT_EACH, &traces, 1000, &gate)?;
+    let outcome = run_text(&rt, alloc, TWO_DEVICES, &traces, 1000, &gate)?;
     assert!(rt;
         gate.first.came() && gate.second.came(),
         "the first pulls of two devices wait for one another, and a producer for both"

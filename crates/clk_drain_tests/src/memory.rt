@@ -1,9 +1,10 @@
 //! A run where memory is refused. tests/refuse-memory has each allocation of the test refused in turn.
 
 use crate::gates::{Calls, Counted};
-use crate::running::{EIGHT_SENDERS, records, traces};
+use crate::running::{records, traces};
 use clk_drain::{Outcome, run};
 use clk_packet::{Fault, Traces};
+use clk_rows::trees::EIGHT_SENDERS;
 use clk_tree::Plan;
 use std::alloc::Global;
 use std::process::Abort;

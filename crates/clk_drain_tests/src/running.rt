@@ -6,6 +6,8 @@ ghost use Rattle.clk_drain.specs.Limits.{most_limit};
 use crate::gates::{AllMeet, Calls, Counted, InTurns};
 use clk_drain::{Free, Gate, Outcome, run, run_with};
 use clk_packet::{FailingSource, Fault, Packet, Tally, Traces};
+use clk_rows::trees::{DRR_500_OVER_TWO, EIGHT_SENDERS};
+use clk_rows::{EIGHT_SENDERS_ONE_QUEUE, EMPTY_TRACE_TWO_QUEUES, LONG_RUN, NO_SENDER, Run};
 use clk_tree::Plan;
 use std::alloc::Global;
 use std::process::Abort;
@@ -13,26 +15,14 @@ use std::sync::Wait;
 use std::test::Fail;
 use std::thread::Threads;
 
-/// Eight senders, all of which send to a queue that may hold a thousand packets.
-pub const EIGHT_SENDERS: &str =
-    "s0 :: Sender(0); s1 :: Sender(1); s2 :: Sender(2); s3 :: Sender(3); s4 :: Sender(4); s5 :: Sender(5); s6 :: Sender(6); s7 :: Sender(7); q :: Queue(1000); d :: ToDevice(link); s0 -> q; s1 -> q; s2 -> q; s3 -> q; s4 -> q; s5 -> q; s6 -> q; s7 -> q; q -> d;";
-
 const FOUR_AT_A_QUEUE: &str =
     "s0 :: Sender(0); s1 :: Sender(1); s2 :: Sender(2); s3 :: Sender(3); q :: Queue(1); d :: ToDevice(link); s0 -> q; s1 -> q; s2 -> q; s3 -> q; q -> d;";
 
 const FOUR_AT_A_FRONT_DROP_QUEUE: &str =
     "s0 :: Sender(0); s1 :: Sender(1); s2 :: Sender(2); s3 :: Sender(3); q :: FrontDropQueue(1); d :: ToDevice(link); s0 -> q; s1 -> q; s2 -> q; s3 -> q; q -> d;";
 
-const DRR_OVER_TWO: &str =
-    "s0 :: Sender(0); q0 :: Queue; s1 :: Sender(1); q1 :: Queue; x :: DRRSched(500); d :: ToDevice(link); s0 -> q0 -> [0] x; s1 -> q1 -> [1] x; x -> d;";
-
 const PRIO_OVER_TWO: &str =
     "s0 :: Sender(0); q0 :: Queue; s1 :: Sender(1); q1 :: Queue; x :: PrioSched; d :: ToDevice(link); s0 -> q0 -> [0] x; s1 -> q1 -> [1] x; x -> d;";
-
-const NO_SENDER: &str = "q :: Queue; d :: ToDevice(x); q -> d;";
-
-const DRR_1: &str =
-    "s :: Sender(0); q :: Queue; x :: DRRSched(1); d :: ToDevice(link); s -> q -> x -> d;";
 
 const ONE_AT_A_QUEUE: &str = "s :: Sender(0); q :: Queue(1); d :: ToDevice(link); s -> q -> d;";
 
@@ -51,6 +41,11 @@ pub fn records(alloc: Global, senders: &[u8], packets: u32) -> Result<Vec<u8>, F
 /// The traces of these records.
 pub fn traces(alloc: Global, text: Vec<u8>) -> Result<Traces, Fault> {
     Traces::read_csv(alloc, &mut FailingSource::new(text, usize::MAX))
+}
+
+/// The traces of a row.
+pub fn traces_of(alloc: Global, row: &Run) -> Result<Traces, Fault> {
+    traces(alloc, row.records.repeat(alloc, row.times)?.into_bytes())
 }
 
 /// Runs the plan of a text over traces, a tick between two pulls.
@@ -170,8 +165,9 @@ pub fn assert_all_accepted(
 #[test]
 fn eight_senders_one_queue(rt: HostRuntime) -> Result<(), Fault> {
     let alloc = rt.alloc();
-    let traces = traces(alloc, records(alloc, b"01234567", 100)?)?;
-    let outcome = run_text(&rt, alloc, EIGHT_SENDERS, &traces, 1000, &Free)?;
+    let row = EIGHT_SENDERS_ONE_QUEUE;
+    let traces = traces_of(alloc, &row)?;
+    let outcome = run_text(&rt, alloc, row.tree, &traces, 1000, &Free)?;
     assert_all_accounted(&rt, alloc, &traces, &outcome, 8)?;
     for tally in &outcome.tallies {
         assert_eq!(rt; tally.accepted.as_slice().len(), 100);
@@ -184,7 +180,7 @@ fn eight_senders_one_queue(rt: HostRuntime) -> Result<(), Fault> {
 fn a_run_may_keep_no_visits(rt: HostRuntime) -> Result<(), Fault> {
     let alloc = rt.alloc();
     let traces = traces(alloc, records(alloc, b"01", 50)?)?;
-    let plan = Plan::read(alloc, DRR_OVER_TWO.as_bytes())?;
+    let plan = Plan::read(alloc, DRR_500_OVER_TWO.as_bytes())?;
     let outcome = run_with(&rt, alloc, &rt, &plan, &traces, 1, 1000, &Free, false)?;
     assert_all_accounted(&rt, alloc, &traces, &outcome, 2)?;
     assert!(rt; outcome.logs.is_empty());
@@ -208,8 +204,9 @@ fn contended_capacity_one(rt: HostRuntime) -> Result<(), Fault> {
 #[test]
 fn empty_trace_two_queues(rt: HostRuntime) -> Result<(), Fault> {
     let alloc = rt.alloc();
-    let traces = traces(alloc, Vec::new(alloc))?;
-    let outcome = run_text(&rt, alloc, DRR_OVER_TWO, &traces, 1000, &Free)?;
+    let row = EMPTY_TRACE_TWO_QUEUES;
+    let traces = traces_of(alloc, &row)?;
+    let outcome = run_text(&rt, alloc, row.tree, &traces, 1000, &Free)?;
     assert_all_accounted(&rt, alloc, &traces, &outcome, 2)?;
     assert_eq!(rt; outcome.emitted, vec![in alloc; Vec::new(alloc)]?);
     Ok(())
@@ -273,7 +270,7 @@ fn unknown_senders_are_refused(rt: HostRuntime) -> Result<(), Fail> {
 #[test]
 fn one_pull_while_producers_run(rt: HostRuntime) -> Result<(), Fault> {
     let alloc = rt.alloc();
-    let traces = traces(alloc, records(alloc, b"01234567", 100)?)?;
+    let traces = traces_of(alloc, &EIGHT_SENDERS_ONE_QUEUE)?;
     let outcome = run_text(&rt, alloc, EIGHT_SENDERS, &traces, 1, &Free)?;
     assert_all_accounted(&rt, alloc, &traces, &outcome, 8)?;
     assert_all_accepted(&rt, alloc, &traces, &outcome)
@@ -282,19 +279,19 @@ fn one_pull_while_producers_run(rt: HostRuntime) -> Result<(), Fault> {
 #[test]
 fn a_plan_without_senders_runs(rt: HostRuntime) -> Result<(), Fault> {
     let alloc = rt.alloc();
-    let traces = traces(alloc, Vec::new(alloc))?;
-    let outcome = run_text(&rt, alloc, NO_SENDER, &traces, 1000, &Free)?;
+    let traces = traces_of(alloc, &NO_SENDER)?;
+    let outcome = run_text(&rt, alloc, NO_SENDER.tree, &traces, 1000, &Free)?;
     assert!(rt; outcome.tallies.is_empty());
     assert_eq!(rt; outcome.emitted, vec![in alloc; Vec::new(alloc)]?);
     Ok(())
 }
 
-// The longest packet waits for 65,535 quanta of a byte, nearly all of them after the one pull while its producer runs.
+// Nearly all pulls are made after the one while its producer runs.
 #[test]
 fn a_drain_may_take_long(rt: HostRuntime) -> Result<(), Fault> {
     let alloc = rt.alloc();
-    let traces = traces(alloc, b"0,65535\n".to_vec(alloc)?)?;
-    let outcome = run_text(&rt, alloc, DRR_1, &traces, 1, &Free)?;
+    let traces = traces_of(alloc, &LONG_RUN)?;
+    let outcome = run_text(&rt, alloc, LONG_RUN.tree, &traces, 1, &Free)?;
     assert_all_accounted(&rt, alloc, &traces, &outcome, 1)?;
     assert_all_accepted(&rt, alloc, &traces, &outcome)?;
     for log in &outcome.logs {

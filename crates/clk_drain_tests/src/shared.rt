@@ -3,12 +3,11 @@
 ghost use Rattle.std.specs.Prelude.{◌≡◌, ◌≤◌, [], true, map, IfOk};
 ghost use Rattle.std.specs.List.{AllByRecursion};
 ghost use Rattle.clk_packet.specs.Limits.{most_capacity};
-ghost use Rattle.clk_packet.specs.Lists.{are_distinct};
-ghost use Rattle.clk_ruled.specs.Lists.{rooms_in_all, SendersRise};
+ghost use Rattle.clk_packet.specs.Lists.{are_distinct, AreRising};
+ghost use Rattle.clk_ruled.specs.Rooms.{named_in, rooms_in_all};
 ghost use Rattle.clk_ruled.specs.Settle.{AreOpenedTogether, closing};
 ghost use Rattle.clk_sched.specs.Limits.{most_left};
 ghost use Rattle.clk_sched.specs.Tree.{root, leaves, leaves_distinct, queue};
-ghost use Rattle.clk_drain.specs.Senders.{Rise};
 ghost use Rattle.clk_drain.specs.Line.{leaves_of, seats_in, senders_at};
 ghost use Rattle.clk_drain.specs.Closing.{accepted_over};
 
@@ -77,7 +76,7 @@ pub fn line<R: Abort + Wait>(
     offers: &[(usize, u16)],
 ) -> Result<Line, Fault>
     requires capacity { (1 ≤ capacity) × (capacity ≤ most_capacity) }
-    requires rising { SendersRise senders.now }
+    requires rising { AreRising (named_in senders.now) }
     requires room { rooms_in_all senders.now ≤ most_capacity }
     ensures leaf { IfOk result (λ line. line.leaf ≡ leaf) }
     ensures fresh { IfOk result (λ line. line.tap.taken ≡ []) }
@@ -143,7 +142,7 @@ pub fn close<R: Abort + Wait>(
     moment: u64,
 ) -> Result<Drained, Fault>
     requires leaves { leaves_of lines.items ≡ leaves (root tree) }
-    requires rise { Rise (leaves (root tree)) }
+    requires rise { AreRising (leaves (root tree)) }
     requires distinct { leaves_distinct tree ≡ true }
     requires fresh { AllByRecursion (λ line. line.tap.taken ≡ []) lines.items }
 {

@@ -2,3 +2,4 @@
 pub mod Bytes
 pub mod Lists
 pub mod Numbers
+pub mod Written

@@ -9,4 +9,5 @@ pub mod Lists
 pub mod Numbers
 pub mod Packets
 pub mod Trace
+pub mod Written
 pub mod inside

@@ -1,5 +1,6 @@
--- Members of lists, and the packets of a sender.
-use Rattle.std.specs.Prelude.{◌≡◌, ◌⊎◌, ℕ, ◌==◌, ◌&&◌, ◌||◌, not, Bool, true, false, List, [], ◌∷◌, filter}
+-- Members of lists, numbers that rise, and the packets of a sender.
+use Rattle.std.specs.Prelude.{◌≡◌, ◌⊎◌, ℕ, ◌<◌, ◌==◌, ◌&&◌, ◌||◌, not, Bool, true, false, List, [], ◌∷◌, filter, ⊤}
+use Rattle.std.specs.List.{AllByRecursion}
 use Rattle.clk_packet.specs.declared.packet.Packet.{Packet}
 
 -- a member stands in the list
@@ -16,6 +17,11 @@ stands_in n (m ∷ numbers) = (m == n) || stands_in n numbers
 abbrev pub are_distinct : List ℕ → Bool
 are_distinct [] = true
 are_distinct (n ∷ numbers) = not (stands_in n numbers) && are_distinct numbers
+
+-- the numbers rise
+abbrev pub AreRising : List ℕ → Type 0
+AreRising [] = ⊤
+AreRising (n ∷ numbers) = AllByRecursion (λ m. n < m) numbers × AreRising numbers
 
 -- the packets of one sender, in order
 abbrev pub of_sender : ℕ → List Packet → List Packet

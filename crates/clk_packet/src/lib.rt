@@ -27,7 +27,7 @@ pub use limits::{
     MAX_BURST, MAX_CAPACITY, MAX_ELEMENTS, MAX_INPUTS, MAX_LENGTH, MAX_LEVELS, MAX_QUANTUM,
     MAX_RATE, MAX_RECORDS, MAX_SENDER, MAX_TICKETS, MAX_TRACE_BYTES,
 };
-pub use number::{number_before, number_in};
+pub use number::{leading_number, number_before, number_in};
 pub use packet::{Kind, Offered, Packet};
 pub use packets::Packets;
 pub use tally::Tally;

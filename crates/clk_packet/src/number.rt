@@ -1,8 +1,9 @@
 //! Numbers in texts.
 
-ghost use Rattle.std.specs.Prelude.{◌≡◌, ◌<◌, ◌^◌, false, IfNone, IfSome};
+ghost use Rattle.std.specs.Prelude.{◌≡◌, ◌<◌, ◌≤◌, ◌^◌, length, false, IfNone, IfSome};
 ghost use Rattle.std.specs.Char.{is_ascii_digit};
-ghost use Rattle.clk_packet.specs.Numbers.{BeginsWithNumber, number_in};
+ghost use Rattle.std.specs.Str.Parse.{digits_value};
+ghost use Rattle.clk_packet.specs.Numbers.{BeginsWithNumber, leading_digits, number_in};
 
 /// The code of the digit 0.
 const ZERO: u64 = 48;
@@ -13,17 +14,8 @@ pub fn number_in(digits: &[u8], least: u64, most: u64) -> Option<u64>
     requires { most < 2 ^ 60 }
     ensures { result ≡ number_in least most digits.now }
 {
-    let mut number = 0;
-    for byte in digits {
-        if !byte.is_ascii_digit() {
-            return None;
-        }
-        number = number * 10 + u64::from(*byte - b'0');
-        if number > most {
-            return None;
-        }
-    }
-    if digits.is_empty() || number < least {
+    let (number, len) = leading_number(digits, most)?;
+    if len < digits.len() || len == 0 || number < least {
         return None;
     }
     Some(number)
@@ -38,17 +30,35 @@ pub fn number_before(text: &[u8], end: u8, least: u64, most: u64) -> Option<(u64
     ensures found { IfSome result (λ r. BeginsWithNumber text.now end least most r.0 r.1.now) }
     ensures none { IfNone result ((number : _) → (rest : _) → BeginsWithNumber text.now end least most number rest → ⊥) }
 {
+    let (number, len) = leading_number(text, most)?;
+    if len == 0 || len == text.len() || number < least {
+        return None;
+    }
+    if text[len] != end {
+        return None;
+    }
+    let (_, rest) = text.split_at(len + 1);
+    Some((number, rest))
+}
+
+/// The number that the digits are with which a text begins, 0 where there is none, and how many they are. None where the number is above
+/// `most`.
+#[inline(always)]
+pub fn leading_number(text: &[u8], most: u64) -> Option<(u64, usize)>
+    requires { most < 2 ^ 60 }
+    ensures number { IfSome result (λ r. r.0 ≡ digits_value 10 (leading_digits text.now)) }
+    ensures digits { IfSome result (λ r. r.1 ≡ length (leading_digits text.now)) }
+    ensures within { IfSome result (λ r. r.0 ≤ most) }
+    ensures inside { IfSome result (λ r. r.1 ≤ length text.now) }
+    ensures large { IfNone result (most < digits_value 10 (leading_digits text.now)) }
+{
     let mut number = 0;
     let mut len = 0;
     for byte in text {
         // What isn't from 0 to 9 is no digit: a byte below '0' wraps round to a large number.
         let digit = u64::from(*byte).wrapping_sub(ZERO);
         if digit > 9 {
-            if *byte != end || len == 0 || number < least {
-                return None;
-            }
-            let (_, rest) = text.split_at(len + 1);
-            return Some((number, rest));
+            break;
         }
         number = number * 10 + digit;
         if number > most {
@@ -56,5 +66,5 @@ pub fn number_before(text: &[u8], end: u8, least: u64, most: u64) -> Option<(u64
         }
         len += 1;
     }
-    None
+    Some((number, len))
 }

@@ -11,7 +11,7 @@ use Rattle.clk_packet.proofs.Callers.Bytes.{HasWritten, Appends-append}
 use Rattle.clk_report.specs.declared.total.Total.{Total}
 use Rattle.clk_packet.specs.Lists.{of_sender}
 use Rattle.clk_report.specs.Report.{tally_text, report_text, total_text}
-use Rattle.clk_report.specs.inside.Totals.{total_of, line_text, words_text}
+use Rattle.clk_report.specs.inside.Totals.{total_of, both, words_text}
 use Rattle.clk_report.proofs.TotalLemmas.{both-of}
 
 -- one part more is written
@@ -53,27 +53,29 @@ line-joined a b c d e f g h p q r s t u v w x x-is w-is v-is u-is t-is s-is r-is
     again = simp append_assoc refl
 
 -- the line of a tally, told by the totals
-pub line-is : (emitted : List Packet) (tally : Tally) (came_out : Total) → came_out ≡ total_of (of_sender tally.sender emitted) → line_text came_out tally ≡ tally_text emitted tally
+pub line-is : (emitted : List Packet) (tally : Tally) (came_out : Total) → came_out ≡ total_of (of_sender tally.sender emitted)
+    → codes "sender " ++ (decimal tally.sender ++ (words_text (codes ": sent") (both (total_of tally.accepted) (total_of tally.refused)) ++ (words_text (codes ", accepted") (total_of tally.accepted)
+    ++ (words_text (codes ", refused") (total_of tally.refused) ++ (words_text (codes ", evicted") (total_of tally.evicted) ++ (words_text (codes ", emitted") came_out ++ codes "\n")))))) ≡ tally_text emitted tally
 line-is emitted tally came_out is =
-    ap (λ t. line_text t tally) is ∙ ap (λ t. line_with (words_text (codes ": sent") t)) (both-of tally.accepted tally.refused)
+    ap₂ line_with (both-of tally.accepted tally.refused) is
     ∙ joined (codes "sender ") (decimal tally.sender) (codes ": sent") (total_text (tally.accepted ++ tally.refused)) (codes ", accepted") (total_text tally.accepted) (codes ", refused") (total_text tally.refused)
     (codes ", evicted") (total_text tally.evicted) (codes ", emitted") (total_text (of_sender tally.sender emitted)) (codes "\n")
   where
-    -- the line, where this tells what was sent
-    line_with : List ℕ → List ℕ
-    line_with sent =
-        codes "sender " ++ (decimal tally.sender ++ (sent ++ (words_text (codes ", accepted") (total_of tally.accepted) ++ (words_text (codes ", refused") (total_of tally.refused)
-        ++ (words_text (codes ", evicted") (total_of tally.evicted) ++ (words_text (codes ", emitted") (total_of (of_sender tally.sender emitted)) ++ codes "\n"))))))
+    -- the line, where this was sent and that came out
+    line_with : Total → Total → List ℕ
+    line_with sent out =
+        codes "sender " ++ (decimal tally.sender ++ (words_text (codes ": sent") sent ++ (words_text (codes ", accepted") (total_of tally.accepted) ++ (words_text (codes ", refused") (total_of tally.refused)
+        ++ (words_text (codes ", evicted") (total_of tally.evicted) ++ (words_text (codes ", emitted") out ++ codes "\n"))))))
 
     joined : (a b c d e f g h i j k l m : List ℕ) → a ++ (b ++ ((c ++ d) ++ ((e ++ f) ++ ((g ++ h) ++ ((i ++ j) ++ ((k ++ l) ++ m)))))) ≡ a ++ (b ++ (c ++ (d ++ (e ++ (f ++ (g ++ (h ++ (i ++ (j ++ (k ++ (l ++ m)))))))))))
     joined a b c d e f g h i j k l m = simp append_assoc refl
 
 -- the line of the first tally, before those of the others
-pub lines-first : (emitted : List Packet) (tallies : List Tally) (tally : Tally) (came_out : Total) → 1 ≤ length tallies → tally ≡ get_or tallies 0 tally → came_out ≡ total_of (of_sender tally.sender emitted)
-    → line_text came_out tally ++ report_text emitted (take (length tallies - 1) (drop 1 tallies)) ≡ report_text emitted tallies
-lines-first emitted [] tally came_out some is counted = absurd (omega (arith, some))
-lines-first emitted (first ∷ tallies) tally came_out some is counted =
-    ap (λ l. l ++ report_text emitted (take (length (first ∷ tallies) - 1) tallies)) (line-is emitted tally came_out counted ∙ ap (tally_text emitted) is)
+pub lines-first : (emitted : List Packet) (tallies : List Tally) (tally : Tally) → 1 ≤ length tallies → tally ≡ get_or tallies 0 tally
+    → tally_text emitted tally ++ report_text emitted (take (length tallies - 1) (drop 1 tallies)) ≡ report_text emitted tallies
+lines-first emitted [] tally some is = absurd (omega (arith, some))
+lines-first emitted (first ∷ tallies) tally some is =
+    ap (λ l. l ++ report_text emitted (take (length (first ∷ tallies) - 1) tallies)) (ap (tally_text emitted) is)
     ∙ ap (λ ts. tally_text emitted first ++ report_text emitted ts) (take_all (length (first ∷ tallies) - 1) tallies (omega arith))
 
 -- lines at the end of a buffer are all that stands from there on

@@ -3,10 +3,12 @@
 
 mod laws;
 mod line;
+mod pieces;
 mod senders;
 mod total;
 mod visits;
 
 pub use laws::{one_device_is_not_told, visits_come_in_pieces};
+pub use pieces::{put, put_number};
 pub use senders::{MAX_DEVICES, report};
 pub use visits::{visit_rows, visits_csv, visits_header};

@@ -1,8 +1,12 @@
 //! The lines of a report. Each is written from its end to its front.
 
-ghost use Rattle.std.specs.Prelude.{◌≡◌, ◌+◌, ◌≤◌, ◌++◌, decimal, drop, length};
-ghost use Rattle.clk_report.specs.inside.Totals.{line_text, words_text};
+ghost use Rattle.std.specs.Prelude.{◌≡◌, ◌+◌, ◌≤◌, ◌++◌, List, decimal, drop, length};
+ghost use Rattle.clk_packet.specs.declared.packet.Packet.{Packet};
+ghost use Rattle.clk_packet.specs.Lists.{of_sender};
+ghost use Rattle.clk_report.specs.Report.{tally_text};
+ghost use Rattle.clk_report.specs.inside.Totals.{total_of, words_text};
 
+use crate::pieces::{put, put_number};
 use crate::total::Total;
 use clk_packet::Tally;
 use itoa::Buffer;
@@ -15,7 +19,7 @@ pub const LINE: usize = 512;
 pub fn put_line(lines: &mut [u8], tally: &Tally, came_out: Total, end: usize) -> usize
     requires room { 512 ≤ end }
     requires within { end ≤ length lines.old }
-    ensures piece { drop result lines.new ≡ line_text came_out tally.now ++ drop end lines.old }
+    ensures piece { (emitted : List Packet) → came_out ≡ total_of (of_sender tally.now.sender emitted) → drop result lines.new ≡ tally_text emitted tally.now ++ drop end lines.old }
     ensures near { end ≤ result + 512 }
     ensures before { result ≤ end }
 {
@@ -28,7 +32,7 @@ pub fn put_line(lines: &mut [u8], tally: &Tally, came_out: Total, end: usize) ->
     let end = put_total(lines, b", refused", refused, end);
     let end = put_total(lines, b", accepted", accepted, end);
     let end = put_total(lines, b": sent", accepted.and(refused), end);
-    let end = put_number(lines, u128::from(tally.sender), end);
+    let end = put_number(lines, u64::from(tally.sender), end);
     put(lines, b"sender ", end)
 }
 
@@ -40,32 +44,20 @@ fn put_total(lines: &mut [u8], words: &[u8], total: Total, end: usize) -> usize
     ensures near { end ≤ result + length words.now + 82 }
     ensures before { result ≤ end }
 {
-    let end = put_number(lines, total.bytes, end);
+    let end = put_count(lines, total.bytes, end);
     let end = put(lines, b" ", end);
-    let end = put_number(lines, total.packets, end);
+    let end = put_count(lines, total.packets, end);
     let end = put(lines, b" ", end);
     put(lines, words, end)
 }
 
-/// Puts a number.
-fn put_number(lines: &mut [u8], number: u128, end: usize) -> usize
+/// Puts how many there are.
+fn put_count(lines: &mut [u8], count: u128, end: usize) -> usize
     requires room { 40 ≤ end }
     requires within { end ≤ length lines.old }
-    ensures piece { drop result lines.new ≡ decimal number ++ drop end lines.old }
+    ensures piece { drop result lines.new ≡ decimal count ++ drop end lines.old }
     ensures near { end ≤ result + 40 }
     ensures before { result ≤ end }
 {
-    put(lines, Buffer::new().format(number).as_bytes(), end)
-}
-
-/// Puts some bytes.
-fn put(lines: &mut [u8], piece: &[u8], end: usize) -> usize
-    requires room { length piece.now ≤ end }
-    requires within { end ≤ length lines.old }
-    ensures piece { drop result lines.new ≡ piece.now ++ drop end lines.old }
-    ensures start { result + length piece.now ≡ end }
-{
-    let start = end - piece.len();
-    lines[start..end].copy_from_slice(piece);
-    start
+    put(lines, Buffer::new().format(count).as_bytes(), end)
 }

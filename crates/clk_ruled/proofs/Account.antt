@@ -5,13 +5,13 @@ use Rattle.std.proofs.lemmas.List.Elements.{filter-append}
 use Rattle.std.specs.List.{flat_map, AllByRecursion}
 use Rattle.clk_packet.specs.declared.packet.Packet.{Packet}
 use Rattle.clk_packet.specs.Lists.{of_sender, In, stands_in}
-use Rattle.clk_ruled.specs.Lists.{is_packet, has_packet, without}
+use Rattle.clk_packet.proofs.Callers.Lists.{rising-distinct}
+use Rattle.clk_ruled.specs.PacketLists.{is_packet, has_packet, without}
 use Rattle.clk_ruled.specs.declared.view.Gathered.{Gathered}
 use Rattle.clk_ruled.specs.Rule.{Out, to_puller, put_out, went_out, taken_in, evicted_by, Books, IsSound, AreGathered, FitsSeat, FitsTap, senders_of}
 use Rattle.clk_ruled.specs.Account.{IsAccount}
 use Rattle.clk_ruled.specs.Laws.{KeepsAccount}
 use Rattle.clk_ruled.proofs.SeatSteps.{room-known}
-use Rattle.clk_ruled.proofs.Tally.{rise-apart}
 use Rattle.clk_ruled.proofs.TapSteps.{in-all}
 use Rattle.clk_ruled.proofs.Counts.{put_out_in, count, length-count, count-all, count-evicted}
 use Rattle.clk_ruled.proofs.Members.{in-left, in-right, in-some, in-own, in-counts, has-none, has-some, once-each, each-once}
@@ -72,7 +72,7 @@ pub account : (b : Books) (held : List Packet) → IsSound b held
 account b held h =
     let all : (p : Packet) → In p (went_out b.gone ++ held) → In p b.all = λ p i. subst (In p) (sym h.order) i in
     let few : (p : Packet) → count (is_packet p) (taken_in b.gone) + count (is_packet p) (put_out_in b.gone) + count (is_packet p) held ≤ 1 = shared-out b held h in
-    let out : (p : Packet) → count (is_packet p) (evicted_in b) ≡ count (is_packet p) (put_out_in b.gone) = λ p. count-evicted (is_packet p) (senders_of b.setup) b.gone (rise-apart b.setup.rooms h.senders_rise) h.known in
+    let out : (p : Packet) → count (is_packet p) (evicted_in b) ≡ count (is_packet p) (put_out_in b.gone) = λ p. count-evicted (is_packet p) (senders_of b.setup) b.gone (rising-distinct (senders_of b.setup) h.senders_rise) h.known in
     let is_of : (p : Packet) → In p b.all → stands_in p.sender (senders_of b.setup) ≡ true = is-of b held h in record {
       balances = λ s. ap (λ l. without (of_sender s l) (evicted_in b)) h.order
           ∙ keep-taken (has_packet (evicted_in b)) s b.gone held
@@ -106,7 +106,7 @@ left-held b held h s =
 pub all-counted : (b : Books) (held : List Packet) → IsSound b held → length b.all ≡ length (evicted_in b) + length (taken_in b.gone) + length held
 all-counted b held h =
     let all = ap length h.order ∙ length-count (went_out b.gone ++ held) ∙ count-all (λ _. true) b.gone held in
-    let out = length-count (evicted_in b) ∙ count-evicted (λ _. true) (senders_of b.setup) b.gone (rise-apart b.setup.rooms h.senders_rise) h.known in
+    let out = length-count (evicted_in b) ∙ count-evicted (λ _. true) (senders_of b.setup) b.gone (rising-distinct (senders_of b.setup) h.senders_rise) h.known in
     let taken = length-count (taken_in b.gone) in let kept = length-count held in
     omega (arith, all, out, taken, kept)
 

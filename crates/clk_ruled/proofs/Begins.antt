@@ -5,8 +5,8 @@ use Rattle.crossbeam_queue.specs.Fifo.{Forks}
 use Rattle.clk_packet.specs.declared.packet.Packet.{Packet}
 use Rattle.clk_ruled.specs.declared.view.Setup.{Setup}
 use Rattle.clk_ruled.specs.declared.view.View.{View}
-use Rattle.clk_packet.specs.Lists.{stands_in}
-use Rattle.clk_ruled.specs.Lists.{SendersRise}
+use Rattle.clk_packet.specs.Lists.{stands_in, AreRising}
+use Rattle.clk_ruled.specs.Rooms.{named_in}
 use Rattle.clk_ruled.specs.Rule.{Books, FitsTap, Fits, Keeps}
 use Rattle.clk_ruled.specs.inside.Rule.{no_setup, spent_view, blank_view, tap_view}
 use Rattle.clk_ruled.proofs.Changes.{all-set, all-snoc}
@@ -26,7 +26,7 @@ no-items : (items : List Packet) → length items ≤ 0 → items ≡ []
 no-items [] h = refl
 no-items (x ∷ items) h = absurd (omega arith)
 
-pub opens : (pass : ℕ) (v : View) (setup : Setup) → SendersRise setup.rooms → v ≡ blank_view → Forks Keeps pass v (tap_view setup [] [] []) spent_view
+pub opens : (pass : ℕ) (v : View) (setup : Setup) → AreRising (named_in setup.rooms) → v ≡ blank_view → Forks Keeps pass v (tap_view setup [] [] []) spent_view
 opens pass v setup rise is items views h at =
     let b : Books = h.0 in let f : FitsTap b pass v = (h.2 pass v at).1 (ap (λ (y : View). y.taps) is) in
     let none_given : v.given ≡ [] = ap (λ (y : View). y.given) is in

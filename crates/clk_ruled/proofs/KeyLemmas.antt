@@ -11,7 +11,7 @@ use Rattle.std.specs.Ordering.{nat_cmp, is_eq, ordering_index}
 use Rattle.std.specs.declared.cmp.Ordering.{Ordering}
 use Rattle.std.specs.Result.{is_ok}
 use Rattle.clk_packet.specs.declared.packet.Packet.{Packet}
-use Rattle.clk_ruled.specs.Lists.{has_packet}
+use Rattle.clk_ruled.specs.PacketLists.{has_packet}
 use Rattle.clk_ruled.specs.inside.Keys.{key_of, key_cmp, AreSorted, AreKeysOf, IsAfterKey, is_key, has_key}
 use Rattle.clk_ruled.proofs.Counts.{eq-turned}
 

@@ -3,7 +3,7 @@ use Rattle.std.proofs.Common.{◌≡◌, ◌≢◌, ℕ, ◌+◌, ◌≤◌, ◌
 use Rattle.std.specs.List.{flat_map}
 use Rattle.clk_packet.specs.declared.packet.Packet.{Packet}
 use Rattle.clk_packet.specs.Lists.{of_sender, In}
-use Rattle.clk_ruled.specs.Lists.{AreAbove, IsRising, is_packet, has_packet, IsOnceEach}
+use Rattle.clk_ruled.specs.PacketLists.{AreAbove, IsRising, is_packet, has_packet, IsOnceEach}
 use Rattle.clk_ruled.proofs.ListLemmas.{eq-true, ne-false}
 use Rattle.clk_ruled.proofs.Counts.{count, one_if, eq-turned, true-eq}
 

@@ -1,17 +1,18 @@
 -- How seats are given one after another.
-use Rattle.std.proofs.Common.{◌≡◌, ◌||◌, ℕ, ◌-◌, ◌≤◌, zero, suc, Bool, List, [], ◌∷◌, ◌++◌, length, map, take, drop, slice_index_or, refl, sym, ap, ◌∙◌, subst, arith, if◌then◌else◌}
+use Rattle.std.proofs.Common.{◌≡◌, ◌||◌, ℕ, ◌-◌, ◌≤◌, ◌<◌, zero, suc, Bool, List, [], ◌∷◌, ◌++◌, length, map, take, drop, slice_index_or, refl, sym, ap, ◌∙◌, subst, arith, if◌then◌else◌}
 use Rattle.std.proofs.lemmas.List.{append_assoc}
+use Rattle.std.specs.List.{AllByRecursion}
 use Rattle.atomic_table.specs.Seated.{TableId}
 use Rattle.clk_ruled.specs.declared.view.Setup.{Setup}
 use Rattle.clk_ruled.specs.declared.view.View.{View}
-use Rattle.clk_packet.specs.Lists.{stands_in}
-use Rattle.clk_ruled.specs.Lists.{room_of, SendersAbove, SendersRise}
+use Rattle.clk_packet.specs.Lists.{stands_in, AreRising}
+use Rattle.clk_ruled.specs.Rooms.{named_in, room_of}
 use Rattle.clk_ruled.specs.Queue.{SeatLists, empty_seat}
 use Rattle.clk_ruled.specs.inside.Rule.{tap_view}
 use Rattle.clk_ruled.specs.inside.Parts.{AreFree, AreRoomed, IsSeated}
 use Rattle.clk_ruled.proofs.ListLemmas.{eq-true, ne-false}
 
-free-more : (s : ℕ) (given : List ℕ) (rest : List (ℕ × ℕ)) → SendersAbove s rest → AreFree given rest → AreFree (s ∷ given) rest
+free-more : (s : ℕ) (given : List ℕ) (rest : List (ℕ × ℕ)) → AllByRecursion (λ m. s < m) (named_in rest) → AreFree given rest → AreFree (s ∷ given) rest
 free-more s given [] above h = tt
 free-more s given (r ∷ rest) above h = let lt = above.0 in (
   ap (λ (y : Bool). y || stands_in r.0 given) (ne-false s r.0 (λ e. omega (arith, lt, e))) ∙ h.0,
@@ -22,14 +23,14 @@ pub free-all : (rooms : List (ℕ × ℕ)) → AreFree [] rooms
 free-all [] = tt
 free-all (r ∷ rooms) = (refl, free-all rooms)
 
-roomed-more : (r : ℕ × ℕ) (rooms rest : List (ℕ × ℕ)) → SendersAbove r.0 rest → AreRoomed rooms rest → AreRoomed (r ∷ rooms) rest
+roomed-more : (r : ℕ × ℕ) (rooms rest : List (ℕ × ℕ)) → AllByRecursion (λ m. r.0 < m) (named_in rest) → AreRoomed rooms rest → AreRoomed (r ∷ rooms) rest
 roomed-more r rooms [] above h = tt
 roomed-more r rooms (x ∷ rest) above h = let lt = above.0 in (
   ap (λ (y : Bool). if y then r.1 else room_of rooms x.0) (ne-false r.0 x.0 (λ e. omega (arith, lt, e))) ∙ h.0,
   roomed-more r rooms rest above.1 h.1,
 )
 
-pub roomed-all : (rooms : List (ℕ × ℕ)) → SendersRise rooms → AreRoomed rooms rooms
+pub roomed-all : (rooms : List (ℕ × ℕ)) → AreRising (named_in rooms) → AreRoomed rooms rooms
 roomed-all [] h = tt
 roomed-all (r ∷ rooms) h = (ap (λ (y : Bool). if y then r.1 else room_of rooms r.0) (eq-true r.0 r.0 refl), roomed-more r rooms rooms h.0 (roomed-all rooms h.1))
 
@@ -60,7 +61,7 @@ seated-step setup id v w seats more (r ∷ rest) n d some count h is made =
     subst (λ (l : List (ℕ × ℕ)). IsSeated setup id w more l) (sym (take-whole rest n (omega (arith, count)))) (seated-more setup id v w seats more r rest h is made)
 
 -- no seat is given yet
-pub seated-first : (setup : Setup) (id : TableId) (v : View) → v ≡ tap_view setup [] [] [] → 1 ≤ setup.capacity → SendersRise setup.rooms → IsSeated setup id v [] setup.rooms
+pub seated-first : (setup : Setup) (id : TableId) (v : View) → v ≡ tap_view setup [] [] [] → 1 ≤ setup.capacity → AreRising (named_in setup.rooms) → IsSeated setup id v [] setup.rooms
 seated-first setup id v is some rise = let given : v.given ≡ [] = ap (λ (u : View). u.given) is in record {
   view_is = is ∙ ap (λ l. tap_view setup [] l []) (sym given);
   some = some;

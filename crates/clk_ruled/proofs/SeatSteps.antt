@@ -9,7 +9,8 @@ use Rattle.clk_packet.specs.declared.packet.Kind.TheVariants.{TailDrop, FrontDro
 use Rattle.clk_ruled.specs.declared.view.Setup.{Setup}
 use Rattle.clk_ruled.specs.declared.view.View.{View}
 use Rattle.clk_packet.specs.Lists.{of_sender, stands_in}
-use Rattle.clk_ruled.specs.Lists.{IsRising, room_of, rooms_in_all}
+use Rattle.clk_ruled.specs.PacketLists.{IsRising}
+use Rattle.clk_ruled.specs.Rooms.{room_of, rooms_in_all}
 use Rattle.clk_ruled.specs.Queue.{places_of, IsShared}
 use Rattle.clk_ruled.specs.Rule.{Books, IsSound, FitsSeat, went_out}
 use Rattle.clk_ruled.specs.inside.Rule.{Knows, seat_view}

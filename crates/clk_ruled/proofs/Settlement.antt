@@ -12,7 +12,8 @@ use Rattle.clk_ruled.specs.declared.view.View.{View}
 use Rattle.clk_ruled.specs.Account.{IsAccount}
 use Rattle.clk_ruled.specs.inside.Keys.{AreKeysOf, has_key}
 use Rattle.clk_packet.specs.Lists.{of_sender, In, stands_in}
-use Rattle.clk_ruled.specs.Lists.{without}
+use Rattle.clk_packet.proofs.Callers.Lists.{rising-distinct}
+use Rattle.clk_ruled.specs.PacketLists.{without}
 use Rattle.clk_ruled.specs.inside.Parts.{TapKeeps}
 use Rattle.clk_ruled.specs.Queue.{SeatLists, TapLists, ClosedLists, IsSharedOut}
 use Rattle.clk_ruled.specs.Rule.{Books, FitsTap, IsSound, AreGathered, evicted_by, taken_in, senders_of}
@@ -22,7 +23,7 @@ use Rattle.clk_ruled.proofs.Account.{account, all-counted, as-many, left-held, e
 use Rattle.clk_ruled.proofs.Counts.{true-eq}
 use Rattle.clk_ruled.proofs.KeyLemmas.{key-packet}
 use Rattle.clk_ruled.proofs.TapSteps.{TapKnows, tap-knows, knows-held}
-use Rattle.clk_ruled.proofs.Tally.{times_in_all, senders_named, of-times, named-length, counted, rise-apart, unroomed}
+use Rattle.clk_ruled.proofs.Tally.{times_in_all, senders_named, of-times, named-length, counted, unroomed}
 
 -- what a tap keeps tells that its queue is accounted for
 pub accounted : (id : TableId) (v : View) (taken : List Packet) → TapKeeps v taken → IsAccounted (record { id = id; setup = v.setup; taken = taken; gathered = v.gathered })
@@ -113,7 +114,7 @@ booked b held setup seats sound same rooms fit =
       evicted = λ s. sym (evicted-fits b s seats fit (λ e. sound.known s (unknown s e)));
       out = ap (flat_map (λ s. evicted_by s b.gone)) senders ∙ sym (all-evicted-fit b seats fit);
       came = accepted-times b seats fit ∙ ap (λ l. times_in_all l (senders_named b.all)) (sym senders)
-          ∙ counted (senders_of b.setup) (senders_named b.all) (rise-apart b.setup.rooms sound.senders_rise) (λ t e. sym (of-times t b.all) ∙ apart t e) ∙ named-length b.all;
+          ∙ counted (senders_of b.setup) (senders_named b.all) (rising-distinct (senders_of b.setup) sound.senders_rise) (λ t e. sym (of-times t b.all) ∙ apart t e) ∙ named-length b.all;
     }
 
 -- What came to a queue was put out, or taken, or is held, by the lists of all its seats.

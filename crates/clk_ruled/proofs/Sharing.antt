@@ -2,7 +2,7 @@
 use Rattle.std.proofs.Common.{◌≡◌, ℕ, ◌+◌, ◌<◌, ◌≤◌, suc, List, [], ◌∷◌, ◌++◌, length, refl, sym, ap, ◌∙◌, subst, ⊎_elim, inl, inr, arith}
 use Rattle.std.proofs.lemmas.List.{length-append}
 use Rattle.clk_packet.specs.declared.packet.Packet.{Packet}
-use Rattle.clk_ruled.specs.Lists.{AreAbove, IsRising}
+use Rattle.clk_ruled.specs.PacketLists.{AreAbove, IsRising}
 use Rattle.clk_ruled.specs.Queue.{AreNumbered, IsDealt, IsShared}
 
 -- one packet more is accepted, or refused

@@ -14,7 +14,8 @@ use Rattle.clk_ruled.specs.declared.view.Setup.{Setup}
 use Rattle.clk_ruled.specs.declared.view.Gathered.{Gathered}
 use Rattle.clk_ruled.specs.declared.view.View.{View}
 use Rattle.clk_packet.specs.Lists.{of_sender, stands_in}
-use Rattle.clk_ruled.specs.Lists.{IsRising, room_of}
+use Rattle.clk_ruled.specs.PacketLists.{IsRising}
+use Rattle.clk_ruled.specs.Rooms.{room_of}
 use Rattle.clk_ruled.specs.Rule.{Out, to_puller, put_out, went_out, taken_in, Books, senders_of, gathered_senders, IsSound, IsNew, AreGathered, FitsSeat, FitsTap, Fits, Keeps, gathered_seat}
 use Rattle.clk_ruled.specs.inside.Rule.{Knows, KnowsAfter, spent_view, retired_view, seat_view, tap_view}
 use Rattle.clk_ruled.proofs.ListLemmas.{eq-true, ne-false, of-own, of-other, went-more, taken-more, evicted-own, evicted-other, evicted-pulled, has-more, has-not}

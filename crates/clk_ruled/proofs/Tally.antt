@@ -3,9 +3,9 @@ use Rattle.std.proofs.Common.{◌≡◌, ℕ, ◌+◌, ◌≤◌, ◌==◌, ◌|
 use mathlib.Core.Logic.{dite}
 use native.Mathlib.Decide.{ℕ_discrete}
 use Rattle.clk_packet.specs.declared.packet.Packet.{Packet}
-use Rattle.clk_packet.specs.Lists.{of_sender, stands_in, are_distinct}
-use Rattle.clk_packet.proofs.Callers.Lists.{distinct-parts, distinct-more}
-use Rattle.clk_ruled.specs.Lists.{room_of, rooms_in_all, SendersAbove, SendersRise}
+use Rattle.clk_packet.specs.Lists.{of_sender, stands_in, are_distinct, AreRising}
+use Rattle.clk_packet.proofs.Callers.Lists.{distinct-parts, rising-distinct}
+use Rattle.clk_ruled.specs.Rooms.{named_in, room_of, rooms_in_all}
 use Rattle.clk_ruled.specs.inside.Parts.{AreRoomed}
 use Rattle.clk_ruled.specs.Rule.{Out, to_puller, put_out, went_out, taken_in, evicted_by}
 use Rattle.clk_ruled.proofs.ListLemmas.{eq-true, ne-false, has-not}
@@ -97,20 +97,6 @@ gone-length [] = refl
 gone-length (to_puller p ∷ gone) = let rest = gone-length gone in omega (arith, rest)
 gone-length (put_out e p ∷ gone) = let rest = gone-length gone in omega (arith, rest)
 
--- the senders that have these rooms
-abbrev pub named_in : List (ℕ × ℕ) → List ℕ
-named_in rooms = map (λ (r : ℕ × ℕ). r.0) rooms
-
--- senders that rise are apart
-above-unnamed : (s : ℕ) (rooms : List (ℕ × ℕ)) → SendersAbove s rooms → stands_in s (named_in rooms) ≡ false
-above-unnamed s [] above = refl
-above-unnamed s (r ∷ rooms) above = let lt = above.0 in
-    ap (λ b. b || stands_in s (named_in rooms)) (ne-false r.0 s (λ e. omega (arith, lt, e))) ∙ above-unnamed s rooms above.1
-
-pub rise-apart : (rooms : List (ℕ × ℕ)) → SendersRise rooms → are_distinct (named_in rooms) ≡ true
-rise-apart [] h = refl
-rise-apart (r ∷ rooms) h = distinct-more r.0 (named_in rooms) (above-unnamed r.0 rooms h.0) (rise-apart rooms h.1)
-
 within-rooms : (rooms rest : List (ℕ × ℕ)) (named : List ℕ) → AreRoomed rooms rest → ((s : ℕ) → times s named ≤ room_of rooms s) → times_in_all (named_in rest) named ≤ rooms_in_all rest
 within-rooms rooms [] named h fits = omega arith
 within-rooms rooms (r ∷ rest) named h fits =
@@ -121,10 +107,10 @@ unroomed rooms s zero le e = refl
 unroomed rooms s (suc n) le e = absurd (true≢false (sym (room-known rooms s (omega (arith, le))) ∙ e))
 
 -- Where no sender has more packets than it may offer, there are no more than may be offered in all.
-pub all-within : (rooms : List (ℕ × ℕ)) (packets : List Packet) → SendersRise rooms → ((s : ℕ) → length (of_sender s packets) ≤ room_of rooms s) → length packets ≤ rooms_in_all rooms
+pub all-within : (rooms : List (ℕ × ℕ)) (packets : List Packet) → AreRising (named_in rooms) → ((s : ℕ) → length (of_sender s packets) ≤ room_of rooms s) → length packets ≤ rooms_in_all rooms
 all-within rooms packets rise fits =
     let named : List ℕ = senders_named packets in
     let few : (s : ℕ) → times s named ≤ room_of rooms s = λ s. let le = fits s in let is = of-times s packets in omega (arith, le, is) in
     let within = within-rooms rooms rooms named (roomed-all rooms rise) few in
-    let all = counted (named_in rooms) named (rise-apart rooms rise) (λ s e. unroomed rooms s (times s named) (few s) e) in
+    let all = counted (named_in rooms) named (rising-distinct (named_in rooms) rise) (λ s e. unroomed rooms s (times s named) (few s) e) in
     let long = named-length packets in omega (arith, within, all, long)

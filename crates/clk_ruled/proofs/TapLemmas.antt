@@ -2,7 +2,7 @@
 use Rattle.std.proofs.Common.{ℕ, ◌+◌, ◌≤◌, ◌==◌, Bool, true, false, List, [], ◌∷◌, ◌++◌, length, arith, if◌then◌else◌}
 use Rattle.clk_packet.specs.declared.packet.Packet.{Packet}
 use Rattle.clk_packet.specs.Lists.{of_sender}
-use Rattle.clk_ruled.specs.Lists.{AreAbove, IsRising}
+use Rattle.clk_ruled.specs.PacketLists.{AreAbove, IsRising}
 use Rattle.clk_ruled.specs.Rule.{Out, to_puller, put_out, went_out, taken_in}
 
 -- A packet that may be at the front of both lists, or of the second alone.

@@ -8,7 +8,8 @@ use Rattle.clk_ruled.specs.declared.view.Gathered.{Gathered}
 use Rattle.clk_ruled.specs.declared.view.View.{View}
 use Rattle.clk_packet.specs.Lists.{of_sender, In, stands_in, are_distinct}
 use Rattle.clk_packet.proofs.Callers.Lists.{distinct-more}
-use Rattle.clk_ruled.specs.Lists.{IsRising, rooms_in_all}
+use Rattle.clk_ruled.specs.PacketLists.{IsRising}
+use Rattle.clk_ruled.specs.Rooms.{rooms_in_all}
 use Rattle.clk_ruled.specs.Queue.{AreOfSenders, accepted_in_all, evicted_in_all}
 use Rattle.clk_ruled.specs.Rule.{Out, to_puller, put_out, went_out, taken_in, Books, senders_of, gathered_senders, IsSound, AreGathered, FitsTap}
 use Rattle.clk_ruled.specs.inside.Rule.{Knows, KnowsAfter, tap_view}

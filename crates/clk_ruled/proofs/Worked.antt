@@ -6,7 +6,7 @@ use Rattle.std.specs.List.{AllByRecursion}
 use Rattle.clk_packet.specs.declared.packet.Packet.{Packet}
 use Rattle.clk_packet.specs.declared.packet.Kind.TheVariants.{TailDrop, FrontDrop}
 use Rattle.clk_packet.specs.Lists.{In, stands_in}
-use Rattle.clk_ruled.specs.Lists.{IsRising, without}
+use Rattle.clk_ruled.specs.PacketLists.{IsRising, without}
 use Rattle.clk_ruled.specs.Account.{IsAccount}
 use Rattle.clk_ruled.specs.Examples.{p0_0, p0_1, p1_0, p1_1, by_sender, for_seats, both, arrived, put_out, pulled, held}
 

@@ -5,7 +5,7 @@ use Rattle.clk_packet.specs.declared.packet.Packet.{Packet}
 use Rattle.clk_packet.specs.declared.packet.Kind.{Kind}
 use Rattle.clk_packet.specs.declared.packet.Kind.TheVariants.{TailDrop}
 use Rattle.clk_packet.specs.Lists.{of_sender, In, stands_in}
-use Rattle.clk_ruled.specs.Lists.{IsRising, without, IsOnceEach}
+use Rattle.clk_ruled.specs.PacketLists.{IsRising, without, IsOnceEach}
 
 -- A queue of this kind and capacity, shared by these senders, took the packets `accepted s` from each sender s, put out the
 -- packets `evicted s` for it, gave the packets `taken` to the puller and holds the packets `held`, from the front.

@@ -1,5 +1,6 @@
 -- What the contracts say of shared queues.
-pub mod Lists
+pub mod PacketLists
+pub mod Rooms
 pub mod Account
 pub mod Rule
 pub mod Queue

@@ -9,7 +9,7 @@ use Rattle.clk_packet.specs.declared.packet.Offered.TheVariants.{Accepted, Refus
 use Rattle.clk_ruled.specs.declared.view.Setup.{Setup}
 use Rattle.clk_ruled.specs.declared.view.Gathered.{Gathered}
 use Rattle.clk_packet.specs.Lists.{In, stands_in}
-use Rattle.clk_ruled.specs.Lists.{rooms_in_all}
+use Rattle.clk_ruled.specs.Rooms.{rooms_in_all}
 use Rattle.clk_ruled.specs.Rule.{senders_of, gathered_senders, gathered_seat}
 
 -- which queue it is, its kind, how many packets it may hold, and how many places it has for them

@@ -7,8 +7,9 @@ use Rattle.clk_packet.specs.declared.packet.Kind.TheVariants.{TailDrop}
 use Rattle.clk_ruled.specs.declared.view.Setup.{Setup}
 use Rattle.clk_ruled.specs.declared.view.Gathered.{Gathered}
 use Rattle.clk_ruled.specs.declared.view.View.{View}
-use Rattle.clk_packet.specs.Lists.{of_sender, stands_in}
-use Rattle.clk_ruled.specs.Lists.{IsRising, room_of, SendersRise}
+use Rattle.clk_packet.specs.Lists.{of_sender, stands_in, AreRising}
+use Rattle.clk_ruled.specs.PacketLists.{IsRising}
+use Rattle.clk_ruled.specs.Rooms.{named_in, room_of}
 
 -- A packet went out at the front: to the puller, or because a packet of this sender's seat was forced in.
 pub data Out : Type 0 where
@@ -43,11 +44,11 @@ pub record Books : Type 0 where
   pub tap : ℕ
 
 abbrev pub senders_of : Setup → List ℕ
-senders_of setup = map (λ (r : ℕ × ℕ). r.0) setup.rooms
+senders_of setup = named_in setup.rooms
 
 -- The books are in order, where these packets are held.
 pub record IsSound (b : Books) (held : List Packet) : Type 0 where
-  pub senders_rise : SendersRise b.setup.rooms
+  pub senders_rise : AreRising (senders_of b.setup)
   pub order : b.all ≡ went_out b.gone ++ held
   pub fits : length held ≤ b.setup.capacity
   pub room : (s : ℕ) → length (of_sender s b.all) ≤ room_of b.setup.rooms s

@@ -8,7 +8,7 @@ use Rattle.clk_packet.specs.declared.fault.Fault.TheVariants.{Memory, Unsettled}
 use Rattle.clk_ruled.specs.declared.view.Gathered.{Gathered}
 use Rattle.clk_ruled.specs.declared.settling.Settled.{Settled}
 use Rattle.clk_packet.specs.Lists.{In, of_sender}
-use Rattle.clk_ruled.specs.Lists.{has_packet, without}
+use Rattle.clk_ruled.specs.PacketLists.{has_packet, without}
 use Rattle.clk_ruled.specs.Queue.{Queue, SeatLists, TapLists, ClosedLists, IsTapOf, IsSharedOut, accepted_in_all, evicted_in_all}
 use Rattle.clk_ruled.specs.Rule.{Books, IsSound, AreGathered, gathered_seat, senders_of, taken_in}
 use Rattle.clk_ruled.specs.Account.{IsAccount}

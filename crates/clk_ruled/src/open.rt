@@ -4,8 +4,8 @@ ghost use Rattle.std.specs.Prelude.{◌≡◌, ◌≤◌, [], ◌∷◌, ◌++�
 ghost use Rattle.crossbeam_queue.specs.Passes.{view, IsPassOf, IsSamePass};
 ghost use Rattle.clk_packet.specs.Limits.{most_capacity};
 ghost use Rattle.clk_packet.specs.declared.fault.Fault.TheVariants.{Memory};
-ghost use Rattle.clk_packet.specs.Lists.{stands_in};
-ghost use Rattle.clk_ruled.specs.Lists.{room_of, rooms_in_all, SendersRise};
+ghost use Rattle.clk_packet.specs.Lists.{stands_in, AreRising};
+ghost use Rattle.clk_ruled.specs.Rooms.{named_in, room_of, rooms_in_all};
 ghost use Rattle.clk_ruled.specs.Queue.{setup_of, empty_seat};
 ghost use Rattle.clk_ruled.specs.inside.Parts.{IsSeated};
 ghost use Rattle.clk_ruled.specs.inside.Rule.{blank_view, tap_view, seat_view};
@@ -29,7 +29,7 @@ fn set_up<O: Opening>(
     senders: &[(u16, u32)],
 )
     requires opening { setup_of kind capacity senders.now ≡ O.setup }
-    requires rising { SendersRise senders.now }
+    requires rising { AreRising (named_in senders.now) }
     requires queue { IsPassOf line.now pass.old }
     requires blank { view pass.old ≡ blank_view }
     ensures queue { IsSamePass pass.old pass.new }
@@ -156,7 +156,7 @@ impl RuledQueue {
         senders: &[(u16, u32)],
     ) -> Result<Opened, Fault>
         requires capacity { (1 ≤ capacity) × (capacity ≤ most_capacity) }
-        requires rising { SendersRise senders.now }
+        requires rising { AreRising (named_in senders.now) }
         requires room { rooms_in_all senders.now ≤ most_capacity }
         ensures opened { IfOk result (λ opened. IsOpened (setup_of kind capacity senders.now) opened.queue opened.seats.items opened.tap) }
         ensures fault { IsOkUnless result Fault.Memory }

@@ -23,7 +23,7 @@ pub struct Tap {
 impl Model for Tap {
     ghost use Rattle.std.specs.Prelude.{◌≡◌, ◌≤◌, [], vec_capacity};
     ghost use Rattle.crossbeam_queue.specs.Passes.{view as known};
-    ghost use Rattle.clk_ruled.specs.Lists.{rooms_in_all};
+    ghost use Rattle.clk_ruled.specs.Rooms.{rooms_in_all};
     ghost use Rattle.clk_ruled.specs.Queue.{TapLists};
     ghost use Rattle.clk_ruled.specs.inside.Parts.{TapKeeps};
 
@@ -39,7 +39,8 @@ impl Tap {
     ghost use Rattle.crossbeam_queue.specs.Passes.{view as known, IsPassOf};
     ghost use Rattle.clk_packet.specs.declared.fault.Fault.TheVariants.{Memory};
     ghost use Rattle.clk_packet.specs.Lists.{of_sender};
-    ghost use Rattle.clk_ruled.specs.Lists.{rooms_in_all, IsRising};
+    ghost use Rattle.clk_ruled.specs.PacketLists.{IsRising};
+    ghost use Rattle.clk_ruled.specs.Rooms.{rooms_in_all};
     ghost use Rattle.clk_ruled.specs.Queue.{ClosedLists, IsTapOf, IsPulled, AreOfSenders, AreAllGathered, accepted_in_all, evicted_in_all, gathering, empty_tap};
     ghost use Rattle.clk_ruled.specs.Settle.{HasAllSeats, IsTakenWithin, IsAllTaken};
 

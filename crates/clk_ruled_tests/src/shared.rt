@@ -2,7 +2,8 @@
 
 ghost use Rattle.std.specs.Prelude.{◌≡◌, ◌≤◌};
 ghost use Rattle.clk_packet.specs.Limits.{most_capacity};
-ghost use Rattle.clk_ruled.specs.Lists.{rooms_in_all, SendersRise};
+ghost use Rattle.clk_packet.specs.Lists.{AreRising};
+ghost use Rattle.clk_ruled.specs.Rooms.{named_in, rooms_in_all};
 
 use clk_packet::{Fault, Kind, Offered, Packet, Tally};
 use clk_ruled::{ClosedSeat, Opened, RuledQueue, Seat, Settled, Tap, calls_keep_together, settle};
@@ -60,7 +61,7 @@ impl Shared {
         senders: &[(u16, u32)],
     ) -> Result<Shared, Fault>
         requires capacity { (1 ≤ capacity) × (capacity ≤ most_capacity) }
-        requires rising { SendersRise senders.now }
+        requires rising { AreRising (named_in senders.now) }
         requires room { rooms_in_all senders.now ≤ most_capacity }
     {
         calls_keep_together();

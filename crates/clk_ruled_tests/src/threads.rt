@@ -2,7 +2,8 @@
 
 ghost use Rattle.std.specs.Prelude.{◌≡◌, ◌+◌, ◌<◌, ◌≤◌, IfOk};
 ghost use Rattle.clk_packet.specs.Limits.{most_capacity};
-ghost use Rattle.clk_ruled.specs.Lists.{rooms_in_all, SendersRise};
+ghost use Rattle.clk_packet.specs.Lists.{AreRising};
+ghost use Rattle.clk_ruled.specs.Rooms.{named_in, rooms_in_all};
 ghost use Rattle.clk_ruled.specs.Queue.{IsSeatOf, IsTapOf};
 ghost use Rattle.clk_ruled.specs.Closing.{IsSameSeat, IsClosedOf, AreClosedOf, AreSeatsOf};
 
@@ -217,7 +218,7 @@ fn share<R: Threads + Wait + Abort + Sync>(
     capacity: u32,
 ) -> Result<(), Fail>
     requires capacity { (1 ≤ capacity) × (capacity ≤ most_capacity) }
-    requires rising { SendersRise senders.now }
+    requires rising { AreRising (named_in senders.now) }
     requires room { rooms_in_all senders.now ≤ most_capacity }
 {
     let Opened { queue, seats, tap } = RuledQueue::open(alloc, kind, capacity, senders)?;
@@ -245,7 +246,7 @@ fn share_queues<R: Threads + Wait + Abort + Sync>(
     alloc: Global,
     senders: &[(u16, u32)],
 ) -> Result<(), Fail>
-    requires rising { SendersRise senders.now }
+    requires rising { AreRising (named_in senders.now) }
     requires room { rooms_in_all senders.now ≤ most_capacity }
 {
     for kind in [Kind::TailDrop, Kind::FrontDrop] {

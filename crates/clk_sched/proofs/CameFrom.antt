@@ -88,7 +88,7 @@ came-here tree log above first next k row stands =
     given v = if asks_queue tree k v then v.got else None
 
     is-given : (v : Visit) → v.node ≡ above → v.fresh ≡ true → v.input ≡ first → given v ≡ v.got
-    is-given v n f i = ap (λ b. if b then v.got else None) (ap₂ (λ b o. b && is_number k o) f (ap₂ (queue_at tree) n i ∙ at-leaf tree above first next k row stands) ∙ same k)
+    is-given v n f i = ap (λ b. if b then v.got else None) (ap₂ (λ b o. is_number k (if b then o else None)) f (ap₂ (queue_at tree) n i ∙ at-leaf tree above first next k row stands) ∙ same k)
 
     by_ask : (v : Visit) → In v (visits_of above log) → (b c : Bool) (o : Option Packet) → v.fresh ≡ b → (v.input == first) ≡ c → v.got ≡ o → AllFrom tree log (leaf k row) (if b && c then traced o (Some k) else [])
     by_ask v m false c o e f g = tt

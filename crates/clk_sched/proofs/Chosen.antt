@@ -6,21 +6,18 @@ use Rattle.std.specs.Bool.{⊤}
 use Rattle.std.proofs.lemmas.Bool.{false≢true}
 use Rattle.clk_packet.specs.declared.packet.Packet.{Packet}
 use Rattle.clk_sched.specs.declared.visit.Visit.{Visit}
-use Rattle.clk_sched.specs.Tree.{Class, prio, round_robin, drr, stride, shaper, HasArguments}
+use Rattle.clk_sched.specs.Tree.{Class, drr, HasArguments}
 use Rattle.clk_sched.specs.Turns.{Turn, EachAfter, IsPlain, UpToFirst, AsksInOrder, visits_before}
 use Rattle.clk_sched.specs.Heads.{head_at, is_covered, LooksAtHeads, EndAtPass}
 use Rattle.clk_sched.specs.Laws.{manner, Follows, AllowsTurn}
-use Rattle.clk_sched.specs.Laws.Priority.{priority_order}
-use Rattle.clk_sched.specs.Laws.RoundRobin.{round_robin_order}
 use Rattle.clk_sched.specs.Laws.Deficit.{next_input, deficit_covers}
-use Rattle.clk_sched.specs.Laws.Stride.{stride_order}
-use Rattle.clk_sched.specs.Laws.Shaper.{shaper_order}
 use Rattle.clk_sched.specs.Log.{asking}
 use Rattle.clk_sched.specs.inside.Pulling.{AreApart, input_of, as_turn}
 use Rattle.clk_sched.proofs.Members.{to-all, all-append, all-weaker}
 use Rattle.clk_sched.proofs.Apart.{all-reverse}
 use Rattle.clk_sched.proofs.Allowed.{AreWithin}
-use Rattle.clk_sched.proofs.Orders.{IsOrderOf, priority-order, round_robin-order, stride-order, shaper-order, IsPlace, IsBeyond, first-place, next-place, beyond-differs, beyond-lower}
+use Rattle.clk_sched.proofs.Classes.{asks-right}
+use Rattle.clk_sched.proofs.Orders.{IsOrderOf, IsPlace, IsBeyond, first-place, next-place, beyond-differs, beyond-lower}
 
 -- a node in a pull: the pull's number and moment, the node's own number, and what is given at each of its inputs
 pub record Asker : Type 0 where
@@ -204,10 +201,5 @@ around-inputs a quanta inputs earlier l were =
 
 pub choose : (a : Asker) (class : Class) (inputs : ℕ) (earlier : List Turn) → 1 ≤ inputs → HasArguments class inputs → AllByRecursion (λ (t : Turn). AreWithin inputs t.visits) earlier
     → HasChosen a class inputs earlier
-choose a prio inputs earlier l arguments were = in-order a prio inputs earlier (priority_order inputs) (priority-order inputs) (λ h. h)
-choose a round_robin inputs earlier l arguments were = in-order a round_robin inputs earlier (round_robin_order inputs earlier) (round_robin-order inputs earlier l) (λ h. h)
 choose a (drr quanta) inputs earlier l arguments were = around-inputs a quanta inputs earlier l were
-choose a (stride tickets) inputs earlier l arguments were =
-    in-order a (stride tickets) inputs earlier (stride_order tickets earlier) (stride-order tickets inputs earlier arguments.0) (λ h. h)
-choose a (shaper rate burst) inputs earlier l arguments were =
-    in-order a (shaper rate burst) inputs earlier (shaper_order rate burst earlier a.moment) (shaper-order rate burst inputs earlier a.moment l) (λ h. h)
+choose a class inputs earlier l arguments were = in-order a class inputs earlier _ ((asks-right class inputs l arguments).orders earlier a.moment) (λ h. h)

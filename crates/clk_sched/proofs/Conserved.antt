@@ -6,7 +6,7 @@ use Rattle.std.proofs.lemmas.Bool.Decides.{nat_tests}
 use Rattle.clk_packet.specs.declared.packet.Packet.{Packet}
 use Rattle.clk_sched.specs.declared.visit.Visit.{Visit}
 use Rattle.clk_packet.specs.Lists.{stands_in, are_distinct}
-use Rattle.clk_sched.specs.Tree.{Class, Row, end, leaf, node, Tree, root, nodes, width, leaves, leaves_distinct, is_number}
+use Rattle.clk_sched.specs.Tree.{Class, Row, end, leaf, node, Tree, root, nodes, width, leaves, leaves_distinct, queue_at, is_number}
 use Rattle.clk_sched.specs.Turns.{Turn, EachAfter, all_visits, IsPlain}
 use Rattle.clk_sched.specs.Laws.{Manner, in_order, with_heads, manner, Follows}
 use Rattle.clk_sched.specs.Laws.Device.{IsDeviceTurn}
@@ -23,7 +23,7 @@ use Rattle.clk_sched.proofs.Blocks.{flat_map-same}
 use Rattle.clk_sched.proofs.TreeLemmas.{stands_in-append}
 use Rattle.clk_sched.proofs.Distinct.{distinct-parts}
 use Rattle.clk_sched.proofs.NoChoice.{root-width}
-use Rattle.clk_sched.proofs.Origins.{latest-not, passed-not, origin-not, from_queue-append, traced-not, heads-not, node-not, StandsOnlyIn, only-after_leaf, only-after_node, only-inputs, only-here}
+use Rattle.clk_sched.proofs.Origins.{latest-not, passed-not, origin-not, from_queue-append, traced-not, heads-not, node-not, StandsOnlyIn, only-after_leaf, only-after_node, only-inputs, only-here, asks-at}
 use Rattle.clk_sched.proofs.Pulled.{IsPulledIn, pulled-after_leaf, pulled-after_node, pulled-inputs, pulled-root, turns-visits}
 use Rattle.clk_sched.proofs.Gives.{gives, results, gives-results, gives-queue, gives-after_leaf, gives-after_node, gives-passed_and_held}
 
@@ -96,7 +96,7 @@ conserved-here tree log q above first next k row e h only =
       input = 0;
       within = omega arith;
       conserved =
-          filter_map-same _ _ log (λ v. ap (λ b. if v.fresh && b then v.got else None) (only-here q tree above first next k row e h only v.node v.input))
+          filter_map-same _ _ log (λ v. ap (λ b. if b then v.got else None) (asks-at q v.fresh (queue_at tree v.node v.input) ∙ ap (λ b. v.fresh && b) (only-here q tree above first next k row e h only v.node v.input)))
           ∙ leaf-log q k above first e log ∙ ap (from_queue q) (sym (gives-queue log above first next k row))
           ∙ sym (append-nil _) ∙ ap (λ l. from_queue q (gives log above first next (leaf k row) 0) ++ l) (sym (heads-not q log next row h));
       alone = λ j p d. others j p d;

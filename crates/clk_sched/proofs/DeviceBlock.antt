@@ -24,7 +24,8 @@ use Rattle.clk_sched.proofs.WithAsked.{absent, present}
 use Rattle.clk_sched.proofs.Blocks.{flat_map-same, filter-flat_map, flat_map-one, Owns, owns-after_leaf, owns-after_node, owns-self, owns-inputs, asks-both}
 use Rattle.clk_sched.proofs.Pulled.{copies-unasked, pulled-root}
 use Rattle.clk_sched.proofs.Below.{LiesAt, lies-within, lies-apart, IsVisitBelow, asked-below}
-use Rattle.clk_sched.proofs.IdleTurns.{busy, history-busy, busy-filtered, allows-idle}
+use Rattle.clk_sched.proofs.IdleTurns.{busy, history-busy, busy-filtered}
+use Rattle.clk_sched.proofs.Classes.{allows-idle}
 
 -- what a visit asked has no visits of a node that doesn't lie there
 asked-absent : (now : Now) (history : History) (next : ℕ) (row : Row) (made : ℕ → List Visit) (v : Visit) (y : ℕ) → (v.fresh ≡ true → IsAskedAt now history next row v.input (made v.input) v.got)

@@ -9,8 +9,8 @@ use Rattle.clk_sched.specs.declared.visit.Visit.{Visit}
 use Rattle.clk_sched.specs.declared.session.drr.Served.{Served}
 use Rattle.clk_sched.specs.declared.session.nodes.Nodes.{Nodes}
 use Rattle.clk_sched.specs.declared.session.state.State.{State}
-use Rattle.clk_sched.specs.declared.session.state.State.TheVariants.{Prio, RoundRobin, Drr, Stride, Shaper}
-use Rattle.clk_sched.specs.Tree.{Class, prio, round_robin, drr, stride, shaper, Row, end, leaf, node, Tree, root, nodes, width}
+use Rattle.clk_sched.specs.declared.session.state.State.TheVariants.{Drr}
+use Rattle.clk_sched.specs.Tree.{Class, prio, drr, Row, end, leaf, node, Tree, root, nodes, width}
 use Rattle.clk_sched.specs.Turns.{Turn, visits_before}
 use Rattle.clk_sched.specs.Heads.{head_at}
 use Rattle.clk_sched.specs.Log.{visits_of, pulls, moment_of}
@@ -81,32 +81,11 @@ heads-of_inputs log x inputs (s ∷ row) i (suc n) e each =
 -- the heads of a node
 heads-of_node : (log : List Visit) (x : ℕ) (class : Class) (inputs : Row) (turns : List Turn) (s : State) → visits_before turns ≡ reverse (visits_of x log) → Holds class (width inputs) turns s
     → heads_of s ≡ without_origins (own_heads log x inputs (manner class (width inputs)))
-heads-of_node log x prio inputs turns Prio e h = refl
-heads-of_node log x prio inputs turns (RoundRobin b) e h = absurd h
-heads-of_node log x prio inputs turns (Drr d) e h = absurd h
-heads-of_node log x prio inputs turns (Stride p) e h = absurd h
-heads-of_node log x prio inputs turns (Shaper b) e h = absurd h
-heads-of_node log x round_robin inputs turns Prio e h = absurd h
-heads-of_node log x round_robin inputs turns (RoundRobin b) e h = refl
-heads-of_node log x round_robin inputs turns (Drr d) e h = absurd h
-heads-of_node log x round_robin inputs turns (Stride p) e h = absurd h
-heads-of_node log x round_robin inputs turns (Shaper b) e h = absurd h
-heads-of_node log x (drr quanta) inputs turns Prio e h = absurd h
-heads-of_node log x (drr quanta) inputs turns (RoundRobin b) e h = absurd h
 heads-of_node log x (drr quanta) inputs turns (Drr d) e h =
     heads-of_inputs log x inputs d.value.row.items 0 (width inputs) h.length_is (λ k s f. (h.each k s f).head_is ∙ ap₂ head_at (omega arith) e)
-heads-of_node log x (drr quanta) inputs turns (Stride p) e h = absurd h
-heads-of_node log x (drr quanta) inputs turns (Shaper b) e h = absurd h
-heads-of_node log x (stride tickets) inputs turns Prio e h = absurd h
-heads-of_node log x (stride tickets) inputs turns (RoundRobin b) e h = absurd h
-heads-of_node log x (stride tickets) inputs turns (Drr d) e h = absurd h
-heads-of_node log x (stride tickets) inputs turns (Stride p) e h = refl
-heads-of_node log x (stride tickets) inputs turns (Shaper b) e h = absurd h
-heads-of_node log x (shaper rate burst) inputs turns Prio e h = absurd h
-heads-of_node log x (shaper rate burst) inputs turns (RoundRobin b) e h = absurd h
-heads-of_node log x (shaper rate burst) inputs turns (Drr d) e h = absurd h
-heads-of_node log x (shaper rate burst) inputs turns (Stride p) e h = absurd h
-heads-of_node log x (shaper rate burst) inputs turns (Shaper b) e h = refl
+heads-of_node log x (drr quanta) inputs turns s e h = absurd h
+heads-of_node log x class inputs turns (Drr d) e h = absurd h
+heads-of_node log x class inputs turns s e h = refl
 
 -- the heads of the node of this number, and of so many nodes from one on
 abbrev heads_there : Option State → List Packet

@@ -1,19 +1,18 @@
 -- No law takes notice of a turn without visits: what it allows after some turns follows from those that have visits.
-use Rattle.std.proofs.Common.{◌≡◌, ◌&&◌, ℕ, ◌+◌, ◌*◌, ◌%◌, Bool, true, false, if◌then◌else◌, nat_le, List, [], ◌∷◌, ◌++◌, map, filter, reverse, is_some, Option, Some, None, inl, inr, refl, sym, ap, ◌∙◌, subst}
-use Rattle.std.specs.List.{range_with_len, enumerate_from}
+use Rattle.std.proofs.Common.{◌≡◌, ◌&&◌, ℕ, Bool, true, false, if◌then◌else◌, List, [], ◌∷◌, ◌++◌, map, filter, reverse, Option, Some, None, inl, inr, refl, sym, ap, ◌∙◌, subst}
+use Rattle.std.specs.Bool.{⊤}
 use Rattle.clk_sched.specs.declared.visit.Visit.{Visit}
-use Rattle.clk_sched.specs.Tree.{Class, prio, round_robin, drr, stride, shaper}
 use Rattle.clk_sched.specs.Turns.{Turn, EachAfter, AsksInOrder, visits_before, giver}
 use Rattle.clk_sched.specs.Log.{visits_of, moment_of, turn}
 use Rattle.clk_sched.specs.Heads.{LooksAtHeads}
-use Rattle.clk_sched.specs.Laws.{AllowsTurn}
+use Rattle.clk_sched.specs.Laws.{Manner, in_order, with_heads, Follows}
 use Rattle.clk_sched.specs.Laws.RoundRobin.{beginning}
-use Rattle.clk_sched.specs.Laws.Deficit.{next_input, deficit_covers}
-use Rattle.clk_sched.specs.Laws.Stride.{passes_after, passes_of, in_rising_order}
-use Rattle.clk_sched.specs.Laws.Shaper.{has_room}
+use Rattle.clk_sched.specs.Laws.Stride.{passes_after, passes_of}
+use Rattle.clk_sched.specs.Laws.Shaper.{has_passed, keeps_since, keeps_since_each}
 use Rattle.clk_sched.specs.inside.Pulling.{as_turn, with_turn}
 use Rattle.clk_sched.specs.inside.Session.{history_of}
 use Rattle.clk_packet.specs.Lists.{In}
+use Rattle.clk_sched.proofs.Bucket.{room-unpassed}
 
 -- turns without those that have no visits
 abbrev pub busy : List Turn → List Turn
@@ -49,33 +48,31 @@ idle tell step stays (t ∷ ts) = by_visits t.moment t.visits (idle tell step st
 idle-visits : (ts : List Turn) → visits_before (busy ts) ≡ visits_before ts
 idle-visits = idle visits_before (λ t us ts e. ap (λ vs. reverse t.visits ++ vs) e) (λ moment ts. refl)
 
-idle-beginning : (inputs : ℕ) (ts : List Turn) → beginning inputs (busy ts) ≡ beginning inputs ts
+pub idle-beginning : (inputs : ℕ) (ts : List Turn) → beginning inputs (busy ts) ≡ beginning inputs ts
 idle-beginning inputs = idle (beginning inputs) (λ t us ts e. by_giver t us ts (giver t.visits) refl e) (λ moment ts. refl)
   where
     by_giver : (t : Turn) (us ts : List Turn) (o : Option ℕ) → giver t.visits ≡ o → beginning inputs us ≡ beginning inputs ts → beginning inputs (t ∷ us) ≡ beginning inputs (t ∷ ts)
     by_giver t us ts None e h = rw e h
     by_giver t us ts (Some input) e h = rw e refl
 
-idle-passes : (tickets : List ℕ) (ts : List Turn) → passes_of tickets (busy ts) ≡ passes_of tickets ts
+pub idle-passes : (tickets : List ℕ) (ts : List Turn) → passes_of tickets (busy ts) ≡ passes_of tickets ts
 idle-passes tickets = idle (passes_of tickets) (λ t us ts e. ap (λ passes. passes_after tickets passes t) e) (λ moment ts. refl)
 
--- whether there is room, by the packets that passed since
-abbrev room_after : ℕ → ℕ → ℕ → List Turn → ℕ → Bool
-room_after rate burst moment ts since = has_room rate burst moment since ts
+pub idle-room : (rate burst moment : ℕ) (later ts : List Turn) → keeps_since_each rate burst moment later (busy ts) ≡ keeps_since_each rate burst moment later ts
+idle-room rate burst moment later [] = refl
+idle-room rate burst moment later (t ∷ ts) = by_visits t.moment t.visits (λ l. idle-room rate burst moment l ts)
+  where
+    by_visits : (past : ℕ) (visits : List Visit) → ((l : List Turn) → keeps_since_each rate burst moment l (busy ts) ≡ keeps_since_each rate burst moment l ts)
+        → keeps_since_each rate burst moment later (with_turn past visits (busy ts)) ≡ keeps_since_each rate burst moment later (as_turn past visits ∷ ts)
+    by_visits past [] same = same later ∙ sym (room-unpassed rate burst moment later (as_turn past []) ts refl)
+    by_visits past (v ∷ visits) same =
+        ap (λ room. (if has_passed (as_turn past (v ∷ visits)) then keeps_since rate burst moment later (as_turn past (v ∷ visits)) else true) && room) (same (as_turn past (v ∷ visits) ∷ later))
 
-idle-room : (rate burst moment : ℕ) (ts : List Turn) → room_after rate burst moment (busy ts) ≡ room_after rate burst moment ts
-idle-room rate burst moment =
-    idle (room_after rate burst moment)
-    (λ t us ts e. ap {B = ℕ → Bool} (λ room since. if is_some (giver t.visits) then nat_le (since + 2 + rate * t.moment) (burst + rate * moment) && room (since + 1) else room since) e) (λ past ts. refl)
+-- a manner takes no notice of turns without visits, as far as it follows from turns
+abbrev pub TakesNoNotice : Manner → Type 0
+TakesNoNotice (in_order order) = (earlier : List Turn) (moment : ℕ) → order (busy earlier) moment ≡ order earlier moment
+TakesNoNotice (with_heads turn_of covers) = ⊤
 
--- a turn that is allowed after those with visits is allowed after all
-pub allows-idle : (class : Class) (inputs : ℕ) (earlier : List Turn) (t : Turn) → AllowsTurn class inputs (busy earlier) t → AllowsTurn class inputs earlier t
-allows-idle prio inputs earlier t h = record { within = h.within; follows = h.follows }
-allows-idle round_robin inputs earlier t h =
-    record { within = h.within; follows = subst (λ b. AsksInOrder (map (λ k. (b + k) % inputs) (range_with_len 0 inputs)) t.visits) (idle-beginning inputs earlier) h.follows }
-allows-idle (drr quanta) inputs earlier t h =
-    record { within = h.within; follows = (subst (λ vs. EachAfter (LooksAtHeads (next_input inputs) (deficit_covers quanta)) vs t.visits) (idle-visits earlier) h.follows.0, h.follows.1) }
-allows-idle (stride tickets) inputs earlier t h =
-    record { within = h.within; follows = subst (λ passes. AsksInOrder (map (λ (i : ℕ × ℕ). i.0) (in_rising_order (enumerate_from 0 passes))) t.visits) (idle-passes tickets earlier) h.follows }
-allows-idle (shaper rate burst) inputs earlier t h =
-    record { within = h.within; follows = subst (λ room. AsksInOrder (if room then 0 ∷ [] else []) t.visits) (ap (λ room. room 0) (idle-room rate burst t.moment earlier)) h.follows }
+pub follows-idle : (m : Manner) (inputs : ℕ) (earlier : List Turn) (t : Turn) → TakesNoNotice m → Follows m inputs (busy earlier) t → Follows m inputs earlier t
+follows-idle (in_order order) inputs earlier t same h = subst (λ inputs. AsksInOrder inputs t.visits) (same earlier t.moment) h
+follows-idle (with_heads turn_of covers) inputs earlier t same h = (subst (λ vs. EachAfter (LooksAtHeads turn_of covers) vs t.visits) (idle-visits earlier) h.0, h.1)

@@ -8,14 +8,14 @@ use Rattle.clk_packet.specs.Limits.{most_inputs}
 use Rattle.clk_sched.specs.declared.session.inputs.Inputs.{Inputs}
 use Rattle.clk_sched.specs.declared.session.nodes.Nodes.{Nodes}
 use Rattle.clk_sched.specs.declared.session.state.State.{State}
-use Rattle.clk_sched.specs.declared.session.state.State.TheVariants.{Prio, RoundRobin, Drr, Stride, Shaper}
-use Rattle.clk_sched.specs.Tree.{Class, prio, round_robin, drr, stride, shaper, Row, end, leaf, node, Tree, queue, scheduler, root, nodes, width, HasArguments, IsWellFormed}
+use Rattle.clk_sched.specs.Tree.{Class, prio, Row, end, leaf, node, Tree, queue, scheduler, root, nodes, width, HasArguments, IsWellFormed}
 use Rattle.clk_sched.specs.inside.Places.{inputs_of, EachHasInputs, option_edges, edges_to_all, IsAfter, IsWired}
 use Rattle.clk_sched.specs.inside.Pulling.{EachHolds}
 use Rattle.clk_sched.specs.Session.{elements}
 use Rattle.clk_sched.specs.inside.Session.{IsLaidOut}
 use Rattle.clk_sched.specs.inside.Holds.OfClass.{Fits, Holds}
 use Rattle.clk_sched.specs.inside.LaidOut.{elements_of, Entry, entry, entry_over, entries, Kind, kinds, AreFirst}
+use Rattle.clk_sched.proofs.Classes.{fits-first}
 
 -- how many there are of each
 
@@ -177,34 +177,6 @@ found table states next (node class inputs row) h x l k =
     by_place false e false d below after =
         let past : suc (next + nodes inputs) ≤ x = grind (arith, nat_tests) in
         after past (omega arith)
-
--- what a node holds before its first turn fits its inputs
-fits-first : (class : Class) (inputs : ℕ) (s : State) → 1 ≤ inputs → HasArguments class inputs → Holds class inputs [] s → Fits s inputs
-fits-first prio inputs Prio some a h = tt
-fits-first prio inputs (RoundRobin b) some a h = absurd h
-fits-first prio inputs (Drr d) some a h = absurd h
-fits-first prio inputs (Stride p) some a h = absurd h
-fits-first prio inputs (Shaper b) some a h = absurd h
-fits-first round_robin inputs Prio some a h = absurd h
-fits-first round_robin inputs (RoundRobin b) some a h = omega (arith, h)
-fits-first round_robin inputs (Drr d) some a h = absurd h
-fits-first round_robin inputs (Stride p) some a h = absurd h
-fits-first round_robin inputs (Shaper b) some a h = absurd h
-fits-first (drr quanta) inputs Prio some a h = absurd h
-fits-first (drr quanta) inputs (RoundRobin b) some a h = absurd h
-fits-first (drr quanta) inputs (Drr d) some a h = h.length_is
-fits-first (drr quanta) inputs (Stride p) some a h = absurd h
-fits-first (drr quanta) inputs (Shaper b) some a h = absurd h
-fits-first (stride tickets) inputs Prio some a h = absurd h
-fits-first (stride tickets) inputs (RoundRobin b) some a h = absurd h
-fits-first (stride tickets) inputs (Drr d) some a h = absurd h
-fits-first (stride tickets) inputs (Stride p) some a h = record { tickets = tickets; turns = []; inputs_are = a.0; holds = h }
-fits-first (stride tickets) inputs (Shaper b) some a h = absurd h
-fits-first (shaper rate burst) inputs Prio some a h = absurd h
-fits-first (shaper rate burst) inputs (RoundRobin b) some a h = absurd h
-fits-first (shaper rate burst) inputs (Drr d) some a h = absurd h
-fits-first (shaper rate burst) inputs (Stride p) some a h = absurd h
-fits-first (shaper rate burst) inputs (Shaper b) some a h = some
 
 at : {X : Type 0} (P : X → Type 0) (o : Option X) (x : X) → o ≡ Some x → MatchOption o ⊥ P → P x
 at P o x e h = subst (λ u. MatchOption u ⊥ P) e h

@@ -35,11 +35,11 @@ mod TurnPrio
 mod TurnRoundRobin
 mod TurnStride
 mod TurnShaper
-mod TurnOfClass
 mod Logged
 mod LooksDrr
 mod TurnDrr
 mod Orders
+mod Classes
 mod Chosen
 mod WithAsked
 mod Made

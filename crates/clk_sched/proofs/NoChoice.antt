@@ -1,5 +1,5 @@
 -- A run leaves nothing to choose: two runs at the same moments, in which each queue answers alike, are the same log.
-use Rattle.std.proofs.Common.{◌≡◌, ℕ, suc, ◌+◌, ◌<◌, ◌≤◌, ◌==◌, ◌&&◌, if◌then◌else◌, cond, Bool, true, false, List, [], ◌∷◌, ◌++◌, length, map, filter, drop, refl, sym, ap, ap₂, ◌∙◌, subst, arith}
+use Rattle.std.proofs.Common.{◌≡◌, ℕ, suc, ◌+◌, ◌<◌, ◌≤◌, ◌==◌, ◌&&◌, if◌then◌else◌, cond, Bool, true, false, List, [], ◌∷◌, ◌++◌, None, length, map, filter, drop, refl, sym, ap, ap₂, ◌∙◌, subst, arith}
 use Rattle.std.specs.List.{flat_map, AllByRecursion}
 use Rattle.std.proofs.lemmas.Bool.Decides.{nat_tests}
 use Rattle.clk_sched.specs.declared.visit.Visit.{Visit}
@@ -83,7 +83,7 @@ leaf-alike tree p q above first next k row stands rest i v u mv mu iv iu l h fv 
     answer : (w : Visit) → w.node ≡ above → w.input ≡ first → w.fresh ≡ true → answers_of tree k (w ∷ []) ≡ w.got ∷ []
     answer w n j f =
         ap (λ b. map (λ (z : Visit). z.got) (cond b (w ∷ []) []))
-        (ap₂ (λ b o. b && is_number k o) f (ap₂ (queue_at tree) n j ∙ at-leaf tree above first next k row stands) ∙ equal k k refl)
+        (ap₂ (λ b o. is_number k (if b then o else None)) f (ap₂ (queue_at tree) n j ∙ at-leaf tree above first next k row stands) ∙ equal k k refl)
 
     by_test : (b : Bool) → (first == i) ≡ b → AnswerAlike tree (part p b ++ v ∷ []) (part q b ++ u ∷ []) → (part p b ≡ part q b) × (v.got ≡ u.got)
     by_test true t c =

@@ -178,7 +178,7 @@ stride-order tickets inputs earlier e =
     }
 
 pub shaper-order : (rate burst inputs : ℕ) (earlier : List Turn) (moment : ℕ) → 1 ≤ inputs → IsOrderOf inputs (shaper_order rate burst earlier moment)
-shaper-order rate burst inputs earlier moment l = by_room (has_room rate burst moment 0 earlier)
+shaper-order rate burst inputs earlier moment l = by_room (has_room rate burst moment earlier)
   where
     by_room : (b : Bool) → IsOrderOf inputs (if b then 0 ∷ [] else [])
     by_room true = record { within = (omega arith, tt); apart = (tt, tt) }

@@ -133,6 +133,11 @@ only-inputs q tree above first next class inputs row h only x i =
     by_queue None e = e
     by_queue (Some k) e = refl
 
+-- a queue is asked by a fresh visit where it stands
+pub asks-at : (q : ℕ) (fresh : Bool) (o : Option ℕ) → is_number q (if fresh then o else None) ≡ (fresh && is_number q o)
+asks-at q true o = refl
+asks-at q false o = refl
+
 pub only-here : (q : ℕ) (tree : Tree) (above first next k : ℕ) (row : Row) → (k == q) ≡ true → stands_in q (leaves row) ≡ false → StandsOnlyIn q tree above first next (leaf k row)
     → (x i : ℕ) → is_number q (queue_at tree x i) ≡ ((x == above) && (i == first))
 only-here q tree above first next k row e h only x i =

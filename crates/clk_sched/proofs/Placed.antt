@@ -7,7 +7,7 @@ use Rattle.std.proofs.lemmas.Bool.Decides.{nat_tests}
 use Rattle.clk_packet.specs.declared.packet.Packet.{Packet}
 use Rattle.clk_sched.specs.declared.session.inputs.Inputs.{Inputs}
 use Rattle.clk_sched.specs.declared.session.state.State.{State}
-use Rattle.clk_sched.specs.declared.session.state.State.TheVariants.{Prio, RoundRobin, Drr, Stride, Shaper}
+use Rattle.clk_sched.specs.declared.session.state.State.TheVariants.{Prio, Shaper}
 use Rattle.clk_sched.specs.declared.session.shaper.Bucket.{Bucket}
 use Rattle.clk_sched.specs.declared.session.nodes.Nodes.{Nodes}
 use Rattle.clk_sched.specs.Tree.{Class, Row, nodes, width}
@@ -112,11 +112,8 @@ some-same x y e = ap (or_else x) e
 
 -- the bucket of a Shaper is one thing
 abbrev bucket_or : Bucket → State → Bucket
-bucket_or b Prio = b
-bucket_or b (RoundRobin c) = b
-bucket_or b (Drr d) = b
-bucket_or b (Stride p) = b
 bucket_or b (Shaper c) = c
+bucket_or b s = b
 
 pub bucket-same : (b c : Bucket) → Shaper b ≡ Shaper c → b ≡ c
 bucket-same b c e = ap (bucket_or b) e

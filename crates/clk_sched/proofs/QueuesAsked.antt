@@ -7,10 +7,9 @@ use Rattle.clk_packet.specs.declared.packet.Packet.{Packet}
 use Rattle.clk_sched.specs.declared.visit.Visit.{Visit}
 use Rattle.clk_sched.specs.declared.session.inputs.Inputs.{Inputs}
 use Rattle.clk_sched.specs.Tree.{Class, Row, end, leaf, node, Tree, root, nodes, queue_in, queue_at}
-use Rattle.clk_sched.specs.Places.{at_queue, Answers}
+use Rattle.clk_sched.specs.Places.{at_queue, Answers, tree_queue}
 use Rattle.clk_sched.specs.inside.Places.{inputs_of, HasInputs, EachHasInputs, StandsIn, option_input, input_at, queue_of, queue_asked}
 use Rattle.clk_sched.specs.inside.Pulling.{Now, History, IsBlock}
-use Rattle.clk_sched.specs.Session.{tree_queue}
 use Rattle.clk_sched.proofs.Numbers.{equal, differs}
 use Rattle.clk_sched.proofs.Members.{all-weaker}
 use Rattle.clk_sched.proofs.Numbering.{queue_in-before, queue_in-earlier, StandsAt, stands-root, stands-after_leaf, stands-after_node, stands-inputs}

@@ -1,5 +1,5 @@
 -- A session that is drained, pull by pull.
-use Rattle.std.proofs.Common.{◌≡◌, ◌≢◌, ℕ, ◌+◌, ◌<◌, ◌≤◌, ◌==◌, ◌&&◌, if◌then◌else◌, Bool, map, filter, true, List, [], ◌∷◌, ◌++◌, length, reverse, drop, Option, Some, None, is_some, false, refl, sym, ap, ap₂, ◌∙◌, subst, append-nil, append_assoc, arith}
+use Rattle.std.proofs.Common.{◌≡◌, ◌≢◌, ℕ, ◌+◌, ◌<◌, ◌≤◌, ◌==◌, if◌then◌else◌, Bool, map, filter, true, List, [], ◌∷◌, ◌++◌, length, reverse, drop, Option, Some, None, is_some, false, refl, sym, ap, ap₂, ◌∙◌, subst, append-nil, append_assoc, arith}
 use Rattle.std.specs.List.{flat_map, range_with_len, cons_option}
 use Rattle.std.proofs.lemmas.Bool.{false≢true}
 use Rattle.std.proofs.lemmas.Bool.Decides.{nat_tests}
@@ -12,8 +12,8 @@ use Rattle.clk_sched.specs.declared.visit.Visit.{Visit}
 use Rattle.clk_sched.specs.Log.{visits_of, pulls, moment_of, result_of}
 use Rattle.clk_sched.specs.Bound.{closing_bound}
 use Rattle.clk_sched.specs.Run.{IsRun}
-use Rattle.clk_sched.specs.Places.{Answers}
-use Rattle.clk_sched.specs.Session.{Progress, IsPulledOnce, IsDrained, GivesAll, LastGives, given_in, counted_moment, latest_moment, newly, tree_queue}
+use Rattle.clk_sched.specs.Places.{Answers, tree_queue}
+use Rattle.clk_sched.specs.Session.{Progress, IsPulledOnce, IsDrained, GivesAll, LastGives, given_in, counted_moment, latest_moment, newly}
 use Rattle.clk_sched.specs.Tree.{Tree, root, queue_at, is_number, leaves_distinct, IsSound}
 use Rattle.clk_sched.specs.Results.{asks_queue}
 use Rattle.clk_sched.specs.Choice.{answers_of}
@@ -150,7 +150,7 @@ answers-give {S = S} gives holds tree q keeps (v ∷ visits) a b h = by_fresh v.
         let other : q ≢ p = (λ f. false≢true (sym e ∙ equal p q (sym f))) in
         subst (λ l. GivesOut l (told rest) (holds b q)) (taken.others q other) k
 
-    by_fresh : (f : Bool) (o : Option ℕ) → at_queue gives (if f then o else None) v.got a (λ c. Answers gives (tree_queue tree) c visits b) → Rest → GivesOut (holds a q) (told (if f && is_number q o then v ∷ rest else rest)) (holds b q)
+    by_fresh : (f : Bool) (o : Option ℕ) → at_queue gives (if f then o else None) v.got a (λ c. Answers gives (tree_queue tree) c visits b) → Rest → GivesOut (holds a q) (told (if is_number q (if f then o else None) then v ∷ rest else rest)) (holds b q)
     by_fresh false o k more = more a k
     by_fresh true None k more = more a k
     by_fresh true (Some p) k more = by_queue p (p == q) refl k.0 (keeps a p v.got k.0 k.1) (more k.0 k.2)

@@ -10,7 +10,7 @@ use Rattle.clk_sched.specs.declared.visit.Visit.{Visit}
 use Rattle.clk_sched.specs.Tree.{is_number}
 use Rattle.clk_sched.specs.Turns.{Turn, EachAfter, giver, all_visits, UpToFirst, AsksInOrder}
 use Rattle.clk_sched.specs.Laws.Stride.{visits_input, passes_after, passes_of, put_in_order, in_rising_order, stride_order, pass_in, stride_at}
-use Rattle.clk_sched.specs.Service.{AlwaysGets, Near, largest_stride, given_in, pass_at, SharesByStride}
+use Rattle.clk_sched.specs.Service.{AlwaysGets, Near, largest_stride, packets_given, pass_at, SharesByStride}
 use Rattle.clk_packet.specs.Lists.{In}
 use Rattle.clk_sched.proofs.Members.{of-all, all-split, in-slice}
 use Rattle.clk_sched.proofs.Allowed.{onto, onto-reverse, each-split}
@@ -266,13 +266,13 @@ pass-grows tickets earlier t i law l gets = by_giver (giver t.visits) refl
         by_input false true d f g h = absurd (grind (arith, nat_tests))
 
 range-grows : (tickets : List ℕ) (earlier range : List Turn) (i : ℕ) → EachAfter (IsStrideTurn tickets) earlier range → i < length tickets → AlwaysGets i (all_visits range)
-    → pass_at tickets (onto range earlier) i ≡ given_in i range * stride_at tickets i + pass_at tickets earlier i
+    → pass_at tickets (onto range earlier) i ≡ packets_given i range * stride_at tickets i + pass_at tickets earlier i
 range-grows tickets earlier [] i law l gets = omega arith
 range-grows tickets earlier (t ∷ range) i law l gets =
     let parts = all-split _ t.visits (all_visits range) gets in
     let now = pass-grows tickets earlier t i law.0 l parts.0 in
     let rest = range-grows tickets (t ∷ earlier) range i law.1 l parts.1 in
-    let both = add-mul (if is_number i (giver t.visits) then 1 else 0) (given_in i range) (stride_at tickets i) in
+    let both = add-mul (if is_number i (giver t.visits) then 1 else 0) (packets_given i range) (stride_at tickets i) in
     omega (arith, now, rest, both)
 
 pub stride-shares : (tickets : List ℕ) (turns : List Turn) → EachAfter (IsStrideTurn tickets) [] turns → SharesByStride tickets turns
@@ -291,7 +291,7 @@ stride-shares tickets turns law =
     near before after e = near-all tickets [] before (split before after e).0 (near-first tickets)
 
     served : (before range after : List Turn) → turns ≡ before ++ (range ++ after) → (i j : ℕ) → i < length tickets → j < length tickets
-        → AlwaysGets i (all_visits range) → AlwaysGets j (all_visits range) → Near (2 * largest_stride tickets) (given_in i range * stride_at tickets i) (given_in j range * stride_at tickets j)
+        → AlwaysGets i (all_visits range) → AlwaysGets j (all_visits range) → Near (2 * largest_stride tickets) (packets_given i range * stride_at tickets i) (packets_given j range * stride_at tickets j)
     served before range after e i j l m gets other =
         let part = (each-split (IsStrideTurn tickets) (onto before []) range after (split before (range ++ after) e).1).0 in
         let start = near before (range ++ after) e in

@@ -3,7 +3,7 @@ use Rattle.std.proofs.Common.{◌≡◌, ℕ, ◌+◌, ◌*◌, ◌≤◌, mul_a
 use Rattle.std.specs.Bool.{⊤}
 use Rattle.std.specs.List.{AllByRecursion}
 use Rattle.clk_packet.specs.Limits.{most_quantum}
-use Rattle.clk_sched.specs.Tree.{Class, prio, round_robin, drr, stride, shaper, Row, end, leaf, node, Tree, queue, scheduler, root, width, height, HasArguments, IsWellFormed, IsSound}
+use Rattle.clk_sched.specs.Tree.{Class, drr, Row, end, leaf, node, Tree, queue, scheduler, root, width, height, HasArguments, IsWellFormed, IsSound}
 use Rattle.clk_sched.specs.Built.{levels}
 use Rattle.clk_sched.proofs.TreeLemmas.{sound-formed}
 use Rattle.clk_sched.specs.Bound.{lesser, least, quanta_of, least_quantum, rounds, closing_bound}
@@ -23,11 +23,8 @@ positive-least [] h = tt
 positive-least (n ∷ ns) h = positive-lesser (Some n) (least ns) h.0.0 (positive-least ns h.1)
 
 positive-class : (class : Class) (inputs : ℕ) → HasArguments class inputs → IsPositive (least (quanta_of class))
-positive-class prio inputs h = tt
-positive-class round_robin inputs h = tt
 positive-class (drr quanta) inputs h = positive-least quanta h.1
-positive-class (stride tickets) inputs h = tt
-positive-class (shaper rate burst) inputs h = tt
+positive-class class inputs h = tt
 
 pub positive-row : (r : Row) → IsSound r → IsPositive (least_quantum r)
 positive-row end h = tt

@@ -8,8 +8,9 @@ use Rattle.clk_sched.specs.declared.visit.Visit.{Visit}
 use Rattle.clk_sched.specs.declared.session.inputs.Inputs.{Inputs}
 use Rattle.clk_sched.specs.declared.session.drr.Deficits.{Deficits}
 use Rattle.clk_sched.specs.declared.session.nodes.Nodes.{Nodes}
+use Rattle.clk_sched.specs.declared.session.state.State.{State}
 use Rattle.clk_sched.specs.declared.session.state.State.TheVariants.{Drr}
-use Rattle.clk_sched.specs.Tree.{drr, width}
+use Rattle.clk_sched.specs.Tree.{Class, drr, width}
 use Rattle.clk_sched.specs.Turns.{Turn, EachAfter, visits_before}
 use Rattle.clk_sched.specs.Heads.{LooksAtHeads, EndAtPass}
 use Rattle.clk_sched.specs.Laws.Deficit.{next_input, deficit_covers}
@@ -29,7 +30,11 @@ use Rattle.clk_sched.proofs.Orders.{IsPlace, first-place, next-place, beyond-dif
 use Rattle.clk_sched.proofs.Pulling.{pulling-first, pulling-own}
 use Rattle.clk_sched.proofs.Asking.{added-none, added-then, keeps-then, keeps-none, can-go_on, answers-then, edges-append, asks-then, asks-none}
 use Rattle.clk_sched.proofs.Ordered.{item-there, stands-width, can-order, order-there, keeps-order}
-use Rattle.clk_sched.proofs.TurnOfClass.{drr-alone}
+
+-- by what a DRRSched holds, a scheduler of no other class has a turn
+drr-alone : (a b : Nodes) (x : ℕ) (s : Box Deficits) (now : State) (got : Option Packet) → ((quanta : List ℕ) → TakesTurn a b x (drr quanta) (Drr s) now got) → (class : Class) → TakesTurn a b x class (Drr s) now got
+drr-alone a b x s now got h (drr quanta) row history ready holds = h quanta row history ready holds
+drr-alone a b x s now got h class row history ready holds = absurd holds
 
 -- What a DRRSched did at the input whose turn it was.
 pub record HasLooked {S : Type 0} (gives : S → ℕ → Option Packet → S → Type 0) (old new : Nodes) (before now : S) (x : ℕ) (mid last : Deficits) (v : Visit) : Type 0 where

@@ -4,8 +4,9 @@ use Rattle.std.specs.List.{AllByRecursion, range_with_len}
 use Rattle.clk_packet.specs.declared.packet.Packet.{Packet}
 use Rattle.clk_sched.specs.declared.session.inputs.Inputs.{Inputs}
 use Rattle.clk_sched.specs.declared.session.nodes.Nodes.{Nodes}
+use Rattle.clk_sched.specs.declared.session.state.State.{State}
 use Rattle.clk_sched.specs.declared.session.state.State.TheVariants.{Prio}
-use Rattle.clk_sched.specs.Tree.{prio, width}
+use Rattle.clk_sched.specs.Tree.{Class, prio, width}
 use Rattle.clk_sched.specs.Turns.{AsksInOrder}
 use Rattle.clk_sched.specs.inside.Holds.OfClass.{IsPrio}
 use Rattle.clk_sched.specs.inside.Places.{edges_of, edges_at, edges_in, input_at}
@@ -16,7 +17,18 @@ use Rattle.clk_sched.proofs.InOrder.{IsWithin, packet_of, turned-in-order, withi
 use Rattle.clk_sched.proofs.Asking.{keeps-more}
 use Rattle.clk_sched.proofs.Ordered.{IsOrderAt, item-there, stands-width, can-ask, inputs-asked, had-order}
 use Rattle.clk_sched.proofs.Placed.{some-same, state-there, fits-there, pulled-still}
-use Rattle.clk_sched.proofs.TurnOfClass.{prio-alone, prio-there}
+
+-- a PrioSched holds one thing alone, by which a scheduler of no other class has a turn
+prio-alone : (a b : Nodes) (x : ℕ) (now : State) (got : Option Packet) → TakesTurn a b x prio Prio now got → (class : Class) → TakesTurn a b x class Prio now got
+prio-alone a b x now got h prio row history ready holds = h row history ready holds
+prio-alone a b x now got h class row history ready holds = absurd holds
+
+is-prio : (s : State) → IsPrio s → s ≡ Prio
+is-prio Prio h = refl
+is-prio s h = absurd h
+
+prio-there : (states : List State) (x : ℕ) → x < length states → IfSome (slice_get states x) IsPrio → slice_get states x ≡ Some Prio
+prio-there states x l h = let s = item-there states x l in s.1 ∙ ap Some (is-prio s.0 (subst (λ o. IfSome o IsPrio) s.1 h))
 
 pub prio-turn : (a b : Nodes) (x count : ℕ) (p : Inputs) (r : Option (ℕ × Packet)) → slice_get a.inputs.items x ≡ Some p → count ≡ length p.each.items → IsWithin (range_with_len 0 count) r
     → AsksAll a b x (range_with_len 0 count) (asked_in_order (now_of a) x (range_with_len 0 count) r) → TakesTurn a b x prio Prio Prio (packet_of r)

@@ -9,9 +9,10 @@ use Rattle.clk_packet.specs.declared.packet.Packet.{Packet}
 use Rattle.clk_sched.specs.declared.visit.Visit.{Visit}
 use Rattle.clk_sched.specs.declared.session.inputs.Inputs.{Inputs}
 use Rattle.clk_sched.specs.declared.session.nodes.Nodes.{Nodes}
+use Rattle.clk_sched.specs.declared.session.state.State.{State}
 use Rattle.clk_sched.specs.declared.session.state.State.TheVariants.{RoundRobin}
 use Rattle.clk_sched.specs.declared.session.round_robin.Beginning.{Beginning}
-use Rattle.clk_sched.specs.Tree.{round_robin, width}
+use Rattle.clk_sched.specs.Tree.{Class, round_robin, width}
 use Rattle.clk_sched.specs.Log.{asking}
 use Rattle.clk_sched.specs.Turns.{Turn, AsksInOrder, giver}
 use Rattle.clk_sched.specs.Laws.RoundRobin.{beginning, round_robin_order}
@@ -26,7 +27,11 @@ use Rattle.clk_sched.proofs.Asked.{entry}
 use Rattle.clk_sched.proofs.Orders.{IsOrderOf, IsBeyond, around, round_robin-order}
 use Rattle.clk_sched.proofs.InOrder.{IsWithin, HasTurnedBy, packet_of, turned-in-order, after-own, with_turn-given, giver_at, in_order-giver}
 use Rattle.clk_sched.proofs.Ordered.{stands-width, can-order, order-there, keeps-order}
-use Rattle.clk_sched.proofs.TurnOfClass.{round_robin-alone}
+
+-- by what a RoundRobinSched holds, a scheduler of no other class has a turn
+round_robin-alone : (a b : Nodes) (x : ℕ) (s : Beginning) (now : State) (got : Option Packet) → TakesTurn a b x round_robin (RoundRobin s) now got → (class : Class) → TakesTurn a b x class (RoundRobin s) now got
+round_robin-alone a b x s now got h round_robin row history ready holds = h row history ready holds
+round_robin-alone a b x s now got h class row history ready holds = absurd holds
 
 -- numbers around so many, before they wrap and after
 before-wrap : (n s j m : ℕ) → s + j + m ≤ n → map (λ k. (s + k) % n) (range_with_len j m) ≡ range_with_len (s + j) m

@@ -13,6 +13,7 @@ use Rattle.clk_sched.specs.Tree.{Class, shaper}
 use Rattle.clk_sched.specs.Turns.{Turn, AsksInOrder, giver}
 use Rattle.clk_sched.specs.Laws.Shaper.{has_room}
 use Rattle.clk_sched.specs.Log.{asking}
+use Rattle.clk_sched.specs.inside.Holds.OfClass.{IsShaper}
 use Rattle.clk_sched.specs.inside.Holds.Shaper.{AreBefore, HoldsBucket, IsTaken, IsGivenBack, Tells, tokens_at}
 use Rattle.clk_sched.specs.inside.Pulling.{AsksAll, added, now_of, as_turn, with_turn, asked_in_order}
 use Rattle.clk_sched.specs.Places.{Answers}
@@ -22,10 +23,18 @@ use Rattle.clk_sched.specs.inside.Turning.{with_state, HasAsked, WasPulled}
 use Rattle.clk_sched.specs.inside.Tokens.{TakesToken, GivesBack}
 use Rattle.clk_sched.proofs.Asking.{asks-none, added-none, keeps-none, keeps-more}
 use Rattle.clk_sched.proofs.Placed.{IsPutIn, fit-set, bucket-same, some-same, is-put, still-put, pulls-put, pulls-later, fits-there, fits-each, can-put, keeps-from, keeps-put, state-there}
-use Rattle.clk_sched.proofs.TurnOfClass.{shaper-alone}
 use Rattle.clk_sched.proofs.Bucket.{bucket-none, bucket-taken}
 use Rattle.clk_sched.proofs.InOrder.{IsWithin, packet_of, HasTurnedBy, turned-in-order, in_order-giver, with_turn-given, after-own}
 use Rattle.clk_sched.proofs.Ordered.{IsOrderAt, can-ask, inputs-asked, keeps-asked, row-order}
+
+-- by what a Shaper holds, a scheduler of no other class has a turn
+shaper-alone : (a b : Nodes) (x : ℕ) (s : Bucket) (now : State) (got : Option Packet) → ((rate burst : ℕ) → TakesTurn a b x (shaper rate burst) (Shaper s) now got) → (class : Class) → TakesTurn a b x class (Shaper s) now got
+shaper-alone a b x s now got h (shaper rate burst) row history ready holds = h rate burst row history ready holds
+shaper-alone a b x s now got h class row history ready holds = absurd holds
+
+pub is-shaper : (s : State) → IsShaper s → (b : Bucket) × (s ≡ Shaper b)
+is-shaper (Shaper b) h = (b, refl)
+is-shaper s h = absurd h
 
 -- what is asked with a token, and without one
 abbrev pub asked_by : Bool → List ℕ
@@ -60,12 +69,12 @@ keeps-look a b x can some h = keeps-asked a b x (0 ∷ []) can (shaper-asks a.in
 -- what is held after a pull that passed a packet
 abbrev pub IsTakenAt : Bucket → Bucket → ℕ → Type 0
 IsTakenAt s z moment =
-    (rate burst : ℕ) (turns : List Turn) (t : Turn) → HoldsBucket rate burst turns s → AreBefore moment turns → has_room rate burst moment 0 turns ≡ true → t.moment ≡ moment → is_some (giver t.visits) ≡ true
+    (rate burst : ℕ) (turns : List Turn) (t : Turn) → HoldsBucket rate burst turns s → AreBefore moment turns → has_room rate burst moment turns ≡ true → t.moment ≡ moment → is_some (giver t.visits) ≡ true
     → HoldsBucket rate burst (t ∷ turns) z
 
 pub taken-at : (s z : Bucket) (moment : ℕ) → IsTaken s z moment → IsTakenAt s z moment
 taken-at s z moment h rate burst turns t holds before room at passed =
-    bucket-taken rate burst turns t s z holds (subst (λ n. AreBefore n turns) (sym at) before) (subst (λ n. has_room rate burst n 0 turns ≡ true) (sym at) room) passed h.rate_is h.burst_is (h.filled_is ∙ sym at)
+    bucket-taken rate burst turns t s z holds (subst (λ n. AreBefore n turns) (sym at) before) (subst (λ n. has_room rate burst n turns ≡ true) (sym at) room) passed h.rate_is h.burst_is (h.filled_is ∙ sym at)
     (subst (λ n. z.tokens ≡ tokens_at s n - 1) (sym at) (let e = h.tokens_is in omega (arith, e)))
 
 -- what is held after a turn in which this was asked

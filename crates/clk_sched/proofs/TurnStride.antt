@@ -8,10 +8,11 @@ use Rattle.clk_packet.specs.declared.packet.Packet.{Packet}
 use Rattle.clk_sched.specs.declared.visit.Visit.{Visit}
 use Rattle.clk_sched.specs.declared.session.inputs.Inputs.{Inputs}
 use Rattle.clk_sched.specs.declared.session.nodes.Nodes.{Nodes}
+use Rattle.clk_sched.specs.declared.session.state.State.{State}
 use Rattle.clk_sched.specs.declared.session.state.State.TheVariants.{Stride}
 use Rattle.clk_sched.specs.declared.session.stride.Rank.{Rank}
 use Rattle.clk_sched.specs.declared.session.stride.Passes.{Passes}
-use Rattle.clk_sched.specs.Tree.{stride}
+use Rattle.clk_sched.specs.Tree.{Class, stride}
 use Rattle.clk_sched.specs.Turns.{Turn, AsksInOrder, giver}
 use Rattle.clk_sched.specs.inside.Holds.OfClass.{FitsPasses}
 use Rattle.clk_sched.specs.inside.Holds.Stride.{HoldsPasses}
@@ -22,7 +23,11 @@ use Rattle.clk_sched.proofs.Orders.{IsOrderOf, stride-order}
 use Rattle.clk_sched.proofs.StridePasses.{order-is, passes-none}
 use Rattle.clk_sched.proofs.InOrder.{IsWithin, packet_of, HasTurnedBy, turned-in-order, in_order-giver, walked-inputs, with_turn-given, after-own}
 use Rattle.clk_sched.proofs.Ordered.{IsOrderAt, row-order, can-ask, inputs-asked, had-order}
-use Rattle.clk_sched.proofs.TurnOfClass.{stride-alone}
+
+-- by what a StrideSched holds, a scheduler of no other class has a turn
+stride-alone : (a b : Nodes) (x : ℕ) (s : Box Passes) (now : State) (got : Option Packet) → ((tickets : List ℕ) → TakesTurn a b x (stride tickets) (Stride s) now got) → (class : Class) → TakesTurn a b x class (Stride s) now got
+stride-alone a b x s now got h (stride tickets) row history ready holds = h tickets row history ready holds
+stride-alone a b x s now got h class row history ready holds = absurd holds
 
 -- passes that fit the inputs of a node, if it is in the table
 abbrev pub FitsAt : List Inputs → ℕ → Passes → Type 0

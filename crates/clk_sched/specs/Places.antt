@@ -1,7 +1,12 @@
 -- What queues gave, visit by visit.
-use Rattle.std.specs.Prelude.{◌≡◌, ℕ, List, [], ◌∷◌, Option, Some, None}
+use Rattle.std.specs.Prelude.{◌≡◌, ℕ, List, [], ◌∷◌, Option, Some, None, if◌then◌else◌}
 use Rattle.clk_packet.specs.declared.packet.Packet.{Packet}
 use Rattle.clk_sched.specs.declared.visit.Visit.{Visit}
+use Rattle.clk_sched.specs.Tree.{Tree, queue_at}
+
+-- the queue of a tree that a visit asked, if it asked one
+abbrev pub tree_queue : Tree → Visit → Option ℕ
+tree_queue tree v = if v.fresh then queue_at tree v.node v.input else None
 
 -- a step where there is a queue, and what follows
 abbrev pub at_queue : {S : Type 0} → (S → ℕ → Option Packet → S → Type 0) → Option ℕ → Option Packet → S → (S → Type 0) → Type 0

@@ -1,10 +1,11 @@
 -- What a log says went in and came out: answers of queues, packets emitted, heads held, and where packets came from.
-use Rattle.std.specs.Prelude.{Bool, ℕ, zero, suc, ◌+◌, ◌&&◌, nat_le, List, [], ◌∷◌, ◌++◌, map, filter, reverse, Option, Some, None, option_and_then, if◌then◌else◌}
+use Rattle.std.specs.Prelude.{Bool, ℕ, zero, suc, ◌+◌, nat_le, List, [], ◌∷◌, ◌++◌, map, filter, reverse, Option, Some, None, option_and_then, if◌then◌else◌}
 use Rattle.std.specs.List.{filter_map, flat_map, range_with_len}
 use Rattle.clk_packet.specs.declared.packet.Packet.{Packet}
 use Rattle.clk_sched.specs.declared.visit.Visit.{Visit}
-use Rattle.clk_sched.specs.Tree.{Row, end, leaf, node, Tree, root, width, nodes, queue_at, is_number}
+use Rattle.clk_sched.specs.Tree.{Row, end, leaf, node, Tree, root, width, nodes, is_number}
 use Rattle.clk_sched.specs.Log.{visits_of, in_pull, asks}
+use Rattle.clk_sched.specs.Places.{tree_queue}
 use Rattle.clk_sched.specs.Heads.{head_at}
 use Rattle.clk_sched.specs.Laws.{Manner, in_order, with_heads, manner}
 
@@ -14,7 +15,7 @@ emitted log = filter_map (λ (v : Visit). if v.passed then v.got else None) (vis
 
 -- whether a visit asked this queue
 abbrev pub asks_queue : Tree → ℕ → Visit → Bool
-asks_queue tree q v = v.fresh && is_number q (queue_at tree v.node v.input)
+asks_queue tree q v = is_number q (tree_queue tree v)
 
 -- the packets that a queue gave, in order
 abbrev pub leaf_packets : Tree → ℕ → List Visit → List Packet

@@ -44,9 +44,9 @@ largest_stride [] = 0
 largest_stride (t ∷ tickets) = max (stride_of t) (largest_stride tickets)
 
 -- how many packets an input gave in a range of pulls
-abbrev pub given_in : ℕ → List Turn → ℕ
-given_in input [] = 0
-given_in input (t ∷ range) = (if is_number input (giver t.visits) then 1 else 0) + given_in input range
+abbrev pub packets_given : ℕ → List Turn → ℕ
+packets_given input [] = 0
+packets_given input (t ∷ range) = (if is_number input (giver t.visits) then 1 else 0) + packets_given input range
 
 -- the pass of an input after these turns, the latest first
 abbrev pub pass_at : List ℕ → List Turn → ℕ → ℕ
@@ -59,7 +59,7 @@ pub record SharesByStride (tickets : List ℕ) (turns : List Turn) : Type 0 wher
       → Near (largest_stride tickets) (pass_at tickets (reverse before) i) (pass_at tickets (reverse before) j)
   pub served_near : (before range after : List Turn) → turns ≡ before ++ (range ++ after) → (i j : ℕ) → i < length tickets → j < length tickets
       → AlwaysGets i (all_visits range) → AlwaysGets j (all_visits range)
-      → Near (2 * largest_stride tickets) (given_in i range * stride_at tickets i) (given_in j range * stride_at tickets j)
+      → Near (2 * largest_stride tickets) (packets_given i range * stride_at tickets i) (packets_given j range * stride_at tickets j)
 
 -- what a scheduler of this class, over so many inputs, shares out in its pulls
 abbrev pub Shares : Class → ℕ → List Turn → Type 0

@@ -1,11 +1,11 @@
 -- What a session is seen as, and what a pull and a drain come to.
-use Rattle.std.specs.Prelude.{◌≡◌, ℕ, ◌+◌, ◌<◌, ◌≤◌, true, List, [], ◌∷◌, ◌++◌, length, drop, map, reverse, suc, max, is_some, Option, None, ⊤, if◌then◌else◌}
+use Rattle.std.specs.Prelude.{◌≡◌, ℕ, ◌+◌, ◌<◌, ◌≤◌, true, List, [], ◌∷◌, ◌++◌, length, drop, map, reverse, suc, max, is_some, Option, ⊤}
 use Rattle.std.specs.List.{flat_map, filter_map, range_with_len}
 use Rattle.clk_packet.specs.declared.packet.Packet.{Packet}
 use Rattle.clk_packet.specs.declared.fault.Fault.{Fault}
 use Rattle.clk_packet.specs.declared.fault.Fault.TheVariants.{Memory, TooManyPulls}
 use Rattle.clk_sched.specs.declared.visit.Visit.{Visit}
-use Rattle.clk_sched.specs.Tree.{Row, end, leaf, node, Tree, queue_at}
+use Rattle.clk_sched.specs.Tree.{Row, end, leaf, node, Tree}
 use Rattle.clk_sched.specs.Log.{visits_of, pulls, moment_of, result_of}
 use Rattle.clk_sched.specs.Bound.{closing_bound}
 use Rattle.clk_sched.specs.Run.{IsRun}
@@ -20,10 +20,6 @@ elements (node class inputs row) = suc (elements inputs + elements row)
 abbrev pub latest_moment : List (List Visit) → ℕ
 latest_moment [] = 0
 latest_moment (pull ∷ earlier) = moment_of pull
-
--- the queue of a tree that a visit asked, if it asked one
-abbrev pub tree_queue : Tree → Visit → Option ℕ
-tree_queue tree v = if v.fresh then queue_at tree v.node v.input else None
 
 -- what a session is seen as: its tree, and the log of its pulls
 pub record Progress : Type 0 where

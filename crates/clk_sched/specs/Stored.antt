@@ -51,11 +51,8 @@ tree_of (leaf q row ∷ rows) = queue q
 tree_of (node class inputs row ∷ rows) = scheduler class inputs
 
 put-class_token : (c : Class) (inputs row : Row) (rows : List Row) → put (class_token c) (inputs ∷ row ∷ rows) ≡ node c inputs row ∷ rows
-put-class_token prio inputs row rows = refl
-put-class_token round_robin inputs row rows = refl
 put-class_token (drr quanta) inputs row rows = refl
-put-class_token (stride tickets) inputs row rows = refl
-put-class_token (shaper rate burst) inputs row rows = refl
+put-class_token c inputs row rows = refl
 
 rows_of-tokens : (row : Row) (more : List Token) → rows_of (tokens row more) ≡ row ∷ rows_of more
 rows_of-tokens end more = refl

@@ -42,9 +42,9 @@ impl Unlogged {
     ghost use Rattle.clk_sched.specs.Bound.{closing_bound};
     ghost use Rattle.clk_sched.specs.Results.{emitted, heads};
     ghost use Rattle.clk_packet.specs.declared.fault.Fault.TheVariants.{Memory, TooManyPulls};
-    ghost use Rattle.clk_sched.specs.Places.{Answers};
+    ghost use Rattle.clk_sched.specs.Places.{Answers, tree_queue};
     ghost use Rattle.clk_sched.specs.Closing.{LosesNothing, left_in};
-    ghost use Rattle.clk_sched.specs.Session.{IsPulledOnce, GivesAll, StopsShort, counted_moment, elements, newly, tree_queue};
+    ghost use Rattle.clk_sched.specs.Session.{IsPulledOnce, GivesAll, StopsShort, counted_moment, elements, newly};
     ghost use Rattle.clk_sched.specs.Kinds.{pulls_made};
 
     /// A session of this tree, in which no queue stands twice, before its first pull.

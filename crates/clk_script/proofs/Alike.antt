@@ -16,7 +16,7 @@ use Rattle.clk_sched.specs.declared.visit.Visit.{Visit}
 use Rattle.clk_sched.specs.Log.{moment_of, counted}
 use Rattle.clk_sched.specs.Choice.{GoAlike}
 use Rattle.clk_sched.specs.Tree.{Tree}
-use Rattle.clk_script.specs.Meaning.{Setup, Event, offered, pulled, happens_at, events_at, pull_in, moment_in, RunsTree}
+use Rattle.clk_router.specs.Events.{Setup, Event, offered, pulled, happens_at, events_at, pull_in, moment_in, RunsTree}
 
 -- two packets with the same number, sender and length
 pub packet-same : (p q : Packet) → p.number ≡ q.number → p.sender ≡ q.sender → p.length ≡ q.length → p ≡ q

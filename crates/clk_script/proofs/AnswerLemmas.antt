@@ -1,141 +1,34 @@
 -- How a router goes on by the commands of some rows, and what it comes to.
-use Rattle.std.proofs.Common.{◌≡◌, ℕ, ◌+◌, ◌<◌, ◌≤◌, ◌==◌, zero, suc, nat_lt, Bool, true, false, List, [], ◌∷◌, ◌++◌, length, map, filter, take, drop, set, get_or, reverse, max, fold, Option, Some, None, IfSome, MatchOption, Vec, slice_get, refl, sym, ap, ap₂, subst, ◌∙◌, append_assoc, append-nil, zero-add, arith}
-use Rattle.std.specs.Bool.{⊤}
+use Rattle.std.proofs.Common.{◌≡◌, ℕ, ◌+◌, ◌<◌, ◌≤◌, zero, suc, nat_lt, true, List, [], ◌∷◌, ◌++◌, length, map, take, drop, set, get_or, Option, Some, None, IfSome, Vec, slice_get, refl, sym, ap, ap₂, subst, ◌∙◌, append_assoc, append-nil, arith}
 use Rattle.std.specs.Option.{option_map}
-use Rattle.std.specs.List.{flat_map, filter_map, cons_option, range_with_len, AllByRecursion}
+use Rattle.std.specs.List.{flat_map, filter_map, cons_option, AllByRecursion}
 use Rattle.std.specs.declared.alloc.Global.{Global}
 use Rattle.std.proofs.lemmas.List.{map-append, length-map, length-take, take_all, length-set, take-append-drop, take_more, take_more_set, drop_more, drop-set-lt}
 use Rattle.std.proofs.lemmas.List.Elements.{filter_map-append}
+use Rattle.std.proofs.lemmas.List.FromFn.{length-map-range_with_len}
 use Rattle.std.proofs.lemmas.Grind.{drop_more_same}
 use Rattle.clk_packet.specs.declared.packet.Packet.{Packet}
 use Rattle.clk_packet.specs.declared.packet.Offered.{Offered}
 use Rattle.clk_report.specs.Report.{report_text}
-use Rattle.clk_report.specs.Devices.{came_out}
+use Rattle.clk_report.specs.Devices.{came_out, lists_of}
 use Rattle.clk_sched.specs.declared.visit.Visit.{Visit}
 use Rattle.clk_sched.specs.declared.session.departures.Departure.{Departure}
-use Rattle.clk_sched.specs.Kinds.{progress_of}
-use Rattle.clk_sched.specs.Tree.{Tree}
-use Rattle.clk_sched.specs.Log.{pulls}
-use Rattle.clk_sched.specs.Session.{latest_moment, counted_moment}
 use Rattle.clk_sched.specs.Results.{emitted}
-use Rattle.clk_tree.specs.declared.plan.parts.SenderSpec.{SenderSpec}
-use Rattle.clk_tree.specs.PlanParts.{AreRising, SendsWithin}
+use Rattle.clk_packet.specs.Lists.{AreRising}
 use Rattle.clk_script.specs.declared.script.Command.{Command}
 use Rattle.clk_script.specs.declared.script.Command.TheVariants.{Send, Pull}
 use Rattle.clk_script.specs.declared.rows.Row.{Row}
 use Rattle.clk_script.specs.declared.rows.Row.TheVariants as row
 use Rattle.clk_script.specs.declared.past.Past.{Past}
-use Rattle.clk_script.specs.declared.devices.Device.{Device}
-use Rattle.clk_script.specs.declared.router.Router.{Router}
-use Rattle.clk_script.specs.Script.{Names, most_lines, most_moment}
-use Rattle.clk_script.specs.Meaning.{Room, Setup, sender_numbers, names_of, has_several, Event, offered, pulled, command_of, happens_at, events_at, number_from, moment_in, pull_in, accepted_in, log_of, tally_after, event_text, RunsTree, CloseFirst, logs_of, WritesWith}
-use Rattle.clk_script.specs.inside.Router.{IsSentFrom, sender_after, names_in, room_device, IsAt, AreDevicesAt, KeepsAs, KeepsAsAt, device_log, device_emitted, AreLogs, IsPastOf, CanSend, IsWhole, Starts, IsSteady, IsReady, given_kept, LeadsOnByPull, IsReadable}
-use Rattle.clk_script.specs.inside.Closable.{IsClosable, IsClosableRouter}
-use Rattle.clk_script.specs.inside.Rows.{command_asked, asked_by, row_offered, row_pulled, row_of, given_by, IsToDo, CarriesOut, AnswersRows, IsClosedFrom, rows_text, closings_text, are_several, closings_of, given_first, given_of, ending_of}
-use Rattle.clk_script.proofs.EventLemmas.{latest-moment}
-use Rattle.clk_script.proofs.SenderLemmas.{numbers-its, alike-its}
-use Rattle.clk_script.proofs.PlaceLemmas.{number-there}
+use Rattle.clk_script.specs.declared.recorder.Recorder.{Recorder}
+use Rattle.clk_script.specs.Script.{Names, most_lines}
+use Rattle.clk_router.specs.Events.{Setup, sender_numbers, Event, offered, pulled, events_at, log_of, logs_of, tally_after, emitted_in}
+use Rattle.clk_router.specs.Course.{sender_at}
+use Rattle.clk_script.specs.Meaning.{names_of, has_several, command_of, event_text, CloseFirst, Writes}
+use Rattle.clk_script.specs.inside.Recorder.{names_in, numbers_in, IsAt, AreLogs, IsPastOf, Starts, IsReady, given_kept, LeadsOnByPull, IsReadable}
+use Rattle.clk_script.specs.inside.Rows.{command_asked, asked_by, row_offered, row_pulled, row_of, IsToDo, CarriesOut, AnswersRows, IsClosedFrom, rows_text, closings_text, are_several, closings_of, given_first, given_of, ending_of}
 use Rattle.clk_script.proofs.RowLemmas.{rows-written}
-
-length-filter_map-le : {X Y : Type 0} (f : X → Option Y) (xs : List X) → length (filter_map f xs) ≤ length xs
-length-filter_map-le f [] = omega arith
-length-filter_map-le {X} {Y} f (x ∷ xs) = by_case (f x) refl (length-filter_map-le f xs)
-  where
-    by_case : (o : Option Y) → f x ≡ o → length (filter_map f xs) ≤ length xs → length (filter_map f (x ∷ xs)) ≤ length (x ∷ xs)
-    by_case None e h = rw e (omega arith)
-    by_case (Some y) e h = rw e (omega arith)
-
-length-filter-le : {X : Type 0} (f : X → Bool) (xs : List X) → length (filter f xs) ≤ length xs
-length-filter-le f [] = omega arith
-length-filter-le f (x ∷ xs) = by_test (f x) refl (length-filter-le f xs)
-  where
-    by_test : (b : Bool) → f x ≡ b → length (filter f xs) ≤ length xs → length (filter f (x ∷ xs)) ≤ length (x ∷ xs)
-    by_test true e h = rw e (omega arith)
-    by_test false e h = rw e (omega arith)
-
--- each sender can send, where there were few events
-each-sends : (events : List Event) (count : ℕ) (specs : List SenderSpec) → AllByRecursion (SendsWithin count) specs → length events ≤ most_lines → AllByRecursion (CanSend count) (map (sender_after events) specs)
-each-sends events count [] wired few = tt
-each-sends events count (spec ∷ specs) wired few =
-    let sent = length-filter_map-le (number_from spec.number) events in
-    ((wired.0, omega (arith, sent, few)), each-sends events count specs wired.1 few)
-
--- the greatest moment that a device's events hand in, if they are of readable commands, is one of a script
-readable-moments : (setup : Setup) (d : ℕ) (events : List Event) (before : ℕ) → before ≤ most_moment → AllByRecursion IsReadable (map command_of events)
-    → fold max before (filter_map moment_in (events_at setup d events)) ≤ most_moment
-readable-moments setup d [] before h all = h
-readable-moments setup d (offered p outcome ∷ events) before h all = by_test (happens_at setup d (offered p outcome)) refl (readable-moments setup d events before h all.1)
-  where
-    by_test : (b : Bool) → happens_at setup d (offered p outcome) ≡ b → fold max before (filter_map moment_in (events_at setup d events)) ≤ most_moment
-        → fold max before (filter_map moment_in (events_at setup d (offered p outcome ∷ events))) ≤ most_moment
-    by_test true e rest = rw e rest
-    by_test false e rest = rw e rest
-readable-moments setup d (pulled device moment visits ∷ events) before h all =
-    by_test (device == d) refl (readable-moments setup d events (max before moment) (let m = all.0 in omega (arith, m, h)) all.1) (readable-moments setup d events before h all.1)
-  where
-    by_test : (b : Bool) → (device == d) ≡ b → fold max (max before moment) (filter_map moment_in (events_at setup d events)) ≤ most_moment → fold max before (filter_map moment_in (events_at setup d events)) ≤ most_moment
-        → fold max before (filter_map moment_in (events_at setup d (pulled device moment visits ∷ events))) ≤ most_moment
-    by_test true e counted same = rw e counted
-    by_test false e counted same = rw e same
-
--- the device at a place, after few events of readable commands
-steady-at : (setup : Setup) (d : ℕ) (events : List Event) (tree : Option Tree) (at : Option Device) (device : Device) → AreDevicesAt (events_at setup d events) tree at
-    → MatchOption tree ⊤ (λ t. RunsTree t (events_at setup d events)) → at ≡ Some device → length events ≤ most_lines → AllByRecursion IsReadable (map command_of events) → IsSteady device
-steady-at setup d events None None device is runs e few readable = absurd (cc)
-steady-at setup d events None (Some other) device is runs e few readable = absurd is
-steady-at setup d events (Some tree) None device is runs e few readable = absurd is
-steady-at setup d events (Some tree) (Some other) device is runs e few readable = subst IsSteady same (record { few = most; moment = latest; pulls = made })
-  where
-    same : other ≡ device
-    same = cc
-
-    most : other.kept ≤ most_lines
-    most =
-        let kept = is.kept in
-        let accepted = length-filter_map-le accepted_in (events_at setup d events) in
-        let some = length-filter-le (happens_at setup d) events in
-        omega (arith, kept, accepted, some, few)
-
-    made : length (pulls other.session.log) ≤ most_lines
-    made =
-        let all = ap (λ l. length (pulls l)) is.log ∙ ap length runs.pull_by_pull in
-        let fewer = length-filter_map-le pull_in (events_at setup d events) in
-        let some = length-filter-le (happens_at setup d) events in
-        omega (arith, all, fewer, some, few)
-
-    latest : counted_moment (progress_of other.session) ≤ most_moment
-    latest =
-        let counted = ap (λ l. latest_moment (reverse (pulls l))) is.log ∙ latest-moment tree (events_at setup d events) runs in
-        let greatest = readable-moments setup d events 0 (omega arith) readable in
-        omega (arith, counted, greatest)
-
--- what holds of the member at each place holds of all
-all-placed : {X : Type 0} (P : X → Type 0) (xs : List X) → ((i : ℕ) (x : X) → slice_get xs i ≡ Some x → P x) → AllByRecursion P xs
-all-placed P [] h = tt
-all-placed P (x ∷ xs) h = (h 0 x refl, all-placed P xs (λ i. h (suc i)))
-
-all-mapped : {X Y : Type 0} (P : Y → Type 0) (f : X → Y) (xs : List X) → AllByRecursion (λ x. P (f x)) xs → AllByRecursion P (map f xs)
-all-mapped P f [] h = tt
-all-mapped P f (x ∷ xs) h = (h.0, all-mapped P f xs h.1)
-
--- a router after few events of readable commands
-IsReady-at : (setup : Setup) (events : List Event) (router : Router) → IsAt setup events router → IsWhole setup → length events ≤ most_lines → AllByRecursion IsReadable (map command_of events) → IsReady router
-IsReady-at setup events router at whole few readable =
-    record {
-      rising = subst AreRising (sym (numbers-its setup events router at)) whole.rising;
-      can_send =
-          subst (λ count. AllByRecursion (CanSend count) router.senders.items) (sym at.count)
-          (subst (AllByRecursion (CanSend (length setup.queues))) (sym at.senders) (each-sends events (length setup.queues) setup.senders whole.wired few));
-      alike = alike-its setup events router at;
-      path_count = ap length at.paths ∙ length-map setup.queues room_device ∙ sym at.count;
-      paths =
-          subst (AllByRecursion (λ d. d < length router.devices.items)) (sym at.paths)
-          (all-mapped (λ d. d < length router.devices.items) room_device setup.queues (subst (λ n. AllByRecursion (λ (room : Room). room.device < n) setup.queues) (sym at.device_count) whole.paths));
-      steady =
-          all-placed IsSteady router.devices.items
-          (λ d device here. steady-at setup d events (slice_get setup.trees d) (slice_get router.devices.items d) device (at.devices d) (at.can_happen.runs d) here few readable);
-      few = let count = at.device_count in let most = whole.few in omega (arith, count, most);
-    }
+use Rattle.clk_script.proofs.RecorderLemmas.{numbers-its}
 
 -- the commands of rows that are to be carried out are readable
 row-readable : (names : Names) (r : Row) (command : Command) → IsToDo names r → command_asked names r ≡ Some command → IsReadable command
@@ -170,28 +63,28 @@ asked-commands [] = refl
 asked-commands (e ∷ events) = ap (λ l. Some (command_of e) ∷ l) (asked-commands events)
 
 -- No row was carried out, one was, and some were after others.
-pub AnswersRows-none : (router : Router) (asked done : List Row) → asked ≡ [] → done ≡ [] → AnswersRows router router asked done
+pub AnswersRows-none : (router : Recorder) (asked done : List Row) → asked ≡ [] → done ≡ [] → AnswersRows router router asked done
 AnswersRows-none router asked done none nothing =
     λ setup events at.
-    record { more = []; theirs = ap (asked_by (names_of setup)) none; rows = nothing; given = λ several. sym (append-nil router.given.items); visits = refl; leads = subst (λ l. IsAt setup l router) (sym (append-nil events)) at }
+    record { more = []; theirs = ap (asked_by (names_of setup)) none; rows = nothing; given = λ several. sym (append-nil router.given.items); keeps = refl; leads = subst (λ l. IsAt setup l router) (sym (append-nil events)) at }
 
-pub AnswersRows-sent : (old new : Router) (place size : ℕ) (done : Row) (p : Packet) (outcome : Offered) → IsSentFrom old.tallies.items place p → p.length ≡ size → done ≡ row_offered p outcome → new.given ≡ old.given
-    → new.visits ≡ old.visits → ((setup : Setup) (events : List Event) → IsAt setup events old → IsAt setup (events ++ offered p outcome ∷ []) new) → AnswersRows old new (row.Send place size ∷ []) (done ∷ [])
-AnswersRows-sent old new place size done p outcome from long is given visits leads =
+pub AnswersRows-sent : (old new : Recorder) (place size : ℕ) (done : Row) (p : Packet) (outcome : Offered) → sender_at old.router.setup place ≡ Some p.sender → p.length ≡ size → done ≡ row_offered p outcome → new.given ≡ old.given
+    → new.router.keeps ≡ old.router.keeps → ((setup : Setup) (events : List Event) → IsAt setup events old → IsAt setup (events ++ offered p outcome ∷ []) new) → AnswersRows old new (row.Send place size ∷ []) (done ∷ [])
+AnswersRows-sent old new place size done p outcome from long is given keeps leads =
     λ setup events at.
-    let sender : slice_get (sender_numbers setup) place ≡ Some p.sender = ap (λ numbers. slice_get numbers place) (sym (numbers-its setup events old at)) ∙ number-there old.tallies.items p.sender place from in
+    let sender : slice_get (sender_numbers setup) place ≡ Some p.sender = ap (λ (s : Setup). slice_get (sender_numbers s) place) (sym at.setup_is) ∙ from in
     record {
       more = offered p outcome ∷ [];
       theirs = ap₂ (λ (o : Option ℕ) (n : ℕ). option_map (λ s. Send s n) o ∷ []) sender (sym long);
       rows = ap (λ r. r ∷ []) is;
       given = λ several. ap (λ ps. ps.items) given ∙ sym (append-nil old.given.items);
-      visits = visits;
+      keeps = keeps;
       leads = leads setup events at;
     }
 
-pub AnswersRows-pulled : (old new : Router) (device moment : ℕ) (done : Row) (got : Option Packet) → done ≡ row_pulled device moment got → new.given.items ≡ given_kept old got → new.visits ≡ old.visits
+pub AnswersRows-pulled : (old new : Recorder) (device moment : ℕ) (done : Row) (got : Option Packet) → done ≡ row_pulled device moment got → new.given.items ≡ given_kept old got → new.router.keeps ≡ old.router.keeps
     → ((setup : Setup) (events : List Event) → IsAt setup events old → LeadsOnByPull setup new device moment got events) → AnswersRows old new (row.Pull device moment ∷ []) (done ∷ [])
-AnswersRows-pulled old new device moment done got is given visits leads =
+AnswersRows-pulled old new device moment done got is given keeps leads =
     λ setup events at.
     let led = leads setup events at in
     record {
@@ -200,13 +93,13 @@ AnswersRows-pulled old new device moment done got is given visits leads =
       rows = ap (λ r. r ∷ []) (is ∙ ap (row_pulled device moment) (sym led.result));
       given =
           λ several.
-          let many : nat_lt 1 (length old.devices.items) ≡ true = ap (nat_lt 1) at.device_count ∙ several in
+          let many : nat_lt 1 (length old.router.setup.trees) ≡ true = ap (λ (s : Setup). nat_lt 1 (length s.trees)) at.setup_is ∙ several in
           given ∙ rw many (ap (λ g. old.given.items ++ cons_option g []) (sym led.result));
-      visits = visits;
+      keeps = keeps;
       leads = led.leads;
     }
 
-pub AnswersRows-then : (a b c : Router) (asked done later rows : List Row) → AnswersRows a b asked done → AnswersRows b c later rows → AnswersRows a c (asked ++ later) (done ++ rows)
+pub AnswersRows-then : (a b c : Recorder) (asked done later rows : List Row) → AnswersRows a b asked done → AnswersRows b c later rows → AnswersRows a c (asked ++ later) (done ++ rows)
 AnswersRows-then a b c asked done later rows first next =
     λ setup events at.
     let one = first setup events at in
@@ -217,28 +110,35 @@ AnswersRows-then a b c asked done later rows first next =
       rows = ap₂ (λ x y. x ++ y) one.rows two.rows ∙ sym (map-append row_of one.more two.more);
       given =
           λ several.
-          two.given several ∙ ap (λ l. l ++ filter_map given_by two.more) (one.given several) ∙ append_assoc a.given.items (filter_map given_by one.more) (filter_map given_by two.more)
-          ∙ ap (λ l. a.given.items ++ l) (sym (filter_map-append given_by one.more two.more));
-      visits = two.visits ∙ one.visits;
+          two.given several ∙ ap (λ l. l ++ filter_map emitted_in two.more) (one.given several) ∙ append_assoc a.given.items (filter_map emitted_in one.more) (filter_map emitted_in two.more)
+          ∙ ap (λ l. a.given.items ++ l) (sym (filter_map-append emitted_in one.more two.more));
+      keeps = two.keeps ∙ one.keeps;
       leads = subst (λ l. IsAt setup l c) (append_assoc events one.more two.more) two.leads;
     }
 
 -- what a script may name over a router is what it may name over its setup
-pub names-its : (setup : Setup) (events : List Event) (router : Router) → IsAt setup events router → names_in router ≡ names_of setup
-names-its setup events router at = λ i. record { senders = numbers-its setup events router at i; devices = at.device_count i }
+pub names-its : (setup : Setup) (events : List Event) (router : Recorder) → IsAt setup events router → names_in router ≡ names_of setup
+names-its setup events router at = ap names_of at.setup_is
 
 -- A router over which some rows were carried out can carry out more, and what a script may name over it is as before.
-pub IsReady-answered : (setup : Setup) (old new : Router) (asked done : List Row) → Starts setup old → AllByRecursion (IsToDo (names_in old)) asked → length asked ≤ most_lines → AnswersRows old new asked done
+pub IsReady-answered : (setup : Setup) (old new : Recorder) (asked done : List Row) → Starts setup old → AllByRecursion (IsToDo (names_in old)) asked → length asked ≤ most_lines → AnswersRows old new asked done
     → IsReady new × (names_in new ≡ names_in old)
 IsReady-answered setup old new asked done starts to_do few answers =
     let carried = answers setup [] starts.leads in
+    let at = carried.leads in
     let named : AllByRecursion (IsToDo (names_of setup)) asked = subst (λ names. AllByRecursion (IsToDo names) asked) (names-its setup [] old starts.leads) to_do in
     let count : length asked ≡ length carried.more =
     sym (length-map asked (command_asked (names_of setup))) ∙ ap length carried.theirs ∙ length-map carried.more (λ e. Some (command_of e))
-    in (
-      IsReady-at setup carried.more new carried.leads starts.whole (omega (arith, count, few))
-          (each-readable (names_of setup) asked (map command_of carried.more) named (carried.theirs ∙ asked-commands carried.more)),
-      names-its setup carried.more new carried.leads ∙ sym (names-its setup [] old starts.leads),
+    in
+    let readable = each-readable (names_of setup) asked (map command_of carried.more) named (carried.theirs ∙ asked-commands carried.more) in
+    let alike : numbers_in new.tallies.items ≡ sender_numbers new.router.setup = numbers-its setup carried.more new at ∙ ap sender_numbers (sym at.setup_is) in (
+      record {
+        few = subst (λ l. length l ≤ most_lines) (sym at.events_are) (omega (arith, count, few));
+        readable = subst (λ l. AllByRecursion IsReadable (map command_of l)) (sym at.events_are) readable;
+        alike = alike;
+        rising = subst AreRising (sym (numbers-its setup carried.more new at)) starts.rising;
+      },
+      names-its setup carried.more new at ∙ sym (names-its setup [] old starts.leads),
     )
 
 -- what holds of each holds of those in front, and of the one at a place
@@ -252,13 +152,13 @@ all-at P (x ∷ xs) zero d within h = h.0
 all-at P (x ∷ xs) (suc i) d within h = all-at P xs i d (omega arith) h.1
 
 -- The rows before a place are carried out, and the others are as they were.
-pub record IsCarriedTo (old new : Router) (asked rows : List Row) (i : ℕ) : Type 0 where
+pub record IsCarriedTo (old new : Recorder) (asked rows : List Row) (i : ℕ) : Type 0 where
   pub within : i ≤ length rows
   pub count : length rows ≡ length asked
   pub left : drop i rows ≡ drop i asked
   pub answers : AnswersRows old new (take i asked) (take i rows)
 
-pub IsCarriedTo-none : (router : Router) (rows : List Row) → IsCarriedTo router router rows rows 0
+pub IsCarriedTo-none : (router : Recorder) (rows : List Row) → IsCarriedTo router router rows rows 0
 IsCarriedTo-none router rows = record { within = omega arith; count = refl; left = refl; answers = AnswersRows-none router [] [] refl refl }
 
 -- the row at the place is the one that was asked for
@@ -268,7 +168,7 @@ still-asked asked rows i row within count left is =
     let same : get_or rows i row ≡ get_or asked i row = cc first in
     sym (is ∙ same)
 
-pub IsCarriedTo-ready : (setup : Setup) (old new : Router) (asked rows : List Row) (i : ℕ) (row : Row) → Starts setup old → AllByRecursion (IsToDo (names_in old)) asked → length asked ≤ most_lines
+pub IsCarriedTo-ready : (setup : Setup) (old new : Recorder) (asked rows : List Row) (i : ℕ) (row : Row) → Starts setup old → AllByRecursion (IsToDo (names_in old)) asked → length asked ≤ most_lines
     → IsCarriedTo old new asked rows i → i < length rows → row ≡ get_or rows i row → IsReady new × IsToDo (names_in new) row
 IsCarriedTo-ready setup old new asked rows i row starts to_do few carried within is =
     let front = all-front (IsToDo (names_in old)) (take i asked) (drop i asked) (subst (AllByRecursion (IsToDo (names_in old))) (sym (take-append-drop i asked)) to_do) in
@@ -278,7 +178,7 @@ IsCarriedTo-ready setup old new asked rows i row starts to_do few carried within
     let here = subst (IsToDo (names_in old)) (still-asked asked rows i row within carried.count carried.left is) (all-at (IsToDo (names_in old)) asked i row inside to_do) in
     (ready.0, subst (λ names. IsToDo names row) (sym ready.1) here)
 
-pub IsCarriedTo-more : (old mid new : Router) (asked rows : List Row) (i : ℕ) (row done : Row) → IsCarriedTo old mid asked rows i → i < length rows → row ≡ get_or rows i row → AnswersRows mid new (row ∷ []) (done ∷ [])
+pub IsCarriedTo-more : (old mid new : Recorder) (asked rows : List Row) (i : ℕ) (row done : Row) → IsCarriedTo old mid asked rows i → i < length rows → row ≡ get_or rows i row → AnswersRows mid new (row ∷ []) (done ∷ [])
     → IsCarriedTo old new asked (set rows i done) (i + 1)
 IsCarriedTo-more old mid new asked rows i row done carried within is answers =
     record {
@@ -294,31 +194,10 @@ IsCarriedTo-more old mid new asked rows i row done carried within is answers =
     inside : i < length asked
     inside = let count = carried.count in omega (arith, within, count)
 
-pub all-answered : (old new : Router) (asked rows : List Row) (i : ℕ) → IsCarriedTo old new asked rows i → length rows ≤ i → AnswersRows old new asked rows
+pub all-answered : (old new : Recorder) (asked rows : List Row) (i : ℕ) → IsCarriedTo old new asked rows i → length rows ≤ i → AnswersRows old new asked rows
 all-answered old new asked rows i carried all =
     let count = carried.count in
     subst (λ l. AnswersRows old new l rows) (take_all i asked (omega (arith, count, all))) (subst (λ l. AnswersRows old new (take i asked) l) (take_all i rows all) carried.answers)
-
--- the logs of a router's devices, by number
-logs-placed : (devices : List Device) (f : ℕ → List Visit) (n : ℕ) → ((i : ℕ) (device : Device) → slice_get devices i ≡ Some device → device_log device ≡ f (n + i))
-    → map device_log devices ≡ map f (range_with_len n (length devices))
-logs-placed [] f n h = refl
-logs-placed (device ∷ devices) f n h =
-    let first : n + 0 ≡ n = omega arith in
-    ap₂ (λ l ls. l ∷ ls) (h 0 device refl ∙ ap f first)
-    (logs-placed devices f (n + 1) (λ i other here. let next : n + suc i ≡ n + 1 + i = omega arith in h (suc i) other here ∙ ap f next))
-
-log-at : (events : List Event) (tree : Option Tree) (at : Option Device) (device : Device) → AreDevicesAt events tree at → at ≡ Some device → device_log device ≡ log_of events
-log-at events None None device is e = absurd (cc)
-log-at events None (Some other) device is e = absurd is
-log-at events (Some tree) None device is e = absurd is
-log-at events (Some tree) (Some other) device is e = let same : other ≡ device = cc in ap device_log (sym same) ∙ is.log
-
-logs-its : (setup : Setup) (events : List Event) (router : Router) → IsAt setup events router → map device_log router.devices.items ≡ logs_of setup events
-logs-its setup events router at =
-    logs-placed router.devices.items (λ d. log_of (events_at setup d events)) 0
-    (λ d device here. log-at (events_at setup d events) (slice_get setup.trees d) (slice_get router.devices.items d) device (at.devices d) here ∙ ap (λ k. log_of (events_at setup k events)) (sym (zero-add d)))
-    ∙ ap (λ n. map (λ d. log_of (events_at setup d events)) (range_with_len 0 n)) at.device_count
 
 -- lists of what members become, joined
 flat-mapped : {X Y Z : Type 0} (f : Y → List Z) (g : X → Y) (xs : List X) → flat_map f (map g xs) ≡ flat_map (λ x. f (g x)) xs
@@ -326,7 +205,7 @@ flat-mapped f g [] = refl
 flat-mapped f g (x ∷ xs) = ap (λ l. f (g x) ++ l) (flat-mapped f g xs)
 
 -- A router over which all commands of a script were carried out, from what was kept of it, and what was kept when it ended.
-module _ (setup : Setup) (old mid : Router) (commands : List Command) (asked done : List Row) (starts : Starts setup old) (are : asked_by (names_in old) asked ≡ map Some commands) (answers : AnswersRows old mid asked done) where
+module _ (setup : Setup) (old mid : Recorder) (commands : List Command) (asked done : List Row) (starts : Starts setup old) (are : asked_by (names_in old) asked ≡ map Some commands) (answers : AnswersRows old mid asked done) where
   carried : CarriesOut setup old mid asked done []
   carried = answers setup [] starts.leads
 
@@ -336,51 +215,56 @@ module _ (setup : Setup) (old mid : Router) (commands : List Command) (asked don
       (sym (asked-commands carried.more) ∙ sym carried.theirs ∙ subst (λ names. asked_by names asked ≡ map Some commands) (names-its setup [] old starts.leads) are)
 
   -- the pulls' packets that were kept, where there are several devices
-  kept : has_several setup ≡ true → mid.given.items ≡ filter_map given_by carried.more
-  kept several = carried.given several ∙ ap (λ l. l ++ filter_map given_by carried.more) starts.given
+  kept : has_several setup ≡ true → mid.given.items ≡ filter_map emitted_in carried.more
+  kept several = carried.given several ∙ ap (λ l. l ++ filter_map emitted_in carried.more) starts.given
 
   -- what a router that went on with these events did
-  module _ (new : Router) (past : Past) (later : List Event) (at : IsAt setup (carried.more ++ later) new) (given : new.given ≡ mid.given) (is : IsPastOf new past) where
+  module _ (new : Recorder) (past : Past) (later : List Event) (at : IsAt setup (carried.more ++ later) new) (given : new.given ≡ mid.given) (is : IsPastOf new past) where
+    its_logs : logs_of new.router.setup new.router.events ≡ logs_of setup (carried.more ++ later)
+    its_logs = λ i. logs_of (at.setup_is i) (at.events_are i)
+
+    came : lists_of past.came_out.items ≡ map emitted (logs_of setup (carried.more ++ later))
+    came = is.came_out ∙ ap (map emitted) its_logs
+
     several : are_several past ≡ has_several setup
     several =
         ap (nat_lt 1)
-        (sym (length-map past.came_out.items (λ l. l.items)) ∙ ap length is.came_out ∙ length-map new.devices.items device_emitted ∙ at.device_count)
+        (sym (length-map past.came_out.items (λ l. l.items)) ∙ ap length came ∙ length-map (logs_of setup (carried.more ++ later)) emitted
+        ∙ length-map-range_with_len (λ d. log_of (events_at setup d (carried.more ++ later))) 0 (length setup.trees))
 
     -- the lines of the commands, whatever the router did later
     lines : rows_text (are_several past) done (given_of past) past.put_out.items ≡ flat_map (event_text (has_several setup)) carried.more
     lines =
         ap (λ b. rows_text b done (given_of past) past.put_out.items) several
-        ∙ ap₂ (λ came_out fronts. rows_text (has_several setup) done (given_first came_out past.given.items) fronts) is.came_out is.put_out
-        ∙ ap (λ rows. rows_text (has_several setup) rows (given_first (map device_emitted new.devices.items) past.given.items) new.evicted.items) carried.rows
-        ∙ rows-written setup carried.more later new past.given.items starts.whole.some at (λ many. is.given ∙ ap (λ ps. ps.items) given ∙ kept many)
+        ∙ ap (λ came_out. rows_text (has_several setup) done (given_first came_out past.given.items) past.put_out.items) came
+        ∙ ap (λ rows. rows_text (has_several setup) rows (given_first (map emitted (logs_of setup (carried.more ++ later))) past.given.items) past.put_out.items) carried.rows
+        ∙ rows-written setup carried.more later past.given.items past.put_out.items starts.some at.can_happen (is.put_out ∙ at.evicted) (λ many. is.given ∙ ap (λ ps. ps.items) given ∙ kept many)
 
-    logs : map device_log new.devices.items ≡ logs_of setup (carried.more ++ later)
-    logs = logs-its setup (carried.more ++ later) new at
+    logs : AreLogs new.router.keeps.visits past (logs_of setup (carried.more ++ later))
+    logs are_kept = is.logs are_kept ∙ its_logs
 
     report : report_text (came_out past.came_out.items) past.tallies.items
         ≡ report_text (flat_map emitted (logs_of setup (carried.more ++ later))) (map (tally_after (carried.more ++ later)) (sender_numbers setup))
     report =
         ap₂ report_text
-        (sym (flat-mapped (λ l. l) (λ (l : Vec Packet Global). l.items) past.came_out.items) ∙ ap (flat_map (λ l. l)) is.came_out ∙ flat-mapped (λ l. l) device_emitted new.devices.items
-        ∙ sym (flat-mapped emitted device_log new.devices.items) ∙ ap (flat_map emitted) logs)
+        (sym (flat-mapped (λ l. l) (λ (l : Vec Packet Global). l.items) past.came_out.items) ∙ ap (flat_map (λ l. l)) came ∙ flat-mapped (λ l. l) emitted (logs_of setup (carried.more ++ later)))
         (is.tallies ∙ at.tallies)
 
   -- What it comes to, without a closing and with one.
-  pub Writes-answered : (new : Router) (past : Past) (drain : Option ℕ) (closings : Option (List (List Departure))) → IsClosedFrom mid new drain closings → IsPastOf new past
-      → (logs : List (List Visit)) × AreLogs old.visits past logs × WritesWith setup commands drain (rows_text (are_several past) done (given_of past) past.put_out.items ++ ending_of past closings) logs
+  pub Writes-answered : (new : Recorder) (past : Past) (drain : Option ℕ) (closings : Option (List (List Departure))) → IsClosedFrom mid new drain closings → IsPastOf new past
+      → (logs : List (List Visit)) × AreLogs old.router.keeps.visits past logs × Writes setup commands drain (rows_text (are_several past) done (given_of past) past.put_out.items ++ ending_of past closings) logs
   Writes-answered new past None None closed is =
-      let at : IsAt setup (carried.more ++ []) new = subst (λ l. IsAt setup l new) (sym (append-nil carried.more)) (subst (λ (r : Router). IsAt setup carried.more r) (sym closed) carried.leads) in (
+      let at : IsAt setup (carried.more ++ []) new = subst (λ l. IsAt setup l new) (sym (append-nil carried.more)) (subst (λ (r : Recorder). IsAt setup carried.more r) (sym closed) carried.leads) in
+      let keeps = ap (λ (r : Recorder). r.router.keeps) closed ∙ carried.keeps in (
         logs_of setup (carried.more ++ []),
-        (λ kept. is.logs (ap (λ (r : Router). r.visits) closed ∙ carried.visits ∙ kept) ∙ logs new past [] at (ap (λ (r : Router). r.given) closed) is),
+        (λ kept. logs new past [] at (ap (λ (r : Recorder). r.given) closed) is (ap (λ k. k.visits) keeps ∙ kept)),
         record {
-          writes = record {
-            events = carried.more;
-            theirs = theirs;
-            closed = [];
-            closes = refl;
-            can_happen = at.can_happen;
-            lines = ap (λ l. l ++ []) (lines new past [] at (ap (λ (r : Router). r.given) closed) is);
-          };
+          events = carried.more;
+          theirs = theirs;
+          closed = [];
+          closes = refl;
+          can_happen = at.can_happen;
+          lines = ap (λ l. l ++ []) (lines new past [] at (ap (λ (r : Recorder). r.given) closed) is);
           logged = refl;
         },
       )
@@ -388,60 +272,50 @@ module _ (setup : Setup) (old mid : Router) (commands : List Command) (asked don
   Writes-answered new past (Some moment) None closed is = absurd closed
   Writes-answered new past (Some moment) (Some closings) closed is =
       let closes = closed.closes setup carried.more carried.leads in
-      let at = closes.closing.leads in (
+      let at = closes.closing.leads in
+      let keeps = closed.keeps ∙ carried.keeps in (
         logs_of setup (carried.more ++ closes.closing.closed),
-        (λ kept. is.logs (closed.visits ∙ carried.visits ∙ kept) ∙ logs new past closes.closing.closed at closed.given is),
+        (λ kept. logs new past closes.closing.closed at closed.given is (ap (λ k. k.visits) keeps ∙ kept)),
         record {
-          writes = record {
-            events = carried.more;
-            theirs = theirs;
-            closed = closes.closing.closed;
-            closes = subst (λ n. CloseFirst setup moment n carried.more closes.closing.closed) (carried.leads.device_count) closes.closing.closes;
-            can_happen = at.can_happen;
-            lines =
-                ap₂ (λ a b. a ++ b) (lines new past closes.closing.closed at closed.given is)
-                (ap₂ (λ a b. a ++ b) (ap (λ b. closings_text b 0 closings) (several new past closes.closing.closed at closed.given is) ∙ sym closes.lines) (report new past closes.closing.closed at closed.given is));
-          };
+          events = carried.more;
+          theirs = theirs;
+          closed = closes.closing.closed;
+          closes = subst (λ n. CloseFirst setup moment n carried.more closes.closing.closed) (ap (λ (s : Setup). length s.trees) carried.leads.setup_is) closes.closing.closes;
+          can_happen = at.can_happen;
+          lines =
+              ap₂ (λ a b. a ++ b) (lines new past closes.closing.closed at closed.given is)
+              (ap₂ (λ a b. a ++ b) (ap (λ b. closings_text b 0 closings) (several new past closes.closing.closed at closed.given is) ∙ sym closes.lines) (report new past closes.closing.closed at closed.given is));
           logged = refl;
         },
       )
 
--- A router stands where commands led, and can be closed.
-pub closable-answered : (setup : Setup) (old mid : Router) (asked done : List Row) → Starts setup old → IsClosable setup → AnswersRows old mid asked done → IsClosableRouter mid
-closable-answered setup old mid asked done starts closable answers = let carried = answers setup [] starts.leads in record { setup = setup; closable = closable; events = carried.more; leads = carried.leads }
-
--- A router has as many devices as before, whatever it did.
-count-closed : (mid new : Router) (drain : Option ℕ) (closings : Option (List (List Departure))) → IsClosedFrom mid new drain closings → length new.devices.items ≡ length mid.devices.items
-count-closed mid new None None closed = ap (λ (r : Router). length r.devices.items) closed
-count-closed mid new None (Some closings) closed = absurd closed
-count-closed mid new (Some moment) None closed = absurd closed
-count-closed mid new (Some moment) (Some closings) closed = closed.count
-
--- what devices keep, whatever happened
-kinds-all : (setup : Setup) (events : List Event) (router : Router) → IsAt setup events router → AllByRecursion (KeepsAs router.visits) router.devices.items
-kinds-all setup events router at = all-placed (KeepsAs router.visits) router.devices.items (λ d device here. subst (KeepsAsAt router.visits) here (at.kinds d))
-
--- A router over which rows were carried out has as many devices as before. So has one that was closed then, whose devices keep what they did.
-module _ (setup : Setup) (old mid : Router) (asked done : List Row) (starts : Starts setup old) (answers : AnswersRows old mid asked done) where
+-- Whatever was carried out and closed, a router has its devices, and keeps what it did.
+module _ (setup : Setup) (old mid : Recorder) (asked done : List Row) (starts : Starts setup old) (answers : AnswersRows old mid asked done) where
   carried_to : CarriesOut setup old mid asked done []
   carried_to = answers setup [] starts.leads
 
-  kept-devices : length mid.devices.items ≡ length old.devices.items
-  kept-devices = carried_to.leads.device_count ∙ sym starts.leads.device_count
+  same_setup : mid.router.setup ≡ old.router.setup
+  same_setup = carried_to.leads.setup_is ∙ sym starts.leads.setup_is
 
-  pub devices-kept : (new : Router) (past : Past) (drain : Option ℕ) (closings : Option (List (List Departure))) → IsClosedFrom mid new drain closings → IsPastOf new past → length past.came_out.items ≡ length old.devices.items
+  setup-closed : (new : Recorder) (drain : Option ℕ) (closings : Option (List (List Departure))) → IsClosedFrom mid new drain closings → new.router.setup ≡ setup
+  setup-closed new None None closed = ap (λ (r : Recorder). r.router.setup) closed ∙ carried_to.leads.setup_is
+  setup-closed new None (Some closings) closed = absurd closed
+  setup-closed new (Some moment) None closed = absurd closed
+  setup-closed new (Some moment) (Some closings) closed = (closed.closes setup carried_to.more carried_to.leads).closing.leads.setup_is
+
+  pub devices-kept : (new : Recorder) (past : Past) (drain : Option ℕ) (closings : Option (List (List Departure))) → IsClosedFrom mid new drain closings → IsPastOf new past → length past.came_out.items ≡ length old.router.setup.trees
   devices-kept new past drain closings closed is =
-      sym (length-map past.came_out.items (λ l. l.items)) ∙ ap length is.came_out ∙ length-map new.devices.items device_emitted ∙ count-closed mid new drain closings closed ∙ kept-devices
+      sym (length-map past.came_out.items (λ l. l.items)) ∙ ap length is.came_out ∙ length-map (logs_of new.router.setup new.router.events) emitted
+      ∙ length-map-range_with_len (λ d. log_of (events_at new.router.setup d new.router.events)) 0 (length new.router.setup.trees)
+      ∙ ap (λ (s : Setup). length s.trees) (setup-closed new drain closings closed ∙ sym starts.leads.setup_is)
 
-  pub closings-kept : (new : Router) (drain : Option ℕ) (closings : Option (Vec (Vec Departure Global) Global)) → IsClosedFrom mid new drain (closings_of closings) → IfSome closings (λ cs. length cs.items ≡ length old.devices.items)
+  pub closings-kept : (new : Recorder) (drain : Option ℕ) (closings : Option (Vec (Vec Departure Global) Global)) → IsClosedFrom mid new drain (closings_of closings) → IfSome closings (λ cs. length cs.items ≡ length old.router.setup.trees)
   closings-kept new drain None closed = tt
   closings-kept new None (Some closings) closed = absurd closed
-  closings-kept new (Some moment) (Some closings) closed = sym (length-map closings.items (λ l. l.items)) ∙ closed.closings_count ∙ kept-devices
+  closings-kept new (Some moment) (Some closings) closed = sym (length-map closings.items (λ l. l.items)) ∙ closed.closings_count ∙ ap (λ (s : Setup). length s.trees) same_setup
 
-  pub kinds-kept : (new : Router) (drain : Option ℕ) (closings : Option (List (List Departure))) → IsClosedFrom mid new drain closings → AllByRecursion (KeepsAs new.visits) new.devices.items
-  kinds-kept new None None closed = subst (λ (r : Router). AllByRecursion (KeepsAs r.visits) r.devices.items) (sym closed) (kinds-all setup carried_to.more mid carried_to.leads)
-  kinds-kept new None (Some closings) closed = absurd closed
-  kinds-kept new (Some moment) None closed = absurd closed
-  kinds-kept new (Some moment) (Some closings) closed =
-      let closes = closed.closes setup carried_to.more carried_to.leads in
-      kinds-all setup (carried_to.more ++ closes.closing.closed) new closes.closing.leads
+  pub keeps-packets : (new : Recorder) (drain : Option ℕ) (closings : Option (List (List Departure))) → IsClosedFrom mid new drain closings → new.router.keeps.packets ≡ true
+  keeps-packets new None None closed = ap (λ (r : Recorder). r.router.keeps.packets) closed ∙ ap (λ k. k.packets) carried_to.keeps ∙ starts.keeps
+  keeps-packets new None (Some closings) closed = absurd closed
+  keeps-packets new (Some moment) None closed = absurd closed
+  keeps-packets new (Some moment) (Some closings) closed = ap (λ k. k.packets) (closed.keeps ∙ carried_to.keeps) ∙ starts.keeps

@@ -1,22 +1,18 @@
 -- How the devices of a router are closed one after the other.
-use Rattle.std.proofs.Common.{◌≡◌, ℕ, ◌+◌, ◌<◌, ◌≤◌, ◌==◌, zero, suc, Bool, false, List, [], ◌∷◌, ◌++◌, length, slice_get, refl, sym, ap, ap₂, subst, ◌∙◌, append_assoc, append-nil, add-one, arith}
-use Rattle.std.specs.List.{flat_map, AllByRecursion}
+use Rattle.std.proofs.Common.{◌≡◌, ℕ, ◌+◌, ◌<◌, ◌≤◌, ◌==◌, suc, Bool, false, List, [], ◌∷◌, ◌++◌, length, refl, sym, ap, ap₂, subst, ◌∙◌, append_assoc, append-nil, add-one, arith}
+use Rattle.std.specs.List.{flat_map}
 use Rattle.std.proofs.lemmas.List.{length-append}
 use Rattle.std.proofs.lemmas.List.Concat.{flat_map-append}
 use Rattle.std.proofs.lemmas.Bool.Decides.{nat_tests}
 use Rattle.clk_sched.specs.declared.session.departures.Departure.{Departure}
-use Rattle.clk_script.specs.declared.devices.Device.{Device}
-use Rattle.clk_script.specs.declared.router.Router.{Router}
-use Rattle.clk_script.specs.Meaning.{Setup, has_several, Event, closing_text}
-use Rattle.clk_script.specs.inside.Router.{IsAt, IsSteady, IsSteadyAt, ChangesDevice, departure_text, LeadsOnByDrain}
-use Rattle.clk_script.specs.inside.Closable.{IsClosableRouter}
+use Rattle.clk_script.specs.declared.recorder.Recorder.{Recorder}
+use Rattle.clk_router.specs.Events.{Setup, Event}
+use Rattle.clk_script.specs.Meaning.{has_several, closing_text}
+use Rattle.clk_script.specs.inside.Recorder.{IsAt, IsReady, departure_text, LeadsOnByDrain, StaysElsewhere}
+use Rattle.clk_router.specs.Course.{events_of, CanClose}
+use Rattle.clk_script.specs.Script.{most_moment}
 use Rattle.clk_script.specs.inside.Rows.{closings_text, ClosesFirst, IsClosedAt}
-
--- the numbers of each device are those of a script
-pub steady-there : (devices : List Device) (d : ℕ) → AllByRecursion IsSteady devices → d < length devices → IsSteadyAt (slice_get devices d)
-steady-there [] d all within = absurd (omega arith)
-steady-there (device ∷ devices) zero all within = all.0
-steady-there (device ∷ devices) (suc d) all within = steady-there devices d all.1 (omega arith)
+use Rattle.clk_script.proofs.RecorderLemmas.{can-close, CanClose-still}
 
 -- the closings of some devices, and of one more
 closings-more : (several : Bool) (device : ℕ) (closings : List (List Departure)) (departures : List Departure)
@@ -30,56 +26,52 @@ closings-more several device (first ∷ closings) departures =
     ∙ sym (append_assoc (flat_map (departure_text several device) first) (closings_text several (device + 1) closings) (flat_map (departure_text several (device + 1 + length closings)) departures))
     ∙ ap (λ n. (flat_map (departure_text several device) first ++ closings_text several (device + 1) closings) ++ flat_map (departure_text several n) departures) later
 
--- The devices before a number were closed, and the others are as they were.
-pub record IsClosedTo (old new : Router) (moment : ℕ) (closings : List (List Departure)) (d : ℕ) : Type 0 where
-  pub within : d ≤ length old.devices.items
-  pub count : length new.devices.items ≡ length old.devices.items
-  pub later : (k : ℕ) → d ≤ k → slice_get new.devices.items k ≡ slice_get old.devices.items k
+-- The devices before a number were closed, and at the others nothing has happened since.
+pub record IsClosedTo (old new : Recorder) (moment : ℕ) (closings : List (List Departure)) (d : ℕ) : Type 0 where
+  pub within : d ≤ length old.router.setup.trees
+  pub setup : new.router.setup ≡ old.router.setup
+  pub later : (k : ℕ) → d ≤ k → events_of new.router k ≡ events_of old.router k
   pub closings_count : length closings ≡ d
   pub given : new.given ≡ old.given
-  pub visits : new.visits ≡ old.visits
+  pub keeps : new.router.keeps ≡ old.router.keeps
   pub closes : (setup : Setup) (events : List Event) → IsAt setup events old → ClosesFirst setup new moment d closings events
 
-pub IsClosedTo-none : (router : Router) (moment : ℕ) (closings : List (List Departure)) → closings ≡ [] → IsClosedTo router router moment closings 0
-IsClosedTo-none router moment closings none =
+pub IsClosedTo-none : (r : Recorder) (moment : ℕ) (closings : List (List Departure)) → closings ≡ [] → IsClosedTo r r moment closings 0
+IsClosedTo-none r moment closings none =
     record {
       within = omega arith;
-      count = refl;
+      setup = refl;
       later = λ k below. refl;
       closings_count = ap length none;
       given = refl;
-      visits = refl;
+      keeps = refl;
       closes = λ setup events at. record {
-        closing = record { closed = []; closes = refl; leads = subst (λ l. IsAt setup l router) (sym (append-nil events)) at };
+        closing = record { closed = []; closes = refl; leads = subst (λ l. IsAt setup l r) (sym (append-nil events)) at };
         lines = ap (closings_text (has_several setup) 0) (sym none);
       };
     }
 
 -- the next device can be drained
-pub IsClosedTo-steady : (old new : Router) (moment : ℕ) (closings : List (List Departure)) (d : ℕ) → IsClosedTo old new moment closings d → AllByRecursion IsSteady old.devices.items → d < length new.devices.items
-    → IsSteadyAt (slice_get new.devices.items d)
-IsClosedTo-steady old new moment closings d closed steady within =
-    subst IsSteadyAt (sym (closed.later d (omega arith))) (steady-there old.devices.items d steady (let count = closed.count in omega (arith, count, within)))
-
-pub IsClosedTo-closable : (old new : Router) (moment : ℕ) (closings : List (List Departure)) (d : ℕ) → IsClosedTo old new moment closings d → IsClosableRouter old → IsClosableRouter new
-IsClosedTo-closable old new moment closings d closed can =
-    let done = (closed.closes can.setup can.events can.leads).closing in record { setup = can.setup; closable = can.closable; events = can.events ++ done.closed; leads = done.leads }
+pub IsClosedTo-can : (old new : Recorder) (moment : ℕ) (closings : List (List Departure)) (d : ℕ) → IsClosedTo old new moment closings d → IsReady old → moment ≤ most_moment → d < length new.router.setup.trees → CanClose new.router d moment
+IsClosedTo-can old new moment closings d closed ready low within =
+    CanClose-still old.router new.router d moment closed.setup (closed.later d (omega arith))
+    (can-close old ready d moment (subst (λ (s : Setup). d < length s.trees) closed.setup within) low)
 
 -- One device more was drained.
-pub IsClosedTo-more : (old mid new : Router) (moment : ℕ) (closings : List (List Departure)) (d : ℕ) (departures : List Departure) → IsClosedTo old mid moment closings d → d < length mid.devices.items
-    → ChangesDevice mid.devices.items d new.devices.items → new.given ≡ mid.given → new.visits ≡ mid.visits → ((setup : Setup) (events : List Event) → IsAt setup events mid → LeadsOnByDrain setup new d moment events departures)
-    → IsClosedTo old new moment (closings ++ departures ∷ []) (d + 1)
-IsClosedTo-more old mid new moment closings d departures closed within changes given visits leads =
+pub IsClosedTo-more : (old mid new : Recorder) (moment : ℕ) (closings : List (List Departure)) (d : ℕ) (departures : List Departure) → IsClosedTo old mid moment closings d → d < length mid.router.setup.trees
+    → StaysElsewhere d mid.router new.router → new.router.setup ≡ mid.router.setup → new.given ≡ mid.given → new.router.keeps ≡ mid.router.keeps
+    → ((setup : Setup) (events : List Event) → IsAt setup events mid → LeadsOnByDrain setup new d moment events departures) → IsClosedTo old new moment (closings ++ departures ∷ []) (d + 1)
+IsClosedTo-more old mid new moment closings d departures closed within elsewhere setup_is given keeps leads =
     subst (IsClosedTo old new moment (closings ++ departures ∷ [])) (sym (add-one d)) (record {
-      within = let count = closed.count in omega (arith, count, within);
-      count = changes.count ∙ closed.count;
+      within = let count = ap (λ (s : Setup). length s.trees) closed.setup in omega (arith, count, within);
+      setup = setup_is ∙ closed.setup;
       later =
           λ k below.
           let other : (d == k) ≡ false = grind (arith, nat_tests) in
-          changes.others k other ∙ closed.later k (omega (arith, below));
+          elsewhere k other ∙ closed.later k (omega (arith, below));
       closings_count = length-append closings (departures ∷ []) ∙ ap (λ n. n + 1) closed.closings_count ∙ add-one d;
       given = given ∙ closed.given;
-      visits = visits ∙ closed.visits;
+      keeps = keeps ∙ closed.keeps;
       closes = closes;
     })
   where
@@ -102,9 +94,9 @@ IsClosedTo-more old mid new moment closings d departures closed within changes g
         }
 
 -- All were.
-pub all-closed : (old new : Router) (moment : ℕ) (closings : List (List Departure)) (d : ℕ) → IsClosedTo old new moment closings d → length new.devices.items ≤ d → IsClosedAt old new moment closings
+pub all-closed : (old new : Recorder) (moment : ℕ) (closings : List (List Departure)) (d : ℕ) → IsClosedTo old new moment closings d → length new.router.setup.trees ≤ d → IsClosedAt old new moment closings
 all-closed old new moment closings d closed all =
     let within = closed.within in
-    let count = closed.count in
-    let same : d ≡ length old.devices.items = omega (arith, within, count, all) in
-    record { count = count; closings_count = closed.closings_count ∙ same; given = closed.given; visits = closed.visits; closes = subst (λ n. (setup : Setup) (events : List Event) → IsAt setup events old → ClosesFirst setup new moment n closings events) same closed.closes }
+    let count = ap (λ (s : Setup). length s.trees) closed.setup in
+    let same : d ≡ length old.router.setup.trees = omega (arith, within, count, all) in
+    record { closings_count = closed.closings_count ∙ same; given = closed.given; keeps = closed.keeps; closes = subst (λ n. (setup : Setup) (events : List Event) → IsAt setup events old → ClosesFirst setup new moment n closings events) same closed.closes }

@@ -14,10 +14,11 @@ use Rattle.clk_tree.specs.declared.plan.parts.SenderSpec.{SenderSpec}
 use Rattle.clk_tree.specs.PlanParts.{number_of}
 use Rattle.clk_report.specs.Report.{report_text}
 use Rattle.clk_script.specs.Script.{closing_moment}
-use Rattle.clk_script.specs.Meaning.{Room, Setup, sender_numbers, names_of, has_several, is_of_device, Event, offered, pulled, command_of, happens_at, events_at, log_of, logs_of, tally_after, answers_in, at_queue, history, IsOfDevice, event_text, given_text, closing_text, RunsTree, CanHappen, pulls_from, Closes, CloseFirst, IsClosed, ending_text, IsMeaning}
-use Rattle.clk_script.specs.inside.Router.{IsSound}
+use Rattle.clk_router.specs.Events.{Room, Setup, sender_numbers, is_of_device, Event, offered, pulled, happens_at, events_at, log_of, logs_of, tally_after, answers_in, at_queue, history, IsOfDevice, RunsTree, CanHappen, pulls_from, Closes}
+use Rattle.clk_script.specs.Meaning.{names_of, has_several, command_of, event_text, given_text, closing_text, CloseFirst, IsClosed, ending_text, IsMeaning}
+use Rattle.clk_script.specs.inside.Recorder.{IsSound}
 use Rattle.clk_script.specs.OneDevice.{HasOneDevice, its_history, CanHappenAlone, event_line, given_line, closing_line, IsClosedAlone, ending_alone, IsMeaningAlone}
-use Rattle.clk_script.proofs.EventLemmas.{all-join}
+use Rattle.clk_router.proofs.Callers.Events.{all-join}
 use Rattle.clk_script.proofs.ScriptLemmas.{each-command-sound}
 
 -- all of some events happen at the device
@@ -146,12 +147,12 @@ module _ (setup : Setup) (tree : Tree) (one : HasOneDevice setup tree) where
   -- So the meaning is the same.
   pub meaning-alone : (script text : List ℕ) → IsMeaning setup script text → IsMeaningAlone setup tree script text
   meaning-alone script text means =
-      let written = means.written in
-      let here = sound-here written.events (subst (AllByRecursion (IsSound (names_of setup))) (sym written.theirs) (each-command-sound (names_of setup) script means.sound)) in
+      let written = means.1.written in
+      let here = sound-here written.events (subst (AllByRecursion (IsSound (names_of setup))) (sym written.theirs) (each-command-sound (names_of setup) script means.1.sound)) in
       let closes = closed-alone (closing_moment script) written.events written.closed here written.closes in
       let all = all-join (λ e. happens_at setup 0 e ≡ true) written.events written.closed here (closed-here (closing_moment script) written.events written.closed closes) in
       record {
-        sound = means.sound;
+        sound = means.1.sound;
         written = record {
           events = written.events;
           theirs = written.theirs;
@@ -166,15 +167,18 @@ module _ (setup : Setup) (tree : Tree) (one : HasOneDevice setup tree) where
   meaning-several script text means =
       let written = means.written in
       let here = sound-here written.events (subst (AllByRecursion (IsSound (names_of setup))) (sym written.theirs) (each-command-sound (names_of setup) script means.sound)) in
-      let all = all-join (λ e. happens_at setup 0 e ≡ true) written.events written.closed here (closed-here (closing_moment script) written.events written.closed written.closes) in
-      record {
-        sound = means.sound;
-        written = record {
-          events = written.events;
-          theirs = written.theirs;
-          closed = written.closed;
-          closes = closed-several (closing_moment script) written.events written.closed here written.closes;
-          can_happen = can-several (written.events ++ written.closed) all written.can_happen;
-          lines = written.lines ∙ sym (lines-written (closing_moment script) written.events written.closed all);
-        };
-      }
+      let all = all-join (λ e. happens_at setup 0 e ≡ true) written.events written.closed here (closed-here (closing_moment script) written.events written.closed written.closes) in (
+        logs_of setup (written.events ++ written.closed),
+        record {
+          sound = means.sound;
+          written = record {
+            events = written.events;
+            theirs = written.theirs;
+            closed = written.closed;
+            closes = closed-several (closing_moment script) written.events written.closed here written.closes;
+            can_happen = can-several (written.events ++ written.closed) all written.can_happen;
+            lines = written.lines ∙ sym (lines-written (closing_moment script) written.events written.closed all);
+            logged = refl;
+          };
+        },
+      )

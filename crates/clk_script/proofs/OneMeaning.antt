@@ -20,12 +20,14 @@ use Rattle.clk_sched.specs.Results.{asks_queue}
 use Rattle.clk_sched.specs.Choice.{answers_of, GoAlike, PullsLeaveNoChoice}
 use Rattle.clk_tree.specs.declared.plan.parts.SenderSpec.{SenderSpec}
 use Rattle.clk_tree.specs.PlanParts.{number_of}
-use Rattle.clk_script.specs.Meaning.{Room, Setup, sender_numbers, names_of, has_several, Event, offered, pulled, command_of, events_at, number_from, numbers_of, pull_in, moment_in, sends_to, answers_in, at_queue, history, IsOfDevice, NamesItsOffer, event_text, RunsTree, CanHappen, pulls_from, closing_pulls, closing_text, Closes, CloseFirst, IsClosed, ending_text, Writes}
+use Rattle.clk_router.specs.Events.{Room, Setup, sender_numbers, Event, offered, pulled, events_at, number_from, numbers_of, pull_in, moment_in, sends_to, answers_in, at_queue, history, IsOfDevice, NamesItsOffer, RunsTree, CanHappen, pulls_from, closing_pulls, Closes}
+use Rattle.clk_script.specs.Meaning.{names_of, has_several, command_of, event_text, closing_text, CloseFirst, IsClosed, ending_text, Writes}
 use Rattle.clk_script.specs.declared.script.Command.{Command}
 use Rattle.clk_script.specs.Script.{commands_of, closing_moment}
 use Rattle.clk_script.specs.Examples.{two_queues}
-use Rattle.clk_script.specs.inside.Router.{IsSound}
-use Rattle.clk_script.specs.OneMeaning.{IsWired, HasAtMostOneMeaning}
+use Rattle.clk_script.specs.inside.Recorder.{IsSound}
+use Rattle.clk_router.specs.Setups.{IsWired}
+use Rattle.clk_script.specs.OneMeaning.{HasAtMostOneMeaning}
 use Rattle.clk_script.proofs.Alike.{member-between, packet-same, pulls-alike, its-moment, events-at-pull, number-at}
 use Rattle.clk_script.proofs.ScriptLemmas.{each-command-sound}
 
@@ -132,7 +134,7 @@ never-asked setup d tree q wired its is (v ∷ visits) =
     rw (asks v.fresh (queue_at tree v.node v.input) (subst (λ o. MatchOption o ⊤ (λ t. IfSome (queue_at t v.node v.input) (λ k. IsSome (slice_get setup.queues k)))) its (wired.leaves d v.node v.input)))
     (never-asked setup d tree q wired its is visits)
   where
-    asks : (b : Bool) (o : Option ℕ) → IfSome o (λ k. IsSome (slice_get setup.queues k)) → (b && is_number q o) ≡ false
+    asks : (b : Bool) (o : Option ℕ) → IfSome o (λ k. IsSome (slice_get setup.queues k)) → is_number q (if b then o else None) ≡ false
     asks false o h = refl
     asks true None h = refl
     asks true (Some k) h = by_same (k == q) refl
@@ -281,8 +283,8 @@ same-closed setup wired law runs (Some moment) events one other a b can happens 
     same-first setup wired law runs moment (length setup.trees) events one other [] [] a b (rw append-nil can) (rw append-nil happens)
 
 same-writing : (setup : Setup) → IsWired setup → HistoriesLeaveNoChoice → ((tree : Tree) → PullsLeaveNoChoice tree) → (commands : List Command) → AllByRecursion (IsSound (names_of setup)) commands
-    → (drain : Option ℕ) (one other : List ℕ) → Writes setup commands drain one → Writes setup commands drain other → one ≡ other
-same-writing setup wired law runs commands sound drain one other a b =
+    → (drain : Option ℕ) (one other : List ℕ) (logs others : List (List Visit)) → Writes setup commands drain one logs → Writes setup commands drain other others → one ≡ other
+same-writing setup wired law runs commands sound drain one other logs others a b =
     a.lines ∙ ap₂ text events closed ∙ sym b.lines
   where
     text : List Event → List Event → List ℕ
@@ -300,7 +302,7 @@ same-writing setup wired law runs commands sound drain one other a b =
 
 pub has-one_meaning : (setup : Setup) → IsWired setup → HistoriesLeaveNoChoice → ((tree : Tree) → PullsLeaveNoChoice tree) → HasAtMostOneMeaning setup
 has-one_meaning setup wired law runs script one other a b =
-    same-writing setup wired law runs (commands_of script) (each-command-sound (names_of setup) script a.sound) (closing_moment script) one other a.written b.written
+    same-writing setup wired law runs (commands_of script) (each-command-sound (names_of setup) script a.1.sound) (closing_moment script) one other a.0 b.0 a.1.written b.1.written
 
 -- the queues of the examples are there
 pub two_queues-wired : IsWired two_queues

@@ -1,7 +1,7 @@
 -- How the reading of a script goes on by one line.
-use Rattle.std.proofs.Common.{◌≡◌, ℕ, ◌+◌, ◌≤◌, List, [], ◌∷◌, ◌++◌, length, map, slice_get, Option, Some, None, ◌⊎◌, inl, inr, nat_lt, Bool, true, false, refl, sym, ap, subst, ◌∙◌, append_assoc, append-nil, length-append, arith}
+use Rattle.std.proofs.Common.{◌≡◌, ℕ, ◌+◌, ◌≤◌, ◌==◌, ◌||◌, zero, suc, List, [], ◌∷◌, ◌++◌, length, map, slice_get, Option, Some, None, ◌⊎◌, inl, inr, nat_lt, Bool, true, false, refl, sym, ap, subst, ◌∙◌, append_assoc, append-nil, length-append, arith}
 use Rattle.std.specs.Option.{option_map}
-use Rattle.std.specs.List.{filter_map, cons_option, AllByRecursion}
+use Rattle.std.specs.List.{filter_map, cons_option, list_any, AllByRecursion}
 use Rattle.std.proofs.lemmas.Bool.Decides.{nat_tests}
 use Rattle.std.proofs.lemmas.List.{map-append, length-map}
 use Rattle.std.proofs.lemmas.Option.{slice_get_within}
@@ -15,7 +15,7 @@ use Rattle.clk_script.specs.declared.rows.Row.{Row}
 use Rattle.clk_script.specs.declared.rows.Row.TheVariants as row
 use Rattle.clk_script.specs.declared.reading.Script.{Script}
 use Rattle.clk_script.specs.Script.{Names, lines_of, command_in, commands_of, drain_in, is_drain, closing_moment, line_fault, fault_at, first_fault, script_fault, most_script_bytes, most_lines}
-use Rattle.clk_script.specs.inside.Router.{IsReadable, IsSound}
+use Rattle.clk_script.specs.inside.Recorder.{IsReadable, IsSound}
 use Rattle.clk_script.specs.inside.Rows.{command_asked, asked_by, asked_in, IsToDo, IsReadFrom, CanBeRun}
 use Rattle.clk_script.proofs.ScriptLemmas.{readable-first, readable-drain, readable-commands, each-command-sound}
 
@@ -212,3 +212,16 @@ IsRead-drained names text rest after l number moment before script small h bound
     are =
         sym (append-nil (asked_by names script.rows.items)) ∙ ap (λ cs. asked_by names script.rows.items ++ map Some cs) (sym none)
         ∙ asked-more text rest after l (asked_by names before) (asked_by names script.rows.items) h.theirs e more
+
+-- a number that stands at a place is one of them
+pub known-at : (numbers : List ℕ) (n place : ℕ) → slice_get numbers place ≡ Some n → list_any (λ s. s == n) numbers ≡ true
+known-at [] n place is = absurd (cc)
+known-at (s ∷ numbers) n zero is =
+    let first : s ≡ n = cc in
+    let same : (s == n) ≡ true = grind (arith, nat_tests) in
+    rw same refl
+known-at (s ∷ numbers) n (suc place) is = by_first (s == n) (known-at numbers n place is)
+  where
+    by_first : (b : Bool) → list_any (λ x. x == n) numbers ≡ true → (b || list_any (λ x. x == n) numbers) ≡ true
+    by_first true e = refl
+    by_first false e = e

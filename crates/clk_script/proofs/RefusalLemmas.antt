@@ -17,11 +17,12 @@ use Rattle.clk_script.specs.declared.script.Line.{Line}
 use Rattle.clk_script.specs.declared.script.Line.TheVariants as line
 use Rattle.clk_script.specs.Script.{Names, most_lines, command_fault, line_fault, fault_at, is_drain, first_fault, lines_of, script_fault, commands_of, closing_moment, most_script_bytes}
 use Rattle.clk_packet.specs.Bytes.{read_failures, write_failures, OfBytes}
-use Rattle.clk_script.specs.Meaning.{Setup, plan_setup, names_of, WritesWith, MeansWith, MeansOver, MeansOverWith, Explains}
-use Rattle.clk_script.specs.declared.router.Router.{Router}
-use Rattle.clk_script.specs.inside.Router.{names_in, Starts}
+use Rattle.clk_router.specs.Events.{Setup, sender_numbers, plan_setup}
+use Rattle.clk_script.specs.Meaning.{names_of, Writes, MeansWith, MeansOver, MeansOverWith, Explains}
+use Rattle.clk_script.specs.declared.recorder.Recorder.{Recorder}
+use Rattle.clk_script.specs.inside.Recorder.{named_by, names_in, Starts}
 use Rattle.clk_script.proofs.AnswerLemmas.{names-its}
-use Rattle.clk_script.proofs.Callers.Written.{of-weaker}
+use Rattle.clk_packet.proofs.Callers.Written.{of-weaker}
 
 -- one byte past the limit is enough to tell what is wrong
 fault-cut : (names : Names) (all : List ℕ) → script_fault names (take (most_script_bytes + 1) all) ≡ script_fault names all
@@ -45,8 +46,8 @@ whole names all e = by_test (nat_lt most_script_bytes (length all)) refl
     by_test false f = take_all 33554433 all (grind (arith, nat_tests))
 
 -- the meaning over a setup of a script whose first bytes were read
-pub meaning-known : (setup : Setup) (router : Router) → Starts setup router → (known : Option (List ℕ)) (bytes text : List ℕ) (logs : List (List Visit)) → IfSome known (λ all. bytes ≡ take (most_script_bytes + 1) all)
-    → script_fault (names_in router) bytes ≡ None → WritesWith setup (commands_of bytes) (closing_moment bytes) text logs → OfBytes known (λ script. MeansWith setup script text logs)
+pub meaning-known : (setup : Setup) (router : Recorder) → Starts setup router → (known : Option (List ℕ)) (bytes text : List ℕ) (logs : List (List Visit)) → IfSome known (λ all. bytes ≡ take (most_script_bytes + 1) all)
+    → script_fault (names_in router) bytes ≡ None → Writes setup (commands_of bytes) (closing_moment bytes) text logs → OfBytes known (λ script. MeansWith setup script text logs)
 meaning-known setup router starts None bytes text logs is e w =
     let here : script_fault (names_of setup) bytes ≡ None = subst (λ names. script_fault names bytes ≡ None) (names-its setup [] router starts.leads) e in
     (bytes, record { sound = here; written = w })
@@ -56,7 +57,7 @@ meaning-known setup router starts (Some all) bytes text logs is e w =
     let all_of_it : bytes ≡ all = is ∙ whole (names_of setup) all sound in
     record {
       sound = sym (fault-cut (names_of setup) all) ∙ sound;
-      written = subst (λ (script : List ℕ). WritesWith setup (commands_of script) (closing_moment script) text logs) all_of_it w;
+      written = subst (λ (script : List ℕ). Writes setup (commands_of script) (closing_moment script) text logs) all_of_it w;
     }
 
 -- the meaning over a plan
@@ -68,7 +69,7 @@ meaning-over plan trees setup are same known text logs h =
 -- the same without the logs
 pub without-logs : (plan : List Planned) (known : Option (List ℕ)) (text : List ℕ) (logs : List (List Visit)) → OfBytes known (λ script. MeansOverWith plan script text logs) → OfBytes known (λ script. MeansOver plan script text)
 without-logs plan known text logs h =
-    of-weaker known _ _ (λ script m. record { trees = m.trees; are = m.are; means = record { sound = m.means.sound; written = m.means.written.writes } }) h
+    of-weaker known _ _ (λ script m. (logs, m)) h
 
 -- the faults that a script may have
 abbrev IsOfScript : Fault → Type 0
@@ -143,7 +144,7 @@ of-memory : (setup : Setup) (known : Option (List ℕ)) (fault : Fault) → faul
 of-memory setup known fault e = subst (λ (f : Fault). IsRefusal setup known f) (sym e) (record { explains = tt; reads = λ n. refl; writes = λ n. refl; not_write = λ d. cc })
 
 -- why a script is refused as it is read
-pub IsRefusal-read : (setup : Setup) (router : Router) → Starts setup router → (known : Option (List ℕ)) (bytes : List ℕ) (fault : Fault) → IfSome known (λ all. bytes ≡ take (most_script_bytes + 1) all)
+pub IsRefusal-read : (setup : Setup) (router : Recorder) → Starts setup router → (known : Option (List ℕ)) (bytes : List ℕ) (fault : Fault) → IfSome known (λ all. bytes ≡ take (most_script_bytes + 1) all)
     → (fault ≡ Memory) ⊎ (script_fault (names_in router) bytes ≡ Some fault) → IsRefusal setup known fault
 IsRefusal-read setup router starts known bytes fault is (inl e) = of-memory setup known fault e
 IsRefusal-read setup router starts known bytes fault is (inr e) =
@@ -152,10 +153,14 @@ IsRefusal-read setup router starts known bytes fault is (inr e) =
     by_kind setup known fault kind (named (names_of setup) known bytes fault is here)
 
 -- the devices of a router are as many as its trees
-pub few-devices : (setup : Setup) (router : Router) (n : ℕ) → Starts setup router → n ≡ length router.devices.items → n ≤ 65535
-few-devices setup router n starts e = omega (arith, starts.leads.device_count, starts.whole.few, e)
+pub few-devices : (setup : Setup) (router : Recorder) (n : ℕ) → Starts setup router → n ≡ length router.router.setup.trees → n ≤ 65535
+few-devices setup router n starts e = let count = ap (λ (s : Setup). length s.trees) starts.leads.setup_is in let few = starts.few in omega (arith, count, few, e)
 
-pub few-closings : {X : Type 0} (setup : Setup) (router : Router) (closings : Option (Vec X Global)) → Starts setup router → IfSome closings (λ cs. length cs.items ≡ length router.devices.items)
+pub few-closings : {X : Type 0} (setup : Setup) (router : Recorder) (closings : Option (Vec X Global)) → Starts setup router → IfSome closings (λ cs. length cs.items ≡ length router.router.setup.trees)
     → IfSome closings (λ cs. length cs.items ≤ 65535)
 few-closings setup router None starts e = tt
 few-closings setup router (Some closings) starts e = few-devices setup router (length closings.items) starts e
+
+-- what a script may name by what a recorder's router tells of itself
+pub same-names : (r : Recorder) (numbers : List ℕ) (devices : ℕ) → numbers ≡ sender_numbers r.router.setup → devices ≡ length r.router.setup.trees → named_by numbers devices ≡ names_in r
+same-names r numbers devices senders count = λ i. record { senders = senders i; devices = count i }

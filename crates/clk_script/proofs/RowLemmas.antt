@@ -1,9 +1,10 @@
 -- What the rows of some events write.
 use Rattle.std.proofs.Common.{◌≡◌, ℕ, ◌+◌, ◌<◌, ◌≤◌, ◌==◌, Bool, true, false, List, [], ◌∷◌, ◌++◌, map, drop, get_or, if◌then◌else◌, Option, Some, None, MatchOption, slice_get, length, Vec, append-nil, refl, arith, sym, ap, ap₂, subst, ◌∙◌}
 use Rattle.std.specs.Bool.{⊤}
-use Rattle.std.specs.List.{flat_map, filter_map, cons_option, AllByRecursion}
+use Rattle.std.specs.List.{flat_map, filter_map, cons_option, range_with_len, AllByRecursion}
 use Rattle.std.specs.declared.alloc.Global.{Global}
-use Rattle.std.proofs.lemmas.List.{drop_more}
+use Rattle.std.proofs.lemmas.List.{drop_more, length-map}
+use Rattle.std.proofs.lemmas.List.FromFn.{length-map-range_with_len}
 use Rattle.std.proofs.lemmas.List.Elements.{filter-append, filter_map-append}
 use Rattle.std.proofs.lemmas.Bool.Decides.{nat_tests}
 use Rattle.clk_packet.specs.declared.packet.Packet.{Packet}
@@ -16,16 +17,15 @@ use Rattle.clk_sched.specs.Log.{visits_of, result_of, turn}
 use Rattle.clk_sched.specs.Results.{emitted}
 use Rattle.clk_script.specs.declared.rows.Row.{Row}
 use Rattle.clk_sched.specs.Tree.{Tree}
-use Rattle.clk_script.specs.declared.devices.Device.{Device}
-use Rattle.clk_script.specs.declared.router.Router.{Router}
-use Rattle.clk_script.specs.Meaning.{Setup, has_several, Event, offered, pulled, happens_at, events_at, pull_in, evicted_in, log_of, offer_text, event_text, pull_text, IsOfDevice, RunsTree}
-use Rattle.clk_script.specs.inside.Router.{IsAt, AreDevicesAt, device_emitted, departure_text}
+use Rattle.clk_router.specs.Events.{Setup, Event, offered, pulled, happens_at, events_at, pull_in, evicted_in, log_of, IsOfDevice, RunsTree, CanHappen, logs_of, emitted_in}
+use Rattle.clk_script.specs.Meaning.{has_several, offer_text, event_text, pull_text}
+use Rattle.clk_script.specs.inside.Recorder.{departure_text}
 use Rattle.clk_report.specs.Devices.{lists_of}
-use Rattle.clk_script.specs.inside.Rows.{closings_text, row_of, given_by, row_text, rows_text, given_first, given_after, fronts_after}
+use Rattle.clk_script.specs.inside.Rows.{closings_text, row_of, row_text, rows_text, given_first, given_after, fronts_after}
 
 -- the lines of events are those of their rows, where what they gave and put out comes first
 rows-lines : (several : Bool) (events : List Event) (given fronts : List Packet)
-    → rows_text several (map row_of events) (filter_map given_by events ++ given) (filter_map evicted_in events ++ fronts) ≡ flat_map (event_text several) events
+    → rows_text several (map row_of events) (filter_map emitted_in events ++ given) (filter_map evicted_in events ++ fronts) ≡ flat_map (event_text several) events
 rows-lines several [] given fronts = refl
 rows-lines several (offered p Accepted ∷ events) given fronts = ap (λ l. offer_text p Accepted ++ l) (rows-lines several events given fronts)
 rows-lines several (offered p (Refused q) ∷ events) given fronts = ap (λ l. offer_text p (Refused q) ++ l) (rows-lines several events given fronts)
@@ -33,8 +33,8 @@ rows-lines several (offered p (Evicted front) ∷ events) given fronts = ap (λ 
 rows-lines several (pulled device moment visits ∷ events) given fronts = by_result (result_of (visits_of 0 visits)) refl (rows-lines several events given fronts)
   where
     by_result : (o : Option Packet) → result_of (visits_of 0 visits) ≡ o
-        → rows_text several (map row_of events) (filter_map given_by events ++ given) (filter_map evicted_in events ++ fronts) ≡ flat_map (event_text several) events
-        → rows_text several (map row_of (pulled device moment visits ∷ events)) (filter_map given_by (pulled device moment visits ∷ events) ++ given) (filter_map evicted_in events ++ fronts)
+        → rows_text several (map row_of events) (filter_map emitted_in events ++ given) (filter_map evicted_in events ++ fronts) ≡ flat_map (event_text several) events
+        → rows_text several (map row_of (pulled device moment visits ∷ events)) (filter_map emitted_in (pulled device moment visits ∷ events) ++ given) (filter_map evicted_in events ++ fronts)
         ≡ flat_map (event_text several) (pulled device moment visits ∷ events)
     by_result None e rest = rw e (ap (λ l. pull_text several device moment None ++ l) rest)
     by_result (Some p) e rest = rw e (ap (λ l. pull_text several device moment (Some p) ++ l) rest)
@@ -56,14 +56,14 @@ device-gave : (visits : List Visit) → UpToFirst (0 ∷ []) visits → filter_m
 device-gave [] device = absurd device
 device-gave (v ∷ visits) device = subst (λ more. filter_map gave (v ∷ more) ≡ cons_option (result_of (v ∷ more)) []) (sym (alone v visits device)) refl
 
-emitted-given : (events : List Event) → AllByRecursion IsDeviceTurn (map (turn 0) (filter_map pull_in events)) → emitted (log_of events) ≡ filter_map given_by events
+emitted-given : (events : List Event) → AllByRecursion IsDeviceTurn (map (turn 0) (filter_map pull_in events)) → emitted (log_of events) ≡ filter_map emitted_in events
 emitted-given [] device = refl
 emitted-given (offered p outcome ∷ events) device = emitted-given events device
 emitted-given (pulled d moment visits ∷ events) device =
     ap (filter_map gave) (filter-append (λ (v : Visit). v.node == 0) visits (log_of events)) ∙ filter_map-append gave (visits_of 0 visits) (visits_of 0 (log_of events))
     ∙ ap₂ (λ a b. a ++ b) (device-gave (visits_of 0 visits) device.0.in_order) (emitted-given events device.1) ∙ by_result (result_of (visits_of 0 visits)) refl
   where
-    by_result : (o : Option Packet) → result_of (visits_of 0 visits) ≡ o → cons_option (result_of (visits_of 0 visits)) [] ++ filter_map given_by events ≡ filter_map given_by (pulled d moment visits ∷ events)
+    by_result : (o : Option Packet) → result_of (visits_of 0 visits) ≡ o → cons_option (result_of (visits_of 0 visits)) [] ++ filter_map emitted_in events ≡ filter_map emitted_in (pulled d moment visits ∷ events)
     by_result None e = rw e refl
     by_result (Some p) e = rw e refl
 
@@ -71,23 +71,18 @@ emitted-given (pulled d moment visits ∷ events) device =
 pub its-turns : (tree : Tree) (events : List Event) → RunsTree tree events → AllByRecursion IsDeviceTurn (map (turn 0) (filter_map pull_in events))
 its-turns tree events runs = subst (λ l. AllByRecursion IsDeviceTurn (map (turn 0) l)) runs.pull_by_pull runs.run.device
 
--- what came out at a device is what its pulls gave
-its-emitted : (events : List Event) (tree : Option Tree) (at : Option Device) (device : Device) → AreDevicesAt events tree at → MatchOption tree ⊤ (λ t. RunsTree t events) → at ≡ Some device
-    → device_emitted device ≡ filter_map given_by events
-its-emitted events None None device is runs e = absurd (cc)
-its-emitted events None (Some other) device is runs e = absurd is
-its-emitted events (Some tree) None device is runs e = absurd is
-its-emitted events (Some tree) (Some other) device is runs e =
-    let same : other ≡ device = cc in
-    ap device_emitted (sym same) ∙ ap emitted is.log ∙ emitted-given events (its-turns tree events runs)
+-- what came out at the first device is what its pulls gave
+first-emitted : (trees : List Tree) (events : List Event) → 1 ≤ length trees → MatchOption (slice_get trees 0) ⊤ (λ t. RunsTree t events) → emitted (log_of events) ≡ filter_map emitted_in events
+first-emitted [] events some runs = absurd (omega (arith, some))
+first-emitted (tree ∷ trees) events some runs = emitted-given events (its-turns tree events runs)
 
 -- where there is one device, all pulls are its own
-given-alone : (setup : Setup) (events : List Event) → AllByRecursion (IsOfDevice 1) events → filter_map given_by (events_at setup 0 events) ≡ filter_map given_by events
+given-alone : (setup : Setup) (events : List Event) → AllByRecursion (IsOfDevice 1) events → filter_map emitted_in (events_at setup 0 events) ≡ filter_map emitted_in events
 given-alone setup [] all = refl
 given-alone setup (offered p outcome ∷ events) all = by_test (happens_at setup 0 (offered p outcome)) refl (given-alone setup events all.1)
   where
-    by_test : (b : Bool) → happens_at setup 0 (offered p outcome) ≡ b → filter_map given_by (events_at setup 0 events) ≡ filter_map given_by events
-        → filter_map given_by (events_at setup 0 (offered p outcome ∷ events)) ≡ filter_map given_by events
+    by_test : (b : Bool) → happens_at setup 0 (offered p outcome) ≡ b → filter_map emitted_in (events_at setup 0 events) ≡ filter_map emitted_in events
+        → filter_map emitted_in (events_at setup 0 (offered p outcome ∷ events)) ≡ filter_map emitted_in events
     by_test true e rest = rw e rest
     by_test false e rest = rw e rest
 given-alone setup (pulled d moment visits ∷ events) all =
@@ -95,47 +90,44 @@ given-alone setup (pulled d moment visits ∷ events) all =
     let its : (d == 0) ≡ true = grind (arith, nat_tests) in
     rw its (ap (cons_option (result_of (visits_of 0 visits))) (given-alone setup events all.1))
 
--- a list of one, and of more
-first-alone : (devices : List Device) (given : List Packet) → length devices ≡ 1 → ((device : Device) → slice_get devices 0 ≡ Some device → device_emitted device ≡ given) → (kept : List Packet)
-    → given_first (map device_emitted devices) kept ≡ given
-first-alone [] given one is kept = absurd (omega (arith, one))
-first-alone (device ∷ []) given one is kept = is device refl
-first-alone (device ∷ other ∷ devices) given one is kept = absurd (omega (arith, one))
-
-first-several : (devices : List Device) (kept : List Packet) → 1 < length devices → given_first (map device_emitted devices) kept ≡ kept
+-- what is kept beside the lists of more than one device
+first-several : (lists : List (List Packet)) (kept : List Packet) → 1 < length lists → given_first lists kept ≡ kept
 first-several [] kept many = absurd (omega (arith, many))
-first-several (device ∷ []) kept many = absurd (omega (arith, many))
-first-several (device ∷ other ∷ devices) kept many = refl
+first-several (only ∷ []) kept many = absurd (omega (arith, many))
+first-several (first ∷ other ∷ lists) kept many = refl
 
 -- What the rows of events write, where a router has gone on since, and what the pulls gave was kept where there are several devices.
-pub rows-written : (setup : Setup) (events later : List Event) (router : Router) (kept : List Packet) → 1 ≤ length setup.trees → IsAt setup (events ++ later) router
-    → (has_several setup ≡ true → kept ≡ filter_map given_by events)
-    → rows_text (has_several setup) (map row_of events) (given_first (map device_emitted router.devices.items) kept) router.evicted.items ≡ flat_map (event_text (has_several setup)) events
-rows-written setup events later router kept some at is = by_several (has_several setup) refl
+pub rows-written : (setup : Setup) (events later : List Event) (kept fronts : List Packet) → 1 ≤ length setup.trees → CanHappen setup (events ++ later) → fronts ≡ filter_map evicted_in (events ++ later)
+    → (has_several setup ≡ true → kept ≡ filter_map emitted_in events)
+    → rows_text (has_several setup) (map row_of events) (given_first (map emitted (logs_of setup (events ++ later))) kept) fronts ≡ flat_map (event_text (has_several setup)) events
+rows-written setup events later kept fronts some can out is = by_several (has_several setup) refl
   where
-    fronts : router.evicted.items ≡ filter_map evicted_in events ++ filter_map evicted_in later
-    fronts = at.evicted ∙ filter_map-append evicted_in events later
+    all : List Event
+    all = events ++ later
 
-    by_several : (b : Bool) → has_several setup ≡ b
-        → rows_text (has_several setup) (map row_of events) (given_first (map device_emitted router.devices.items) kept) router.evicted.items ≡ flat_map (event_text (has_several setup)) events
+    its_log : ℕ → List Visit
+    its_log d = log_of (events_at setup d all)
+
+    these : fronts ≡ filter_map evicted_in events ++ filter_map evicted_in later
+    these = out ∙ filter_map-append evicted_in events later
+
+    by_several : (b : Bool) → has_several setup ≡ b → rows_text (has_several setup) (map row_of events) (given_first (map emitted (logs_of setup all)) kept) fronts ≡ flat_map (event_text (has_several setup)) events
     by_several true e =
-        let count = at.device_count in
         let many : 1 < length setup.trees = grind (arith, nat_tests) in
-        let given : given_first (map device_emitted router.devices.items) kept ≡ filter_map given_by events ++ [] =
-        first-several router.devices.items kept (omega (arith, count, many)) ∙ is e ∙ sym (append-nil (filter_map given_by events))
+        let count = length-map (logs_of setup all) emitted ∙ length-map-range_with_len its_log 0 (length setup.trees) in
+        let given : given_first (map emitted (logs_of setup all)) kept ≡ filter_map emitted_in events ++ [] =
+        first-several (map emitted (logs_of setup all)) kept (omega (arith, count, many)) ∙ is e ∙ sym (append-nil (filter_map emitted_in events))
         in
-        ap₂ (rows_text (has_several setup) (map row_of events)) given fronts ∙ rows-lines (has_several setup) events [] (filter_map evicted_in later)
+        ap₂ (rows_text (has_several setup) (map row_of events)) given these ∙ rows-lines (has_several setup) events [] (filter_map evicted_in later)
     by_several false e =
-        let count = at.device_count in
         let one : length setup.trees ≡ 1 = grind (arith, nat_tests) in
-        let all : filter_map given_by (events_at setup 0 (events ++ later)) ≡ filter_map given_by events ++ filter_map given_by later =
-        given-alone setup (events ++ later) (subst (λ n. AllByRecursion (IsOfDevice n) (events ++ later)) one at.can_happen.devices) ∙ filter_map-append given_by events later
+        let theirs : filter_map emitted_in (events_at setup 0 all) ≡ filter_map emitted_in events ++ filter_map emitted_in later =
+        given-alone setup all (subst (λ n. AllByRecursion (IsOfDevice n) all) one can.devices) ∙ filter_map-append emitted_in events later
         in
-        let given : given_first (map device_emitted router.devices.items) kept ≡ filter_map given_by events ++ filter_map given_by later =
-        first-alone router.devices.items (filter_map given_by events ++ filter_map given_by later) (count ∙ one)
-        (λ device here. its-emitted (events_at setup 0 (events ++ later)) (slice_get setup.trees 0) (slice_get router.devices.items 0) device (at.devices 0) (at.can_happen.runs 0) here ∙ all) kept
+        let given : given_first (map emitted (logs_of setup all)) kept ≡ filter_map emitted_in events ++ filter_map emitted_in later =
+        ap (λ n. given_first (map emitted (map its_log (range_with_len 0 n))) kept) one ∙ first-emitted setup.trees (events_at setup 0 all) some (can.runs 0) ∙ theirs
         in
-        ap₂ (rows_text (has_several setup) (map row_of events)) given fronts ∙ rows-lines (has_several setup) events (filter_map given_by later) (filter_map evicted_in later)
+        ap₂ (rows_text (has_several setup) (map row_of events)) given these ∙ rows-lines (has_several setup) events (filter_map emitted_in later) (filter_map evicted_in later)
 
 -- the line of the row at a place, and those after it
 pub rows-left : (several : Bool) (rows : List Row) (i : ℕ) (r : Row) (given fronts : List Packet) → i < length rows → r ≡ get_or rows i r

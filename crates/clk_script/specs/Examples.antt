@@ -9,7 +9,7 @@ use Rattle.clk_packet.specs.Packets.{packet}
 use Rattle.clk_sched.specs.declared.visit.Visit.{Visit}
 use Rattle.clk_sched.specs.Tree.{queue, scheduler, prio, shaper, leaf, end}
 use Rattle.clk_sched.specs.Log.{asking}
-use Rattle.clk_script.specs.Meaning.{Setup, Event, offered, pulled}
+use Rattle.clk_router.specs.Events.{Setup, Event, offered, pulled}
 
 abbrev pub p0_0 : Packet
 p0_0 = packet 0 0 100 (lit≤ tt) (lit≤ tt)

@@ -1,6 +1,5 @@
 -- What a script and its answer are.
 pub mod Script
-pub mod Written
 pub mod Meaning
 pub mod OneMeaning
 pub mod OneDevice

@@ -11,7 +11,8 @@ use Rattle.clk_sched.specs.Results.{asks_queue, emitted}
 use Rattle.clk_tree.specs.declared.plan.parts.SenderSpec.{SenderSpec}
 use Rattle.clk_report.specs.Report.{report_text}
 use Rattle.clk_script.specs.Script.{script_fault, commands_of, closing_moment}
-use Rattle.clk_script.specs.Meaning.{Setup, sender_numbers, names_of, is_of_device, Event, offered, pulled, command_of, numbers_of, log_of, tally_after, sends_to, NamesItsOffer, offer_text, result_text, RunsTree, Closes}
+use Rattle.clk_router.specs.Events.{Setup, sender_numbers, is_of_device, Event, offered, pulled, numbers_of, log_of, tally_after, sends_to, NamesItsOffer, RunsTree, Closes}
+use Rattle.clk_script.specs.Meaning.{names_of, command_of, offer_text, result_text}
 
 -- A setup has one device, with this tree, and each of its senders sends to a queue of it.
 pub record HasOneDevice (setup : Setup) (tree : Tree) : Type 0 where

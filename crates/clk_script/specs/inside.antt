@@ -1,6 +1,5 @@
 -- What the code's own parts say to one another: no contract of a public call stands on it.
-pub mod Closable
 pub mod Fields
 pub mod Lines
-pub mod Router
+pub mod Recorder
 pub mod Rows

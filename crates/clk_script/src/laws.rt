@@ -6,9 +6,11 @@ ghost use Rattle.clk_packet.specs.declared.fault.Fault.TheVariants.{Memory, TooL
 ghost use Rattle.clk_packet.specs.Examples.{text, first_byte, second_byte, success};
 ghost use Rattle.clk_sched.specs.Tree.{Tree};
 ghost use Rattle.clk_tree.specs.Shares.{AreTreesOf};
-ghost use Rattle.clk_script.specs.Written.{WroteWhat};
-ghost use Rattle.clk_script.specs.Meaning.{CanHappen, Closes, CloseFirst, IsMeaning, MeansOver, Explains, ExplainsPlan, plan_setup};
-ghost use Rattle.clk_script.specs.OneMeaning.{IsWired, IsApart, HasAtMostOneMeaning, DevicesAreApart};
+ghost use Rattle.clk_packet.specs.Written.{WroteWhat};
+ghost use Rattle.clk_router.specs.Events.{CanHappen, Closes, plan_setup};
+ghost use Rattle.clk_script.specs.Meaning.{CloseFirst, IsMeaning, MeansOver, Explains, ExplainsPlan};
+ghost use Rattle.clk_router.specs.Setups.{IsWired, IsApart};
+ghost use Rattle.clk_script.specs.OneMeaning.{HasAtMostOneMeaning, DevicesAreApart};
 ghost use Rattle.clk_script.specs.OneDevice.{HasOneDevice, IsMeaningAlone};
 ghost use Rattle.clk_script.specs.Examples.{two_queues, two_devices, shaped, moment_not_counted, moment_ahead, second_first, number_left_out, refused_early, never_sent, other_refused, swapped, moment_shared, no_device, one_left, closed_at_once, closed_without_a_pull, closed_a_tick_early, closed_a_pull_late, one_at_each, closed_in_turn, closed_last_first, closed_on, failed};
 

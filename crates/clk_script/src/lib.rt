@@ -2,19 +2,16 @@
 #![tactic(auto)]
 
 mod answer;
-mod devices;
 mod fields;
 mod laws;
 mod limits;
 mod lines;
 mod past;
-mod queues;
 mod reading;
-mod router;
+mod recorder;
 mod rows;
 mod run;
 mod script;
-mod senders;
 mod tallies;
 mod text;
 mod writing;

@@ -1,17 +1,17 @@
 //! The reading of a script.
 
-ghost use Rattle.std.specs.Prelude.{◌≡◌, ◌≤◌, ◌+◌, ◌++◌, ◌⊎◌, true, false, map, None, Some, MatchResult, OnOk};
+ghost use Rattle.std.specs.Prelude.{◌≡◌, ◌≤◌, ◌+◌, ◌++◌, ◌⊎◌, true, false, None, Some, MatchResult, OnOk};
 ghost use Rattle.clk_packet.specs.declared.fault.Fault.TheVariants.{Memory};
-ghost use Rattle.clk_tree.specs.PlanParts.{AreRising};
+ghost use Rattle.clk_packet.specs.Lists.{AreRising};
 ghost use Rattle.clk_script.specs.Script.{lines_of, drain_in, command_fault, fault_at, first_fault, script_fault, most_lines};
-ghost use Rattle.clk_script.specs.inside.Router.{tally_sender, named_by};
+ghost use Rattle.clk_script.specs.inside.Recorder.{named_by};
 ghost use Rattle.clk_script.specs.inside.Rows.{command_asked, asked_by, asked_in, IsReadFrom, CanBeRun};
 
 use crate::limits::{MAX_LINES, MAX_SCRIPT_BYTES};
 use crate::rows::Row;
 use crate::script::{Command, Line};
-use crate::tallies::place_of;
-use clk_packet::{Fault, Tally};
+use clk_packet::Fault;
+use clk_router::place_of;
 use std::alloc::Global;
 
 /// A script that was read.
@@ -23,22 +23,22 @@ pub struct Script {
     pub closing: Option<u64>,
 }
 
-/// Reads a script over the senders of these tallies, and so many devices.
+/// Reads a script over senders of these numbers, and so many devices.
 ///
 /// # Errors
 ///
 /// Fault 1 where memory is refused; 18 for more than 33,554,432 bytes; then the fault of the first line that has one.
 pub fn read_script(
     alloc: Global,
-    tallies: &[Tally],
+    numbers: &[u16],
     devices: usize,
     text: &[u8],
 ) -> Result<Script, Fault>
-    requires rising { AreRising (map tally_sender tallies.now) }
+    requires rising { AreRising numbers.now }
     ensures { MatchResult result
-        (λ script. (script_fault (named_by tallies.now devices) text.now ≡ None)
-        × IsReadFrom (named_by tallies.now devices) text.now script × CanBeRun (named_by tallies.now devices) script)
-        (λ fault. (fault ≡ Memory) ⊎ (script_fault (named_by tallies.now devices) text.now ≡ Some fault)) }
+        (λ script. (script_fault (named_by numbers.now devices) text.now ≡ None)
+        × IsReadFrom (named_by numbers.now devices) text.now script × CanBeRun (named_by numbers.now devices) script)
+        (λ fault. (fault ≡ Memory) ⊎ (script_fault (named_by numbers.now devices) text.now ≡ Some fault)) }
 {
     if text.len() > MAX_SCRIPT_BYTES {
         return Err(Fault::TooLarge);
@@ -49,7 +49,7 @@ pub fn read_script(
     while !rest.is_empty() {
         let (line, after) = Line::next(rest);
         number += 1;
-        if let Some(moment) = read_line(tallies, devices, number, line, &mut rows)? {
+        if let Some(moment) = read_line(numbers, devices, number, line, &mut rows)? {
             only_blank_lines(number, after)?;
             return Ok(Script {
                 rows,
@@ -68,18 +68,18 @@ pub fn read_script(
 /// of the first 1,000,000 (fault 18), a command or blank (16), and names a sender (15) and a device (16) that are there. Fault 1 where
 /// memory is refused.
 fn read_line(
-    tallies: &[Tally],
+    numbers: &[u16],
     devices: usize,
     number: u32,
     line: Line,
     rows: &mut Vec<Row>,
 ) -> Result<Option<u64>, Fault>
-    requires rising { AreRising (map tally_sender tallies.now) }
+    requires rising { AreRising numbers.now }
     ensures exact { MatchResult result
-        (λ drain. (fault_at (named_by tallies.now devices) false number line ≡ None)
+        (λ drain. (fault_at (named_by numbers.now devices) false number line ≡ None)
         × (drain ≡ drain_in line)
-        × (asked_by (named_by tallies.now devices) rows.new.items ≡ asked_by (named_by tallies.now devices) rows.old.items ++ asked_in line))
-        (λ fault. (fault ≡ Memory) ⊎ (fault_at (named_by tallies.now devices) false number line ≡ Some fault)) }
+        × (asked_by (named_by numbers.now devices) rows.new.items ≡ asked_by (named_by numbers.now devices) rows.old.items ++ asked_in line))
+        (λ fault. (fault ≡ Memory) ⊎ (fault_at (named_by numbers.now devices) false number line ≡ Some fault)) }
     ensures within { OnOk result (number ≤ most_lines) }
 {
     if number > MAX_LINES {
@@ -90,28 +90,28 @@ fn read_line(
         Line::Malformed => Err(Fault::BadScript { line: number }),
         Line::Drain { moment } => Ok(Some(moment)),
         Line::Command(command) => {
-            let row = row_asked(tallies, devices, number, command)?;
+            let row = row_asked(numbers, devices, number, command)?;
             rows.push(row)?;
             Ok(None)
         }
     }
 }
 
-/// The row of the command in a line, where its sender has one of these tallies, or its device is one of so many. Fault 15 or 16 where
+/// The row of the command in a line, where its sender has one of these numbers, or its device is one of so many. Fault 15 or 16 where
 /// it isn't.
-fn row_asked(tallies: &[Tally], devices: usize, number: u32, command: Command) -> Result<Row, Fault>
-    requires rising { AreRising (map tally_sender tallies.now) }
+fn row_asked(numbers: &[u16], devices: usize, number: u32, command: Command) -> Result<Row, Fault>
+    requires rising { AreRising numbers.now }
     ensures { MatchResult result
-        (λ row. (command_fault (named_by tallies.now devices) number command ≡ None)
-        × (command_asked (named_by tallies.now devices) row ≡ Some command))
-        (λ fault. command_fault (named_by tallies.now devices) number command ≡ Some fault) }
+        (λ row. (command_fault (named_by numbers.now devices) number command ≡ None)
+        × (command_asked (named_by numbers.now devices) row ≡ Some command))
+        (λ fault. command_fault (named_by numbers.now devices) number command ≡ Some fault) }
 {
     match command {
         Command::Pull { device, moment } if usize::from(device) < devices => {
             Ok(Row::Pull { device, moment })
         }
         Command::Pull { .. } => Err(Fault::BadScript { line: number }),
-        Command::Send { sender, length } => match place_of(tallies, sender) {
+        Command::Send { sender, length } => match place_of(numbers, sender) {
             Some(place) => Ok(Row::Send { place, length }),
             None => Err(Fault::UnknownSender { sender }),
         },

@@ -1,28 +1,22 @@
 //! One script, over a plan.
 
-ghost use Rattle.std.specs.Prelude.{◌≡◌, ◌≤◌, ◌+◌, map, length, IfOk, IfErr, IsOkUnless};
-ghost use Rattle.std.specs.List.{AllByRecursion};
+ghost use Rattle.std.specs.Prelude.{◌≡◌, ◌+◌, IfOk, IfErr};
 ghost use Rattle.clk_packet.specs.Bytes.{Takes, read_failures, write_failures, OfBytes};
-ghost use Rattle.clk_packet.specs.declared.fault.Fault.TheVariants.{Memory};
-ghost use Rattle.clk_packet.specs.Limits.{most_elements};
-ghost use Rattle.clk_tree.specs.PlanParts.{queued, HasCapacity};
-ghost use Rattle.clk_tree.specs.Shares.{AreTreesOf};
 ghost use Rattle.clk_report.specs.Devices.{lists_of};
-ghost use Rattle.clk_script.specs.inside.Router.{CanStand, IsWhole, AreLogs};
-ghost use Rattle.clk_script.specs.inside.Closable.{IsClosable};
+ghost use Rattle.clk_script.specs.inside.Recorder.{AreLogs};
 ghost use Rattle.clk_script.specs.Script.{most_script_bytes};
-ghost use Rattle.clk_script.specs.Written.{WroteWhat};
-ghost use Rattle.clk_script.specs.Meaning.{MeansWith, Explains, setup_of, MeansOver, MeansOverWith, ExplainsPlan};
+ghost use Rattle.clk_packet.specs.Written.{WroteWhat};
+ghost use Rattle.clk_script.specs.Meaning.{MeansOver, MeansOverWith, ExplainsPlan};
 
 use crate::answer::answer_script;
 use crate::limits::MAX_SCRIPT_BYTES;
 use crate::past::Past;
 use crate::reading::read_script;
-use crate::router::Router;
+use crate::recorder::Recorder;
 use crate::writing::write_answer;
 use clk_packet::{Fault, Sink, Source, let_go, read_up_to};
-use clk_sched::{Tree, Visit};
-use clk_tree::{Plan, QueueSpec, SenderSpec};
+use clk_sched::Visit;
+use clk_tree::Plan;
 use std::alloc::Global;
 
 /// Reads a script to its end, runs it over a plan, and writes what it writes. The script is read and checked whole before
@@ -88,59 +82,12 @@ fn run_plan<R: Source, W: Sink>(
     ensures write_failures { W.Sink.failures writer.new ≡ write_failures result (W.Sink.failures writer.old) }
     ensures limit { Takes (most_script_bytes + 1) (R.Source.remaining reader.old) (R.Source.remaining reader.new) }
 {
-    // Its trees share out its queues, by this law.
-    plan.trees_share_queues();
-    let trees = trees_of(alloc, plan)?;
-    let (queues, senders) = (plan.queues(), plan.senders());
-    let past = run_parts(alloc, reader, writer, trees, queues, senders, visits)?;
-    Ok(past)
-}
-
-/// The tree of each device of a plan. Fault 1 where memory is refused.
-fn trees_of(alloc: Global, plan: &Plan) -> Result<Vec<Tree>, Fault>
-    ensures trees { IfOk result (λ trees. AreTreesOf plan.now trees.items) }
-    ensures each { IfOk result (λ trees. AllByRecursion CanStand trees.items) }
-    ensures some { IfOk result (λ trees. 1 ≤ length trees.items) }
-    ensures few { IfOk result (λ trees. length trees.items ≤ most_elements) }
-    ensures fault { IsOkUnless result Memory }
-{
-    let mut trees = Vec::new(alloc);
-    for device in 0..plan.devices() {
-        let tree = plan.tree(alloc, device)?;
-        // A law, which does nothing.
-        tree.schedulers_are_sound();
-        trees.push(tree)?;
-    }
-    Ok(trees)
-}
-
-/// The same over the trees, the queues and the senders of a plan, with the same faults.
-fn run_parts<R: Source, W: Sink>(
-    alloc: Global,
-    reader: &mut R,
-    writer: &mut W,
-    trees: Vec<Tree>,
-    queues: &[QueueSpec],
-    senders: &[SenderSpec],
-    visits: bool,
-) -> Result<Past, Fault>
-    requires trees { AllByRecursion CanStand trees.items }
-    requires capacities { AllByRecursion HasCapacity (map queued queues.now) }
-    requires whole { IsWhole (setup_of trees.items (map queued queues.now) senders.now) }
-    requires closable { IsClosable (setup_of trees.items (map queued queues.now) senders.now) }
-    ensures wrote { WroteWhat (λ text. (logs : _) × IfOk result (λ past. AreLogs visits past logs)
-        × OfBytes (R.Source.remaining reader.old) (λ script. MeansWith (setup_of trees.items (map queued queues.now) senders.now) script text logs))
-        result (W.Sink.taken writer.old) (W.Sink.taken writer.new) }
-    ensures fault { IfErr result (Explains (setup_of trees.items (map queued queues.now) senders.now) (R.Source.remaining reader.old)) }
-    ensures read_failures { R.Source.failures reader.new ≡ read_failures result (R.Source.failures reader.old) }
-    ensures write_failures { W.Sink.failures writer.new ≡ write_failures result (W.Sink.failures writer.old) }
-    ensures limit { Takes (most_script_bytes + 1) (R.Source.remaining reader.old) (R.Source.remaining reader.new) }
-{
-    let router = Router::new(alloc, trees, queues, senders, visits)?;
+    let recorder = Recorder::new(alloc, plan, visits)?;
     let text = read_up_to(alloc, reader, MAX_SCRIPT_BYTES + 1)?;
-    let script = read_script(alloc, &router.tallies, router.devices.len(), &text)?;
+    let (senders, devices) = (recorder.router.senders(), recorder.router.devices());
+    let script = read_script(alloc, senders, devices, &text)?;
     let_go(text);
-    let answer = answer_script(alloc, router, script)?;
+    let answer = answer_script(alloc, recorder, script)?;
     write_answer(&answer, writer)?;
     Ok(answer.past)
 }

@@ -1,9 +1,10 @@
 //! The lines that a script writes. Each is put from its end to its front.
 
-ghost use Rattle.std.specs.Prelude.{◌≡◌, ◌+◌, ◌≤◌, ◌++◌, decimal, drop, length};
+ghost use Rattle.std.specs.Prelude.{◌≡◌, ◌+◌, ◌≤◌, ◌++◌, drop, length};
 ghost use Rattle.clk_script.specs.Meaning.{name_text, packet_text, outcome_text, result_text, device_text, pull_text, offer_text};
 
 use clk_packet::{Offered, Packet};
+use clk_report::{put, put_number};
 
 /// How many bytes a line has at most.
 pub const LINE: usize = 128;
@@ -116,28 +117,4 @@ fn put_name(line: &mut [u8], packet: Packet, end: usize) -> usize
     let end = put_number(line, u64::from(packet.number), end);
     let end = put(line, b"#", end);
     put_number(line, u64::from(packet.sender), end)
-}
-
-/// Puts a number, which has at most 20 digits.
-fn put_number(line: &mut [u8], number: u64, end: usize) -> usize
-    requires room { 20 ≤ end }
-    requires within { end ≤ length line.old }
-    ensures piece { drop result line.new ≡ decimal number ++ drop end line.old }
-    ensures near { end ≤ result + 20 }
-    ensures before { result ≤ end }
-{
-    itoa::write_digits(number, line, end)
-}
-
-/// Puts some bytes.
-#[inline(always)]
-fn put(line: &mut [u8], piece: &[u8], end: usize) -> usize
-    requires room { length piece.now ≤ end }
-    requires within { end ≤ length line.old }
-    ensures piece { drop result line.new ≡ piece.now ++ drop end line.old }
-    ensures start { result + length piece.now ≡ end }
-{
-    let start = end - piece.len();
-    line[start..end].copy_from_slice(piece);
-    start
 }

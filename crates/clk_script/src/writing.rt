@@ -6,7 +6,7 @@ ghost use Rattle.clk_packet.specs.Bytes.{Wrote};
 ghost use Rattle.clk_report.specs.Devices.{lists_of};
 ghost use Rattle.clk_script.specs.inside.Lines.{Passes};
 ghost use Rattle.clk_script.specs.inside.Rows.{row_text, rows_text, are_several, given_of, given_after, fronts_after, closings_text, answer_text};
-ghost use Rattle.clk_script.specs.inside.Router.{departure_text};
+ghost use Rattle.clk_script.specs.inside.Recorder.{departure_text};
 
 use crate::answer::Answer;
 use crate::lines::Lines;

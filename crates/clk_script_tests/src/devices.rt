@@ -1,31 +1,12 @@
 //! Scripts over several devices.
 
 use crate::row::Answer;
-use crate::trees::{CROSSED_DEVICES, FULL_AT_TWO_DEVICES, THREE_DEVICES, TWO_DEVICES};
+use crate::trees::{CROSSED_DEVICES, FULL_AT_TWO_DEVICES, THREE_DEVICES};
 use clk_packet::Fault;
+use clk_rows::trees::TWO_DEVICES;
 
 /// Trees with several devices, scripts over them, and what they write.
-pub const ANSWERED: [Answer; 8] = [
-    // A pull names its device.
-    (
-        TWO_DEVICES,
-        b"send 0 10\nsend 1 20\npull 0\npull 0 1\npull 0 1\ndrain 0\n",
-        Ok(()),
-        b"0#0 10 accepted\n1#0 20 accepted\n\
-          pull 0 0: 0#0 10\npull 0 1: 1#0 20\npull 0 1: none\n\
-          sender 0: sent 1 10, accepted 1 10, refused 0 0, evicted 0 0, emitted 1 10\n\
-          sender 1: sent 1 20, accepted 1 20, refused 0 0, evicted 0 0, emitted 1 20\n",
-    ),
-    // A closing goes from device to device.
-    (
-        TWO_DEVICES,
-        b"send 0 10\nsend 1 20\ndrain 5\n",
-        Ok(()),
-        b"0#0 10 accepted\n1#0 20 accepted\n\
-          pull 6 0: 0#0 10\npull 6 1: 1#0 20\n\
-          sender 0: sent 1 10, accepted 1 10, refused 0 0, evicted 0 0, emitted 1 10\n\
-          sender 1: sent 1 20, accepted 1 20, refused 0 0, evicted 0 0, emitted 1 20\n",
-    ),
+pub const ANSWERED: [Answer; 6] = [
     // Each device has its own moment: device 0 was last pulled at 9, and device 1 at 2, which is before the drain's.
     (
         TWO_DEVICES,

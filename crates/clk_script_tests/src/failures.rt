@@ -1,17 +1,12 @@
 //! A reader or a writer that fails in mid-stream.
 
 use crate::row::{AMPLE, run_within};
-use crate::trees::{PRIO_OVER_ROOM_FOR_ONE, PRIO_OVER_ROOM_FOR_TWO};
 use clk_packet::{Failed, FailingSink, FailingSource, Failures, Fault, Sink, Source};
+use clk_rows::{PRIO_TWO_QUEUES, Row, TAIL_DROP_FULL};
 use clk_script::run_script;
 use clk_tree::Plan;
 use std::alloc::Global;
 use std::process::Abort;
-
-/// A script that closes: a packet is refused, and nothing is left at the drain.
-const CLOSED: &[u8] = b"send 0 10\nsend 0 20\npull 0\ndrain 0\n";
-
-const SCRIPT: &[u8] = b"send 0 100\nsend 1 50\npull 0\npull 0\npull 0\n";
 
 // A source that fails at its first read, and would give the script after that.
 #[derive(Drop)]
@@ -44,7 +39,7 @@ impl Source for FailsOnce {
 
 #[test]
 fn a_read_that_failed_is_not_made_again(rt: HostRuntime) {
-    let script = SCRIPT.to_vec(rt.alloc()).expect(&rt, "ample memory");
+    let script = script(&rt, rt.alloc(), &PRIO_TWO_QUEUES);
     let mut reader = FailsOnce {
         script: FailingSource::new(script, usize::MAX),
         failed: false,
@@ -86,7 +81,7 @@ impl Sink for RefusesOnce {
 
 #[test]
 fn a_write_that_failed_is_not_made_again(rt: HostRuntime) {
-    let script = SCRIPT.to_vec(rt.alloc()).expect(&rt, "ample memory");
+    let script = script(&rt, rt.alloc(), &PRIO_TWO_QUEUES);
     let mut reader = FailingSource::new(script, usize::MAX);
     let mut writer = RefusesOnce {
         text: sink(&rt, rt.alloc()),
@@ -95,6 +90,12 @@ fn a_write_that_failed_is_not_made_again(rt: HostRuntime) {
     };
     assert_refused(&rt, rt.alloc(), &mut reader, &mut writer, Fault::Write);
     assert!(rt; writer.text.taken().is_empty());
+}
+
+// The script of a row.
+fn script(rt: &impl Abort, alloc: Global, row: &Row) -> Vec<u8> {
+    let script = row.script.as_bytes().to_vec(alloc);
+    script.expect(rt, "ample memory")
 }
 
 fn sink(rt: &impl Abort, alloc: Global) -> FailingSink {
@@ -109,16 +110,12 @@ fn assert_refused(
     writer: &mut impl Sink,
     fault: Fault,
 ) {
-    let plan = Plan::read(alloc, PRIO_OVER_ROOM_FOR_TWO.as_bytes()).expect(rt, "a tree");
+    let plan = Plan::read(alloc, PRIO_TWO_QUEUES.tree.as_bytes()).expect(rt, "a tree");
     assert_eq!(rt; run_script(alloc, reader, writer, &plan), Err(fault));
 }
 
-/// What the script that closes writes over a queue of one packet.
-const REPORTED: &[u8] = b"0#0 10 accepted\n0#1 20 refused\npull 0: 0#0 10\n\
-    sender 0: sent 2 30, accepted 1 10, refused 1 20, evicted 0 0, emitted 1 10\n";
-
-// Fails unless a run of it ends so, and has written this, where the reader fails once it has given `limit` bytes, and the writer once it
-// has taken `room`.
+// Fails unless a run of a script that closes ends so, and has written this, where the reader fails once it has given `limit` bytes, and
+// the writer once it has taken `room`.
 fn assert_ends_within(
     rt: &impl Abort,
     alloc: Global,
@@ -127,9 +124,9 @@ fn assert_ends_within(
     outcome: Result<(), Fault>,
     front: &[u8],
 ) {
-    let script = CLOSED.to_vec(alloc).expect(rt, "ample memory");
+    let script = script(rt, alloc, &TAIL_DROP_FULL);
     let mut reader = FailingSource::new(script, limit);
-    let run = run_within(alloc, PRIO_OVER_ROOM_FOR_ONE, &mut reader, room);
+    let run = run_within(alloc, TAIL_DROP_FULL.tree, &mut reader, room);
     let (ended, written) = run.expect(rt, "ample memory");
     assert_eq!(rt;
         (ended, written.as_slice()),
@@ -140,7 +137,7 @@ fn assert_ends_within(
 
 #[test]
 fn a_failing_reader_is_told(rt: HostRuntime) {
-    for limit in 0..=CLOSED.len() {
+    for limit in 0..=TAIL_DROP_FULL.script.len() {
         assert_ends_within(&rt, rt.alloc(), limit, AMPLE, Err(Fault::Read), b"");
     }
 }
@@ -149,16 +146,17 @@ fn a_failing_reader_is_told(rt: HostRuntime) {
 #[test]
 fn a_report_may_be_cut_off(rt: HostRuntime) {
     let alloc = rt.alloc();
-    for room in 0..REPORTED.len() {
+    let answer = TAIL_DROP_FULL.answer.as_bytes();
+    for room in 0..answer.len() {
         assert_ends_within(
             &rt,
             alloc,
             usize::MAX,
             room,
             Err(Fault::Write),
-            &REPORTED[..room],
+            &answer[..room],
         );
     }
     // There may be just enough room.
-    assert_ends_within(&rt, alloc, usize::MAX, 122, Ok(()), REPORTED);
+    assert_ends_within(&rt, alloc, usize::MAX, answer.len(), Ok(()), answer);
 }

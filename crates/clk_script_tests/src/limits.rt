@@ -2,8 +2,8 @@
 
 use crate::row::assert_ends;
 use crate::text::{Pieces, text_of};
-use crate::trees::PRIO_OVER_ROOM_FOR_TWO;
 use clk_packet::Fault;
+use clk_rows::trees::PRIO_OVER_ROOM_FOR_TWO;
 use std::alloc::{AllocError, Global};
 
 /// How many lines a script may have.

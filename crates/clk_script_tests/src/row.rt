@@ -4,6 +4,7 @@ use crate::logged::assert_logged;
 use crate::{closing, deficit, devices, in_order, queues, scripts, shaper, stride};
 use clk_packet::{FailingSink, Fault, FromRead, Source};
 use clk_report::visits_csv;
+use clk_rows::{Row, SCRIPTS};
 use clk_sched::Visit;
 use clk_script::{run_script, run_script_logged};
 use clk_tree::Plan;
@@ -20,17 +21,6 @@ pub type Answer = (
     Result<(), Fault>,
     &'static [u8],
 );
-
-/// A script over a tree, under the name of what it shows.
-pub struct Row {
-    pub name: &'static str,
-    pub tree: &'static str,
-    pub script: &'static str,
-    /// What it writes.
-    pub written: &'static str,
-    /// Its visits as CSV, without the header. Empty where it shows none.
-    pub visits: &'static str,
-}
 
 /// Fails unless a script over a tree ends so, and writes what is expected.
 pub fn assert_ends(
@@ -74,11 +64,11 @@ pub fn run_within(
     Ok((outcome, writer.taken().to_vec(alloc)?))
 }
 
-/// Fails unless each script writes what its row says, and makes the visits that it shows.
+/// Fails unless each script is answered as its row says, and makes the visits that it shows.
 fn assert_rows(rt: &impl Abort, alloc: Global, rows: &[Row]) {
     for row in rows {
-        let (script, written) = (row.script.as_bytes(), row.written.as_bytes());
-        assert_answers(rt, alloc, &[(row.tree, script, Ok(()), written)]);
+        let (script, answer) = (row.script.as_bytes(), row.answer.as_bytes());
+        assert_answers(rt, alloc, &[(row.tree, script, Ok(()), answer)]);
         if !row.visits.is_empty() {
             assert_visits(rt, alloc, row);
         }
@@ -111,7 +101,8 @@ fn logs_of(alloc: Global, tree: &str, script: &[u8]) -> Result<Vec<Vec<Visit>>, 
 #[test]
 fn rows_are_written(rt: HostRuntime) {
     for rows in [
-        &closing::ROWS[..],
+        &SCRIPTS[..],
+        &closing::ROWS,
         &deficit::ROWS,
         &in_order::ROWS,
         &queues::ROWS,

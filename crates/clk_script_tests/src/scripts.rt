@@ -1,18 +1,12 @@
 //! What scripts write, and what they are refused for.
 
 use crate::row::{Answer, assert_ends};
-use crate::trees::PRIO_OVER_ROOM_FOR_TWO as TREE;
 use clk_packet::Fault;
+use clk_rows::trees::PRIO_OVER_ROOM_FOR_TWO as TREE;
 
 /// A script writes a line for each command.
-pub const ANSWERED: [Answer; 8] = [
+pub const ANSWERED: [Answer; 7] = [
     (TREE, b"", Ok(()), b""),
-    (
-        TREE,
-        b"send 0 100\nsend 1 50\npull 0\npull 0\npull 0\n",
-        Ok(()),
-        b"0#0 100 accepted\n1#0 50 accepted\npull 0: 0#0 100\npull 0: 1#0 50\npull 0: none\n",
-    ),
     (
         TREE,
         b"pull 1099511627775\n",

@@ -1,46 +1,18 @@
 //! Inputs with tickets.
 
-use crate::row::{Row, assert_ends};
+use crate::row::assert_ends;
 use crate::text::{Pieces, text_of};
-use crate::trees::{STRIDE_1_1, STRIDE_2_1, STRIDE_3_1, STRIDE_32768_1, STRIDE_OVER_DEFICIT};
+use crate::trees::{STRIDE_1_1, STRIDE_3_1, STRIDE_32768_1, STRIDE_OVER_DEFICIT};
+use clk_rows::Row;
 
 /// Scripts, and what they write.
-pub const ROWS: [Row; 6] = [
-    Row {
-        name: "tickets give turns",
-        tree: STRIDE_2_1,
-        script: "send 0 10\nsend 0 10\nsend 0 10\nsend 0 10\nsend 1 20\nsend 1 20\npull 0\npull 0\n\
-        pull 0\npull 0\npull 0\npull 0\n",
-        written: "0#0 10 accepted\n0#1 10 accepted\n0#2 10 accepted\n0#3 10 accepted\n\
-        1#0 20 accepted\n1#1 20 accepted\n\
-        pull 0: 0#0 10\npull 0: 1#0 20\npull 0: 0#1 10\npull 0: 0#2 10\npull 0: 1#1 20\n\
-        pull 0: 0#3 10\n",
-        visits: "0,1,0,1,0,0,10,1,0\n0,0,0,1,0,0,10,1,0\n\
-        1,1,1,1,1,0,20,1,0\n1,0,0,1,1,0,20,1,0\n\
-        2,1,0,1,0,1,10,1,0\n2,0,0,1,0,1,10,1,0\n\
-        3,1,0,1,0,2,10,1,0\n3,0,0,1,0,2,10,1,0\n\
-        4,1,1,1,1,1,20,1,0\n4,0,0,1,1,1,20,1,0\n\
-        5,1,0,1,0,3,10,1,0\n5,0,0,1,0,3,10,1,0\n",
-    },
-    Row {
-        name: "an idle input earns nothing",
-        tree: STRIDE_2_1,
-        script: "send 0 10\nsend 0 10\nsend 0 10\npull 0\npull 0\nsend 1 20\npull 0\npull 0\n",
-        written: "0#0 10 accepted\n0#1 10 accepted\n0#2 10 accepted\n\
-        pull 0: 0#0 10\npull 0: 0#1 10\n\
-        1#0 20 accepted\n\
-        pull 0: 1#0 20\npull 0: 0#2 10\n",
-        visits: "0,1,0,1,0,0,10,1,0\n0,0,0,1,0,0,10,1,0\n\
-        1,1,1,1,,,,0,0\n1,1,0,1,0,1,10,1,0\n1,0,0,1,0,1,10,1,0\n\
-        2,1,1,1,1,0,20,1,0\n2,0,0,1,1,0,20,1,0\n\
-        3,1,0,1,0,2,10,1,0\n3,0,0,1,0,2,10,1,0\n",
-    },
+pub const ROWS: [Row; 4] = [
     Row {
         name: "an idle input gets the pass of the winner",
         tree: STRIDE_1_1,
         script: "send 0 1\nsend 0 1\nsend 0 1\nsend 0 1\nsend 0 1\npull 0\npull 0\npull 0\nsend 1 1\n\
         send 1 1\nsend 1 1\npull 0\npull 0\npull 0\npull 0\npull 0\n",
-        written: "0#0 1 accepted\n0#1 1 accepted\n0#2 1 accepted\n0#3 1 accepted\n0#4 1 accepted\n\
+        answer: "0#0 1 accepted\n0#1 1 accepted\n0#2 1 accepted\n0#3 1 accepted\n0#4 1 accepted\n\
         pull 0: 0#0 1\npull 0: 0#1 1\npull 0: 0#2 1\n\
         1#0 1 accepted\n1#1 1 accepted\n1#2 1 accepted\n\
         pull 0: 1#0 1\npull 0: 0#3 1\npull 0: 1#1 1\npull 0: 0#4 1\npull 0: 1#2 1\n",
@@ -57,7 +29,7 @@ pub const ROWS: [Row; 6] = [
         name: "a pull that finds nothing changes no pass",
         tree: STRIDE_1_1,
         script: "pull 0\nsend 0 1\nsend 1 1\npull 0\n",
-        written: "pull 0: none\n\
+        answer: "pull 0: none\n\
         0#0 1 accepted\n1#0 1 accepted\n\
         pull 0: 0#0 1\n",
         visits: "0,1,0,1,,,,0,0\n0,1,1,1,,,,0,0\n0,0,0,1,,,,0,0\n\
@@ -68,7 +40,7 @@ pub const ROWS: [Row; 6] = [
         tree: STRIDE_OVER_DEFICIT,
         script: "send 0 25\nsend 0 5\nsend 1 5\nsend 1 5\nsend 1 5\nsend 1 5\nsend 1 5\npull 0\n\
         pull 0\npull 0\npull 0\npull 0\npull 0\npull 0\n",
-        written: "0#0 25 accepted\n0#1 5 accepted\n1#0 5 accepted\n1#1 5 accepted\n1#2 5 accepted\n\
+        answer: "0#0 25 accepted\n0#1 5 accepted\n1#0 5 accepted\n1#1 5 accepted\n1#2 5 accepted\n\
         1#3 5 accepted\n1#4 5 accepted\n\
         pull 0: 1#0 5\npull 0: 1#1 5\npull 0: 1#2 5\npull 0: 0#0 25\npull 0: 1#3 5\npull 0: 0#1 5\n\
         pull 0: 1#4 5\n",
@@ -85,7 +57,7 @@ pub const ROWS: [Row; 6] = [
         tree: STRIDE_3_1,
         script: "send 0 1\nsend 0 1\nsend 0 1\nsend 0 1\nsend 0 1\nsend 1 1\nsend 1 1\npull 0\n\
         pull 0\npull 0\npull 0\npull 0\npull 0\npull 0\n",
-        written: "0#0 1 accepted\n0#1 1 accepted\n0#2 1 accepted\n0#3 1 accepted\n0#4 1 accepted\n\
+        answer: "0#0 1 accepted\n0#1 1 accepted\n0#2 1 accepted\n0#3 1 accepted\n0#4 1 accepted\n\
         1#0 1 accepted\n1#1 1 accepted\n\
         pull 0: 0#0 1\npull 0: 1#0 1\npull 0: 0#1 1\npull 0: 0#2 1\npull 0: 0#3 1\npull 0: 1#1 1\n\
         pull 0: 0#4 1\n",

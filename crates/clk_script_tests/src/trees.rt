@@ -1,4 +1,4 @@
-//! The trees of the rows.
+//! Trees of rows that stand in this crate alone.
 
 /// A queue.
 pub const ONE: &str = "s0 :: Sender(0); q0 :: Queue; d :: ToDevice(link); s0 -> q0 -> d;";
@@ -12,29 +12,6 @@ pub const PRIO_OVER_TWO: &str =
     "s0 :: Sender(0); q0 :: Queue; s1 :: Sender(1); q1 :: Queue; x :: PrioSched; d :: ToDevice(link);
 s0 -> q0 -> [0] x; s1 -> q1 -> [1] x; x -> d;";
 
-/// A PrioSched over a queue of one packet.
-pub const PRIO_OVER_ROOM_FOR_ONE: &str =
-    "s0 :: Sender(0); q0 :: Queue(1); x :: PrioSched; d :: ToDevice(link);
-s0 -> q0 -> [0] x; x -> d;";
-
-/// A PrioSched over two queues of two packets.
-pub const PRIO_OVER_ROOM_FOR_TWO: &str = "s0 :: Sender(0); s1 :: Sender(1);
-q0 :: Queue(2); q1 :: Queue(2);
-p :: PrioSched;
-out :: ToDevice(link);
-s0 -> q0 -> p -> out;
-s1 -> q1 -> [1] p;";
-
-/// A PrioSched over a FrontDropQueue of two packets.
-pub const PRIO_OVER_FRONT_DROP: &str =
-    "s0 :: Sender(0); q0 :: FrontDropQueue(2); x :: PrioSched; d :: ToDevice(link);
-s0 -> q0 -> [0] x; x -> d;";
-
-/// A FrontDropQueue of one packet, to which two senders send.
-pub const SHARED_FRONT_DROP: &str =
-    "s :: Sender(0); t :: Sender(1); q :: FrontDropQueue(1); d :: ToDevice(link);
-s -> q -> d; t -> q;";
-
 /// A queue of two packets, to which the senders of the least and the greatest number send.
 pub const SHARED_BY_FIRST_AND_LAST: &str =
     "t :: Sender(65535); s :: Sender(0); q :: Queue(2); d :: ToDevice(link);
@@ -45,56 +22,17 @@ pub const ROUND_ROBIN_OVER_TWO: &str =
     "s0 :: Sender(0); q0 :: Queue; s1 :: Sender(1); q1 :: Queue; x :: RoundRobinSched; d :: ToDevice(link);
 s0 -> q0 -> [0] x; s1 -> q1 -> [1] x; x -> d;";
 
-/// A RoundRobinSched over three queues.
-pub const ROUND_ROBIN_OVER_THREE: &str =
-    "s0 :: Sender(0); q0 :: Queue; s1 :: Sender(1); q1 :: Queue; s2 :: Sender(2); q2 :: Queue;
-x :: RoundRobinSched; d :: ToDevice(link);
-s0 -> q0 -> [0] x; s1 -> q1 -> [1] x; s2 -> q2 -> [2] x; x -> d;";
-
-/// A DRRSched of quantum 500 over a queue.
-pub const DRR_500_OVER_ONE: &str =
-    "s0 :: Sender(0); q0 :: Queue; x :: DRRSched(500); d :: ToDevice(link);
-s0 -> q0 -> [0] x; x -> d;";
-
-/// A DRRSched of quantum 1 over a queue.
-pub const DRR_1_OVER_ONE: &str =
-    "s0 :: Sender(0); q0 :: Queue; x :: DRRSched(1); d :: ToDevice(link);
-s0 -> q0 -> [0] x; x -> d;";
-
-/// A DRRSched over two queues, of quantum 500 for each.
-pub const DRR_500_OVER_TWO: &str =
-    "s0 :: Sender(0); q0 :: Queue; s1 :: Sender(1); q1 :: Queue; x :: DRRSched(500); d :: ToDevice(link);
-s0 -> q0 -> [0] x; s1 -> q1 -> [1] x; x -> d;";
-
-/// The same with a quantum of 500 for the first, and of 1000 for the second.
-pub const DRR_500_1000: &str =
-    "s0 :: Sender(0); q0 :: Queue; s1 :: Sender(1); q1 :: Queue; x :: DRRSched(500, 1000); d :: ToDevice(link);
-s0 -> q0 -> [0] x; s1 -> q1 -> [1] x; x -> d;";
-
-/// The same with a quantum of 500 for the first, and of 1 for the second.
+/// A DRRSched over two queues, with a quantum of 500 for the first, and of 1 for the second.
 pub const DRR_500_1: &str =
     "s0 :: Sender(0); q0 :: Queue; s1 :: Sender(1); q1 :: Queue; x :: DRRSched(500, 1); d :: ToDevice(link);
 s0 -> q0 -> [0] x; s1 -> q1 -> [1] x; x -> d;";
-
-/// A DRRSched of quantum 500 over one of quantum 300 over a queue.
-pub const DRR_OVER_DRR: &str =
-    "s :: Sender(0); q :: Queue; y :: DRRSched(300); x :: DRRSched(500); d :: ToDevice(link);
-s -> q -> y -> x -> d;";
 
 /// A DRRSched of quantum 500 over a Shaper of rate 1 and burst 1 over a queue.
 pub const DRR_OVER_SHAPER: &str =
     "s :: Sender(0); q :: Queue; x :: DRRSched(500); y :: Shaper(1, 1); d :: ToDevice(l);
 s -> q -> y -> x -> d;";
 
-/// A Shaper of rate 1 and burst 1 over a queue.
-pub const SHAPER_1_1: &str =
-    "s0 :: Sender(0); q0 :: Queue; x :: Shaper(1, 1); d :: ToDevice(link); s0 -> q0 -> [0] x; x -> d;";
-
-/// The same of burst 2.
-pub const SHAPER_1_2: &str =
-    "s0 :: Sender(0); q0 :: Queue; x :: Shaper(1, 2); d :: ToDevice(link); s0 -> q0 -> [0] x; x -> d;";
-
-/// The same of burst 3.
+/// A Shaper of rate 1 and burst 3 over a queue.
 pub const SHAPER_1_3: &str =
     "s0 :: Sender(0); q0 :: Queue; x :: Shaper(1, 3); d :: ToDevice(link); s0 -> q0 -> [0] x; x -> d;";
 
@@ -109,11 +47,6 @@ pub const SHAPER_5_2: &str =
 /// A StrideSched over two queues, with a ticket for each.
 pub const STRIDE_1_1: &str =
     "s0 :: Sender(0); q0 :: Queue; s1 :: Sender(1); q1 :: Queue; x :: StrideSched(1, 1); d :: ToDevice(link);
-s0 -> q0 -> [0] x; s1 -> q1 -> [1] x; x -> d;";
-
-/// The same with two tickets for the first.
-pub const STRIDE_2_1: &str =
-    "s0 :: Sender(0); q0 :: Queue; s1 :: Sender(1); q1 :: Queue; x :: StrideSched(2, 1); d :: ToDevice(link);
 s0 -> q0 -> [0] x; s1 -> q1 -> [1] x; x -> d;";
 
 /// The same with three tickets for the first.
@@ -131,11 +64,7 @@ pub const STRIDE_OVER_DEFICIT: &str =
     "s :: Sender(0); t :: Sender(1); q, r :: Queue; y :: DRRSched(10); x :: StrideSched(1, 1); d :: ToDevice(l);
 t -> r -> x -> d; s -> q -> y -> [1] x;";
 
-/// Two devices, each with a queue and a sender of its own.
-pub const TWO_DEVICES: &str =
-    "s :: Sender(0); t :: Sender(1); p, q :: Queue; a, b :: ToDevice(x); s -> p -> a; t -> q -> b;";
-
-/// The same where the first sender's queue goes to the second device, and the second sender's to the first.
+/// Two devices, of which the first sender's queue goes to the second, and the second sender's to the first.
 pub const CROSSED_DEVICES: &str =
     "s :: Sender(0); p :: Queue; t :: Sender(1); q :: Queue; a, b :: ToDevice(x); s -> p -> b; t -> q -> a;";
 

@@ -4,3 +4,4 @@ pub mod Tokens
 pub mod Elements
 pub mod Graphs
 pub mod Meaning
+pub mod Checks

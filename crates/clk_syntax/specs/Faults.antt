@@ -1,5 +1,5 @@
 -- The fault of a tree text: the first, in this order, that it has.
-use Rattle.std.specs.Prelude.{ℕ, List, [], ◌∷◌, length, map, nat_lt, if◌then◌else◌, Option, Some, None}
+use Rattle.std.specs.Prelude.{ℕ, ◌+◌, List, [], ◌∷◌, length, unwrap_or, map, nat_lt, if◌then◌else◌, Option, Some, None}
 use Rattle.std.specs.Option.{option_or, option_map}
 use Rattle.std.specs.List.{filter_map, position_or_len}
 use Rattle.std.specs.Str.{bytes_eq}
@@ -8,7 +8,7 @@ use Rattle.clk_packet.specs.declared.fault.Fault.TheVariants.{BadText, UnknownCl
 use Rattle.clk_syntax.specs.declared.texts.token.Token.{Token}
 use Rattle.clk_syntax.specs.declared.node.Node.{Node}
 use Rattle.clk_syntax.specs.declared.node.Link.{Link}
-use Rattle.clk_syntax.specs.Limits.{most_tree_bytes}
+use Rattle.clk_syntax.specs.Limits.{most_tree_bytes, most_port}
 use Rattle.clk_syntax.specs.Tokens.{tokens_of}
 use Rattle.clk_syntax.specs.Diagram.{start, wrong_from}
 use Rattle.clk_syntax.specs.Classes.{Class, role_of}
@@ -40,11 +40,15 @@ nodes_of elements = filter_map node_of elements
 abbrev pub place_of : List Element → List ℕ → ℕ
 place_of elements name = position_or_len (λ (e : Element). bytes_eq e.name.letters name) elements
 
+-- how a port stands in a link: None as one above the greatest, which no element has either
+abbrev pub port_kept : Option ℕ → ℕ
+port_kept port = unwrap_or port (most_port + 1)
+
 abbrev pub link_of : List Element → Wire → Link
 link_of elements c = record {
   from = place_of elements c.from.letters;
-  output = c.output;
-  input = c.input;
+  output = port_kept c.output;
+  input = port_kept c.input;
   to = place_of elements c.to.letters;
   from_place = c.from.place;
   to_place = c.to.place;

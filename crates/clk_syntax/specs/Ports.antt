@@ -1,6 +1,6 @@
 -- The checks of ports and of trees, each with the place at which it fails first (Click's rules of connections, and trees of pull outputs
 -- as this project chose them). Elements are named by their places in the list of all.
-use Rattle.std.specs.Prelude.{ℕ, ◌+◌, List, [], ◌∷◌, length, Bool, true, false, not, ◌==◌, ◌&&◌, nat_lt, nat_le, max, if◌then◌else◌, Option, Some, None, suc, zero, slice_get}
+use Rattle.std.specs.Prelude.{ℕ, ◌+◌, List, [], ◌∷◌, length, Bool, true, false, not, ◌==◌, ◌&&◌, nat_lt, nat_le, max, if◌then◌else◌, Option, Some, None, suc, zero, slice_get, unwrap_or}
 use Rattle.std.specs.Option.{option_or, option_map}
 use Rattle.std.specs.List.{list_any}
 use Rattle.clk_syntax.specs.declared.naming.class.Role.{Role}
@@ -112,8 +112,7 @@ target i (c ∷ more) = if c.from == i then Some c.to else target i more
 
 -- the element to which an element is connected; one that isn't connected stays
 abbrev pub next : List Link → ℕ → ℕ
-next [] i = i
-next (c ∷ more) i = if c.from == i then c.to else next more i
+next links i = unwrap_or (target i links) i
 
 -- the element so many steps on
 abbrev pub follow : List Link → ℕ → ℕ → ℕ

@@ -1,7 +1,7 @@
 -- What the statements of a text declare and connect, each in order with its places.
-use Rattle.std.specs.Prelude.{ℕ, ◌+◌, List, [], ◌∷◌, take, drop, map, min, Option, Some, None}
+use Rattle.std.specs.Prelude.{ℕ, List, [], ◌∷◌, take, drop, map, Option, Some, None}
 use Rattle.std.specs.List.{flat_map}
-use Rattle.std.specs.Str.Parse.{digits_value}
+use Rattle.clk_packet.specs.Numbers.{number_in}
 use Rattle.clk_syntax.specs.declared.texts.token.Token.{Token}
 use Rattle.clk_syntax.specs.declared.texts.statements.Declaration.{Declaration}
 use Rattle.clk_syntax.specs.declared.texts.statements.Connection.{Connection}
@@ -50,11 +50,12 @@ pub record Element : Type 0 where
   pub class : Word
   pub arguments : List (List ℕ)
 
--- a wire from an output to an input: the names of the elements, as they stand in a chain, and the ports
+-- a wire from an output to an input: the names of the elements, as they stand in a chain, and the ports, of which one above the
+-- greatest is None
 pub record Wire : Type 0 where
   pub from : Word
-  pub output : ℕ
-  pub input : ℕ
+  pub output : Option ℕ
+  pub input : Option ℕ
   pub to : Word
 
 -- the bytes of a token
@@ -64,10 +65,10 @@ letters text token = take token.length (drop token.place text)
 abbrev pub word : List ℕ → Token → Word
 word text token = record { place = token.place; letters = letters text token }
 
--- the port that is written, or 0; those above the greatest, which no element has, count as one above it
-abbrev pub port : List ℕ → Option Token → ℕ
-port text None = 0
-port text (Some number) = min (digits_value 10 (letters text number)) (most_port + 1)
+-- the port that is written, or 0; None for one above the greatest, which no element has
+abbrev pub port : List ℕ → Option Token → Option ℕ
+port text None = Some 0
+port text (Some number) = number_in 0 most_port (letters text number)
 
 abbrev pub element : List ℕ → Token → List Token → Token → Element
 element text class arguments name = record { name = word text name; class = word text class; arguments = map (letters text) arguments }

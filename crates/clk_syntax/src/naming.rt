@@ -8,11 +8,11 @@ ghost use Rattle.std.specs.Prelude.{◌≡◌, ◌∷◌, ◌||◌, Some, true, 
 ghost use Rattle.std.specs.Option.{option_map};
 ghost use Rattle.std.specs.List.{AllByRecursion};
 ghost use Rattle.clk_packet.specs.declared.fault.Fault.TheVariants.{Memory, NameTwice, UnknownClass, BadArgument, UnknownName};
-ghost use Rattle.clk_syntax.specs.Classes.{class_named, class_view, role_of, is_class};
+ghost use Rattle.clk_syntax.specs.Classes.{class_view, is_class};
 ghost use Rattle.clk_syntax.specs.Limits.{most_tree_bytes};
-ghost use Rattle.clk_syntax.specs.Source.{Declared, Element, Wire, letters, kept, elements_in, elements, word, port, wire, wires};
+ghost use Rattle.clk_syntax.specs.Source.{Declared, Element, letters, kept, elements_in, elements, word, port, wire, wires};
 ghost use Rattle.clk_syntax.specs.Declarations.{name_twice, unknown_class, bad_argument, unknown_name, unknown_end, is_sender, class_in};
-ghost use Rattle.clk_syntax.specs.Faults.{naming_fault, place_of, nodes_of, link_of, links_of};
+ghost use Rattle.clk_syntax.specs.Faults.{naming_fault, place_of, nodes_of, link_of, links_of, port_kept};
 ghost use Rattle.clk_syntax.specs.inside.Naming.{Declares, IsSlotted, IsTable, Judges, Stops, may_stand, node_at, unknown_ends, IsLinkBelow};
 ghost use Rattle.clk_syntax.specs.inside.Numbers.{has_number};
 ghost use Rattle.clk_syntax.specs.Within.{IsWithin, AreWithin, IsDeclaredWithin, IsConnectedWithin, IsLinkWithin, IsNamed, IsNumber, HasNumbers, words_in};
@@ -293,11 +293,11 @@ fn place_at<'a>(text: &'a [u8], names: &Names<'a>, name: &Token) -> Result<u32, 
     }
 }
 
-/// The port that is written, or 0. Those above 65,535 count as one above it.
+/// The port that is written, or 0, as it stands in a link: those above 65,535 as one above it.
 fn port_at(text: &[u8], written: &Option<Token>) -> u32
     requires within { IfSome written.now (IsWithin (length text.now)) }
     requires number { IfSome written.now (IsNumber text.now) }
-    ensures { result ≡ port text.now written.now }
+    ensures { result ≡ port_kept (port text.now written.now) }
 {
     match written {
         Some(number) => match number_in(letters(text, number), 0, MAX_PORT as u64) {

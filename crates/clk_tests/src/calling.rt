@@ -1,5 +1,6 @@
 //! A caller of each library, which its page CALLING.md shows: what follows from the library's contracts.
 
+mod locked;
 mod packet;
 mod report;
 mod ring;
@@ -7,7 +8,8 @@ mod sched;
 
 ghost use Rattle.std.specs.Prelude.{◌≤◌};
 
-use clk_packet::{FailingSink, Fault, Packet, Packets, Tally};
+use clk_locked::Locked;
+use clk_packet::{FailingSink, Fault, Kind, Packet, Packets, Tally};
 use clk_sched::{Ask, Session, Tree, Visit};
 use std::collections::VecDeque;
 
@@ -51,6 +53,15 @@ fn a_sender_has_its_packets(rt: HostRuntime) -> Result<(), Fault> {
 fn the_newer_packet_comes_out(rt: HostRuntime) -> Result<(), Fault> {
     let got = ring::newest(rt.alloc(), from_one(0, 10), from_one(1, 20))?;
     assert_eq!(rt; got, Some(from_one(1, 20)));
+    Ok(())
+}
+
+#[test]
+fn the_packet_of_an_offer_is_refused(rt: HostRuntime) -> Result<(), Fault> {
+    let queue = Locked::new(rt.alloc(), Kind::TailDrop, 1)?;
+    let offers = [from_one(0, 10), from_one(1, 20)];
+    let refused = offers.map(|packet| locked::refused_of(&rt, &queue, packet));
+    assert_eq!(rt; refused, [None, Some(from_one(1, 20))]);
     Ok(())
 }
 

@@ -12,3 +12,5 @@ mod report;
 mod ring;
 #[cfg(test)]
 mod sched;
+#[cfg(test)]
+mod script;

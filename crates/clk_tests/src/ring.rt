@@ -1,11 +1,15 @@
-//! Rings under the calls of worked examples, at the ends of their capacities, and shared by threads.
+//! Rings under the scripts of worked rows, at the ends of their capacities, and shared by threads.
 
 ghost use Rattle.std.specs.Prelude.{◌≤◌};
 
+use crate::script::{Command, assert_answered, command_of, show_pull, show_sent};
 use Call::{Offer, Pull};
+use clk_locked::Locked;
 use clk_packet::Offered::{Accepted, Evicted, Refused};
 use clk_packet::{Kind, Offered, Packet};
-use clk_ring::{Locked, Ring};
+use clk_ring::Ring;
+use clk_rows::{EVICTS_OTHER_SENDER, FRONT_DROP_FULL, TAIL_DROP_FULL};
+use std::alloc::AllocError;
 use std::process::Abort;
 use std::sync::Wait;
 use std::test::Fail;
@@ -69,48 +73,88 @@ fn a_locked_ring_takes_memory_once(rt: HostRuntime) {
     assert_eq!(rt; refused, None);
 }
 
+// The queue of a row, once as a ring and once under a lock, how many packets each of two senders sent to it, and the lines that a script
+// writes of it.
+#[derive(Drop)]
+struct Both {
+    ring: Ring,
+    locked: Locked,
+    sent: [u32; 2],
+    text: String,
+}
+
+impl Both {
+    fn carry_out<R: Wait + Abort>(&mut self, rt: &R, command: Command) -> Result<(), AllocError> {
+        match command {
+            Command::Send(sender, length) => self.send(rt, sender, length),
+            Command::Pull(moment) => self.pull(rt, moment),
+            Command::Drain(_) => {
+                // Nothing is left.
+                assert_pulled(rt, self.ring.pull(), None);
+                assert_pulled(rt, self.locked.pull(rt), None);
+                Ok(())
+            }
+        }
+    }
+
+    fn send<R: Wait + Abort>(
+        &mut self,
+        rt: &R,
+        sender: u16,
+        length: u16,
+    ) -> Result<(), AllocError> {
+        let sent = self
+            .sent
+            .get_mut(usize::from(sender))
+            .expect(rt, "one of two");
+        let number = *sent;
+        *sent = number.saturating_add(1);
+        assert!(rt; length >= 1);
+        let packet = packet(sender, number, length);
+        let offered = self.ring.offer(packet);
+        assert_offered(rt, self.locked.offer(rt, packet), offered);
+        show_sent(&mut self.text, packet, offered)
+    }
+
+    fn pull<R: Wait + Abort>(&mut self, rt: &R, moment: u64) -> Result<(), AllocError> {
+        let pulled = self.ring.pull();
+        assert_pulled(rt, self.locked.pull(rt), pulled);
+        show_pull(&mut self.text, moment, pulled)
+    }
+}
+
 #[test]
-fn a_full_queue_refuses(rt: HostRuntime) -> Result<(), Fail> {
-    let mut ring = Ring::new(rt.alloc(), Kind::TailDrop, 1)?;
-    let [first, second] = [packet(0, 0, 10), packet(0, 1, 20)];
-    make(
-        &rt,
-        &mut ring,
-        &[Offer(first, Accepted), Offer(second, Refused(second))],
-    );
-    assert_tells(&rt, &ring, (1, false, Kind::TailDrop, 1));
-    make(&rt, &mut ring, &[Pull(Some(first)), Pull(None)]);
-    assert_tells(&rt, &ring, (0, true, Kind::TailDrop, 1));
+fn rows_are_answered(rt: HostRuntime) -> Result<(), Fail> {
+    for (row, kind, capacity) in [
+        (TAIL_DROP_FULL, Kind::TailDrop, 1),
+        (FRONT_DROP_FULL, Kind::FrontDrop, 2),
+        (EVICTS_OTHER_SENDER, Kind::FrontDrop, 1),
+    ] {
+        assert!(rt; capacity >= 1 && capacity <= 2);
+        let mut both = Both {
+            ring: Ring::new(rt.alloc(), kind, capacity)?,
+            locked: Locked::new(rt.alloc(), kind, capacity)?,
+            sent: [0; 2],
+            text: String::new(rt.alloc()),
+        };
+        for line in row.script.lines() {
+            both.carry_out(&rt, command_of(&rt, line))?;
+        }
+        assert_answered(&rt, &row, &both.text);
+    }
     Ok(())
 }
 
 #[test]
-fn a_full_front_drop_queue_lets_its_front_go(rt: HostRuntime) -> Result<(), Fail> {
-    let mut ring = Ring::new(rt.alloc(), Kind::FrontDrop, 2)?;
-    let [first, second, third] = [packet(0, 0, 10), packet(0, 1, 20), packet(0, 2, 30)];
-    let calls = [
-        Offer(first, Accepted),
-        Offer(second, Accepted),
-        Offer(third, Evicted(first)),
-        Pull(Some(second)),
-        Pull(Some(third)),
-        Pull(None),
-    ];
-    make(&rt, &mut ring, &calls);
-    assert_tells(&rt, &ring, (0, true, Kind::FrontDrop, 2));
-    Ok(())
-}
-
-#[test]
-fn an_evicted_packet_may_be_another_senders(rt: HostRuntime) -> Result<(), Fail> {
-    let mut ring = Ring::new(rt.alloc(), Kind::FrontDrop, 1)?;
-    let [first, second] = [packet(0, 0, 100), packet(1, 0, 60)];
-    let calls = [
-        Offer(first, Accepted),
-        Offer(second, Evicted(first)),
-        Pull(Some(second)),
-    ];
-    make(&rt, &mut ring, &calls);
+fn a_ring_tells_what_it_holds(rt: HostRuntime) -> Result<(), Fail> {
+    for kind in [Kind::TailDrop, Kind::FrontDrop] {
+        let mut ring = Ring::new(rt.alloc(), kind, 2)?;
+        let only = packet(0, 0, 10);
+        make(&rt, &mut ring, &[Offer(only, Accepted)]);
+        assert_tells(&rt, &ring, (1, false, kind, 2));
+        make(&rt, &mut ring, &[Pull(Some(only)), Pull(None)]);
+        assert_tells(&rt, &ring, (0, true, kind, 2));
+    }
     Ok(())
 }
 
@@ -140,17 +184,6 @@ fn a_ring_of_a_million_is_filled_and_refuses(rt: HostRuntime) -> Result<(), Fail
         assert_pulled(&rt, ring.pull(), Some(packet(7, number, 64)));
     }
     make(&rt, &mut ring, &[Pull(None)]);
-    Ok(())
-}
-
-#[test]
-fn a_full_queue_refuses_under_a_lock(rt: HostRuntime) -> Result<(), Fail> {
-    let queue = Locked::new(rt.alloc(), Kind::TailDrop, 1)?;
-    let [first, second] = [packet(0, 0, 10), packet(0, 1, 20)];
-    assert_offered(&rt, queue.offer(&rt, first), Accepted);
-    assert_offered(&rt, queue.offer(&rt, second), Refused(second));
-    assert_pulled(&rt, queue.pull(&rt), Some(first));
-    assert_pulled(&rt, queue.pull(&rt), None);
     Ok(())
 }
 

@@ -1,9 +1,10 @@
 -- The senders and the queues of a plan (their numbers as this project chose them).
-use Rattle.std.specs.Prelude.{◌≡◌, ℕ, ◌+◌, ◌<◌, ◌≤◌, List, [], ◌∷◌, map, take, filter, nat_lt, ◌==◌, Bool, false, if◌then◌else◌, Option, Some, None, ⊤}
-use Rattle.std.specs.List.{cons_option, AllByRecursion}
+use Rattle.std.specs.Prelude.{◌≡◌, ℕ, ◌+◌, ◌<◌, ◌≤◌, List, [], ◌∷◌, map, take, filter, nat_lt, ◌==◌, Bool, false, if◌then◌else◌, Option, Some, None}
+use Rattle.std.specs.List.{cons_option}
 use Rattle.clk_packet.specs.Limits.{most_capacity}
 use Rattle.clk_packet.specs.declared.packet.Kind.{Kind}
 use Rattle.clk_packet.specs.Lists.{stands_in}
+pub use Rattle.clk_packet.specs.Lists.{AreRising}
 use Rattle.clk_syntax.specs.Classes.{Class, sender, queue}
 use Rattle.clk_tree.specs.declared.plan.parts.QueueSpec.{QueueSpec}
 use Rattle.clk_tree.specs.declared.plan.parts.SenderSpec.{SenderSpec}
@@ -81,11 +82,6 @@ queues_of plan = queues_from plan 0 plan
 abbrev pub leads_to : ℕ → Option Queued → Bool
 leads_to d None = false
 leads_to d (Some q) = q.device == d
-
--- the numbers rise
-abbrev pub AreRising : List ℕ → Type 0
-AreRising [] = ⊤
-AreRising (n ∷ ns) = AllByRecursion (λ m. n < m) ns × AreRising ns
 
 -- a queue whose capacity is within the limits
 abbrev pub HasCapacity : Queued → Type 0

@@ -56,14 +56,14 @@ impl Plan {
     ghost use Rattle.std.specs.List.{AllByRecursion};
     ghost use Rattle.clk_packet.specs.declared.fault.Fault.TheVariants.{Memory};
     ghost use Rattle.clk_packet.specs.Limits.{most_elements};
-    ghost use Rattle.clk_packet.specs.Lists.{stands_in};
+    ghost use Rattle.clk_packet.specs.Lists.{stands_in, AreRising};
     ghost use Rattle.clk_sched.specs.Tree.{Tree, root, leaves, leaves_distinct};
     ghost use Rattle.clk_sched.specs.Session.{elements};
     ghost use Rattle.clk_syntax.specs.Limits.{most_tree_bytes};
     ghost use Rattle.clk_syntax.specs.Reading.{HasFault};
     ghost use Rattle.clk_tree.specs.Plan.{Denotes};
     ghost use Rattle.clk_tree.specs.PlanTree.{device_count, IsTreeOf};
-    ghost use Rattle.clk_tree.specs.PlanParts.{queued, leads_to, number_of, senders_of, queues_of, AreRising, HasCapacity, SendsWithin};
+    ghost use Rattle.clk_tree.specs.PlanParts.{queued, leads_to, number_of, senders_of, queues_of, HasCapacity, SendsWithin};
     ghost use Rattle.clk_tree.specs.Shares.{AreTreesOf, AreSharedOut};
     ghost use Rattle.clk_tree.specs.Canonical.{canonical_text};
 

@@ -2,14 +2,10 @@
 
 use crate::parts::told_parts;
 use crate::row::{plan_of, session_of, written_of};
-use crate::sound::{TWO_DEVICES, TWO_QUEUES};
+use clk_rows::trees::{COMMENTED, PRIO_OVER_ROOM_FOR_TWO, TWO_DEVICES};
 use clk_tree::Plan;
 use std::alloc::Global;
 use std::process::Abort;
-
-/// A text with a comment and a Shaper.
-const COMMENTED: &str =
-    "s :: Sender(0); q :: Queue; sh :: Shaper(5); d :: ToDevice(eth0); s -> q -> sh /* 5 per tick */ -> d;";
 
 /// The bytes that are put in the place of each byte.
 const OTHERS: [u8; 10] = [b'x', b'1', b';', b',', b'/', b'*', b'[', b'\n', 200, 0];
@@ -67,7 +63,7 @@ fn assert_altered(rt: &impl Abort, alloc: Global, text: &[u8]) {
 
 #[test]
 fn altered_texts_are_answered(rt: HostRuntime) {
-    for text in [TWO_QUEUES, COMMENTED, TWO_DEVICES] {
+    for text in [PRIO_OVER_ROOM_FOR_TWO, COMMENTED, TWO_DEVICES] {
         assert_altered(&rt, rt.alloc(), text.as_bytes());
     }
 }

@@ -1,23 +1,13 @@
 //! The canonical texts of plans.
 
 use crate::row::{plan_of, written_of};
-use crate::sound::TWO_DEVICES;
+use clk_rows::CANONICAL_TEXT;
+use clk_rows::trees::TWO_DEVICES;
 use std::alloc::Global;
 use std::process::Abort;
 
 /// Texts, and the canonical texts of their plans.
-const TEXTS: [(&str, &str); 5] = [
-    (
-        "s :: Sender(0); q :: Queue; sh :: Shaper(5); d :: ToDevice(eth0); s -> q -> sh /* 5 per tick */ -> d;",
-        "s :: Sender(0);
-q :: Queue(1000);
-sh :: Shaper(5, 5);
-d :: ToDevice(eth0);
-s [0] -> [0] q;
-q [0] -> [0] sh;
-sh [0] -> [0] d;
-",
-    ),
+const TEXTS: [(&str, &str); 4] = [
     (EVERY_CLASS, EVERY_CLASS_WRITTEN),
     (
         "q::Queue();d::ToDevice(x);q->d",
@@ -101,17 +91,19 @@ s1 [0] -> [0] qa;
 s9 [0] -> [0] qf;
 ";
 
-/// The plan that a text denotes has this canonical text.
+/// The plan that a text denotes has this canonical text, which is that of its own plan.
 fn assert_written(rt: &impl Abort, alloc: Global, text: &str, canonical: &str) {
-    let written = written_of(rt, alloc, &plan_of(rt, alloc, text.as_bytes()));
-    assert_eq!(rt; str::from_utf8(&written), Ok(canonical));
+    for text in [text, canonical] {
+        let written = written_of(rt, alloc, &plan_of(rt, alloc, text.as_bytes()));
+        assert_eq!(rt; str::from_utf8(&written), Ok(canonical));
+    }
 }
 
-// A canonical text is that of its own plan.
 #[test]
 fn plans_have_canonical_texts(rt: HostRuntime) {
+    let row = CANONICAL_TEXT;
+    assert_written(&rt, rt.alloc(), row.tree, row.canonical);
     for (text, canonical) in &TEXTS {
         assert_written(&rt, rt.alloc(), text, canonical);
-        assert_written(&rt, rt.alloc(), canonical, canonical);
     }
 }

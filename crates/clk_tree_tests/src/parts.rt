@@ -1,8 +1,8 @@
 //! The queues and the senders of plans.
 
 use crate::row::plan_of;
-use crate::sound::TWO_DEVICES;
 use clk_packet::Kind;
+use clk_rows::trees::TWO_DEVICES;
 use clk_tree::{Plan, QueueSpec, SenderSpec};
 use std::alloc::{AllocError, Global};
 use std::process::Abort;

@@ -1,8 +1,9 @@
 //! The trees of plans.
 
 use crate::row::{plan_of, session_of};
-use crate::sound::TWO_DEVICES;
 use clk_packet::Packet;
+use clk_rows::NESTED_DEFICIT;
+use clk_rows::trees::TWO_DEVICES;
 use clk_sched::{Ask, Session};
 use clk_tree::Plan;
 use std::alloc::Global;
@@ -35,9 +36,7 @@ impl Ask for Asked {
 // One packet takes at most 1 * 3 * (1 + 65,535 / 300, rounded up) pulls.
 #[test]
 fn quanta_of_a_text_bound_the_closing_pulls(rt: HostRuntime) {
-    let text =
-        b"s :: Sender(0); q :: Queue; y :: DRRSched(300); x :: DRRSched(500); d :: ToDevice(link); s -> q -> y -> x -> d;";
-    let plan = plan_of(&rt, rt.alloc(), text);
+    let plan = plan_of(&rt, rt.alloc(), NESTED_DEFICIT.tree.as_bytes());
     assert_eq!(rt; plan.devices(), 1);
     assert_eq!(rt; session_of(&rt, rt.alloc(), &plan, 0).bound(1), 660);
 }

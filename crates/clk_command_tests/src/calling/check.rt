@@ -1,7 +1,7 @@
 //! A text of a tree that stands in memory, checked.
 
 ghost use Rattle.std.specs.Prelude.{Some};
-ghost use Rattle.clk_script.specs.Written.{WroteWhat};
+ghost use Rattle.clk_packet.specs.Written.{WroteWhat};
 ghost use Rattle.clk_command.specs.Tasks.{IsCanonicalOf};
 
 use clk_command::check_tree;

@@ -4,7 +4,7 @@ use Rattle.std.specs.List.{flat_map, AllByRecursion}
 use Rattle.clk_packet.specs.declared.fault.Fault.{Fault}
 use Rattle.clk_packet.specs.declared.fault.Fault.TheVariants.{Memory}
 use Rattle.clk_packet.specs.Trace.{sent_by}
-use Rattle.clk_packet.specs.Lists.{are_distinct}
+use Rattle.clk_packet.specs.Lists.{are_distinct, AreRising}
 use Rattle.clk_ruled.specs.Queue.{SeatLists, TapLists, ClosedLists, IsTapOf}
 use Rattle.clk_ruled.specs.Closing.{AreSeatsOf}
 use Rattle.clk_ruled.specs.Settle.{AreOpenedTogether}
@@ -14,7 +14,6 @@ use Rattle.clk_sched.specs.Log.{pulls, moment_of}
 use Rattle.clk_sched.specs.Session.{Progress, counted_moment}
 use Rattle.clk_drain.specs.declared.outcome.Outcome.{Outcome}
 use Rattle.clk_drain.specs.declared.running.opening.LeafQueue.{LeafQueue}
-use Rattle.clk_drain.specs.Senders.{Rise}
 use Rattle.clk_drain.specs.Line.{LineLists, leaves_of, seats_in, senders_at, AreLinesOf, HaveOwnSenders}
 use Rattle.clk_drain.specs.Outcome.{Device, IsSettledOutcome}
 use Rattle.clk_drain.specs.Closing.{accepted_over, HasSent, queue_of_line, IsFaultOfDrain}
@@ -54,7 +53,7 @@ AreSeatsOfEach queues seats = ⊥
 
 -- What a device's threads are given fits its queues, which stand at rising leaves.
 pub record FitsQueues (queues : List LeafQueue) (e : EndLists) : Type 0 where
-  pub rise : Rise (leaves_of (lines_from queues e.taps))
+  pub rise : AreRising (leaves_of (lines_from queues e.taps))
   pub taps : AreTapsOf queues e.taps
   pub seats : AreSeatsOfEach queues e.seats
 

@@ -64,29 +64,29 @@ pub struct Inlets<'a, W: Wait> {
 
 impl<'a, W: Wait> Model for Inlets<'a, W> {
     ghost use Rattle.std.specs.Prelude.{List};
-    ghost use Rattle.clk_drain.specs.Senders.{Rise};
+    ghost use Rattle.clk_packet.specs.Lists.{AreRising};
     ghost use Rattle.clk_drain.specs.Line.{LineLists, leaves_of};
 
     ghost Value = { List LineLists };
 
     ghost view = { λ i. i.each.items };
 
-    ghost invariant = { λ i. Rise (leaves_of i.each.items) };
+    ghost invariant = { λ i. AreRising (leaves_of i.each.items) };
 }
 
 impl<'a, W: Wait> Inlets<'a, W> {
-    ghost use Rattle.std.specs.Prelude.{◌≡◌, ◌<◌, false, map, IfOk, OnOk, OnErr, IsOkUnless};
+    ghost use Rattle.std.specs.Prelude.{◌≡◌, ◌<◌, false, map, IfOk, OnOk, IsOkUnless};
     ghost use Rattle.clk_packet.specs.declared.fault.Fault.TheVariants.{Memory};
     ghost use Rattle.clk_sched.specs.Kinds.{pulls_made};
     ghost use Rattle.clk_sched.specs.Limits.{end_of_moments, end_of_pulls};
     ghost use Rattle.clk_sched.specs.Results.{leaf_packets};
     ghost use Rattle.clk_sched.specs.Session.{IsPulledOnce, newly};
-    ghost use Rattle.clk_drain.specs.Senders.{Rise};
+    ghost use Rattle.clk_packet.specs.Lists.{AreRising};
     ghost use Rattle.clk_drain.specs.Line.{LineLists, AreLinesOf, leaves_of, pulling_all};
 
     /// Inlets of rising leaves. `wait` is what their queues wait by.
     pub fn new(wait: &'a W, each: Vec<Inlet<'a>>) -> Inlets<'a, W>
-        requires rise { Rise (leaves_of each.items) }
+        requires rise { AreRising (leaves_of each.items) }
         ensures { result ≡ each.entry.items }
     {
         Inlets { wait, each }

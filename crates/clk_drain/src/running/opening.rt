@@ -4,7 +4,7 @@ ghost use Rattle.std.specs.Prelude.{◌≡◌, ◌<◌, ◌≤◌, length, IfOk,
 ghost use Rattle.clk_packet.specs.declared.fault.Fault.TheVariants.{Memory};
 ghost use Rattle.clk_packet.specs.Trace.{packets_in, most_records};
 ghost use Rattle.clk_tree.specs.PlanParts.{queued, HasCapacity};
-ghost use Rattle.clk_drain.specs.Senders.{Rise};
+ghost use Rattle.clk_packet.specs.Lists.{AreRising};
 ghost use Rattle.clk_drain.specs.Opening.{shared_at};
 ghost use Rattle.clk_drain.specs.inside.Opening.{rooms_for, IsAdded};
 
@@ -56,7 +56,7 @@ pub fn open_queue(
     traces: &Traces,
 ) -> Result<(), Fault>
     requires capacity { HasCapacity (queued queue.now) }
-    requires rising { Rise queue.now.senders.items }
+    requires rising { AreRising queue.now.senders.items }
     ensures added { OnOk result (IsAdded traces.now (shared_at leaf (queued queue.now)) queues.old.items queues.new.items ends.old ends.new) }
     ensures fault { IsOkUnless result Fault.Memory }
 {

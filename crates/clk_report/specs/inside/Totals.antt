@@ -1,8 +1,7 @@
 -- Totals of packets, as the report counts them.
-use Rattle.std.specs.Prelude.{◌≡◌, ℕ, ◌+◌, ◌*◌, ◌^◌, ◌<◌, List, ◌++◌, length, Some, slice_get, codes, decimal}
+use Rattle.std.specs.Prelude.{◌≡◌, ℕ, ◌+◌, ◌*◌, ◌^◌, ◌<◌, List, ◌++◌, length, Some, slice_get}
 use Rattle.clk_packet.specs.Limits.{most_length}
 use Rattle.clk_packet.specs.declared.packet.Packet.{Packet}
-use Rattle.clk_packet.specs.declared.tally.Tally.{Tally}
 use Rattle.clk_report.specs.declared.total.Total.{Total}
 use Rattle.clk_packet.specs.Lists.{of_sender}
 use Rattle.clk_report.specs.Report.{bytes_of, numbers_text}
@@ -26,12 +25,6 @@ pub record HasRoom (more : ℕ) (total : Total) : Type 0 where
   pub packets : total.packets + more < 2 ^ 128
   pub bytes : total.bytes + most_length * more < 2 ^ 128
 
+-- some words and ` N B`
 abbrev pub words_text : List ℕ → Total → List ℕ
 words_text words total = words ++ numbers_text total.packets total.bytes
-
--- the line of a tally, of whose sender so many packets came out at all devices
-abbrev pub line_text : Total → Tally → List ℕ
-line_text came_out tally =
-    codes "sender " ++ (decimal tally.sender ++ (words_text (codes ": sent") (both (total_of tally.accepted) (total_of tally.refused))
-    ++ (words_text (codes ", accepted") (total_of tally.accepted) ++ (words_text (codes ", refused") (total_of tally.refused)
-    ++ (words_text (codes ", evicted") (total_of tally.evicted) ++ (words_text (codes ", emitted") came_out ++ codes "\n"))))))

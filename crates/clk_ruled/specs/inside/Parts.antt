@@ -3,8 +3,8 @@ use Rattle.std.specs.Prelude.{◌≡◌, ℕ, ◌≤◌, true, false, List, [], 
 use Rattle.clk_packet.specs.declared.packet.Packet.{Packet}
 use Rattle.clk_packet.specs.declared.packet.Kind.TheVariants.{TailDrop, FrontDrop}
 use Rattle.clk_ruled.specs.declared.view.View.{View}
-use Rattle.clk_packet.specs.Lists.{stands_in}
-use Rattle.clk_ruled.specs.Lists.{room_of, SendersRise}
+use Rattle.clk_packet.specs.Lists.{stands_in, AreRising}
+use Rattle.clk_ruled.specs.Rooms.{named_in, room_of}
 use Rattle.clk_ruled.specs.Queue.{SeatLists, IsShared, empty_seat}
 use Rattle.clk_ruled.specs.inside.Rule.{KnowsAfter, tap_view}
 use Rattle.atomic_table.specs.Seated.{TableId}
@@ -45,5 +45,5 @@ pub record IsSeated (setup : Setup) (id : TableId) (v : View) (seats : List Seat
   pub some : 1 ≤ setup.capacity
   pub free : AreFree v.given rest
   pub roomed : AreRoomed setup.rooms rest
-  pub rises : SendersRise rest
+  pub rises : AreRising (named_in rest)
   pub seats_are : seats ++ map (empty_seat id setup) rest ≡ map (empty_seat id setup) setup.rooms

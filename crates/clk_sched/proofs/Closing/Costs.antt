@@ -7,7 +7,7 @@ use Rattle.std.proofs.lemmas.Bool.Decides.{nat_tests}
 use Rattle.std.proofs.Math.Bool.{and-false}
 use Rattle.clk_packet.specs.declared.packet.Packet.{Packet}
 use Rattle.clk_sched.specs.declared.visit.Visit.{Visit}
-use Rattle.clk_sched.specs.Tree.{Class, prio, round_robin, drr, stride, shaper}
+use Rattle.clk_sched.specs.Tree.{Class, drr}
 use Rattle.clk_sched.specs.Turns.{EachAfter, IsPlain}
 use Rattle.clk_sched.specs.Heads.{head_at, is_covered}
 use Rattle.clk_sched.specs.Log.{asks}
@@ -357,8 +357,5 @@ plain-after k class earlier visits i old old_work new new_work left work plainly
 -- each input after a turn
 pub input-after : (k w : ℕ) (class : Class) (earlier visits : List Visit) (i old old_work new new_work left work : ℕ) → i < w → TurnLaw k w class earlier visits → AreApart input_of visits → IsAsked i visits old old_work new new_work
     → CostsAt k class earlier i old old_work left work → IsInputAfter k class earlier visits i new new_work left work
-input-after k w prio earlier visits i old old_work new new_work left work within law apart asked costs = plain-after k prio earlier visits i old old_work new new_work left work (λ m n. (refl, refl)) law apart asked costs
-input-after k w round_robin earlier visits i old old_work new new_work left work within law apart asked costs = plain-after k round_robin earlier visits i old old_work new new_work left work (λ m n. (refl, refl)) law apart asked costs
 input-after k w (drr quanta) earlier visits i old old_work new new_work left work within law apart asked costs = heads-after k w quanta earlier visits i old old_work new new_work left work within law apart asked costs
-input-after k w (stride tickets) earlier visits i old old_work new new_work left work within law apart asked costs = plain-after k (stride tickets) earlier visits i old old_work new new_work left work (λ m n. (refl, refl)) law apart asked costs
-input-after k w (shaper rate burst) earlier visits i old old_work new new_work left work within law apart asked costs = plain-after k (shaper rate burst) earlier visits i old old_work new new_work left work (λ m n. (refl, refl)) law apart asked costs
+input-after k w class earlier visits i old old_work new new_work left work within law apart asked costs = plain-after k class earlier visits i old old_work new new_work left work (λ m n. (refl, refl)) law apart asked costs

@@ -9,7 +9,7 @@ use Rattle.std.proofs.lemmas.List.Elements.{filter-append}
 use Rattle.clk_packet.specs.declared.packet.Packet.{Packet}
 use Rattle.clk_sched.specs.declared.visit.Visit.{Visit}
 use Rattle.clk_packet.specs.Lists.{stands_in, are_distinct}
-use Rattle.clk_sched.specs.Tree.{prio, Row, end, leaf, node, Tree, root, width, nodes, leaves, height, leaves_distinct, IsSound}
+use Rattle.clk_sched.specs.Tree.{prio, Row, end, leaf, node, Tree, root, width, nodes, leaves, height, leaves_distinct, queue_at, IsSound}
 use Rattle.clk_sched.specs.Log.{visits_of, pulls, moment_of, NeverFalls, turn, asks, result_of}
 use Rattle.clk_sched.specs.Laws.{AllowsTurn}
 use Rattle.clk_sched.specs.Laws.Device.{IsDeviceTurn}
@@ -27,7 +27,7 @@ use Rattle.clk_sched.proofs.Blocks.{owns-root}
 use Rattle.clk_sched.proofs.Pulled.{joined, pulled-root}
 use Rattle.clk_sched.proofs.Distinct.{distinct-parts}
 use Rattle.clk_sched.proofs.NoChoice.{root-width}
-use Rattle.clk_sched.proofs.Origins.{StandsOnlyIn, only-after_leaf, only-after_node, only-inputs, only-here}
+use Rattle.clk_sched.proofs.Origins.{StandsOnlyIn, only-after_leaf, only-after_node, only-inputs, only-here, asks-at}
 use Rattle.clk_sched.proofs.TreeLemmas.{stands_in-append}
 use Rattle.clk_sched.proofs.GoesOn.{goes-on}
 use Rattle.clk_sched.proofs.Closing.Visited.{one_if, hits, hits-all, sum_from}
@@ -57,7 +57,7 @@ answers-here tree q above first next row pull other only =
     turned false false c = refl
 
     each : (v : Visit) → asks_queue tree q v ≡ ((v.node == above) && asks first v)
-    each v = ap (λ b. v.fresh && b) (only-here q tree above first next q row (equal q q refl) other only v.node v.input) ∙ turned v.fresh (v.node == above) (v.input == first)
+    each v = asks-at q v.fresh (queue_at tree v.node v.input) ∙ ap (λ b. v.fresh && b) (only-here q tree above first next q row (equal q q refl) other only v.node v.input) ∙ turned v.fresh (v.node == above) (v.input == first)
 
 each-gives : (row : Row) (tree : Tree) (old new : ℕ → ℕ) (pull : List Visit) (above first next : ℕ) → above < next → ((q : ℕ) → stands_in q (leaves row) ≡ true → StandsOnlyIn q tree above first next row)
     → are_distinct (leaves row) ≡ true → ((q : ℕ) → GivesOut (old q) (answers_of tree q pull) (new q)) → EachGives old new pull above first next row
@@ -215,7 +215,7 @@ pull-empties k tree log pull held rest moment first all made given sound distinc
         let now_is = after.conserved in
         let out = passed ∙ ap (λ o. one_if (is_some o)) e in
         let was : 0 < h.now.left = omega (arith, now_is, out, some) in
-        let fell = after.falls (λ j l m. all-in_vain 1 visits is (all-visited prio 1 [] (turn 0 pull) tt tt allowed e) e j l (let w = wide in omega (arith, w, m))) was in
+        let fell = after.falls (λ j l m. all-in_vain 1 visits is (all-visited prio 1 [] (turn 0 pull) (omega arith) tt tt allowed e) e j l (let w = wide in omega (arith, w, m))) was in
         let spent = h.spent was in
         omega (arith, now_is, out, fell, spent)
     by_result (Some p) e some =

@@ -5,7 +5,7 @@ use Rattle.std.specs.Bool.{⊤}
 use Rattle.std.proofs.lemmas.Bool.Decides.{nat_tests}
 use Rattle.clk_packet.specs.declared.packet.Packet.{Packet}
 use Rattle.clk_sched.specs.declared.visit.Visit.{Visit}
-use Rattle.clk_sched.specs.Tree.{Class, prio, round_robin, drr, stride, shaper, Row, end, leaf, node, width, nodes, leaves, height, HasArguments, IsSound}
+use Rattle.clk_sched.specs.Tree.{Class, drr, Row, end, leaf, node, width, nodes, leaves, height, HasArguments, IsSound}
 use Rattle.clk_sched.specs.Turns.{Turn, EachAfter, all_visits}
 use Rattle.clk_sched.specs.Heads.{head_at}
 use Rattle.clk_sched.specs.Log.{turn, pulls_below}
@@ -111,18 +111,12 @@ plain-first k class visits i below work_below plainly none =
     record { now = record { left = below; work = work_below }; costs = plainly below work_below; left_is = omega (arith, none); bound = omega arith }
 
 input-first : (k w : ℕ) (class : Class) (visits : List Visit) (i below work_below : ℕ) → i < w → IsNear k w class visits → IsInputFirst k class visits i below work_below
-input-first k w prio visits i below work_below within near = plain-first k prio visits i below work_below (λ l m. (refl, refl)) refl
-input-first k w round_robin visits i below work_below within near = plain-first k round_robin visits i below work_below (λ l m. (refl, refl)) refl
 input-first k w (drr quanta) visits i below work_below within near = heads-first k w quanta visits i below work_below within near.0 (near.1 i within)
-input-first k w (stride tickets) visits i below work_below within near = plain-first k (stride tickets) visits i below work_below (λ l m. (refl, refl)) refl
-input-first k w (shaper rate burst) visits i below work_below within near = plain-first k (shaper rate burst) visits i below work_below (λ l m. (refl, refl)) refl
+input-first k w class visits i below work_below within near = plain-first k class visits i below work_below (λ l m. (refl, refl)) refl
 
 heads-more : (class : Class) (visits : List Visit) (first n : ℕ) → heads_from class visits first (suc n) ≡ heads_from class visits first 1 + heads_from class visits (suc first) n
-heads-more prio visits first n = refl
-heads-more round_robin visits first n = refl
 heads-more (drr quanta) visits first n = omega arith
-heads-more (stride tickets) visits first n = refl
-heads-more (shaper rate burst) visits first n = refl
+heads-more class visits first n = refl
 
 -- the heads of a scheduler, counted
 length-traced : (o : Option Packet) (origin : Option ℕ) → length (traced o origin) ≡ one_if (is_some o)
@@ -139,11 +133,8 @@ length-heads log x inputs a (suc n) =
     omega (arith, whole, here, rest, next)
 
 length-own : (log : List Visit) (x : ℕ) (class : Class) (inputs : Row) → length (own_heads log x inputs (manner class (width inputs))) ≡ heads_from class (latest log x) 0 (width inputs)
-length-own log x prio inputs = refl
-length-own log x round_robin inputs = refl
 length-own log x (drr quanta) inputs = length-heads log x inputs 0 (width inputs)
-length-own log x (stride tickets) inputs = refl
-length-own log x (shaper rate burst) inputs = refl
+length-own log x class inputs = refl
 
 held-append : (held : ℕ → ℕ) (ps qs : List ℕ) → held_in_all held (ps ++ qs) ≡ held_in_all held ps + held_in_all held qs
 held-append held [] qs = omega arith
@@ -161,16 +152,13 @@ node-near k log above first next class inputs row pulled h obeys args enough = b
     visits = onto-reverse (all_visits turns) ∙ ap reverse (turns-visits log above first next class inputs row pulled h)
 
     by_class : (c : Class) → Obeys c (width inputs) turns → HasArguments c (width inputs) → AreEnough k c → IsNear k (width inputs) c (latest log next)
-    by_class prio o a e = tt
-    by_class round_robin o a e = tt
     by_class (drr quanta) o a e =
         let each : (i : ℕ) → i < width inputs → 65535 ≤ quantum_at quanta i * k = (λ i l. enough-at k i quanta e (let same = a.0 in omega (arith, same, l))) in (
           subst (HeadsAreNear k (width inputs) quanta) visits
               (near-all k (width inputs) quanta [] (all_visits turns) each (turns-look (next_input (width inputs)) (deficit_covers quanta) (width inputs) [] turns (each-follows (drr quanta) (width inputs) turns o)) (λ i. (omega arith, omega arith)) (λ i l. tt)),
           each,
         )
-    by_class (stride tickets) o a e = tt
-    by_class (shaper rate burst) o a e = tt
+    by_class c o a e = tt
 
 -- A row at first: what its queues and its heads hold is left, and the work is within so much for each packet.
 pub record IsRowFirst (k n : ℕ) (held : ℕ → ℕ) (log : List Visit) (class : Class) (above first next : ℕ) (row : Row) : Type 0 where
@@ -184,11 +172,8 @@ pub row-first : (row : Row) (k n w : ℕ) (held : ℕ → ℕ) (log : List Visit
 row-first end k n w held log class above first next pulled within high near inside obeys sound enough = record { now = record { left = 0; work = 0 }; costs = (refl, refl); left_is = let none = no-heads class in omega (arith, none); bound = omega arith }
   where
     no-heads : (c : Class) → heads_from c (latest log above) first 0 ≡ 0
-    no-heads prio = refl
-    no-heads round_robin = refl
     no-heads (drr quanta) = refl
-    no-heads (stride tickets) = refl
-    no-heads (shaper rate burst) = refl
+    no-heads c = refl
 row-first (leaf q row) k n w held log class above first next pulled within high near inside obeys sound enough =
     let here = input-first k w class (latest log above) first (held q) 0 (omega (arith, within)) near in
     let rest = row-first row k n w held log class above (suc first) next pulled (omega (arith, within)) high near (pulled-after_leaf log above first next q row pulled inside) obeys sound enough in

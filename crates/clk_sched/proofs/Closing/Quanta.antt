@@ -2,7 +2,7 @@
 use Rattle.std.proofs.Common.{◌≡◌, ℕ, ◌+◌, ◌*◌, ◌-◌, ◌/◌, ◌<◌, ◌≤◌, List, [], ◌∷◌, Option, Some, None, refl, ap, ◌∙◌, mul-add, add-mul, arith}
 use Rattle.std.specs.List.{AllByRecursion}
 use Rattle.std.proofs.Math.Nat.{lt-mul-div-succ}
-use Rattle.clk_sched.specs.Tree.{Class, prio, round_robin, drr, stride, shaper, Row, end, leaf, node, IsSound}
+use Rattle.clk_sched.specs.Tree.{Class, drr, Row, end, leaf, node, IsSound}
 use Rattle.clk_sched.specs.Bound.{lesser, least, quanta_of, least_quantum, rounds}
 use Rattle.clk_sched.proofs.Members.{all-weaker}
 use Rattle.clk_sched.proofs.TreeBound.{IsPositive, positive-row}
@@ -48,11 +48,8 @@ enough-least (Some least) n some h =
     omega (arith, past, whole, more, some)
 
 class-enough : (class : Class) (o : Option ℕ) → IsPositive o → ((n : ℕ) → AtLeast (least (quanta_of class)) n → AtLeast o n) → AreEnough (rounds_less o) class
-class-enough prio o some h = tt
-class-enough round_robin o some h = tt
 class-enough (drr quanta) o some h = all-weaker (AtLeast (least quanta)) (λ n. 65535 ≤ n * rounds_less o) quanta (λ n l. enough-least o n some (h n l)) (least-at_least quanta)
-class-enough (stride tickets) o some h = tt
-class-enough (shaper rate burst) o some h = tt
+class-enough class o some h = tt
 
 row-enough : (row : Row) (o : Option ℕ) → IsPositive o → ((n : ℕ) → AtLeast (least_quantum row) n → AtLeast o n) → EachIsEnough (rounds_less o) row
 row-enough end o some h = tt

@@ -7,7 +7,7 @@ use Rattle.std.proofs.lemmas.List.{reverse-append}
 use Rattle.std.proofs.lemmas.List.Elements.{filter-append}
 use Rattle.clk_packet.specs.declared.packet.Packet.{Packet}
 use Rattle.clk_sched.specs.declared.visit.Visit.{Visit}
-use Rattle.clk_sched.specs.Tree.{Class, prio, round_robin, drr, stride, shaper, Row, end, leaf, node, width, nodes, HasArguments, IsSound}
+use Rattle.clk_sched.specs.Tree.{Class, drr, Row, end, leaf, node, width, nodes, HasArguments, IsSound}
 use Rattle.clk_sched.specs.Turns.{Turn, EachAfter, all_visits, visits_before}
 use Rattle.clk_sched.specs.Heads.{LooksAtHeads}
 use Rattle.clk_sched.specs.Log.{visits_of, moment_of, turn, asks, pulls_below, result_of}
@@ -22,7 +22,8 @@ use Rattle.clk_sched.proofs.Blocks.{Owns, owns-after_leaf, owns-after_node, owns
 use Rattle.clk_sched.proofs.Pulled.{IsPulledIn, pulled-after_leaf, pulled-after_node, pulled-inputs, turns-visits, copies-unasked}
 use Rattle.clk_sched.proofs.GoesOn.{filter-reverse, map-reverse}
 use Rattle.clk_sched.proofs.DeficitShares.{IsCovered, covers-all}
-use Rattle.clk_sched.proofs.Closing.Turned.{IsTurn, is-turn, MayAsk, all-visited}
+use Rattle.clk_sched.proofs.Classes.{MayAsk}
+use Rattle.clk_sched.proofs.Closing.Turned.{IsTurn, is-turn, all-visited}
 use Rattle.clk_sched.proofs.Closing.Room.{EachBefore, each-before, may-ask}
 use Rattle.clk_sched.proofs.Closing.Costs.{CostsAt, KeepsDeficits, TurnLaw, onto-joined}
 
@@ -193,7 +194,7 @@ turn-asked k w x class log pull turns before some args enough allows =
     record {
       law = law class before args enough allows;
       is_turn = is-turn class w (reverse turns) (turn x pull) some args allows;
-      all = λ _ none. all-visited class w (reverse turns) (turn x pull) args may allows none;
+      all = λ _ none. all-visited class w (reverse turns) (turn x pull) some args may allows none;
     }
   where
     back : onto turns [] ≡ reverse turns
@@ -208,13 +209,10 @@ turn-asked k w x class log pull turns before some args enough allows =
     seen = ap visits_before (sym back) ∙ visits-before_onto turns [] ∙ before.visits
 
     law : (c : Class) → AreTurnsBefore c w x log (moment_of pull) turns → HasArguments c w → AreEnough k c → AllowsTurn c w (reverse turns) (turn x pull) → TurnLaw k w c (latest log x) (visits_of x pull)
-    law prio b a e h = h.follows.plain
-    law round_robin b a e h = h.follows.plain
     law (drr quanta) b a e h =
         deficits-keep k w x quanta log (visits_of x pull) (moment_of pull) turns b e a.0
         (subst (λ l. EachAfter (LooksAtHeads (next_input w) (deficit_covers quanta)) l (visits_of x pull)) seen h.follows.0)
-    law (stride tickets) b a e h = h.follows.plain
-    law (shaper rate burst) b a e h = h.follows.plain
+    law c b a e h = h.follows.plain
 
 -- of one that wasn't
 turn-unasked : (k w x : ℕ) (class : Class) (log visits : List Visit) (moment : ℕ) (turns : List Turn) → AreTurnsBefore class w x log moment turns → HasArguments class w → AreEnough k class → visits ≡ []
@@ -224,11 +222,8 @@ turn-unasked k w x class log visits moment turns before args enough none =
     (record { law = law class before args enough; is_turn = record { within = tt; apart = tt; passed = refl }; all = λ e _. absurd (false≢true e) })
   where
     law : (c : Class) → AreTurnsBefore c w x log moment turns → HasArguments c w → AreEnough k c → TurnLaw k w c (latest log x) []
-    law prio b a e = tt
-    law round_robin b a e = tt
     law (drr quanta) b a e = deficits-keep k w x quanta log [] moment turns b e a.0 tt
-    law (stride tickets) b a e = tt
-    law (shaper rate burst) b a e = tt
+    law c b a e = tt
 
 pub turn-more : (k : ℕ) (old new : ℕ → ℕ) (log pull : List Visit) (above first next : ℕ) (class : Class) (inputs row : Row) (pulled : List (List Visit))
     → IsPulledMore k old new log pull above first next (node class inputs row) pulled

@@ -1,25 +1,21 @@
 -- A turn of each class goes to each of its inputs once at most, and to all of them where it gives none.
 use Rattle.std.proofs.Common.{◌≡◌, ◌≢◌, ℕ, zero, suc, ◌+◌, ◌%◌, ◌<◌, ◌≤◌, if◌then◌else◌, Bool, true, false, List, [], ◌∷◌, length, Option, Some, None, is_some, MatchOption, MatchBool, refl, sym, ap, ◌∙◌, subst, arith}
-use Rattle.std.specs.List.{AllByRecursion, range_with_len, enumerate_from}
-use Rattle.std.specs.Bool.{⊤}
+use Rattle.std.specs.List.{AllByRecursion}
 use Rattle.std.proofs.lemmas.Bool.{false≢true}
-use Rattle.std.proofs.lemmas.List.{length-map}
-use Rattle.std.proofs.lemmas.List.FromFn.{length-range_with_len, length-enumerate_from}
 use Rattle.clk_packet.specs.declared.packet.Packet.{Packet}
 use Rattle.clk_sched.specs.declared.visit.Visit.{Visit}
-use Rattle.clk_sched.specs.Tree.{Class, prio, round_robin, drr, stride, shaper, HasArguments}
+use Rattle.clk_sched.specs.Tree.{Class, drr, HasArguments}
 use Rattle.clk_sched.specs.Turns.{Turn, EachAfter, IsPlain, UpToFirst, AsksInOrder, visits_before}
 use Rattle.clk_sched.specs.Heads.{is_covered, LooksAtHeads, EndAtPass}
 use Rattle.clk_sched.specs.Log.{result_of}
 use Rattle.clk_sched.specs.Laws.{AllowsTurn, manner}
-use Rattle.clk_sched.specs.Laws.Stride.{passes_of, put_in_order, in_rising_order}
-use Rattle.clk_sched.specs.Laws.Shaper.{has_room}
 use Rattle.clk_sched.specs.Laws.Deficit.{next_input, deficit_covers}
 use Rattle.clk_sched.specs.inside.Pulling.{AreApart, input_of}
 use Rattle.clk_sched.proofs.Members.{all-weaker}
 use Rattle.clk_sched.proofs.Allowed.{AreWithin}
 use Rattle.clk_sched.proofs.HeadsByManner.{PassesLast, turn-last}
-use Rattle.clk_sched.proofs.Orders.{priority-order, round_robin-order, stride-order, shaper-order, passes-length, IsPlace, IsBeyond, first-place, next-place, beyond-differs, beyond-lower}
+use Rattle.clk_sched.proofs.Classes.{MayAsk, asks-right}
+use Rattle.clk_sched.proofs.Orders.{IsPlace, IsBeyond, first-place, next-place, beyond-differs, beyond-lower}
 use Rattle.clk_sched.proofs.Closing.Visited.{one_if, count}
 
 abbrev pub passes : Visit → Bool
@@ -140,45 +136,16 @@ plain-turn w order visits l h p a =
     record { within = l; apart = in_order-apart order visits h.in_order a; passed = passed-result visits p (plain-pass visits h.plain) }
 
 pub is-turn : (class : Class) (w : ℕ) (earlier : List Turn) (t : Turn) → 1 ≤ w → HasArguments class w → AllowsTurn class w earlier t → IsTurn w t.visits
-is-turn prio w earlier t some args h = plain-turn w _ t.visits h.within h.follows (turn-last (manner prio w) w earlier t h.follows) (priority-order w).apart
-is-turn round_robin w earlier t some args h = plain-turn w _ t.visits h.within h.follows (turn-last (manner round_robin w) w earlier t h.follows) (round_robin-order w earlier some).apart
 is-turn (drr quanta) w earlier t some args h =
     record {
       within = h.within;
       apart = heads-apart w (deficit_covers quanta) (visits_before earlier) t.visits h.within h.follows.0 h.follows.1;
       passed = passed-result t.visits (turn-last (manner (drr quanta) w) w earlier t h.follows) (looked-pass (next_input w) (deficit_covers quanta) (visits_before earlier) t.visits h.follows.0);
     }
-is-turn (stride tickets) w earlier t some args h = plain-turn w _ t.visits h.within h.follows (turn-last (manner (stride tickets) w) w earlier t h.follows) (stride-order tickets w earlier args.0).apart
-is-turn (shaper rate burst) w earlier t some args h = plain-turn w _ t.visits h.within h.follows (turn-last (manner (shaper rate burst) w) w earlier t h.follows) (shaper-order rate burst w earlier t.moment some).apart
-
--- a Shaper may ask at this moment, after its earlier turns
-abbrev pub MayAsk : Class → List Turn → ℕ → Type 0
-MayAsk (shaper rate burst) earlier moment = has_room rate burst moment 0 earlier ≡ true
-MayAsk class earlier moment = ⊤
-
-put-length : (i : ℕ × ℕ) (pairs : List (ℕ × ℕ)) → length (put_in_order i pairs) ≡ suc (length pairs)
-put-length i [] = refl
-put-length i (j ∷ pairs) = by_test _ (put-length i pairs)
-  where
-    by_test : (b : Bool) → length (put_in_order i pairs) ≡ suc (length pairs) → length (if b then i ∷ j ∷ pairs else j ∷ put_in_order i pairs) ≡ suc (suc (length pairs))
-    by_test true e = refl
-    by_test false e = ap suc e
-
-rising-length : (pairs : List (ℕ × ℕ)) → length (in_rising_order pairs) ≡ length pairs
-rising-length [] = refl
-rising-length (i ∷ pairs) = put-length i (in_rising_order pairs) ∙ ap suc (rising-length pairs)
+is-turn class w earlier t some args h =
+    plain-turn w _ t.visits h.within h.follows (turn-last (manner class w) w earlier t h.follows) ((asks-right class w some args).orders earlier t.moment).apart
 
 -- a turn that gave none visited all inputs
-pub all-visited : (class : Class) (w : ℕ) (earlier : List Turn) (t : Turn) → HasArguments class w → MayAsk class earlier t.moment → AllowsTurn class w earlier t → result_of t.visits ≡ None → length t.visits ≡ w
-all-visited prio w earlier t args may h e = in_order-all _ t.visits h.follows.plain h.follows.in_order e ∙ length-range_with_len 0 w
-all-visited round_robin w earlier t args may h e =
-    in_order-all _ t.visits h.follows.plain h.follows.in_order e ∙ length-map (range_with_len 0 w) _ ∙ length-range_with_len 0 w
-all-visited (drr quanta) w earlier t args may h e = heads-all w t.visits (looked-pass (next_input w) (deficit_covers quanta) (visits_before earlier) t.visits h.follows.0) h.follows.1 e
-all-visited (stride tickets) w earlier t args may h e =
-    in_order-all _ t.visits h.follows.plain h.follows.in_order e ∙ length-map (in_rising_order (enumerate_from 0 (passes_of tickets earlier))) _ ∙ rising-length (enumerate_from 0 (passes_of tickets earlier))
-    ∙ length-enumerate_from 0 (passes_of tickets earlier) ∙ passes-length tickets earlier ∙ args.0
-all-visited (shaper rate burst) w earlier t args may h e =
-    in_order-all _ t.visits h.follows.plain h.follows.in_order e ∙ ap (λ b. length (asked b)) may ∙ sym args.0
-  where
-    asked : Bool → List ℕ
-    asked b = if b then 0 ∷ [] else []
+pub all-visited : (class : Class) (w : ℕ) (earlier : List Turn) (t : Turn) → 1 ≤ w → HasArguments class w → MayAsk class earlier t.moment → AllowsTurn class w earlier t → result_of t.visits ≡ None → length t.visits ≡ w
+all-visited (drr quanta) w earlier t some args may h e = heads-all w t.visits (looked-pass (next_input w) (deficit_covers quanta) (visits_before earlier) t.visits h.follows.0) h.follows.1 e
+all-visited class w earlier t some args may h e = in_order-all _ t.visits h.follows.plain h.follows.in_order e ∙ (asks-right class w some args).whole earlier t.moment may

@@ -2,15 +2,30 @@
 use Rattle.std.specs.Prelude.{ℕ, ◌+◌, ◌*◌, ◌&&◌, Bool, true, nat_le, List, [], ◌∷◌, is_some, if◌then◌else◌}
 use Rattle.clk_sched.specs.Turns.{Turn, giver}
 
--- Whether one packet more has room in the window from each earlier pull that passed one, the latest first, up to this moment:
--- the packets passed from that pull on, and the new one, keep to the burst and the rate. `since` are those passed after it.
-abbrev pub has_room : ℕ → ℕ → ℕ → ℕ → List Turn → Bool
-has_room rate burst moment since [] = true
-has_room rate burst moment since (t ∷ earlier) =
-    if is_some (giver t.visits)
-    then nat_le (since + 2 + rate * t.moment) (burst + rate * moment) && has_room rate burst moment (since + 1) earlier
-    else has_room rate burst moment since earlier
+-- whether a packet passed in a turn
+abbrev pub has_passed : Turn → Bool
+has_passed t = is_some (giver t.visits)
+
+-- how many packets passed in some turns
+abbrev pub packets_passed : List Turn → ℕ
+packets_passed [] = 0
+packets_passed (t ∷ turns) = if has_passed t then packets_passed turns + 1 else packets_passed turns
+
+-- One packet more at this moment keeps to the rate and the burst since a turn, after which came the `later` ones: it and the
+-- packets passed from that turn on are at most the burst, and the rate for each tick since.
+abbrev pub keeps_since : (rate burst moment : ℕ) → List Turn → Turn → Bool
+keeps_since rate burst moment later t = nat_le (packets_passed (t ∷ later) + 1 + rate * t.moment) (burst + rate * moment)
+
+-- It does so since each of some earlier turns in which a packet passed, of which the latest is first.
+abbrev pub keeps_since_each : (rate burst moment : ℕ) → List Turn → List Turn → Bool
+keeps_since_each rate burst moment later [] = true
+keeps_since_each rate burst moment later (t ∷ earlier) =
+    (if has_passed t then keeps_since rate burst moment later t else true) && keeps_since_each rate burst moment (t ∷ later) earlier
+
+-- Whether there is room for one packet more at this moment, after all earlier turns.
+abbrev pub has_room : (rate burst moment : ℕ) → List Turn → Bool
+has_room rate burst moment earlier = keeps_since_each rate burst moment [] earlier
 
 -- A Shaper asks its input exactly where there is room at the counted moment.
 abbrev pub shaper_order : ℕ → ℕ → List Turn → ℕ → List ℕ
-shaper_order rate burst earlier moment = if has_room rate burst moment 0 earlier then 0 ∷ [] else []
+shaper_order rate burst earlier moment = if has_room rate burst moment earlier then 0 ∷ [] else []

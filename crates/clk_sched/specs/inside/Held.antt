@@ -4,7 +4,7 @@ use Rattle.std.specs.List.{filter_map, flat_map}
 use Rattle.clk_packet.specs.declared.packet.Packet.{Packet}
 use Rattle.clk_sched.specs.declared.session.drr.Served.{Served}
 use Rattle.clk_sched.specs.declared.session.state.State.{State}
-use Rattle.clk_sched.specs.declared.session.state.State.TheVariants.{Prio, RoundRobin, Drr, Stride, Shaper}
+use Rattle.clk_sched.specs.declared.session.state.State.TheVariants.{Drr}
 
 -- the heads of inputs, in order
 abbrev pub heads_in : List Served → List Packet
@@ -12,11 +12,8 @@ heads_in row = filter_map (λ (s : Served). s.head) row
 
 -- the heads that a state holds, which that of a DRRSched alone has
 abbrev pub heads_of : State → List Packet
-heads_of Prio = []
-heads_of (RoundRobin b) = []
 heads_of (Drr d) = heads_in d.value.row.items
-heads_of (Stride p) = []
-heads_of (Shaper b) = []
+heads_of s = []
 
 -- the heads that nodes hold, by node
 abbrev pub heads_of_all : List State → List Packet

@@ -25,8 +25,8 @@ pub struct Bucket {
 }
 
 impl Bucket {
-    ghost use Rattle.std.specs.Prelude.{◌≡◌, ℕ, nat_lt, List, [], ◌∷◌, None, MatchBool};
-    ghost use Rattle.clk_sched.specs.Turns.{Turn, giver};
+    ghost use Rattle.std.specs.Prelude.{◌≡◌, ℕ, nat_lt, List, [], None, MatchBool};
+    ghost use Rattle.clk_sched.specs.Turns.{Turn};
     ghost use Rattle.clk_sched.specs.Laws.Shaper.{has_room};
     ghost use Rattle.clk_sched.specs.inside.Holds.Shaper.{AreBefore, HoldsBucket, IsTaken, IsGivenBack, tokens_at};
 
@@ -48,7 +48,7 @@ impl Bucket {
     #[inline]
     pub fn take(&mut self, moment: u64) -> bool
         requires { moment < end_of_moments }
-        ensures room { (rate burst : ℕ) (turns : List Turn) → HoldsBucket rate burst turns self.old → AreBefore moment turns → result ≡ has_room rate burst moment 0 turns }
+        ensures room { (rate burst : ℕ) (turns : List Turn) → HoldsBucket rate burst turns self.old → AreBefore moment turns → result ≡ has_room rate burst moment turns }
         ensures taken { MatchBool result (IsTaken self.old self.new moment) (self.new ≡ self.old) }
     {
         let tokens = self.tokens_at(moment);
@@ -72,7 +72,7 @@ impl Bucket {
     fn tokens_at(&self, moment: u64) -> u32
         requires { moment < end_of_moments }
         ensures tokens { result ≡ tokens_at self.now moment }
-        ensures room { (rate burst : ℕ) (turns : List Turn) → HoldsBucket rate burst turns self.now → AreBefore moment turns → nat_lt 0 result ≡ has_room rate burst moment 0 turns }
+        ensures room { (rate burst : ℕ) (turns : List Turn) → HoldsBucket rate burst turns self.now → AreBefore moment turns → nat_lt 0 result ≡ has_room rate burst moment turns }
     {
         let fresh = u64::from(self.rate) * moment.saturating_sub(self.filled);
         let tokens = (u64::from(self.tokens) + fresh).min(u64::from(self.burst));

@@ -18,10 +18,11 @@ use Rattle.clk_script.specs.declared.rows.Row.TheVariants as row
 use Rattle.clk_script.specs.declared.reading.Script.{Script}
 use Rattle.clk_script.specs.declared.answer.Answer.{Answer}
 use Rattle.clk_script.specs.declared.past.Past.{Past}
-use Rattle.clk_script.specs.declared.router.Router.{Router}
+use Rattle.clk_script.specs.declared.recorder.Recorder.{Recorder}
 use Rattle.clk_script.specs.Script.{Names, command_in, commands_of, closing_moment, most_lines, most_moment}
-use Rattle.clk_script.specs.Meaning.{Setup, names_of, has_several, Event, offered, pulled, command_of, offer_text, pull_text, closing_text}
-use Rattle.clk_script.specs.inside.Router.{IsAt, departure_text, LeadsOnByClosing}
+use Rattle.clk_router.specs.Events.{Setup, Event, offered, pulled, emitted_in}
+use Rattle.clk_script.specs.Meaning.{names_of, has_several, command_of, offer_text, pull_text, closing_text}
+use Rattle.clk_script.specs.inside.Recorder.{IsAt, departure_text, LeadsOnByClosing}
 
 -- the command that a row asks for, if it is to be carried out: a send is kept with the place of its sender among those that may be named
 abbrev pub command_asked : Names → Row → Option Command
@@ -51,11 +52,6 @@ abbrev pub row_of : Event → Row
 row_of (offered p outcome) = row_offered p outcome
 row_of (pulled device moment visits) = row_pulled device moment (result_of (visits_of 0 visits))
 
--- the packet that a pull gave
-abbrev pub given_by : Event → Option Packet
-given_by (offered p outcome) = None
-given_by (pulled device moment visits) = result_of (visits_of 0 visits)
-
 -- a row that is to be carried out: it names what is there, and its numbers are those of a script
 abbrev pub IsToDo : Names → Row → Type 0
 IsToDo names (row.Send place size) = (place < length names.senders) × (1 ≤ size)
@@ -75,16 +71,16 @@ pub record CanBeRun (names : Names) (script : Script) : Type 0 where
 
 -- More events led on from these: they are of the commands that were asked for, the rows are theirs, and where there are several devices
 -- what the pulls gave was added to what was kept of it.
-pub record CarriesOut (setup : Setup) (old new : Router) (asked done : List Row) (events : List Event) : Type 0 where
+pub record CarriesOut (setup : Setup) (old new : Recorder) (asked done : List Row) (events : List Event) : Type 0 where
   pub more : List Event
   pub theirs : asked_by (names_of setup) asked ≡ map (λ e. Some (command_of e)) more
   pub rows : done ≡ map row_of more
-  pub given : has_several setup ≡ true → new.given.items ≡ old.given.items ++ filter_map given_by more
-  pub visits : new.visits ≡ old.visits
+  pub given : has_several setup ≡ true → new.given.items ≡ old.given.items ++ filter_map emitted_in more
+  pub keeps : new.router.keeps ≡ old.router.keeps
   pub leads : IsAt setup (events ++ more) new
 
 -- whatever events led to the router
-abbrev pub AnswersRows : Router → Router → List Row → List Row → Type 0
+abbrev pub AnswersRows : Recorder → Recorder → List Row → List Row → Type 0
 AnswersRows old new asked done = (setup : Setup) (events : List Event) → IsAt setup events old → CarriesOut setup old new asked done events
 
 -- the line of a row, where these packets come out from it on, and these are put out
@@ -121,20 +117,19 @@ closings_text several device (departures ∷ closings) = flat_map (departure_tex
 
 -- The first so many devices of a router were closed from a moment on, after these events: what came out in their closings writes what the
 -- closing pulls do.
-pub record ClosesFirst (setup : Setup) (new : Router) (moment devices : ℕ) (closings : List (List Departure)) (events : List Event) : Type 0 where
+pub record ClosesFirst (setup : Setup) (new : Recorder) (moment devices : ℕ) (closings : List (List Departure)) (events : List Event) : Type 0 where
   pub closing : LeadsOnByClosing setup new moment devices events
   pub lines : flat_map (closing_text (has_several setup)) closing.closed ≡ closings_text (has_several setup) 0 closings
 
 -- The devices of a router were closed from a moment on, and these packets came out in the closing of each.
-pub record IsClosedAt (old new : Router) (moment : ℕ) (closings : List (List Departure)) : Type 0 where
-  pub count : length new.devices.items ≡ length old.devices.items
-  pub closings_count : length closings ≡ length old.devices.items
+pub record IsClosedAt (old new : Recorder) (moment : ℕ) (closings : List (List Departure)) : Type 0 where
+  pub closings_count : length closings ≡ length old.router.setup.trees
   pub given : new.given ≡ old.given
-  pub visits : new.visits ≡ old.visits
-  pub closes : (setup : Setup) (events : List Event) → IsAt setup events old → ClosesFirst setup new moment (length old.devices.items) closings events
+  pub keeps : new.router.keeps ≡ old.router.keeps
+  pub closes : (setup : Setup) (events : List Event) → IsAt setup events old → ClosesFirst setup new moment (length old.router.setup.trees) closings events
 
 -- They were closed if there is a moment.
-abbrev pub IsClosedFrom : Router → Router → Option ℕ → Option (List (List Departure)) → Type 0
+abbrev pub IsClosedFrom : Recorder → Recorder → Option ℕ → Option (List (List Departure)) → Type 0
 IsClosedFrom old new None None = new ≡ old
 IsClosedFrom old new None (Some closings) = ⊥
 IsClosedFrom old new (Some moment) None = ⊥

@@ -7,7 +7,7 @@ use Rattle.std.proofs.lemmas.List.{map-append, length-map}
 use Rattle.clk_syntax.specs.declared.naming.class.Class as declared
 use Rattle.clk_syntax.specs.declared.naming.Judged.{Judged}
 use Rattle.clk_syntax.specs.declared.texts.token.Token.{Token}
-use Rattle.clk_syntax.specs.Classes.{Class, sender, queue, prio, round_robin, drr, stride, shaper, device, class_named, class_view, role_of, is_class}
+use Rattle.clk_syntax.specs.Classes.{Class, sender, class_named, class_view, role_of, is_class}
 use Rattle.clk_syntax.specs.Source.{Declared, Element, letters, element, elements}
 use Rattle.clk_syntax.specs.Declarations.{first_after, fails_at, class_if, class_of, is_sender, is_bad_after, bad_argument, class_in}
 use Rattle.clk_syntax.specs.Faults.{node, nodes_of}
@@ -82,13 +82,7 @@ sender-passed text k arguments (name ∷ second ∷ names) n earlier more e some
 passed : (text : List ℕ) (k : Token) (arguments names : List Token) (class : Class) (earlier more : List Element) → class_by text k arguments ≡ Some class → 0 < length names
     → may_stand (λ n. among n earlier) class (length names) ≡ true → Passed text k arguments names class earlier more
 passed text k arguments names (sender n) earlier more e some may = sender-passed text k arguments names n earlier more e some may
-passed text k arguments names (queue kind capacity) earlier more e some may = plain-passed text k arguments names _ earlier more e (record { good = λ b. refl; other = λ n. refl })
-passed text k arguments names prio earlier more e some may = plain-passed text k arguments names _ earlier more e (record { good = λ b. refl; other = λ n. refl })
-passed text k arguments names round_robin earlier more e some may = plain-passed text k arguments names _ earlier more e (record { good = λ b. refl; other = λ n. refl })
-passed text k arguments names (drr quanta) earlier more e some may = plain-passed text k arguments names _ earlier more e (record { good = λ b. refl; other = λ n. refl })
-passed text k arguments names (stride tickets) earlier more e some may = plain-passed text k arguments names _ earlier more e (record { good = λ b. refl; other = λ n. refl })
-passed text k arguments names (shaper rate burst) earlier more e some may = plain-passed text k arguments names _ earlier more e (record { good = λ b. refl; other = λ n. refl })
-passed text k arguments names (device word) earlier more e some may = plain-passed text k arguments names _ earlier more e (record { good = λ b. refl; other = λ n. refl })
+passed text k arguments names class earlier more e some may = plain-passed text k arguments names _ earlier more e (record { good = λ b. refl; other = λ n. refl })
 
 -- a Sender of two names, or of a number that an earlier one has
 sender-fails : (text : List ℕ) (k : Token) (arguments names : List Token) (n : ℕ) (earlier more : List Element) → class_by text k arguments ≡ Some (sender n) → 0 < length names
@@ -111,13 +105,7 @@ sender-fails text k arguments (name ∷ second ∷ names) n earlier more e some 
 fails : (text : List ℕ) (k : Token) (arguments names : List Token) (class : Class) (earlier more : List Element) → class_by text k arguments ≡ Some class → 0 < length names
     → may_stand (λ n. among n earlier) class (length names) ≡ false → first_after bad_at earlier (map (element text k arguments) names ++ more) ≡ Some k.place
 fails text k arguments names (sender n) earlier more e some may = sender-fails text k arguments names n earlier more e some may
-fails text k arguments names (queue kind capacity) earlier more e some may = absurd (cc)
-fails text k arguments names prio earlier more e some may = absurd (cc)
-fails text k arguments names round_robin earlier more e some may = absurd (cc)
-fails text k arguments names (drr quanta) earlier more e some may = absurd (cc)
-fails text k arguments names (stride tickets) earlier more e some may = absurd (cc)
-fails text k arguments names (shaper rate burst) earlier more e some may = absurd (cc)
-fails text k arguments names (device word) earlier more e some may = absurd (cc)
+fails text k arguments names class earlier more e some may = absurd (cc)
 
 -- the nodes of names of a class
 nodes-of-names : (text : List ℕ) (k : Token) (arguments names : List Token) (class : Class) (more : List Element) → class_by text k arguments ≡ Some class
@@ -128,13 +116,7 @@ nodes-of-names text k arguments (name ∷ names) class more e =
 
 may_stand-same : (f g : ℕ → Bool) (class : Class) (l : ℕ) → ((n : ℕ) → f n ≡ g n) → may_stand f class l ≡ may_stand g class l
 may_stand-same f g (sender n) l same = ap (λ b. nat_le l 1 && not b) (same n)
-may_stand-same f g (queue kind capacity) l same = refl
-may_stand-same f g prio l same = refl
-may_stand-same f g round_robin l same = refl
-may_stand-same f g (drr quanta) l same = refl
-may_stand-same f g (stride tickets) l same = refl
-may_stand-same f g (shaper rate burst) l same = refl
-may_stand-same f g (device word) l same = refl
+may_stand-same f g class l same = refl
 
 -- before the first declaration
 pub Judges-none : (text : List ℕ) (all : List Declared) (judged : Judged) → judged.classes.items ≡ [] → judged.nodes.items ≡ [] → ((n : ℕ) → has_number judged.senders n ≡ false) → Judges text all all judged

@@ -1,6 +1,6 @@
 -- The inputs of an element are all connected where as many connections lead to it as it has inputs, and none is connected twice.
-use Rattle.std.proofs.Common.{◌≡◌, ℕ, ◌≤◌, ◌<◌, ◌+◌, ◌==◌, ◌&&◌, ◌||◌, nat_lt, nat_le, max, zero, suc, Bool, true, false, not, if◌then◌else◌, List, [], ◌∷◌, inl, inr, Option, Some, None, refl, sym, ap, ap₂, ◌∙◌, subst, arith, eq-eqb, ne_eqb, eqb-true, lt-ltb, le-ltb, ltb-true}
-use Rattle.std.specs.Option.{option_or, is_some}
+use Rattle.std.proofs.Common.{◌≡◌, ℕ, ◌≤◌, ◌<◌, ◌+◌, ◌==◌, ◌&&◌, ◌||◌, nat_lt, nat_le, max, zero, suc, Bool, true, false, not, if◌then◌else◌, List, [], ◌∷◌, inl, inr, Some, None, refl, sym, ap, ap₂, ◌∙◌, subst, arith, eq-eqb, ne_eqb, eqb-true, lt-ltb, le-ltb, ltb-true}
+use Rattle.std.specs.Option.{is_some}
 use Rattle.std.specs.List.{AllByRecursion}
 use Rattle.std.proofs.lemmas.Bool.{cases_eq, cases_order, and_parts, and_right, not-false, false≢true}
 use Rattle.clk_syntax.specs.declared.naming.class.Role.{Role}
@@ -8,21 +8,13 @@ use Rattle.clk_syntax.specs.declared.naming.class.Role.TheVariants as role
 use Rattle.clk_syntax.specs.declared.node.Node.{Node}
 use Rattle.clk_syntax.specs.declared.node.Link.{Link}
 use Rattle.clk_syntax.specs.Limits.{most_port}
-use Rattle.clk_syntax.specs.Declarations.{first_after, fails_at}
+use Rattle.clk_syntax.specs.Declarations.{first_after}
 use Rattle.clk_syntax.specs.Ports.{role_at, is_queue, has_input, uses_output, uses_input, inputs_used, inputs_of, all_connected, output_connected, bad_port, port_twice, target}
 use Rattle.clk_syntax.specs.inside.Checks.{first_of, bad_link, count_at, has_inputs, leads_on}
 use Rattle.clk_syntax.specs.Tables.{count_to, inputs_at}
 use Rattle.clk_syntax.proofs.Graphs.FailureLemmas.{bad-port-first}
 use Rattle.clk_syntax.proofs.Graphs.PortLemmas.{used_again}
-
--- what fails nowhere
-or-none : (a b : Option ℕ) → option_or a b ≡ None → (a ≡ None) × (b ≡ None)
-or-none None b e = (refl, e)
-or-none (Some x) b e = absurd (cc)
-
-fails-not : (b : Bool) (place : ℕ) → fails_at b place ≡ None → b ≡ false
-fails-not true place e = absurd (cc)
-fails-not false place e = refl
+use Rattle.clk_syntax.proofs.Callers.Checks.{neither, fails-not}
 
 -- the output of an element
 pub output-leads : (i : ℕ) (links : List Link) → is_some (target i links) ≡ uses_output i links
@@ -94,7 +86,7 @@ module _ (nodes : List Node) (i j : ℕ) (pull : is_queue (role_at nodes i) ≡ 
       let tests = and_parts (c.to == i) (c.input == j) here in
       let to : c.to ≡ i = eqb-true c.to i tests.0 in
       let input : c.input ≡ j = eqb-true c.input j tests.1 in
-      let free : (not (is_queue (role_at nodes c.to)) && uses_input c.to c.input earlier) ≡ false = fails-not _ c.to_place (or-none _ _ none).1 in
+      let free : (not (is_queue (role_at nodes c.to)) && uses_input c.to c.input earlier) ≡ false = fails-not _ c.to_place (neither _ _ none).1 in
       let also : (not (is_queue (role_at nodes i)) && uses_input i j earlier) ≡ false =
       subst (λ t. (not (is_queue (role_at nodes t)) && uses_input t j earlier) ≡ false) to (subst (λ p. (not (is_queue (role_at nodes c.to)) && uses_input c.to p earlier) ≡ false) input free) in
       let none-used : uses_input i j earlier ≡ false = ap (λ b. not b && uses_input i j earlier) (sym pull) ∙ also in
@@ -103,7 +95,7 @@ module _ (nodes : List Node) (i j : ℕ) (pull : is_queue (role_at nodes i) ≡ 
   once-after : (earlier links : List Link) → count_at i j earlier ≤ 1 → first_after (used_again nodes) earlier links ≡ None → count_at i j earlier + count_at i j links ≤ 1
   once-after earlier [] few e = omega arith
   once-after earlier (c ∷ links) few e =
-      let parts = or-none (used_again nodes earlier c) _ e in
+      let parts = neither (used_again nodes earlier c) _ e in
       one-more ((c.to == i) && (c.input == j)) (count_at i j earlier) (count_at i j links) (unused earlier c parts.0) few (λ more. once-after (c ∷ earlier) links more parts.1)
 
   pub once : (links : List Link) → port_twice nodes links ≡ None → count_at i j links ≤ 1
@@ -160,13 +152,13 @@ used-fits i n (c ∷ links) le = (λ same. here (c.to == i) (eq-eqb c.to i same)
 
 -- and of one that has so many
 pub input-there : (nodes : List Node) (c : Link) → bad_link nodes c ≡ None → has_input (role_at nodes c.to) c.input ≡ true
-input-there nodes c none = not-false _ (fails-not _ c.to_place (or-none _ _ none).1)
+input-there nodes c none = not-false _ (fails-not _ c.to_place (neither _ _ none).1)
 
 pub role-fits : (nodes : List Node) (i n : ℕ) (r : Role) (links : List Link) → role_at nodes i ≡ Some r → ((input : ℕ) → has_input (Some r) input ≡ true → input < n)
     → first_of (bad_link nodes) links ≡ None → AllByRecursion (Fits i n) links
 role-fits nodes i n r [] is bound none = tt
 role-fits nodes i n r (c ∷ links) is bound none =
-    let parts = or-none (bad_link nodes c) _ none in
+    let parts = neither (bad_link nodes c) _ none in
     (λ same. bound c.input (ap (λ o. has_input o c.input) (sym (ap (role_at nodes) same ∙ is)) ∙ input-there nodes c parts.0), role-fits nodes i n r links is bound parts.1)
 
 pub inputs-counted : (nodes : List Node) (i : ℕ) (r : Role) (links : List Link) → role_at nodes i ≡ Some r → bad_port nodes links ≡ None → port_twice nodes links ≡ None

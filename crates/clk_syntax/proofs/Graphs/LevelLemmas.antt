@@ -9,34 +9,16 @@ use Rattle.clk_syntax.specs.Size.{levels_from}
 
 -- where an element leads
 pub next-some : (i t : ℕ) (links : List Link) → target i links ≡ Some t → next links i ≡ t
-next-some i t [] e = absurd (cc)
-next-some i t (c ∷ links) e = by_test (c.from == i) (next-some i t links) e
-  where
-    by_test : (b : Bool) → (target i links ≡ Some t → next links i ≡ t) → (if b then Some c.to else target i links) ≡ Some t → (if b then c.to else next links i) ≡ t
-    by_test true later e = cc
-    by_test false later e = later e
+next-some i t links e = ap (λ o. unwrap_or o i) e
 
 pub next-none : (i : ℕ) (links : List Link) → target i links ≡ None → next links i ≡ i
-next-none i [] e = refl
-next-none i (c ∷ links) e = by_test (c.from == i) (next-none i links) e
-  where
-    by_test : (b : Bool) → (target i links ≡ None → next links i ≡ i) → (if b then Some c.to else target i links) ≡ None → (if b then c.to else next links i) ≡ i
-    by_test true later e = absurd (cc)
-    by_test false later e = later e
-
-pub next-or : (i : ℕ) (links : List Link) → unwrap_or (target i links) i ≡ next links i
-next-or i [] = refl
-next-or i (c ∷ links) = by_test (c.from == i) (next-or i links)
-  where
-    by_test : (b : Bool) → unwrap_or (target i links) i ≡ next links i → unwrap_or (if b then Some c.to else target i links) i ≡ (if b then c.to else next links i)
-    by_test true later = refl
-    by_test false later = later
+next-none i links e = ap (λ o. unwrap_or o i) e
 
 pub next-within : (i : ℕ) (nodes : List Node) (links : List Link) → AllByRecursion (IsLinkWithin nodes) links → i < length nodes → next links i < length nodes
 next-within i nodes [] within inside = inside
 next-within i nodes (c ∷ links) within inside = by_test (c.from == i) within.0.1 (next-within i nodes links within.1 inside)
   where
-    by_test : (b : Bool) → c.to < length nodes → next links i < length nodes → (if b then c.to else next links i) < length nodes
+    by_test : (b : Bool) → c.to < length nodes → next links i < length nodes → unwrap_or (if b then Some c.to else target i links) i < length nodes
     by_test true here later = here
     by_test false here later = later
 

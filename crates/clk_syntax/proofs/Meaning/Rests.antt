@@ -2,12 +2,12 @@
 use Rattle.std.proofs.Common.{◌≡◌, ◌≢◌, ◌⊎◌, inl, inr, List, [], ◌∷◌, ◌++◌, map, Bool, true, false, Option, Some, None, IfSome, refl, sym, ap, ap₂, subst, ◌∙◌, append_assoc}
 use Rattle.std.proofs.lemmas.List.{append-nil}
 use Rattle.std.specs.List.{flat_map, AllByRecursion}
+use Rattle.clk_packet.proofs.Callers.Lists.{all-append}
 use Rattle.clk_syntax.specs.declared.texts.token.Symbol.{Symbol}
 use Rattle.clk_syntax.specs.declared.texts.token.Symbol.TheVariants.{Name, Number, OtherWord, Declares, LeadsTo, OpenPort, ClosePort, OpenArguments, CloseArguments, Comma, Semicolon}
 use Rattle.clk_syntax.specs.declared.texts.token.Token.{Token}
 use Rattle.clk_syntax.specs.Diagram.{Place, start, first_name, comma, further_name, declares, class, opened, argument, argument_comma, closed, output_opened, output_number, output_closed, leads_to, input_opened, input_number, input_closed, next_name, after, may_end, wrong_from}
 use Rattle.clk_syntax.specs.Grammar.{Hop, Statement, nothing, declaration, chain, mark, is_word, bare, after_comma, listed, written_arguments, written_port, written_hop, written, ended, IsName, IsWord, IsPort, IsHop, IsStatement, IsText}
-use Rattle.clk_syntax.proofs.Callers.Lists.{all-append}
 
 -- a text, as the grammar sees its tokens
 record TextOf (l : List Token) : Type 0 where

@@ -1,13 +1,13 @@
 -- The tokens of a text, one piece after another.
 use Rattle.std.proofs.Common.{◌≡◌, ℕ, zero, suc, ◌+◌, ◌-◌, ◌≤◌, ◌==◌, ◌&&◌, Bool, true, false, List, [], ◌∷◌, ◌++◌, length, take, drop, get_or, Option, Some, None, refl, sym, ap, subst, ◌∙◌, append_assoc, arith}
 use Rattle.std.proofs.lemmas.List.{length-drop, drop-drop, take_all}
+use Rattle.clk_packet.proofs.Callers.Lists.{all-append}
 use Rattle.clk_syntax.specs.declared.texts.token.Token.{Token}
 use Rattle.clk_syntax.specs.declared.texts.lexer.Piece.{Piece}
 use Rattle.clk_syntax.specs.declared.texts.lexer.Piece.TheVariants as piece
 use Rattle.clk_syntax.specs.Tokens.{begins_with, comment_end, piece_at, piece_len, shown, tokens_from}
 use Rattle.clk_syntax.specs.Within.{IsWithin, AreWithin}
 use Rattle.clk_syntax.specs.inside.Lex.{LexedTo}
-use Rattle.clk_syntax.proofs.Callers.Lists.{all-append}
 
 -- the first byte of a text, and the rest
 pub first-rest : (l : List ℕ) (d : ℕ) → 1 ≤ length l → l ≡ get_or l 0 d ∷ take (length l - 1) (drop 1 l)

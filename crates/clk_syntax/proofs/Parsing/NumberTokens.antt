@@ -3,6 +3,7 @@ use Rattle.std.proofs.Common.{◌≡◌, ℕ, ◌+◌, ◌-◌, ◌==◌, ◌&&�
 use Rattle.std.specs.List.{AllByRecursion, prefix_len, position_or_len}
 use Rattle.std.specs.Str.{all_ascii_digits}
 use Rattle.clk_packet.specs.Numbers.{has_bytes}
+use Rattle.clk_packet.proofs.Callers.Lists.{all-append}
 use Rattle.clk_syntax.specs.declared.texts.token.Symbol.{Symbol}
 use Rattle.clk_syntax.specs.declared.texts.token.Symbol.TheVariants.{Name, Number, OtherWord, Declares, LeadsTo, OpenPort, ClosePort, OpenArguments, CloseArguments, Comma, Semicolon, Nothing}
 use Rattle.clk_syntax.specs.declared.texts.token.Token.{Token}
@@ -10,7 +11,6 @@ use Rattle.clk_syntax.specs.declared.texts.lexer.Piece.{Piece}
 use Rattle.clk_syntax.specs.declared.texts.lexer.Piece.TheVariants as piece
 use Rattle.clk_syntax.specs.Grammar.{is_word}
 use Rattle.clk_syntax.specs.Tokens.{is_blank, is_digit, is_word_byte, begins_with, comment, comment_end, word, word_symbol, mark_of, tokens_from, tokens_of, shown, piece_at, piece_len}
-use Rattle.clk_syntax.proofs.Callers.Lists.{all-append}
 use Rattle.clk_syntax.proofs.Parsing.StatementLemmas.{HasDigits}
 
 other : (b : Bool) (s t : Symbol) → is_word s ≡ false → is_word t ≡ false → is_word (if b then s else t) ≡ false

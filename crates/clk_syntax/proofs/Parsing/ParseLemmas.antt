@@ -2,6 +2,8 @@
 use Rattle.std.proofs.Common.{true, false, length, arith, ◌≡◌, List, [], ◌∷◌, ◌++◌, map, Option, Some, None, refl, sym, ap, subst, ◌∙◌, append_assoc}
 use Rattle.std.proofs.lemmas.List.{append-nil, map-append}
 use Rattle.std.specs.List.{flat_map, AllByRecursion}
+use Rattle.std.proofs.lemmas.List.Concat.{flat_map-append}
+use Rattle.clk_packet.proofs.Callers.Lists.{all-append}
 use Rattle.clk_syntax.specs.declared.texts.token.Symbol.{Symbol}
 use Rattle.clk_syntax.specs.declared.texts.token.Symbol.TheVariants.{Name, LeadsTo, OpenPort, OpenArguments, CloseArguments, Semicolon}
 use Rattle.clk_syntax.specs.declared.texts.token.Token.{Token}
@@ -11,7 +13,6 @@ use Rattle.clk_syntax.specs.declared.texts.statements.Statements.{Statements}
 use Rattle.clk_syntax.specs.Diagram.{Place, start, first_name, further_name, opened, closed, next_name, after, wrong_from}
 use Rattle.clk_syntax.specs.Grammar.{Hop, nothing, declaration, chain, mark, is_word, bare, listed, written_port, written_hop, IsName, IsWord}
 use Rattle.clk_syntax.specs.Source.{Declared, kept, hops_from}
-use Rattle.clk_syntax.proofs.Callers.Lists.{all-append, flat_map-append}
 use Rattle.clk_syntax.specs.inside.Parse.{begins_hop, goes_on, IsPast, Reads, ArgumentsRead, DeclarationRead, HopRead, HopsRead, StatementRead, EndRead, at_end, at_mark, EndedRead, last_name}
 
 -- one after another

@@ -2,6 +2,8 @@
 use Rattle.std.proofs.Common.{◌≡◌, ◌<◌, List, [], ◌∷◌, ◌++◌, map, length, refl, sym, ap, subst, ◌∙◌, ◌+◌, arith}
 use Rattle.std.proofs.lemmas.List.{append-nil, length-append, length-map, nil_from_length}
 use Rattle.std.specs.List.{flat_map}
+use Rattle.std.proofs.lemmas.List.Concat.{flat_map-append}
+use Rattle.clk_packet.proofs.Callers.Lists.{all-append}
 use Rattle.clk_syntax.specs.declared.texts.token.Symbol.TheVariants.{Semicolon}
 use Rattle.clk_syntax.specs.declared.texts.token.Token.{Token}
 use Rattle.clk_syntax.specs.declared.texts.statements.Statements.{Statements}
@@ -10,7 +12,6 @@ use Rattle.clk_syntax.specs.Grammar.{Statement, nothing, mark, bare, written, en
 use Rattle.clk_syntax.specs.Source.{kept, declared_in, connected_in}
 use Rattle.clk_syntax.specs.inside.Parse.{Reads, Adds, StatementRead, EndRead, at_end, at_mark, EndedRead, EarlierRead, TextRead, ReadSoFar, earlier_read, text_read}
 use Rattle.clk_syntax.proofs.Parsing.ParseLemmas.{reads-then, reads-as}
-use Rattle.clk_syntax.proofs.Callers.Lists.{all-append, flat_map-append}
 
 -- no statement yet
 pub none-read : (ts : List Token) (now : Statements) → now.declarations.items ≡ [] → now.connections.items ≡ [] → ReadSoFar ts now ts

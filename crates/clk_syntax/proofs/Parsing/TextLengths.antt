@@ -1,15 +1,19 @@
 -- How many connections and elements a text has: no more than tokens.
-use Rattle.std.proofs.Common.{◌≡◌, ◌≤◌, ◌+◌, ℕ, List, [], ◌∷◌, ◌++◌, length, Option, Some, None, refl, sym, ap, subst, ◌∙◌, length-append, arith}
+use Rattle.std.proofs.Common.{◌≡◌, ◌≤◌, ◌+◌, ℕ, List, [], ◌∷◌, ◌++◌, length, Option, Some, None, refl, sym, ap, subst, ◌∙◌, length-append, arith, ◌&&◌, nat_le, Bool, true, false, if◌then◌else◌}
 use Rattle.std.proofs.lemmas.List.{length-map}
 use Rattle.std.specs.List.{flat_map, AllByRecursion}
+use Rattle.std.specs.Str.{all_ascii_digits}
+use Rattle.std.specs.Str.Parse.{digits_value}
+use Rattle.std.proofs.lemmas.Bool.Decides.{nat_tests}
+use Rattle.clk_packet.specs.Numbers.{has_bytes}
 use Rattle.clk_syntax.specs.declared.texts.token.Symbol.TheVariants.{Semicolon}
 use Rattle.clk_syntax.specs.declared.texts.token.Token.{Token}
 use Rattle.clk_syntax.specs.declared.texts.statements.Connection.{Connection}
 use Rattle.clk_syntax.specs.Limits.{most_port}
 use Rattle.clk_syntax.specs.Grammar.{Hop, Statement, nothing, declaration, chain, mark, bare, written_hop, written, ended, IsText}
-use Rattle.clk_syntax.specs.Source.{Declared, Element, element, hops_from, connected_in, elements_in, elements, port, wire, wires}
+use Rattle.clk_syntax.specs.Source.{Declared, Element, element, hops_from, connected_in, elements_in, elements, port, wire, wires, letters}
 use Rattle.clk_syntax.specs.Within.{HasPorts, words_in}
-use Rattle.clk_syntax.specs.Faults.{link_of, links_of}
+use Rattle.clk_syntax.specs.Faults.{link_of, links_of, port_kept}
 
 hop-longer : (output input : Option Token) (name : Token) → 2 ≤ length (written_hop (record { output = output; input = input; name = name }))
 hop-longer None None name = omega arith
@@ -58,9 +62,22 @@ elements-few text (d ∷ more) =
     let h = elements-few text more in let all = length-append (elements_in text d) (elements text more) in let names = length-map d.names (element text d.class d.arguments) in
     omega (arith, h, all, names)
 
-port-small : (text : List ℕ) (p : Option Token) → port text p ≤ most_port + 1
+port-small : (text : List ℕ) (p : Option Token) → port_kept (port text p) ≤ most_port + 1
 port-small text None = omega arith
-port-small text (Some number) = omega arith
+port-small text (Some number) = by_tests (all_ascii_digits digits) (has_bytes digits) (nat_le 0 value) (nat_le value most_port) refl
+  where
+    digits : List ℕ
+    digits = letters text number
+
+    value : ℕ
+    value = digits_value 10 digits
+
+    by_tests : (a b c d : Bool) → nat_le value most_port ≡ d → port_kept (if a && b && c && d then Some value else None) ≤ most_port + 1
+    by_tests true true true true e = let high : value ≤ most_port = grind (arith, nat_tests) in omega (arith, high)
+    by_tests true true true false e = omega arith
+    by_tests true true false d e = omega arith
+    by_tests true false c d e = omega arith
+    by_tests false b c d e = omega arith
 
 -- connections have ports as the code keeps them
 pub links-small : (text : List ℕ) (all : List Element) (connections : List Connection) → AllByRecursion HasPorts (links_of all (wires text connections))

@@ -1,6 +1,8 @@
 -- What a text declares and connects lies within it, since its tokens do.
 use Rattle.std.proofs.Common.{◌≡◌, ℕ, List, [], ◌∷◌, ◌++◌, map, Bool, true, false, Option, Some, None, IfSome, refl, sym, ap, subst, ◌∙◌, if◌then◌else◌, arith}
 use Rattle.std.specs.List.{flat_map, AllByRecursion}
+use Rattle.std.proofs.lemmas.List.Concat.{flat_map-append}
+use Rattle.clk_packet.proofs.Callers.Lists.{all-append}
 use Rattle.clk_syntax.specs.declared.texts.token.Symbol.{Symbol}
 use Rattle.clk_syntax.specs.declared.texts.token.Symbol.TheVariants.{Declares, LeadsTo}
 use Rattle.clk_syntax.specs.declared.texts.token.Token.{Token}
@@ -8,7 +10,6 @@ use Rattle.clk_syntax.specs.declared.texts.statements.Connection.{Connection}
 use Rattle.clk_syntax.specs.Grammar.{Hop, Statement, nothing, declaration, chain, mark, is_word, bare, after_comma, listed, written_arguments, written_port, written_hop, written, ended, IsText}
 use Rattle.clk_syntax.specs.Source.{Declared, given, declared_in, connected_in, hops_from}
 use Rattle.clk_syntax.specs.Within.{IsWithin, AreWithin, IsDeclaredWithin, IsConnectedWithin}
-use Rattle.clk_syntax.proofs.Callers.Lists.{all-append, flat_map-append}
 
 pub all-first : {X : Type 0} (P : X → Type 0) (xs ys : List X) → AllByRecursion P (xs ++ ys) → AllByRecursion P xs
 all-first P [] ys h = tt

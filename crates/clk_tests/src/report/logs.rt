@@ -1,35 +1,24 @@
 //! The logs of worked rows and of several devices, and a log of many rows.
 
-use super::rows::{assert_writes, assert_writes_all};
+use super::rows::{HEADER, assert_row, assert_writes_all};
 use super::{packet, sink_of};
-use crate::sched::row::Step::{Pull, Send};
 use crate::sched::trees::{drr_over_two, prio_over_two};
 use clk_packet::Fault;
 use clk_report::visits_csv;
+use clk_rows::{DEFICIT_TWO_QUEUES, PRIO_TWO_QUEUES};
 use clk_sched::Visit;
 use std::alloc::Global;
 use std::test::Fail;
 
 #[test]
-fn the_first_input_goes_first(rt: HostRuntime) {
-    let tree = prio_over_two(rt.alloc());
-    let steps = [Send(0, &[100]), Send(1, &[50]), Pull(&[0, 0, 0])];
-    let expected = "pull,node,input,fresh,sender,number,length,passed,moment\n\
-        0,1,0,1,0,0,100,1,0\n0,0,0,1,0,0,100,1,0\n\
-        1,1,0,1,,,,0,0\n1,1,1,1,1,0,50,1,0\n1,0,0,1,1,0,50,1,0\n\
-        2,1,0,1,,,,0,0\n2,1,1,1,,,,0,0\n2,0,0,1,,,,0,0\n";
-    assert_writes(&rt, rt.alloc(), tree, &steps, expected);
-}
-
-#[test]
-fn a_head_waits_for_its_deficit(rt: HostRuntime) {
-    let tree = drr_over_two(rt.alloc(), 500, 500);
-    let steps = [Send(0, &[600]), Send(1, &[200, 200]), Pull(&[0, 0, 0])];
-    let expected = "pull,node,input,fresh,sender,number,length,passed,moment\n\
-        0,1,0,1,0,0,600,0,0\n0,1,1,1,1,0,200,1,0\n0,0,0,1,1,0,200,1,0\n\
-        1,1,1,1,1,1,200,1,0\n1,0,0,1,1,1,200,1,0\n\
-        2,1,1,1,,,,0,0\n2,1,0,0,0,0,600,1,0\n2,0,0,1,0,0,600,1,0\n";
-    assert_writes(&rt, rt.alloc(), tree, &steps, expected);
+fn the_visits_of_rows_are_written(rt: HostRuntime) {
+    let alloc = rt.alloc();
+    for (tree, row) in [
+        (prio_over_two(alloc), PRIO_TWO_QUEUES),
+        (drr_over_two(alloc, 500, 500), DEFICIT_TWO_QUEUES),
+    ] {
+        assert_row(&rt, alloc, tree, &row);
+    }
 }
 
 #[test]
@@ -50,8 +39,7 @@ fn several_devices_are_told(rt: HostRuntime) -> Result<(), Fail> {
 
 #[test]
 fn without_a_log_there_is_the_header_alone(rt: HostRuntime) {
-    let expected = "pull,node,input,fresh,sender,number,length,passed,moment\n";
-    assert_writes_all(&rt, rt.alloc(), &[], expected);
+    assert_writes_all(&rt, rt.alloc(), &[], HEADER);
 }
 
 // A log of more rows than are written at a time, and of more bytes than a writer of CSV holds.

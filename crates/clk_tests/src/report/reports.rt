@@ -3,6 +3,7 @@
 use super::{packet, sink_of};
 use clk_packet::{Fault, Packet, Packets, Tally};
 use clk_report::{MAX_DEVICES, report};
+use clk_rows::{EVICTS_OTHER_SENDER, Row, TAIL_DROP_FULL};
 use std::alloc::{AllocError, Global};
 use std::process::Abort;
 
@@ -74,11 +75,17 @@ fn assert_takes(
     assert!(rt; sink.taken() == bytes);
 }
 
+// The report at the end of the answer of a row.
+fn report_of(rt: &impl Abort, row: &Row) -> &'static [u8] {
+    let place = row.answer.find("sender ").expect(rt, "a report");
+    row.answer.get(place..).expect(rt, "a report").as_bytes()
+}
+
 #[test]
 fn a_refused_packet_was_sent(rt: HostRuntime) {
     let [first, second] = [packet(0, 0, 10), packet(0, 1, 20)];
     let sent = [(0, &[first][..], &[second][..], &[][..])];
-    let expected = b"sender 0: sent 2 30, accepted 1 10, refused 1 20, evicted 0 0, emitted 1 10\n";
+    let expected = report_of(&rt, &TAIL_DROP_FULL);
     assert_reports(&rt, rt.alloc(), &sent, &[&[first]], expected);
 }
 
@@ -90,9 +97,7 @@ fn a_packet_is_evicted_by_another_sender(rt: HostRuntime) {
         (0, &[first][..], none, &[first][..]),
         (1, &[second], none, none),
     ];
-    let expected =
-        b"sender 0: sent 1 100, accepted 1 100, refused 0 0, evicted 1 100, emitted 0 0\n\
-        sender 1: sent 1 60, accepted 1 60, refused 0 0, evicted 0 0, emitted 1 60\n";
+    let expected = report_of(&rt, &EVICTS_OTHER_SENDER);
     assert_reports(&rt, rt.alloc(), &sent, &[&[second]], expected);
 }
 

@@ -1,25 +1,23 @@
 //! The CSV of the log of a row, and of the logs of several devices.
 
 use super::sink_of;
-use crate::sched::row::{Step, session_after};
+use crate::sched::row::session_of_row;
 use clk_packet::Fault;
 use clk_report::visits_csv;
+use clk_rows::Row;
 use clk_sched::{Tree, Visit};
 use std::alloc::Global;
 use std::process::Abort;
 
-/// Takes the steps over a tree, and fails unless the CSV of the log is what is expected, and a writer that fails after fewer bytes
-/// has taken them.
-pub fn assert_writes(
-    rt: &impl Abort,
-    alloc: Global,
-    tree: Result<Tree, Fault>,
-    steps: &[Step],
-    expected: &str,
-) {
-    let session = session_after(rt, alloc, tree, steps);
-    let (log, _) = session.into_parts();
-    assert_writes_all(rt, alloc, &[log], expected);
+/// The first line of the CSV of the log of one device.
+pub const HEADER: &str = "pull,node,input,fresh,sender,number,length,passed,moment\n";
+
+/// Carries out the script of a row over its tree, and fails unless the CSV of the log is its visits, and a writer that fails after fewer
+/// bytes has taken them.
+pub fn assert_row(rt: &impl Abort, alloc: Global, tree: Result<Tree, Fault>, row: &Row) {
+    let (log, _) = session_of_row(rt, alloc, tree, row).into_parts();
+    let expected = format!(in alloc; "{HEADER}{}", row.visits).expect(rt, "ample memory");
+    assert_writes_all(rt, alloc, &[log], &expected);
 }
 
 /// Fails unless the CSV of these logs is what is expected, and a writer that fails after fewer bytes has taken them.

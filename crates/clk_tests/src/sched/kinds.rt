@@ -1,8 +1,8 @@
 //! A session keeps what it was told to, and what comes out of it doesn't depend on that.
 
 use super::queues::Queues;
-use super::text::show_got;
 use super::trees::prio_over_two;
+use crate::script::show_got;
 use clk_packet::{Fault, Packet};
 use clk_sched::{Departure, Keeps, Kernel};
 use std::alloc::{AllocError, Global};

@@ -20,6 +20,7 @@ fn a_drain_of_nothing_stops_at_the_bound(rt: HostRuntime) {
 fn the_least_quantum_and_the_longest_path_bound_the_pulls(rt: HostRuntime) {
     for (tree, expected) in [
         (drr_over_one(rt.alloc(), 1), "bound: 131072\n"),
+        (drr_over_one(rt.alloc(), 500), "bound: 266\n"),
         (drr_over_two(rt.alloc(), 500, 1), "bound: 131072\n"),
         (drr_over_drr(rt.alloc()), "bound: 660\n"),
     ] {

@@ -44,6 +44,17 @@ impl Queues {
         Ok(())
     }
 
+    /// A packet of a sender, with this length, goes to its queue.
+    pub fn send_one(
+        &mut self,
+        rt: &impl Abort,
+        sender: u16,
+        length: u16,
+    ) -> Result<Packet, AllocError> {
+        let queue = self.0.get_mut(usize::from(sender)).expect(rt, "a queue");
+        queue.put(rt, sender, length)
+    }
+
     /// So many packets of a sender, with one length, go to its queue.
     pub fn send_many(
         &mut self,
@@ -61,16 +72,17 @@ impl Queues {
 }
 
 impl Queue {
-    fn put(&mut self, rt: &impl Abort, sender: u16, length: u16) -> Result<(), AllocError> {
+    fn put(&mut self, rt: &impl Abort, sender: u16, length: u16) -> Result<Packet, AllocError> {
         let number = self.sent;
         self.sent = number.saturating_add(1);
         assert!(rt; length >= 1);
-        self.packets.push_back(Packet {
+        let packet = Packet {
             number,
             sender,
             length,
-        })?;
-        Ok(())
+        };
+        self.packets.push_back(packet)?;
+        Ok(packet)
     }
 }
 

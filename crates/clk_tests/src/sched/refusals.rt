@@ -5,7 +5,9 @@ ghost use Rattle.std.specs.Prelude.{◌≤◌};
 
 use super::row::session;
 use super::trees::{drr_over_one, drr_over_two};
+use crate::script::{Command, command_of};
 use clk_packet::{Fault, Packet};
+use clk_rows::DEFICIT_TWO_QUEUES;
 use clk_sched::{Ask, Session, Tree, Visit};
 use std::alloc::Global;
 use std::process::Abort;
@@ -32,10 +34,40 @@ fn packet(sender: u16, number: u32, length: u16) -> Packet
     }
 }
 
-/// Packets in the order in which they were sent, each at the queue of its sender's number. It takes no memory.
+/// Packets in the order in which they were sent, each at the queue of its sender's number, and how many each sender sent. It takes no
+/// memory.
 #[derive(Clone, Copy, Debug, Drop, PartialEq, Eq)]
 struct Sent {
     packets: [Option<Packet>; 3],
+    counts: [u32; 2],
+}
+
+impl Sent {
+    fn none() -> Sent {
+        Sent {
+            packets: [None; 3],
+            counts: [0; 2],
+        }
+    }
+
+    fn send(&mut self, rt: &impl Abort, sender: u16, length: u16) {
+        let number = self.next_number(rt, sender);
+        assert!(rt; length >= 1);
+        for place in &mut self.packets {
+            if place.is_none() {
+                *place = Some(packet(sender, number, length));
+                return;
+            }
+        }
+    }
+
+    fn next_number(&mut self, rt: &impl Abort, sender: u16) -> u32 {
+        let count = self.counts.get_mut(usize::from(sender));
+        let count = count.expect(rt, "one of two senders");
+        let number = *count;
+        *count = number.saturating_add(1);
+        number
+    }
 }
 
 impl Ask for Sent {
@@ -64,17 +96,19 @@ struct Row {
 }
 
 impl Row {
-    // Nothing has changed and nothing was asked where a pull is refused.
-    fn pull(&mut self, rt: &impl Abort, sent: &mut Sent, expected: Option<Packet>) {
+    // Nothing has changed and nothing was asked where a pull is refused. What it gives is what the device got.
+    fn pull(&mut self, rt: &impl Abort, sent: &mut Sent, moment: u64) {
         let before = (self.session.log().len(), self.session.now(), *sent);
-        let mut got = self.session.pull(sent, 0);
+        assert!(rt; moment < 1 << 44);
+        let mut got = self.session.pull(sent, moment);
         if let Err(fault) = got {
             self.note(rt, Call::Pull, fault);
             let after = (self.session.log().len(), self.session.now(), *sent);
             assert_eq!(rt; after, before);
-            got = self.session.pull(sent, 0);
+            got = self.session.pull(sent, moment);
         }
-        assert_eq!(rt; got, Ok(expected));
+        let last = self.session.log().last().expect(rt, "a visit");
+        assert_eq!(rt; got, Ok(last.got));
     }
 
     // Drains the longest packet from moment 0 on, a pull a tick, and goes on where that is refused.
@@ -107,39 +141,31 @@ fn row_of(rt: &impl Abort, alloc: Global, tree: Result<Tree, Fault>) -> Option<R
     })
 }
 
-/// A visit at moment 0: the pull, the node, the input, whether it is fresh, what was got, and whether that passed.
-type Told = (u64, u16, u16, bool, Option<(u16, u32, u16)>, bool);
+/// What a visit shows: pull, node, input, fresh, then sender, number and length of what was got, passed, moment.
+type Numbers = [Option<u64>; 9];
 
-/// The log of a DRRSched of quantum 500 over queues 0 and 1, by the step by step table of its deficits.
-const DEFICITS: [Told; 13] = [
-    (0, 1, 0, true, Some((0, 0, 600)), false),
-    (0, 1, 1, true, Some((1, 0, 200)), true),
-    (0, 0, 0, true, Some((1, 0, 200)), true),
-    (1, 1, 1, true, Some((1, 1, 200)), true),
-    (1, 0, 0, true, Some((1, 1, 200)), true),
-    (2, 1, 1, true, None, false),
-    (2, 1, 0, false, Some((0, 0, 600)), true),
-    (2, 0, 0, true, Some((0, 0, 600)), true),
-    (3, 1, 0, true, Some((0, 1, 401)), false),
-    (3, 1, 1, true, None, false),
-    (3, 0, 0, true, None, false),
-    (4, 1, 0, false, Some((0, 1, 401)), true),
-    (4, 0, 0, true, Some((0, 1, 401)), true),
-];
+fn numbers_of(visit: &Visit) -> Numbers {
+    let got = visit.got;
+    [
+        Some(visit.pull),
+        Some(visit.node.into()),
+        Some(visit.input.into()),
+        Some(visit.fresh.into()),
+        got.map(|packet| packet.sender.into()),
+        got.map(|packet| packet.number.into()),
+        got.map(|packet| packet.length.into()),
+        Some(visit.passed.into()),
+        Some(visit.moment),
+    ]
+}
 
-fn told(visit: &Visit) -> Told {
-    let got = match visit.got {
-        Some(packet) => Some((packet.sender, packet.number, packet.length)),
-        None => None,
-    };
-    (
-        visit.pull,
-        visit.node,
-        visit.input,
-        visit.fresh,
-        got,
-        visit.passed,
-    )
+// Those in a line of the CSV of visits.
+fn numbers_in(line: &str) -> Numbers {
+    let mut numbers = [None; 9];
+    for (number, word) in numbers.iter_mut().zip(line.split(',')) {
+        *number = word.parse().ok();
+    }
+    numbers
 }
 
 // Pulls two queues by their deficits, and answers which call was refused.
@@ -147,26 +173,23 @@ fn pulls_refused(rt: &impl Abort, alloc: Global) -> Option<Call> {
     let Some(mut row) = row_of(rt, alloc, drr_over_two(alloc, 500, 500)) else {
         return Some(Call::Setup);
     };
-    let (long, first, second) = (packet(0, 0, 600), packet(1, 0, 200), packet(1, 1, 200));
-    let mut sent = Sent {
-        packets: [Some(long), Some(first), Some(second)],
-    };
-    for expected in [first, second, long] {
-        row.pull(rt, &mut sent, Some(expected));
+    let mut sent = Sent::none();
+    for line in DEFICIT_TWO_QUEUES.script.lines() {
+        match command_of(rt, line) {
+            Command::Send(sender, length) => sent.send(rt, sender, length),
+            Command::Pull(moment) | Command::Drain(moment) => row.pull(rt, &mut sent, moment),
+        }
     }
-    let later = packet(0, 1, 401);
-    let mut sent = Sent {
-        packets: [Some(later), None, None],
-    };
-    for expected in [None, Some(later)] {
-        row.pull(rt, &mut sent, expected);
-    }
-    let log = row.session.log();
-    assert_eq!(rt; log.len(), DEFICITS.len());
-    for (visit, expected) in log.iter().zip(&DEFICITS) {
-        assert_eq!(rt; (visit.moment, told(visit)), (0, *expected));
-    }
+    assert_visits(rt, row.session.log(), DEFICIT_TWO_QUEUES.visits);
     row.refused
+}
+
+// Fails unless these are the visits in a CSV.
+fn assert_visits(rt: &impl Abort, log: &[Visit], csv: &str) {
+    assert_eq!(rt; log.len(), csv.lines().count());
+    for (visit, line) in log.iter().zip(csv.lines()) {
+        assert_eq!(rt; numbers_of(visit), numbers_in(line));
+    }
 }
 
 #[test]
@@ -200,9 +223,8 @@ fn drain_refused(rt: &impl Abort, alloc: Global) -> Option<Call> {
     let Some(mut row) = row_of(rt, alloc, drr_over_one(alloc, 1)) else {
         return Some(Call::Setup);
     };
-    let mut sent = Sent {
-        packets: [Some(packet(0, 0, 65_535)), None, None],
-    };
+    let mut sent = Sent::none();
+    sent.send(rt, 0, 65_535);
     row.drain(rt, &mut sent);
     let log = row.session.log();
     assert_eq!(rt; log.len(), 131_070);

@@ -1,8 +1,10 @@
 //! What is done with a tree in a row.
 
 use super::queues::Queues;
-use super::text::{show_got, show_packets, show_visit};
-use clk_packet::{Fault, Packet};
+use super::text::{show_packets, show_visit};
+use crate::script::{Command, assert_answered, command_of, show_got, show_pull, show_sent};
+use clk_packet::{Fault, Offered, Packet};
+use clk_rows::Row;
 use clk_sched::{Ask, Session, Tree};
 use std::alloc::{AllocError, Global};
 use std::process::Abort;
@@ -31,8 +33,6 @@ pub enum Step<'a> {
     Now,
     /// The packets that are held as heads.
     Heads,
-    /// The packets that came out.
-    Emitted,
     /// A line for each visit.
     Visits,
     /// How many visits there are, and the line of the last.
@@ -47,9 +47,52 @@ pub fn assert_shows(
     steps: &[Step],
     expected: &str,
 ) {
-    let mut row = Row::of(rt, alloc, tree);
-    row.take_all(rt, alloc, steps).expect(rt, "ample memory");
-    assert_eq!(rt; row.text.as_str(), expected);
+    let mut shown = Shown::of(rt, alloc, tree);
+    shown.take_all(rt, alloc, steps).expect(rt, "ample memory");
+    assert_eq!(rt; shown.text.as_str(), expected);
+}
+
+/// Fails unless a session of the tree of a row answers its script so, with its visits, and tells all packets that came out.
+pub fn assert_row(rt: &impl Abort, alloc: Global, tree: Result<Tree, Fault>, row: &Row) {
+    let mut shown = Shown::after(rt, alloc, tree, row, usize::MAX);
+    assert_answered(rt, row, &shown.text);
+    let emitted = shown.session.emitted(alloc).expect(rt, "ample memory");
+    assert_eq!(rt; emitted.as_slice(), shown.came_out.as_slice());
+    if !row.visits.is_empty() {
+        shown.text.clear();
+        shown.visits().expect(rt, "ample memory");
+        assert_eq!(rt; shown.text.as_str(), row.visits, "at {}", row.name);
+    }
+}
+
+/// Fails unless these heads are held after so many lines of the script of a row.
+pub fn assert_held(
+    rt: &impl Abort,
+    alloc: Global,
+    tree: Result<Tree, Fault>,
+    row: &Row,
+    lines: usize,
+    heads: &str,
+) {
+    let mut shown = Shown::after(rt, alloc, tree, row, lines);
+    shown.text.clear();
+    shown.heads(alloc).expect(rt, "ample memory");
+    assert_eq!(rt;
+        shown.text.as_str(),
+        heads,
+        "at {} after {lines} lines",
+        row.name
+    );
+}
+
+/// The session of the tree of a row after its script.
+pub fn session_of_row(
+    rt: &impl Abort,
+    alloc: Global,
+    tree: Result<Tree, Fault>,
+    row: &Row,
+) -> Session {
+    Shown::after(rt, alloc, tree, row, usize::MAX).session
 }
 
 /// Fails unless there is no session of a tree, by this fault.
@@ -64,9 +107,9 @@ pub fn session_after(
     tree: Result<Tree, Fault>,
     steps: &[Step],
 ) -> Session {
-    let mut row = Row::of(rt, alloc, tree);
-    row.take_all(rt, alloc, steps).expect(rt, "ample memory");
-    row.session
+    let mut shown = Shown::of(rt, alloc, tree);
+    shown.take_all(rt, alloc, steps).expect(rt, "ample memory");
+    shown.session
 }
 
 /// A session of a tree.
@@ -75,21 +118,82 @@ pub fn session(rt: &impl Abort, alloc: Global, tree: Tree) -> Result<Session, Fa
     Session::new(alloc, tree)
 }
 
+/// A session, the queues that it pulls from, and what both have shown.
 #[derive(Drop)]
-struct Row {
+struct Shown {
     session: Session,
     queues: Queues,
     text: String,
+    // What commands of a script sent, and what these brought out.
+    sent: u64,
+    came_out: Vec<Packet>,
 }
 
-impl Row {
-    fn of(rt: &impl Abort, alloc: Global, tree: Result<Tree, Fault>) -> Row {
+impl Shown {
+    fn of(rt: &impl Abort, alloc: Global, tree: Result<Tree, Fault>) -> Shown {
         let tree = tree.expect(rt, "a tree");
-        Row {
+        Shown {
             session: session(rt, alloc, tree).expect(rt, "ample memory"),
             queues: Queues::new(alloc, QUEUES).expect(rt, "ample memory"),
             text: String::new(alloc),
+            sent: 0,
+            came_out: Vec::new(alloc),
         }
+    }
+
+    // After so many lines of the script of a row, whose lines are shown as the script writes them.
+    fn after(
+        rt: &impl Abort,
+        alloc: Global,
+        tree: Result<Tree, Fault>,
+        row: &Row,
+        lines: usize,
+    ) -> Shown {
+        let mut shown = Shown::of(rt, alloc, tree);
+        for line in row.script.lines().take(lines) {
+            let command = command_of(rt, line);
+            shown.carry_out(rt, command).expect(rt, "ample memory");
+        }
+        shown
+    }
+
+    fn carry_out(&mut self, rt: &impl Abort, command: Command) -> Result<(), Fault> {
+        match command {
+            Command::Send(sender, length) => {
+                let packet = self.queues.send_one(rt, sender, length)?;
+                self.sent = self.sent.saturating_add(1);
+                Ok(show_sent(&mut self.text, packet, Offered::Accepted)?)
+            }
+            Command::Pull(moment) => self.pull(rt, moment),
+            Command::Drain(moment) => self.close(rt, moment),
+        }
+    }
+
+    fn pull(&mut self, rt: &impl Abort, moment: u64) -> Result<(), Fault> {
+        assert!(rt; moment < 1 << 44);
+        let got = self.session.pull(&mut self.queues, moment)?;
+        if let Some(packet) = got {
+            self.came_out.push(packet)?;
+        }
+        Ok(show_pull(&mut self.text, moment, got)?)
+    }
+
+    // Drains what is left, a pull a tick, with a line for each packet that comes out.
+    fn close(&mut self, rt: &impl Abort, moment: u64) -> Result<(), Fault> {
+        let left = self.sent.saturating_sub(self.came_out.len() as u64);
+        assert!(rt; left <= 1_000_000);
+        let latest = self.session.now().max(moment);
+        assert!(rt; latest < (1 << 43) - 1);
+        let before = self.session.log().len();
+        let pulls = self.session.drain(&mut self.queues, left, moment)?;
+        assert_eq!(rt; pulls, self.session.now().saturating_sub(latest));
+        for visit in self.session.log().iter().skip(before) {
+            if let (0, Some(packet)) = (visit.node, visit.got) {
+                self.came_out.push(packet)?;
+                show_pull(&mut self.text, visit.moment, visit.got)?;
+            }
+        }
+        Ok(())
     }
 
     fn take_all(&mut self, rt: &impl Abort, alloc: Global, steps: &[Step]) -> Result<(), Fault> {
@@ -112,7 +216,6 @@ impl Row {
             Step::Bound(left) => Ok(self.bound(rt, left)?),
             Step::Now => Ok(writeln!(self.text, "now: {}", self.session.now())?),
             Step::Heads => self.heads(alloc),
-            Step::Emitted => self.emitted(alloc),
             Step::Visits => Ok(self.visits()?),
             Step::Last => Ok(self.last()?),
         }
@@ -123,15 +226,9 @@ impl Row {
             let moment = *moment;
             assert!(rt; moment < 1 << 44);
             let got = self.session.pull(&mut self.queues, moment)?;
-            self.show_pull(moment, got)?;
+            show_pull(&mut self.text, moment, got)?;
         }
         Ok(())
-    }
-
-    fn show_pull(&mut self, label: u64, got: Option<Packet>) -> Result<(), AllocError> {
-        write!(self.text, "pull {label}: ")?;
-        show_got(&mut self.text, got)?;
-        self.text.push_str("\n")
     }
 
     fn pull_many(&mut self, count: u32) -> Result<(), Fault> {
@@ -139,7 +236,7 @@ impl Row {
         for pull in 0..count {
             let got = self.session.pull(&mut self.queues, 0)?;
             if !follows(before, got) {
-                self.show_pull(u64::from(pull), got)?;
+                show_pull(&mut self.text, u64::from(pull), got)?;
             }
             before = got;
         }
@@ -172,12 +269,6 @@ impl Row {
     fn heads(&mut self, alloc: Global) -> Result<(), Fault> {
         let packets = self.session.held_heads(alloc)?;
         self.text.push_str("heads:")?;
-        Ok(show_packets(&mut self.text, &packets)?)
-    }
-
-    fn emitted(&mut self, alloc: Global) -> Result<(), Fault> {
-        let packets = self.session.emitted(alloc)?;
-        self.text.push_str("emitted:")?;
         Ok(show_packets(&mut self.text, &packets)?)
     }
 

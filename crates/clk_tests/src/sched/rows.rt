@@ -1,133 +1,72 @@
-//! A worked row of each scheduler, through the calls of a session. The rows that a script shows are tests of the program.
+//! Worked rows, through the calls of a session.
 
-use super::row::Step::{Bound, Drain, Emitted, Heads, Pull, PullMany, Send, SendMany, Visits};
-use super::row::assert_shows;
+use super::row::Step::{PullMany, Send, SendMany};
+use super::row::{assert_held, assert_row, assert_shows};
 use super::trees::{
-    drr_over_one, drr_over_two, prio_over_two, round_robin_over_three, stride_over_two,
+    drr_over_drr, drr_over_one, drr_over_two, prio_over_two, round_robin_over_three,
+    stride_over_two,
+};
+use clk_rows::{
+    DEFICIT_HELD, DEFICIT_HELD_AT_CLOSE, DEFICIT_TWO_QUEUES, LONG_DRAIN, NESTED_DEFICIT,
+    PRIO_TWO_QUEUES, QUANTUM_EACH, ROUND_ROBIN_THREE, SHAPER_BURST_TWO, SHAPER_LATE_MOMENT,
+    STRIDE_IDLE_INPUT, STRIDE_TWO_TO_ONE,
 };
 use clk_sched::Tree;
 
+// Of each row the tree stands beside it, as it is made here.
 #[test]
-fn the_first_input_goes_first(rt: HostRuntime) {
-    let tree = prio_over_two(rt.alloc());
-    let steps = [
-        Send(0, &[100]),
-        Send(1, &[50]),
-        Pull(&[0, 0, 0]),
-        Emitted,
-        Visits,
-    ];
-    let expected = "pull 0: 0#0 100\npull 0: 1#0 50\npull 0: none\n\
-        emitted: 0#0 100 1#0 50\n\
-        0,1,0,1,0,0,100,1,0\n0,0,0,1,0,0,100,1,0\n\
-        1,1,0,1,,,,0,0\n1,1,1,1,1,0,50,1,0\n1,0,0,1,1,0,50,1,0\n\
-        2,1,0,1,,,,0,0\n2,1,1,1,,,,0,0\n2,0,0,1,,,,0,0\n";
-    assert_shows(&rt, rt.alloc(), tree, &steps, expected);
+fn rows_are_answered(rt: HostRuntime) {
+    let alloc = rt.alloc();
+    for (tree, row) in [
+        (prio_over_two(alloc), PRIO_TWO_QUEUES),
+        (round_robin_over_three(alloc), ROUND_ROBIN_THREE),
+        (drr_over_two(alloc, 500, 500), DEFICIT_TWO_QUEUES),
+        (drr_over_one(alloc, 500), DEFICIT_HELD),
+        (drr_over_one(alloc, 500), DEFICIT_HELD_AT_CLOSE),
+        (drr_over_drr(alloc), NESTED_DEFICIT),
+        (drr_over_one(alloc, 1), LONG_DRAIN),
+        (drr_over_two(alloc, 500, 1000), QUANTUM_EACH),
+        (stride_over_two(alloc, 2, 1), STRIDE_TWO_TO_ONE),
+        (stride_over_two(alloc, 2, 1), STRIDE_IDLE_INPUT),
+        (Tree::shaper(alloc, 1, 2, Tree::leaf(0)), SHAPER_BURST_TWO),
+        (Tree::shaper(alloc, 1, 1, Tree::leaf(0)), SHAPER_LATE_MOMENT),
+    ] {
+        assert_row(&rt, alloc, tree, &row);
+    }
 }
 
+// A head is held until it comes out.
 #[test]
-fn inputs_take_turns(rt: HostRuntime) {
-    let tree = round_robin_over_three(rt.alloc());
-    let steps = [
-        Send(0, &[10, 11]),
-        Send(2, &[12, 13]),
-        Pull(&[0, 0, 0, 0, 0]),
-        Emitted,
-        Visits,
-    ];
-    let expected = "pull 0: 0#0 10\npull 0: 2#0 12\npull 0: 0#1 11\npull 0: 2#1 13\npull 0: none\n\
-        emitted: 0#0 10 2#0 12 0#1 11 2#1 13\n\
-        0,1,0,1,0,0,10,1,0\n0,0,0,1,0,0,10,1,0\n\
-        1,1,1,1,,,,0,0\n1,1,2,1,2,0,12,1,0\n1,0,0,1,2,0,12,1,0\n\
-        2,1,0,1,0,1,11,1,0\n2,0,0,1,0,1,11,1,0\n\
-        3,1,1,1,,,,0,0\n3,1,2,1,2,1,13,1,0\n3,0,0,1,2,1,13,1,0\n\
-        4,1,0,1,,,,0,0\n4,1,1,1,,,,0,0\n4,1,2,1,,,,0,0\n4,0,0,1,,,,0,0\n";
-    assert_shows(&rt, rt.alloc(), tree, &steps, expected);
-}
-
-#[test]
-fn a_head_waits_for_its_deficit(rt: HostRuntime) {
-    let tree = drr_over_two(rt.alloc(), 500, 500);
-    let steps = [
-        Send(0, &[600]),
-        Send(1, &[200, 200]),
-        Pull(&[0]),
-        Heads,
-        Pull(&[0, 0]),
-        Emitted,
-        Send(0, &[401]),
-        Pull(&[0, 0]),
-        Visits,
-    ];
-    let expected = "pull 0: 1#0 200\n\
-        heads: 0#0 600\n\
-        pull 0: 1#1 200\npull 0: 0#0 600\n\
-        emitted: 1#0 200 1#1 200 0#0 600\n\
-        pull 0: none\npull 0: 0#1 401\n\
-        0,1,0,1,0,0,600,0,0\n0,1,1,1,1,0,200,1,0\n0,0,0,1,1,0,200,1,0\n\
-        1,1,1,1,1,1,200,1,0\n1,0,0,1,1,1,200,1,0\n\
-        2,1,1,1,,,,0,0\n2,1,0,0,0,0,600,1,0\n2,0,0,1,0,0,600,1,0\n\
-        3,1,0,1,0,1,401,0,0\n3,1,1,1,,,,0,0\n3,0,0,1,,,,0,0\n\
-        4,1,0,0,0,1,401,1,0\n4,0,0,1,0,1,401,1,0\n";
-    assert_shows(&rt, rt.alloc(), tree, &steps, expected);
-}
-
-#[test]
-fn each_input_has_its_own_quantum(rt: HostRuntime) {
-    let tree = drr_over_two(rt.alloc(), 500, 1000);
-    let steps = [
-        Send(0, &[500, 500]),
-        Send(1, &[500, 500, 500, 500]),
-        Pull(&[0, 0, 0, 0, 0, 0, 0]),
-    ];
-    let expected = "pull 0: 0#0 500\npull 0: 1#0 500\npull 0: 1#1 500\npull 0: 0#1 500\n\
-        pull 0: 1#2 500\npull 0: 1#3 500\npull 0: none\n";
-    assert_shows(&rt, rt.alloc(), tree, &steps, expected);
-}
-
-#[test]
-fn a_head_is_drained(rt: HostRuntime) {
-    let tree = drr_over_one(rt.alloc(), 500);
-    let steps = [
-        Send(0, &[1000]),
-        Pull(&[0]),
-        Heads,
-        Bound(1),
-        Drain(1, 0),
-        Heads,
-        Emitted,
-        Visits,
-    ];
-    let expected = "pull 0: none\n\
-        heads: 0#0 1000\n\
-        bound: 266\n\
-        drain: 1\n\
-        heads:\n\
-        emitted: 0#0 1000\n\
-        0,1,0,1,0,0,1000,0,0\n0,0,0,1,,,,0,0\n\
-        1,1,0,0,0,0,1000,1,1\n1,0,0,1,0,0,1000,1,1\n";
-    assert_shows(&rt, rt.alloc(), tree, &steps, expected);
-}
-
-#[test]
-fn tickets_give_turns(rt: HostRuntime) {
-    let tree = stride_over_two(rt.alloc(), 2, 1);
-    let steps = [
-        Send(0, &[10, 10, 10, 10]),
-        Send(1, &[20, 20]),
-        Pull(&[0, 0, 0, 0, 0, 0]),
-        Visits,
-    ];
-    let expected =
-        "pull 0: 0#0 10\npull 0: 1#0 20\npull 0: 0#1 10\npull 0: 0#2 10\npull 0: 1#1 20\n\
-        pull 0: 0#3 10\n\
-        0,1,0,1,0,0,10,1,0\n0,0,0,1,0,0,10,1,0\n\
-        1,1,1,1,1,0,20,1,0\n1,0,0,1,1,0,20,1,0\n\
-        2,1,0,1,0,1,10,1,0\n2,0,0,1,0,1,10,1,0\n\
-        3,1,0,1,0,2,10,1,0\n3,0,0,1,0,2,10,1,0\n\
-        4,1,1,1,1,1,20,1,0\n4,0,0,1,1,1,20,1,0\n\
-        5,1,0,1,0,3,10,1,0\n5,0,0,1,0,3,10,1,0\n";
-    assert_shows(&rt, rt.alloc(), tree, &steps, expected);
+fn heads_are_held(rt: HostRuntime) {
+    let alloc = rt.alloc();
+    for (tree, row, lines, heads) in [
+        (
+            drr_over_two(alloc, 500, 500),
+            DEFICIT_TWO_QUEUES,
+            4,
+            "heads: 0#0 600\n",
+        ),
+        (
+            drr_over_two(alloc, 500, 500),
+            DEFICIT_TWO_QUEUES,
+            6,
+            "heads:\n",
+        ),
+        (
+            drr_over_one(alloc, 500),
+            DEFICIT_HELD_AT_CLOSE,
+            2,
+            "heads: 0#0 1000\n",
+        ),
+        (
+            drr_over_one(alloc, 500),
+            DEFICIT_HELD_AT_CLOSE,
+            3,
+            "heads:\n",
+        ),
+    ] {
+        assert_held(&rt, alloc, tree, &row, lines, heads);
+    }
 }
 
 // At pull 32,769 both passes are 65,536, and the lower index goes first.
@@ -140,25 +79,5 @@ fn many_tickets_have_many_turns(rt: HostRuntime) {
         PullMany(32_771),
     ];
     let expected = "pull 0: 0#0 10\npull 1: 1#0 10\npull 2: 0#1 10\npull 32770: 1#1 10\n";
-    assert_shows(&rt, rt.alloc(), tree, &steps, expected);
-}
-
-#[test]
-fn a_burst_goes_first(rt: HostRuntime) {
-    let tree = Tree::shaper(rt.alloc(), 1, 2, Tree::leaf(0));
-    let steps = [
-        Send(0, &[10, 10, 10, 10]),
-        Pull(&[0, 0, 0, 1, 0]),
-        Drain(1, 0),
-        Visits,
-    ];
-    let expected = "pull 0: 0#0 10\npull 0: 0#1 10\npull 0: none\npull 1: 0#2 10\npull 0: none\n\
-        drain: 1\n\
-        0,1,0,1,0,0,10,1,0\n0,0,0,1,0,0,10,1,0\n\
-        1,1,0,1,0,1,10,1,0\n1,0,0,1,0,1,10,1,0\n\
-        2,0,0,1,,,,0,0\n\
-        3,1,0,1,0,2,10,1,1\n3,0,0,1,0,2,10,1,1\n\
-        4,0,0,1,,,,0,1\n\
-        5,1,0,1,0,3,10,1,2\n5,0,0,1,0,3,10,1,2\n";
     assert_shows(&rt, rt.alloc(), tree, &steps, expected);
 }

@@ -1,16 +1,9 @@
 //! How packets and visits are shown.
 
+use crate::script::show_packet;
 use clk_packet::Packet;
 use clk_sched::Visit;
 use std::alloc::AllocError;
-
-/// A packet as `S#n L`, sender, number and length, or `none`.
-pub fn show_got(text: &mut String, got: Option<Packet>) -> Result<(), AllocError> {
-    match got {
-        Some(packet) => show_packet(text, packet),
-        None => text.push_str("none"),
-    }
-}
 
 /// Packets, each after a space.
 pub fn show_packets(text: &mut String, packets: &[Packet]) -> Result<(), AllocError> {
@@ -19,15 +12,6 @@ pub fn show_packets(text: &mut String, packets: &[Packet]) -> Result<(), AllocEr
         show_packet(text, *packet)?;
     }
     text.push_str("\n")
-}
-
-fn show_packet(text: &mut String, packet: Packet) -> Result<(), AllocError> {
-    let Packet {
-        number,
-        sender,
-        length,
-    } = packet;
-    write!(text, "{sender}#{number} {length}")
 }
 
 /// A visit as a line of the visit CSV: pull, node, input, fresh, then sender, number and length of what was got, passed, moment.

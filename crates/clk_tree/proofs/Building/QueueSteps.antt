@@ -31,14 +31,8 @@ count-more (x ∷ elements) (suc k) d within =
     by_test false false m n e = e
 
 no-queue : (class : declared.Class) → ((kind : Kind) (capacity : ℕ) → class ≡ kept.Queue kind capacity → ⊥) → is_queue (class_view class) ≡ false
-no-queue (kept.Sender n) other = refl
 no-queue (kept.Queue kind capacity) other = absurd (other kind capacity refl)
-no-queue kept.PrioSched other = refl
-no-queue kept.RoundRobinSched other = refl
-no-queue (kept.DrrSched quanta) other = refl
-no-queue (kept.StrideSched tickets) other = refl
-no-queue (kept.Shaper rate burst) other = refl
-no-queue (kept.ToDevice word) other = refl
+no-queue class other = refl
 
 no-spec : (plan : List Planned) (k : ℕ) (class : Class) → is_queue class ≡ false → queue_of plan k class ≡ None
 no-spec plan k (queue kind capacity) other = absurd (cc)

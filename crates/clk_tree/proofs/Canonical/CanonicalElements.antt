@@ -1,12 +1,12 @@
 -- The line of an element in a canonical text.
 use Rattle.std.proofs.Common.{◌≡◌, ℕ, ◌+◌, true, List, [], ◌∷◌, ◌++◌, map, length, codes, Option, Some, None, IfSome, refl, sym, ap, ap₂, subst, ◌∙◌, append_assoc, append-nil}
 use Rattle.std.specs.List.{flat_map, AllByRecursion}
+use Rattle.std.proofs.lemmas.List.Concat.{flat_map-append}
 use Rattle.clk_syntax.specs.declared.texts.token.Symbol.TheVariants.{Declares, OpenArguments, CloseArguments, Comma, Semicolon}
 use Rattle.clk_syntax.specs.declared.texts.token.Token.{Token}
 use Rattle.clk_syntax.specs.Grammar.{Statement, declaration, mark, bare, after_comma, written_arguments, ended, IsWord}
 use Rattle.clk_syntax.specs.Source.{letters, given}
 use Rattle.clk_syntax.specs.Reading.{elements_of}
-use Rattle.clk_syntax.proofs.Callers.Lists.{flat_map-append}
 use Rattle.clk_tree.specs.Plan.{Planned}
 use Rattle.clk_tree.specs.Canonical.{class_text, arguments_of, arguments_text, element_text}
 use Rattle.clk_tree.proofs.Canonical.CanonicalSource.{BareElement, bare_element, element_line, IsWordText, IsNameText}

@@ -1,5 +1,5 @@
 -- What the canonical text of a plan declares and connects, but for the places of its names.
-use Rattle.std.proofs.Common.{◌≡◌, ℕ, ◌+◌, ◌≤◌, ◌<◌, Bool, true, false, List, [], ◌∷◌, length, map, Some, slice_get}
+use Rattle.std.proofs.Common.{◌≡◌, ℕ, ◌+◌, ◌≤◌, ◌<◌, Bool, true, false, List, [], ◌∷◌, length, map, Some, slice_get, Option}
 use Rattle.std.specs.List.{list_all, AllByRecursion}
 use Rattle.clk_packet.specs.Numbers.{has_bytes}
 use Rattle.clk_syntax.specs.Limits.{most_port}
@@ -18,8 +18,8 @@ pub record BareElement : Type 0 where
 
 pub record BareWire : Type 0 where
   pub from : List ℕ
-  pub output : ℕ
-  pub input : ℕ
+  pub output : Option ℕ
+  pub input : Option ℕ
   pub to : List ℕ
 
 abbrev pub bare_element : Element → BareElement
@@ -34,7 +34,7 @@ element_line e = record { name = e.name; class = class_text e.class; arguments =
 
 -- the lines of the connections to an element
 abbrev pub wire_line : List Planned → ℕ → ℕ → List ℕ → BareWire
-wire_line plan source input name = record { from = name_of (slice_get plan source); output = 0; input = input; to = name }
+wire_line plan source input name = record { from = name_of (slice_get plan source); output = Some 0; input = Some input; to = name }
 
 abbrev pub input_lines : List Planned → List ℕ → ℕ → List ℕ → List BareWire
 input_lines plan name input [] = []

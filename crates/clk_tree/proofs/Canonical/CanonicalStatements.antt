@@ -2,10 +2,10 @@
 use Rattle.std.proofs.Common.{◌≡◌, ℕ, List, [], ◌∷◌, ◌++◌, map, length, refl, sym, ap, ◌∙◌, append-nil}
 use Rattle.std.proofs.lemmas.List.Concat.{flat_map_single}
 use Rattle.std.specs.List.{flat_map, AllByRecursion}
+use Rattle.clk_packet.proofs.Callers.Lists.{all-append}
 use Rattle.clk_syntax.specs.Grammar.{Statement, nothing, bare, ended, IsStatement, IsText}
 use Rattle.clk_syntax.specs.Reading.{elements_of, wires_of}
 use Rattle.clk_syntax.specs.Tokens.{tokens_from, tokens_of}
-use Rattle.clk_syntax.proofs.Callers.Lists.{all-append}
 use Rattle.clk_tree.specs.Plan.{Planned}
 use Rattle.clk_tree.specs.Canonical.{element_text, connections_text, canonical_text}
 use Rattle.clk_tree.proofs.Canonical.CanonicalSource.{BareElement, BareWire, bare_element, bare_wire, element_line, wire_lines, CanBeWritten}

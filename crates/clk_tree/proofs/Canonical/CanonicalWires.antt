@@ -1,15 +1,15 @@
 -- The lines of connections in a canonical text.
-use Rattle.std.proofs.Common.{◌≡◌, ℕ, zero, suc, ◌+◌, ◌≤◌, ◌<◌, min, List, [], ◌∷◌, map, length, decimal, Some, slice_get, refl, ap, ◌∙◌, arith}
-use Rattle.std.proofs.Math.Nat.{min-eq_left}
+use Rattle.std.proofs.Common.{◌≡◌, ℕ, zero, suc, ◌+◌, ◌≤◌, ◌<◌, nat_le, true, List, [], ◌∷◌, map, length, decimal, Option, Some, slice_get, refl, ap, ◌∙◌, arith}
+use Rattle.std.proofs.lemmas.Bool.Decides.{nat_tests}
 use Rattle.std.specs.List.{flat_map, AllByRecursion}
-use Rattle.std.specs.Str.Parse.{digits_value}
+use Rattle.clk_packet.specs.Numbers.{number_in}
 use Rattle.clk_syntax.specs.declared.texts.token.Symbol.TheVariants.{LeadsTo, OpenPort, ClosePort, Semicolon}
 use Rattle.clk_syntax.specs.declared.texts.token.Token.{Token}
 use Rattle.clk_syntax.specs.Limits.{most_port}
 use Rattle.clk_syntax.specs.Grammar.{Statement, chain, mark, bare, ended}
 use Rattle.clk_syntax.specs.Source.{letters, port}
 use Rattle.clk_syntax.specs.Reading.{wires_of}
-use Rattle.clk_syntax.specs.Classes.{Class, sender, queue, prio, round_robin, drr, stride, shaper, device}
+use Rattle.clk_syntax.specs.Classes.{Class, queue}
 use Rattle.clk_tree.specs.Plan.{Planned}
 use Rattle.clk_tree.specs.Canonical.{name_of, connection_text, inputs_text, class_inputs_text, connections_text}
 use Rattle.clk_tree.proofs.Canonical.CanonicalSource.{BareWire, bare_wire, wire_line, input_lines, class_lines, wire_lines, IsWordText, IsNameText, CanBeWritten}
@@ -42,7 +42,7 @@ wire_statement place from digits to =
     (record { output = Some (word_token (output_place place from) zero_text); input = Some (word_token (input_place place from) digits); name = word_token (to_place place from digits) to })
     []
 
-abbrev line_wire : List ℕ → ℕ → ℕ → List ℕ → BareWire
+abbrev line_wire : List ℕ → Option ℕ → Option ℕ → List ℕ → BareWire
 line_wire from output input to = record { from = from; output = output; input = input; to = to }
 
 wire-sound : (from digits to : List ℕ) → IsWordText from → IsWordText digits → IsWordText to → ArePartsSound (wire_parts from digits to)
@@ -60,24 +60,25 @@ wire-written place from digits to =
     ∙ ap (λ t. line_tokens (word_token place from) output t (bare name)) (token-bare (input_place place from) digits)
     ∙ ap (line_tokens (word_token place from) output input) (token-bare (to_place place from digits) to)
 
-port-read : (text : List ℕ) (token : Token) (n : ℕ) (digits : List ℕ) → letters text token ≡ digits → IsNumberText n digits → n ≤ most_port → port text (Some token) ≡ n
+port-read : (text : List ℕ) (token : Token) (n : ℕ) (digits : List ℕ) → letters text token ≡ digits → IsNumberText n digits → n ≤ most_port → port text (Some token) ≡ Some n
 port-read text token n digits at number small =
-    let low : n ≤ most_port + 1 = omega arith in
-    ap (λ l. min (digits_value 10 l) (most_port + 1)) at ∙ ap (λ v. min v (most_port + 1)) number.value ∙ min-eq_left low
+    let low : nat_le 0 n ≡ true = grind (arith, nat_tests) in
+    let high : nat_le n most_port ≡ true = grind (arith, nat_tests) in
+    ap (number_in 0 most_port) at ∙ rw (number.all, number.word.some, number.value, low, high) refl
 
 wire-connects : (text : List ℕ) (place : ℕ) (from digits to : List ℕ) (input : ℕ) → IsNumberText input digits → input ≤ most_port → AreLettered text place (wire_parts from digits to)
-    → map bare_wire (wires_of text (wire_statement place from digits to ∷ [])) ≡ line_wire from 0 input to ∷ []
+    → map bare_wire (wires_of text (wire_statement place from digits to ∷ [])) ≡ line_wire from (Some 0) (Some input) to ∷ []
 wire-connects text place from digits to input number small h =
     let output_token = word_token (output_place place from) zero_text in
     let input_token = word_token (input_place place from) digits in
     let name = letters text (word_token (to_place place from digits) to) in
     ap (λ f. line_wire f (port text (Some output_token)) (port text (Some input_token)) name ∷ []) h.0
     ∙ ap (λ n. line_wire from n (port text (Some input_token)) name ∷ []) (port-read text output_token 0 zero_text h.1.0 zero-number (omega arith))
-    ∙ ap (λ n. line_wire from 0 n name ∷ []) (port-read text input_token input digits h.1.1.0 number small)
-    ∙ ap (λ t. line_wire from 0 input t ∷ []) h.1.1.1.0
+    ∙ ap (λ n. line_wire from (Some 0) n name ∷ []) (port-read text input_token input digits h.1.1.0 number small)
+    ∙ ap (λ t. line_wire from (Some 0) (Some input) t ∷ []) h.1.1.1.0
 
 parts-lines : (text from digits to : List ℕ) (input : ℕ) → IsNameText from → IsNumberText input digits → input ≤ most_port → IsNameText to
-    → AreLines text (parts_text (wire_parts from digits to)) [] (line_wire from 0 input to ∷ [])
+    → AreLines text (parts_text (wire_parts from digits to)) [] (line_wire from (Some 0) (Some input) to ∷ [])
 parts-lines text from digits to input f number small t = record {
   read = λ place rest at. record {
     statements = wire_statement place from digits to ∷ [];
@@ -126,11 +127,5 @@ connections-lines text plan e names h = by_class e.class
     inputs = inputs-lines text plan e.name 0 e.sources names h.name (omega (arith, h.inputs)) h.sources
 
     by_class : (c : Class) → AreLines text (class_inputs_text plan e.name e.sources c) [] (class_lines plan e.name e.sources c)
-    by_class (sender n) = inputs
     by_class (queue kind capacity) = queue-lines text plan e.name e.sources names h.name h.sources
-    by_class prio = inputs
-    by_class round_robin = inputs
-    by_class (drr quanta) = inputs
-    by_class (stride tickets) = inputs
-    by_class (shaper rate burst) = inputs
-    by_class (device word) = inputs
+    by_class class = inputs

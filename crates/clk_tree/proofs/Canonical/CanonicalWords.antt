@@ -12,7 +12,7 @@ use Rattle.clk_packet.specs.declared.packet.Kind.TheVariants.{TailDrop, FrontDro
 use Rattle.clk_syntax.specs.declared.texts.token.Symbol.TheVariants.{Name, Number, OtherWord}
 use Rattle.clk_syntax.specs.Grammar.{is_word, bare}
 use Rattle.clk_syntax.specs.Tokens.{is_digit, is_word_byte}
-use Rattle.clk_syntax.specs.Classes.{Class, sender, queue, prio, round_robin, drr, stride, shaper, device}
+use Rattle.clk_syntax.specs.Classes.{Class, queue}
 use Rattle.clk_syntax.proofs.Callers.Tokens.{bare-word}
 use Rattle.clk_tree.specs.Canonical.{class_text}
 use Rattle.clk_tree.proofs.Canonical.CanonicalSource.{IsWordText, IsNameText}
@@ -37,15 +37,9 @@ symbol-name (byte ∷ more) h = ap (λ b. cond b (cond (all_ascii_digits (byte �
 
 -- classes have names
 pub class-name : (class : Class) → IsNameText (class_text class)
-class-name (sender n) = record { word = record { some = refl; letters = refl }; no_digit = refl }
 class-name (queue TailDrop capacity) = record { word = record { some = refl; letters = refl }; no_digit = refl }
 class-name (queue FrontDrop capacity) = record { word = record { some = refl; letters = refl }; no_digit = refl }
-class-name prio = record { word = record { some = refl; letters = refl }; no_digit = refl }
-class-name round_robin = record { word = record { some = refl; letters = refl }; no_digit = refl }
-class-name (drr quanta) = record { word = record { some = refl; letters = refl }; no_digit = refl }
-class-name (stride tickets) = record { word = record { some = refl; letters = refl }; no_digit = refl }
-class-name (shaper rate burst) = record { word = record { some = refl; letters = refl }; no_digit = refl }
-class-name (device word) = record { word = record { some = refl; letters = refl }; no_digit = refl }
+class-name class = record { word = record { some = refl; letters = refl }; no_digit = refl }
 
 -- a number of digits: its word, its symbol and its value
 digit-letter : (byte : ℕ) → is_ascii_digit byte ≡ true → is_word_byte byte ≡ true
@@ -72,6 +66,7 @@ digits-word (byte ∷ more) some all = record { some = refl; letters = digits-le
 pub record IsNumberText (n : ℕ) (digits : List ℕ) : Type 0 where
   pub word : IsWordText digits
   pub symbol : symbol_of digits ≡ Number
+  pub all : all_ascii_digits digits ≡ true
   pub value : digits_value 10 digits ≡ n
 
 pub decimal-number : (n : ℕ) → n < 2 ^ 64 → IsNumberText n (decimal n)
@@ -79,7 +74,7 @@ decimal-number n small =
     let own = numerals_by_value (λ ds. all_ascii_digits ds ≡ true) tells_all_ascii_digits in
     let all = digits_decimal own n small in
     let some = (decimal_is_IsNumeral n small).0.0 in
-    record { word = digits-word (decimal n) some all; symbol = digits-symbol (decimal n) some all; value = digits_value-decimal own n small }
+    record { word = digits-word (decimal n) some all; symbol = digits-symbol (decimal n) some all; all = all; value = digits_value-decimal own n small }
 
 pub zero-number : IsNumberText 0 (48 ∷ [])
-zero-number = record { word = record { some = refl; letters = refl }; symbol = refl; value = refl }
+zero-number = record { word = record { some = refl; letters = refl }; symbol = refl; all = refl; value = refl }

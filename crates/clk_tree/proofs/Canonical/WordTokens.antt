@@ -3,6 +3,7 @@ use Rattle.std.proofs.Common.{◌≡◌, ℕ, ◌+◌, ◌&&◌, Bool, true, fal
 use Rattle.std.specs.List.{AllByRecursion, flat_map, list_all, prefix_len}
 use Rattle.std.specs.Str.{all_ascii_digits}
 use Rattle.clk_packet.specs.Numbers.{has_bytes}
+use Rattle.clk_packet.proofs.Callers.Lists.{all-append}
 use Rattle.clk_syntax.specs.declared.texts.token.Symbol.TheVariants.{Name, Number, OtherWord}
 use Rattle.clk_syntax.specs.declared.texts.token.Token.{Token}
 use Rattle.clk_syntax.specs.Grammar.{Statement, nothing, declaration, chain, mark, is_word, IsName, IsWord, IsStatement, IsText}
@@ -10,7 +11,6 @@ use Rattle.clk_syntax.specs.Source.{Declared, Element, declared_in, letters, ele
 use Rattle.clk_syntax.specs.Tokens.{is_digit, is_word_byte, word_symbol, tokens_of}
 use Rattle.clk_syntax.specs.Reading.{elements_of}
 use Rattle.clk_syntax.proofs.Callers.Tokens.{all-tokens, word_token, word-long, HoldsDeclared, declared-hold}
-use Rattle.clk_syntax.proofs.Callers.Lists.{all-append}
 use Rattle.clk_tree.proofs.Canonical.CanonicalSource.{IsWordText, IsNameText, begins_with_digit}
 
 -- the letters of a token that is a word, and of one that is a name

@@ -18,10 +18,11 @@ use Rattle.clk_syntax.specs.Ports.{role_at, is_source, is_scheduler, has_input, 
 use Rattle.clk_syntax.specs.Faults.{nodes_of, links_of, fault_of}
 use Rattle.clk_syntax.specs.Reading.{elements_of, wires_of}
 use Rattle.clk_syntax.proofs.Callers.Graphs.{used_again}
+use Rattle.clk_syntax.proofs.Callers.Checks.{neither, fails-not}
 use Rattle.clk_tree.specs.Plan.{Planned, source_at, all_known, plan_of, Denotes}
 use Rattle.clk_tree.specs.PlanTree.{is_queue, is_device}
 use Rattle.clk_tree.specs.PlanPaths.{has_output, place_fed, place_after}
-use Rattle.clk_tree.proofs.Sound.SoundChecks.{neither, fails-not, all-both, IsRight}
+use Rattle.clk_tree.proofs.Sound.SoundChecks.{all-both, IsRight}
 use Rattle.clk_tree.proofs.Sound.SoundNodes.{node-at, queue-class, device-class}
 use Rattle.clk_tree.proofs.Sound.SoundPaths.{AreSound}
 use Rattle.clk_tree.proofs.Sound.SoundPlans.{IsPlanOf, is-plan, sound-nodes, pull-sources}

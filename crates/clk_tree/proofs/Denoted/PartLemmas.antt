@@ -1,9 +1,10 @@
 -- The queues of a plan are within their limits, and its senders have rising numbers and send to its queues.
-use Rattle.std.proofs.Common.{◌≡◌, ℕ, ◌+◌, ◌<◌, ◌≤◌, ◌==◌, zero, suc, Bool, true, false, not, if◌then◌else◌, List, [], ◌∷◌, length, map, Option, Some, None, option_map, slice_get, nat_lt, refl, sym, ap, subst, ◌∙◌, add-one, add-zero, arith, eq-eqb}
+use Rattle.std.proofs.Common.{◌≡◌, ℕ, ◌+◌, ◌<◌, ◌≤◌, ◌==◌, zero, suc, Bool, true, false, if◌then◌else◌, List, [], ◌∷◌, length, map, Option, Some, None, option_map, slice_get, nat_lt, refl, sym, ap, subst, ◌∙◌, add-one, add-zero, arith, eq-eqb}
 use Rattle.std.specs.List.{AllByRecursion, cons_option}
-use Rattle.std.proofs.lemmas.Bool.{ltb-true, ltb-false, or_parts, and_parts, not-true, false≢true}
+use Rattle.std.proofs.lemmas.Bool.{ltb-true, ltb-false, or_parts, false≢true}
 use Rattle.std.proofs.lemmas.Option.{same_Some}
-use Rattle.clk_packet.specs.Lists.{stands_in, are_distinct}
+use Rattle.clk_packet.specs.Lists.{stands_in, are_distinct, AreRising}
+use Rattle.clk_packet.proofs.Callers.Lists.{distinct-parts}
 use Rattle.clk_syntax.specs.declared.node.Link.{Link}
 use Rattle.clk_syntax.specs.Classes.{Class, sender, queue}
 use Rattle.clk_syntax.specs.Source.{Element}
@@ -13,7 +14,7 @@ use Rattle.clk_syntax.specs.Reading.{elements_of, wires_of}
 use Rattle.clk_tree.specs.declared.plan.parts.SenderSpec.{SenderSpec}
 use Rattle.clk_tree.specs.Plan.{Planned, all_known, planned_from, plan_of, Denotes}
 use Rattle.clk_tree.specs.PlanTree.{is_queue, queue_count}
-use Rattle.clk_tree.specs.PlanParts.{queue_fed, sender_of, senders_from, placed, by_number, senders_of, number_of, queue_of, queues_from, queues_of, AreRising, HasCapacity, SendsWithin}
+use Rattle.clk_tree.specs.PlanParts.{queue_fed, sender_of, senders_from, placed, by_number, senders_of, number_of, queue_of, queues_from, queues_of, HasCapacity, SendsWithin}
 use Rattle.clk_tree.proofs.Building.PartSteps.{fed-here}
 use Rattle.clk_tree.proofs.Sound.SoundClasses.{HasLimits, class-limits}
 use Rattle.clk_tree.proofs.Sound.SoundNodes.{known_as}
@@ -99,9 +100,9 @@ rising-placed s (t ∷ more) rising apart = by_test (nat_lt s.number t.number) r
 rising-by_number : (senders : List SenderSpec) → are_distinct (map number_of senders) ≡ true → AreRising (map number_of (by_number senders))
 rising-by_number [] distinct = tt
 rising-by_number (s ∷ more) distinct =
-    let parts = and_parts (not (stands_in s.number (map number_of more))) (are_distinct (map number_of more)) distinct in
+    let parts = distinct-parts s.number (map number_of more) distinct in
     rising-placed s (by_number more) (rising-by_number more parts.1)
-    (all-by_number (λ (t : SenderSpec). t.number ≡ s.number → ⊥) more (lacks s.number more (not-true (stands_in s.number (map number_of more)) parts.0)))
+    (all-by_number (λ (t : SenderSpec). t.number ≡ s.number → ⊥) more (lacks s.number more parts.0))
 
 numbers-from : (plan : List Planned) (i : ℕ) (rest : List Planned) → map number_of (senders_from plan i rest) ≡ sender_numbers rest
 numbers-from plan i [] = refl

@@ -6,7 +6,8 @@ use Rattle.clk_syntax.specs.Classes.{Class, queue}
 use Rattle.clk_tree.specs.declared.plan.parts.SenderSpec.{SenderSpec}
 use Rattle.clk_tree.specs.Plan.{Planned, Denotes}
 use Rattle.clk_tree.specs.PlanTree.{queue_count}
-use Rattle.clk_tree.specs.PlanParts.{Queued, number_of, senders_of, queue_of, queues_from, queues_of, AreRising}
+use Rattle.clk_tree.specs.PlanParts.{Queued, number_of, senders_of, queue_of, queues_from, queues_of}
+use Rattle.clk_packet.specs.Lists.{AreRising}
 use Rattle.clk_tree.proofs.Distinct.DistinctPlans.{denoted-small}
 use Rattle.clk_tree.proofs.Denoted.PartLemmas.{senders-rising}
 

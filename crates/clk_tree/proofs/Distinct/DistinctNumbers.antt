@@ -1,11 +1,12 @@
 -- Lists in which no number stands twice.
-use Rattle.std.proofs.Common.{◌≡◌, ◌⊎◌, ℕ, ◌≤◌, ◌<◌, ◌==◌, ◌||◌, Bool, true, false, not, List, [], ◌∷◌, ◌++◌, length, Option, Some, None, inl, inr, refl, sym, ap, ◌∙◌, subst, eq-eqb, eqb-true, ne_eqb}
+use Rattle.std.proofs.Common.{◌≡◌, ◌⊎◌, ℕ, ◌≤◌, ◌<◌, ◌==◌, ◌||◌, Bool, true, false, List, [], ◌∷◌, ◌++◌, length, Option, Some, None, inl, inr, refl, sym, ap, ◌∙◌, subst, eq-eqb, eqb-true, ne_eqb}
 use Rattle.std.specs.Bool.{⊤}
 use Rattle.std.specs.List.{AllByRecursion, list_any, filter_map, cons_option, IsDistinct}
-use Rattle.std.proofs.lemmas.Bool.{or_right, and_parts, and_from, not-true, not_from_false, false_from_ne_true, false≢true, both_ways}
+use Rattle.std.proofs.lemmas.Bool.{or_right, false_from_ne_true, false≢true, both_ways}
 use Rattle.std.proofs.lemmas.Map.Steps.{length-le_from_distinct_below}
 use Rattle.std.proofs.lemmas.Option.{same_Some}
 use Rattle.clk_packet.specs.Lists.{In, stands_in, are_distinct}
+use Rattle.clk_packet.proofs.Callers.Lists.{distinct-parts, distinct-more}
 
 abbrev pub Distinct : List ℕ → Type 0
 Distinct [] = ⊤
@@ -33,13 +34,12 @@ stands-in x (y ∷ ys) s = by_test (y == x) refl (stands-in x ys) s
 pub test-distinct : (xs : List ℕ) → are_distinct xs ≡ true → Distinct xs
 test-distinct [] t = tt
 test-distinct (x ∷ xs) t =
-    let parts = and_parts (not (stands_in x xs)) (are_distinct xs) t in
-    (λ m. both_ways (stands_in x xs) (not-true (stands_in x xs) parts.0) (in-stands x xs m), test-distinct xs parts.1)
+    let parts = distinct-parts x xs t in
+    (λ m. both_ways (stands_in x xs) parts.0 (in-stands x xs m), test-distinct xs parts.1)
 
 pub distinct-test : (xs : List ℕ) → Distinct xs → are_distinct xs ≡ true
 distinct-test [] d = refl
-distinct-test (x ∷ xs) d =
-    and_from (not (stands_in x xs)) (are_distinct xs) (not_from_false (stands_in x xs) (false_from_ne_true (stands_in x xs) (λ s. d.0 (stands-in x xs s)))) (distinct-test xs d.1)
+distinct-test (x ∷ xs) d = distinct-more x xs (false_from_ne_true (stands_in x xs) (λ s. d.0 (stands-in x xs s))) (distinct-test xs d.1)
 
 pub all-of : (P : ℕ → Type 0) (xs : List ℕ) → ((x : ℕ) → In x xs → P x) → AllByRecursion P xs
 all-of P [] each = tt

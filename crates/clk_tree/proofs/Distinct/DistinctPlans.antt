@@ -1,8 +1,8 @@
 -- In the plan of a text without faults each source of a scheduler or a device leads to it, and none stands twice: each output is connected
 -- once, and each input of theirs is. So no queue stands twice in the tree of such a plan, and the tree is smaller than the plan.
-use Rattle.std.proofs.Common.{◌≡◌, ℕ, ◌≤◌, ◌<◌, ◌+◌, ◌==◌, ◌&&◌, ◌||◌, zero, suc, Bool, true, false, not, if◌then◌else◌, nat_lt, List, [], ◌∷◌, length, map, take, get_or, Option, Some, None, slice_get, inl, inr, refl, sym, ap, subst, ◌∙◌, arith, eq-eqb, eqb-true, zero-add}
+use Rattle.std.proofs.Common.{◌≡◌, ℕ, ◌≤◌, ◌<◌, ◌+◌, ◌==◌, ◌&&◌, ◌||◌, zero, suc, Bool, true, false, not, if◌then◌else◌, nat_lt, List, [], ◌∷◌, length, map, take, get_or, Option, Some, None, slice_get, inl, inr, refl, sym, ap, subst, ◌∙◌, arith, eq-eqb, eqb-true, zero-add, unwrap_or}
 use Rattle.std.specs.Bool.{⊤}
-use Rattle.std.specs.Option.{option_or, option_map}
+use Rattle.std.specs.Option.{option_map}
 use Rattle.std.specs.List.{AllByRecursion, range_with_len, cons_option}
 use Rattle.std.proofs.lemmas.Bool.{cases_eq, and_parts, or_parts, not-false, false≢true, both_ways, ltb-false}
 use Rattle.std.proofs.lemmas.Option.{same_Some}
@@ -20,29 +20,22 @@ use Rattle.clk_syntax.specs.Classes.{Class, role_of}
 use Rattle.clk_syntax.specs.Source.{Element, Wire}
 use Rattle.clk_syntax.specs.Declarations.{first_after, fails_at, class_of}
 use Rattle.clk_syntax.specs.Ports as ports
-use Rattle.clk_syntax.specs.Ports.{role_at, uses_output, uses_input, all_connected, inputs_of, output_connected, bad_port, port_twice, port_missing, port_missing_from, has_device, not_a_tree, next}
+use Rattle.clk_syntax.specs.Ports.{role_at, uses_output, uses_input, all_connected, inputs_of, output_connected, bad_port, port_twice, port_missing, port_missing_from, has_device, not_a_tree, next, target}
 use Rattle.clk_syntax.specs.Size.{too_large, some_too_large}
 use Rattle.clk_syntax.specs.Faults as faults
 use Rattle.clk_syntax.specs.Faults.{nodes_of, links_of, naming_fault, port_fault, shape_fault, nodes_fault, fault_of}
 use Rattle.clk_syntax.specs.Reading.{elements_of, wires_of}
 use Rattle.clk_syntax.proofs.Callers.Graphs.{used_again}
+use Rattle.clk_syntax.proofs.Callers.Checks.{neither, fails-not}
 use Rattle.clk_tree.specs.Plan.{Planned, Known, all_known, source_at, sources_of, planned_at, planned_from, plan_of, Denotes}
 use Rattle.clk_tree.specs.PlanTree.{is_queue, is_device, device_sources, device_count, sources_of_device, IsRowOf, IsTreeOf}
 use Rattle.clk_tree.proofs.Distinct.DistinctNumbers.{Distinct, distinct-test}
 use Rattle.clk_tree.proofs.Distinct.DistinctTrees.{HasParents, tree-distinct, tree-fits}
 
--- what fails nowhere
-or-none : {A : Type 0} (a b : Option A) → option_or a b ≡ None → (a ≡ None) × (b ≡ None)
-or-none None b e = (refl, e)
-or-none (Some x) b e = absurd (cc)
-
+-- what is told of nothing
 map-none : {A B : Type 0} (f : A → B) (a : Option A) → option_map f a ≡ None → a ≡ None
 map-none f None e = refl
 map-none f (Some x) e = absurd (cc)
-
-fails-not : (b : Bool) (place : ℕ) → fails_at b place ≡ None → b ≡ false
-fails-not true place e = absurd (cc)
-fails-not false place e = refl
 
 -- each output is connected once
 abbrev pub Once : List Link → Type 0
@@ -52,8 +45,8 @@ Once (c ∷ more) = (uses_output c.from more ≡ false) × Once more
 no-more : (nodes : List Node) (j : ℕ) (earlier links : List Link) → first_after (used_again nodes) earlier links ≡ None → uses_output j earlier ≡ true → uses_output j links ≡ false
 no-more nodes j earlier [] e used = refl
 no-more nodes j earlier (c ∷ more) e used =
-    let parts = or-none (used_again nodes earlier c) (first_after (used_again nodes) (c ∷ earlier) more) e in
-    by_test (c.from == j) refl (fails-not (uses_output c.from earlier) c.from_place (or-none _ _ parts.0).0) (no-more nodes j (c ∷ earlier) more parts.1)
+    let parts = neither (used_again nodes earlier c) (first_after (used_again nodes) (c ∷ earlier) more) e in
+    by_test (c.from == j) refl (fails-not (uses_output c.from earlier) c.from_place (neither _ _ parts.0).0) (no-more nodes j (c ∷ earlier) more parts.1)
   where
     by_test : (b : Bool) → (c.from == j) ≡ b → uses_output c.from earlier ≡ false → ((b || uses_output j earlier) ≡ true → uses_output j more ≡ false) → (b || uses_output j more) ≡ false
     by_test true same free later = absurd (both_ways (uses_output j earlier) (subst (λ k. uses_output k earlier ≡ false) (eqb-true c.from j same) free) used)
@@ -62,7 +55,7 @@ no-more nodes j earlier (c ∷ more) e used =
 once-after : (nodes : List Node) (earlier links : List Link) → first_after (used_again nodes) earlier links ≡ None → Once links
 once-after nodes earlier [] e = tt
 once-after nodes earlier (c ∷ more) e =
-    let parts = or-none (used_again nodes earlier c) (first_after (used_again nodes) (c ∷ earlier) more) e in
+    let parts = neither (used_again nodes earlier c) (first_after (used_again nodes) (c ∷ earlier) more) e in
     (no-more nodes c.from (c ∷ earlier) more parts.1 (ap (λ b. b || uses_output c.from earlier) (eq-eqb c.from c.from refl)), once-after nodes (c ∷ earlier) more parts.1)
 
 -- the input to which an element is connected
@@ -81,7 +74,7 @@ connected-here c more i input e =
     let tests = and_parts (c.to == i) (c.input == input) e in
     let same = eq-eqb c.from c.from refl in
     record {
-      goes = ap (λ b. if b then c.to else next more c.from) same ∙ eqb-true c.to i tests.0;
+      goes = ap (λ b. unwrap_or (if b then Some c.to else target c.from more) c.from) same ∙ eqb-true c.to i tests.0;
       enters = ap (λ b. if b then c.input else entry more c.from) same ∙ eqb-true c.input input tests.1;
       used = ap (λ b. b || uses_output c.from more) same;
     }
@@ -91,7 +84,7 @@ connected-later c more i input s once h = by_test (c.from == s) refl
   where
     other : (c.from == s) ≡ false → IsConnected (c ∷ more) i input s
     other e = record {
-      goes = ap (λ b. if b then c.to else next more s) e ∙ h.goes;
+      goes = ap (λ b. unwrap_or (if b then Some c.to else target s more) s) e ∙ h.goes;
       enters = ap (λ b. if b then c.input else entry more s) e ∙ h.enters;
       used = ap (λ b. b || uses_output s more) e ∙ h.used;
     }
@@ -190,16 +183,11 @@ planned-here count links b (k ∷ more) (suc i) e at =
 
 -- its sources, where it is no queue
 role-other : (c : Class) → is_queue c ≡ false → ports.is_queue (Some (role_of c)) ≡ false
-role-other (class.sender n) e = refl
 role-other (class.queue kind capacity) e = absurd (false≢true (sym e))
-role-other class.prio e = refl
-role-other class.round_robin e = refl
 role-other (class.drr []) e = refl
 role-other (class.drr (q ∷ [])) e = refl
 role-other (class.drr (q ∷ p ∷ more)) e = refl
-role-other (class.stride tickets) e = refl
-role-other (class.shaper rate burst) e = refl
-role-other (class.device word) e = refl
+role-other c e = refl
 
 sources-mapped : (count : ℕ) (links : List Link) (i : ℕ) (r : Role) → ports.is_queue (Some r) ≡ false → sources_of count links i r ≡ map (source_at links i) (range_with_len 0 (inputs_of i r links))
 sources-mapped count links i role.Source e = refl
@@ -212,12 +200,12 @@ sources-mapped count links i role.Device e = refl
 none-missing : (nodes : List Node) (links : List Link) (b i : ℕ) (r : Role) → port_missing_from b nodes links ≡ None → role_at nodes i ≡ Some r → all_connected (b + i) (inputs_of (b + i) r links) links ≡ true
 none-missing [] links b i r none at = absurd (cc)
 none-missing (n ∷ more) links b zero r none at =
-    let parts = or-none (fails_at (not (output_connected b n.role links && all_connected b (inputs_of b n.role links) links)) n.place) (port_missing_from (b + 1) more links) none in
+    let parts = neither (fails_at (not (output_connected b n.role links && all_connected b (inputs_of b n.role links) links)) n.place) (port_missing_from (b + 1) more links) none in
     let tests = and_parts (output_connected b n.role links) (all_connected b (inputs_of b n.role links) links) (not-false _ (fails-not _ n.place parts.0)) in
     let here : b ≡ b + 0 = omega arith in
     subst (λ k. all_connected k (inputs_of k r links) links ≡ true) here (subst (λ s. all_connected b (inputs_of b s links) links ≡ true) (same_Some n.role r at) tests.1)
 none-missing (n ∷ more) links b (suc i) r none at =
-    let parts = or-none (fails_at (not (output_connected b n.role links && all_connected b (inputs_of b n.role links) links)) n.place) (port_missing_from (b + 1) more links) none in
+    let parts = neither (fails_at (not (output_connected b n.role links && all_connected b (inputs_of b n.role links) links)) n.place) (port_missing_from (b + 1) more links) none in
     let later = none-missing more links (b + 1) i r parts.1 at in
     let there : b + 1 + i ≡ b + suc i = omega arith in
     subst (λ k. all_connected k (inputs_of k r links) links ≡ true) there later
@@ -229,12 +217,12 @@ pub record AreSound (elements : List Element) (links : List Link) : Type 0 where
 
 pub sound-links : (elements : List Element) (wires : List Wire) → fault_of elements wires ≡ None → AreSound elements (links_of elements wires)
 sound-links elements wires none =
-    let ports = (or-none (port_fault nodes links) (shape_fault nodes links) (or-none (naming_fault elements wires) (nodes_fault nodes links) none).1).0 in
-    let later = (or-none (option_map BadPort (bad_port nodes links)) _ ports).1 in
-    let twice = or-none (option_map PortTwice (port_twice nodes links)) _ later in
+    let ports = (neither (port_fault nodes links) (shape_fault nodes links) (neither (naming_fault elements wires) (nodes_fault nodes links) none).1).0 in
+    let later = (neither (option_map BadPort (bad_port nodes links)) _ ports).1 in
+    let twice = neither (option_map PortTwice (port_twice nodes links)) _ later in
     record {
       once = once-after nodes [] links (map-none PortTwice (port_twice nodes links) twice.0);
-      connected = map-none PortMissing (port_missing nodes links) (or-none (option_map PortMissing (port_missing nodes links)) _ twice.1).0;
+      connected = map-none PortMissing (port_missing nodes links) (neither (option_map PortMissing (port_missing nodes links)) _ twice.1).0;
     }
   where
     nodes : List Node
@@ -376,16 +364,16 @@ some-not false x e = refl
 
 few-nodes : (nodes : List Node) (links : List Link) → shape_fault nodes links ≡ None → length nodes ≤ most_elements
 few-nodes nodes links none =
-    let shape = (or-none (if has_device nodes then None else Some NoDevice) _ none).1 in
-    let size = (or-none (option_map NotATree (not_a_tree nodes links)) _ shape).1 in
+    let shape = (neither (if has_device nodes then None else Some NoDevice) _ none).1 in
+    let size = (neither (option_map NotATree (not_a_tree nodes links)) _ shape).1 in
     let tests = or_parts (nat_lt most_elements (length nodes)) (some_too_large 0 nodes nodes links) (some-not (too_large nodes links) TooLarge size) in
     ltb-false most_elements (length nodes) tests.0
 
 pub plan-few : (elements : List Element) (wires : List Wire) → fault_of elements wires ≡ None → length (plan_of elements wires) ≤ most_elements
 plan-few elements wires none =
     let links = links_of elements wires in
-    let later = (or-none (naming_fault elements wires) (nodes_fault (nodes_of elements) links) none).1 in
-    let few = few-nodes (nodes_of elements) links (or-none (port_fault (nodes_of elements) links) (shape_fault (nodes_of elements) links) later).1 in
+    let later = (neither (naming_fault elements wires) (nodes_fault (nodes_of elements) links) none).1 in
+    let few = few-nodes (nodes_of elements) links (neither (port_fault (nodes_of elements) links) (shape_fault (nodes_of elements) links) later).1 in
     let known = planned-known (length (all_known elements)) links 0 (all_known elements) in
     subst (λ n. n ≤ most_elements) (nodes-known elements ∙ sym known) few
 

@@ -1,10 +1,11 @@
 -- In a plan without a fault each connection to an element, by its sources, is one of the text, and each output stands once among the sources.
-use Rattle.std.proofs.Common.{◌≡◌, ℕ, ◌+◌, ◌<◌, ◌==◌, ◌&&◌, ◌||◌, zero, suc, Bool, true, false, not, if◌then◌else◌, List, [], ◌∷◌, ◌++◌, length, map, filter, Option, Some, None, slice_get, inl, inr, refl, sym, ap, subst, ◌∙◌, arith, eqb-true}
+use Rattle.std.proofs.Common.{◌≡◌, ℕ, ◌+◌, ◌<◌, ◌==◌, ◌&&◌, ◌||◌, zero, suc, Bool, true, false, if◌then◌else◌, List, [], ◌∷◌, ◌++◌, length, map, filter, Option, Some, None, slice_get, inl, inr, refl, sym, ap, subst, ◌∙◌, arith, eqb-true, unwrap_or}
 use Rattle.std.specs.List.{AllByRecursion, range_with_len}
-use Rattle.std.proofs.lemmas.Bool.{and_parts, not-true, false_from_ne_true, cases_Bool, false≢true}
+use Rattle.std.proofs.lemmas.Bool.{and_parts, false_from_ne_true, cases_Bool, false≢true}
 use Rattle.std.proofs.lemmas.Option.{same_Some}
 use Rattle.clk_sched.proofs.Callers.Lists.{all-weaker}
 use Rattle.clk_packet.specs.Lists.{stands_in, are_distinct}
+use Rattle.clk_packet.proofs.Callers.Lists.{distinct-parts}
 use Rattle.clk_syntax.specs.declared.naming.class.Role.{Role}
 use Rattle.clk_syntax.specs.declared.naming.class.Role.TheVariants as role
 use Rattle.clk_syntax.specs.declared.node.Node.{Node}
@@ -69,12 +70,7 @@ target-occurs nodes (c ∷ links) i s right queue leads = by_test (c.from == s) 
     by_test false is e later = inr (later e)
 
 target-next : (links : List Link) (s i : ℕ) → target s links ≡ Some i → next links s ≡ i
-target-next [] s i leads = absurd (cc)
-target-next (c ∷ links) s i leads = by_test (c.from == s) leads (target-next links s i)
-  where
-    by_test : (b : Bool) → (if b then Some c.to else target s links) ≡ Some i → (target s links ≡ Some i → next links s ≡ i) → (if b then c.to else next links s) ≡ i
-    by_test true e later = same_Some c.to i e
-    by_test false e later = later e
+target-next links s i leads = ap (λ o. unwrap_or o s) leads
 
 -- the queue at a place of a plan, and what is connected to it
 pub record HasSenders (nodes : List Node) (links : List Link) (count i : ℕ) (e : Planned) : Type 0 where
@@ -176,14 +172,14 @@ sent-use i s (x ∷ xs) = ap (λ b. (x == s) || b) (sent-use i s xs)
 inputs-once : (i input : ℕ) (xs : List ℕ) → are_distinct xs ≡ true → Once (input_links i input xs)
 inputs-once i input [] distinct = tt
 inputs-once i input (x ∷ xs) distinct =
-    let parts = and_parts (not (stands_in x xs)) (are_distinct xs) distinct in
-    (inputs-use i x (input + 1) xs ∙ not-true (stands_in x xs) parts.0, inputs-once i (input + 1) xs parts.1)
+    let parts = distinct-parts x xs distinct in
+    (inputs-use i x (input + 1) xs ∙ parts.0, inputs-once i (input + 1) xs parts.1)
 
 sent-once : (i : ℕ) (xs : List ℕ) → are_distinct xs ≡ true → Once (map (source_link i 0) xs)
 sent-once i [] distinct = tt
 sent-once i (x ∷ xs) distinct =
-    let parts = and_parts (not (stands_in x xs)) (are_distinct xs) distinct in
-    (sent-use i x xs ∙ not-true (stands_in x xs) parts.0, sent-once i xs parts.1)
+    let parts = distinct-parts x xs distinct in
+    (sent-use i x xs ∙ parts.0, sent-once i xs parts.1)
 
 inputs-from : (P : ℕ → Type 0) (i input : ℕ) (xs : List ℕ) → AllByRecursion P xs → AllByRecursion (λ (c : Link). P c.from) (input_links i input xs)
 inputs-from P i input [] all = tt

@@ -1,5 +1,5 @@
 -- Each connection of a text without a fault is one to an element of its plan, by the sources of that element.
-use Rattle.std.proofs.Common.{◌≡◌, ℕ, ◌+◌, ◌<◌, ◌≤◌, ◌==◌, ◌&&◌, ◌||◌, nat_lt, nat_le, max, zero, suc, Bool, true, false, not, if◌then◌else◌, List, [], ◌∷◌, ◌++◌, length, map, Some, None, slice_get, inl, inr, refl, sym, ap, ap₂, subst, ◌∙◌, arith, eqb-true, eq-eqb, zero-add}
+use Rattle.std.proofs.Common.{◌≡◌, ℕ, ◌+◌, ◌<◌, ◌≤◌, ◌==◌, ◌&&◌, ◌||◌, nat_lt, nat_le, max, zero, suc, Bool, true, false, not, if◌then◌else◌, List, [], ◌∷◌, ◌++◌, length, map, Some, None, slice_get, inl, inr, refl, sym, ap, ap₂, subst, ◌∙◌, arith, eqb-true, eq-eqb, zero-add, unwrap_or}
 use Rattle.std.specs.List.{AllByRecursion, range_with_len}
 use Rattle.std.proofs.lemmas.Bool.{and_parts, or_parts, or_cases, or_left, or_right, cases_eq, ltb-true}
 use Rattle.std.proofs.lemmas.Option.{same_Some, slice_get_within}
@@ -17,10 +17,11 @@ use Rattle.clk_syntax.specs.Limits.{most_port}
 use Rattle.clk_syntax.specs.Ports.{role_at, is_queue, has_input, uses_output, uses_input, inputs_used, inputs_of, target, next}
 use Rattle.clk_syntax.specs.Faults.{nodes_of, links_of, fault_of}
 use Rattle.clk_syntax.proofs.Callers.Graphs.{used_again}
+use Rattle.clk_syntax.proofs.Callers.Checks.{neither, fails-not}
 use Rattle.clk_tree.specs.Plan.{Planned, source_at, is_connected, all_known, plan_of}
 use Rattle.clk_tree.specs.PlanTree as tree
 use Rattle.clk_tree.proofs.Rewired.SameWiring.{IsAlike, Occurs}
-use Rattle.clk_tree.proofs.Sound.SoundChecks.{IsRight, neither, fails-not, all-both, at-more}
+use Rattle.clk_tree.proofs.Sound.SoundChecks.{IsRight, all-both, at-more}
 use Rattle.clk_tree.proofs.Sound.SoundParents.{has-inputs}
 use Rattle.clk_tree.proofs.Sound.SoundPaths.{AreSound}
 use Rattle.clk_tree.proofs.Sound.SoundPlans.{sound-nodes}
@@ -98,7 +99,7 @@ next-target [] s used = absurd (cc)
 next-target (c ∷ links) s used = by_test (c.from == s) used (next-target links s)
   where
     by_test : (b : Bool) → (b || uses_output s links) ≡ true → (uses_output s links ≡ true → target s links ≡ Some (next links s))
-        → (if b then Some c.to else target s links) ≡ Some (if b then c.to else next links s)
+        → (if b then Some c.to else target s links) ≡ Some (unwrap_or (if b then Some c.to else target s links) s)
     by_test true e later = refl
     by_test false e later = later e
 

@@ -5,13 +5,13 @@ use Rattle.std.specs.Option.{option_or}
 use Rattle.std.specs.List.{AllByRecursion, flat_map}
 use Rattle.std.proofs.lemmas.List.{map-append}
 use Rattle.std.proofs.lemmas.Option.{same_Some}
-use Rattle.clk_sched.proofs.Callers.Lists.{all-append}
+use Rattle.clk_packet.proofs.Callers.Lists.{all-append}
 use Rattle.clk_syntax.specs.declared.node.Link.{Link}
 use Rattle.clk_syntax.specs.Source.{Element, Word, Wire}
 use Rattle.clk_syntax.specs.Classes.{Class, queue}
 use Rattle.clk_syntax.specs.Declarations.{first_after, fails_at, is_declared, unknown_end, unknown_name}
 use Rattle.clk_syntax.specs.Ports.{uses_output}
-use Rattle.clk_syntax.specs.Faults.{place_of, links_of}
+use Rattle.clk_syntax.specs.Faults.{place_of, links_of, port_kept}
 use Rattle.clk_tree.specs.Plan.{Planned}
 use Rattle.clk_tree.specs.PlanTree as tree
 use Rattle.clk_tree.specs.Canonical.{name_of}
@@ -64,7 +64,7 @@ plan-all P i (e ∷ more) each = all-append P (class_links i e.sources e.class) 
 
 -- The canonical lines of a plan are those of its connections.
 abbrev pub line_of : List Planned → Link → BareWire
-line_of plan c = record { from = name_of (slice_get plan c.from); output = c.output; input = c.input; to = name_of (slice_get plan c.to) }
+line_of plan c = record { from = name_of (slice_get plan c.from); output = Some c.output; input = Some c.input; to = name_of (slice_get plan c.to) }
 
 to-named : (plan : List Planned) (i input s : ℕ) (name : List ℕ) → name_of (slice_get plan i) ≡ name → wire_line plan s input name ≡ line_of plan (source_link i input s)
 to-named plan i input s name is = ap (wire_line plan s input) (sym is)
@@ -166,8 +166,8 @@ joined-links again plan (w ∷ joined) (c ∷ links) lines once ends same =
       alike = (
         record {
           from = ap (place_of again) from_is ∙ from.place;
-          output = ap (λ (b : BareWire). b.output) one;
-          input = ap (λ (b : BareWire). b.input) one;
+          output = ap (λ (b : BareWire). port_kept b.output) one;
+          input = ap (λ (b : BareWire). port_kept b.input) one;
           to = ap (place_of again) to_is ∙ to.place;
         },
         h.alike,

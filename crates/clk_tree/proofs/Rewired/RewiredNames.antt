@@ -11,16 +11,16 @@ use Rattle.clk_packet.specs.declared.fault.Fault.TheVariants.{NameTwice, Unknown
 use Rattle.clk_syntax.specs.declared.naming.class.ClassName.{ClassName}
 use Rattle.clk_syntax.specs.declared.naming.class.Role.{Role}
 use Rattle.clk_syntax.specs.declared.node.Link.{Link}
-use Rattle.clk_syntax.specs.Classes.{Class, sender, queue, prio, round_robin, drr, stride, shaper, device, class_named, role_of}
+use Rattle.clk_syntax.specs.Classes.{Class, sender, class_named, role_of}
 use Rattle.clk_syntax.specs.Source.{Element, Wire}
 use Rattle.clk_syntax.specs.Declarations.{first_after, fails_at, is_declared, name_twice, is_missing, unknown_class, class_if, class_of, is_sender, is_bad_after, bad_argument}
 use Rattle.clk_syntax.specs.Faults.{node, nodes_of, place_of, naming_fault, nodes_fault, links_of, fault_of}
 use Rattle.clk_syntax.specs.inside.Naming.{bad_at}
 use Rattle.clk_syntax.proofs.Callers.Elements.{among, unknown_in, unknown_class-in}
+use Rattle.clk_syntax.proofs.Callers.Checks.{neither, fails-not}
 use Rattle.clk_tree.specs.Plan.{Known, all_known, planned_at, planned_from, plan_of}
 use Rattle.clk_tree.proofs.Canonical.CanonicalSource.{bare_element, BareElement, element_line, IsReadBack}
 use Rattle.clk_tree.proofs.Rewired.SameWiring.{role_in, AreSameNodes}
-use Rattle.clk_tree.proofs.Sound.SoundChecks.{neither, fails-not}
 use Rattle.clk_tree.proofs.Sound.SoundNodes.{known_as}
 use Rattle.clk_tree.proofs.Sound.SoundPaths.{none-of}
 
@@ -142,13 +142,7 @@ same-once before after (e ∷ es) (f ∷ fs) known same once =
 same-bad : (before after : List Element) (o : Option Class) → AreSame before after → is_bad_after after o ≡ is_bad_after before o
 same-bad before after None known = refl
 same-bad before after (Some (sender n)) known = same-sender n before after known
-same-bad before after (Some (queue kind capacity)) known = refl
-same-bad before after (Some prio) known = refl
-same-bad before after (Some round_robin) known = refl
-same-bad before after (Some (drr quanta)) known = refl
-same-bad before after (Some (stride tickets)) known = refl
-same-bad before after (Some (shaper rate burst)) known = refl
-same-bad before after (Some (device word)) known = refl
+same-bad before after (Some class) known = refl
 
 same-arguments : (before after elements again : List Element) → AreSame before after → AreSame elements again → first_after bad_at before elements ≡ None → first_after bad_at after again ≡ None
 same-arguments before after [] [] known same good = refl

@@ -6,7 +6,7 @@ use Rattle.clk_syntax.specs.declared.node.Link.{Link}
 use Rattle.clk_syntax.specs.Source.{Element, Wire}
 use Rattle.clk_syntax.specs.Ports.{bad_port, port_twice, port_missing, has_device, not_a_tree}
 use Rattle.clk_syntax.specs.Faults.{nodes_of, links_of, naming_fault, port_fault, shape_fault, nodes_fault, fault_of}
-use Rattle.clk_tree.proofs.Sound.SoundChecks.{neither}
+use Rattle.clk_syntax.proofs.Callers.Checks.{neither}
 use Rattle.clk_tree.proofs.Sound.SoundPaths.{AreFaultless, each-check}
 use Rattle.clk_tree.proofs.Rewired.SameWiring.{IsRewired, AreSameNodes}
 use Rattle.clk_tree.proofs.Rewired.WiringAgainPorts.{both-none, links-right, none-twice, none-missing}

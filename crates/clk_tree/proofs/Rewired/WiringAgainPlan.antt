@@ -11,9 +11,9 @@ use Rattle.clk_syntax.specs.Classes.{Class, role_of}
 use Rattle.clk_syntax.specs.Declarations.{class_of}
 use Rattle.clk_syntax.specs.Ports.{role_at, is_queue, inputs_of}
 use Rattle.clk_syntax.specs.Faults.{node, nodes_of, links_of, naming_fault, nodes_fault, fault_of}
+use Rattle.clk_syntax.proofs.Callers.Checks.{neither}
 use Rattle.clk_tree.specs.Plan.{Known, all_known, is_connected, source_at, sources_of, planned_from, plan_of}
 use Rattle.clk_tree.proofs.Sound.SoundNodes.{known_as}
-use Rattle.clk_tree.proofs.Sound.SoundChecks.{neither}
 use Rattle.clk_tree.proofs.Sound.SoundPaths.{AreSound, are-sound, input-used}
 use Rattle.clk_tree.proofs.Sound.SoundPlans.{inputs_at, pull-sources}
 use Rattle.clk_tree.proofs.Rewired.SameWiring.{IsRewired, role_in}

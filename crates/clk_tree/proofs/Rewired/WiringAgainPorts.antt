@@ -12,8 +12,9 @@ use Rattle.clk_syntax.specs.Declarations.{first_after, fails_at}
 use Rattle.clk_syntax.specs.Ports.{role_at, is_source, is_queue, has_output, has_input, differ, uses_output, uses_input, inputs_of, all_connected, output_connected, bad_port, port_twice, port_missing_from, wrong_kind}
 use Rattle.clk_syntax.specs.inside.Checks.{first_of, bad_link, mixed_link, is_connected}
 use Rattle.clk_syntax.proofs.Callers.Graphs.{bad-port-first, wrong-kind-first, used_again}
+use Rattle.clk_syntax.proofs.Callers.Checks.{neither, fails-not}
 use Rattle.clk_tree.specs.Plan.{source_at}
-use Rattle.clk_tree.proofs.Sound.SoundChecks.{neither, fails-not, all-both, IsRight, all-right}
+use Rattle.clk_tree.proofs.Sound.SoundChecks.{all-both, IsRight, all-right}
 use Rattle.clk_tree.proofs.Distinct.DistinctPlans.{Once}
 use Rattle.clk_tree.proofs.Rewired.SameWiring.{IsAlike, Occurs, IsRewired, role_in, AreSameNodes}
 use Rattle.clk_tree.proofs.Rewired.WiringAgainTests.{all-occur, same-outputs, same-inputs, same-used, leads_from, leads_into, lone-input, lone-source}

@@ -6,7 +6,7 @@ use Rattle.clk_syntax.specs.declared.node.Link.{Link}
 use Rattle.clk_syntax.specs.Declarations.{fails_at}
 use Rattle.clk_syntax.specs.Ports.{role_at, is_device, is_scheduler, inputs_of, has_device, next, follow, leads, not_a_tree_from}
 use Rattle.clk_syntax.specs.Size.{levels_from, is_too_large, some_too_large, too_large}
-use Rattle.clk_tree.proofs.Sound.SoundChecks.{neither, fails-not}
+use Rattle.clk_syntax.proofs.Callers.Checks.{neither, fails-not}
 use Rattle.clk_tree.proofs.Rewired.SameWiring.{IsRewired, AreSameNodes}
 use Rattle.clk_tree.proofs.Rewired.WiringAgainTests.{same-next}
 use Rattle.clk_tree.proofs.Rewired.WiringAgainPorts.{first-roles, same-roles, both-none, passes-at, same-inputs-of}

@@ -8,9 +8,9 @@ use Rattle.clk_syntax.specs.declared.node.Node.{Node}
 use Rattle.clk_syntax.specs.declared.node.Link.{Link}
 use Rattle.clk_syntax.specs.Declarations.{first_after, fails_at}
 use Rattle.clk_syntax.specs.Ports.{role_at, is_queue, uses_output, uses_input, inputs_used, target, next}
-use Rattle.clk_syntax.proofs.Callers.Graphs.{used_again, next-or}
+use Rattle.clk_syntax.proofs.Callers.Graphs.{used_again}
+use Rattle.clk_syntax.proofs.Callers.Checks.{neither, fails-not}
 use Rattle.clk_tree.specs.Plan.{source_at}
-use Rattle.clk_tree.proofs.Sound.SoundChecks.{neither, fails-not}
 use Rattle.clk_tree.proofs.Distinct.DistinctPlans.{Once}
 use Rattle.clk_tree.proofs.Rewired.SameWiring.{IsAlike, Occurs, IsRewired}
 
@@ -160,7 +160,7 @@ same-target links rewired is i = by_test (uses_output i links) refl
         ∙ sym (target-first i links ∙ none-first (leads_from i) (λ c. Some c.to) None links uses)
 
 pub same-next : (links rewired : List Link) → IsRewired links rewired → (i : ℕ) → next rewired i ≡ next links i
-same-next links rewired is i = sym (next-or i rewired) ∙ ap (λ t. unwrap_or t i) (same-target links rewired is i) ∙ next-or i links
+same-next links rewired is i = ap (λ t. unwrap_or t i) (same-target links rewired is i)
 
 -- One connection at most leads to a pull input.
 fresh-input : (nodes : List Node) (i input : ℕ) (earlier : List Link) (c : Link) → is_queue (role_at nodes i) ≡ false → used_again nodes earlier c ≡ None → leads_into i input c ≡ true

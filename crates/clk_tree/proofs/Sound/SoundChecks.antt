@@ -1,6 +1,5 @@
 -- What a check that finds nothing says of each member.
-use Rattle.std.proofs.Common.{◌≡◌, ℕ, ◌+◌, ◌≤◌, ◌==◌, ◌&&◌, nat_lt, zero, suc, Bool, true, false, not, if◌then◌else◌, List, [], ◌∷◌, Option, Some, None, refl, sym, ap, subst, ◌∙◌, arith, eq-eqb}
-use Rattle.std.specs.Option.{option_or}
+use Rattle.std.proofs.Common.{◌≡◌, ℕ, ◌+◌, ◌≤◌, ◌==◌, ◌&&◌, nat_lt, zero, suc, Bool, true, false, not, if◌then◌else◌, List, [], ◌∷◌, Option, Some, None, refl, sym, ap, subst, ◌∙◌, arith, eq-eqb, unwrap_or}
 use Rattle.std.specs.List.{AllByRecursion}
 use Rattle.std.proofs.lemmas.Bool.{and_parts, or_parts, not-false}
 use Rattle.std.proofs.lemmas.Bool.Decides.{nat_tests}
@@ -9,20 +8,13 @@ use Rattle.clk_syntax.specs.declared.naming.class.Role.{Role}
 use Rattle.clk_syntax.specs.declared.node.Node.{Node}
 use Rattle.clk_syntax.specs.declared.node.Link.{Link}
 use Rattle.clk_syntax.specs.Declarations.{first_after, fails_at}
-use Rattle.clk_syntax.specs.Ports.{role_at, is_source, is_queue, is_scheduler, has_output, has_input, differ, uses_output, uses_input, inputs_of, all_connected, output_connected, port_missing_from, not_a_tree_from, leads, next}
+use Rattle.clk_syntax.specs.Ports.{role_at, is_source, is_queue, is_scheduler, has_output, has_input, differ, uses_output, uses_input, inputs_of, all_connected, output_connected, port_missing_from, not_a_tree_from, leads, next, target}
 use Rattle.clk_syntax.specs.Size.{is_too_large, some_too_large, levels}
 use Rattle.clk_syntax.specs.inside.Checks.{first_of, bad_link, mixed_link}
 use Rattle.clk_syntax.proofs.Callers.Graphs.{used_again}
+use Rattle.clk_syntax.proofs.Callers.Checks.{neither, fails-not}
 
--- what fails nowhere
-pub neither : {A : Type 0} (a b : Option A) → option_or a b ≡ None → (a ≡ None) × (b ≡ None)
-neither None b e = (refl, e)
-neither (Some x) b e = absurd (cc)
-
-pub fails-not : (b : Bool) (place : ℕ) → fails_at b place ≡ None → b ≡ false
-fails-not true place e = absurd (cc)
-fails-not false place e = refl
-
+-- what fails at no member
 pub each-of : {A : Type 0} (fails : A → Option ℕ) (xs : List A) → first_of fails xs ≡ None → AllByRecursion (λ x. fails x ≡ None) xs
 each-of fails [] e = tt
 each-of fails (x ∷ xs) e = let parts = neither (fails x) (first_of fails xs) e in (parts.0, each-of fails xs parts.1)
@@ -72,9 +64,9 @@ all-next nodes earlier [] e = tt
 all-next nodes earlier (c ∷ links) e =
     let parts = neither (used_again nodes earlier c) (first_after (used_again nodes) (c ∷ earlier) links) e in
     let later = all-next nodes (c ∷ earlier) links parts.1 in (
-      ap (λ b. if b then c.to else next links c.from) (eq-eqb c.from c.from refl),
+      ap (λ b. unwrap_or (if b then Some c.to else target c.from links) c.from) (eq-eqb c.from c.from refl),
       all-both (λ (d : Link). uses_output d.from (c ∷ earlier) ≡ false) (λ (d : Link). next links d.from ≡ d.to) (λ (d : Link). next (c ∷ links) d.from ≡ d.to) links
-          (λ d free is. ap (λ b. if b then c.to else next links d.from) (or_parts (c.from == d.from) (uses_output d.from earlier) free).0 ∙ is) (unused-after nodes (c ∷ earlier) links parts.1) later,
+          (λ d free is. ap (λ b. unwrap_or (if b then Some c.to else target d.from links) d.from) (or_parts (c.from == d.from) (uses_output d.from earlier) free).0 ∙ is) (unused-after nodes (c ∷ earlier) links parts.1) later,
     )
 
 -- the ports of the element at a place are connected

@@ -5,7 +5,7 @@ use Rattle.std.specs.List.{cons_option}
 use Rattle.clk_syntax.specs.declared.naming.class.Role.{Role}
 use Rattle.clk_syntax.specs.declared.naming.class.Role.TheVariants as role
 use Rattle.clk_syntax.specs.declared.node.Link.{Link}
-use Rattle.clk_syntax.specs.Classes.{Class, sender, queue, prio, round_robin, drr, stride, shaper, device, role_of}
+use Rattle.clk_syntax.specs.Classes.{Class, drr, role_of}
 use Rattle.clk_syntax.specs.Source.{Element}
 use Rattle.clk_syntax.specs.Declarations.{class_of}
 use Rattle.clk_syntax.specs.Ports.{role_at, is_queue, is_device, has_device}
@@ -82,28 +82,16 @@ node-at count links (e ∷ elements) i j p at = by_case (class_of e) j at (λ m.
 
 -- what a role says of a class
 pub queue-class : (class : Class) → tree.is_queue class ≡ is_queue (Some (role_of class))
-queue-class (sender n) = refl
-queue-class (queue kind capacity) = refl
-queue-class prio = refl
-queue-class round_robin = refl
 queue-class (drr []) = refl
 queue-class (drr (q ∷ [])) = refl
 queue-class (drr (q ∷ r ∷ more)) = refl
-queue-class (stride tickets) = refl
-queue-class (shaper rate burst) = refl
-queue-class (device word) = refl
+queue-class class = refl
 
 pub device-class : (class : Class) → tree.is_device class ≡ is_device (Some (role_of class))
-device-class (sender n) = refl
-device-class (queue kind capacity) = refl
-device-class prio = refl
-device-class round_robin = refl
 device-class (drr []) = refl
 device-class (drr (q ∷ [])) = refl
 device-class (drr (q ∷ r ∷ more)) = refl
-device-class (stride tickets) = refl
-device-class (shaper rate burst) = refl
-device-class (device word) = refl
+device-class class = refl
 
 -- a device among the elements that the checks see is one of the plan
 pub some-device : (count : ℕ) (links : List Link) (elements : List Element) (i : ℕ) → has_device (nodes_of elements) ≡ true → 1 ≤ device_count (planned_from count links i (all_known elements))

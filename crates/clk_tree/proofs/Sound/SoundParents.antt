@@ -13,9 +13,10 @@ use Rattle.clk_syntax.specs.Declarations.{first_after}
 use Rattle.clk_syntax.specs.Ports.{role_at, is_queue, uses_output, inputs_of, next}
 use Rattle.clk_syntax.specs.Faults.{nodes_of, links_of, fault_of}
 use Rattle.clk_syntax.proofs.Callers.Graphs.{used_again}
+use Rattle.clk_syntax.proofs.Callers.Checks.{neither}
 use Rattle.clk_tree.specs.Plan.{Planned, source_at, all_known, plan_of}
 use Rattle.clk_tree.specs.PlanTree as tree
-use Rattle.clk_tree.proofs.Sound.SoundChecks.{neither, all-both, unused-after}
+use Rattle.clk_tree.proofs.Sound.SoundChecks.{all-both, unused-after}
 use Rattle.clk_tree.proofs.Sound.SoundNodes.{node-at, queue-class}
 use Rattle.clk_tree.proofs.Sound.SoundPaths.{AreSound, fed, link-to, input-used}
 use Rattle.clk_tree.proofs.Sound.SoundPlans.{is-plan, sound-nodes, pull-sources, all-range, inputs_at}

@@ -14,8 +14,9 @@ use Rattle.clk_syntax.specs.Ports.{role_at, is_source, is_queue, is_device, is_s
 use Rattle.clk_syntax.specs.Size.{levels_from, some_too_large, too_large}
 use Rattle.clk_syntax.specs.Faults.{port_fault, shape_fault, nodes_fault}
 use Rattle.clk_syntax.proofs.Callers.Graphs.{bad-port-first, wrong-kind-first}
+use Rattle.clk_syntax.proofs.Callers.Checks.{neither}
 use Rattle.clk_tree.specs.Plan.{source_at}
-use Rattle.clk_tree.proofs.Sound.SoundChecks.{neither, IsRight, all-both, all-right, all-next, IsConnected, connected-at, leads-at, IsSmall, small-at}
+use Rattle.clk_tree.proofs.Sound.SoundChecks.{IsRight, all-both, all-right, all-next, IsConnected, connected-at, leads-at, IsSmall, small-at}
 
 -- elements and connections in which no check of ports, of the tree and of sizes finds a fault
 pub record AreSound (nodes : List Node) (links : List Link) : Type 0 where

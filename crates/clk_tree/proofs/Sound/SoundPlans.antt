@@ -13,11 +13,11 @@ use Rattle.clk_syntax.specs.Source.{Element, Wire}
 use Rattle.clk_syntax.specs.Classes.{role_of}
 use Rattle.clk_syntax.specs.Ports.{role_at, is_queue, is_device, is_scheduler, inputs_of, next}
 use Rattle.clk_syntax.specs.Faults.{nodes_of, links_of, fault_of, naming_fault, nodes_fault}
+use Rattle.clk_syntax.proofs.Callers.Checks.{neither}
 use Rattle.clk_tree.specs.Plan.{Planned, source_at, sources_of, all_known, plan_of}
 use Rattle.clk_tree.specs.PlanTree as tree
 use Rattle.clk_tree.specs.PlanTree.{device_sources, device_count}
 use Rattle.clk_tree.specs.inside.PlanTree.{is_queue_at, IsOver, IsScheduled}
-use Rattle.clk_tree.proofs.Sound.SoundChecks.{neither}
 use Rattle.clk_tree.proofs.Sound.SoundClasses.{over-inputs}
 use Rattle.clk_tree.proofs.Sound.SoundNodes.{IsPlanned, planned-at, node-at, queue-planned, device-class, some-device}
 use Rattle.clk_tree.proofs.Sound.SoundPaths.{AreSound, are-sound, Feeds, fed, Way, way-short}

@@ -9,7 +9,7 @@ use Rattle.clk_syntax.specs.declared.naming.class.Role.{Role}
 use Rattle.clk_syntax.specs.declared.naming.class.Role.TheVariants as role
 use Rattle.clk_syntax.specs.declared.node.Node.{Node}
 use Rattle.clk_syntax.specs.declared.node.Link.{Link}
-use Rattle.clk_syntax.specs.Classes.{Class, sender, queue, prio, round_robin, drr, stride, shaper, device, role_of}
+use Rattle.clk_syntax.specs.Classes.{Class, sender, drr, role_of}
 use Rattle.clk_syntax.specs.Source.{Element, Wire}
 use Rattle.clk_syntax.specs.Ports.{role_at, is_source, is_queue, is_scheduler, uses_output, inputs_of, target}
 use Rattle.clk_syntax.specs.Faults.{nodes_of, links_of, fault_of}
@@ -77,15 +77,10 @@ queue-role (Some role.Device) e = absurd (cc)
 
 sender-class : (class : Class) → is_source (Some (role_of class)) ≡ true → (n : ℕ) × (class ≡ sender n)
 sender-class (sender n) e = (n, refl)
-sender-class (queue kind capacity) e = absurd (cc)
-sender-class prio e = absurd (cc)
-sender-class round_robin e = absurd (cc)
 sender-class (drr []) e = absurd (cc)
 sender-class (drr (q ∷ [])) e = absurd (cc)
 sender-class (drr (q ∷ r ∷ more)) e = absurd (cc)
-sender-class (stride tickets) e = absurd (cc)
-sender-class (shaper rate burst) e = absurd (cc)
-sender-class (device word) e = absurd (cc)
+sender-class class e = absurd (cc)
 
 -- at a place of a plan stands a Sender
 pub record IsSenderAt (plan : List Planned) (s : ℕ) : Type 0 where

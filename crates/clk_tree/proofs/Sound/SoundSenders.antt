@@ -1,17 +1,18 @@
 -- No two Senders of the plan of a text without a fault have the same number.
 use Rattle.std.proofs.Common.{◌≡◌, ℕ, ◌+◌, ◌==◌, ◌&&◌, ◌||◌, zero, suc, Bool, true, false, not, List, [], ◌∷◌, length, Option, Some, None, option_map, slice_get, refl, sym, ap, subst, ◌∙◌, eq-eqb, ne_eqb}
 use Rattle.std.specs.List.{AllByRecursion, list_any, cons_option}
-use Rattle.std.proofs.lemmas.Bool.{or_parts, and_parts, or_from, or_right, not-true, false≢true}
+use Rattle.std.proofs.lemmas.Bool.{or_parts, or_from, or_right, false≢true}
 use Rattle.std.proofs.lemmas.Option.{same_Some}
 use Rattle.clk_packet.specs.declared.fault.Fault.TheVariants.{NameTwice, UnknownClass, BadArgument, UnknownName}
 use Rattle.clk_packet.specs.Lists.{stands_in, are_distinct}
+use Rattle.clk_packet.proofs.Callers.Lists.{distinct-parts}
 use Rattle.clk_syntax.specs.declared.node.Link.{Link}
-use Rattle.clk_syntax.specs.Classes.{Class, sender, queue, prio, round_robin, drr, stride, shaper, device}
+use Rattle.clk_syntax.specs.Classes.{Class, sender}
 use Rattle.clk_syntax.specs.Source.{Element, Wire}
 use Rattle.clk_syntax.specs.Declarations.{first_after, fails_at, class_of, is_sender, is_bad_after, name_twice, unknown_class, bad_argument, unknown_name}
 use Rattle.clk_syntax.specs.Faults.{naming_fault, nodes_fault, nodes_of, links_of, fault_of}
+use Rattle.clk_syntax.proofs.Callers.Checks.{neither, fails-not}
 use Rattle.clk_tree.specs.Plan.{Planned, all_known, planned_from, plan_of}
-use Rattle.clk_tree.proofs.Sound.SoundChecks.{neither, fails-not}
 use Rattle.clk_tree.proofs.Sound.SoundNodes.{known_as}
 
 -- the numbers of the Senders of a plan, in order of declaration
@@ -70,13 +71,7 @@ distinct-after count links earlier (e ∷ elements) i none =
         → AreNew earlier (sender_numbers (planned_from count links i (cons_option (option_map (known_as e) o) (all_known elements))))
     by_case None is good here later = kept (sender_numbers (planned_from count links i (all_known elements))) here
     by_case (Some (sender n)) is good here later = more n (sender_numbers (planned_from count links (i + 1) (all_known elements))) is good later
-    by_case (Some (queue kind capacity)) is good here later = kept (sender_numbers (planned_from count links (i + 1) (all_known elements))) later
-    by_case (Some prio) is good here later = kept (sender_numbers (planned_from count links (i + 1) (all_known elements))) later
-    by_case (Some round_robin) is good here later = kept (sender_numbers (planned_from count links (i + 1) (all_known elements))) later
-    by_case (Some (drr quanta)) is good here later = kept (sender_numbers (planned_from count links (i + 1) (all_known elements))) later
-    by_case (Some (stride tickets)) is good here later = kept (sender_numbers (planned_from count links (i + 1) (all_known elements))) later
-    by_case (Some (shaper rate burst)) is good here later = kept (sender_numbers (planned_from count links (i + 1) (all_known elements))) later
-    by_case (Some (device word)) is good here later = kept (sender_numbers (planned_from count links (i + 1) (all_known elements))) later
+    by_case (Some class) is good here later = kept (sender_numbers (planned_from count links (i + 1) (all_known elements))) later
 
 none-bad : (place : Option ℕ) → option_map BadArgument place ≡ None → place ≡ None
 none-bad None e = refl
@@ -93,13 +88,7 @@ senders-distinct elements wires none =
 -- by their places: Senders of one number are one
 stands-more : (class : Class) (numbers : List ℕ) (n : ℕ) → stands_in n numbers ≡ true → stands_in n (with_number class numbers) ≡ true
 stands-more (sender m) numbers n e = or_right (m == n) (stands_in n numbers) e
-stands-more (queue kind capacity) numbers n e = e
-stands-more prio numbers n e = e
-stands-more round_robin numbers n e = e
-stands-more (drr quanta) numbers n e = e
-stands-more (stride tickets) numbers n e = e
-stands-more (shaper rate burst) numbers n e = e
-stands-more (device word) numbers n e = e
+stands-more class numbers n e = e
 
 number-stands : (plan : List Planned) (i n : ℕ) (e : Planned) → slice_get plan i ≡ Some e → e.class ≡ sender n → stands_in n (sender_numbers plan) ≡ true
 number-stands [] i n e at is = absurd (cc)
@@ -109,21 +98,14 @@ number-stands (x ∷ plan) zero n e at is =
 number-stands (x ∷ plan) (suc i) n e at is = stands-more x.class (sender_numbers plan) n (number-stands plan i n e at is)
 
 rest-distinct : (class : Class) (numbers : List ℕ) → are_distinct (with_number class numbers) ≡ true → are_distinct numbers ≡ true
-rest-distinct (sender m) numbers e = (and_parts (not (stands_in m numbers)) (are_distinct numbers) e).1
-rest-distinct (queue kind capacity) numbers e = e
-rest-distinct prio numbers e = e
-rest-distinct round_robin numbers e = e
-rest-distinct (drr quanta) numbers e = e
-rest-distinct (stride tickets) numbers e = e
-rest-distinct (shaper rate burst) numbers e = e
-rest-distinct (device word) numbers e = e
+rest-distinct (sender m) numbers e = (distinct-parts m numbers e).1
+rest-distinct class numbers e = e
 
 first-differs : (x e f : Planned) (plan : List Planned) (j n : ℕ) → are_distinct (sender_numbers (x ∷ plan)) ≡ true → x ≡ e → e.class ≡ sender n → slice_get plan j ≡ Some f → f.class ≡ sender n → ⊥
 first-differs x e f plan j n distinct same is at also =
     let class : x.class ≡ sender n = ap (λ (p : Planned). p.class) same ∙ is in
-    let none : (not (stands_in n (sender_numbers plan)) && are_distinct (sender_numbers plan)) ≡ true = ap (λ c. are_distinct (with_number c (sender_numbers plan))) (sym class) ∙ distinct in
-    false≢true (sym (not-true (stands_in n (sender_numbers plan)) (and_parts (not (stands_in n (sender_numbers plan))) (are_distinct (sender_numbers plan)) none).0)
-    ∙ number-stands plan j n f at also)
+    let none : are_distinct (n ∷ sender_numbers plan) ≡ true = ap (λ c. are_distinct (with_number c (sender_numbers plan))) (sym class) ∙ distinct in
+    false≢true (sym (distinct-parts n (sender_numbers plan) none).0 ∙ number-stands plan j n f at also)
 
 one-place : (plan : List Planned) (i j n : ℕ) (e f : Planned) → are_distinct (sender_numbers plan) ≡ true → slice_get plan i ≡ Some e → e.class ≡ sender n → slice_get plan j ≡ Some f → f.class ≡ sender n → i ≡ j
 one-place [] i j n e f distinct at is there also = absurd (cc)

@@ -1,5 +1,5 @@
 use Rattle.std.proofs.Common.{◌∙◌}
-use Rattle.clk_script.proofs.Callers.Written.{wrote-so}
+use Rattle.clk_packet.proofs.Callers.Written.{wrote-so}
 use Rattle.clk_command.proofs.over.check_tree.Goals as goal
 
 pub returns-clause-wrote : goal.returns-clause-wrote

@@ -1,4 +1,4 @@
-use Rattle.clk_script.proofs.Callers.Written.{wrote-last}
+use Rattle.clk_packet.proofs.Callers.Written.{wrote-last}
 use Rattle.clk_command.proofs.over.script_over.Goals as goal
 
 pub returns-clause-wrote : goal.returns-clause-wrote

@@ -1,6 +1,6 @@
 use Rattle.std.proofs.Common.{◌≤◌, arith}
 use Rattle.std.proofs.lemmas.Result.{err_from_is_err_and}
-use Rattle.clk_script.proofs.Callers.Written.{wrote-whole, wrote-front}
+use Rattle.clk_packet.proofs.Callers.Written.{wrote-whole, wrote-front}
 use Rattle.clk_command.proofs.RunningLemmas.{emitted-counted, run-writes, trace-tells}
 use Rattle.clk_command.proofs.running.run_trace.Goals as goal
 

@@ -1,10 +1,9 @@
 use Rattle.std.proofs.Common.{◌≡◌, List, [], ◌∷◌, sym, ap, ◌∙◌, subst}
 use Rattle.std.specs.List.{AllByRecursion}
-use Rattle.clk_packet.specs.Lists.{stands_in}
+use Rattle.clk_packet.specs.Lists.{stands_in, AreRising}
 use Rattle.clk_sched.specs.Tree.{root, leaves}
 use Rattle.clk_sched.specs.Results.{leaf_packets}
 use Rattle.clk_sched.specs.Session.{Progress}
-use Rattle.clk_drain.specs.Senders.{Rise}
 use Rattle.clk_drain.specs.Line.{LineLists, leaves_of, AreLinesOf}
 use Rattle.clk_drain_tests.proofs.shared.close.Goals as goal
 
@@ -13,7 +12,7 @@ none-taken : (session : Progress) (lines : List LineLists) → session.log ≡ [
 none-taken session [] log h = tt
 none-taken session (l ∷ lines) log h = (h.0 ∙ ap (leaf_packets session.tree l.leaf) (sym log), none-taken session lines log h.1)
 
-lines-of-new : (session : Progress) (lines : List LineLists) → session.log ≡ [] → leaves_of lines ≡ leaves (root session.tree) → Rise (leaves_of lines) → AllByRecursion (λ (l : LineLists). l.tap.taken ≡ []) lines → AreLinesOf session lines
+lines-of-new : (session : Progress) (lines : List LineLists) → session.log ≡ [] → leaves_of lines ≡ leaves (root session.tree) → AreRising (leaves_of lines) → AllByRecursion (λ (l : LineLists). l.tap.taken ≡ []) lines → AreLinesOf session lines
 lines-of-new session lines log same rise fresh = record {
   rise = rise;
   leaves = λ q. ap (stands_in q) same;
@@ -25,4 +24,4 @@ loop-packet-init g c =
     let made = c.in_ok-session.ensures.made in
     let tree = ap (λ t. leaves (root t)) (sym made.0) in
     subst (AreLinesOf c.in_ok-session.session) (sym c.new-lines.ensures)
-    (lines-of-new c.in_ok-session.session c.args.lines.items made.1 (c.requires.leaves ∙ tree) (subst Rise (sym c.requires.leaves) c.requires.rise) c.requires.fresh)
+    (lines-of-new c.in_ok-session.session c.args.lines.items made.1 (c.requires.leaves ∙ tree) (subst AreRising (sym c.requires.leaves) c.requires.rise) c.requires.fresh)

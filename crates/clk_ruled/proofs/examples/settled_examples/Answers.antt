@@ -1,6 +1,6 @@
 use Rattle.std.proofs.Common.{◌≡◌, false, List, [], ◌∷◌, ◌++◌, get_or, refl, lit≤, inl, inr, ap, Bool, arith, length}
 use Rattle.clk_packet.specs.declared.packet.Packet.{Packet}
-use Rattle.clk_ruled.specs.Lists.{without}
+use Rattle.clk_ruled.specs.PacketLists.{without}
 use Rattle.clk_ruled.specs.Examples.{p0_0, p0_1, p1_0, p1_1, put_out, pulled, held}
 use Rattle.clk_ruled.proofs.Worked.{by-senders, of_these, of_seats, front-account-by-seats, tail-account, not-last}
 use Rattle.clk_ruled.proofs.examples.settled_examples.Goals as goal

@@ -1,5 +1,5 @@
 use Rattle.std.specs.Prelude.{◌≡◌, ◌+◌, length}
-use Rattle.clk_ruled.specs.Lists.{rooms_in_all}
+use Rattle.clk_ruled.specs.Rooms.{rooms_in_all}
 use Rattle.clk_ruled.proofs.open.room_in_all.Given as goal
 
 abbrev pub invariant-loop-rest : goal.invariant-loop-rest

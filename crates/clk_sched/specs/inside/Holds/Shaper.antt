@@ -3,7 +3,7 @@ use Rattle.std.specs.Prelude.{◌≡◌, ℕ, ◌+◌, ◌-◌, ◌*◌, ◌≤�
 use Rattle.std.specs.List.{AllByRecursion}
 use Rattle.clk_sched.specs.declared.session.shaper.Bucket.{Bucket}
 use Rattle.clk_sched.specs.Turns.{Turn, giver}
-use Rattle.clk_sched.specs.Laws.Shaper.{has_room}
+use Rattle.clk_sched.specs.Laws.Shaper.{packets_passed, keeps_since_each, has_room}
 
 -- none of these turns was after a moment
 abbrev pub AreBefore : ℕ → List Turn → Type 0
@@ -26,12 +26,12 @@ pub record HoldsBucket (rate burst : ℕ) (turns : List Turn) (b : Bucket) : Typ
   pub rate_is : b.rate ≡ rate
   pub burst_is : b.burst ≡ burst
   pub filled : (moment : ℕ) → AreBefore moment turns → b.filled ≤ moment
-  pub room : (moment since : ℕ) → b.filled ≤ moment → since + 1 ≤ burst + rate * (moment - b.filled)
-      → has_room rate burst moment since turns ≡ nat_le (since + 1) (b.tokens + rate * (moment - b.filled))
+  pub room : (moment : ℕ) (later : List Turn) → b.filled ≤ moment → packets_passed later + 1 ≤ burst + rate * (moment - b.filled)
+      → keeps_since_each rate burst moment later turns ≡ nat_le (packets_passed later + 1) (b.tokens + rate * (moment - b.filled))
 
 -- Whether there is a token at a moment is whether there is room.
 abbrev pub Tells : Bucket → ℕ → Bool → Type 0
-Tells b moment token = (rate burst : ℕ) (turns : List Turn) → HoldsBucket rate burst turns b → AreBefore moment turns → token ≡ has_room rate burst moment 0 turns
+Tells b moment token = (rate burst : ℕ) (turns : List Turn) → HoldsBucket rate burst turns b → AreBefore moment turns → token ≡ has_room rate burst moment turns
 
 -- A token was given back that was taken in a turn which passed nothing.
 abbrev pub IsGivenBack : Bucket → Bucket → Type 0

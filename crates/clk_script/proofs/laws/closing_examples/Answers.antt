@@ -6,9 +6,10 @@ use Rattle.clk_packet.specs.declared.packet.Offered.TheVariants.{Accepted}
 use Rattle.clk_sched.specs.declared.visit.Visit.{Visit}
 use Rattle.clk_sched.specs.Log.{asking}
 use Rattle.clk_sched.specs.Session.{given_in, LastGives}
-use Rattle.clk_script.specs.Meaning.{Event, offered, pulled, pull_in, moment_in, events_at, pulls_from, Closes, CloseFirst}
+use Rattle.clk_router.specs.Events.{Event, offered, pulled, pull_in, moment_in, events_at, pulls_from, Closes}
+use Rattle.clk_script.specs.Meaning.{CloseFirst}
 use Rattle.clk_script.specs.Examples.{p0_0, p1_0, two_devices, closed_at_once, one_at_each, closed_last_first, closed_on}
-use Rattle.clk_script.proofs.EventLemmas.{pulls-visits, pulls-moments}
+use Rattle.clk_router.proofs.Callers.Events.{pulls-visits, pulls-moments}
 use Rattle.clk_script.proofs.laws.closing_examples.Goals as goal
 
 -- the device of the first pull

@@ -1,8 +1,9 @@
 use Rattle.std.proofs.Common.{length, map, subst}
 use Rattle.std.specs.List.{AllByRecursion}
-use Rattle.clk_tree.specs.PlanParts.{queues_of, number_of, AreRising, SendsWithin}
-use Rattle.clk_script.specs.Meaning.{plan_setup}
-use Rattle.clk_script.proofs.OneTree.{plan-wired, plan-apart}
+use Rattle.clk_packet.specs.Lists.{AreRising}
+use Rattle.clk_tree.specs.PlanParts.{queues_of, number_of, SendsWithin}
+use Rattle.clk_router.specs.Events.{plan_setup}
+use Rattle.clk_router.proofs.Callers.Plans.{plan-wired, plan-apart}
 use Rattle.clk_script.proofs.laws.devices_of_plans_stand_apart.Goals as goal
 
 pub returns : goal.returns

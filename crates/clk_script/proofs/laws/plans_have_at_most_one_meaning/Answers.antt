@@ -1,8 +1,9 @@
 use Rattle.std.proofs.Common.{subst, length}
 use Rattle.std.specs.List.{AllByRecursion}
 use Rattle.clk_tree.specs.PlanParts.{queues_of, SendsWithin}
-use Rattle.clk_script.specs.Meaning.{plan_setup}
-use Rattle.clk_script.proofs.OneTree.{plan-wired, plan-one_meaning}
+use Rattle.clk_router.specs.Events.{plan_setup}
+use Rattle.clk_router.proofs.Callers.Plans.{plan-wired}
+use Rattle.clk_script.proofs.OneTree.{plan-one_meaning}
 use Rattle.clk_script.proofs.laws.plans_have_at_most_one_meaning.Goals as goal
 
 pub returns : goal.returns

@@ -1,35 +1,98 @@
-use Rattle.std.proofs.Common.{map, sym, ap₂, subst}
+use Rattle.std.proofs.Common.{◌≡◌, ◌⊎◌, inr, None, Some, ap, sym, subst, ◌∙◌}
 use Rattle.std.proofs.lemmas.Result.{err_from_is_err_and}
-use Rattle.clk_tree.specs.PlanParts.{queued, number_of, AreRising}
-use Rattle.clk_script.specs.Meaning.{setup_of}
-use Rattle.clk_script.specs.inside.Closable.{IsClosable}
-use Rattle.clk_script.proofs.PlanLemmas.{plan-whole}
-use Rattle.clk_script.proofs.NeverShort.{plan-closable}
-use Rattle.clk_script.proofs.Callers.Written.{wrote-ended, wrote-failed}
-use Rattle.clk_script.proofs.RefusalLemmas.{meaning-over}
+use Rattle.clk_packet.specs.declared.fault.Fault.TheVariants.{Memory}
+use Rattle.clk_router.specs.Events.{Setup}
+use Rattle.clk_script.specs.Script.{script_fault, commands_of}
+use Rattle.clk_script.specs.Meaning.{Explains}
+use Rattle.clk_script.specs.inside.Rows.{answer_text, CanBeRun, IsReadFrom}
+use Rattle.clk_packet.proofs.Callers.Written.{wrote-whole, wrote-front, wrote-nothing}
+use Rattle.clk_script.proofs.RefusalLemmas.{IsRefusal-read, same-names, meaning-known, meaning-over, few-devices, few-closings}
 use Rattle.clk_script.proofs.run.run_plan.Goals as goal
 
-pub run_parts-requires-clause-whole : goal.run_parts-requires-clause-whole
-run_parts-requires-clause-whole g c =
-    plan-whole c.args.plan.now c.in_ok-trees.trees.items (map queued c.queues-queues.result.now) c.senders-senders.result.now c.in_ok-trees.ensures.trees c.in_ok-trees.ensures.some c.in_ok-trees.ensures.few c.queues-queues.ensures.queues c.senders-senders.ensures.rising
-    c.senders-senders.ensures.wired c.queues-queues.ensures.devices
+pub answer_script-requires-clause-sound : goal.answer_script-requires-clause-sound
+answer_script-requires-clause-sound g c =
+    let names = same-names c.in_ok-recorder.recorder _ _ c.senders-senders.ensures.numbers c.devices-devices.ensures.count in
+    subst (λ names. CanBeRun names c.in_ok-script.script) names c.in_ok-script.ensures.2
 
-pub run_parts-requires-clause-closable : goal.run_parts-requires-clause-closable
-run_parts-requires-clause-closable g c =
-    let plan = c.args.plan.now in
-    let trees = c.in_ok-trees.trees.items in
-    let rising = subst (λ senders. AreRising (map number_of senders)) c.senders-senders.ensures.senders c.senders-senders.ensures.rising in
-    subst IsClosable (sym (ap₂ (setup_of trees) c.queues-queues.ensures.queues c.senders-senders.ensures.senders))
-    (plan-closable plan trees c.in_ok-trees.ensures.trees (c.trees_share_queues.ensures trees c.in_ok-trees.ensures.trees) rising c.queues-queues.ensures.devices c.in_ok-trees.ensures.each)
+-- a report takes as many devices as there are, and so do closings
+pub write_answer-requires-clause-few : goal.write_answer-requires-clause-few
+write_answer-requires-clause-few g c = few-devices c.in_ok-recorder.recorder.router.setup c.in_ok-recorder.recorder _ c.in_ok-recorder.ensures.starts c.in_ok-answer.ensures.devices
 
-pub returns-in_err-past-clause-wrote : goal.returns-in_err-past-clause-wrote
-returns-in_err-past-clause-wrote g c =
-    let p = err_from_is_err_and c.from_residual-in_err-past.result c.from_residual-in_err-past.ensures.1 in
-    let same = ap₂ (setup_of c.in_ok-trees.trees.items) c.queues-queues.ensures.queues c.senders-senders.ensures.senders in
-    rw (p.1, p.2)
-    (wrote-failed _ _ _ _ _ (λ text m. (m.0, tt, meaning-over c.args.plan.now c.in_ok-trees.trees.items _ c.in_ok-trees.ensures.trees same _ text m.0 m.2)) c.in_err-past.ensures.wrote)
+pub write_answer-requires-clause-closings : goal.write_answer-requires-clause-closings
+write_answer-requires-clause-closings g c = few-closings c.in_ok-recorder.recorder.router.setup c.in_ok-recorder.recorder c.in_ok-answer.answer.closing c.in_ok-recorder.ensures.starts c.in_ok-answer.ensures.closings
 
+-- what is wrong with the script
+pub returns-in_err-script-clause-wrote : goal.returns-in_err-script-clause-wrote
+returns-in_err-script-clause-wrote g c =
+    let p = err_from_is_err_and c.from_residual-in_err-script.result c.from_residual-in_err-script.ensures.1 in
+    let names = same-names c.in_ok-recorder.recorder _ _ c.senders-senders.ensures.numbers c.devices-devices.ensures.count in
+    let fault = c.in_err-script.field-0.0 in
+    let why = subst (λ names. (fault ≡ Memory) ⊎ (script_fault names c.in_ok-text.text.items ≡ Some fault)) names (rw c.deref.ensures.value at c.in_err-script.ensures) in
+    let refusal = IsRefusal-read c.in_ok-recorder.recorder.router.setup c.in_ok-recorder.recorder c.in_ok-recorder.ensures.starts _ c.in_ok-text.text.items fault c.in_ok-text.ensures.bytes why in
+    rw (p.1, p.2) (wrote-nothing _ _ _ refusal.not_write)
+
+pub returns-in_err-script-clause-fault : goal.returns-in_err-script-clause-fault
+returns-in_err-script-clause-fault g c =
+    let p = err_from_is_err_and c.from_residual-in_err-script.result c.from_residual-in_err-script.ensures.1 in
+    let names = same-names c.in_ok-recorder.recorder _ _ c.senders-senders.ensures.numbers c.devices-devices.ensures.count in
+    let fault = c.in_err-script.field-0.0 in
+    let why = subst (λ names. (fault ≡ Memory) ⊎ (script_fault names c.in_ok-text.text.items ≡ Some fault)) names (rw c.deref.ensures.value at c.in_err-script.ensures) in
+    let refusal = IsRefusal-read c.in_ok-recorder.recorder.router.setup c.in_ok-recorder.recorder c.in_ok-recorder.ensures.starts _ c.in_ok-text.text.items fault c.in_ok-text.ensures.bytes why in
+    let opened = c.in_ok-recorder.ensures.opened in
+    rw (p.1, p.2) (inr (opened.trees, opened.are, subst (λ (s : Setup). Explains s (g.R.Source.remaining c.args.reader.now) fault) (ap (λ k. k.setup) opened.is) refusal.explains))
+
+pub returns-in_err-script-clause-read_failures : goal.returns-in_err-script-clause-read_failures
+returns-in_err-script-clause-read_failures g c =
+    let p = err_from_is_err_and c.from_residual-in_err-script.result c.from_residual-in_err-script.ensures.1 in
+    let names = same-names c.in_ok-recorder.recorder _ _ c.senders-senders.ensures.numbers c.devices-devices.ensures.count in
+    let fault = c.in_err-script.field-0.0 in
+    let why = subst (λ names. (fault ≡ Memory) ⊎ (script_fault names c.in_ok-text.text.items ≡ Some fault)) names (rw c.deref.ensures.value at c.in_err-script.ensures) in
+    let refusal = IsRefusal-read c.in_ok-recorder.recorder.router.setup c.in_ok-recorder.recorder c.in_ok-recorder.ensures.starts (g.R.Source.remaining c.args.reader.now) c.in_ok-text.text.items fault c.in_ok-text.ensures.bytes why in
+    rw (p.1, p.2) (c.in_ok-text.ensures.fault ∙ sym (refusal.reads _))
+
+pub returns-in_err-script-clause-write_failures : goal.returns-in_err-script-clause-write_failures
+returns-in_err-script-clause-write_failures g c =
+    let p = err_from_is_err_and c.from_residual-in_err-script.result c.from_residual-in_err-script.ensures.1 in
+    let names = same-names c.in_ok-recorder.recorder _ _ c.senders-senders.ensures.numbers c.devices-devices.ensures.count in
+    let fault = c.in_err-script.field-0.0 in
+    let why = subst (λ names. (fault ≡ Memory) ⊎ (script_fault names c.in_ok-text.text.items ≡ Some fault)) names (rw c.deref.ensures.value at c.in_err-script.ensures) in
+    let refusal = IsRefusal-read c.in_ok-recorder.recorder.router.setup c.in_ok-recorder.recorder c.in_ok-recorder.ensures.starts (g.R.Source.remaining c.args.reader.now) c.in_ok-text.text.items fault c.in_ok-text.ensures.bytes why in
+    rw (p.1, p.2) (sym (refusal.writes _))
+
+-- What a router's answer means, with what it wrote.
 pub returns-clause-wrote : goal.returns-clause-wrote
 returns-clause-wrote g c =
-    let same = ap₂ (setup_of c.in_ok-trees.trees.items) c.queues-queues.ensures.queues c.senders-senders.ensures.senders in
-    wrote-ended _ _ _ _ _ _ (λ text m. (m.0, m.1, meaning-over c.args.plan.now c.in_ok-trees.trees.items _ c.in_ok-trees.ensures.trees same _ text m.0 m.2)) c.in_ok-past.ensures.wrote
+    let recorder = c.in_ok-recorder.recorder in
+    let setup = recorder.router.setup in
+    let bytes = c.in_ok-text.text.items in
+    let script = c.in_ok-script.script in
+    let opened = c.in_ok-recorder.ensures.opened in
+    let starts = c.in_ok-recorder.ensures.starts in
+    let names = same-names recorder _ _ c.senders-senders.ensures.numbers c.devices-devices.ensures.count in
+    let read = subst (λ names. (script_fault names bytes ≡ None) × IsReadFrom names bytes script × CanBeRun names script) names (rw c.deref.ensures.value at c.in_ok-script.ensures) in
+    let means = rw read.1.closing at (c.in_ok-answer.ensures.means setup (commands_of bytes) starts read.1.rows) in
+    let text = answer_text c.in_ok-answer.answer in
+    wrote-whole _ _ _ _ text (
+      means.0,
+      (λ kept. means.1 (ap (λ k. k.keeps.visits) opened.is ∙ kept)),
+      meaning-over c.args.plan.now opened.trees setup opened.are (ap (λ k. k.setup) opened.is) _ text means.0 (meaning-known setup recorder starts _ bytes text means.0 c.in_ok-text.ensures.bytes read.0 means.2),
+    )
+    c.in_ok-write_answer.ensures.whole
+
+pub returns-in_err-write_answer-clause-wrote : goal.returns-in_err-write_answer-clause-wrote
+returns-in_err-write_answer-clause-wrote g c =
+    let p = err_from_is_err_and c.from_residual-in_err-write_answer.result c.from_residual-in_err-write_answer.ensures.1 in
+    let recorder = c.in_ok-recorder.recorder in
+    let setup = recorder.router.setup in
+    let bytes = c.in_ok-text.text.items in
+    let script = c.in_ok-script.script in
+    let opened = c.in_ok-recorder.ensures.opened in
+    let starts = c.in_ok-recorder.ensures.starts in
+    let names = same-names recorder _ _ c.senders-senders.ensures.numbers c.devices-devices.ensures.count in
+    let read = subst (λ names. (script_fault names bytes ≡ None) × IsReadFrom names bytes script × CanBeRun names script) names (rw c.deref.ensures.value at c.in_ok-script.ensures) in
+    let means = rw read.1.closing at (c.in_ok-answer.ensures.means setup (commands_of bytes) starts read.1.rows) in
+    let text = answer_text c.in_ok-answer.answer in
+    rw (p.1, p.2)
+    (wrote-front _ _ _ _ text c.in_err-write_answer.ensures.fault
+    (means.0, tt, meaning-over c.args.plan.now opened.trees setup opened.are (ap (λ k. k.setup) opened.is) _ text means.0 (meaning-known setup recorder starts _ bytes text means.0 c.in_ok-text.ensures.bytes read.0 means.2))
+    c.in_err-write_answer.ensures.front)

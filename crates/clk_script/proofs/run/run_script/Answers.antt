@@ -1,5 +1,5 @@
 use Rattle.std.proofs.lemmas.Result.{err_from_is_err_and}
-use Rattle.clk_script.proofs.Callers.Written.{wrote-ended, wrote-failed}
+use Rattle.clk_packet.proofs.Callers.Written.{wrote-ended, wrote-failed}
 use Rattle.clk_script.proofs.RefusalLemmas.{without-logs}
 use Rattle.clk_script.proofs.run.run_script.Goals as goal
 

@@ -1,14 +1,16 @@
 use Rattle.std.proofs.Common.{◌<◌, ◌≤◌, length, sym, ap, ◌∙◌, subst}
 use Rattle.clk_packet.specs.Limits.{most_capacity}
 use Rattle.clk_packet.specs.Trace.{packets_in, most_records}
-use Rattle.clk_ruled.specs.Lists.{SendersRise, rooms_in_all}
+use Rattle.clk_packet.specs.Lists.{AreRising}
+use Rattle.clk_ruled.specs.Rooms.{named_in, rooms_in_all}
 use Rattle.clk_drain.specs.inside.Opening.{rooms_for}
-use Rattle.clk_drain.proofs.Rooms.{rooms-for-rise, rooms-few}
+use Rattle.clk_drain.proofs.Rooms.{rooms-named, rooms-few}
 use Rattle.clk_drain.proofs.running.opening.open_queue.Goals as goal
 
 pub open-requires-clause-rising : goal.open-requires-clause-rising
 open-requires-clause-rising c =
-    subst SendersRise (sym (c.deref-2.ensures.value ∙ c.in_ok-rooms.ensures.rooms ∙ ap (rooms_for c.args.traces.now) c.deref.ensures.value)) (rooms-for-rise c.args.traces.now c.args.queue.now.senders.items c.requires.rising)
+    let rooms = c.deref-2.ensures.value ∙ c.in_ok-rooms.ensures.rooms ∙ ap (rooms_for c.args.traces.now) c.deref.ensures.value in
+    subst AreRising (sym (ap named_in rooms ∙ rooms-named c.args.traces.now c.args.queue.now.senders.items)) c.requires.rising
 
 pub open-requires-clause-room : goal.open-requires-clause-room
 open-requires-clause-room c =

@@ -3,7 +3,8 @@ use Rattle.std.specs.List.{AllByRecursion}
 use Rattle.clk_packet.specs.Limits.{most_elements}
 use Rattle.clk_tree.specs.inside.Kept.{planned}
 use Rattle.clk_tree.specs.PlanTree.{device_count}
-use Rattle.clk_tree.specs.PlanParts.{Queued, queues_of, AreRising, HasCapacity}
+use Rattle.clk_tree.specs.PlanParts.{Queued, queues_of, HasCapacity}
+use Rattle.clk_packet.specs.Lists.{AreRising}
 use Rattle.clk_tree.proofs.Denoted.PartLemmas.{queues-capacities}
 use Rattle.clk_tree.proofs.Denoted.LeafLemmas.{denoted-devices}
 use Rattle.clk_tree.proofs.Denoted.QueueLaws.{queues-few, queues-rise}

@@ -1,7 +1,8 @@
 use Rattle.std.proofs.Common.{map, length, sym, subst, ◌∙◌}
 use Rattle.std.specs.List.{AllByRecursion}
 use Rattle.clk_tree.specs.inside.Kept.{planned}
-use Rattle.clk_tree.specs.PlanParts.{number_of, queues_of, AreRising, SendsWithin}
+use Rattle.clk_tree.specs.PlanParts.{number_of, queues_of, SendsWithin}
+use Rattle.clk_packet.specs.Lists.{AreRising}
 use Rattle.clk_tree.proofs.Denoted.PartLemmas.{senders-rising, senders-wired}
 use Rattle.clk_tree.proofs.plan.Plan.senders.Goals as goal
 

@@ -3,9 +3,9 @@ use Rattle.std.specs.List.{cons_option}
 use Rattle.std.proofs.lemmas.List.{length-append}
 use Rattle.clk_sched.specs.Limits.{end_of_pulls}
 use Rattle.clk_sched.specs.Results.{emitted}
-use Rattle.clk_sched.specs.Places.{Answers}
+use Rattle.clk_sched.specs.Places.{Answers, tree_queue}
 use Rattle.clk_sched.specs.declared.session.nodes.Nodes.{Nodes}
-use Rattle.clk_sched.specs.Session.{IsPulledOnce, newly, tree_queue}
+use Rattle.clk_sched.specs.Session.{IsPulledOnce, newly}
 use Rattle.clk_sched.specs.Kinds.{progress_of, pulls_made, IsEndless}
 use Rattle.clk_sched.proofs.SessionPull.{session-pulled, emitted-once, one-at-most, pulls-fit, progress, HasGoneOn}
 use Rattle.clk_sched.proofs.QueuesAsked.{answers-tree}

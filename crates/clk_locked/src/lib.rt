@@ -1,0 +1,47 @@
+//! A ring that threads share under a lock. It has a crate of its own, since what may wait is linked into no library for C.
+#![tactic(auto)]
+
+ghost use Rattle.std.specs.Prelude.{◌≤◌, IsOkUnless};
+ghost use Rattle.clk_packet.specs.Limits.{most_capacity};
+ghost use Rattle.clk_packet.specs.declared.fault.Fault.TheVariants.{Memory};
+ghost use Rattle.clk_ring.specs.QueueHistory.{NamesOffer};
+
+use clk_packet::{Fault, Kind, Offered, Packet};
+use clk_ring::Ring;
+use std::alloc::Global;
+use std::sync::{Mutex, Wait};
+
+/// A ring under a lock, for any number of threads. Each call does what the ring's does, while it has the lock. What the ring
+/// held before is known to no caller, so a contract says only that a refusal names the packet offered.
+#[derive(Drop)]
+pub struct Locked {
+    ring: Mutex<Ring>,
+}
+
+impl Locked {
+    /// An empty queue of this kind that holds at most `capacity` packets, from 1 to 1,000,000. Its room is reserved here.
+    ///
+    /// # Errors
+    ///
+    /// Fault 1 where memory is refused.
+    pub fn new(alloc: Global, kind: Kind, capacity: usize) -> Result<Locked, Fault>
+        requires capacity { (1 ≤ capacity) × (capacity ≤ most_capacity) }
+        ensures { IsOkUnless result Fault.Memory }
+    {
+        Ok(Locked {
+            ring: Mutex::new(Ring::new(alloc, kind, capacity)?),
+        })
+    }
+
+    /// Offers a packet, as `Ring::offer` does. It waits for the lock.
+    pub fn offer(&self, wait: &impl Wait, packet: Packet) -> Offered
+        ensures { NamesOffer packet result }
+    {
+        self.ring.lock(wait).offer(packet)
+    }
+
+    /// Takes the packet at the front, if there is one. It waits for the lock.
+    pub fn pull(&self, wait: &impl Wait) -> Option<Packet> {
+        self.ring.lock(wait).pull()
+    }
+}

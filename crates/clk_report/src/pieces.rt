@@ -1,0 +1,28 @@
+//! The pieces of a line that is put together from its end to its front.
+
+ghost use Rattle.std.specs.Prelude.{◌≡◌, ◌+◌, ◌≤◌, ◌++◌, decimal, drop, length};
+
+/// Puts a number before this place, at most 20 digits, and gives where it starts.
+#[inline]
+pub fn put_number(line: &mut [u8], number: u64, end: usize) -> usize
+    requires room { 20 ≤ end }
+    requires within { end ≤ length line.old }
+    ensures piece { drop result line.new ≡ decimal number ++ drop end line.old }
+    ensures near { end ≤ result + 20 }
+    ensures before { result ≤ end }
+{
+    itoa::write_digits(number, line, end)
+}
+
+/// Puts some bytes before this place, and gives where they start.
+#[inline(always)]
+pub fn put(line: &mut [u8], piece: &[u8], end: usize) -> usize
+    requires room { length piece.now ≤ end }
+    requires within { end ≤ length line.old }
+    ensures piece { drop result line.new ≡ piece.now ++ drop end line.old }
+    ensures start { result + length piece.now ≡ end }
+{
+    let start = end - piece.len();
+    line[start..end].copy_from_slice(piece);
+    start
+}

@@ -1,0 +1,199 @@
+-- The accounts of senders after one event more.
+use Rattle.std.proofs.Common.{◌≡◌, ℕ, ◌+◌, ◌<◌, ◌==◌, Bool, true, false, if◌then◌else◌, List, [], ◌∷◌, ◌++◌, length, map, set, Option, Some, None, slice_get, get_or, refl, sym, ap, ap₂, ◌∙◌, subst, arith}
+use Rattle.std.specs.List.{list_any, filter_map, cons_option, sum_by}
+use Rattle.std.specs.Option.{option_map}
+use Rattle.std.proofs.lemmas.List.{append-nil, length-append, length-map}
+use Rattle.std.proofs.lemmas.List.Elements.{filter-append, filter_map-append}
+use Rattle.std.proofs.lemmas.List.Sums.{sum_by-append}
+use Rattle.std.proofs.lemmas.Option.{slice_get-map, slice_get_read, slice_get_within}
+use Rattle.std.proofs.lemmas.Bool.Decides.{nat_tests}
+use Rattle.clk_packet.specs.declared.packet.Packet.{Packet}
+use Rattle.clk_packet.specs.declared.packet.Offered.{Offered}
+use Rattle.clk_packet.specs.declared.packet.Offered.TheVariants.{Accepted, Refused, Evicted}
+use Rattle.clk_packet.specs.Lists.{of_sender, AreRising}
+use Rattle.clk_sched.specs.declared.visit.Visit.{Visit}
+use Rattle.clk_sched.specs.Log.{visits_of, result_of}
+use Rattle.clk_tree.specs.declared.plan.parts.SenderSpec.{SenderSpec}
+use Rattle.clk_tree.specs.PlanParts.{number_of}
+use Rattle.clk_router.specs.declared.accounts.Total.{Total}
+use Rattle.clk_router.specs.declared.accounts.Account.{Account}
+use Rattle.clk_router.specs.Accounts.{capped, length_of, total_of, account_after}
+use Rattle.clk_sched.specs.Kinds.{keeps_nothing}
+use Rattle.clk_router.specs.Course.{Course, after}
+use Rattle.clk_router.specs.Events.{sender_numbers, Event, offered, pulled, accepted_in, refused_in, evicted_in, emitted_in}
+use Rattle.clk_router.specs.inside.Accounts.{with_packet, with_its, account_sender, taken_in, turned_away, put_out, came_out, noted, given}
+use Rattle.clk_router.proofs.Callers.Keyed.{ChangesOnly, others-stay, changed-at}
+
+-- a count that was capped before more came
+capped-plus : (n k : ℕ) → capped (n + k) ≡ capped (capped n + k)
+capped-plus n k = omega arith
+
+-- one packet more in a total, and one of a sender's packets
+total-more : (packets : List Packet) (p : Packet) → total_of (packets ++ p ∷ []) ≡ with_packet p (total_of packets)
+total-more packets p = λ i. record { packets = count i; bytes = bytes i }
+  where
+    count : capped (length (packets ++ p ∷ [])) ≡ capped (capped (length packets) + 1)
+    count = ap capped (length-append packets (p ∷ [])) ∙ capped-plus (length packets) 1
+
+    alone : sum_by length_of (p ∷ []) ≡ p.length
+    alone = omega arith
+
+    bytes : capped (sum_by length_of (packets ++ p ∷ [])) ≡ capped (capped (sum_by length_of packets) + p.length)
+    bytes = ap capped (sum_by-append length_of packets (p ∷ []) ∙ ap (λ n. sum_by length_of packets + n) alone) ∙ capped-plus (sum_by length_of packets) p.length
+
+one-more : (s : ℕ) (packets : List Packet) (p : Packet) → with_its s p (total_of packets) ≡ total_of (packets ++ of_sender s (p ∷ []))
+one-more s packets p = by_test (p.sender == s)
+  where
+    by_test : (b : Bool) → (if b then with_packet p (total_of packets) else total_of packets) ≡ total_of (packets ++ (if b then p ∷ [] else []))
+    by_test true = sym (total-more packets p)
+    by_test false = ap total_of (sym (append-nil packets))
+
+-- what an event adds to the total of a sender's packets of some kind, by the packet of that kind in it
+abbrev with_any : ℕ → Option Packet → Total → Total
+with_any s None t = t
+with_any s (Some p) t = with_its s p t
+
+any-more : (s : ℕ) (packets : List Packet) (o : Option Packet) → with_any s o (total_of packets) ≡ total_of (packets ++ of_sender s (cons_option o []))
+any-more s packets None = ap total_of (sym (append-nil packets))
+any-more s packets (Some p) = one-more s packets p
+
+total-after : (f : Event → Option Packet) (s : ℕ) (events : List Event) (e : Event)
+    → with_any s (f e) (total_of (of_sender s (filter_map f events))) ≡ total_of (of_sender s (filter_map f (events ++ e ∷ [])))
+total-after f s events e =
+    any-more s (of_sender s (filter_map f events)) (f e)
+    ∙ ap total_of (sym (ap (of_sender s) (filter_map-append f events (e ∷ [])) ∙ filter-append (λ (p : Packet). p.sender == s) (filter_map f events) (cons_option (f e) [])))
+
+-- a sender's account with what an event adds to each total
+abbrev with_event : Event → Account → Account
+with_event e a = record {
+  sender = a.sender;
+  queue = a.queue;
+  accepted = with_any a.sender (accepted_in e) a.accepted;
+  refused = with_any a.sender (refused_in e) a.refused;
+  evicted = with_any a.sender (evicted_in e) a.evicted;
+  emitted = with_any a.sender (emitted_in e) a.emitted;
+}
+
+account-after : (events : List Event) (e : Event) (s : SenderSpec) → with_event e (account_after events s) ≡ account_after (events ++ e ∷ []) s
+account-after events e s = λ i. record {
+  sender = s.number;
+  queue = s.queue;
+  accepted = total-after accepted_in s.number events e i;
+  refused = total-after refused_in s.number events e i;
+  evicted = total-after evicted_in s.number events e i;
+  emitted = total-after emitted_in s.number events e i;
+}
+
+-- one change after another, of all
+map-after : {X Y Z : Type 0} (f : Y → Z) (g : X → Y) (h : X → Z) → ((x : X) → f (g x) ≡ h x) → (xs : List X) → map f (map g xs) ≡ map h xs
+map-after f g h same [] = refl
+map-after {X} {Y} {Z} f g h same (x ∷ xs) = ap₂ (λ (z : Z) zs. z ∷ zs) (same x) (map-after f g h same xs)
+
+noted-event : (p : Packet) (outcome : Offered) (a : Account) → noted p outcome a ≡ with_event (offered p outcome) a
+noted-event p Accepted a = refl
+noted-event p (Refused q) a = refl
+noted-event p (Evicted front) a = refl
+
+given-event : (d moment : ℕ) (visits : List Visit) (a : Account) → given (result_of (visits_of 0 visits)) a ≡ with_event (pulled d moment visits) a
+given-event d moment visits a = by_result (result_of (visits_of 0 visits))
+  where
+    by_result : (o : Option Packet) → given o a ≡ record { sender = a.sender; queue = a.queue; accepted = a.accepted; refused = a.refused; evicted = a.evicted; emitted = with_any a.sender o a.emitted }
+    by_result None = refl
+    by_result (Some p) = refl
+
+pub accounts-offered : (events : List Event) (p : Packet) (outcome : Offered) (specs : List SenderSpec) → map (noted p outcome) (map (account_after events) specs) ≡ map (account_after (events ++ offered p outcome ∷ [])) specs
+accounts-offered events p outcome = map-after (noted p outcome) (account_after events) (account_after (events ++ offered p outcome ∷ []))
+    (λ s. noted-event p outcome (account_after events s) ∙ account-after events (offered p outcome) s)
+
+pub accounts-pulled : (events : List Event) (d moment : ℕ) (visits : List Visit) (got : Option Packet) → result_of (visits_of 0 visits) ≡ got → (specs : List SenderSpec)
+    → map (given got) (map (account_after events) specs) ≡ map (account_after (events ++ pulled d moment visits ∷ [])) specs
+accounts-pulled events d moment visits got is = map-after (given got) (account_after events) (account_after (events ++ pulled d moment visits ∷ []))
+    (λ s. ap (λ o. given o (account_after events s)) (sym is) ∙ given-event d moment visits (account_after events s) ∙ account-after events (pulled d moment visits) s)
+
+-- whose accounts these are
+pub accounts-senders : (events : List Event) (specs : List SenderSpec) → map account_sender (map (account_after events) specs) ≡ map number_of specs
+accounts-senders events = map-after account_sender (account_after events) number_of (λ s. refl)
+
+pub taken_in-senders : (p : Packet) (accounts : List Account) → map account_sender (map (taken_in p) accounts) ≡ map account_sender accounts
+taken_in-senders p = map-after account_sender (taken_in p) account_sender (λ a. refl)
+
+pub evicted-both : (p front : Packet) (accounts : List Account) → map (put_out front) (map (taken_in p) accounts) ≡ map (noted p (Evicted front)) accounts
+evicted-both p front = map-after (put_out front) (taken_in p) (noted p (Evicted front)) (λ a. refl)
+
+pub given-none : (accounts : List Account) → map (given None) accounts ≡ accounts
+given-none [] = refl
+given-none (a ∷ accounts) = ap (λ l. a ∷ l) (given-none accounts)
+
+-- a packet counts for its own sender alone
+its-other : (s : ℕ) (p : Packet) (t : Total) → (p.sender == s) ≡ false → with_its s p t ≡ t
+its-other s p t e = rw e refl
+
+its-own : (s : ℕ) (p : Packet) (t : Total) → (p.sender == s) ≡ true → with_packet p t ≡ with_its s p t
+its-own s p t e = rw e refl
+
+-- an account with these totals
+abbrev has : Account → Total → Total → Total → Total → Account
+has a accepted refused evicted emitted = record { sender = a.sender; queue = a.queue; accepted = accepted; refused = refused; evicted = evicted; emitted = emitted }
+
+taken_in-its : (p : Packet) → ChangesOnly account_sender p.sender (taken_in p)
+taken_in-its p a e = ap (λ t. has a t a.refused a.evicted a.emitted) (its-other a.sender p a.accepted e)
+
+turned_away-its : (p : Packet) → ChangesOnly account_sender p.sender (turned_away p)
+turned_away-its p a e = ap (λ t. has a a.accepted t a.evicted a.emitted) (its-other a.sender p a.refused e)
+
+put_out-its : (p : Packet) → ChangesOnly account_sender p.sender (put_out p)
+put_out-its p a e = ap (λ t. has a a.accepted a.refused t a.emitted) (its-other a.sender p a.evicted e)
+
+came_out-its : (p : Packet) → ChangesOnly account_sender p.sender (came_out p)
+came_out-its p a e = ap (λ t. has a a.accepted a.refused a.evicted t) (its-other a.sender p a.emitted e)
+
+-- the account of a packet's sender stands at a place
+module _ (accounts : List Account) (numbers : List ℕ) (p : Packet) (place : ℕ) (alike : map account_sender accounts ≡ numbers) (at : slice_get numbers place ≡ Some p.sender) where
+  pub place-within : place < length accounts
+  place-within = let within = slice_get_within numbers place p.sender at in let count = ap length (sym alike) ∙ length-map accounts account_sender in omega (arith, within, count)
+
+  module _ (i : ℕ) (a : Account) (rising : AreRising numbers) (same : i ≡ place) (is : a ≡ get_or accounts i a) (total : Total) where
+    here : slice_get accounts i ≡ Some a
+    here = slice_get_read accounts _ i a refl (let within = place-within in omega (arith, same, within)) is
+
+    number : a.sender ≡ p.sender
+    number =
+        let e : Some a.sender ≡ Some p.sender = ap (option_map account_sender) (sym here) ∙ sym (slice_get-map account_sender accounts i) ∙ ap (λ l. slice_get l i) alike ∙ ap (slice_get numbers) same ∙ at in
+        cc e
+
+    own : (p.sender == a.sender) ≡ true
+    own = let n = number in grind (arith, nat_tests)
+
+    changed : (f : Account → Account) → ChangesOnly account_sender p.sender f → set accounts i (f a) ≡ map f accounts
+    changed f its = changed-at account_sender f accounts i a (subst AreRising (sym alike) rising) (subst (λ s. ChangesOnly account_sender s f) (sym number) its) here
+
+    pub taken_in-at : total ≡ with_packet p a.accepted → set accounts i (has a total a.refused a.evicted a.emitted) ≡ map (taken_in p) accounts
+    taken_in-at e = ap (λ t. set accounts i (has a t a.refused a.evicted a.emitted)) (e ∙ its-own a.sender p a.accepted own) ∙ changed (taken_in p) (taken_in-its p)
+
+    pub turned_away-at : total ≡ with_packet p a.refused → set accounts i (has a a.accepted total a.evicted a.emitted) ≡ map (turned_away p) accounts
+    turned_away-at e = ap (λ t. set accounts i (has a a.accepted t a.evicted a.emitted)) (e ∙ its-own a.sender p a.refused own) ∙ changed (turned_away p) (turned_away-its p)
+
+    pub put_out-at : total ≡ with_packet p a.evicted → set accounts i (has a a.accepted a.refused total a.emitted) ≡ map (put_out p) accounts
+    put_out-at e = ap (λ t. set accounts i (has a a.accepted a.refused t a.emitted)) (e ∙ its-own a.sender p a.evicted own) ∙ changed (put_out p) (put_out-its p)
+
+    pub came_out-at : total ≡ with_packet p a.emitted → set accounts i (has a a.accepted a.refused a.evicted total) ≡ map (came_out p) accounts
+    came_out-at e = ap (λ t. set accounts i (has a a.accepted a.refused a.evicted t)) (e ∙ its-own a.sender p a.emitted own) ∙ changed (came_out p) (came_out-its p)
+
+-- a packet of a sender without an account changes none
+pub put_out-none : (accounts : List Account) (numbers : List ℕ) (p : Packet) → map account_sender accounts ≡ numbers → list_any (λ n. n == p.sender) numbers ≡ false → accounts ≡ map (put_out p) accounts
+put_out-none accounts numbers p alike none = others-stay account_sender p.sender (put_out p) accounts (put_out-its p) (subst (λ l. list_any (λ n. n == p.sender) l ≡ false) (sym alike) none)
+
+pub came_out-none : (accounts : List Account) (numbers : List ℕ) (p : Packet) → map account_sender accounts ≡ numbers → list_any (λ n. n == p.sender) numbers ≡ false → accounts ≡ map (came_out p) accounts
+came_out-none accounts numbers p alike none = others-stay account_sender p.sender (came_out p) accounts (came_out-its p) (subst (λ l. list_any (λ n. n == p.sender) l ≡ false) (sym alike) none)
+
+-- The accounts of a router that went on by some events.
+module _ (old new : Course) (more : List Event) where
+  pub alike-after : (accounts : List Account) (numbers : List ℕ) → accounts ≡ map (account_after old.events) old.setup.senders → new ≡ after old more → numbers ≡ sender_numbers new.setup → map account_sender accounts ≡ numbers
+  alike-after accounts numbers are goes_on numbers_are =
+      ap (map account_sender) are ∙ accounts-senders old.events old.setup.senders ∙ ap (λ (c : Course). sender_numbers c.setup) (sym goes_on) ∙ sym numbers_are
+
+  pub accounts-go_on : (f : Account → Account) (accounts changed : List Account) → (old.keeps ≡ keeps_nothing) × (accounts ≡ map (account_after old.events) old.setup.senders) → new ≡ after old more
+      → map f (map (account_after old.events) old.setup.senders) ≡ map (account_after (old.events ++ more)) old.setup.senders → changed ≡ map f accounts
+      → (new.keeps ≡ keeps_nothing) × (changed ≡ map (account_after new.events) new.setup.senders)
+  accounts-go_on f accounts changed were goes_on step are =
+      (ap (λ (c : Course). c.keeps) goes_on ∙ were.0, are ∙ ap (map f) were.1 ∙ step ∙ ap (λ (c : Course). map (account_after c.events) c.setup.senders) (sym goes_on))

@@ -1,0 +1,5 @@
+-- The lemmas that crates above may cite, and no others.
+pub mod Events
+pub mod Apart
+pub mod Plans
+pub mod Keyed

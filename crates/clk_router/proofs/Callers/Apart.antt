@@ -1,0 +1,273 @@
+-- What happens at a device can happen alone.
+use Rattle.std.proofs.Common.{◌≡◌, ℕ, ◌<◌, ◌==◌, ◌&&◌, ◌||◌, ◌++◌, List, [], ◌∷◌, length, map, filter, Bool, true, false, if◌then◌else◌, Option, Some, None, IfSome, MatchOption, slice_get, refl, sym, ap, ◌∙◌, subst, arith}
+use Rattle.std.specs.Bool.{⊤}
+use Rattle.std.specs.List.{flat_map, filter_map, cons_option, range_with_len, AllByRecursion, list_any}
+use Rattle.std.proofs.lemmas.Bool.{false≢true}
+use Rattle.std.proofs.lemmas.Bool.Decides.{nat_tests}
+use Rattle.clk_ring.specs.QueueHistory.{IsQueueHistory}
+use Rattle.clk_sched.specs.declared.visit.Visit.{Visit}
+use Rattle.clk_sched.specs.Tree.{Tree, queue_at, is_number}
+use Rattle.clk_sched.specs.Run.{IsRun}
+use Rattle.clk_tree.specs.declared.plan.parts.SenderSpec.{SenderSpec}
+use Rattle.clk_packet.specs.Lists.{AreRising}
+use Rattle.clk_tree.specs.PlanParts.{number_of}
+use Rattle.clk_router.specs.Events.{Room, Setup, Event, offered, pulled, is_at, is_of_device, happens_at, events_at, number_from, numbers_of, sends_to, answers_in, at_queue, history, IsOfDevice, NamesItsOffer, RunsTree, CanHappen}
+use Rattle.clk_router.specs.Setups.{IsApart}
+
+-- tests joined by or
+or-later : (b c : Bool) → c ≡ true → (b || c) ≡ true
+or-later true c e = refl
+or-later false c e = e
+
+or-first : (b c : Bool) → c ≡ false → (b || c) ≡ true → b ≡ true
+or-first true c isnt e = refl
+or-first false c isnt e = absurd (false≢true (sym isnt ∙ e))
+
+-- no sender of a greater number is of this one
+pub none-later : (senders : List SenderSpec) (s n : ℕ) (P : SenderSpec → Bool) → n ≡ s → AllByRecursion (λ m. n < m) (map number_of senders)
+    → list_any (λ (x : SenderSpec). (x.number == s) && P x) senders ≡ false
+none-later [] s n P e h = refl
+none-later (x ∷ senders) s n P e h =
+    let not_it : (x.number == s) ≡ false = grind (arith, nat_tests, h.0, e) in
+    rw not_it (none-later senders s n P e h.1)
+
+-- where senders rise, one alone is of a number
+one-sender : (senders : List SenderSpec) (s : ℕ) (P Q : SenderSpec → Bool) → AreRising (map number_of senders) → list_any (λ (x : SenderSpec). (x.number == s) && P x) senders ≡ true
+    → list_any (λ (x : SenderSpec). (x.number == s) && Q x) senders ≡ true → (x : SenderSpec) × (P x ≡ true) × (Q x ≡ true)
+one-sender [] s P Q rising a b = absurd (false≢true a)
+one-sender (x ∷ senders) s P Q rising a b = by_number (x.number == s) refl a b (one-sender senders s P Q rising.1)
+  where
+    by_number : (t : Bool) → (x.number == s) ≡ t → ((t && P x) || list_any (λ (y : SenderSpec). (y.number == s) && P y) senders) ≡ true
+        → ((t && Q x) || list_any (λ (y : SenderSpec). (y.number == s) && Q y) senders) ≡ true
+        → (list_any (λ (y : SenderSpec). (y.number == s) && P y) senders ≡ true → list_any (λ (y : SenderSpec). (y.number == s) && Q y) senders ≡ true → (y : SenderSpec) × (P y ≡ true) × (Q y ≡ true))
+        → (y : SenderSpec) × (P y ≡ true) × (Q y ≡ true)
+    by_number true e a b rest =
+        let same : x.number ≡ s = grind (arith, nat_tests) in
+        (x, or-first (P x) _ (none-later senders s x.number P same rising.0) a, or-first (Q x) _ (none-later senders s x.number Q same rising.0) b)
+    by_number false e a b rest = rest a b
+
+-- who sends to a queue of a device is of that device
+sent-here : (queues : List Room) (senders : List SenderSpec) (s q d : ℕ) → is_at d (slice_get queues q) ≡ true → sends_to senders s q ≡ true
+    → list_any (λ (x : SenderSpec). (x.number == s) && is_of_device queues d x) senders ≡ true
+sent-here queues [] s q d at e = absurd (false≢true e)
+sent-here queues (x ∷ senders) s q d at e = by_entry (x.number == s) (x.queue == q) refl e (sent-here queues senders s q d at)
+  where
+    by_entry : (t u : Bool) → (x.queue == q) ≡ u → ((t && u) || sends_to senders s q) ≡ true
+        → (sends_to senders s q ≡ true → list_any (λ (y : SenderSpec). (y.number == s) && is_of_device queues d y) senders ≡ true)
+        → ((t && is_of_device queues d x) || list_any (λ (y : SenderSpec). (y.number == s) && is_of_device queues d y) senders) ≡ true
+    by_entry true true f e rest =
+        let same : x.queue ≡ q = grind (arith, nat_tests) in
+        let here : is_at d (slice_get queues x.queue) ≡ true = subst (λ n. is_at d (slice_get queues n) ≡ true) (sym same) at in
+        rw here refl
+    by_entry true false f e rest = or-later (is_of_device queues d x) _ (rest e)
+    by_entry false u f e rest = rest e
+
+-- a device's pulls ask no queue that isn't its own
+pub no-answers : (o : Option Tree) (q : ℕ) (visits : List Visit) → MatchOption o ⊤ (λ tree. (x input : ℕ) → queue_at tree x input ≡ Some q → ⊥) → answers_in o q visits ≡ []
+no-answers None q visits never = refl
+no-answers (Some tree) q [] never = refl
+no-answers (Some tree) q (v ∷ visits) never = rw (not_asked v.fresh (queue_at tree v.node v.input) refl) (no-answers (Some tree) q visits never)
+  where
+    not_asked : (b : Bool) (o : Option ℕ) → queue_at tree v.node v.input ≡ o → is_number q (if b then o else None) ≡ false
+    not_asked false o e = refl
+    not_asked true None e = refl
+    not_asked true (Some k) e = by_same (k == q) refl
+      where
+        by_same : (c : Bool) → (k == q) ≡ c → c ≡ false
+        by_same false f = refl
+        by_same true f =
+            let same : k ≡ q = grind (arith, nat_tests) in
+            absurd (never v.node v.input (e ∙ ap Some same))
+
+pub never-asks : (setup : Setup) → IsApart setup → (d q : ℕ) (room : Room) → slice_get setup.queues q ≡ Some room → (room.device == d) ≡ false
+    → MatchOption (slice_get setup.trees d) ⊤ (λ tree. (x input : ℕ) → queue_at tree x input ≡ Some q → ⊥)
+never-asks setup apart d q room is other = by_tree (slice_get setup.trees d) (apart.leaves d)
+  where
+    by_tree : (o : Option Tree) → ((x input : ℕ) → MatchOption o ⊤ (λ tree. IfSome (queue_at tree x input) (λ k. IfSome (slice_get setup.queues k) (λ r. r.device ≡ d))))
+        → MatchOption o ⊤ (λ tree. (x input : ℕ) → queue_at tree x input ≡ Some q → ⊥)
+    by_tree None h = tt
+    by_tree (Some tree) h = λ x input e.
+        let its = subst (λ o. IfSome o (λ k. IfSome (slice_get setup.queues k) (λ (r : Room). r.device ≡ d))) e (h x input) in
+        let device : room.device ≡ d = subst (λ o. IfSome o (λ (r : Room). r.device ≡ d)) is its in
+        absurd (grind (arith, nat_tests, device, other))
+
+-- what happens elsewhere is nothing to a queue of a device, and what happens there is nothing to one of another
+pub elsewhere : (setup : Setup) → IsApart setup → (d q : ℕ) (room : Room) → slice_get setup.queues q ≡ Some room → (room.device == d) ≡ true → (e : Event) → happens_at setup d e ≡ false → at_queue setup q e ≡ []
+elsewhere setup apart d q room is here (offered p outcome) isnt = by_sends (sends_to setup.senders p.sender q) refl
+  where
+    by_sends : (b : Bool) → sends_to setup.senders p.sender q ≡ b → at_queue setup q (offered p outcome) ≡ []
+    by_sends true e = absurd (false≢true (sym isnt ∙ sent-here setup.queues setup.senders p.sender q d (rw is here) e))
+    by_sends false e = rw e refl
+elsewhere setup apart d q room is here (pulled c m visits) isnt =
+    let other : (room.device == c) ≡ false = grind (arith, nat_tests, here, isnt) in
+    no-answers (slice_get setup.trees c) q visits (never-asks setup apart c q room is other)
+
+of-another : (setup : Setup) → IsApart setup → (d q : ℕ) (room : Room) → slice_get setup.queues q ≡ Some room → (room.device == d) ≡ false → (e : Event) → happens_at setup d e ≡ true → at_queue setup q e ≡ []
+of-another setup apart d q room is other (offered p outcome) does = by_sends (sends_to setup.senders p.sender q) refl
+  where
+    by_sends : (b : Bool) → sends_to setup.senders p.sender q ≡ b → at_queue setup q (offered p outcome) ≡ []
+    by_sends true e =
+        let its = one-sender setup.senders p.sender (λ x. x.queue == q) (is_of_device setup.queues d) apart.senders e does in
+        let here : is_of_device setup.queues d its.0 ≡ true = its.2 in
+        let at : its.0.queue ≡ q = grind (arith, nat_tests, its.1) in
+        let device : is_at d (slice_get setup.queues q) ≡ true = subst (λ n. is_at d (slice_get setup.queues n) ≡ true) at here in
+        let yes : (room.device == d) ≡ true = subst (λ o. is_at d o ≡ true) is device in
+        absurd (false≢true (sym other ∙ yes))
+    by_sends false e = rw e refl
+of-another setup apart d q room is other (pulled c m visits) does =
+    let apart_from : (room.device == c) ≡ false = grind (arith, nat_tests, other, does) in
+    no-answers (slice_get setup.trees c) q visits (never-asks setup apart c q room is apart_from)
+
+-- what a filter leaves out is nothing to who looks at none of it
+kept-all : {X Y : Type 0} (p : X → Bool) (h : X → Option Y) (xs : List X) → ((x : X) → p x ≡ false → h x ≡ None) → filter_map h (filter p xs) ≡ filter_map h xs
+kept-all p h [] none = refl
+kept-all p h (x ∷ xs) none = by_test (p x) refl (kept-all p h xs none)
+  where
+    by_test : (b : Bool) → p x ≡ b → filter_map h (filter p xs) ≡ filter_map h xs → filter_map h (filter p (x ∷ xs)) ≡ filter_map h (x ∷ xs)
+    by_test true e rest = rw e (ap (cons_option (h x)) rest)
+    by_test false e rest = rw (e, none x e) rest
+
+kept-none : {X Y : Type 0} (p : X → Bool) (h : X → Option Y) (xs : List X) → ((x : X) → p x ≡ true → h x ≡ None) → filter_map h (filter p xs) ≡ []
+kept-none p h [] none = refl
+kept-none p h (x ∷ xs) none = by_test (p x) refl (kept-none p h xs none)
+  where
+    by_test : (b : Bool) → p x ≡ b → filter_map h (filter p xs) ≡ [] → filter_map h (filter p (x ∷ xs)) ≡ []
+    by_test true e rest = rw (e, none x e) rest
+    by_test false e rest = rw e rest
+
+flat-all : {X Y : Type 0} (p : X → Bool) (h : X → List Y) (xs : List X) → ((x : X) → p x ≡ false → h x ≡ []) → flat_map h (filter p xs) ≡ flat_map h xs
+flat-all p h [] none = refl
+flat-all p h (x ∷ xs) none = by_test (p x) refl (flat-all p h xs none)
+  where
+    by_test : (b : Bool) → p x ≡ b → flat_map h (filter p xs) ≡ flat_map h xs → flat_map h (filter p (x ∷ xs)) ≡ flat_map h (x ∷ xs)
+    by_test true e rest = rw e (ap (λ l. h x ++ l) rest)
+    by_test false e rest = rw (e, none x e) rest
+
+flat-none : {X Y : Type 0} (p : X → Bool) (h : X → List Y) (xs : List X) → ((x : X) → p x ≡ true → h x ≡ []) → flat_map h (filter p xs) ≡ []
+flat-none p h [] none = refl
+flat-none p h (x ∷ xs) none = by_test (p x) refl (flat-none p h xs none)
+  where
+    by_test : (b : Bool) → p x ≡ b → flat_map h (filter p xs) ≡ [] → flat_map h (filter p (x ∷ xs)) ≡ []
+    by_test true e rest = rw (e, none x e) rest
+    by_test false e rest = rw e rest
+
+all-kept : {X : Type 0} (P : X → Type 0) (p : X → Bool) (xs : List X) → AllByRecursion P xs → AllByRecursion P (filter p xs)
+all-kept P p [] h = tt
+all-kept P p (x ∷ xs) h = by_test (p x) h.0 (all-kept P p xs h.1)
+  where
+    by_test : (b : Bool) → P x → AllByRecursion P (filter p xs) → AllByRecursion P (if b then x ∷ filter p xs else filter p xs)
+    by_test true here rest = (here, rest)
+    by_test false here rest = rest
+
+kept-twice : {X : Type 0} (p : X → Bool) (xs : List X) → filter p (filter p xs) ≡ filter p xs
+kept-twice p [] = refl
+kept-twice p (x ∷ xs) = by_test (p x) refl (kept-twice p xs)
+  where
+    by_test : (b : Bool) → p x ≡ b → filter p (filter p xs) ≡ filter p xs → filter p (filter p (x ∷ xs)) ≡ filter p (x ∷ xs)
+    by_test true e rest = rw (e, e) (ap (λ l. x ∷ l) rest)
+    by_test false e rest = rw e rest
+
+-- a sender's packets are all offered at a device, or none is
+numbers-at : (setup : Setup) (d s : ℕ) (events : List Event) → (b : Bool) → list_any (λ (x : SenderSpec). (x.number == s) && is_of_device setup.queues d x) setup.senders ≡ b
+    → numbers_of s (events_at setup d events) ≡ (if b then numbers_of s events else [])
+numbers-at setup d s events true e = kept-all (happens_at setup d) (number_from s) events none
+  where
+    none : (x : Event) → happens_at setup d x ≡ false → number_from s x ≡ None
+    none (pulled c m v) isnt = refl
+    none (offered p outcome) isnt = by_sender (p.sender == s) refl
+      where
+        by_sender : (t : Bool) → (p.sender == s) ≡ t → (if t then Some p.number else None) ≡ None
+        by_sender false f = refl
+        by_sender true f =
+            let same : p.sender ≡ s = grind (arith, nat_tests) in
+            absurd (false≢true (sym isnt ∙ subst (λ n. list_any (λ (x : SenderSpec). (x.number == n) && is_of_device setup.queues d x) setup.senders ≡ true) (sym same) e))
+numbers-at setup d s events false e = kept-none (happens_at setup d) (number_from s) events none
+  where
+    none : (x : Event) → happens_at setup d x ≡ true → number_from s x ≡ None
+    none (pulled c m v) does = refl
+    none (offered p outcome) does = by_sender (p.sender == s) refl
+      where
+        by_sender : (t : Bool) → (p.sender == s) ≡ t → (if t then Some p.number else None) ≡ None
+        by_sender false f = refl
+        by_sender true f =
+            let same : p.sender ≡ s = grind (arith, nat_tests) in
+            absurd (false≢true (sym e ∙ subst (λ n. list_any (λ (x : SenderSpec). (x.number == n) && is_of_device setup.queues d x) setup.senders ≡ true) same does))
+
+-- an offer
+IsOffer : Event → Type 0
+IsOffer (offered p outcome) = ⊤
+IsOffer (pulled device moment visits) = ⊥
+
+-- offers alone are a run of any tree
+offers-run : (tree : Tree) → IsRun tree [] → (events : List Event) → AllByRecursion IsOffer events → RunsTree tree events
+unfolding IsOffer
+offers-run tree start [] h = record { run = start; pull_by_pull = refl; moments = refl }
+offers-run tree start (offered p outcome ∷ events) h = let rest = offers-run tree start events h.1 in record { run = rest.run; pull_by_pull = rest.pull_by_pull; moments = rest.moments }
+offers-run tree start (pulled c m v ∷ events) h = absurd h.0
+
+-- there are no pulls of another device among those of one
+no-pulls : (setup : Setup) (d c : ℕ) (events : List Event) → (c == d) ≡ false → AllByRecursion IsOffer (events_at setup c (events_at setup d events))
+unfolding IsOffer
+no-pulls setup d c [] other = tt
+no-pulls setup d c (e ∷ events) other = by_first (happens_at setup d e) (is_offer e) (no-pulls setup d c events other)
+  where
+    is_offer : (e : Event) → happens_at setup d e ≡ true → happens_at setup c e ≡ true → IsOffer e
+    is_offer (offered p outcome) a b = tt
+    is_offer (pulled k m v) a b = absurd (false≢true (grind (arith, nat_tests, other, a, b)))
+
+    by_second : (b : Bool) → (b ≡ true → IsOffer e) → AllByRecursion IsOffer (events_at setup c (events_at setup d events))
+        → AllByRecursion IsOffer (if b then e ∷ events_at setup c (events_at setup d events) else events_at setup c (events_at setup d events))
+    by_second true h rest = (h refl, rest)
+    by_second false h rest = rest
+
+    by_first : (b : Bool) → (b ≡ true → happens_at setup c e ≡ true → IsOffer e) → AllByRecursion IsOffer (events_at setup c (events_at setup d events))
+        → AllByRecursion IsOffer (events_at setup c (if b then e ∷ events_at setup d events else events_at setup d events))
+    by_first true h rest = by_second (happens_at setup c e) (h refl) rest
+    by_first false h rest = rest
+
+-- what happened to a queue of a device happened there
+pub history-alone : (setup : Setup) → IsApart setup → (d q : ℕ) (room : Room) → slice_get setup.queues q ≡ Some room → (room.device == d) ≡ true → (events : List Event) → history setup q (events_at setup d events) ≡ history setup q events
+history-alone setup apart d q room is e events = flat-all (happens_at setup d) (at_queue setup q) events (elsewhere setup apart d q room is e)
+
+-- what happens at a device can happen alone
+pub alone : (setup : Setup) → IsApart setup → ((tree : Tree) → IsRun tree []) → (d : ℕ) (events : List Event) → CanHappen setup events → CanHappen setup (events_at setup d events)
+alone setup apart start d events can = record {
+  numbered = numbered;
+  devices = all-kept (IsOfDevice (length setup.trees)) (happens_at setup d) events can.devices;
+  runs = runs;
+  refusals = all-kept NamesItsOffer (happens_at setup d) events can.refusals;
+  histories = λ q. by_room q (slice_get setup.queues q) refl;
+}
+  where
+    numbered : (s : ℕ) → numbers_of s (events_at setup d events) ≡ range_with_len 0 (length (numbers_of s (events_at setup d events)))
+    numbered s = by_sender _ refl
+      where
+        by_sender : (b : Bool) → list_any (λ (x : SenderSpec). (x.number == s) && is_of_device setup.queues d x) setup.senders ≡ b
+            → numbers_of s (events_at setup d events) ≡ range_with_len 0 (length (numbers_of s (events_at setup d events)))
+        by_sender true e = rw (numbers-at setup d s events true e) (can.numbered s)
+        by_sender false e = rw (numbers-at setup d s events false e) refl
+
+    runs : (c : ℕ) → MatchOption (slice_get setup.trees c) ⊤ (λ tree. RunsTree tree (events_at setup c (events_at setup d events)))
+    runs c = by_device (c == d) refl
+      where
+        by_tree : (o : Option Tree) → AllByRecursion IsOffer (events_at setup c (events_at setup d events)) → MatchOption o ⊤ (λ tree. RunsTree tree (events_at setup c (events_at setup d events)))
+        by_tree None h = tt
+        by_tree (Some tree) h = offers-run tree (start tree) _ h
+
+        by_device : (b : Bool) → (c == d) ≡ b → MatchOption (slice_get setup.trees c) ⊤ (λ tree. RunsTree tree (events_at setup c (events_at setup d events)))
+        by_device true e =
+            let same : c ≡ d = grind (arith, nat_tests) in
+            subst (λ n. MatchOption (slice_get setup.trees n) ⊤ (λ tree. RunsTree tree (events_at setup n (events_at setup d events)))) (sym same)
+            (subst (λ l. MatchOption (slice_get setup.trees d) ⊤ (λ tree. RunsTree tree l)) (sym (kept-twice (happens_at setup d) events)) (can.runs d))
+        by_device false e = by_tree (slice_get setup.trees c) (no-pulls setup d c events e)
+
+    by_room : (q : ℕ) (o : Option Room) → slice_get setup.queues q ≡ o → MatchOption (slice_get setup.queues q) ⊤ (λ (room : Room). IsQueueHistory room.kind room.capacity (history setup q (events_at setup d events)))
+    by_room q None is = rw is tt
+    by_room q (Some room) is = by_device (room.device == d) refl
+      where
+        by_device : (b : Bool) → (room.device == d) ≡ b → MatchOption (slice_get setup.queues q) ⊤ (λ (r : Room). IsQueueHistory r.kind r.capacity (history setup q (events_at setup d events)))
+        by_device true e =
+            subst (λ l. MatchOption (slice_get setup.queues q) ⊤ (λ (r : Room). IsQueueHistory r.kind r.capacity l)) (sym (history-alone setup apart d q room is e events)) (can.histories q)
+        by_device false e =
+            subst (λ l. MatchOption (slice_get setup.queues q) ⊤ (λ (r : Room). IsQueueHistory r.kind r.capacity l)) (sym (flat-none (happens_at setup d) (at_queue setup q) events (of-another setup apart d q room is e)))
+            (subst (λ o. MatchOption o ⊤ (λ (r : Room). IsQueueHistory r.kind r.capacity [])) (sym is) (record { order = refl; fits = omega arith }))

@@ -1,0 +1,12 @@
+-- Lemmas that answers cite, of which `Callers` has those that crates above may cite too.
+pub mod Callers
+mod SenderLemmas
+mod PlaceLemmas
+mod PartsLemmas
+mod ClosingLemmas
+mod QueueCounts
+mod NeverShort
+mod PlanLemmas
+mod RouterLemmas
+mod AskLemmas
+mod AccountLemmas

@@ -1,0 +1,128 @@
+-- The closing of a device over a plan never stops short: its queues lose nothing, and what it is told to be left is what queues and heads hold.
+use Rattle.std.proofs.Common.{◌≡◌, ◌≢◌, ℕ, zero, suc, ◌+◌, ◌<◌, ◌==◌, ◌||◌, if◌then◌else◌, Bool, true, false, List, [], ◌∷◌, length, map, Option, Some, None, MatchOption, slice_get, refl, sym, ap, ◌∙◌, subst, arith}
+use Rattle.std.specs.Bool.{⊤}
+use Rattle.std.specs.List.{AllByRecursion}
+use Rattle.std.proofs.lemmas.Bool.{false≢true}
+use Rattle.std.proofs.lemmas.Bool.Decides.{nat_tests}
+use Rattle.std.proofs.lemmas.List.{append-nil}
+use Rattle.clk_packet.specs.declared.packet.Packet.{Packet}
+use Rattle.clk_ring.specs.Queue.{Queue}
+use Rattle.clk_ring.specs.QueueHistory.{QueueEvent, held, IsInOrder, EachStands, IsQueueHistory}
+use Rattle.clk_packet.specs.Lists.{stands_in, AreRising}
+use Rattle.clk_sched.specs.Tree.{Tree, root, leaves, leaves_distinct}
+use Rattle.clk_sched.specs.Run.{IsRun}
+use Rattle.clk_sched.specs.Results.{emitted, heads}
+use Rattle.clk_sched.specs.Conservation.{given_in_all, ConservesCounts}
+use Rattle.clk_sched.specs.Closing.{GivesOut, LosesNothing, held_in_all, left_in}
+use Rattle.clk_tree.specs.Plan.{Planned}
+use Rattle.clk_tree.specs.PlanTree.{device_count}
+use Rattle.clk_tree.specs.PlanParts.{Queued, queues_of, senders_of, number_of}
+use Rattle.clk_tree.specs.Shares.{AreTreesOf, AreSharedOut}
+use Rattle.clk_router.specs.declared.devices.Device.{Device}
+use Rattle.clk_router.specs.declared.queues.Queues.{Queues}
+use Rattle.clk_router.specs.declared.parts.Parts.{Parts}
+use Rattle.clk_router.specs.Events.{Room, Setup, Event, is_at, happens_at, events_at, log_of, history, plan_setup}
+use Rattle.clk_router.specs.inside.Closable.{AreQueuesOf, IsClosable}
+use Rattle.clk_router.specs.inside.Parts.{CanStand, packets_in, packets_at, PullsFrom, GivesAt, AreQueuesAt, IsAt}
+use Rattle.clk_router.proofs.Callers.Plans.{plan-apart, leaves-at}
+use Rattle.clk_router.proofs.Callers.Apart.{alone, history-alone}
+use Rattle.clk_router.proofs.QueueCounts.{stands-first, stands-rest, left-is}
+use Rattle.clk_router.proofs.PartsLemmas.{IsHere, device-here}
+
+-- Queues lose nothing.
+queue-gives : (got : Option Packet) (old new : Option Queue) → PullsFrom got old new → GivesOut (length (packets_in old)) (got ∷ []) (length (packets_in new))
+queue-gives None None new h = (refl, ap (λ o. length (packets_in o)) (sym h.1))
+queue-gives (Some p) None new h = absurd (cc)
+queue-gives got (Some old) None h = absurd h
+queue-gives None (Some old) (Some new) h = (ap length h.0, ap (λ (q : Queue). length q.packets) (sym h.1))
+queue-gives (Some p) (Some old) (Some new) h = (length h.0, ap length h.1, ap (λ (q : Queue). length q.packets) (sym h.2))
+
+pub queues-lose-nothing : LosesNothing (λ (old : Queues) leaf got (new : Queues). GivesAt old.rings.items leaf got new.rings.items) (λ (s : Queues) leaf. length (packets_at s.rings.items leaf))
+queues-lose-nothing a leaf got b h = record {
+  here = queue-gives got (slice_get a.rings.items leaf) (slice_get b.rings.items leaf) h.here;
+  others = λ q other. ap (λ o. length (packets_in o)) (h.only.others q (apart q other (leaf == q) refl));
+}
+  where
+    apart : (q : ℕ) → q ≢ leaf → (b : Bool) → (leaf == q) ≡ b → b ≡ false
+    apart q other false e = refl
+    apart q other true e = let same : q ≡ leaf = grind (arith, nat_tests, e) in absurd (other same)
+
+-- what happens at a device happens there
+own-events : (setup : Setup) (d : ℕ) (events : List Event) → AllByRecursion (λ e. happens_at setup d e ≡ true) (events_at setup d events)
+own-events setup d [] = tt
+own-events setup d (e ∷ events) = by_test (happens_at setup d e) refl (own-events setup d events)
+  where
+    by_test : (b : Bool) → happens_at setup d e ≡ b → AllByRecursion (λ e. happens_at setup d e ≡ true) (events_at setup d events)
+        → AllByRecursion (λ e. happens_at setup d e ≡ true) (if b then e ∷ events_at setup d events else events_at setup d events)
+    by_test true here rest = (here, rest)
+    by_test false elsewhere rest = rest
+
+-- a sum over queues goes by what each holds
+held-same : (f g : ℕ → ℕ) (qs : List ℕ) → ((q : ℕ) → stands_in q qs ≡ true → f q ≡ g q) → held_in_all f qs ≡ held_in_all g qs
+held-same f g [] same = refl
+held-same f g (q ∷ qs) same =
+    let here = same q (ap (λ b. b || stands_in q qs) (let itself : (q == q) ≡ true = grind (arith, nat_tests) in itself)) in
+    let rest = held-same f g qs (λ r s. same r (or-later (q == r) s)) in omega (arith, here, rest)
+  where
+    or-later : {c : Bool} (b : Bool) → c ≡ true → (b || c) ≡ true
+    or-later true e = refl
+    or-later false e = e
+
+-- what a queue of a device holds, by its history there
+held-there : (setup : Setup) → IsClosable setup → (d q : ℕ) (events : List Event) (room : Option Room) (ring : Option Queue) → slice_get setup.queues q ≡ room → is_at d room ≡ true → AreQueuesAt (history setup q events) room ring
+    → length (packets_in ring) ≡ length (held (history setup q (events_at setup d events)))
+held-there setup closable d q events None ring is at leads = absurd (false≢true at)
+held-there setup closable d q events (Some room) None is at leads = absurd leads
+held-there setup closable d q events (Some room) (Some ring) is at leads = ap length (sym leads.leads.holds) ∙ ap (λ h. length (held h)) (sym (history-alone setup closable.apart d q room is at events))
+
+-- What a device over such a setup has kept: what came out of it, and what its queues and heads hold.
+pub kept-is : (setup : Setup) (all_events : List Event) (parts : Parts) (d : ℕ) (device : Device) → IsClosable setup → IsAt setup all_events parts → ((tree : Tree) → IsRun tree []) → ((tree : Tree) → leaves_distinct tree ≡ true → ConservesCounts tree) → slice_get parts.devices.items d ≡ Some device
+    → device.kept ≡ length (emitted device.session.log) + left_in device.session.tree device.session.log (λ q. length (packets_at parts.queues.rings.items q))
+kept-is setup all_events parts d device closable at start counts was =
+    let kept = here.is.kept in
+    let left = left-is setup d here.tree of its (own-events setup d all_events) orders conserved in
+    let out = ap (λ l. length (emitted l)) here.is.log in
+    let holds = holds_there ∙ same_held in
+    omega (arith, kept, left, out, holds)
+  where
+    here : IsHere setup all_events d device
+    here = device-here setup all_events parts d device at was
+
+    its : List Event
+    its = events_at setup d all_events
+
+    of : AreQueuesOf setup d here.tree
+    of = closable.queues d here.tree here.its
+
+    in_order : (o : Option Room) (events : List QueueEvent) → MatchOption o ⊤ (λ (room : Room). IsQueueHistory room.kind room.capacity events) → MatchOption o ⊤ (λ (room : Room). IsInOrder room.capacity events)
+    in_order None events h = tt
+    in_order (Some room) events h = stands-first room.kind room.capacity events [] (stands-rest room.kind room.capacity [] events [] (subst (EachStands room.kind room.capacity []) (sym (append-nil events)) h))
+
+    orders : (q : ℕ) → MatchOption (slice_get setup.queues q) ⊤ (λ (room : Room). IsInOrder room.capacity (history setup q its))
+    orders q = in_order (slice_get setup.queues q) (history setup q its) ((alone setup closable.apart start d all_events at.can_happen).histories q)
+
+    conserved : given_in_all here.tree (leaves (root here.tree)) (log_of its) ≡ length (emitted (log_of its)) + length (heads here.tree (log_of its))
+    conserved = counts here.tree of.distinct (log_of its) here.runs.run
+
+    same_held : left_in here.tree (log_of its) (λ q. length (packets_at parts.queues.rings.items q)) ≡ left_in here.tree (log_of its) (λ q. length (held (history setup q its)))
+    same_held = ap (λ n. n + length (heads here.tree (log_of its)))
+        (held-same (λ q. length (packets_at parts.queues.rings.items q)) (λ q. length (held (history setup q its))) (leaves (root here.tree))
+        (λ q s. held-there setup closable d q all_events (slice_get setup.queues q) (slice_get parts.queues.rings.items q) refl (sym (of.leaves_are q) ∙ s) (at.queues q)))
+
+    holds_there : left_in device.session.tree device.session.log (λ q. length (packets_at parts.queues.rings.items q)) ≡ left_in here.tree (log_of its) (λ q. length (packets_at parts.queues.rings.items q))
+    holds_there = λ i. left_in (here.is.tree_is i) (here.is.log i) (λ q. length (packets_at parts.queues.rings.items q))
+
+-- the closings of a plan come to their ends
+stand-at : (trees : List Tree) (d : ℕ) (tree : Tree) → AllByRecursion CanStand trees → slice_get trees d ≡ Some tree → CanStand tree
+stand-at [] d tree h e = absurd (cc)
+stand-at (t ∷ trees) zero tree h e = let same : t ≡ tree = cc in subst CanStand same h.0
+stand-at (t ∷ trees) (suc d) tree h e = stand-at trees d tree h.1 e
+
+pub plan-closable : (plan : List Planned) (trees : List Tree) → AreTreesOf plan trees → AreSharedOut (queues_of plan) trees → AreRising (map number_of (senders_of plan))
+    → AllByRecursion (λ (q : Queued). q.device < device_count plan) (queues_of plan) → AllByRecursion CanStand trees → IsClosable (plan_setup trees plan)
+plan-closable plan trees are shared rising paths stand =
+    record {
+      apart = plan-apart plan trees are shared rising paths;
+      queues = λ d tree at. record { its = at; senders = rising; distinct = (stand-at trees d tree stand at).distinct; leaves_are = leaves-at plan trees are shared paths d tree at };
+      sound = λ d tree at. (stand-at trees d tree stand at).sound;
+    }

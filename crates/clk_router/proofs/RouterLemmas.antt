@@ -1,0 +1,226 @@
+-- What the parts of a router can do where its course says that it can, and what their devices kept.
+use Rattle.std.proofs.Common.{◌≡◌, ℕ, ◌+◌, ◌<◌, ◌≤◌, suc, max, true, List, [], ◌∷◌, ◌++◌, length, map, get_or, Option, Some, None, Result, Ok, Err, IfOk, OnErr, slice_get, refl, sym, ap, ap₂, ◌∙◌, subst, arith}
+use Rattle.std.specs.Option.{option_map}
+use Rattle.std.specs.List.{AllByRecursion, range_with_len}
+use Rattle.std.proofs.lemmas.List.{length-map}
+use Rattle.std.proofs.lemmas.Option.{slice_get-map, get_or_from_slice_get}
+use Rattle.clk_packet.specs.declared.packet.Packet.{Packet}
+use Rattle.clk_sched.specs.declared.visit.Visit.{Visit}
+use Rattle.clk_sched.specs.Conservation.{ConservesCounts}
+use Rattle.clk_sched.specs.declared.session.departures.Departure.{Departure}
+use Rattle.clk_sched.specs.Kinds.{AnySession, progress_of, pulls_made}
+use Rattle.clk_sched.specs.Limits.{end_of_pulls, end_of_drains}
+use Rattle.clk_sched.specs.Log.{pulls, visits_of, result_of}
+use Rattle.clk_sched.specs.Results.{emitted}
+use Rattle.clk_sched.specs.Run.{IsRun}
+use Rattle.clk_sched.specs.Tree.{Tree, leaves_distinct}
+use Rattle.clk_packet.specs.Lists.{AreRising}
+use Rattle.clk_tree.specs.PlanParts.{SendsWithin, number_of}
+use Rattle.clk_router.specs.declared.senders.Sender.{Sender}
+use Rattle.clk_router.specs.declared.devices.Device.{Device}
+use Rattle.clk_router.specs.declared.parts.Parts.{Parts}
+use Rattle.clk_router.specs.declared.past.Past.{Past}
+use Rattle.clk_router.specs.Course.{Course, after, IsClosed, pulls_at, accepted_at, evicted_at, emitted_at, room_device, its_device, CanOffer, CanClose}
+use Rattle.clk_router.specs.Events.{Room, Setup, sender_numbers, Event, events_at, log_of, logs_of}
+use Rattle.clk_router.specs.inside.Past.{device_tree, trees_in, visits_shown, pull_shown, pulls_shown}
+use Rattle.clk_router.specs.inside.Parts.{sender_after, AreDevicesAt, KeepsAs, KeepsAsAt, IsAt, CanCount, CanSendOn, CanOfferAt, CanPullAt, CanCloseAt, CountsLeft, LeadsOnByPull, LeadsOnByPulls, ClosesBy, Stand, device_log, device_emitted}
+use Rattle.clk_router.proofs.ClosingLemmas.{its-latest}
+use Rattle.clk_router.proofs.NeverShort.{kept-is}
+use Rattle.clk_router.proofs.PartsLemmas.{IsMember, member-at, all-there, IsHere, device-here}
+use Rattle.clk_router.proofs.SenderLemmas.{alike-its}
+
+-- a course over these events
+abbrev pub course : Setup → List Event → Parts → Course
+course setup events parts = record { setup = setup; events = events; keeps = parts.keeps }
+
+-- a device that is there, by the setup
+module _ (setup : Setup) (events : List Event) (parts : Parts) (stand : Stand setup events parts) (d : ℕ) (within : d < length setup.trees) where
+  its : IsMember parts.devices.items d
+  its = member-at parts.devices.items d (let count = stand.at.device_count in omega (arith, count, within))
+
+  there : IsHere setup events d its.member
+  there = device-here setup events parts d its.member stand.at its.here
+
+  keeps : KeepsAs parts.keeps its.member
+  keeps = subst (KeepsAsAt parts.keeps) its.here (stand.at.kinds d)
+
+  made : pulls_made (progress_of its.member.session) ≡ pulls_at (course setup events parts) d
+  made = ap (λ l. length (pulls l)) there.is.log ∙ ap length there.runs.pull_by_pull
+
+  pub pulls-when : pulls_at (course setup events parts) d < end_of_pulls → CanPullAt parts.keeps (slice_get parts.devices.items d)
+  pulls-when few = subst (CanPullAt parts.keeps) (sym its.here) (keeps, let m = made in omega (arith, m, few))
+
+  -- what is kept is what came out and what is left
+  module _ (start : (tree : Tree) → IsRun tree []) (counts : (tree : Tree) → leaves_distinct tree ≡ true → ConservesCounts tree) where
+    out : length (emitted its.member.session.log) ≡ emitted_at (course setup events parts) d
+    out = ap (λ l. length (emitted l)) there.is.log
+
+    least : length (emitted its.member.session.log) ≤ its.member.kept
+    least = let kept = kept-is setup events parts d its.member stand.closable stand.at start counts its.here in omega (arith, kept)
+
+    pub counts-left : CountsLeft (slice_get parts.devices.items d)
+    counts-left = subst CountsLeft (sym its.here) least
+
+    pub left-is : (left : ℕ) → ((here : Device) → slice_get parts.devices.items d ≡ Some here → length (emitted here.session.log) + left ≡ here.kept)
+        → accepted_at (course setup events parts) d ≡ evicted_at (course setup events parts) d + emitted_at (course setup events parts) d + left
+    left-is left is =
+        let all = is its.member its.here in
+        let kept = there.is.kept in
+        let o = out in
+        omega (arith, all, kept, o)
+
+    pub closes-when : (moment : ℕ) → CanClose (course setup events parts) d moment → CanCloseAt moment (slice_get parts.devices.items d)
+    closes-when moment can =
+        let kept = there.is.kept in
+        let o = out in
+        let m = made in
+        let latest = its-latest setup events d its.member there in
+        let few = can.left in
+        let pulls = can.pulls in
+        subst (CanCloseAt moment) (sym its.here)
+        (least, omega (arith, kept, o, few), subst (λ n. max n moment < end_of_drains) (sym latest) can.moments, omega (arith, m, pulls))
+
+-- a sender that can offer a packet
+module _ (setup : Setup) (events : List Event) (parts : Parts) (stand : Stand setup events parts) (place : ℕ) (can : CanOffer (course setup events parts) place) where
+  spec : IsMember setup.senders place
+  spec = member-at setup.senders place can.there
+
+  its_number : slice_get (sender_numbers setup) place ≡ Some spec.member.number
+  its_number = slice_get-map number_of setup.senders place ∙ ap (option_map number_of) spec.here
+
+  sender_here : slice_get parts.senders.items place ≡ Some (sender_after events spec.member)
+  sender_here = ap (λ l. slice_get l place) stand.at.senders ∙ slice_get-map (sender_after events) setup.senders place ∙ ap (option_map (sender_after events)) spec.here
+
+  queue_there : spec.member.queue < length parts.queues.rings.items
+  queue_there =
+      let within = all-there (SendsWithin (length setup.queues)) setup.senders place spec.member stand.whole.wired spec.here in
+      let count = stand.at.count in omega (arith, within, count)
+
+  room : IsMember setup.queues spec.member.queue
+  room = member-at setup.queues spec.member.queue (let count = stand.at.count in let within = queue_there in omega (arith, count, within))
+
+  -- the device of its queue, which counts one more
+  counted : (device : ℕ) → slice_get parts.paths.items spec.member.queue ≡ Some device → CanCount (slice_get parts.devices.items device)
+  counted device path =
+      let to : room.member.device ≡ device =
+      let e : Some room.member.device ≡ Some device = ap (option_map room_device) (sym room.here) ∙ sym (slice_get-map room_device setup.queues spec.member.queue) ∙ ap (λ l. slice_get l spec.member.queue) (sym stand.at.paths) ∙ path in
+      cc e
+      in
+      let within = all-there (λ (r : Room). r.device < length setup.trees) setup.queues spec.member.queue room.member stand.whole.paths room.here in
+      let its = member-at parts.devices.items device (let count = stand.at.device_count in omega (arith, count, within, to)) in
+      let here = device-here setup events parts device its.member stand.at its.here in
+      let few = can.packets device (ap (λ o. its_device setup.queues o) spec.here ∙ ap (option_map room_device) room.here ∙ ap (λ n. Some n) to) in
+      let kept = here.is.kept in
+      subst CanCount (sym its.here) (omega (arith, few, kept))
+
+  pub offers-when : CanOfferAt parts place
+  offers-when =
+      record {
+        alike = alike-its setup events parts stand.at;
+        rising = subst AreRising (sym stand.at.numbers) stand.whole.rising;
+        can_send = subst (CanSendOn (length parts.queues.rings.items)) (sym sender_here) (queue_there, can.numbers spec.member.number its_number);
+        path_count = ap length stand.at.paths ∙ length-map setup.queues room_device ∙ sym stand.at.count;
+        counts = λ device s here path. let same : sender_after events spec.member ≡ s = cc (sender_here, here) in counted device (subst (λ (t : Sender). slice_get parts.paths.items t.queue ≡ Some device) (sym same) path);
+      }
+
+-- what holds of the member at each place holds of all
+all-placed : {X : Type 0} (P : X → Type 0) (xs : List X) → ((i : ℕ) (x : X) → slice_get xs i ≡ Some x → P x) → AllByRecursion P xs
+all-placed P [] h = tt
+all-placed P (x ∷ xs) h = (h 0 x refl, all-placed P xs (λ i y here. h (suc i) y here))
+
+-- what devices keep, whatever happened
+pub kinds-all : (setup : Setup) (events : List Event) (parts : Parts) → IsAt setup events parts → AllByRecursion (KeepsAs parts.keeps) parts.devices.items
+kinds-all setup events parts at = all-placed (KeepsAs parts.keeps) parts.devices.items (λ d device here. subst (KeepsAsAt parts.keeps) here (at.kinds d))
+
+-- the logs of the devices, by number
+logs-placed : (devices : List Device) (f : ℕ → List Visit) (n : ℕ) → ((i : ℕ) (device : Device) → slice_get devices i ≡ Some device → device_log device ≡ f (n + i))
+    → map device_log devices ≡ map f (range_with_len n (length devices))
+logs-placed [] f n h = refl
+logs-placed (device ∷ devices) f n h =
+    let first : n + 0 ≡ n = omega arith in
+    ap₂ (λ l ls. l ∷ ls) (h 0 device refl ∙ ap f first)
+    (logs-placed devices f (n + 1) (λ i other here. let next : n + suc i ≡ n + 1 + i = omega arith in h (suc i) other here ∙ ap f next))
+
+pub logs-its : (setup : Setup) (events : List Event) (parts : Parts) → IsAt setup events parts → map device_log parts.devices.items ≡ logs_of setup events
+logs-its setup events parts at =
+    logs-placed parts.devices.items (λ d. log_of (events_at setup d events)) 0
+    (λ d device here. let place : 0 + d ≡ d = omega arith in (device-here setup events parts d device at here).is.log ∙ ap (λ k. log_of (events_at setup k events)) (sym place))
+    ∙ ap (λ n. map (λ d. log_of (events_at setup d events)) (range_with_len 0 n)) at.device_count
+
+emitted-each : (devices : List Device) → map device_emitted devices ≡ map emitted (map device_log devices)
+emitted-each [] = refl
+emitted-each (device ∷ devices) = ap (λ l. device_emitted device ∷ l) (emitted-each devices)
+
+pub emitted-its : (setup : Setup) (events : List Event) (parts : Parts) → IsAt setup events parts → map device_emitted parts.devices.items ≡ map emitted (logs_of setup events)
+emitted-its setup events parts at = emitted-each parts.devices.items ∙ ap (map emitted) (logs-its setup events parts at)
+
+-- the trees of the devices
+trees-each : (devices : List Device) (trees : List Tree) → length devices ≡ length trees
+    → ((i : ℕ) (device : Device) (tree : Tree) → slice_get devices i ≡ Some device → slice_get trees i ≡ Some tree → device.session.tree ≡ tree) → map device_tree devices ≡ trees
+trees-each [] [] count h = refl
+trees-each [] (tree ∷ trees) count h = absurd (omega (arith, count))
+trees-each (device ∷ devices) [] count h = absurd (omega (arith, count))
+trees-each (device ∷ devices) (tree ∷ trees) count h = ap₂ (λ (t : Tree) ts. t ∷ ts) (h 0 device tree refl refl) (trees-each devices trees (omega (arith, count)) (λ i. h (suc i)))
+
+tree-at : (events : List Event) (o : Option Tree) (p : Option Device) (device : Device) (tree : Tree) → AreDevicesAt events o p → p ≡ Some device → o ≡ Some tree → device.session.tree ≡ tree
+tree-at events None p device tree is e f = absurd (cc)
+tree-at events (Some t) None device tree is e f = absurd is
+tree-at events (Some t) (Some d) device tree is e f =
+    let same : d ≡ device = cc in
+    let its : t ≡ tree = cc in
+    ap (λ (x : Device). x.session.tree) (sym same) ∙ is.tree_is ∙ its
+
+pub trees-its : (setup : Setup) (events : List Event) (parts : Parts) → IsAt setup events parts → trees_in parts ≡ setup.trees
+trees-its setup events parts at =
+    trees-each parts.devices.items setup.trees at.device_count
+    (λ i device tree here its. tree-at (events_at setup i events) (slice_get setup.trees i) (slice_get parts.devices.items i) device tree (at.devices i) here its)
+
+-- what an index reads is what stands there
+read-there : (devices : List Device) (d i : ℕ) (its read : Device) → slice_get devices d ≡ Some its → i ≡ d → read ≡ get_or devices i read → its ≡ read
+read-there devices d i its read here same is = sym (is ∙ ap (λ k. get_or devices k read) same ∙ get_or_from_slice_get devices d its read here)
+
+-- A router stands where its past is told as its parts went on.
+pub Stand-made : (setup its : Setup) (past : Past) (parts : Parts) → its ≡ setup → past ≡ record { setup = its; events = [] } → Stand setup [] parts → Stand past.setup past.events parts
+Stand-made setup its past parts same told stand =
+    subst (λ (h : Past). Stand h.setup h.events parts) (sym told) (subst (λ (s : Setup). Stand s [] parts) (sym same) stand)
+
+pub Stand-told : (setup : Setup) (events more : List Event) (old new : Parts) (past : Past) → Stand setup events old → past ≡ record { setup = setup; events = events ++ more } → IsAt setup (events ++ more) new → Stand past.setup past.events new
+Stand-told setup events more old new past stand told at = subst (λ (h : Past). Stand h.setup h.events new) (sym told) (record { at = at; whole = stand.whole; closable = stand.closable })
+
+-- and so is its course
+pub course-told : (setup : Setup) (events more : List Event) (old new : Parts) (past : Past) → past ≡ record { setup = setup; events = events ++ more } → new.keeps ≡ old.keeps
+    → record { setup = past.setup; events = past.events; keeps = new.keeps } ≡ after (course setup events old) more
+course-told setup events more old new past told keeps = λ i. record { setup = (told i).setup; events = (told i).events; keeps = keeps i }
+
+-- the pull that a session shows, and the closing pulls
+module _ (setup : Setup) (events : List Event) (old new : Parts) (d moment : ℕ) where
+  pub pull-read : (got : Option Packet) (i : ℕ) (read : Device) → LeadsOnByPull setup new d moment got events → i ≡ d → read ≡ get_or new.devices.items i read
+      → (result_of (visits_of 0 (visits_shown setup events d read.session)) ≡ got) × IsAt setup (events ++ pull_shown setup events d moment read.session) new
+  pull-read got i read led same is =
+      subst (λ (x : Device). (result_of (visits_of 0 (visits_shown setup events d x.session)) ≡ got) × IsAt setup (events ++ pull_shown setup events d moment x.session) new)
+      (read-there new.devices.items d i led.its read led.here same is) (led.result, led.leads)
+
+  pub pulls-read : (i : ℕ) (read : Device) → LeadsOnByPulls setup new d moment events → i ≡ d → read ≡ get_or new.devices.items i read → IsAt setup (events ++ pulls_shown setup events d moment read.session) new
+  pulls-read i read led same is =
+      subst (λ (x : Device). IsAt setup (events ++ pulls_shown setup events d moment x.session) new) (read-there new.devices.items d i led.its read led.here same is) led.leads
+
+  pub closes-read : (i : ℕ) (read : Device) (departures : List Departure) → LeadsOnByPulls setup new d moment events
+      → ((its : Device) → slice_get new.devices.items d ≡ Some its → ClosesBy setup events d moment its.session departures) → i ≡ d → read ≡ get_or new.devices.items i read
+      → ClosesBy setup events d moment read.session departures
+  closes-read i read departures led closes same is =
+      subst (λ (x : Device). ClosesBy setup events d moment x.session departures) (read-there new.devices.items d i led.its read led.here same is) (closes led.its led.here)
+
+-- a device was closed, by what its session shows
+pub IsClosed-shown : (old new : Course) (d moment : ℕ) (session : AnySession) (departures : List Departure) → ClosesBy old.setup old.events d moment session departures
+    → new ≡ after old (pulls_shown old.setup old.events d moment session) → IsClosed old new d moment departures
+IsClosed-shown old new d moment session departures by goes_on =
+    record { last = pulls_shown old.setup old.events d moment session; closes = by.closes; came_out = by.came_out; moments = by.moments; goes_on = goes_on }
+
+-- what follows from what a success says, and what holds of each failure
+pub ok-weaker : {T E : Type 0} {P Q : T → Type 0} (r : Result T E) → ((x : T) → P x → Q x) → IfOk r P → IfOk r Q
+ok-weaker (Ok x) step h = step x h
+ok-weaker (Err e) step h = tt
+
+pub of-err : {T E : Type 0} {Q : Type 0} (r : Result T E) → Q → OnErr r Q
+of-err (Ok x) q = tt
+of-err (Err e) q = q

@@ -1,0 +1,31 @@
+-- What became of the packets of each sender, in totals.
+use Rattle.std.specs.Prelude.{ℕ, ◌-◌, ◌^◌, List, length, min}
+use Rattle.std.specs.List.{filter_map, sum_by}
+use Rattle.clk_packet.specs.declared.packet.Packet.{Packet}
+use Rattle.clk_packet.specs.Lists.{of_sender}
+use Rattle.clk_tree.specs.declared.plan.parts.SenderSpec.{SenderSpec}
+use Rattle.clk_router.specs.declared.accounts.Total.{Total}
+use Rattle.clk_router.specs.declared.accounts.Account.{Account}
+use Rattle.clk_router.specs.Events.{Event, accepted_in, refused_in, evicted_in, emitted_in}
+
+-- a count, which stays at 2^64 - 1 where there are more
+abbrev pub capped : ℕ → ℕ
+capped n = min n (2 ^ 64 - 1)
+
+abbrev pub length_of : Packet → ℕ
+length_of p = p.length
+
+-- how many packets these are, and how many bytes in all
+abbrev pub total_of : List Packet → Total
+total_of packets = record { packets = capped (length packets); bytes = capped (sum_by length_of packets) }
+
+-- what became of a sender's packets in some events
+abbrev pub account_after : List Event → SenderSpec → Account
+account_after events s = record {
+  sender = s.number;
+  queue = s.queue;
+  accepted = total_of (of_sender s.number (filter_map accepted_in events));
+  refused = total_of (of_sender s.number (filter_map refused_in events));
+  evicted = total_of (of_sender s.number (filter_map evicted_in events));
+  emitted = total_of (of_sender s.number (filter_map emitted_in events));
+}

@@ -1,0 +1,187 @@
+-- What happens to a router, and which events can happen one after another.
+use Rattle.std.specs.Prelude.{◌≡◌, ℕ, ◌+◌, ◌<◌, List, [], ◌∷◌, length, map, filter, fold, max, ◌==◌, ◌&&◌, Bool, false, if◌then◌else◌, Option, Some, None, MatchOption, ⊤, slice_get}
+use Rattle.std.specs.List.{flat_map, filter_map, range_with_len, list_any, AllByRecursion}
+use Rattle.clk_packet.specs.declared.packet.Packet.{Packet}
+use Rattle.clk_packet.specs.declared.packet.Kind.{Kind}
+use Rattle.clk_packet.specs.declared.packet.Offered.{Offered}
+use Rattle.clk_packet.specs.declared.packet.Offered.TheVariants.{Refused, Evicted}
+use Rattle.clk_packet.specs.declared.tally.Tally.{Tally}
+use Rattle.clk_sched.specs.declared.visit.Visit.{Visit}
+use Rattle.clk_ring.specs.QueueHistory.{QueueEvent, offer_events, pull_event, NamesOffer, IsQueueHistory}
+use Rattle.clk_sched.specs.Tree.{Tree}
+use Rattle.clk_sched.specs.Session.{given_in, LastGives}
+use Rattle.clk_sched.specs.Log.{pulls, moment_of, counted, visits_of, result_of}
+use Rattle.clk_sched.specs.Run.{IsRun}
+use Rattle.clk_sched.specs.Results.{asks_queue, emitted}
+use Rattle.clk_tree.specs.declared.plan.parts.SenderSpec.{SenderSpec}
+use Rattle.clk_tree.specs.Plan.{Planned}
+use Rattle.clk_tree.specs.PlanParts.{Queued, queues_of, senders_of, number_of}
+use Rattle.clk_packet.specs.Lists.{of_sender}
+
+-- what a script needs to know of a queue: what becomes of a packet that arrives when it is full, how many it holds at most, and the number
+-- of the device that its packets go to
+pub record Room : Type 0 where
+  pub kind : Kind
+  pub capacity : ℕ
+  pub device : ℕ
+
+abbrev pub room_of : Queued → Room
+room_of q = record { kind = q.kind; capacity = q.capacity; device = q.device }
+
+-- what a script runs over: a tree for each device, by its number, over queues, which senders send to
+pub record Setup : Type 0 where
+  pub trees : List Tree
+  pub queues : List Room
+  pub senders : List SenderSpec
+
+abbrev pub setup_of : List Tree → List Queued → List SenderSpec → Setup
+setup_of trees queues senders = record { trees = trees; queues = map room_of queues; senders = senders }
+
+-- the setup of a plan with its trees
+abbrev pub plan_setup : List Tree → List Planned → Setup
+plan_setup trees plan = setup_of trees (queues_of plan) (senders_of plan)
+
+abbrev pub sender_numbers : Setup → List ℕ
+sender_numbers setup = map number_of setup.senders
+
+-- What a command made happen: a packet was offered, with this outcome; or the device of this number was pulled, at the moment that was
+-- handed in, with these visits.
+pub data Event : Type 0 where
+  offered : Packet → Offered → Event
+  pulled : ℕ → ℕ → List Visit → Event
+
+-- whether there is a queue, and its packets go to this device
+abbrev pub is_at : ℕ → Option Room → Bool
+is_at d None = false
+is_at d (Some room) = room.device == d
+
+-- whether a sender sends to a queue of this device
+abbrev pub is_of_device : List Room → ℕ → SenderSpec → Bool
+is_of_device queues d s = is_at d (slice_get queues s.queue)
+
+-- whether an event happens at a device: it is a pull of it, or an offer of one of its senders
+abbrev pub happens_at : Setup → ℕ → Event → Bool
+happens_at setup d (offered p outcome) = list_any (λ (s : SenderSpec). (s.number == p.sender) && is_of_device setup.queues d s) setup.senders
+happens_at setup d (pulled device moment visits) = device == d
+
+-- the events at a device, in order
+abbrev pub events_at : Setup → ℕ → List Event → List Event
+events_at setup d events = filter (happens_at setup d) events
+
+-- the number of a packet of this sender
+abbrev pub number_from : ℕ → Event → Option ℕ
+number_from s (offered p outcome) = if p.sender == s then Some p.number else None
+number_from s (pulled device moment visits) = None
+
+-- the numbers of a sender's packets, in the order in which they were offered
+abbrev pub numbers_of : ℕ → List Event → List ℕ
+numbers_of s events = filter_map (number_from s) events
+
+-- the visits of each pull, and the moments handed in
+abbrev pub visits_in : Event → List Visit
+visits_in (offered p outcome) = []
+visits_in (pulled device moment visits) = visits
+
+abbrev pub pull_in : Event → Option (List Visit)
+pull_in (offered p outcome) = None
+pull_in (pulled device moment visits) = Some visits
+
+abbrev pub moment_in : Event → Option ℕ
+moment_in (offered p outcome) = None
+moment_in (pulled device moment visits) = Some moment
+
+abbrev pub log_of : List Event → List Visit
+log_of events = flat_map visits_in events
+
+-- the packets that an event accepted, refused and put out
+abbrev pub accepted_in : Event → Option Packet
+accepted_in (offered p (Refused q)) = None
+accepted_in (offered p outcome) = Some p
+accepted_in (pulled device moment visits) = None
+
+abbrev pub refused_in : Event → Option Packet
+refused_in (offered p (Refused q)) = Some p
+refused_in event = None
+
+abbrev pub evicted_in : Event → Option Packet
+evicted_in (offered p (Evicted front)) = Some front
+evicted_in event = None
+
+-- the packet that came out at the device in a pull
+abbrev pub emitted_in : Event → Option Packet
+emitted_in (offered p outcome) = None
+emitted_in (pulled device moment visits) = result_of (visits_of 0 visits)
+
+-- what became of a sender's packets
+abbrev pub tally_after : List Event → ℕ → Tally
+tally_after events s = record {
+  sender = s;
+  accepted = of_sender s (filter_map accepted_in events);
+  refused = of_sender s (filter_map refused_in events);
+  evicted = of_sender s (filter_map evicted_in events);
+}
+
+-- whether a sender sends to this queue
+abbrev pub sends_to : List SenderSpec → ℕ → ℕ → Bool
+sends_to senders sender q = list_any (λ (s : SenderSpec). (s.number == sender) && (s.queue == q)) senders
+
+-- what the visits of a device's pull are to this queue
+abbrev pub answers_in : Option Tree → ℕ → List Visit → List QueueEvent
+answers_in None q visits = []
+answers_in (Some tree) q visits = flat_map (λ (v : Visit). if asks_queue tree q v then pull_event v.got ∷ [] else []) visits
+
+-- what an event is to this queue
+abbrev pub at_queue : Setup → ℕ → Event → List QueueEvent
+at_queue setup q (offered p outcome) = if sends_to setup.senders p.sender q then offer_events p outcome else []
+at_queue setup q (pulled device moment visits) = answers_in (slice_get setup.trees device) q visits
+
+-- what happened to this queue
+abbrev pub history : Setup → ℕ → List Event → List QueueEvent
+history setup q events = flat_map (at_queue setup q) events
+
+-- a pull is of one of so many devices
+abbrev pub IsOfDevice : ℕ → Event → Type 0
+IsOfDevice count (offered p outcome) = ⊤
+IsOfDevice count (pulled device moment visits) = device < count
+
+-- a refusal names the packet that was offered
+abbrev pub NamesItsOffer : Event → Type 0
+NamesItsOffer (offered p outcome) = NamesOffer p outcome
+NamesItsOffer (pulled device moment visits) = ⊤
+
+-- The pulls among these events of a device are a run of its tree, at the counted moments.
+pub record RunsTree (tree : Tree) (events : List Event) : Type 0 where
+  pub run : IsRun tree (log_of events)
+  pub pull_by_pull : pulls (log_of events) ≡ filter_map pull_in events
+  pub moments : map moment_of (filter_map pull_in events) ≡ counted 0 (filter_map moment_in events)
+
+-- These events can happen one after another: each sender numbers its packets from 0 on, the pulls are of devices that are there, those of
+-- each are a run of its tree, refusals name the packets that were offered, and what happened to each queue is a history of it.
+pub record CanHappen (setup : Setup) (events : List Event) : Type 0 where
+  pub numbered : (s : ℕ) → numbers_of s events ≡ range_with_len 0 (length (numbers_of s events))
+  pub devices : AllByRecursion (IsOfDevice (length setup.trees)) events
+  pub runs : (d : ℕ) → MatchOption (slice_get setup.trees d) ⊤ (λ tree. RunsTree tree (events_at setup d events))
+  pub refusals : AllByRecursion NamesItsOffer events
+  pub histories : (q : ℕ) → MatchOption (slice_get setup.queues q) ⊤ (λ room. IsQueueHistory room.kind room.capacity (history setup q events))
+
+-- pulls of a device one tick apart, the first at this moment
+abbrev pub pulls_from : ℕ → ℕ → List (List Visit) → List Event
+pulls_from device moment [] = []
+pulls_from device moment (visits ∷ more) = pulled device moment visits ∷ pulls_from device (moment + 1) more
+
+-- The closing pulls of a device after its events, from a moment on: one tick apart, the first one tick after the greater of that moment
+-- and the counted one.
+abbrev pub closing_pulls : ℕ → ℕ → List Event → List (List Visit) → List Event
+closing_pulls device moment events closing = pulls_from device (max (fold max 0 (filter_map moment_in events)) moment + 1) closing
+
+-- The closing of a device after its events, from a moment on: as many pulls as it takes until all packets that were accepted at it were put
+-- out, came out before, or came out in the closing.
+pub record Closes (device moment : ℕ) (events closed : List Event) : Type 0 where
+  pub closing : List (List Visit)
+  pub are : closed ≡ closing_pulls device moment events closing
+  pub all : length (filter_map accepted_in events) ≡ length (filter_map evicted_in events) + length (emitted (log_of events)) + length (given_in closing)
+  pub stops : LastGives closing
+
+-- the log of each device, by its number
+abbrev pub logs_of : Setup → List Event → List (List Visit)
+logs_of setup events = map (λ d. log_of (events_at setup d events)) (range_with_len 0 (length setup.trees))

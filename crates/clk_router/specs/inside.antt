@@ -1,0 +1,5 @@
+-- What the code's own parts say to one another: no contract of a public call stands on it.
+pub mod Closable
+pub mod Parts
+pub mod Past
+pub mod Accounts

@@ -1,0 +1,19 @@
+-- A setup over which each closing comes to its end.
+use Rattle.std.specs.Prelude.{◌≡◌, ℕ, true, slice_get, Some}
+use Rattle.clk_packet.specs.Lists.{stands_in, are_distinct, AreRising}
+use Rattle.clk_sched.specs.Tree.{Tree, root, leaves, IsSound}
+use Rattle.clk_router.specs.Events.{Setup, sender_numbers, is_at}
+use Rattle.clk_router.specs.Setups.{IsApart}
+
+-- the queues of a device over a setup: the leaves of its tree
+pub record AreQueuesOf (setup : Setup) (d : ℕ) (tree : Tree) : Type 0 where
+  pub its : slice_get setup.trees d ≡ Some tree
+  pub senders : AreRising (sender_numbers setup)
+  pub distinct : are_distinct (leaves (root tree)) ≡ true
+  pub leaves_are : (q : ℕ) → stands_in q (leaves (root tree)) ≡ is_at d (slice_get setup.queues q)
+
+-- a setup over which each closing comes to its end
+pub record IsClosable (setup : Setup) : Type 0 where
+  pub apart : IsApart setup
+  pub queues : (d : ℕ) (tree : Tree) → slice_get setup.trees d ≡ Some tree → AreQueuesOf setup d tree
+  pub sound : (d : ℕ) (tree : Tree) → slice_get setup.trees d ≡ Some tree → IsSound (root tree)

@@ -1,0 +1,250 @@
+-- What the router's parts do, in the words of the definitions.
+use Rattle.std.specs.Prelude.{◌≡◌, ℕ, ◌+◌, ◌<◌, ◌≤◌, ◌^◌, List, [], ◌++◌, length, map, fold, max, true, false, ◌==◌, ⊤, Option, Some, None, slice_get}
+use Rattle.std.specs.List.{filter_map, range_with_len, AllByRecursion}
+use Rattle.clk_packet.specs.declared.packet.Packet.{Packet}
+use Rattle.clk_packet.specs.declared.packet.Offered.{Offered}
+use Rattle.clk_packet.specs.declared.packet.Offered.TheVariants.{Accepted}
+use Rattle.clk_packet.specs.Limits.{most_elements, most_capacity}
+use Rattle.clk_ring.specs.Queue.{Queue, empty_queue, IsOffered, IsPulled as IsQueuePulled}
+use Rattle.clk_ring.specs.QueueHistory.{QueueEvent}
+use Rattle.clk_ring.specs.Laws.{LeadsTo}
+use Rattle.clk_sched.specs.declared.visit.Visit.{Visit}
+use Rattle.clk_sched.specs.declared.session.departures.Departure.{Departure}
+use Rattle.clk_sched.specs.declared.session.keeps.Keeps.{Keeps}
+use Rattle.clk_sched.specs.Departures.{departures_in}
+use Rattle.clk_sched.specs.Kinds.{AnySession, progress_of, pulls_made}
+use Rattle.clk_sched.specs.Limits.{most_left, end_of_drains, end_of_pulls, end_of_drained_pulls}
+use Rattle.clk_sched.specs.Log.{visits_of, moment_of, result_of}
+use Rattle.clk_sched.specs.Results.{emitted}
+use Rattle.clk_sched.specs.Session.{counted_moment, elements}
+use Rattle.clk_sched.specs.Tree.{Tree, root, leaves_distinct, IsSound as AreSchedulersSound}
+use Rattle.clk_tree.specs.declared.plan.parts.SenderSpec.{SenderSpec}
+use Rattle.clk_packet.specs.Lists.{AreRising}
+use Rattle.clk_tree.specs.PlanParts.{Queued, SendsWithin}
+use Rattle.clk_router.specs.declared.senders.Sender.{Sender}
+use Rattle.clk_router.specs.declared.devices.Device.{Device}
+use Rattle.clk_router.specs.declared.parts.Parts.{Parts}
+use Rattle.clk_router.specs.inside.Closable.{IsClosable}
+use Rattle.clk_router.specs.Course.{room_device, end_of_packets}
+use Rattle.clk_router.specs.inside.Past.{visits_shown, pull_shown, pulls_shown}
+use Rattle.clk_router.specs.Events.{Room, Setup, Event, CanHappen, numbers_of, moment_in, accepted_in, evicted_in, history, log_of, events_at, sender_numbers, Closes}
+
+-- a queue and a sender as they are made, and what was asked for
+abbrev pub queue_made : Queued → Queue
+queue_made q = empty_queue q.kind q.capacity
+
+abbrev pub path_made : Queued → ℕ
+path_made q = q.device
+
+-- a tree over which a device can stand, and the device before it is pulled
+pub record CanStand (tree : Tree) : Type 0 where
+  pub distinct : leaves_distinct tree ≡ true
+  pub fits : 1 + elements (root tree) ≤ most_elements
+  pub sound : AreSchedulersSound (root tree)
+
+abbrev pub device_made : Keeps → Tree → Device
+device_made keeps tree = record { session = record { tree = tree; log = []; keeps = keeps; gone = 0 }; kept = 0 }
+
+abbrev pub sender_made : SenderSpec → Sender
+sender_made spec = record { number = spec.number; queue = spec.queue; sent = 0 }
+
+-- a sender once it has sent one packet more
+abbrev pub sent_one_more : Sender → Sender
+sent_one_more s = record { number = s.number; queue = s.queue; sent = s.sent + 1 }
+
+abbrev pub sender_number : Sender → ℕ
+sender_number s = s.number
+
+-- the packets that a queue holds, by number, and none where it isn't there
+abbrev pub packets_in : Option Queue → List Packet
+packets_in None = []
+packets_in (Some q) = q.packets
+
+abbrev pub packets_at : List Queue → ℕ → List Packet
+packets_at queues number = packets_in (slice_get queues number)
+
+-- what an offer makes of the queue at a place, and a pull
+abbrev pub OffersTo : Packet → Offered → Option Queue → Option Queue → Type 0
+OffersTo p outcome None new = ⊥
+OffersTo p outcome (Some old) None = ⊥
+OffersTo p outcome (Some old) (Some new) = IsOffered old p outcome new
+
+abbrev pub PullsFrom : Option Packet → Option Queue → Option Queue → Type 0
+PullsFrom got None new = (got ≡ None) × (new ≡ None)
+PullsFrom got (Some old) None = ⊥
+PullsFrom got (Some old) (Some new) = IsQueuePulled old got new
+
+-- Only the queue of this number may have changed.
+pub record ChangesOnly (old : List Queue) (number : ℕ) (new : List Queue) : Type 0 where
+  pub count : length new ≡ length old
+  pub others : (k : ℕ) → (number == k) ≡ false → slice_get new k ≡ slice_get old k
+
+-- A packet is offered to the queue of this number, with this outcome, and all others stay.
+pub record OffersAt (old : List Queue) (number : ℕ) (p : Packet) (outcome : Offered) (new : List Queue) : Type 0 where
+  pub here : OffersTo p outcome (slice_get old number) (slice_get new number)
+  pub only : ChangesOnly old number new
+
+-- The queue of this number is pulled, with this result, and all others stay. One that isn't there has none.
+pub record GivesAt (old : List Queue) (number : ℕ) (got : Option Packet) (new : List Queue) : Type 0 where
+  pub here : PullsFrom got (slice_get old number) (slice_get new number)
+  pub only : ChangesOnly old number new
+
+-- These events lead to this queue, which is as it was asked for.
+pub record IsQueueAt (events : List QueueEvent) (room : Room) (q : Queue) : Type 0 where
+  pub leads : LeadsTo events q
+  pub kind : q.kind ≡ room.kind
+  pub capacity : q.capacity ≡ room.capacity
+
+abbrev pub AreQueuesAt : List QueueEvent → Option Room → Option Queue → Type 0
+AreQueuesAt events None None = ⊤
+AreQueuesAt events None (Some q) = ⊥
+AreQueuesAt events (Some room) None = ⊥
+AreQueuesAt events (Some room) (Some q) = IsQueueAt events room q
+
+-- a sender after some events
+abbrev pub sender_after : List Event → SenderSpec → Sender
+sender_after events spec = record {
+  number = spec.number;
+  queue = spec.queue;
+  sent = length (numbers_of spec.number events);
+}
+
+-- These events of a device lead to this one, over its tree. Of the packets that its queues took, so many were not put out.
+pub record IsDeviceAt (events : List Event) (tree : Tree) (device : Device) : Type 0 where
+  pub tree_is : device.session.tree ≡ tree
+  pub log : device.session.log ≡ log_of events
+  pub kept : device.kept + length (filter_map evicted_in events) ≡ length (filter_map accepted_in events)
+
+abbrev pub AreDevicesAt : List Event → Option Tree → Option Device → Type 0
+AreDevicesAt events None None = ⊤
+AreDevicesAt events None (Some device) = ⊥
+AreDevicesAt events (Some tree) None = ⊥
+AreDevicesAt events (Some tree) (Some device) = IsDeviceAt events tree device
+
+-- A device keeps what it was asked to.
+abbrev pub KeepsAs : Keeps → Device → Type 0
+KeepsAs keeps device = (device.session.keeps ≡ keeps) × (device.session.gone ≡ 0)
+
+abbrev pub KeepsAsAt : Keeps → Option Device → Type 0
+KeepsAsAt keeps None = ⊤
+KeepsAsAt keeps (Some device) = KeepsAs keeps device
+
+-- The parts are where these events lead over a setup.
+pub record IsAt (setup : Setup) (events : List Event) (parts : Parts) : Type 0 where
+  pub can_happen : CanHappen setup events
+  pub senders : parts.senders.items ≡ map (sender_after events) setup.senders
+  pub numbers : parts.numbers.items ≡ sender_numbers setup
+  pub queues : (q : ℕ) → AreQueuesAt (history setup q events) (slice_get setup.queues q) (slice_get parts.queues.rings.items q)
+  pub count : length parts.queues.rings.items ≡ length setup.queues
+  pub devices : (d : ℕ) → AreDevicesAt (events_at setup d events) (slice_get setup.trees d) (slice_get parts.devices.items d)
+  pub device_count : length parts.devices.items ≡ length setup.trees
+  pub paths : parts.paths.items ≡ map room_device setup.queues
+  pub kinds : (d : ℕ) → KeepsAsAt parts.keeps (slice_get parts.devices.items d)
+
+-- what a device logged, and what came out at it
+abbrev pub device_log : Device → List Visit
+device_log device = device.session.log
+
+abbrev pub device_emitted : Device → List Packet
+device_emitted device = emitted device.session.log
+
+-- A setup over which a router can run: it has a device, and not too many, its senders stand by rising numbers and send to queues that are there, whose packets
+-- go to devices that are there, and it has not too many queues, nor any that holds too much.
+pub record IsWhole (setup : Setup) : Type 0 where
+  pub some : 1 ≤ length setup.trees
+  pub few : length setup.trees ≤ most_elements
+  pub rising : AreRising (sender_numbers setup)
+  pub wired : AllByRecursion (SendsWithin (length setup.queues)) setup.senders
+  pub paths : AllByRecursion (λ (room : Room). room.device < length setup.trees) setup.queues
+  pub queue_count : length setup.queues ≤ most_elements
+  pub capacities : AllByRecursion (λ (room : Room). room.capacity ≤ most_capacity) setup.queues
+
+-- a sender's queue is one of so many, and it can send a packet more
+abbrev pub CanSendOn : ℕ → Option Sender → Type 0
+CanSendOn count None = ⊥
+CanSendOn count (Some s) = (s.queue < count) × (s.sent + 1 < 2 ^ 32)
+
+-- one more packet can be counted at a device
+abbrev pub CanCount : Option Device → Type 0
+CanCount None = ⊥
+CanCount (Some device) = device.kept < end_of_packets
+
+-- the sender at a place can offer a packet: its number stands there too, its queue is there with a path, and its device counts one more
+pub record CanOfferAt (parts : Parts) (place : ℕ) : Type 0 where
+  pub alike : map sender_number parts.senders.items ≡ parts.numbers.items
+  pub rising : AreRising parts.numbers.items
+  pub can_send : CanSendOn (length parts.queues.rings.items) (slice_get parts.senders.items place)
+  pub path_count : length parts.paths.items ≡ length parts.queues.rings.items
+  pub counts : (device : ℕ) (s : Sender) → slice_get parts.senders.items place ≡ Some s → slice_get parts.paths.items s.queue ≡ Some device → CanCount (slice_get parts.devices.items device)
+
+-- a device can be pulled, whatever the moment
+abbrev pub CanPullAt : Keeps → Option Device → Type 0
+CanPullAt keeps None = ⊥
+CanPullAt keeps (Some device) = KeepsAs keeps device × (pulls_made (progress_of device.session) < end_of_pulls)
+
+-- not more packets came out of a device than it kept
+abbrev pub CountsLeft : Option Device → Type 0
+CountsLeft None = ⊥
+CountsLeft (Some device) = length (emitted device.session.log) ≤ device.kept
+
+-- a device can be closed from a moment on
+abbrev pub CanCloseAt : ℕ → Option Device → Type 0
+CanCloseAt moment None = ⊥
+CanCloseAt moment (Some device) =
+    (length (emitted device.session.log) ≤ device.kept) × (device.kept ≤ length (emitted device.session.log) + most_left)
+    × (max (counted_moment (progress_of device.session)) moment < end_of_drains) × (pulls_made (progress_of device.session) < end_of_drained_pulls)
+
+-- Of some devices only that of this number may have changed.
+pub record ChangesDevice (old : List Device) (number : ℕ) (new : List Device) : Type 0 where
+  pub count : length new ≡ length old
+  pub others : (k : ℕ) → (number == k) ≡ false → slice_get new k ≡ slice_get old k
+
+-- one more packet is kept, where it was accepted and no other was put out for it
+abbrev pub kept_by : Offered → ℕ
+kept_by Accepted = 1
+kept_by outcome = 0
+
+-- What became of a packet is counted at a device.
+abbrev pub CountsHere : Offered → Option Device → Option Device → Type 0
+CountsHere outcome None new = ⊥
+CountsHere outcome (Some old) None = ⊥
+CountsHere outcome (Some old) (Some new) = (new.session ≡ old.session) × (new.kept ≡ old.kept + kept_by outcome)
+
+-- Of some devices only that of this number may have changed, by what became of a packet.
+pub record CountsAt (old : List Device) (number : ℕ) (outcome : Offered) (new : List Device) : Type 0 where
+  pub here : CountsHere outcome (slice_get old number) (slice_get new number)
+  pub only : ChangesDevice old number new
+
+-- What became of a packet at a queue is counted at its device. Nothing else changes.
+pub record Counts (old : Parts) (queue : ℕ) (outcome : Offered) (new : Parts) : Type 0 where
+  pub devices : (device : ℕ) → slice_get old.paths.items queue ≡ Some device → CountsAt old.devices.items device outcome new.devices.items
+  pub queues : new.queues ≡ old.queues
+  pub senders : new.senders ≡ old.senders
+  pub numbers : new.numbers ≡ old.numbers
+  pub paths : new.paths ≡ old.paths
+  pub keeps : new.keeps ≡ old.keeps
+
+-- One more pull of a device, at a moment that was handed in, led on from these events to this result, as its session shows.
+pub record LeadsOnByPull (setup : Setup) (new : Parts) (device moment : ℕ) (got : Option Packet) (events : List Event) : Type 0 where
+  pub its : Device
+  pub here : slice_get new.devices.items device ≡ Some its
+  pub result : result_of (visits_of 0 (visits_shown setup events device its.session)) ≡ got
+  pub leads : IsAt setup (events ++ pull_shown setup events device moment its.session) new
+
+-- Closing pulls of a device, from a moment on, led on from these events, as its session shows.
+pub record LeadsOnByPulls (setup : Setup) (new : Parts) (device moment : ℕ) (events : List Event) : Type 0 where
+  pub its : Device
+  pub here : slice_get new.devices.items device ≡ Some its
+  pub leads : IsAt setup (events ++ pulls_shown setup events device moment its.session) new
+
+-- These were its whole closing, in which these packets came out, at these moments.
+pub record ClosesBy (setup : Setup) (events : List Event) (device moment : ℕ) (session : AnySession) (departures : List Departure) : Type 0 where
+  pub closes : Closes device moment (events_at setup device events) (pulls_shown setup events device moment session)
+  pub came_out : departures ≡ departures_in closes.closing
+  pub moments : map moment_of closes.closing ≡ range_with_len (max (fold max 0 (filter_map moment_in (events_at setup device events))) moment + 1) (length closes.closing)
+
+-- The parts of a router are where its course led.
+pub record Stand (setup : Setup) (events : List Event) (parts : Parts) : Type 0 where
+  pub at : IsAt setup events parts
+  pub whole : IsWhole setup
+  pub closable : IsClosable setup

@@ -1,0 +1,140 @@
+//! What became of the packets of each sender of a router, in totals.
+
+ghost use Rattle.std.specs.Prelude.{◌≡◌, Some, map, slice_get, IfOk, IsOkUnless};
+ghost use Rattle.clk_packet.specs.declared.fault.Fault.TheVariants.{Memory};
+ghost use Rattle.clk_packet.specs.Lists.{AreRising};
+ghost use Rattle.clk_router.specs.inside.Accounts.{account_made, account_sender, noted, put_out, came_out, given};
+
+use crate::senders::place_of;
+use clk_packet::{Fault, Offered, Packet};
+use clk_tree::SenderSpec;
+use std::alloc::Global;
+
+/// How many packets, and how many bytes in all of them. Each stays at 2^64 - 1 where there are more.
+#[derive(Clone, Copy, Debug)]
+pub struct Total {
+    /// How many packets.
+    pub packets: u64,
+    /// How many bytes in all of them.
+    pub bytes: u64,
+}
+
+/// What became of the packets of a sender so far.
+#[derive(Clone, Copy, Debug)]
+pub struct Account {
+    /// The number of the sender.
+    pub sender: u16,
+    /// The number of the queue that it sends to.
+    pub queue: u16,
+    /// What its queue took.
+    pub accepted: Total,
+    /// What its queue turned away.
+    pub refused: Total,
+    /// What its queue took, and put out for a later one.
+    pub evicted: Total,
+    /// What came out at a device.
+    pub emitted: Total,
+}
+
+impl Total {
+    ghost use Rattle.std.specs.Prelude.{◌≡◌, []};
+    ghost use Rattle.clk_router.specs.Accounts.{total_of};
+    ghost use Rattle.clk_router.specs.inside.Accounts.{with_packet};
+
+    /// That of no packets.
+    fn none() -> Total
+        ensures { result ≡ total_of [] }
+    {
+        Total {
+            packets: 0,
+            bytes: 0,
+        }
+    }
+
+    /// Counts a packet more.
+    fn add(&mut self, packet: Packet)
+        ensures { self.new ≡ with_packet packet self.old }
+    {
+        self.packets = self.packets.saturating_add(1);
+        self.bytes = self.bytes.saturating_add(u64::from(packet.length));
+    }
+}
+
+/// The accounts of these senders, before they have sent anything. Fault 1 where memory is refused.
+pub fn accounts_of(alloc: Global, specs: &[SenderSpec]) -> Result<Vec<Account>, Fault>
+    ensures made { IfOk result (λ accounts. accounts.items ≡ map account_made specs.now) }
+    ensures fault { IsOkUnless result Fault.Memory }
+{
+    let mut accounts = Vec::new(alloc);
+    for spec in specs {
+        accounts.push(Account {
+            sender: spec.number,
+            queue: spec.queue,
+            accepted: Total::none(),
+            refused: Total::none(),
+            evicted: Total::none(),
+            emitted: Total::none(),
+        })?;
+    }
+    Ok(accounts)
+}
+
+/// Counts what became of a packet that the sender whose account stands at this place offered, among those of senders of these numbers.
+pub fn count_offered(
+    accounts: &mut Vec<Account>,
+    numbers: &[u16],
+    place: usize,
+    packet: Packet,
+    outcome: Offered,
+)
+    requires alike { map account_sender accounts.old.items ≡ numbers.now }
+    requires rising { AreRising numbers.now }
+    requires here { slice_get numbers.now place ≡ Some packet.sender }
+    ensures { accounts.new.items ≡ map (noted packet outcome) accounts.old.items }
+{
+    let account = &mut accounts[place];
+    match outcome {
+        Offered::Accepted => account.accepted.add(packet),
+        Offered::Refused(_) => account.refused.add(packet),
+        Offered::Evicted(front) => {
+            account.accepted.add(packet);
+            count_evicted(accounts, numbers, front);
+        }
+    }
+}
+
+/// Counts that a packet was put out of its queue for a later one, in the accounts of senders of these numbers.
+fn count_evicted(accounts: &mut Vec<Account>, numbers: &[u16], front: Packet)
+    requires alike { map account_sender accounts.old.items ≡ numbers.now }
+    requires rising { AreRising numbers.now }
+    ensures { accounts.new.items ≡ map (put_out front) accounts.old.items }
+{
+    match place_of(numbers, front.sender) {
+        Some(place) => accounts[usize::from(place)].evicted.add(front),
+        None => {}
+    }
+}
+
+/// Counts the packet that came out at a device in a pull, if one did, in the accounts of senders of these numbers.
+pub fn count_given(accounts: &mut Vec<Account>, numbers: &[u16], got: Option<Packet>)
+    requires alike { map account_sender accounts.old.items ≡ numbers.now }
+    requires rising { AreRising numbers.now }
+    ensures { accounts.new.items ≡ map (given got) accounts.old.items }
+{
+    match got {
+        Some(packet) => count_emitted(accounts, numbers, packet),
+        None => {}
+    }
+}
+
+/// Counts that a packet came out at a device, in the accounts of senders of these numbers.
+fn count_emitted(accounts: &mut Vec<Account>, numbers: &[u16], packet: Packet)
+    requires alike { map account_sender accounts.old.items ≡ numbers.now }
+    requires rising { AreRising numbers.now }
+    ensures { accounts.new.items ≡ map (came_out packet) accounts.old.items }
+{
+    match place_of(numbers, packet.sender) {
+        Some(place) => accounts[usize::from(place)].emitted.add(packet),
+        None => {}
+    }
+}

@@ -1,0 +1,184 @@
+//! A router that can go on for ever.
+
+use crate::accounts::{Account, accounts_of, count_given, count_offered};
+use crate::queue_state::QueueState;
+use crate::router::Router;
+use crate::senders::place_of;
+use clk_packet::{Fault, Offered, Packet};
+use clk_sched::Keeps;
+use clk_tree::Plan;
+use std::alloc::Global;
+use std::marker::Model;
+
+/// A router that keeps nothing of the past but totals for each sender, so that it can go on for ever: no call takes memory but the one that
+/// opens it. What is said of it is said of all events so far.
+#[derive(Drop)]
+pub struct CountingRouter {
+    router: Router,
+    /// The account of each sender, at its place.
+    accounts: Vec<Account>,
+}
+
+impl Model for CountingRouter {
+    ghost use Rattle.std.specs.Prelude.{◌≡◌, map};
+    ghost use Rattle.clk_sched.specs.Kinds.{keeps_nothing};
+    ghost use Rattle.clk_router.specs.Course.{Course};
+    ghost use Rattle.clk_router.specs.Accounts.{account_after};
+    ghost use Rattle.clk_router.specs.Stored.{course_code};
+
+    ghost Value = { Course };
+
+    ghost coded = { course_code };
+
+    ghost view = { λ r. r.router };
+
+    ghost invariant = { λ r. (r.router.keeps ≡ keeps_nothing) × (r.accounts.items ≡ map (account_after r.router.events) r.router.setup.senders) };
+}
+
+impl CountingRouter {
+    ghost use Rattle.std.specs.Prelude.{◌≡◌, ◌+◌, ◌<◌, ◌≤◌, ◌∷◌, [], Some, None, true, false, map, length, IfSome, IfOk, IsOkUnless};
+    ghost use Rattle.clk_packet.specs.declared.fault.Fault.TheVariants.{Memory};
+    ghost use Rattle.clk_packet.specs.Limits.{most_elements, most_capacity};
+    ghost use Rattle.clk_sched.specs.Kinds.{keeps_nothing};
+    ghost use Rattle.clk_sched.specs.Limits.{end_of_moments};
+    ghost use Rattle.clk_packet.specs.Lists.{AreRising};
+    ghost use Rattle.clk_router.specs.Accounts.{account_after};
+    ghost use Rattle.clk_router.specs.Course.{after, sender_at, accepted_at, evicted_at, emitted_at, moment_at, CanOffer, CanPull, IsOpened, IsPulled, IsQueueState};
+    ghost use Rattle.clk_router.specs.Events.{offered, sender_numbers, CanHappen};
+
+    /// The router of a plan, before anything has happened.
+    ///
+    /// # Errors
+    ///
+    /// Fault 1 where memory is refused.
+    pub fn open(alloc: Global, plan: &Plan) -> Result<CountingRouter, Fault>
+        ensures opened { IfOk result (IsOpened plan.now keeps_nothing) }
+        ensures fault { IsOkUnless result Fault.Memory }
+    {
+        let keeps = Keeps {
+            visits: false,
+            packets: false,
+        };
+        Ok(CountingRouter {
+            router: Router::open(alloc, plan, keeps)?,
+            accounts: accounts_of(alloc, plan.senders())?,
+        })
+    }
+
+    /// The numbers of its senders, which rise. What is said of a sender by its place speaks of its place here.
+    pub fn senders(&self) -> &[u16]
+        ensures numbers { result.now ≡ sender_numbers self.now.setup }
+        ensures rising { AreRising result.now }
+    {
+        self.router.senders()
+    }
+
+    /// The place of the sender with this number, if there is one.
+    pub fn place_of(&self, sender: u16) -> Option<u16>
+        ensures found { IfSome result (λ place. sender_at self.now.setup place ≡ Some sender) }
+        ensures missing { result ≡ None → (place : _) → sender_at self.now.setup place ≡ Some sender → ⊥ }
+    {
+        place_of(self.router.senders(), sender)
+    }
+
+    /// All that has happened can happen over what it was made over: a law, which does nothing.
+    pub fn has_happened(&self)
+        ensures { CanHappen self.now.setup self.now.events }
+    {
+        self.router.has_happened();
+    }
+
+    /// Whether the sender at this place can offer a packet: it is there, its packet's number has 32 bits, and its device takes one more.
+    pub fn can_offer(&self, place: usize) -> bool
+        ensures yes { result ≡ true → CanOffer self.now place }
+        ensures no { result ≡ false → CanOffer self.now place → ⊥ }
+    {
+        self.router.can_offer(place)
+    }
+
+    /// The sender at this place offers its next packet, of this length in bytes, to its queue. Answers the packet, and what became of it.
+    pub fn offer(&mut self, place: usize, length: u16) -> (Packet, Offered)
+        requires can { CanOffer self.old place }
+        requires has_length { 1 ≤ length }
+        ensures sender { sender_at self.old.setup place ≡ Some result.0.sender }
+        ensures length { result.0.length ≡ length }
+        ensures goes_on { self.new ≡ after self.old (offered result.0 result.1 ∷ []) }
+    {
+        let (packet, outcome) = self.router.offer(place, length);
+        let numbers = self.router.senders();
+        count_offered(&mut self.accounts, numbers, place, packet, outcome);
+        (packet, outcome)
+    }
+
+    /// How many devices it has.
+    pub fn devices(&self) -> usize
+        ensures count { result ≡ length self.now.setup.trees }
+        ensures some { 1 ≤ result }
+        ensures few { result ≤ most_elements }
+    {
+        self.router.devices()
+    }
+
+    /// Whether a device can be pulled at this moment: it is there, and neither moments nor its pulls are at their end.
+    pub fn can_pull(&self, device: u16, moment: u64) -> bool
+        ensures yes { result ≡ true → CanPull self.now device moment }
+        ensures no { result ≡ false → CanPull self.now device moment → ⊥ }
+    {
+        self.router.can_pull(device, moment)
+    }
+
+    /// Pulls a device once, at this moment in ticks or, where that is later, at the greatest so far.
+    pub fn pull(&mut self, device: u16, moment: u64) -> Option<Packet>
+        requires can { CanPull self.old device moment }
+        ensures pulled { IsPulled self.old self.new device moment result }
+    {
+        // Nothing is kept, so that no memory is refused.
+        let got = self.router.pull(device, moment).unwrap();
+        count_given(&mut self.accounts, self.router.senders(), got);
+        got
+    }
+
+    /// The greatest moment at which a device was pulled, in ticks, and 0 before its first pull.
+    pub fn moment(&self, device: u16) -> u64
+        requires { device < length self.now.setup.trees }
+        ensures moment { result ≡ moment_at self.now device }
+        ensures limit { result < end_of_moments }
+    {
+        self.router.moment(device)
+    }
+
+    /// How many packets are left for a device: accepted at it, and neither evicted nor come out.
+    pub fn left(&self, device: u16) -> u64
+        requires { device < length self.now.setup.trees }
+        ensures { accepted_at self.now device ≡ evicted_at self.now device + emitted_at self.now device + result }
+    {
+        self.router.left(device)
+    }
+
+    /// How many queues it has.
+    pub fn queues(&self) -> usize
+        ensures count { result ≡ length self.now.setup.queues }
+        ensures few { result ≤ most_elements }
+    {
+        self.router.queues()
+    }
+
+    /// A queue, as it is now.
+    pub fn queue(&self, number: u16) -> QueueState
+        requires { number < length self.now.setup.queues }
+        ensures state { IsQueueState self.now number result }
+        ensures capacity { result.capacity ≤ most_capacity }
+        ensures held { result.held ≤ result.capacity }
+    {
+        self.router.queue(number)
+    }
+
+    /// What became of the packets of each sender so far, by its place.
+    pub fn accounts(&self) -> &[Account]
+        ensures { result.now ≡ map (account_after self.now.events) self.now.setup.senders }
+    {
+        // That these are the accounts is known where the router is read.
+        let _ = &self.router;
+        self.accounts.as_slice()
+    }
+}

@@ -1,0 +1,35 @@
+//! The devices of a router.
+
+ghost use Rattle.std.specs.Prelude.{◌≡◌, map, IfOk, IsOkUnless};
+ghost use Rattle.std.specs.List.{AllByRecursion};
+ghost use Rattle.clk_packet.specs.declared.fault.Fault.TheVariants.{Memory};
+ghost use Rattle.clk_router.specs.inside.Parts.{device_made, CanStand};
+
+use clk_packet::Fault;
+use clk_sched::{Keeps, Kernel, Tree};
+use std::alloc::Global;
+
+/// A device, and what was done at it.
+#[derive(Drop)]
+pub struct Device {
+    /// Its tree, with the log of its pulls and the packets that came out, as far as these are kept.
+    pub session: Kernel,
+    /// How many packets its queues took and didn't put out for later ones.
+    pub kept: u64,
+}
+
+/// A device for each of these trees, before it is pulled, which keeps this of the past. Fault 1 where memory is refused.
+pub fn devices_of(alloc: Global, trees: Vec<Tree>, keeps: Keeps) -> Result<Vec<Device>, Fault>
+    requires each { AllByRecursion CanStand trees.items }
+    ensures made { IfOk result (λ devices. devices.items ≡ map (device_made keeps) trees.items) }
+    ensures fault { IsOkUnless result Fault.Memory }
+{
+    let mut devices = Vec::new(alloc);
+    for tree in trees {
+        devices.push(Device {
+            session: Kernel::new(alloc, tree, keeps)?,
+            kept: 0,
+        })?;
+    }
+    Ok(devices)
+}

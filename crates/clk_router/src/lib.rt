@@ -1,0 +1,18 @@
+//! The router of a plan, on one thread: its senders, its queues, and for each device a session of its tree over the queues.
+#![tactic(auto)]
+
+mod accounts;
+mod counting;
+mod devices;
+mod parts;
+mod past;
+mod queue_state;
+mod queues;
+mod router;
+mod senders;
+
+pub use accounts::{Account, Total};
+pub use counting::CountingRouter;
+pub use queue_state::QueueState;
+pub use router::Router;
+pub use senders::place_of;

@@ -1,0 +1,184 @@
+//! The parts of a router, and how they go on.
+
+ghost use Rattle.std.specs.Prelude.{◌≡◌, map, IfOk, IsOkUnless};
+ghost use Rattle.clk_packet.specs.declared.fault.Fault.TheVariants.{Memory};
+ghost use Rattle.clk_tree.specs.PlanParts.{queued};
+ghost use Rattle.clk_router.specs.inside.Parts.{path_made};
+
+use crate::devices::{Device, devices_of};
+use crate::queues::Queues;
+use crate::senders::{Sender, numbers_of, senders_of};
+use clk_packet::{Fault, Offered, Packet};
+use clk_ring::calls_are_history;
+use clk_sched::{Departure, Keeps, Tree, Visit, runs_conserve_packets, runs_go_on};
+use clk_tree::{QueueSpec, SenderSpec};
+use std::alloc::Global;
+
+/// Senders, queues, and for each device a session of its tree over the queues.
+#[derive(Drop)]
+pub struct Parts {
+    /// The devices, by number.
+    pub devices: Vec<Device>,
+    /// The queues, by number.
+    pub queues: Queues,
+    /// The device that the packets of each queue go to.
+    pub paths: Vec<u16>,
+    /// The senders, by rising numbers.
+    pub senders: Vec<Sender>,
+    /// The number of each.
+    pub numbers: Vec<u16>,
+    /// What the devices keep.
+    keeps: Keeps,
+}
+
+impl Parts {
+    ghost use Rattle.std.specs.Prelude.{◌≡◌, ◌+◌, ◌<◌, ◌≤◌, ◌++◌, List, ◌∷◌, [], Some, map, length, slice_get, IfOk, OnErr, IsOk, IsOkUnless, true};
+    ghost use Rattle.std.specs.List.{AllByRecursion};
+    ghost use Rattle.clk_packet.specs.declared.fault.Fault.TheVariants.{Memory};
+    ghost use Rattle.clk_sched.specs.Kinds.{keeps_nothing};
+    ghost use Rattle.clk_sched.specs.Limits.{end_of_moments};
+    ghost use Rattle.clk_sched.specs.Results.{emitted};
+    ghost use Rattle.clk_tree.specs.PlanParts.{queued, HasCapacity};
+    ghost use Rattle.clk_router.specs.Events.{Setup, Event, offered, setup_of};
+    ghost use Rattle.clk_router.specs.inside.Parts.{CanStand, CanOfferAt, CanPullAt, CanCloseAt, CanCount, Counts, CountsLeft, IsAt, IsWhole, KeepsAs, LeadsOnByPull, LeadsOnByPulls, ClosesBy, Stand, device_log, device_emitted};
+
+    /// The parts of a router before anything has happened, whose devices keep this of the past. Fault 1 where memory is refused.
+    pub fn new(
+        alloc: Global,
+        trees: Vec<Tree>,
+        queues: &[QueueSpec],
+        senders: &[SenderSpec],
+        keeps: Keeps,
+    ) -> Result<Parts, Fault>
+        requires trees { AllByRecursion CanStand trees.items }
+        requires capacities { AllByRecursion HasCapacity (map queued queues.now) }
+        requires whole { IsWhole (setup_of trees.items (map queued queues.now) senders.now) }
+        ensures at { IfOk result (IsAt (setup_of trees.items (map queued queues.now) senders.now) []) }
+        ensures keeps { IfOk result (λ parts. parts.keeps ≡ keeps) }
+        ensures fault { IsOkUnless result Fault.Memory }
+    {
+        // The empty log is a run, and the queues lead on from here, by these laws, which do nothing.
+        runs_go_on();
+        calls_are_history();
+        Ok(Parts {
+            devices: devices_of(alloc, trees, keeps)?,
+            queues: Queues::new(alloc, queues)?,
+            paths: paths_of(alloc, queues)?,
+            senders: senders_of(alloc, senders)?,
+            numbers: numbers_of(alloc, senders)?,
+            keeps,
+        })
+    }
+
+    /// The sender at this place offers its next packet, of this length in bytes, to its queue.
+    pub fn offer(&mut self, place: usize, length: u16) -> (Packet, Offered)
+        requires can { CanOfferAt self.old place }
+        requires has_length { 1 ≤ length }
+        ensures sender { slice_get self.old.numbers.items place ≡ Some result.0.sender }
+        ensures length { result.0.length ≡ length }
+        ensures leads { (setup : Setup) (events : _) → IsAt setup events self.old → IsAt setup (events ++ offered result.0 result.1 ∷ []) self.new }
+        ensures keeps { self.new.keeps ≡ self.old.keeps }
+    {
+        // What happened to the queue stays a history of it by this law, which does nothing.
+        calls_are_history();
+        let sender = &mut self.senders[place];
+        let queue = sender.queue;
+        let packet = sender.next_packet(length);
+        let outcome = self.queues.offer(queue, packet);
+        self.count(queue, outcome);
+        (packet, outcome)
+    }
+
+    /// Counts what became of a packet at a queue.
+    fn count(&mut self, queue: u16, outcome: Offered)
+        requires there { queue < length self.old.paths.items }
+        requires counts { (device : _) → slice_get self.old.paths.items queue ≡ Some device → CanCount (slice_get self.old.devices.items device) }
+        ensures { Counts self.old queue outcome self.new }
+    {
+        if let Offered::Accepted = outcome {
+            let device = self.paths[usize::from(queue)];
+            self.devices[usize::from(device)].kept += 1;
+        }
+    }
+
+    /// Pulls a device once, at this moment in ticks or, where that is later, at the greatest so far. Fault 1 where memory is refused to
+    /// what it keeps.
+    pub fn pull(&mut self, device: u16, moment: u64) -> Result<Option<Packet>, Fault>
+        requires can { CanPullAt self.old.keeps (slice_get self.old.devices.items device) }
+        requires moment { moment < end_of_moments }
+        ensures leads { IfOk result (λ got. (setup : Setup) (events : _) → IsAt setup events self.old → LeadsOnByPull setup self.new device moment got events) }
+        ensures keeps { self.new.keeps ≡ self.old.keeps }
+        ensures fault { IsOkUnless result Fault.Memory }
+        ensures unkept { self.old.keeps ≡ keeps_nothing → IsOk result }
+        ensures stays { OnErr result ((setup : Setup) (events : _) → IsAt setup events self.old → IsAt setup events self.new) }
+    {
+        // What happened to the queues stays a history of each by this law, which does nothing.
+        calls_are_history();
+        let session = &mut self.devices[usize::from(device)].session;
+        session.pull(&mut self.queues, moment)
+    }
+
+    /// How many packets are left for a device, in queues and in heads.
+    pub fn left(&self, device: u16) -> u64
+        requires { CountsLeft (slice_get self.now.devices.items device) }
+        ensures { (here : _) → slice_get self.now.devices.items device ≡ Some here → length (emitted here.session.log) + result ≡ here.kept }
+    {
+        let device = &self.devices[usize::from(device)];
+        device.kept - device.session.count_emitted()
+    }
+
+    /// Pulls a device, one tick apart and the first time one tick after the greater of this moment and the greatest so far, until all
+    /// packets that are left for it in queues and heads came out. Answers these. Fault 1 where memory is refused.
+    pub fn close(
+        &mut self,
+        alloc: Global,
+        device: u16,
+        moment: u64,
+    ) -> Result<Vec<Departure>, Fault>
+        requires can { CanCloseAt moment (slice_get self.old.devices.items device) }
+        requires stands { (setup : Setup) × (events : List Event) × Stand setup events self.old }
+        ensures leads { (setup : Setup) (events : _) → IsAt setup events self.old → LeadsOnByPulls setup self.new device moment events }
+        ensures closed { IfOk result (λ departures. (setup : Setup) (events : _) → IsAt setup events self.old
+            → (its : _) → slice_get self.new.devices.items device ≡ Some its → ClosesBy setup events device moment its.session departures.items) }
+        ensures keeps { self.new.keeps ≡ self.old.keeps }
+        ensures fault { IsOkUnless result Fault.Memory }
+    {
+        // What happened to the queues stays a history of each, and what they hold and the heads is what is left, by these laws, which
+        // do nothing.
+        calls_are_history();
+        runs_go_on();
+        runs_conserve_packets();
+        let left = self.left(device);
+        let session = &mut self.devices[usize::from(device)].session;
+        session.close(alloc, &mut self.queues, left, moment)
+    }
+
+    /// What the devices kept: their visits and the packets that came out of each. Fault 1 where memory is refused to the two lists.
+    pub fn into_kept(self, alloc: Global) -> Result<(Vec<Vec<Visit>>, Vec<Vec<Packet>>), Fault>
+        requires { AllByRecursion (KeepsAs self.keeps) self.devices.items }
+        ensures visits { IfOk result (λ kept. self.keeps.visits ≡ true → map (λ l. l.items) kept.0.items ≡ map device_log self.devices.items) }
+        ensures packets { IfOk result (λ kept. self.keeps.packets ≡ true → map (λ l. l.items) kept.1.items ≡ map device_emitted self.devices.items) }
+        ensures fault { IsOkUnless result Fault.Memory }
+    {
+        let mut logs = Vec::new(alloc);
+        let mut came_out = Vec::new(alloc);
+        for device in self.devices {
+            let (visits, packets) = device.session.into_parts();
+            logs.push(visits)?;
+            came_out.push(packets)?;
+        }
+        Ok((logs, came_out))
+    }
+}
+
+/// The devices that the packets of these queues go to. Fault 1 where memory is refused.
+fn paths_of(alloc: Global, specs: &[QueueSpec]) -> Result<Vec<u16>, Fault>
+    ensures made { IfOk result (λ paths. paths.items ≡ map path_made (map queued specs.now)) }
+    ensures fault { IsOkUnless result Fault.Memory }
+{
+    let mut paths = Vec::new(alloc);
+    for spec in specs {
+        paths.push(spec.device)?;
+    }
+    Ok(paths)
+}

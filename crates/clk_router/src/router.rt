@@ -1,0 +1,268 @@
+//! The router of a plan.
+
+ghost use Rattle.std.specs.Prelude.{◌≡◌, ◌≤◌, length, IfOk, IsOkUnless};
+ghost use Rattle.std.specs.List.{AllByRecursion};
+ghost use Rattle.clk_packet.specs.Limits.{most_elements};
+ghost use Rattle.clk_packet.specs.declared.fault.Fault.TheVariants.{Memory};
+ghost use Rattle.clk_tree.specs.Shares.{AreTreesOf};
+ghost use Rattle.clk_router.specs.inside.Parts.{CanStand};
+
+use crate::parts::Parts;
+use crate::past::Past;
+use crate::queue_state::QueueState;
+use clk_packet::{Fault, Offered, Packet};
+use clk_sched::{Departure, Keeps, Tree, Visit, runs_conserve_packets, runs_go_on};
+use clk_tree::Plan;
+use std::alloc::Global;
+use std::marker::Model;
+
+/// From which moment on, in ticks, none is taken.
+const END_OF_MOMENTS: u64 = 1 << 44;
+
+/// From which number of its pulls on a device isn't pulled.
+const END_OF_PULLS: u64 = 1 << 63;
+
+/// From which number of packets on, that a device kept, it takes no more.
+const END_OF_PACKETS: u64 = 1 << 63;
+
+/// The senders, the queues and the devices of a plan, and what they hold. What is said of it is said of all events so far: packets that
+/// were offered, and pulls of devices.
+#[derive(Drop)]
+pub struct Router {
+    parts: Parts,
+    past: Past,
+}
+
+impl Model for Router {
+    ghost use Rattle.clk_router.specs.Course.{Course};
+    ghost use Rattle.clk_router.specs.Stored.{course_code};
+    ghost use Rattle.clk_router.specs.inside.Parts.{Stand};
+
+    ghost Value = { Course };
+
+    ghost coded = { course_code };
+
+    ghost view = { λ r. record { setup = r.past.setup; events = r.past.events; keeps = r.parts.keeps } };
+
+    ghost invariant = { λ r. Stand r.past.setup r.past.events r.parts };
+}
+
+impl Router {
+    ghost use Rattle.std.specs.Prelude.{◌≡◌, ◌+◌, ◌<◌, ◌≤◌, List, ◌∷◌, [], Some, true, false, map, length, IfOk, OnErr, IsOk, IsOkUnless};
+    ghost use Rattle.clk_packet.specs.declared.fault.Fault.TheVariants.{Memory};
+    ghost use Rattle.clk_packet.specs.Limits.{most_elements};
+    ghost use Rattle.clk_sched.specs.declared.visit.Visit.{Visit};
+    ghost use Rattle.clk_packet.specs.Limits.{most_capacity};
+    ghost use Rattle.clk_sched.specs.Kinds.{keeps_nothing};
+    ghost use Rattle.clk_sched.specs.Limits.{end_of_moments};
+    ghost use Rattle.clk_sched.specs.Results.{emitted};
+    ghost use Rattle.clk_packet.specs.Lists.{AreRising};
+    ghost use Rattle.clk_router.specs.Course.{after, events_of, sender_at, accepted_at, evicted_at, emitted_at, moment_at, CanOffer, CanPull, CanClose, IsOpened, IsPulled, IsClosed, IsQueueState};
+    ghost use Rattle.clk_router.specs.Events.{offered, sender_numbers, CanHappen, closing_pulls, logs_of};
+
+    /// The router of a plan, before anything has happened, whose devices keep this of the past.
+    ///
+    /// # Errors
+    ///
+    /// Fault 1 where memory is refused.
+    pub fn open(alloc: Global, plan: &Plan, keeps: Keeps) -> Result<Router, Fault>
+        ensures opened { IfOk result (IsOpened plan.now keeps) }
+        ensures fault { IsOkUnless result Fault.Memory }
+    {
+        // Its trees share out its queues, by this law.
+        plan.trees_share_queues();
+        let trees = trees_of(alloc, plan)?;
+        let (queues, senders) = (plan.queues(), plan.senders());
+        let parts = Parts::new(alloc, trees, queues, senders, keeps)?;
+        let mut past = Past::none();
+        past.begin(plan, &parts);
+        Ok(Router { parts, past })
+    }
+
+    /// The numbers of its senders, which rise. What is said of a sender by its place speaks of its place here.
+    pub fn senders(&self) -> &[u16]
+        ensures numbers { result.now ≡ sender_numbers self.now.setup }
+        ensures rising { AreRising result.now }
+    {
+        self.parts.numbers.as_slice()
+    }
+
+    /// How many devices it has.
+    pub fn devices(&self) -> usize
+        ensures count { result ≡ length self.now.setup.trees }
+        ensures some { 1 ≤ result }
+        ensures few { result ≤ most_elements }
+    {
+        self.parts.devices.len()
+    }
+
+    /// All that has happened can happen over what it was made over: a law, which does nothing.
+    pub fn has_happened(&self)
+        ensures { CanHappen self.now.setup self.now.events }
+    {
+        let _ = &self.parts;
+    }
+
+    /// Whether the sender at this place can offer a packet: it is there, its packet's number has 32 bits, and its device takes one more.
+    pub fn can_offer(&self, place: usize) -> bool
+        ensures yes { result ≡ true → CanOffer self.now place }
+        ensures no { result ≡ false → CanOffer self.now place → ⊥ }
+    {
+        let Some(sender) = self.parts.senders.get(place) else {
+            return false;
+        };
+        if sender.sent < u32::MAX {
+            let device = self.parts.paths[usize::from(sender.queue)];
+            return self.parts.devices[usize::from(device)].kept < END_OF_PACKETS;
+        }
+        false
+    }
+
+    /// The sender at this place offers its next packet, of this length in bytes, to its queue. Answers the packet, and what became of it.
+    pub fn offer(&mut self, place: usize, length: u16) -> (Packet, Offered)
+        requires can { CanOffer self.old place }
+        requires has_length { 1 ≤ length }
+        ensures sender { sender_at self.old.setup place ≡ Some result.0.sender }
+        ensures length { result.0.length ≡ length }
+        ensures goes_on { self.new ≡ after self.old (offered result.0 result.1 ∷ []) }
+    {
+        let (packet, outcome) = self.parts.offer(place, length);
+        self.past.offered(&packet, &outcome);
+        (packet, outcome)
+    }
+
+    /// Whether a device can be pulled at this moment: it is there, and neither moments nor its pulls are at their end.
+    pub fn can_pull(&self, device: u16, moment: u64) -> bool
+        ensures yes { result ≡ true → CanPull self.now device moment }
+        ensures no { result ≡ false → CanPull self.now device moment → ⊥ }
+    {
+        let Some(its) = self.parts.devices.get(usize::from(device)) else {
+            return false;
+        };
+        if moment >= END_OF_MOMENTS {
+            return false;
+        }
+        its.session.pulls() < END_OF_PULLS
+    }
+
+    /// Pulls a device once, at this moment in ticks or, where that is later, at the greatest so far.
+    ///
+    /// # Errors
+    ///
+    /// Fault 1 where memory is refused to what the devices keep, which never comes where they keep nothing. Then nothing has happened.
+    pub fn pull(&mut self, device: u16, moment: u64) -> Result<Option<Packet>, Fault>
+        requires can { CanPull self.old device moment }
+        ensures pulled { IfOk result (IsPulled self.old self.new device moment) }
+        ensures fault { IsOkUnless result Fault.Memory }
+        ensures unkept { self.old.keeps ≡ keeps_nothing → IsOk result }
+        ensures unchanged { OnErr result (self.new ≡ self.old) }
+    {
+        let got = self.parts.pull(device, moment)?;
+        self.past
+            .pulled(&device, &moment, &self.parts.devices[usize::from(device)]);
+        Ok(got)
+    }
+
+    /// Closes a device: pulls it one tick apart and the first time one tick after the greater of this moment and the greatest so far,
+    /// until all that was accepted at it was evicted or came out. Answers what came out in the closing.
+    ///
+    /// # Errors
+    ///
+    /// Fault 1 where memory is refused. Then it holds the pulls that were made.
+    pub fn close(
+        &mut self,
+        alloc: Global,
+        device: u16,
+        moment: u64,
+    ) -> Result<Vec<Departure>, Fault>
+        requires can { CanClose self.old device moment }
+        ensures closed { IfOk result (λ departures. IsClosed self.old self.new device moment departures.items) }
+        ensures stopped { OnErr result ((made : List (List Visit)) × (self.new ≡ after self.old (closing_pulls device moment (events_of self.old device) made))) }
+        ensures fault { IsOkUnless result Fault.Memory }
+    {
+        // The empty log is a run, and what queues and heads hold is what is left, by these laws, which do nothing.
+        runs_go_on();
+        runs_conserve_packets();
+        let departures = self.parts.close(alloc, device, moment);
+        self.past
+            .closed(&device, &moment, &self.parts.devices[usize::from(device)]);
+        departures
+    }
+
+    /// The greatest moment at which a device was pulled, in ticks, and 0 before its first pull.
+    pub fn moment(&self, device: u16) -> u64
+        requires { device < length self.now.setup.trees }
+        ensures moment { result ≡ moment_at self.now device }
+        ensures limit { result < end_of_moments }
+    {
+        self.parts.devices[usize::from(device)].session.now()
+    }
+
+    /// How many queues it has.
+    pub fn queues(&self) -> usize
+        ensures count { result ≡ length self.now.setup.queues }
+        ensures few { result ≤ most_elements }
+    {
+        self.parts.paths.len()
+    }
+
+    /// A queue, as it is now.
+    pub fn queue(&self, number: u16) -> QueueState
+        requires { number < length self.now.setup.queues }
+        ensures state { IsQueueState self.now number result }
+        ensures capacity { result.capacity ≤ most_capacity }
+        ensures held { result.held ≤ result.capacity }
+    {
+        let number = usize::from(number);
+        let ring = &self.parts.queues.rings[number];
+        QueueState {
+            kind: ring.kind(),
+            capacity: ring.capacity(),
+            held: ring.len(),
+            device: self.parts.paths[number],
+        }
+    }
+
+    /// How many packets are left for a device: accepted at it, and neither evicted nor come out.
+    pub fn left(&self, device: u16) -> u64
+        requires { device < length self.now.setup.trees }
+        ensures { accepted_at self.now device ≡ evicted_at self.now device + emitted_at self.now device + result }
+    {
+        // The empty log is a run, and what queues and heads hold is what is left, by these laws, which do nothing.
+        runs_go_on();
+        runs_conserve_packets();
+        self.parts.left(device)
+    }
+
+    /// What its devices kept: the visits of each, and the packets that came out of it, in order. Takes memory for two lists of as many
+    /// members as there are devices.
+    ///
+    /// # Errors
+    ///
+    /// Fault 1 where memory is refused.
+    pub fn into_kept(self, alloc: Global) -> Result<(Vec<Vec<Visit>>, Vec<Vec<Packet>>), Fault>
+        ensures visits { IfOk result (λ kept. self.keeps.visits ≡ true → map (λ l. l.items) kept.0.items ≡ logs_of self.setup self.events) }
+        ensures packets { IfOk result (λ kept. self.keeps.packets ≡ true → map (λ l. l.items) kept.1.items ≡ map emitted (logs_of self.setup self.events)) }
+        ensures fault { IsOkUnless result Fault.Memory }
+    {
+        self.parts.into_kept(alloc)
+    }
+}
+
+/// The tree of each device of a plan. Fault 1 where memory is refused.
+fn trees_of(alloc: Global, plan: &Plan) -> Result<Vec<Tree>, Fault>
+    ensures trees { IfOk result (λ trees. AreTreesOf plan.now trees.items) }
+    ensures each { IfOk result (λ trees. AllByRecursion CanStand trees.items) }
+    ensures some { IfOk result (λ trees. 1 ≤ length trees.items) }
+    ensures few { IfOk result (λ trees. length trees.items ≤ most_elements) }
+    ensures fault { IsOkUnless result Memory }
+{
+    let mut trees = Vec::new(alloc);
+    for device in 0..plan.devices() {
+        let tree = plan.tree(alloc, device)?;
+        // A law, which does nothing.
+        tree.schedulers_are_sound();
+        trees.push(tree)?;
+    }
+    Ok(trees)
+}

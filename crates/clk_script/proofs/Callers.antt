@@ -1,2 +1,0 @@
--- The lemmas that crates above may cite, and no others.
-pub mod Written

@@ -1,6 +1,0 @@
-use Rattle.std.proofs.Common.{◌≡◌, map}
-use Rattle.clk_script.specs.inside.Router.{device_made}
-use Rattle.clk_script.proofs.devices.devices_of.Given as goal
-
-abbrev pub invariant-loop-tree : goal.invariant-loop-tree
-invariant-loop-tree l = l.devices.items ≡ map (device_made l.fn.visits) l.yielded

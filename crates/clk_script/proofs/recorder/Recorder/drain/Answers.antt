@@ -1,0 +1,12 @@
+use Rattle.std.proofs.Common.{refl}
+use Rattle.clk_script.proofs.RecorderLemmas.{StaysElsewhere-closed, LeadsOnByDrain-closed}
+use Rattle.clk_script.proofs.recorder.Recorder.drain.Goals as goal
+
+pub returns-clause-leads : goal.returns-clause-leads
+returns-clause-leads c =
+    λ setup events at.
+    LeadsOnByDrain-closed c.args.self.now (record c.args.self.now { router = c.close.new.self }) c.args.device c.args.moment c.in_ok-departures.departures.items c.in_ok-departures.ensures.closed setup events at c.has_happened.ensures refl refl
+
+pub returns-clause-elsewhere : goal.returns-clause-elsewhere
+returns-clause-elsewhere c =
+    StaysElsewhere-closed c.args.self.now (record c.args.self.now { router = c.close.new.self }) c.args.device c.args.moment c.in_ok-departures.departures.items c.in_ok-departures.ensures.closed

@@ -1,0 +1,19 @@
+use Rattle.std.proofs.Common.{◌++◌, ◌∷◌, [], sym, subst}
+use Rattle.clk_router.specs.Events.{offered}
+use Rattle.clk_script.specs.declared.recorder.Recorder.{Recorder}
+use Rattle.clk_script.specs.inside.Recorder.{IsAt}
+use Rattle.clk_script.proofs.RecorderLemmas.{can-offer, IsAt-offered}
+use Rattle.clk_script.proofs.recorder.Recorder.send.Goals as goal
+
+pub offer-outcome-requires-clause-can : goal.offer-outcome-requires-clause-can
+offer-outcome-requires-clause-can c = can-offer c.args.self.now c.requires.ready c.args.place c.requires.is_there
+
+pub returns-clause-leads : goal.returns-clause-leads
+returns-clause-leads c =
+    let old = c.args.self.now in
+    let p = c.offer-outcome.result.0 in
+    let outcome = c.offer-outcome.result.1 in
+    let after : Recorder = record old { router = c.offer-outcome.new.self; tallies = c.note.new.tallies; evicted = c.keep_evicted.new.self.evicted } in
+    λ setup events at.
+    subst (λ (r : Recorder). IsAt setup (events ++ offered p outcome ∷ []) r) (sym c.in_ok-keep_evicted.ensures.kept)
+    (IsAt-offered setup events old after p outcome at c.offer-outcome.ensures.goes_on c.has_happened.ensures c.in_ok-note.ensures.kept c.in_ok-keep_evicted.ensures.evicted)

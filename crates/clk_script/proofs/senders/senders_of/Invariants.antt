@@ -1,6 +1,0 @@
-use Rattle.std.proofs.Common.{◌≡◌, map, take}
-use Rattle.clk_script.specs.inside.Router.{sender_made}
-use Rattle.clk_script.proofs.senders.senders_of.Given as goal
-
-abbrev pub invariant-loop-spec : goal.invariant-loop-spec
-invariant-loop-spec l = l.senders.items ≡ map sender_made (take l.spec-index l.specs)

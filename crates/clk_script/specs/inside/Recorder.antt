@@ -1,0 +1,158 @@
+-- What a recorder knows of a router, in the words of the definitions.
+use Rattle.std.specs.Prelude.{◌≡◌, ℕ, Bool, ◌<◌, ◌≤◌, List, [], ◌∷◌, ◌++◌, length, map, true, false, nat_lt, if◌then◌else◌, ◌==◌, ⊤, Option, Some, slice_get}
+use Rattle.std.specs.List.{list_any, flat_map, filter_map, cons_option, AllByRecursion}
+use Rattle.clk_packet.specs.declared.packet.Packet.{Packet}
+use Rattle.clk_packet.specs.declared.packet.Offered.{Offered}
+use Rattle.clk_packet.specs.declared.packet.Offered.TheVariants.{Accepted, Refused, Evicted}
+use Rattle.clk_packet.specs.declared.tally.Tally.{Tally}
+use Rattle.clk_packet.specs.Limits.{most_elements}
+use Rattle.clk_packet.specs.Lists.{of_sender, AreRising}
+use Rattle.clk_report.specs.Devices.{lists_of}
+use Rattle.clk_sched.specs.declared.session.departures.Departure.{Departure}
+use Rattle.clk_sched.specs.declared.visit.Visit.{Visit}
+use Rattle.clk_sched.specs.Log.{visits_of, result_of}
+use Rattle.clk_sched.specs.Results.{emitted}
+use Rattle.clk_router.specs.Course.{Course, events_of}
+use Rattle.clk_router.specs.Events.{Setup, sender_numbers, Event, pulled, events_at, evicted_in, tally_after, logs_of, CanHappen, Closes}
+use Rattle.clk_script.specs.declared.past.Past.{Past}
+use Rattle.clk_script.specs.declared.recorder.Recorder.{Recorder}
+use Rattle.clk_script.specs.declared.script.Command.{Command}
+use Rattle.clk_script.specs.declared.script.Command.TheVariants.{Send, Pull}
+use Rattle.clk_script.specs.declared.script.Line.{Line}
+use Rattle.clk_script.specs.declared.script.Line.TheVariants as line
+use Rattle.clk_script.specs.Script.{Names, most_lines, most_moment}
+use Rattle.clk_script.specs.Meaning.{names_of, command_of, has_several, given_text, closing_text, CloseFirst}
+
+-- the tally of a sender that has sent nothing
+abbrev pub tally_made : ℕ → Tally
+tally_made sender = record { sender = sender; accepted = []; refused = []; evicted = [] }
+
+-- a tally once a packet, where it is its sender's, was accepted, refused, and put out
+abbrev pub taken_in : Packet → Tally → Tally
+taken_in p t = record { sender = t.sender; accepted = t.accepted ++ of_sender t.sender (p ∷ []); refused = t.refused; evicted = t.evicted }
+
+abbrev pub turned_away : Packet → Tally → Tally
+turned_away p t = record { sender = t.sender; accepted = t.accepted; refused = t.refused ++ of_sender t.sender (p ∷ []); evicted = t.evicted }
+
+abbrev pub put_out : Packet → Tally → Tally
+put_out p t = record { sender = t.sender; accepted = t.accepted; refused = t.refused; evicted = t.evicted ++ of_sender t.sender (p ∷ []) }
+
+-- a tally once a packet was offered, by its sender or another, with this outcome
+abbrev pub noted : Packet → Offered → Tally → Tally
+noted p Accepted t = taken_in p t
+noted p (Refused q) t = turned_away p t
+noted p (Evicted front) t = put_out front (taken_in p t)
+
+abbrev pub tally_sender : Tally → ℕ
+tally_sender t = t.sender
+
+abbrev pub numbers_in : List Tally → List ℕ
+numbers_in tallies = map tally_sender tallies
+
+-- a tally stands at this place
+abbrev pub IsPlace : List Tally → ℕ → Type 0
+IsPlace tallies place = place < length tallies
+
+-- the tally of this sender stands at this place
+abbrev pub IsPlaceOf : List Tally → ℕ → ℕ → Type 0
+IsPlaceOf tallies sender place = slice_get (numbers_in tallies) place ≡ Some sender
+
+-- what a script may name over senders of these numbers, and so many devices
+abbrev pub named_by : List ℕ → ℕ → Names
+named_by numbers devices = record { senders = numbers; devices = devices }
+
+abbrev pub names_in : Recorder → Names
+names_in r = names_of r.router.setup
+
+-- The recorder is where these events lead over a setup.
+pub record IsAt (setup : Setup) (events : List Event) (r : Recorder) : Type 0 where
+  pub can_happen : CanHappen setup events
+  pub setup_is : r.router.setup ≡ setup
+  pub events_are : r.router.events ≡ events
+  pub tallies : r.tallies.items ≡ map (tally_after events) (sender_numbers setup)
+  pub evicted : r.evicted.items ≡ filter_map evicted_in events
+
+-- Nothing has happened over such a setup, which has a device, not too many, and senders by rising numbers.
+pub record Starts (setup : Setup) (r : Recorder) : Type 0 where
+  pub some : 1 ≤ length setup.trees
+  pub few : length setup.trees ≤ most_elements
+  pub rising : AreRising (sender_numbers setup)
+  pub leads : IsAt setup [] r
+  pub given : r.given.items ≡ []
+  pub keeps : r.router.keeps.packets ≡ true
+
+-- a command whose numbers are those of a script
+abbrev pub IsReadable : Command → Type 0
+IsReadable (Send sender length) = 1 ≤ length
+IsReadable (Pull device moment) = moment ≤ most_moment
+
+-- the numbers of a line are those of a script
+abbrev pub IsReadableLine : Line → Type 0
+IsReadableLine line.Blank = ⊤
+IsReadableLine line.Malformed = ⊤
+IsReadableLine (line.Command command) = IsReadable command
+IsReadableLine (line.Drain moment) = moment ≤ most_moment
+
+-- a command that names what is there
+abbrev pub IsSound : Names → Command → Type 0
+IsSound names (Send sender length) = (list_any (λ s. s == sender) names.senders ≡ true) × (1 ≤ length)
+IsSound names (Pull device moment) = device < names.devices
+
+-- What has happened is less than what a script may ask for, and the tallies stand by rising numbers of the senders.
+pub record IsReady (r : Recorder) : Type 0 where
+  pub few : length r.router.events ≤ most_lines
+  pub readable : AllByRecursion IsReadable (map command_of r.router.events)
+  pub alike : numbers_in r.tallies.items ≡ sender_numbers r.router.setup
+  pub rising : AreRising (numbers_in r.tallies.items)
+
+-- These are the logs of the devices, where visits are kept.
+abbrev pub AreLogs : Bool → Past → List (List Visit) → Type 0
+AreLogs visits past logs = visits ≡ true → lists_of past.logs.items ≡ logs
+
+-- All that a router did, as it was recorded.
+pub record IsPastOf (r : Recorder) (past : Past) : Type 0 where
+  pub logs : AreLogs r.router.keeps.visits past (logs_of r.router.setup r.router.events)
+  pub came_out : lists_of past.came_out.items ≡ map emitted (logs_of r.router.setup r.router.events)
+  pub given : past.given.items ≡ r.given.items
+  pub put_out : past.put_out.items ≡ r.evicted.items
+  pub tallies : past.tallies.items ≡ r.tallies.items
+
+-- One more pull of a device, at a moment that was handed in, led on from these events to this result.
+pub record LeadsOnByPull (setup : Setup) (new : Recorder) (device moment : ℕ) (got : Option Packet) (events : List Event) : Type 0 where
+  pub visits : List Visit
+  pub result : result_of (visits_of 0 visits) ≡ got
+  pub leads : IsAt setup (events ++ pulled device moment visits ∷ []) new
+
+-- what a pull gave is kept where there are several devices
+abbrev pub given_kept : Recorder → Option Packet → List Packet
+given_kept r got = if nat_lt 1 (length r.router.setup.trees) then r.given.items ++ cons_option got [] else r.given.items
+
+-- nothing of a recorder changes but what pulls gave
+abbrev pub ChangesGiven : Recorder → Recorder → Type 0
+ChangesGiven old new = new ≡ record old { given = new.given }
+
+-- the packets that were put out, with that of an outcome
+abbrev pub evicted_kept : Offered → List Packet → List Packet
+evicted_kept (Evicted front) fronts = fronts ++ front ∷ []
+evicted_kept outcome fronts = fronts
+
+-- the line of a packet that came out in a closing
+abbrev pub departure_text : Bool → ℕ → Departure → List ℕ
+departure_text several device departure = given_text several device departure.moment (Some departure.packet)
+
+-- The closing of a device from a moment on led on from these events, and these packets came out.
+pub record LeadsOnByDrain (setup : Setup) (new : Recorder) (device moment : ℕ) (events : List Event) (departures : List Departure) : Type 0 where
+  pub last : List Event
+  pub closes : Closes device moment (events_at setup device events) last
+  pub lines : flat_map (closing_text (has_several setup)) last ≡ flat_map (departure_text (has_several setup) device) departures
+  pub leads : IsAt setup (events ++ last) new
+
+-- Nothing happened at other devices than this one.
+abbrev pub StaysElsewhere : ℕ → Course → Course → Type 0
+StaysElsewhere device old new = (k : ℕ) → (device == k) ≡ false → events_of new k ≡ events_of old k
+
+-- The closing of the first so many devices from a moment on led on from these events.
+pub record LeadsOnByClosing (setup : Setup) (new : Recorder) (moment devices : ℕ) (events : List Event) : Type 0 where
+  pub closed : List Event
+  pub closes : CloseFirst setup moment devices events closed
+  pub leads : IsAt setup (events ++ closed) new

@@ -1,0 +1,160 @@
+//! A router, and what the answer to a script needs of all that it did.
+
+use crate::past::Past;
+use crate::tallies::{note, tallies_of};
+use clk_packet::{Fault, Offered, Packet, Tally};
+use clk_router::Router;
+use clk_sched::{Departure, Keeps};
+use clk_tree::Plan;
+use std::alloc::Global;
+
+/// A router, with the packets that its answer tells.
+#[derive(Drop)]
+pub struct Recorder {
+    pub router: Router,
+    /// What became of the packets of each sender, at its place.
+    tallies: Vec<Tally>,
+    /// Where there are several devices, the packets that pulls gave, closing pulls aside, in order. A device alone has them itself.
+    given: Vec<Packet>,
+    /// The packets that queues put out for later ones, in order.
+    evicted: Vec<Packet>,
+}
+
+impl Recorder {
+    ghost use Rattle.std.specs.Prelude.{◌≡◌, ◌++◌, ◌∷◌, ◌≤◌, [], Some, true, IfOk, OnOk, IsOkUnless};
+    ghost use Rattle.clk_packet.specs.declared.fault.Fault.TheVariants.{Memory};
+    ghost use Rattle.clk_router.specs.Course.{sender_at, CanPull, CanClose, IsOpened};
+    ghost use Rattle.clk_router.specs.Events.{Setup, offered};
+    ghost use Rattle.clk_script.specs.inside.Recorder.{evicted_kept, given_kept, IsAt, IsPlace, IsReady, IsPastOf, LeadsOnByPull, LeadsOnByDrain, Starts, StaysElsewhere, ChangesGiven};
+
+    /// A recorder of the router of a plan, before anything has happened, whose devices will keep their visits or won't. Fault 1 where
+    /// memory is refused.
+    pub fn new(alloc: Global, plan: &Plan, visits: bool) -> Result<Recorder, Fault>
+        ensures opened { IfOk result (λ r. IsOpened plan.now (record { visits = visits; packets = true }) r.router) }
+        ensures starts { IfOk result (λ r. Starts r.router.setup r) }
+        ensures fault { IsOkUnless result Fault.Memory }
+    {
+        let keeps = Keeps {
+            visits,
+            packets: true,
+        };
+        let router = Router::open(alloc, plan, keeps)?;
+        // A law, which does nothing.
+        router.has_happened();
+        let tallies = tallies_of(alloc, router.senders())?;
+        let _ = router.devices();
+        Ok(Recorder {
+            router,
+            tallies,
+            given: Vec::new(alloc),
+            evicted: Vec::new(alloc),
+        })
+    }
+
+    /// The sender at this place offers its next packet, of this length in bytes, to its queue. Fault 1 where memory is refused.
+    pub fn send(&mut self, place: usize, length: u16) -> Result<(Packet, Offered), Fault>
+        requires ready { IsReady self.old }
+        requires is_there { IsPlace self.old.tallies.items place }
+        requires has_length { 1 ≤ length }
+        ensures sender { IfOk result (λ r. sender_at self.old.router.setup place ≡ Some r.0.sender) }
+        ensures length { IfOk result (λ r. r.0.length ≡ length) }
+        ensures leads { IfOk result (λ r. (setup : Setup) (events : _) → IsAt setup events self.old → IsAt setup (events ++ offered r.0 r.1 ∷ []) self.new) }
+        ensures given { OnOk result (self.new.given ≡ self.old.given) }
+        ensures keeps { OnOk result (self.new.router.keeps ≡ self.old.router.keeps) }
+        ensures fault { IsOkUnless result Fault.Memory }
+    {
+        let (packet, outcome) = self.router.offer(place, length);
+        // A law, which does nothing.
+        self.router.has_happened();
+        note(
+            &mut self.tallies,
+            self.router.senders(),
+            place,
+            packet,
+            outcome,
+        )?;
+        self.keep_evicted(outcome)?;
+        Ok((packet, outcome))
+    }
+
+    /// Keeps a packet that was put out. Fault 1 where memory is refused.
+    #[inline(always)]
+    fn keep_evicted(&mut self, outcome: Offered) -> Result<(), Fault>
+        ensures kept { OnOk result (self.new ≡ record self.old { evicted = self.new.evicted }) }
+        ensures evicted { OnOk result (self.new.evicted.items ≡ evicted_kept outcome self.old.evicted.items) }
+        ensures fault { IsOkUnless result Fault.Memory }
+    {
+        if let Offered::Evicted(front) = outcome {
+            self.evicted.push(front)?;
+        }
+        Ok(())
+    }
+
+    /// Pulls a device once, at this moment in ticks or, where that is later, at the greatest so far. Fault 1 where memory is refused.
+    pub fn pull(&mut self, device: u16, moment: u64) -> Result<Option<Packet>, Fault>
+        requires can { CanPull self.old.router device moment }
+        ensures leads { IfOk result (λ got. (setup : Setup) (events : _) → IsAt setup events self.old → LeadsOnByPull setup self.new device moment got events) }
+        ensures given { IfOk result (λ got. self.new.given.items ≡ given_kept self.old got) }
+        ensures keeps { OnOk result (self.new.router.keeps ≡ self.old.router.keeps) }
+        ensures fault { IsOkUnless result Fault.Memory }
+    {
+        let got = self.router.pull(device, moment)?;
+        // A law, which does nothing.
+        self.router.has_happened();
+        self.keep(got)?;
+        Ok(got)
+    }
+
+    /// Keeps what a pull gave, where there are several devices. Fault 1 where memory is refused.
+    #[inline(always)]
+    fn keep(&mut self, got: Option<Packet>) -> Result<(), Fault>
+        ensures given { OnOk result (self.new.given.items ≡ given_kept self.old got) }
+        ensures others { OnOk result (ChangesGiven self.old self.new) }
+        ensures fault { IsOkUnless result Fault.Memory }
+    {
+        if self.router.devices() > 1 {
+            if let Some(packet) = got {
+                self.given.push(packet)?;
+            }
+        }
+        Ok(())
+    }
+
+    /// Pulls a device, one tick apart and the first time one tick after the greater of this moment and the greatest so far, until all
+    /// packets that are left for it in queues and heads came out. Answers these. Fault 1 where memory is refused.
+    pub fn drain(
+        &mut self,
+        alloc: Global,
+        device: u16,
+        moment: u64,
+    ) -> Result<Vec<Departure>, Fault>
+        requires can { CanClose self.old.router device moment }
+        ensures leads { IfOk result (λ departures. (setup : Setup) (events : _) → IsAt setup events self.old → LeadsOnByDrain setup self.new device moment events departures.items) }
+        ensures elsewhere { OnOk result (StaysElsewhere device self.old.router self.new.router) }
+        ensures setup { OnOk result (self.new.router.setup ≡ self.old.router.setup) }
+        ensures keeps { OnOk result (self.new.router.keeps ≡ self.old.router.keeps) }
+        ensures given { OnOk result (self.new.given ≡ self.old.given) }
+        ensures fault { IsOkUnless result Fault.Memory }
+    {
+        let departures = self.router.close(alloc, device, moment)?;
+        // A law, which does nothing.
+        self.router.has_happened();
+        Ok(departures)
+    }
+
+    /// All that the router did. Fault 1 where memory is refused to the lists of the devices.
+    pub fn into_past(self, alloc: Global) -> Result<Past, Fault>
+        requires { self.router.keeps.packets ≡ true }
+        ensures past { IfOk result (IsPastOf self) }
+        ensures fault { IsOkUnless result Fault.Memory }
+    {
+        let (logs, came_out) = self.router.into_kept(alloc)?;
+        Ok(Past {
+            logs,
+            came_out,
+            given: self.given,
+            put_out: self.evicted,
+            tallies: self.tallies,
+        })
+    }
+}
