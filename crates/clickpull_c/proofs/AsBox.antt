@@ -1,0 +1,21 @@
+-- A handle and its parts own what a box of a router owns.
+use mir.Syntax.{impl, tnil, dnil}
+use mathlib.Core.List.{[]}
+use denote.Signature.{Slot, plain}
+use Rattle.std_alloc.proofs.BoxSteps.Form.{Bx}
+use Rattle.std_heap.specs.contracts.Global as Heap
+use Rattle.std_heap.specs.contracts.GlobalAllocator.TheImpl.{ghosts, dict}
+use Rattle.std_heap.proofs.Global.TheLaws as heap
+use Rattle.clk_router.specs.contracts.counting.CountingRouter as Router
+use Rattle.clk_router.proofs.counting.CountingRouter.TheLaws as router
+use Rattle.clickpull_c.specs.contracts.handle.parts.Parts as Parts
+use Rattle.clickpull_c.specs.contracts.handle.Handle as Handle
+
+abbrev pub E : Bx
+E = record { row = Router.the_row; laws = router.the_row_laws; al = record { row = Heap.the_row; laws = heap.the_row_laws; g = ghosts; d = dict; drops = impl [] tnil dnil } }
+
+abbrev pub FromParts : Slot 0
+FromParts = plain (λ _. Parts.the_row Router.the_row Heap.the_row ghosts)
+
+abbrev pub FromHandle : Slot 0
+FromHandle = plain (λ _. Handle.the_row)

@@ -1,0 +1,10 @@
+use Rattle.std.proofs.Common.{◌<◌, inl, refl, subst, arith}
+use Rattle.clk_router.specs.Course.{Course}
+use Rattle.clickpull_c.specs.Tells.{TellsLeft}
+use Rattle.clickpull_c.proofs.telling.clk_router_left.Goals as goal
+
+pub returns-clause-answer : goal.returns-clause-answer
+returns-clause-answer c =
+    let low : c.from.result < c.devices.result = grind arith in
+    inl (subst (λ (k : Course). TellsLeft k c.args.device c.left.result 0) c.get_mut-router.ensures.value
+    (record { answers = refl; there = omega (arith, low, c.from.ensures, c.devices.ensures.count); filled_is = c.left.ensures }))

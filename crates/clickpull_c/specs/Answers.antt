@@ -1,0 +1,41 @@
+-- When calls are refused, and what they answer then.
+use Rattle.std.specs.Prelude.{◌≡◌, ℕ, ◌<◌, ◌≤◌, Some}
+use Rattle.clk_router.specs.Course.{Course, sender_at, CanOffer, CanPull}
+use Rattle.clickpull_c.specs.Counts.{device_count, sender_count, queue_count}
+use Rattle.clickpull_c.specs.declared.statuses.TheConstants.{UNKNOWN_SENDER, UNKNOWN_DEVICE, UNKNOWN_QUEUE, NO_LENGTH, AT_END}
+
+-- no sender has this number
+abbrev pub IsUnknown : Course → ℕ → Type 0
+IsUnknown c sender = (place : ℕ) → sender_at c.setup place ≡ Some sender → ⊥
+
+-- a sender has this number, and can't offer another packet
+pub record HasEnded (c : Course) (sender : ℕ) : Type 0 where
+  pub place : ℕ
+  pub is_at : sender_at c.setup place ≡ Some sender
+  pub ended : CanOffer c place → ⊥
+
+-- An offer is refused: it has no length; or else its sender is unknown; or else its sender can't offer another packet.
+pub data RefusesOffer (c : Course) (sender length status : ℕ) : Type 0 where
+  no_length : status ≡ NO_LENGTH → length ≡ 0 → RefusesOffer c sender length status
+  unknown_sender : status ≡ UNKNOWN_SENDER → 1 ≤ length → IsUnknown c sender → RefusesOffer c sender length status
+  at_end : status ≡ AT_END → 1 ≤ length → HasEnded c sender → RefusesOffer c sender length status
+
+-- A pull is refused: the device is unknown; or else it can't be pulled at this moment.
+pub data RefusesPull (c : Course) (device moment status : ℕ) : Type 0 where
+  unknown_device : status ≡ UNKNOWN_DEVICE → device_count c ≤ device → RefusesPull c device moment status
+  at_end : status ≡ AT_END → device < device_count c → (CanPull c device moment → ⊥) → RefusesPull c device moment status
+
+-- A call is refused, since there is no such device.
+pub record HasNoDevice (c : Course) (device status : ℕ) : Type 0 where
+  pub answers : status ≡ UNKNOWN_DEVICE
+  pub missing : device_count c ≤ device
+
+-- A call is refused, since there is no sender at this place.
+pub record HasNoPlace (c : Course) (place status : ℕ) : Type 0 where
+  pub answers : status ≡ UNKNOWN_SENDER
+  pub missing : sender_count c ≤ place
+
+-- A call is refused, since there is no such queue.
+pub record HasNoQueue (c : Course) (number status : ℕ) : Type 0 where
+  pub answers : status ≡ UNKNOWN_QUEUE
+  pub missing : queue_count c ≤ number

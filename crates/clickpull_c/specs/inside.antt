@@ -1,0 +1,5 @@
+-- What the code's own parts say to one another.
+pub mod Follows
+pub mod Handle
+pub mod Place
+pub mod SoFar

@@ -1,0 +1,22 @@
+-- What pulls that go on have done so far.
+use Rattle.std.specs.Prelude.{◌≡◌, ℕ, ◌≤◌, List, length, take, drop}
+use Rattle.clk_router.specs.Course.{Course}
+use Rattle.clickpull_c.specs.declared.values.CPacket.{CPacket}
+use Rattle.clickpull_c.specs.declared.values.CDeparture.{CDeparture}
+use Rattle.clickpull_c.specs.Chains.{IsChain}
+use Rattle.clickpull_c.specs.Calls.{GivesOne, DrainPull, PullsNext, departures_of}
+
+-- so many pulls at a moment gave a packet each
+pub record GaveSoFar (old new : Course) (device moment : ℕ) (before filled : List CPacket) (given : ℕ) : Type 0 where
+  pub within : given ≤ length before
+  pub gave : IsChain (GivesOne device moment) old (take given filled) new
+  pub others : drop given filled ≡ drop given before
+
+-- so many pulls of a drain gave so many packets
+pub record DrainedSoFar (old new : Course) (device : ℕ) (before filled : List CDeparture) (made given : ℕ) : Type 0 where
+  pub pulls : List DrainPull
+  pub chain : IsChain (PullsNext device) old pulls new
+  pub count : length pulls ≡ made
+  pub within : given ≤ length before
+  pub gave : take given filled ≡ departures_of pulls
+  pub others : drop given filled ≡ drop given before

@@ -1,0 +1,15 @@
+//! A router of pull schedulers for C: a static library of one export a call.
+// What C users call are the functions of include/clickpull.h, which test their pointers, and hand on to these.
+#![tactic(auto)]
+
+mod draining;
+mod handle;
+mod offering;
+mod opening;
+mod pulling;
+mod statuses;
+mod telling;
+mod values;
+
+pub use handle::{Handle, Place};
+pub use values::{CAccount, CDeparture, CFault, COffer, COffered, CPacket, CQueue, CTotal};

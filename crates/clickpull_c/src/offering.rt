@@ -1,0 +1,92 @@
+//! Offers of packets.
+
+ghost use Rattle.std.specs.Prelude.{◌≡◌, ◌≤◌, ◌⊎◌, length, IfOk, IfErr, OnErr};
+ghost use Rattle.clickpull_c.specs.Answers.{RefusesOffer};
+ghost use Rattle.clickpull_c.specs.Calls.{EndsOffers, IsOffered, IsOfferedSoFar};
+ghost use Rattle.clickpull_c.specs.declared.statuses.TheConstants.{OK};
+
+use crate::handle::Handle;
+use crate::statuses::{AT_END, NO_LENGTH, OK, UNKNOWN_SENDER};
+use crate::values::{COffer, COffered, offered_for_c};
+use clk_router::CountingRouter;
+
+/// The sender with this number offers its next packet, of this length in bytes, to its queue. What became of it is filled in.
+#[unsafe(no_mangle)]
+pub extern "C" fn clk_router_offer(
+    router: &mut Handle,
+    sender: u16,
+    length: u16,
+    offered: &mut COffered,
+) -> u32
+    ensures answer { ((result ≡ OK) × IsOffered router.old.router router.new.router sender length offered.new) ⊎ (RefusesOffer router.old.router sender length result × (router.new.router ≡ router.old.router) × (offered.new ≡ offered.old)) }
+{
+    match offer(router.get_mut(), sender, length) {
+        Ok(filled) => {
+            *offered = filled;
+            OK
+        }
+        Err(status) => status,
+    }
+}
+
+/// Offers packets in the order of these offers, up to the first that can't be made. How many were made is filled in, and what became of
+/// each.
+#[unsafe(no_mangle)]
+pub extern "C" fn clk_router_offer_many(
+    router: &mut Handle,
+    offers: &[COffer],
+    offered: &mut [COffered],
+    done: &mut usize,
+) -> u32
+    requires places { length offers.now ≤ length offered.old }
+    ensures made { IsOfferedSoFar router.old.router router.new.router offers.now offered.old offered.new done.new }
+    ensures ends { EndsOffers router.new.router offers.now done.new result }
+{
+    let (made, status) = offer_each(router.get_mut(), offers, offered);
+    *done = made;
+    status
+}
+
+/// The same, over the router: how many were made, and what is answered.
+fn offer_each(
+    router: &mut CountingRouter,
+    offers: &[COffer],
+    offered: &mut [COffered],
+) -> (usize, u32)
+    requires places { length offers.now ≤ length offered.old }
+    ensures made { IsOfferedSoFar router.old router.new offers.now offered.old offered.new result.0 }
+    ensures ends { EndsOffers router.new offers.now result.0 result.1 }
+{
+    let mut done = 0;
+    while done < offers.len() {
+        let wanted = offers[done];
+        match offer(router, wanted.sender, wanted.length) {
+            Ok(filled) => {
+                offered[done] = filled;
+                done += 1;
+            }
+            Err(status) => return (done, status),
+        }
+    }
+    (done, OK)
+}
+
+/// The same, of one offer, over the router.
+fn offer(router: &mut CountingRouter, sender: u16, length: u16) -> Result<COffered, u32>
+    ensures offered { IfOk result (IsOffered router.old router.new sender length) }
+    ensures refused { IfErr result (RefusesOffer router.old sender length) }
+    ensures unchanged { OnErr result (router.new ≡ router.old) }
+{
+    if length == 0 {
+        return Err(NO_LENGTH);
+    }
+    let Some(place) = router.place_of(sender) else {
+        return Err(UNKNOWN_SENDER);
+    };
+    let place = usize::from(place);
+    if !router.can_offer(place) {
+        return Err(AT_END);
+    }
+    let (packet, outcome) = router.offer(place, length);
+    Ok(offered_for_c(packet, outcome))
+}

@@ -1,0 +1,112 @@
+//! Pulls of devices.
+
+ghost use Rattle.std.specs.Prelude.{◌≡◌, ◌⊎◌, length, IfOk, IfErr, OnErr};
+ghost use Rattle.clk_router.specs.Course.{CanPull, IsPulled};
+ghost use Rattle.clickpull_c.specs.Answers.{RefusesPull};
+ghost use Rattle.clickpull_c.specs.Calls.{AnswersPull, IsPulledOften, pulls_status};
+
+use crate::handle::Handle;
+use crate::statuses::{AT_END, NONE, OK, UNKNOWN_DEVICE};
+use crate::values::{CPacket, packet_for_c};
+use clk_packet::Packet;
+use clk_router::CountingRouter;
+
+/// Pulls the device with this number once, at this moment in ticks or, where that is later, at the greatest so far. The packet that comes
+/// out is filled in.
+#[unsafe(no_mangle)]
+pub extern "C" fn clk_router_pull(
+    router: &mut Handle,
+    device: u16,
+    moment: u64,
+    packet: &mut CPacket,
+) -> u32
+    ensures answer { AnswersPull router.old.router router.new.router device moment packet.old packet.new result ⊎ (RefusesPull router.old.router device moment result × (router.new.router ≡ router.old.router) × (packet.new ≡ packet.old)) }
+{
+    match pull(router.get_mut(), device, moment) {
+        Ok(Some(got)) => {
+            *packet = packet_for_c(got);
+            OK
+        }
+        Ok(None) => NONE,
+        Err(status) => status,
+    }
+}
+
+/// Pulls the device with this number at this moment in ticks until a pull gives none, or all places for packets are filled. How many came
+/// out is filled in.
+#[unsafe(no_mangle)]
+pub extern "C" fn clk_router_pull_many(
+    router: &mut Handle,
+    device: u16,
+    moment: u64,
+    packets: &mut [CPacket],
+    given: &mut usize,
+) -> u32
+    ensures answer { (IsPulledOften router.old.router router.new.router device moment packets.old packets.new given.new × (result ≡ pulls_status given.new (length packets.old))) ⊎ (RefusesPull router.old.router device moment result × (router.new.router ≡ router.old.router) × (packets.new ≡ packets.old) × (given.new ≡ 0)) }
+{
+    let count = packets.len();
+    match pull_often(router.get_mut(), device, moment, packets) {
+        Ok(came_out) => {
+            *given = came_out;
+            if came_out == 0 && count > 0 { NONE } else { OK }
+        }
+        Err(status) => {
+            *given = 0;
+            status
+        }
+    }
+}
+
+/// The same, over the router: how many came out.
+fn pull_often(
+    router: &mut CountingRouter,
+    device: u16,
+    moment: u64,
+    packets: &mut [CPacket],
+) -> Result<usize, u32>
+    ensures pulled { IfOk result (IsPulledOften router.old router.new device moment packets.old packets.new) }
+    ensures refused { IfErr result (RefusesPull router.old device moment) }
+    ensures unchanged { OnErr result ((router.new ≡ router.old) × (packets.new ≡ packets.old)) }
+{
+    if usize::from(device) >= router.devices() {
+        return Err(UNKNOWN_DEVICE);
+    }
+    if !router.can_pull(device, moment) {
+        return Err(AT_END);
+    }
+    Ok(pull_on(router, device, moment, packets))
+}
+
+/// The same, of a device that can be pulled at this moment.
+fn pull_on(router: &mut CountingRouter, device: u16, moment: u64, packets: &mut [CPacket]) -> usize
+    requires can { CanPull router.old device moment }
+    ensures { IsPulledOften router.old router.new device moment packets.old packets.new result }
+{
+    let mut given = 0;
+    while given < packets.len() {
+        let Some(packet) = router.pull(device, moment) else {
+            return given;
+        };
+        packets[given] = packet_for_c(packet);
+        given += 1;
+        if !router.can_pull(device, moment) {
+            return given;
+        }
+    }
+    given
+}
+
+/// The same, once, over the router.
+fn pull(router: &mut CountingRouter, device: u16, moment: u64) -> Result<Option<Packet>, u32>
+    ensures pulled { IfOk result (IsPulled router.old router.new device moment) }
+    ensures refused { IfErr result (RefusesPull router.old device moment) }
+    ensures unchanged { OnErr result (router.new ≡ router.old) }
+{
+    if usize::from(device) >= router.devices() {
+        return Err(UNKNOWN_DEVICE);
+    }
+    if !router.can_pull(device, moment) {
+        return Err(AT_END);
+    }
+    Ok(router.pull(device, moment))
+}

@@ -1,0 +1,34 @@
+//! What calls answer. Two answers are the header's alone: 2, for a router that is shut, and 3, for a null pointer.
+
+/// It is done.
+pub const OK: u32 = 0;
+
+/// The pull was made, and gave no packet; or the drain isn't at its end.
+pub const NONE: u32 = 1;
+
+/// The tree has no sender of this number, or at this place.
+pub const UNKNOWN_SENDER: u32 = 4;
+
+/// The tree has no device of this number.
+pub const UNKNOWN_DEVICE: u32 = 5;
+
+/// A packet has 1 byte at least.
+pub const NO_LENGTH: u32 = 6;
+
+/// The packets of a sender, the moments or the pulls of a device are at their end.
+pub const AT_END: u32 = 7;
+
+/// The tree has no queue of this number.
+pub const UNKNOWN_QUEUE: u32 = 8;
+
+/// The text makes no router, or memory was refused.
+pub const FAULT: u32 = 9;
+
+/// The packet was accepted.
+pub const ACCEPTED: u32 = 0;
+
+/// The packet was refused.
+pub const REFUSED: u32 = 1;
+
+/// The packet was accepted, and another was put out for it.
+pub const EVICTED: u32 = 2;

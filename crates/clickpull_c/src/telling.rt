@@ -1,0 +1,99 @@
+//! What there is in a router: calls that change nothing.
+
+ghost use Rattle.std.specs.Prelude.{◌≡◌, ◌⊎◌};
+ghost use Rattle.clickpull_c.specs.Answers.{HasNoDevice, HasNoPlace, HasNoQueue};
+ghost use Rattle.clickpull_c.specs.Counts.{device_count, queue_count, sender_count};
+ghost use Rattle.clickpull_c.specs.Tells.{TellsAccount, TellsLeft, TellsMoment, TellsQueue};
+
+// These calls too take a router as one that changes, since no export takes a struct that lends what it owns.
+use crate::handle::Handle;
+use crate::statuses::{OK, UNKNOWN_DEVICE, UNKNOWN_QUEUE, UNKNOWN_SENDER};
+use crate::values::{CAccount, CQueue, account_for_c, queue_for_c};
+
+/// How many senders the router has.
+#[unsafe(no_mangle)]
+pub extern "C" fn clk_router_senders(router: &mut Handle) -> usize
+    ensures senders { result ≡ sender_count router.old.router }
+    ensures unchanged { router.new.router ≡ router.old.router }
+{
+    router.get_mut().accounts().len()
+}
+
+/// How many queues the router has.
+#[unsafe(no_mangle)]
+pub extern "C" fn clk_router_queues(router: &mut Handle) -> usize
+    ensures queues { result ≡ queue_count router.old.router }
+    ensures unchanged { router.new.router ≡ router.old.router }
+{
+    router.get_mut().queues()
+}
+
+/// How many devices the router has.
+#[unsafe(no_mangle)]
+pub extern "C" fn clk_router_devices(router: &mut Handle) -> usize
+    ensures devices { result ≡ device_count router.old.router }
+    ensures unchanged { router.new.router ≡ router.old.router }
+{
+    router.get_mut().devices()
+}
+
+/// The greatest moment in ticks that was handed in at the device with this number so far, 0 before the first pull, is filled in.
+#[unsafe(no_mangle)]
+pub extern "C" fn clk_router_moment(router: &mut Handle, device: u16, moment: &mut u64) -> u32
+    ensures answer { TellsMoment router.old.router device moment.new result ⊎ (HasNoDevice router.old.router device result × (moment.new ≡ moment.old)) }
+    ensures unchanged { router.new.router ≡ router.old.router }
+{
+    let router = router.get_mut();
+    if usize::from(device) >= router.devices() {
+        return UNKNOWN_DEVICE;
+    }
+    *moment = router.moment(device);
+    OK
+}
+
+/// How many packets are left for the device with this number, accepted there and neither put out for later ones nor come out, is filled in.
+#[unsafe(no_mangle)]
+pub extern "C" fn clk_router_left(router: &mut Handle, device: u16, packets: &mut u64) -> u32
+    ensures answer { TellsLeft router.old.router device packets.new result ⊎ (HasNoDevice router.old.router device result × (packets.new ≡ packets.old)) }
+    ensures unchanged { router.new.router ≡ router.old.router }
+{
+    let router = router.get_mut();
+    if usize::from(device) >= router.devices() {
+        return UNKNOWN_DEVICE;
+    }
+    *packets = router.left(device);
+    OK
+}
+
+/// What became of all that the sender at this place offered is filled in. Places go from 0 on, by rising numbers of senders.
+#[unsafe(no_mangle)]
+pub extern "C" fn clk_router_account(
+    router: &mut Handle,
+    place: usize,
+    account: &mut CAccount,
+) -> u32
+    ensures answer { TellsAccount router.old.router place account.new result ⊎ (HasNoPlace router.old.router place result × (account.new ≡ account.old)) }
+    ensures unchanged { router.new.router ≡ router.old.router }
+{
+    match router.get_mut().accounts().get(place) {
+        Some(found) => {
+            *account = account_for_c(found);
+            OK
+        }
+        None => UNKNOWN_SENDER,
+    }
+}
+
+/// What the queue with this number is like is filled in.
+#[unsafe(no_mangle)]
+pub extern "C" fn clk_router_queue(router: &mut Handle, number: u16, queue: &mut CQueue) -> u32
+    ensures answer { TellsQueue router.old.router number queue.new result ⊎ (HasNoQueue router.old.router number result × (queue.new ≡ queue.old)) }
+    ensures unchanged { router.new.router ≡ router.old.router }
+{
+    let router = router.get_mut();
+    if usize::from(number) >= router.queues() {
+        return UNKNOWN_QUEUE;
+    }
+    *queue = queue_for_c(router.queue(number));
+    OK
+}

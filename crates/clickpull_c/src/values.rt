@@ -1,0 +1,197 @@
+//! The values that C hands in and is given.
+
+ghost use Rattle.std.specs.Prelude.{◌≡◌};
+ghost use Rattle.clickpull_c.specs.Values.{packet_in_c, offered_in_c, fault_in_c, total_in_c, account_in_c, queue_in_c};
+
+use crate::statuses::{ACCEPTED, EVICTED, REFUSED};
+use clk_packet::{Fault, Kind, Offered, Packet};
+use clk_router::{Account, QueueState, Total};
+
+/// A packet. In C it is the struct `clk_packet`.
+#[repr(C)]
+#[derive(Clone, Copy)]
+pub struct CPacket {
+    /// Its place among all that its sender offered, from 0.
+    pub number: u32,
+    /// Its sender's number.
+    pub sender: u16,
+    /// Its length in bytes, from 1 to 65,535.
+    pub length: u16,
+}
+
+/// What became of an offer. In C it is the struct `clk_offered`.
+#[repr(C)]
+#[derive(Clone, Copy)]
+pub struct COffered {
+    /// The packet, with its number.
+    pub packet: CPacket,
+    /// The packet that was put out for it, all zero unless one was.
+    pub evicted: CPacket,
+    /// 0 for a packet that was accepted, 1 for one that was refused, 2 for one for which another was put out.
+    pub outcome: u32,
+}
+
+/// An offer. In C it is the struct `clk_offer_of`.
+#[repr(C)]
+#[derive(Clone, Copy)]
+pub struct COffer {
+    /// The sender's number.
+    pub sender: u16,
+    /// The packet's length in bytes, from 1 to 65,535.
+    pub length: u16,
+}
+
+/// A packet that came out in a drain. In C it is the struct `clk_departure`.
+#[repr(C)]
+#[derive(Clone, Copy)]
+pub struct CDeparture {
+    /// When it came out, in ticks.
+    pub moment: u64,
+    /// The packet.
+    pub packet: CPacket,
+}
+
+/// How many packets, and the sum of their lengths. In C it is the struct `clk_total`.
+#[repr(C)]
+#[derive(Clone, Copy)]
+pub struct CTotal {
+    /// How many packets.
+    pub packets: u64,
+    /// How many bytes.
+    pub bytes: u64,
+}
+
+/// What became of all that a sender offered. In C it is the struct `clk_account`.
+#[repr(C)]
+#[derive(Clone, Copy)]
+pub struct CAccount {
+    /// What its queue took.
+    pub accepted: CTotal,
+    /// What its queue was too full to take.
+    pub refused: CTotal,
+    /// What of the accepted was put out for later packets.
+    pub evicted: CTotal,
+    /// What of the accepted came out at the device.
+    pub emitted: CTotal,
+    /// The sender's number.
+    pub sender: u16,
+    /// The number of the queue that it pushes to.
+    pub queue: u16,
+}
+
+/// A queue. In C it is the struct `clk_queue`.
+#[repr(C)]
+#[derive(Clone, Copy)]
+pub struct CQueue {
+    /// How many packets it holds at most.
+    pub capacity: u64,
+    /// How many it holds.
+    pub held: u64,
+    /// The number of the device that its packets go to.
+    pub device: u16,
+    /// 1 for a FrontDropQueue, 0 for a Queue.
+    pub front_drop: u16,
+}
+
+/// Why a text makes no router. In C it is the struct `clk_fault`.
+#[repr(C)]
+#[derive(Clone, Copy)]
+pub struct CFault {
+    /// The fault's number.
+    pub number: u32,
+    /// At which byte of the text, from 0; 0 where the fault has no place.
+    pub offset: u32,
+}
+
+/// A packet, as C sees it.
+pub fn packet_for_c(packet: Packet) -> CPacket
+    ensures { result ≡ packet_in_c packet }
+{
+    CPacket {
+        number: packet.number,
+        sender: packet.sender,
+        length: packet.length,
+    }
+}
+
+/// A packet that was offered and what became of it, as C sees them.
+pub fn offered_for_c(packet: Packet, outcome: Offered) -> COffered
+    ensures { result ≡ offered_in_c packet outcome }
+{
+    let none = CPacket {
+        number: 0,
+        sender: 0,
+        length: 0,
+    };
+    let (evicted, outcome) = match outcome {
+        Offered::Accepted => (none, ACCEPTED),
+        Offered::Refused(_) => (none, REFUSED),
+        Offered::Evicted(front) => (packet_for_c(front), EVICTED),
+    };
+    COffered {
+        packet: packet_for_c(packet),
+        evicted,
+        outcome,
+    }
+}
+
+/// A fault, as C sees it.
+pub fn fault_for_c(fault: Fault) -> CFault
+    ensures { result ≡ fault_in_c fault }
+{
+    let number = u32::from(fault.number());
+    let offset = match fault {
+        Fault::BadText { offset }
+        | Fault::UnknownClass { offset }
+        | Fault::BadArgument { offset }
+        | Fault::NameTwice { offset }
+        | Fault::UnknownName { offset }
+        | Fault::BadPort { offset }
+        | Fault::PortTwice { offset }
+        | Fault::PortMissing { offset }
+        | Fault::WrongKind { offset }
+        | Fault::ManyDevices { offset }
+        | Fault::NotATree { offset } => offset,
+        _ => 0,
+    };
+    CFault { number, offset }
+}
+
+/// A total, as C sees it.
+fn total_for_c(total: Total) -> CTotal
+    ensures { result ≡ total_in_c total }
+{
+    CTotal {
+        packets: total.packets,
+        bytes: total.bytes,
+    }
+}
+
+/// An account, as C sees it.
+pub fn account_for_c(account: &Account) -> CAccount
+    ensures { result ≡ account_in_c account.now }
+{
+    CAccount {
+        accepted: total_for_c(account.accepted),
+        refused: total_for_c(account.refused),
+        evicted: total_for_c(account.evicted),
+        emitted: total_for_c(account.emitted),
+        sender: account.sender,
+        queue: account.queue,
+    }
+}
+
+/// A queue, as C sees it.
+pub fn queue_for_c(queue: QueueState) -> CQueue
+    ensures { result ≡ queue_in_c queue }
+{
+    CQueue {
+        capacity: queue.capacity as u64,
+        held: queue.held as u64,
+        device: queue.device,
+        front_drop: match queue.kind {
+            Kind::TailDrop => 0,
+            Kind::FrontDrop => 1,
+        },
+    }
+}

@@ -1,0 +1,110 @@
+/* Reads the table that sorts packets to senders, and sorts. This is C and no part of what is proved.
+ *
+ * A line is SENDER ADDRESS PORT: the sender's number; an address, with how many of its bits count (10.0.1.0/24), or *; and a port, ports
+ * from one to another (5004-5008), or *. What follows a # is a comment. */
+#include "table.h"
+
+#include <arpa/inet.h>
+#include <stdio.h>
+#include <stdlib.h>
+#include <string.h>
+
+/* Reads a number up to `most` at the front of a text, and moves past it. */
+static int read_number(const char **text, unsigned long most, unsigned long *number) {
+    char *rest;
+    if (**text < '0' || **text > '9')
+        return 0;
+    *number = strtoul(*text, &rest, 10);
+    *text = rest;
+    return *number <= most;
+}
+
+static int read_address(char *text, struct line *line) {
+    unsigned long bits;
+    if (strcmp(text, "*") == 0)
+        return 1;
+    char *slash = strchr(text, '/');
+    if (slash)
+        *slash = 0;
+    line->size = strchr(text, ':') ? 16 : 4;
+    if (inet_pton(line->size == 16 ? AF_INET6 : AF_INET, text, line->address) != 1)
+        return 0;
+    line->bits = (unsigned)line->size * 8;
+    if (!slash)
+        return 1;
+    const char *rest = slash + 1;
+    if (!read_number(&rest, line->bits, &bits) || *rest != 0)
+        return 0;
+    line->bits = (unsigned)bits;
+    return 1;
+}
+
+static int read_ports(const char *text, struct line *line) {
+    unsigned long first, last;
+    line->last_port = 65535;
+    if (strcmp(text, "*") == 0)
+        return 1;
+    if (!read_number(&text, 65535, &first))
+        return 0;
+    last = first;
+    if (*text == '-') {
+        text++;
+        if (!read_number(&text, 65535, &last))
+            return 0;
+    }
+    line->first_port = (uint16_t)first;
+    line->last_port = (uint16_t)last;
+    return *text == 0 && first <= last;
+}
+
+/* Reads a line: 1 where it is one, 0 where it is blank, -1 else. */
+static int read_line(char *text, struct line *line) {
+    char address[64], ports[16], more[2];
+    unsigned sender;
+    memset(line, 0, sizeof *line);
+    text[strcspn(text, "#\n")] = 0;
+    if (strspn(text, " \t\r") == strlen(text))
+        return 0;
+    if (sscanf(text, "%5u %63s %15s %1s", &sender, address, ports, more) != 3 || sender > 65535)
+        return -1;
+    line->sender = (uint16_t)sender;
+    return read_address(address, line) && read_ports(ports, line) ? 1 : -1;
+}
+
+int read_table(const char *path, struct table *table) {
+    char text[256];
+    FILE *file = fopen(path, "r");
+    if (!file)
+        return -1;
+    int wrong = 0;
+    table->length = 0;
+    for (int number = 1; wrong == 0 && fgets(text, sizeof text, file); number++) {
+        int is_line = table->length == MOST_LINES ? -1 : read_line(text, &table->lines[table->length]);
+        if (is_line < 0)
+            wrong = number;
+        else
+            table->length += (size_t)is_line;
+    }
+    fclose(file);
+    return wrong;
+}
+
+static int same_bits(const uint8_t *one, const uint8_t *other, unsigned bits) {
+    unsigned whole = bits / 8, rest = bits % 8;
+    if (memcmp(one, other, whole) != 0)
+        return 0;
+    return rest == 0 || (one[whole] ^ other[whole]) >> (8 - rest) == 0;
+}
+
+static int fits(const struct line *line, const struct end *end) {
+    if (line->size != 0 && (line->size != end->size || !same_bits(line->address, end->address, line->bits)))
+        return 0;
+    return line->first_port <= end->port && end->port <= line->last_port;
+}
+
+int sender_of(const struct table *table, const struct ends *ends) {
+    for (size_t i = 0; i < table->length; i++)
+        if (fits(&table->lines[i], &ends->source) || fits(&table->lines[i], &ends->target))
+            return table->lines[i].sender;
+    return -1;
+}

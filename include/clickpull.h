@@ -1,0 +1,482 @@
+/* Clickpull for C: bounded queues and the tree of schedulers through which a link pulls them.
+ *
+ * This header stands outside what is proved. Proved are the calls of the library that it declares (clk_router_open and so on); the
+ * functions that callers use (clk_open and so on) test pointers and hand on, and are tested by tests/library.
+ *
+ * A router is made of a text in Click's language (README and docs/FORMATS.md have all elements):
+ *
+ *     lan :: Sender(0); waiting :: Queue(4); pace :: Shaper(1, 3); uplink :: ToDevice(ppp0);
+ *     lan -> waiting -> pace -> uplink;
+ *
+ * Senders offer packets to their queues, and each device pulls through its tree. The library carries of a packet its sender, its number
+ * and its length, and no contents; "Packets of your own", below, says how a caller keeps these.
+ *
+ * Use it so, and link with -lclickpull (pkg-config clickpull):
+ *
+ *     clk_router router;
+ *     clk_fault fault;
+ *     if (clk_open(text, strlen(text), &router, &fault) != CLK_OK)
+ *         return fprintf(stderr, "fault %u: %s at byte %u\n", fault.number, clk_fault_name(fault.number), fault.offset), 1;
+ *     clk_offered offered;
+ *     clk_packet packet;
+ *     clk_offer(&router, 0, 1500, &offered);
+ *     while (clk_pull(&router, 0, now, &packet) == CLK_OK)
+ *         transmit(packet.sender, packet.number);
+ *     clk_close(&router);
+ *
+ * That a pull gave none doesn't say that nothing is left: a Shaper has no token at this moment, or a DRRSched wants another turn. Who has
+ * nothing else to do pulls again at the next moment for as long as clk_left isn't 0.
+ *
+ * UNITS. Lengths and totals of lengths are bytes, moments are ticks (whatever the caller takes for a tick: the rate of a Shaper is in
+ * packets a tick), capacities and what is left are packets.
+ *
+ * WHO OWNS WHAT. clk_open makes a router, which the caller holds as a clk_router and gives back with clk_close. It may be copied, as a
+ * pointer may: the copies are one router, and only one of them is closed. All else that is handed in stays the caller's; the library
+ * reads or fills it while the call runs and keeps no pointer to it. The text isn't needed after clk_open. No call but clk_open takes
+ * memory, and none but clk_close gives any back.
+ *
+ * WHAT THE CALLER OWES. What a test can find is an answer: a null pointer, a shut router, a number out of range, an unknown sender or
+ * device. These no test can find, and they are the caller's to keep:
+ *
+ *   - A router that was closed isn't used again through a copy of its clk_router. (The one that was handed to clk_close is null, and
+ *     calls answer CLK_SHUT.)
+ *   - A clk_router is filled by clk_open or clk_close, or is CLK_NO_ROUTER, before another call gets it.
+ *   - A router that is open isn't opened over: its memory would be lost.
+ *   - Calls on one router come one after the other, and from the thread that opened it: that another may have it is not proved. A caller
+ *     with several threads gives each a ring of its own, from which that one offers. Two routers have nothing in common.
+ *   - Pointers point to as much as is said: `length` bytes of a text, `count` elements of an array. What a call fills overlaps nothing
+ *     else that it is handed.
+ *   - No call is made from a signal handler, nor in the forked child of a process with several threads. malloc, realloc and free are
+ *     of one allocator, and align as C says.
+ */
+#ifndef CLICKPULL_H
+#define CLICKPULL_H
+
+#include <stddef.h>
+#include <stdint.h>
+
+#ifdef __cplusplus
+extern "C" {
+#endif
+
+/* ------------------------------------------------------------------------------------------------------------ answers */
+
+/* What calls answer. Where a call answers another than those that it names, nothing has changed and nothing was filled, but for the
+ * counts `done` and `given` of calls for many, which are always set where the call gets them. */
+typedef enum clk_status {
+    CLK_OK = 0,             /* it is done */
+    CLK_NONE = 1,           /* the pull was made and gave no packet; the drain isn't at its end */
+    CLK_SHUT = 2,           /* the router is shut: clk_close had it, or clk_open had a fault */
+    CLK_NULL = 3,           /* a pointer is null */
+    CLK_UNKNOWN_SENDER = 4, /* the tree has no sender with this number, or at this place */
+    CLK_UNKNOWN_DEVICE = 5, /* the tree has no device with this number */
+    CLK_NO_LENGTH = 6,      /* a packet has 1 byte at least */
+    CLK_AT_END = 7,         /* the sender has offered 4,294,967,295 packets; the moment is 2^44 ticks or more; or the device was pulled
+                             * as often as it may be, 2^63 times */
+    CLK_UNKNOWN_QUEUE = 8,  /* the tree has no queue with this number */
+    CLK_FAULT = 9           /* the text makes no router, or memory was refused: see the fault */
+} clk_status;
+
+/* What became of a packet that was offered. */
+typedef enum clk_outcome {
+    CLK_ACCEPTED = 0, /* its queue took it */
+    CLK_REFUSED = 1,  /* its queue, a Queue, was full, and it is gone */
+    CLK_EVICTED = 2   /* its queue, a FrontDropQueue, was full, took it, and put out the packet at its front */
+} clk_outcome;
+
+/* Below which number of ticks a moment is. */
+#define CLK_END_OF_MOMENTS (UINT64_C(1) << 44)
+
+/* ------------------------------------------------------------------------------------------------------------ values */
+
+/* A router, or none where `at` is null. `at` is the library's; a caller copies it at most. */
+typedef struct clk_router {
+    void *at;
+} clk_router;
+
+/* What a variable holds that has no router yet: clk_router router = CLK_NO_ROUTER; */
+#define CLK_NO_ROUTER {NULL}
+
+/* Why a text makes no router. */
+typedef struct clk_fault {
+    uint32_t number; /* the fault's number, as in docs/FORMATS.md; clk_fault_name has its name */
+    uint32_t offset; /* at which byte of the text, from 0; 0 where the fault has no place (1, 11 and 18) */
+} clk_fault;
+
+/* A packet, 8 bytes. */
+typedef struct clk_packet {
+    uint32_t number; /* its place among all that its sender offered, refused ones too, from 0 */
+    uint16_t sender; /* its sender's number, that of Sender(N) */
+    uint16_t length; /* its length in bytes, 1 to 65,535 */
+} clk_packet;
+
+/* What became of an offer. */
+typedef struct clk_offered {
+    clk_packet packet;  /* the packet, with its number */
+    clk_packet evicted; /* the packet that was put out for it, maybe of another sender; all zero unless the outcome is CLK_EVICTED */
+    uint32_t outcome;   /* a clk_outcome */
+} clk_offered;
+
+/* An offer, of many. */
+typedef struct clk_offer_of {
+    uint16_t sender; /* the sender's number */
+    uint16_t length; /* the packet's length in bytes, 1 to 65,535 */
+} clk_offer_of;
+
+/* A packet that came out in a drain. */
+typedef struct clk_departure {
+    uint64_t moment; /* when it came out, in ticks */
+    clk_packet packet;
+} clk_departure;
+
+/* How many packets, and the sum of their lengths in bytes. */
+typedef struct clk_total {
+    uint64_t packets;
+    uint64_t bytes;
+} clk_total;
+
+/* What became of all that a sender offered. Accepted and refused together are what it offered; evicted and emitted are parts of
+ * accepted, and what is left of that is still in its queue or held by a scheduler. */
+typedef struct clk_account {
+    clk_total accepted;
+    clk_total refused;
+    clk_total evicted; /* put out for later packets, its own or another sender's */
+    clk_total emitted; /* came out at the device */
+    uint16_t sender;   /* the sender's number */
+    uint16_t queue;    /* the number of the queue that it pushes to */
+} clk_account;
+
+/* A queue. */
+typedef struct clk_queue {
+    uint64_t capacity;   /* how many packets it holds at most */
+    uint64_t held;       /* how many it holds now, those held by schedulers not among them */
+    uint16_t device;     /* the number of the device that its packets go to */
+    uint16_t front_drop; /* 1 for a FrontDropQueue, 0 for a Queue */
+} clk_queue;
+
+/* ------------------------------------------------------------------------------------------------------------ exports */
+
+/* What the library exports. The functions below them test what they are handed and are what to call. An array is handed over as its
+ * pointer and then its length. Those that only look at a router take it like the others; they change nothing. */
+extern uint32_t clk_router_open(const uint8_t *text, size_t length, clk_router *router, clk_fault *fault);
+extern void clk_router_close(clk_router router);
+extern uint32_t clk_router_offer(clk_router *router, uint16_t sender, uint16_t length, clk_offered *offered);
+extern uint32_t clk_router_offer_many(clk_router *router, const clk_offer_of *offers, size_t offers_length, clk_offered *offered,
+                                      size_t offered_length, size_t *done);
+extern uint32_t clk_router_pull(clk_router *router, uint16_t device, uint64_t moment, clk_packet *packet);
+extern uint32_t clk_router_pull_many(clk_router *router, uint16_t device, uint64_t moment, clk_packet *packets, size_t packets_length,
+                                     size_t *given);
+extern uint32_t clk_router_moment(clk_router *router, uint16_t device, uint64_t *moment);
+extern uint32_t clk_router_left(clk_router *router, uint16_t device, uint64_t *packets);
+extern uint32_t clk_router_drain(clk_router *router, uint16_t device, clk_departure *departures, size_t departures_length,
+                                 uint64_t pulls, size_t *given);
+extern size_t clk_router_senders(clk_router *router);
+extern uint32_t clk_router_account(clk_router *router, size_t place, clk_account *account);
+extern size_t clk_router_queues(clk_router *router);
+extern uint32_t clk_router_queue(clk_router *router, uint16_t number, clk_queue *queue);
+extern size_t clk_router_devices(clk_router *router);
+
+/* Casts, which C++ has under names of their own. */
+#ifdef __cplusplus
+#define CLK_STATUS(IT) static_cast<clk_status>(IT)
+#define CLK_BYTES(IT) reinterpret_cast<const uint8_t *>(IT)
+#else
+#define CLK_STATUS(IT) (clk_status)(IT)
+#define CLK_BYTES(IT) (const uint8_t *)(IT)
+#endif
+
+/* ------------------------------------------------------------------------------------------------------------ open and close */
+
+/* Makes a router of the tree in `text`, `length` bytes, 1,048,576 at most. It needn't end with a zero, and may be null where `length` is
+ * 0. All memory that the router will ever use is taken here: 8 bytes for each packet that its queues can hold, and tables of its
+ * elements. `fault` may be null where it isn't wanted.
+ *
+ * CLK_OK     `router` is the router, with empty queues, before its first pull. The caller closes it.
+ * CLK_FAULT  `router` is shut, and nothing is to be closed; `fault` says why: 1 where memory was refused, else the first fault of the text.
+ * CLK_NULL   `router` is null, or `text` is and `length` isn't 0. Of these `router` is shut where it isn't null. */
+static inline clk_status clk_open(const char *text, size_t length, clk_router *router, clk_fault *fault) {
+    clk_fault unwanted = {0, 0};
+    if (!router)
+        return CLK_NULL;
+    router->at = NULL;
+    if (!text && length != 0)
+        return CLK_NULL;
+    return CLK_STATUS(clk_router_open(CLK_BYTES(text ? text : ""), length, router, fault ? fault : &unwanted));
+}
+
+/* Gives back all that the router has, packets in its queues too, and leaves `router` shut. A null or a shut router is left as it is. */
+static inline void clk_close(clk_router *router) {
+    if (router && router->at) {
+        clk_router_close(*router);
+        router->at = NULL;
+    }
+}
+
+/* ------------------------------------------------------------------------------------------------------------ offers */
+
+/* The sender with this number offers its next packet, of `length` bytes, to its queue. Its packets are numbered from 0 as they are
+ * offered, also where they are refused.
+ *
+ * CLK_OK  `offered` says what became of it. That it was refused is an outcome, and no failure of the call.
+ * CLK_NO_LENGTH, CLK_UNKNOWN_SENDER, CLK_AT_END, CLK_SHUT, CLK_NULL  nothing was offered. */
+static inline clk_status clk_offer(clk_router *router, uint16_t sender, uint16_t length, clk_offered *offered) {
+    if (!router || !offered)
+        return CLK_NULL;
+    if (!router->at)
+        return CLK_SHUT;
+    return CLK_STATUS(clk_router_offer(router, sender, length, offered));
+}
+
+/* Offers `count` packets in the order of `offers`, as so many calls of clk_offer do, up to the first that can't be offered. `offers` and
+ * `offered` have `count` elements; both may be null where it is 0. `done` is how many were offered: so many elements of `offered` are
+ * filled, and the others are as they were.
+ *
+ * CLK_OK              all were offered.
+ * CLK_UNKNOWN_SENDER, CLK_NO_LENGTH, CLK_AT_END  offers[*done] can't be, and neither it nor one after it was offered.
+ * CLK_SHUT, CLK_NULL  none was offered. */
+static inline clk_status clk_offer_many(clk_router *router, const clk_offer_of *offers, size_t count, clk_offered *offered, size_t *done) {
+    if (!done)
+        return CLK_NULL;
+    *done = 0;
+    if (!router || (count != 0 && (!offers || !offered)))
+        return CLK_NULL;
+    if (!router->at)
+        return CLK_SHUT;
+    if (count == 0)
+        return CLK_OK;
+    return CLK_STATUS(clk_router_offer_many(router, offers, count, offered, count, done));
+}
+
+/* ------------------------------------------------------------------------------------------------------------ pulls */
+
+/* Pulls the device once, at this moment in ticks. Devices are numbered from 0 as they are declared. A moment below the greatest that was
+ * handed in at the device so far counts as that one.
+ *
+ * CLK_OK              `packet` is the packet that came out.
+ * CLK_NONE            none came out: nothing is left there, a Shaper has no token, or the DRRSched has to be asked again, which a
+ *                     packet longer than its deficit waits for. clk_left tells the first from the others.
+ * CLK_UNKNOWN_DEVICE, CLK_AT_END, CLK_SHUT, CLK_NULL  no pull was made. */
+static inline clk_status clk_pull(clk_router *router, uint16_t device, uint64_t moment, clk_packet *packet) {
+    if (!router || !packet)
+        return CLK_NULL;
+    if (!router->at)
+        return CLK_SHUT;
+    return CLK_STATUS(clk_router_pull(router, device, moment, packet));
+}
+
+/* Pulls the device at this moment up to `count` times, and no more after a pull that gave none. `packets` has `count` elements, and may be
+ * null where it is 0. `given` is how many came out: so many elements of `packets` are filled, in the order in which they came out.
+ *
+ * CLK_OK              one came out at least, or `count` is 0.
+ * CLK_NONE            the first pull gave none.
+ * CLK_UNKNOWN_DEVICE, CLK_AT_END, CLK_SHUT, CLK_NULL  no pull was made. */
+static inline clk_status clk_pull_many(clk_router *router, uint16_t device, uint64_t moment, clk_packet *packets, size_t count,
+                                       size_t *given) {
+    clk_packet unused = {0, 0, 0};
+    if (!given)
+        return CLK_NULL;
+    *given = 0;
+    if (!router || (count != 0 && !packets))
+        return CLK_NULL;
+    if (!router->at)
+        return CLK_SHUT;
+    return CLK_STATUS(clk_router_pull_many(router, device, moment, packets ? packets : &unused, count, given));
+}
+
+/* The greatest moment that was handed in at the device so far, in ticks: the one that counts. 0 before the first pull.
+ *
+ * CLK_OK  `moment` is it. CLK_UNKNOWN_DEVICE, CLK_SHUT, CLK_NULL. */
+static inline clk_status clk_moment(const clk_router *router, uint16_t device, uint64_t *moment) {
+    if (!router || !moment)
+        return CLK_NULL;
+    if (!router->at)
+        return CLK_SHUT;
+    clk_router same = *router;
+    return CLK_STATUS(clk_router_moment(&same, device, moment));
+}
+
+/* How many packets are left for the device: accepted by its queues, and neither put out nor come out. They are in its queues or held by
+ * its schedulers.
+ *
+ * CLK_OK  `packets` is the number. CLK_UNKNOWN_DEVICE, CLK_SHUT, CLK_NULL. */
+static inline clk_status clk_left(const clk_router *router, uint16_t device, uint64_t *packets) {
+    if (!router || !packets)
+        return CLK_NULL;
+    if (!router->at)
+        return CLK_SHUT;
+    clk_router same = *router;
+    return CLK_STATUS(clk_router_left(&same, device, packets));
+}
+
+/* Pulls the device one tick apart, the first time one tick after its counted moment, until all packets that are left for it came out,
+ * `pulls` pulls were made, or `count` packets came out. Called again it goes on, so that a caller drains in pieces. `departures` has
+ * `count` elements, and may be null where it is 0. `given` is how many came out: so many elements are filled.
+ *
+ * CLK_OK              all came out, and nothing is left for the device. With nothing left no pull is made.
+ * CLK_NONE            some are left: `pulls` or `count` was reached.
+ * CLK_AT_END          the moment of the next pull would be 2^44: `given` packets came out before.
+ * CLK_UNKNOWN_DEVICE, CLK_SHUT, CLK_NULL  no pull was made. */
+static inline clk_status clk_drain(clk_router *router, uint16_t device, clk_departure *departures, size_t count, uint64_t pulls,
+                                   size_t *given) {
+    clk_departure unused = {0, {0, 0, 0}};
+    if (!given)
+        return CLK_NULL;
+    *given = 0;
+    if (!router || (count != 0 && !departures))
+        return CLK_NULL;
+    if (!router->at)
+        return CLK_SHUT;
+    return CLK_STATUS(clk_router_drain(router, device, departures ? departures : &unused, count, pulls, given));
+}
+
+/* ------------------------------------------------------------------------------------------------------------ what there is */
+
+/* How many senders, queues and devices the tree has. 0 for a null and for a shut router; an open one has one device at least. */
+static inline size_t clk_senders(const clk_router *router) {
+    clk_router same = CLK_NO_ROUTER;
+    if (router)
+        same = *router;
+    return same.at ? clk_router_senders(&same) : 0;
+}
+
+static inline size_t clk_queues(const clk_router *router) {
+    clk_router same = CLK_NO_ROUTER;
+    if (router)
+        same = *router;
+    return same.at ? clk_router_queues(&same) : 0;
+}
+
+static inline size_t clk_devices(const clk_router *router) {
+    clk_router same = CLK_NO_ROUTER;
+    if (router)
+        same = *router;
+    return same.at ? clk_router_devices(&same) : 0;
+}
+
+/* What became of all that the sender at this place offered. Places go from 0 to clk_senders - 1, by rising numbers of senders.
+ *
+ * CLK_OK  `account` says it. CLK_UNKNOWN_SENDER (no such place), CLK_SHUT, CLK_NULL. */
+static inline clk_status clk_account_at(const clk_router *router, size_t place, clk_account *account) {
+    if (!router || !account)
+        return CLK_NULL;
+    if (!router->at)
+        return CLK_SHUT;
+    clk_router same = *router;
+    return CLK_STATUS(clk_router_account(&same, place, account));
+}
+
+/* The queue with this number, from 0 to clk_queues - 1 in order of declaration.
+ *
+ * CLK_OK  `queue` is it. CLK_UNKNOWN_QUEUE, CLK_SHUT, CLK_NULL. */
+static inline clk_status clk_queue_at(const clk_router *router, uint16_t number, clk_queue *queue) {
+    if (!router || !queue)
+        return CLK_NULL;
+    if (!router->at)
+        return CLK_SHUT;
+    clk_router same = *router;
+    return CLK_STATUS(clk_router_queue(&same, number, queue));
+}
+
+/* ------------------------------------------------------------------------------------------------------------ names */
+
+/* The name of a fault that clk_open can have, as `clickpull` prints it, and "" for any other number. */
+static inline const char *clk_fault_name(uint32_t number) {
+    switch (number) {
+    case 1:
+        return "Memory";
+    case 2:
+        return "BadText";
+    case 3:
+        return "UnknownClass";
+    case 4:
+        return "BadArgument";
+    case 5:
+        return "NameTwice";
+    case 6:
+        return "UnknownName";
+    case 7:
+        return "BadPort";
+    case 8:
+        return "PortTwice";
+    case 9:
+        return "PortMissing";
+    case 10:
+        return "WrongKind";
+    case 11:
+        return "NoDevice";
+    case 13:
+        return "NotATree";
+    case 18:
+        return "TooLarge";
+    default:
+        return "";
+    }
+}
+
+/* What an answer means, in a few words of English. */
+static inline const char *clk_status_text(clk_status status) {
+    switch (status) {
+    case CLK_OK:
+        return "done";
+    case CLK_NONE:
+        return "no packet";
+    case CLK_SHUT:
+        return "the router is shut";
+    case CLK_NULL:
+        return "a pointer is null";
+    case CLK_UNKNOWN_SENDER:
+        return "there is no such sender";
+    case CLK_UNKNOWN_DEVICE:
+        return "there is no such device";
+    case CLK_NO_LENGTH:
+        return "a packet has one byte at least";
+    case CLK_AT_END:
+        return "numbers or moments are at their end";
+    case CLK_UNKNOWN_QUEUE:
+        return "there is no such queue";
+    case CLK_FAULT:
+        return "the text makes no router, or memory was refused";
+    }
+    return "no answer of this library";
+}
+
+/* ------------------------------------------------------------------------------------------------------------ packets of your own
+ *
+ * The library carries sender, number and length, and the caller keeps the rest (a buffer, a request, a job) in a list for each sender,
+ * of which these three facts hold:
+ *
+ *   - Packets of one sender come out in the order in which it offered them. So what is pulled with sender S belongs to the front of S's
+ *     list: take it from there. No search, and no table by number.
+ *   - An offer that is refused never goes into the list; one that is accepted, or accepted with another evicted, goes to its back.
+ *   - A packet that is evicted is the first that its queue holds. It stands at the front of its sender's list, or behind those packets
+ *     of that sender which schedulers hold: they came from the queue before it, and will still come out. A DRRSched holds one packet
+ *     for each of its inputs at most, so that it stands as many places behind the front at most as DRRScheds are on the path from the
+ *     queue to the device. Compare numbers from the front on, and take out the one that fits.
+ *
+ * In the order of one offer: first take out `offered.evicted` where the outcome is CLK_EVICTED, then put the new one at the back. The
+ * two may be of different senders.
+ *
+ * clickpull.hpp (clickpull::Carrier) and the Python module (clickpull.Carrier) do this: callers offer and pull values of their own. */
+
+#ifdef __cplusplus
+} /* extern "C" */
+#define CLK_ASSERT static_assert
+#else
+#define CLK_ASSERT _Static_assert
+#endif
+
+/* The library lays these out so. */
+CLK_ASSERT(sizeof(clk_router) == sizeof(void *), "clk_router is a pointer");
+CLK_ASSERT(sizeof(clk_fault) == 8, "clk_fault has 8 bytes");
+CLK_ASSERT(sizeof(clk_packet) == 8, "clk_packet has 8 bytes");
+CLK_ASSERT(sizeof(clk_offered) == 20, "clk_offered has 20 bytes");
+CLK_ASSERT(sizeof(clk_offer_of) == 4, "clk_offer_of has 4 bytes");
+CLK_ASSERT(sizeof(clk_departure) == 16, "clk_departure has 16 bytes");
+CLK_ASSERT(sizeof(clk_total) == 16, "clk_total has 16 bytes");
+CLK_ASSERT(sizeof(clk_account) == 72, "clk_account has 72 bytes");
+CLK_ASSERT(sizeof(clk_queue) == 24, "clk_queue has 24 bytes");
+#undef CLK_ASSERT
+#undef CLK_STATUS
+#undef CLK_BYTES
+
+#endif

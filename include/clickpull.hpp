@@ -1,0 +1,380 @@
+// Clickpull for C++17: bounded queues and the tree of schedulers through which a link pulls them.
+//
+// This header stands outside what is proved; tests/library tests it. It is all inline, over clickpull.h, which says what each call does and
+// what the caller owes. Link with -lclickpull (pkg-config clickpull).
+//
+//     clickpull::Carrier<std::string> router("a :: Sender(0); q :: Queue(4); d :: ToDevice(link); a -> q -> d;");
+//     router.offer(0, 1500, "a packet of my own");
+//     while (auto it = router.pull(0, now))
+//         transmit(it->value);
+//
+// A `Router` carries packets, and a `Carrier<T>` with each a value of the caller's. Both are moved and not copied, and shut their router
+// where they end. A call that can't be made throws: `Error`, where the router is shut, a sender, device or queue is unknown, a packet has
+// no length or a number is at its end; `TextFault`, where a text makes no router; std::bad_alloc where memory is refused. A call that
+// throws leaves all as it was. That a packet is refused, or that none comes, is no error, and no exception.
+#ifndef CLICKPULL_HPP
+#define CLICKPULL_HPP
+
+#include "clickpull.h"
+
+#include <algorithm>
+#include <cassert>
+#include <cstddef>
+#include <cstdint>
+#include <deque>
+#include <limits>
+#include <new>
+#include <optional>
+#include <stdexcept>
+#include <string>
+#include <string_view>
+#include <type_traits>
+#include <utility>
+#include <vector>
+
+namespace clickpull {
+
+using Packet = clk_packet;
+using Departure = clk_departure;
+using Total = clk_total;
+using Account = clk_account;
+using Queue = clk_queue;
+
+// A call that couldn't be made.
+class Error : public std::runtime_error {
+public:
+    explicit Error(clk_status status) : Error(status, clk_status_text(status)) {}
+
+    // What the call answered.
+    clk_status status() const noexcept { return status_; }
+
+protected:
+    Error(clk_status status, const std::string &what) : std::runtime_error(what), status_(status) {}
+
+private:
+    clk_status status_;
+};
+
+// A text that makes no router.
+class TextFault : public Error {
+public:
+    TextFault(clk_fault fault, std::string_view text) : TextFault(fault, place_in(text.substr(0, fault.offset))) {}
+
+    // Its number, name and place, in bytes from 0, as in docs/FORMATS.md.
+    std::uint32_t number() const noexcept { return fault_.number; }
+    const char *name() const noexcept { return clk_fault_name(fault_.number); }
+    std::uint32_t offset() const noexcept { return fault_.offset; }
+
+    // The same place by line and column, both from 1; columns are bytes.
+    std::size_t line() const noexcept { return place_.line; }
+    std::size_t column() const noexcept { return place_.column; }
+
+private:
+    struct Place {
+        std::size_t line, column;
+    };
+
+    TextFault(clk_fault fault, Place place) : Error(CLK_FAULT, message(fault, place)), fault_(fault), place_(place) {}
+
+    static Place place_in(std::string_view before) {
+        const auto lines = static_cast<std::size_t>(std::count(before.begin(), before.end(), '\n'));
+        const auto last = before.rfind('\n');
+        return {lines + 1, last == std::string_view::npos ? before.size() + 1 : before.size() - last};
+    }
+
+    static std::string message(clk_fault fault, Place place) {
+        return "fault " + std::to_string(fault.number) + ": " + clk_fault_name(fault.number) + " at line " + std::to_string(place.line) +
+               ", column " + std::to_string(place.column);
+    }
+
+    clk_fault fault_;
+    Place place_;
+};
+
+// What became of a packet that was offered.
+struct Offered {
+    Packet packet;                 // the packet, with its number
+    bool accepted;                 // whether its queue took it
+    std::optional<Packet> evicted; // what its queue put out for it, maybe of another sender
+};
+
+// How far a call for many came: `count` were offered, and `status` is CLK_OK or says why the next one can't be.
+struct Done {
+    std::size_t count;
+    clk_status status;
+};
+
+// How far a drain came: `count` packets came out, and whether these were all.
+struct Drained {
+    std::size_t count;
+    bool all;
+};
+
+// A router. One that was moved from is shut.
+class Router {
+public:
+    // The router of a tree in Click's language. Throws TextFault, or std::bad_alloc.
+    explicit Router(std::string_view text) {
+        clk_fault fault{};
+        const clk_status status = clk_open(text.data(), text.size(), &router_, &fault);
+        if (status == CLK_FAULT && fault.number == 1)
+            throw std::bad_alloc();
+        if (status == CLK_FAULT)
+            throw TextFault(fault, text);
+        need(status);
+    }
+
+    Router(Router &&other) noexcept : router_(std::exchange(other.router_, clk_router{nullptr})) {}
+
+    Router &operator=(Router &&other) noexcept {
+        if (this != &other) {
+            shut();
+            router_ = std::exchange(other.router_, clk_router{nullptr});
+        }
+        return *this;
+    }
+
+    Router(const Router &) = delete;
+    Router &operator=(const Router &) = delete;
+
+    ~Router() { shut(); }
+
+    // Gives back all that it has. What is called afterwards throws CLK_SHUT.
+    void shut() noexcept { clk_close(&router_); }
+
+    bool is_open() const noexcept { return router_.at != nullptr; }
+
+    // The sender offers its next packet, of so many bytes.
+    Offered offer(std::uint16_t sender, std::uint16_t length) {
+        clk_offered it{};
+        need(clk_offer(&router_, sender, length, &it));
+        return {it.packet, it.outcome != CLK_REFUSED, it.outcome == CLK_EVICTED ? std::optional<Packet>(it.evicted) : std::nullopt};
+    }
+
+    // Offers many, up to the first that can't be; fills as many elements of `offered`. Throws for a shut router and for nulls alone.
+    Done offer_many(const clk_offer_of *offers, std::size_t count, clk_offered *offered) {
+        Done it{0, CLK_OK};
+        it.status = clk_offer_many(&router_, offers, count, offered, &it.count);
+        if (it.status == CLK_SHUT || it.status == CLK_NULL)
+            throw Error(it.status);
+        return it;
+    }
+
+    // Pulls the device once, at this moment in ticks.
+    std::optional<Packet> pull(std::uint16_t device, std::uint64_t moment) {
+        Packet packet{};
+        if (is_none(clk_pull(&router_, device, moment, &packet)))
+            return std::nullopt;
+        return packet;
+    }
+
+    // Pulls the device up to `count` times at this moment, up to the first pull that gives none; fills and answers as many as came.
+    std::size_t pull_many(std::uint16_t device, std::uint64_t moment, Packet *packets, std::size_t count) {
+        std::size_t given = 0;
+        is_none(clk_pull_many(&router_, device, moment, packets, count, &given));
+        return given;
+    }
+
+    // Pulls the device one tick apart until all that is left for it came out, `pulls` pulls were made, or `count` packets came out.
+    Drained drain(std::uint16_t device, Departure *departures, std::size_t count,
+                  std::uint64_t pulls = std::numeric_limits<std::uint64_t>::max()) {
+        std::size_t given = 0;
+        const bool some_left = is_none(clk_drain(&router_, device, departures, count, pulls, &given));
+        return {given, !some_left};
+    }
+
+    // The greatest moment handed in at the device so far, in ticks.
+    std::uint64_t moment(std::uint16_t device) const {
+        std::uint64_t it = 0;
+        need(clk_moment(&router_, device, &it));
+        return it;
+    }
+
+    // How many packets are left for the device, in queues and held by schedulers.
+    std::uint64_t left(std::uint16_t device) const {
+        std::uint64_t it = 0;
+        need(clk_left(&router_, device, &it));
+        return it;
+    }
+
+    // How many devices there are. They are numbered from 0 as they are declared.
+    std::size_t devices() const noexcept { return clk_devices(&router_); }
+
+    // What became of the packets of each sender, by rising numbers of senders.
+    std::vector<Account> accounts() const {
+        std::vector<Account> all(clk_senders(&router_));
+        for (std::size_t place = 0; place < all.size(); place++)
+            need(clk_account_at(&router_, place, &all[place]));
+        return all;
+    }
+
+    // The queues, by number: in order of declaration.
+    std::vector<Queue> queues() const {
+        std::vector<Queue> all(clk_queues(&router_));
+        for (std::size_t number = 0; number < all.size(); number++)
+            need(clk_queue_at(&router_, static_cast<std::uint16_t>(number), &all[number]));
+        return all;
+    }
+
+    // The router as C has it. It stays this one's.
+    clk_router *c() noexcept { return &router_; }
+
+private:
+    static void need(clk_status status) {
+        if (status != CLK_OK)
+            throw Error(status);
+    }
+
+    static bool is_none(clk_status status) {
+        if (status != CLK_NONE)
+            need(status);
+        return status == CLK_NONE;
+    }
+
+    clk_router router_ = CLK_NO_ROUTER;
+};
+
+// A router whose packets carry values of the caller's: with each a T, which is moved in by an offer and moved out by a pull. They are kept
+// in a list for each sender, and taken from its front, since packets of one sender come out in the order in which they were offered. A T
+// that is moved may not throw, so that none is lost.
+template <class T> class Carrier {
+    static_assert(std::is_nothrow_move_constructible_v<T> && std::is_nothrow_move_assignable_v<T>, "a value is moved without throwing");
+
+public:
+    // A packet that came out, with its value and the moment of the pull, in ticks.
+    struct Carried {
+        Packet packet;
+        std::uint64_t moment;
+        T value;
+    };
+
+    // A packet that was put out for a later one, with its value.
+    struct Evicted {
+        Packet packet;
+        T value;
+    };
+
+    // What became of an offer. A value that was refused is the caller's again, and so is one that was put out.
+    struct Offer {
+        Packet packet;
+        std::optional<T> refused;
+        std::optional<Evicted> evicted;
+
+        bool accepted() const noexcept { return !refused.has_value(); }
+    };
+
+    // The router of a tree in Click's language. Throws TextFault, or std::bad_alloc.
+    explicit Carrier(std::string_view text) : router_(text) {
+        for (const Account &it : router_.accounts())
+            places_.push_back(it.sender);
+        lists_.resize(places_.size());
+    }
+
+    // The sender offers its next packet, of so many bytes, with this value.
+    Offer offer(std::uint16_t sender, std::uint16_t length, T value) {
+        List &list = list_of(sender);
+        // It is put into the list first, so that no memory is asked for once the packet was offered.
+        list.push_back({0, std::move(value)});
+        std::optional<Offered> offered;
+        try {
+            offered = router_.offer(sender, length);
+        } catch (...) {
+            list.pop_back();
+            throw;
+        }
+        list.back().number = offered->packet.number;
+        Offer it{offered->packet, std::nullopt, std::nullopt};
+        if (offered->evicted)
+            it.evicted.emplace(Evicted{*offered->evicted, take_evicted(*offered->evicted)});
+        if (!offered->accepted) {
+            it.refused.emplace(std::move(list.back().value));
+            list.pop_back();
+        }
+        return it;
+    }
+
+    // Pulls the device once, at this moment in ticks.
+    std::optional<Carried> pull(std::uint16_t device, std::uint64_t moment) {
+        const std::optional<Packet> packet = router_.pull(device, moment);
+        if (!packet)
+            return std::nullopt;
+        return Carried{*packet, router_.moment(device), take_front(*packet)};
+    }
+
+    // Pulls the device up to `count` times at this moment, up to the first pull that gives none, hands each that comes to `each`, and
+    // answers how many came. Where `each` throws, nothing that came is kept back.
+    template <class Each> std::size_t pull_many(std::uint16_t device, std::uint64_t moment, std::size_t count, Each &&each) {
+        std::size_t given = 0;
+        while (given < count) {
+            std::optional<Carried> it = pull(device, moment);
+            if (!it)
+                break;
+            given++;
+            each(std::move(*it));
+        }
+        return given;
+    }
+
+    // Pulls the device one tick apart until all that is left for it came out, or `pulls` pulls were made that gave none since the latest
+    // that came; hands each to `each`, and answers how many came, and whether these were all.
+    template <class Each>
+    Drained drain(std::uint16_t device, Each &&each, std::uint64_t pulls = std::numeric_limits<std::uint64_t>::max()) {
+        for (std::size_t given = 0;; given++) {
+            Departure departure{};
+            const Drained it = router_.drain(device, &departure, 1, pulls);
+            if (it.count == 0)
+                return {given, it.all};
+            each(Carried{departure.packet, departure.moment, take_front(departure.packet)});
+        }
+    }
+
+    // How many values of a sender are here: in its queue, or held by a scheduler.
+    std::size_t kept(std::uint16_t sender) { return list_of(sender).size(); }
+
+    // The router, to ask about it.
+    const Router &router() const noexcept { return router_; }
+
+private:
+    struct Own {
+        std::uint32_t number;
+        T value;
+    };
+
+    using List = std::deque<Own>;
+
+    // Places go by rising numbers of senders. Throws CLK_UNKNOWN_SENDER, or CLK_SHUT where it was moved from.
+    List &list_of(std::uint16_t sender) {
+        if (!router_.is_open())
+            throw Error(CLK_SHUT);
+        const auto place = std::lower_bound(places_.begin(), places_.end(), sender);
+        if (place == places_.end() || *place != sender)
+            throw Error(CLK_UNKNOWN_SENDER);
+        return lists_[static_cast<std::size_t>(place - places_.begin())];
+    }
+
+    T take_front(Packet packet) {
+        List &list = list_of(packet.sender);
+        assert(!list.empty() && list.front().number == packet.number);
+        T value = std::move(list.front().value);
+        list.pop_front();
+        return value;
+    }
+
+    // It stands at the front, or behind those that schedulers hold.
+    T take_evicted(Packet packet) {
+        List &list = list_of(packet.sender);
+        const auto at = std::find_if(list.begin(), list.end(), [&](const Own &it) { return it.number == packet.number; });
+        assert(at != list.end());
+        T value = std::move(at->value);
+        list.erase(at);
+        return value;
+    }
+
+    Router router_;
+    std::vector<std::uint16_t> places_;
+    std::vector<List> lists_;
+};
+
+} // namespace clickpull
+
+#endif

@@ -1,0 +1,65 @@
+"""What calls raise. It stands outside what is proved."""
+
+# The faults that a text can have, by number, as docs/FORMATS.md has them. A test compares them with those of the library.
+FAULTS = {
+    1: "Memory",
+    2: "BadText",
+    3: "UnknownClass",
+    4: "BadArgument",
+    5: "NameTwice",
+    6: "UnknownName",
+    7: "BadPort",
+    8: "PortTwice",
+    9: "PortMissing",
+    10: "WrongKind",
+    11: "NoDevice",
+    13: "NotATree",
+    18: "TooLarge",
+}
+
+
+class Error(Exception):
+    """A call that couldn't be made. Nothing has changed."""
+
+
+class Shut(Error):
+    """The router is shut."""
+
+
+class UnknownSender(Error, LookupError):
+    """The tree has no such sender."""
+
+
+class UnknownDevice(Error, LookupError):
+    """The tree has no such device."""
+
+
+class NoLength(Error, ValueError):
+    """A packet has 1 to 65,535 bytes."""
+
+
+class AtEnd(Error, OverflowError):
+    """The sender has offered 4,294,967,295 packets, the moment isn't from 0 to 2^44 - 1, or the device was pulled 2^63 times."""
+
+
+class TextFault(Error, ValueError):
+    """A text makes no router."""
+
+    number: int
+    """The fault's number, as docs/FORMATS.md has it."""
+    name: str
+    offset: int
+    """At which byte of the text, from 0; a text in characters is taken as UTF-8."""
+    line: int
+    """At which line, from 1."""
+    column: int
+    """At which byte of the line, from 1."""
+
+    def __init__(self, number: int, offset: int, text: bytes) -> None:
+        before = text[:offset]
+        self.number = number
+        self.name = FAULTS.get(number, "")
+        self.offset = offset
+        self.line = before.count(b"\n") + 1
+        self.column = offset - before.rfind(b"\n")
+        super().__init__(f"fault {number}: {self.name} at line {self.line}, column {self.column}")

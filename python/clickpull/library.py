@@ -1,0 +1,151 @@
+"""Finds and loads the shared library, and says what its calls take. It stands outside what is proved.
+
+The structures and parameters are those of include/clickpull.h; tests/library compares the two.
+"""
+import ctypes
+import os
+from ctypes import POINTER, Structure, c_size_t, c_uint8, c_uint16, c_uint32, c_uint64, c_void_p
+from pathlib import Path
+
+NAME = "libclickpull.so"
+VARIABLE = "CLICKPULL_LIBRARY"
+
+# Answers.
+OK, NONE, SHUT, NULL, UNKNOWN_SENDER, UNKNOWN_DEVICE, NO_LENGTH, AT_END, UNKNOWN_QUEUE, FAULT = range(10)
+
+
+class RouterHandle(Structure):
+    """A router in the library's hands, or none where `at` is null."""
+
+    _fields_ = [("at", c_void_p)]
+    at: int | None
+
+
+class Fault(Structure):
+    """Why a text makes no router."""
+
+    _fields_ = [("number", c_uint32), ("offset", c_uint32)]
+    number: int
+    offset: int
+
+
+class Packet(Structure):
+    """A packet."""
+
+    _fields_ = [("number", c_uint32), ("sender", c_uint16), ("length", c_uint16)]
+    number: int
+    sender: int
+    length: int
+
+
+class Offered(Structure):
+    """What became of an offer."""
+
+    _fields_ = [("packet", Packet), ("evicted", Packet), ("outcome", c_uint32)]
+    packet: Packet
+    evicted: Packet
+    outcome: int
+
+
+class OfferOf(Structure):
+    """An offer, of many."""
+
+    _fields_ = [("sender", c_uint16), ("length", c_uint16)]
+    sender: int
+    length: int
+
+
+class Departure(Structure):
+    """A packet that came out in a drain."""
+
+    _fields_ = [("moment", c_uint64), ("packet", Packet)]
+    moment: int
+    packet: Packet
+
+
+class Total(Structure):
+    """How many packets, and the sum of their lengths."""
+
+    _fields_ = [("packets", c_uint64), ("bytes", c_uint64)]
+    packets: int
+    bytes: int
+
+
+class Account(Structure):
+    """What became of all that a sender offered."""
+
+    _fields_ = [
+        ("accepted", Total),
+        ("refused", Total),
+        ("evicted", Total),
+        ("emitted", Total),
+        ("sender", c_uint16),
+        ("queue", c_uint16),
+    ]
+    accepted: Total
+    refused: Total
+    evicted: Total
+    emitted: Total
+    sender: int
+    queue: int
+
+
+class Queue(Structure):
+    """A queue."""
+
+    _fields_ = [("capacity", c_uint64), ("held", c_uint64), ("device", c_uint16), ("front_drop", c_uint16)]
+    capacity: int
+    held: int
+    device: int
+    front_drop: int
+
+
+ROUTER = POINTER(RouterHandle)
+COUNT = POINTER(c_size_t)
+
+# What each call takes and answers.
+CALLS = {
+    "clk_router_open": ([POINTER(c_uint8), c_size_t, ROUTER, POINTER(Fault)], c_uint32),
+    "clk_router_close": ([RouterHandle], None),
+    "clk_router_offer": ([ROUTER, c_uint16, c_uint16, POINTER(Offered)], c_uint32),
+    "clk_router_offer_many": ([ROUTER, POINTER(OfferOf), c_size_t, POINTER(Offered), c_size_t, COUNT], c_uint32),
+    "clk_router_pull": ([ROUTER, c_uint16, c_uint64, POINTER(Packet)], c_uint32),
+    "clk_router_pull_many": ([ROUTER, c_uint16, c_uint64, POINTER(Packet), c_size_t, COUNT], c_uint32),
+    "clk_router_moment": ([ROUTER, c_uint16, POINTER(c_uint64)], c_uint32),
+    "clk_router_left": ([ROUTER, c_uint16, POINTER(c_uint64)], c_uint32),
+    "clk_router_drain": ([ROUTER, c_uint16, POINTER(Departure), c_size_t, c_uint64, COUNT], c_uint32),
+    "clk_router_senders": ([ROUTER], c_size_t),
+    "clk_router_account": ([ROUTER, c_size_t, POINTER(Account)], c_uint32),
+    "clk_router_queues": ([ROUTER], c_size_t),
+    "clk_router_queue": ([ROUTER, c_uint16, POINTER(Queue)], c_uint32),
+    "clk_router_devices": ([ROUTER], c_size_t),
+}
+
+
+def places() -> list[str]:
+    """Where the library is looked for, in this order: what the variable names alone, or beside this file and then by the loader."""
+    if named := os.environ.get(VARIABLE):
+        return [named]
+    beside = sorted(str(it) for it in Path(__file__).parent.glob(NAME + "*"))
+    return [*beside, NAME + ".0", NAME]
+
+
+def loaded() -> ctypes.PyDLL:
+    """The library. Its calls are short and hold the global lock, so that two of them never run at once."""
+    failures = []
+    for place in places():
+        try:
+            library = ctypes.PyDLL(place)
+            break
+        except OSError as it:
+            failures.append(str(it))
+    else:
+        raise ImportError(f"clickpull: no shared library is found ({'; '.join(failures)}); {VARIABLE} may name it")
+    for name, (parameters, answer) in CALLS.items():
+        call = getattr(library, name)
+        call.argtypes = parameters
+        call.restype = answer
+    return library
+
+
+LIBRARY = loaded()

@@ -1,0 +1,237 @@
+"""A router of packets. It stands outside what is proved."""
+import ctypes
+from collections.abc import Callable, Iterable, Iterator
+from ctypes import byref
+from types import TracebackType
+from typing import NoReturn
+
+from clickpull import library
+from clickpull.errors import AtEnd, Error, NoLength, Shut, TextFault, UnknownDevice, UnknownSender
+from clickpull.library import LIBRARY
+from clickpull.values import Account, Departure, Offered, Outcome, Packet, Queue, Total
+
+END_OF_MOMENTS = 1 << 44
+"""Below which number of ticks a moment is."""
+
+_END_OF_NUMBERS = 1 << 16
+_ALL_PULLS = (1 << 64) - 1
+
+
+def _packet(it: library.Packet) -> Packet:
+    return Packet(it.sender, it.number, it.length)
+
+
+def _offered(it: library.Offered) -> Offered:
+    outcome = Outcome(it.outcome)
+    return Offered(_packet(it.packet), outcome, _packet(it.evicted) if outcome is Outcome.EVICTED else None)
+
+
+def _total(it: library.Total) -> Total:
+    return Total(it.packets, it.bytes)
+
+
+def _departure(it: library.Departure) -> Departure:
+    return Departure(it.moment, _packet(it.packet))
+
+
+class Router:
+    """The router of a tree in Click's language.
+
+    It is a context manager, which shuts it at its end; one that is let go of is shut, too. What is called of a shut one raises `Shut`.
+    Devices are numbered from 0 as they are declared, and calls take device 0 where none is named.
+    """
+
+    def __init__(self, text: str | bytes) -> None:
+        """Makes a router of a text. Raises `TextFault` where it has one, and `MemoryError`."""
+        self._handle = library.RouterHandle(None)
+        self._router = byref(self._handle)
+        code = text.encode() if isinstance(text, str) else bytes(text)
+        fault = library.Fault()
+        array = (ctypes.c_uint8 * max(len(code), 1)).from_buffer_copy(code or b"\0")
+        if LIBRARY.clk_router_open(array, len(code), self._router, byref(fault)) != library.OK:
+            if fault.number == 1:
+                raise MemoryError("clickpull: a router's memory was refused")
+            raise TextFault(fault.number, fault.offset, code)
+        self._senders = frozenset(it.sender for it in self.accounts())
+
+    # How it ends.
+
+    def close(self) -> None:
+        """Shuts it, and gives back all that it has."""
+        handle = getattr(self, "_handle", None)
+        if handle and handle.at:
+            LIBRARY.clk_router_close(handle)
+            handle.at = None
+
+    @property
+    def closed(self) -> bool:
+        """Whether it is shut."""
+        return not self._handle.at
+
+    def __enter__(self) -> "Router":
+        return self
+
+    def __exit__(self, kind: type[BaseException] | None, error: BaseException | None, trace: TracebackType | None) -> None:
+        self.close()
+
+    def __del__(self) -> None:
+        self.close()
+
+    def __reduce__(self) -> NoReturn:
+        raise TypeError("a router can't be copied")
+
+    # Offers.
+
+    def offer(self, sender: int, length: int) -> Offered:
+        """The sender offers its next packet, of so many bytes, to its queue, and what became of it is answered."""
+        self._need_open()
+        self._need_offer(sender, length)
+        offered = library.Offered()
+        self._need(LIBRARY.clk_router_offer(self._router, sender, length, byref(offered)))
+        return _offered(offered)
+
+    def offer_many(self, offers: Iterable[tuple[int, int]]) -> list[Offered]:
+        """Offers many packets, each a sender and a length. Where one can't be offered, nothing is offered.
+
+        Only that a sender's numbers are at their end isn't known beforehand: packets before that one have been offered then.
+        """
+        self._need_open()
+        wanted = list(offers)
+        for sender, length in wanted:
+            self._need_offer(sender, length)
+            if sender not in self._senders:
+                raise UnknownSender(f"there is no sender {sender}")
+        if not wanted:
+            return []
+        array = (library.OfferOf * len(wanted))(*(library.OfferOf(sender, length) for sender, length in wanted))
+        offered = (library.Offered * len(wanted))()
+        done = ctypes.c_size_t()
+        self._need(LIBRARY.clk_router_offer_many(self._router, array, len(array), offered, len(offered), byref(done)))
+        return [_offered(it) for it in offered]
+
+    # Pulls.
+
+    def pull(self, moment: int, device: int = 0) -> Packet | None:
+        """Pulls the device once, at this moment in ticks or, where that is later, at the greatest so far."""
+        self._need_open()
+        self._need_device(device)
+        self._need_moment(moment)
+        packet = library.Packet()
+        if self._is_none(LIBRARY.clk_router_pull(self._router, device, moment, byref(packet))):
+            return None
+        return _packet(packet)
+
+    def pull_many(self, moment: int, count: int, device: int = 0) -> list[Packet]:
+        """Pulls the device up to `count` times at this moment, up to the first pull that gives none, and answers the packets."""
+        self._need_open()
+        self._need_device(device)
+        self._need_moment(moment)
+        packets = (library.Packet * max(count, 1))()
+        given = ctypes.c_size_t()
+        self._is_none(LIBRARY.clk_router_pull_many(self._router, device, moment, packets, max(count, 0), byref(given)))
+        return [_packet(packets[i]) for i in range(given.value)]
+
+    def pulls(self, moment: int, device: int = 0) -> Iterator[Packet]:
+        """Pulls the device at this moment, once for each packet that is asked for, up to the first pull that gives none."""
+        while (it := self.pull(moment, device)) is not None:
+            yield it
+
+    def drain(self, device: int = 0, pulls: int | None = None) -> Iterator[Departure]:
+        """Pulls the device one tick apart, from one tick after the counted moment, until all that is left for it came out.
+
+        The pulls are made as packets are asked for. Where `pulls` is given it is how many are made in a row that give none, before
+        the iterator ends with some left.
+        """
+        departure, given = library.Departure(), ctypes.c_size_t()
+        most = _ALL_PULLS if pulls is None else pulls
+        while True:
+            self._need_open()
+            self._need_device(device)
+            self._is_none(LIBRARY.clk_router_drain(self._router, device, byref(departure), 1, most, byref(given)))
+            if given.value == 0:
+                return
+            yield _departure(departure)
+
+    # What there is.
+
+    def moment(self, device: int = 0) -> int:
+        """The greatest moment that was handed in at the device so far, in ticks; 0 before its first pull."""
+        return self._number(LIBRARY.clk_router_moment, device)
+
+    def left(self, device: int = 0) -> int:
+        """How many packets are left for the device: in its queues, or held by its schedulers."""
+        return self._number(LIBRARY.clk_router_left, device)
+
+    @property
+    def devices(self) -> int:
+        """How many devices there are."""
+        self._need_open()
+        return int(LIBRARY.clk_router_devices(self._router))
+
+    def accounts(self) -> list[Account]:
+        """What became of the packets of each sender, by rising numbers of senders."""
+        self._need_open()
+        return [self._account(place) for place in range(LIBRARY.clk_router_senders(self._router))]
+
+    def queues(self) -> list[Queue]:
+        """The queues, by number: in order of declaration."""
+        self._need_open()
+        return [self._queue(number) for number in range(LIBRARY.clk_router_queues(self._router))]
+
+    def _account(self, place: int) -> Account:
+        it = library.Account()
+        self._need(LIBRARY.clk_router_account(self._router, place, byref(it)))
+        return Account(it.sender, it.queue, _total(it.accepted), _total(it.refused), _total(it.evicted), _total(it.emitted))
+
+    def _queue(self, number: int) -> Queue:
+        it = library.Queue()
+        self._need(LIBRARY.clk_router_queue(self._router, number, byref(it)))
+        return Queue(it.capacity, it.held, it.device, it.front_drop != 0)
+
+    def _number(self, call: Callable[..., int], device: int) -> int:
+        self._need_open()
+        self._need_device(device)
+        it = ctypes.c_uint64()
+        self._need(call(self._router, device, byref(it)))
+        return it.value
+
+    # What can't be done. ctypes cuts numbers to what C has room for, so that they are looked at first.
+
+    def _need_open(self) -> None:
+        if not self._handle.at:
+            raise Shut("the router is shut")
+
+    @staticmethod
+    def _need_offer(sender: int, length: int) -> None:
+        if not 0 <= sender < _END_OF_NUMBERS:
+            raise UnknownSender(f"there is no sender {sender}")
+        if not 1 <= length < _END_OF_NUMBERS:
+            raise NoLength(f"a packet has 1 to 65,535 bytes, and not {length}")
+
+    @staticmethod
+    def _need_device(device: int) -> None:
+        if not 0 <= device < _END_OF_NUMBERS:
+            raise UnknownDevice(f"there is no device {device}")
+
+    @staticmethod
+    def _need_moment(moment: int) -> None:
+        if not 0 <= moment < END_OF_MOMENTS:
+            raise AtEnd(f"a moment is from 0 to {END_OF_MOMENTS - 1}, and not {moment}")
+
+    @staticmethod
+    def _need(status: int) -> None:
+        if status == library.OK:
+            return
+        if status == library.UNKNOWN_SENDER:
+            raise UnknownSender("there is no such sender")
+        if status == library.UNKNOWN_DEVICE:
+            raise UnknownDevice("there is no such device")
+        if status == library.AT_END:
+            raise AtEnd("numbers or moments are at their end")
+        raise Error(f"the library answered {status}")
+
+    @staticmethod
+    def _is_none(status: int) -> bool:
+        if status != library.NONE:
+            Router._need(status)
+        return status == library.NONE

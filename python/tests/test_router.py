@@ -1,0 +1,207 @@
+"""Tests of `clickpull.Router`. They stand outside what is proved."""
+import copy
+import gc
+import pickle
+from collections.abc import Callable
+from concurrent.futures import ThreadPoolExecutor
+
+import pytest
+
+from clickpull import (
+    END_OF_MOMENTS,
+    AtEnd,
+    Departure,
+    Error,
+    NoLength,
+    Outcome,
+    Packet,
+    Queue,
+    Router,
+    Shut,
+    TextFault,
+    Total,
+    UnknownDevice,
+    UnknownSender,
+)
+
+ONE = "a :: Sender(4); q :: FrontDropQueue(2); d :: ToDevice(link); a -> q -> d;"
+SHAPED = "a :: Sender(0); q :: Queue(9); s :: Shaper(1); d :: ToDevice(link); a -> q -> s -> d;"
+
+
+def test_a_fault_says_where() -> None:
+    with pytest.raises(TextFault) as raised:
+        Router("a :: Sender(0);\nq :: Heap(3);")
+    it = raised.value
+    assert (it.number, it.name, it.offset, it.line, it.column) == (3, "UnknownClass", 21, 2, 6)
+    assert str(it) == "fault 3: UnknownClass at line 2, column 6"
+    assert isinstance(it, Error) and isinstance(it, ValueError)
+
+
+@pytest.mark.parametrize("text, number", [("", 11), (b"\xff", 2), ("a :: Sender(0", 2), ("a :: Sender;", 4)])
+def test_a_text_is_refused(text: str | bytes, number: int) -> None:
+    with pytest.raises(TextFault) as raised:
+        Router(text)
+    assert raised.value.number == number
+
+
+def test_packets_are_offered_and_pulled() -> None:
+    with Router(ONE) as router:
+        assert router.pull(0) is None
+        assert router.offer(4, 10) == (Packet(4, 0, 10), Outcome.ACCEPTED, None)
+        assert router.offer(4, 11).accepted
+        assert router.offer(4, 12) == (Packet(4, 2, 12), Outcome.EVICTED, Packet(4, 0, 10))
+        assert router.left() == 2
+        assert router.pull(7) == Packet(4, 1, 11)
+        assert router.moment() == 7
+
+
+def test_a_full_queue_refuses() -> None:
+    with Router("a :: Sender(0); q :: Queue(1); d :: ToDevice(link); a -> q -> d;") as router:
+        router.offer(0, 10)
+        it = router.offer(0, 11)
+        assert it == (Packet(0, 1, 11), Outcome.REFUSED, None) and not it.accepted
+
+
+def test_many_go_together() -> None:
+    with Router(ONE) as router:
+        assert router.offer_many([]) == []
+        assert [it.packet.number for it in router.offer_many([(4, 10), (4, 11), (4, 12)])] == [0, 1, 2]
+        assert router.pull_many(0, 9) == [Packet(4, 1, 11), Packet(4, 2, 12)]
+        assert router.pull_many(0, 9) == []
+        assert router.pull_many(0, 0) == []
+
+
+def test_where_one_of_many_cannot_be_none_is_offered() -> None:
+    with Router(ONE) as router:
+        with pytest.raises(UnknownSender):
+            router.offer_many([(4, 10), (5, 11)])
+        with pytest.raises(NoLength):
+            router.offer_many([(4, 10), (4, 0)])
+        assert router.left() == 0
+
+
+def test_pulls_go_up_to_none() -> None:
+    with Router(ONE) as router:
+        router.offer_many([(4, 10), (4, 11)])
+        assert [it.length for it in router.pulls(3)] == [10, 11]
+        assert list(router.pulls(3)) == []
+
+
+def test_what_is_not_asked_for_stays() -> None:
+    with Router(SHAPED) as router:
+        router.offer_many([(0, 10), (0, 11), (0, 12)])
+        assert next(router.drain()) == Departure(1, Packet(0, 0, 10))
+        assert router.left() == 2
+        assert next(router.pulls(2)) == Packet(0, 1, 11)
+        assert router.left() == 1
+
+
+def test_a_drain_brings_out_all() -> None:
+    with Router(SHAPED) as router:
+        router.offer_many([(0, 10)] * 5)
+        assert router.pull(10) == Packet(0, 0, 10)
+        assert [(it.moment, it.packet.number) for it in router.drain()] == [(11, 1), (12, 2), (13, 3), (14, 4)]
+        assert list(router.drain()) == []
+        assert router.moment() == 14
+
+
+def test_a_drain_may_end_before() -> None:
+    with Router("a :: Sender(0); q :: Queue(9); s :: DRRSched(500); d :: ToDevice(link); a -> q -> s -> d;") as router:
+        router.offer(0, 1600)
+        assert list(router.drain(pulls=2)) == []
+        assert router.left() == 1
+        assert [it.moment for it in router.drain()] == [4]
+
+
+def test_what_there_is() -> None:
+    with Router("b :: Sender(7); a :: Sender(3); p :: Queue; q :: FrontDropQueue(1); c, d :: ToDevice(link); a -> q -> d; b -> p -> c;") as router:
+        router.offer_many([(3, 10), (3, 20)])
+        assert router.devices == 2
+        assert router.queues() == [Queue(1000, 0, 0, False), Queue(1, 1, 1, True)]
+        first, last = router.accounts()
+        none = Total(0, 0)
+        assert first == (3, 1, Total(2, 30), none, Total(1, 10), none)
+        assert last == (7, 0, none, none, none, none)
+
+
+@pytest.mark.parametrize("sender", [0, 5, 65535, 65536 + 4, -1])
+def test_an_unknown_sender(sender: int) -> None:
+    with Router(ONE) as router, pytest.raises(UnknownSender):
+        router.offer(sender, 1)
+
+
+@pytest.mark.parametrize("length", [0, -1, 65536])
+def test_no_length(length: int) -> None:
+    with Router(ONE) as router, pytest.raises(NoLength):
+        router.offer(4, length)
+
+
+@pytest.mark.parametrize("device", [1, 65536, -1])
+def test_an_unknown_device(device: int) -> None:
+    with Router(ONE) as router:
+        calls: list[Callable[[int], object]] = [
+            router.moment,
+            router.left,
+            lambda it: router.pull(0, it),
+            lambda it: router.pull_many(0, 1, it),
+            lambda it: list(router.drain(it)),
+        ]
+        for call in calls:
+            with pytest.raises(UnknownDevice):
+                call(device)
+
+
+@pytest.mark.parametrize("moment", [END_OF_MOMENTS, -1, 1 << 64])
+def test_a_moment_at_its_end(moment: int) -> None:
+    with Router(ONE) as router:
+        with pytest.raises(AtEnd):
+            router.pull(moment)
+        with pytest.raises(AtEnd):
+            router.pull_many(moment, 1)
+        assert router.moment() == 0
+
+
+def test_a_shut_router() -> None:
+    with Router(ONE) as router:
+        assert not router.closed
+    assert router.closed
+    router.close()
+    calls: list[Callable[[], object]] = [
+        lambda: router.offer(4, 1),
+        lambda: router.pull(0),
+        lambda: router.devices,
+        router.accounts,
+        router.queues,
+        router.left,
+    ]
+    for call in calls:
+        with pytest.raises(Shut):
+            call()
+
+
+def test_a_router_is_not_copied() -> None:
+    with Router(ONE) as router:
+        calls: list[Callable[[Router], object]] = [copy.copy, copy.deepcopy, pickle.dumps]
+        for call in calls:
+            with pytest.raises(TypeError):
+                call(router)
+
+
+def test_threads_may_share_a_router() -> None:
+    """Calls come one after the other, and so no packet is lost."""
+    threads, packets = 4, 5000
+    tree = f"a :: Sender(0); q :: Queue({threads * packets}); d :: ToDevice(link); a -> q -> d;"
+    with Router(tree) as router, ThreadPoolExecutor(threads) as pool:
+
+        def offer_all(_: int) -> list[int]:
+            return [router.offer(0, 1).packet.number for _ in range(packets)]
+
+        numbers = [it for given in pool.map(offer_all, range(threads)) for it in given]
+        assert sorted(numbers) == list(range(threads * packets))
+        assert [it.number for it in router.pulls(0)] == list(range(threads * packets))
+
+
+def test_routers_are_let_go_of() -> None:
+    for _ in range(1000):
+        Router(ONE).offer(4, 1)
+    gc.collect()

@@ -1,0 +1,125 @@
+// Tests of clickpull::Router. They stand outside what is proved.
+#include "check.hpp"
+
+#include <cstring>
+
+using clickpull::Departure;
+using clickpull::Packet;
+using clickpull::Router;
+using clickpull::TextFault;
+
+static_assert(!std::is_copy_constructible_v<Router> && !std::is_copy_assignable_v<Router>);
+static_assert(std::is_nothrow_move_constructible_v<Router> && std::is_nothrow_move_assignable_v<Router>);
+
+static const char *const ONE = "a :: Sender(4); q :: FrontDropQueue(2); d :: ToDevice(link); a -> q -> d;";
+
+static void a_fault_is_thrown() {
+    try {
+        Router router("a :: Sender(0);\nq :: Heap(3);");
+        CHECK(false);
+    } catch (const TextFault &it) {
+        CHECK(it.status() == CLK_FAULT);
+        CHECK(it.number() == 3 && it.offset() == 21 && it.line() == 2 && it.column() == 6);
+        CHECK(std::strcmp(it.name(), "UnknownClass") == 0);
+        CHECK(std::strcmp(it.what(), "fault 3: UnknownClass at line 2, column 6") == 0);
+    }
+}
+
+static void packets_are_offered_and_pulled() {
+    Router router(ONE);
+    CHECK(!router.pull(0, 0));
+    for (unsigned i = 0; i < 2; i++) {
+        const auto it = router.offer(4, static_cast<std::uint16_t>(10 + i));
+        CHECK(is_packet(it.packet, 4, i, 10 + i) && it.accepted && !it.evicted);
+    }
+    const auto it = router.offer(4, 12);
+    CHECK(it.accepted && it.evicted && is_packet(*it.evicted, 4, 0, 10));
+    CHECK(router.left(0) == 2);
+    const auto packet = router.pull(0, 7);
+    CHECK(packet && is_packet(*packet, 4, 1, 11));
+    CHECK(router.moment(0) == 7);
+}
+
+static void a_full_queue_refuses() {
+    Router router("a :: Sender(4); q :: Queue(1); d :: ToDevice(link); a -> q -> d;");
+    router.offer(4, 1);
+    const auto it = router.offer(4, 2);
+    CHECK(!it.accepted && !it.evicted && it.packet.number == 1);
+}
+
+static void bursts_go_together() {
+    Router router(ONE);
+    const clk_offer_of offers[] = {{4, 10}, {4, 20}, {5, 30}, {4, 40}};
+    clk_offered offered[4];
+    const auto done = router.offer_many(offers, 4, offered);
+    CHECK(done.count == 2 && done.status == CLK_UNKNOWN_SENDER);
+    Packet packets[4];
+    CHECK(router.pull_many(0, 0, packets, 4) == 2);
+    CHECK(is_packet(packets[0], 4, 0, 10) && is_packet(packets[1], 4, 1, 20));
+    CHECK(router.pull_many(0, 0, packets, 4) == 0);
+}
+
+static void a_router_drains() {
+    Router router("a :: Sender(0); q :: Queue(9); s :: Shaper(1); d :: ToDevice(link); a -> q -> s -> d;");
+    for (int i = 0; i < 5; i++)
+        router.offer(0, 100);
+    Departure departures[3];
+    auto it = router.drain(0, departures, 3);
+    CHECK(it.count == 3 && !it.all && departures[2].moment == 3);
+    it = router.drain(0, departures, 3, 1);
+    CHECK(it.count == 1 && !it.all && departures[0].moment == 4);
+    it = router.drain(0, departures, 3);
+    CHECK(it.count == 1 && it.all && is_packet(departures[0].packet, 0, 4, 100));
+}
+
+static void what_cannot_be_is_thrown() {
+    Router router(ONE);
+    CHECK(thrown_by([&] { router.offer(5, 1); }) == CLK_UNKNOWN_SENDER);
+    CHECK(thrown_by([&] { router.offer(4, 0); }) == CLK_NO_LENGTH);
+    CHECK(thrown_by([&] { router.pull(1, 0); }) == CLK_UNKNOWN_DEVICE);
+    CHECK(thrown_by([&] { router.pull(0, CLK_END_OF_MOMENTS); }) == CLK_AT_END);
+    CHECK(thrown_by([&] { router.left(1); }) == CLK_UNKNOWN_DEVICE);
+    CHECK(thrown_by([&] { router.moment(1); }) == CLK_UNKNOWN_DEVICE);
+    CHECK(thrown_by([&] { router.drain(1, nullptr, 0); }) == CLK_UNKNOWN_DEVICE);
+    CHECK(thrown_by([&] { router.pull_many(0, 0, nullptr, 1); }) == CLK_NULL);
+}
+
+static void a_router_moves() {
+    Router one(ONE);
+    one.offer(4, 9);
+    Router other(std::move(one));
+    CHECK(!one.is_open() && other.is_open());
+    CHECK(thrown_by([&] { one.offer(4, 1); }) == CLK_SHUT);
+    CHECK(one.devices() == 0 && one.accounts().empty() && one.queues().empty());
+    Router third("a :: Sender(1); q :: Queue; d :: ToDevice(link); a -> q -> d;");
+    third = std::move(other);
+    CHECK(third.left(0) == 1 && !other.is_open());
+    Router &same = third;
+    third = std::move(same);
+    CHECK(third.left(0) == 1);
+    third.shut();
+    third.shut();
+    CHECK(thrown_by([&] { third.left(0); }) == CLK_SHUT);
+}
+
+static void a_router_tells_what_there_is() {
+    Router router(ONE);
+    router.offer(4, 9);
+    const auto accounts = router.accounts();
+    CHECK(accounts.size() == 1 && accounts[0].sender == 4 && accounts[0].accepted.bytes == 9);
+    const auto queues = router.queues();
+    CHECK(queues.size() == 1 && queues[0].capacity == 2 && queues[0].held == 1 && queues[0].front_drop == 1);
+    CHECK(router.devices() == 1);
+    CHECK(clk_devices(router.c()) == 1);
+}
+
+void test_router() {
+    a_fault_is_thrown();
+    packets_are_offered_and_pulled();
+    a_full_queue_refuses();
+    bursts_go_together();
+    a_router_drains();
+    what_cannot_be_is_thrown();
+    a_router_moves();
+    a_router_tells_what_there_is();
+}

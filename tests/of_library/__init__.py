@@ -1,0 +1,1 @@
+"""The checks of tests/library, a module a subject. They stand outside what is proved."""

@@ -1,0 +1,145 @@
+"""The shared library, and the tests in C and C++. It stands outside what is proved."""
+import shutil
+from collections.abc import Callable
+from pathlib import Path
+
+from of_library.checks import Check, Failed, LeftOut, Setting, compare, need, run
+
+WARNINGS = ["-Wall", "-Wextra", "-Wpedantic", "-Wconversion", "-Wshadow", "-Werror"]
+# valgrind doesn't read what clang writes for debuggers unless it is told to write it as of old.
+BUILT = ["-O1", "-gdwarf-4", *WARNINGS]
+C = ["-std=c11", *BUILT]
+CPP = ["-std=c++17", *BUILT]
+
+# The compilers of C, each with that of C++ beside it.
+COMPILERS = {"gcc": "g++", "clang": "clang++"}
+
+# A program that stands alone, and so is no part of the tests of calls.
+ALONE = ("replay.c", "memory.c")
+
+# The requests for memory that tests/c/memory.c answers.
+WRAPPED = [f"-Wl,--wrap={it}" for it in ("malloc", "calloc", "realloc", "free")]
+
+
+def heap() -> Path:
+    """The toolchain's archive that takes memory from the C library, which a program of C links beside the library."""
+    rt = shutil.which("rt")
+    if rt is None:
+        raise LeftOut("rt, beside which liblibc_c.a is, is missing")
+    path = Path(rt).resolve().parent.parent / "c" / "liblibc_c.a"
+    if not path.exists():
+        raise LeftOut("liblibc_c.a is missing beside rt")
+    return path
+
+
+def make_shared(setting: Setting, kept: Path | None) -> None:
+    """Makes the shared library of the archive, as packaging does, and keeps it at a path where one is named."""
+    need("cc")
+    name = "-Wl,-soname,libclickpull.so.0"
+    exports = f"-Wl,--version-script={setting.root / 'packaging' / 'exports.map'}"
+    whole = ["-Wl,--whole-archive", str(setting.archive), str(heap()), "-Wl,--no-whole-archive"]
+    run(["cc", "-shared", "-o", setting.shared, name, exports, *whole, "-Wl,-z,defs"])
+    if kept:
+        shutil.copy(setting.shared, kept)
+
+
+def tests_of(setting: Setting, compiler: str) -> Path:
+    """The tests of C that a compiler builds, over the archive."""
+    need(compiler)
+    program = setting.made / f"calls-{compiler}"
+    sources = sorted(it for it in (setting.root / "tests" / "c").glob("*.c") if it.name not in ALONE)
+    run([compiler, *C, "-I", setting.include, *sources, "-o", program, setting.archive, heap()])
+    return program
+
+
+def tests_of_cpp(setting: Setting, compiler: str) -> Path:
+    """The tests of C++ that a compiler builds, over the archive."""
+    need(compiler)
+    program = setting.made / f"calls-{compiler}"
+    sources = sorted((setting.root / "tests" / "cpp").glob("*.cpp"))
+    run([compiler, *CPP, "-I", setting.include, *sources, "-o", program, setting.archive, heap()])
+    return program
+
+
+def clean(program: Path) -> str:
+    """Runs tests, alone and then under valgrind where it is there."""
+    told = run([program]).strip()
+    if shutil.which("valgrind") is None:
+        return f"{told}, without valgrind, which is missing"
+    run(["valgrind", "-q", "--error-exitcode=9", "--leak-check=full", "--show-leak-kinds=all", program])
+    return f"{told}, valgrind finds no error and no leak"
+
+
+def in_c(compiler: str) -> Callable[[Setting], str]:
+    """The tests of C by this compiler."""
+    return lambda setting: clean(tests_of(setting, compiler))
+
+
+def in_cpp(compiler: str) -> Callable[[Setting], str]:
+    """The tests of C++ by this compiler."""
+    return lambda setting: clean(tests_of_cpp(setting, compiler))
+
+
+# What a program that includes a header may ask of it besides.
+STRICT = ["-Wsign-conversion", "-Wcast-qual", "-Wcast-align", "-Wundef", "-Wformat=2"]
+STRICT_CPP = [*STRICT, "-Wold-style-cast", "-Wnon-virtual-dtor", "-Woverloaded-virtual"]
+
+
+def headers_stand_alone(setting: Setting) -> str:
+    """Each header is the whole of what a program includes, and brings no warning with it."""
+    made = []
+    for c, cpp in COMPILERS.items():
+        for compiler, header, ending, flags in (
+            (c, "clickpull.h", "c", [*C, *STRICT]),
+            (cpp, "clickpull.h", "cpp", [*CPP, *STRICT_CPP]),
+            (cpp, "clickpull.hpp", "cpp", [*CPP, *STRICT_CPP]),
+        ):
+            if shutil.which(compiler) is None:
+                continue
+            source = setting.made / f"alone-{compiler}-{header}.{ending}"
+            source.write_text(f'#include "{header}"\n#include "{header}"\nint main(void) {{ return 0; }}\n')
+            run([compiler, *flags, "-I", setting.include, "-fsyntax-only", source])
+            made.append(f"{compiler} {header}")
+    if not made:
+        raise LeftOut("no compiler is there")
+    return ", ".join(made)
+
+
+def over_the_shared_library(setting: Setting) -> str:
+    """The tests of C run over the shared library as over the archive, and it exports the calls alone."""
+    need("cc", "nm")
+    program = setting.made / "calls-shared"
+    sources = sorted(it for it in (setting.root / "tests" / "c").glob("*.c") if it.name not in ALONE)
+    run(["cc", *C, "-I", setting.include, *sources, "-o", program, setting.shared, f"-Wl,-rpath,{setting.made}"])
+    # The program asks for the library by the name that it was given.
+    link = setting.made / "libclickpull.so.0"
+    link.unlink(missing_ok=True)
+    link.symlink_to(setting.shared)
+    return run([program]).strip()
+
+
+def memory_is_refused(setting: Setting) -> str:
+    """Each request for memory is refused in turn."""
+    told = []
+    for compiler in COMPILERS:
+        if shutil.which(compiler) is None:
+            continue
+        program = setting.made / f"memory-{compiler}"
+        source = setting.root / "tests" / "c" / "memory.c"
+        run([compiler, *C, "-I", setting.include, source, "-o", program, *WRAPPED, setting.archive, heap()])
+        told.append(run([program]).strip())
+    if not told:
+        raise LeftOut("neither gcc nor clang is there")
+    compare("requests by compiler", len(set(told)), 1)
+    if told[0].startswith("0 "):
+        raise Failed("no request was refused")
+    return told[0]
+
+
+CHECKS = [
+    Check("the headers stand alone", headers_stand_alone),
+    *(Check(f"the calls, by {it}", in_c(it)) for it in COMPILERS),
+    *(Check(f"C++, by {it}", in_cpp(it)) for it in COMPILERS.values()),
+    Check("the calls, over the shared library", over_the_shared_library),
+    Check("memory that is refused", memory_is_refused),
+]
