@@ -67,7 +67,7 @@ device_at setup place = its_device setup.queues (slice_get setup.senders place)
 abbrev pub end_of_packets : ℕ
 end_of_packets = 2 ^ 63
 
--- The sender at a place can offer a packet: it is there, its packet's number has 32 bits, and its device takes one more.
+-- The sender at a place can offer a packet: it is there, has offered fewer than 2^32 - 1 packets, and its device takes one more.
 pub record CanOffer (c : Course) (place : ℕ) : Type 0 where
   pub there : place < length c.setup.senders
   pub numbers : (sender : ℕ) → sender_at c.setup place ≡ Some sender → length (numbers_of sender c.events) + 1 < 2 ^ 32

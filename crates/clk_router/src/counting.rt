@@ -1,4 +1,4 @@
-//! A router that can go on for ever.
+//! A router that keeps totals alone.
 
 use crate::accounts::{Account, accounts_of, count_given, count_offered};
 use crate::queue_state::QueueState;
@@ -10,8 +10,9 @@ use clk_tree::Plan;
 use std::alloc::Global;
 use std::marker::Model;
 
-/// A router that keeps nothing of the past but totals for each sender, so that it can go on for ever: no call takes memory but the one that
-/// opens it. What is said of it is said of all events so far.
+/// A router that keeps nothing of the past but totals for each sender: no call takes memory but the one that opens it, so that it can go on
+/// until a sender has offered 4,294,967,295 packets, or a device is at the end of its pulls or moments. What is said of it is said of all
+/// events so far.
 #[derive(Drop)]
 pub struct CountingRouter {
     router: Router,
@@ -88,7 +89,8 @@ impl CountingRouter {
         self.router.has_happened();
     }
 
-    /// Whether the sender at this place can offer a packet: it is there, its packet's number has 32 bits, and its device takes one more.
+    /// Whether the sender at this place can offer a packet: it is there, has offered fewer than 4,294,967,295 packets, and its device takes
+    /// one more.
     pub fn can_offer(&self, place: usize) -> bool
         ensures yes { result ≡ true → CanOffer self.now place }
         ensures no { result ≡ false → CanOffer self.now place → ⊥ }

@@ -103,7 +103,8 @@ impl Router {
         let _ = &self.parts;
     }
 
-    /// Whether the sender at this place can offer a packet: it is there, its packet's number has 32 bits, and its device takes one more.
+    /// Whether the sender at this place can offer a packet: it is there, has offered fewer than 4,294,967,295 packets, and its device takes
+    /// one more.
     pub fn can_offer(&self, place: usize) -> bool
         ensures yes { result ≡ true → CanOffer self.now place }
         ensures no { result ≡ false → CanOffer self.now place → ⊥ }

@@ -25,11 +25,11 @@ pub struct Answer {
     pub rows: Vec<Row>,
     /// The packets that came out in the closing of each device, if it closes: then the report follows.
     pub closing: Option<Vec<Vec<Departure>>>,
-    /// What the router did.
+    /// All that the router did.
     pub past: Past,
 }
 
-/// What a script comes to over a router to which nothing has happened.
+/// What a script comes to over a recorder of a router to which nothing has happened.
 ///
 /// # Errors
 ///
@@ -90,8 +90,8 @@ fn carry_out_one(recorder: &mut Recorder, row: Row) -> Result<Row, Fault>
     }
 }
 
-/// Closes a router from this moment on, in ticks, if there is one. Answers the packets that came out in the closing of each device.
-/// Fault 1 where memory is refused.
+/// Closes the router of a recorder from this moment on, in ticks, if there is one. Answers the packets that came out in the closing of each
+/// device. Fault 1 where memory is refused.
 fn close(
     alloc: Global,
     recorder: &mut Recorder,

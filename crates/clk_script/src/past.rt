@@ -1,9 +1,9 @@
-//! What a router did.
+//! What a recorder saw a router do.
 
 use clk_packet::{Packet, Tally};
 use clk_sched::Visit;
 
-/// All that a router did, once nothing more is asked of it.
+/// All that a recorder saw its router do, once nothing more is asked of it.
 #[derive(Drop)]
 pub struct Past {
     /// Every visit of each device, in order, where visits are kept.

@@ -1,4 +1,4 @@
--- What a recorder knows of a router, in the words of the definitions.
+-- What a recorder knows of its router, in the words of the definitions.
 use Rattle.std.specs.Prelude.{◌≡◌, ℕ, Bool, ◌<◌, ◌≤◌, List, [], ◌∷◌, ◌++◌, length, map, true, false, nat_lt, if◌then◌else◌, ◌==◌, ⊤, Option, Some, slice_get}
 use Rattle.std.specs.List.{list_any, flat_map, filter_map, cons_option, AllByRecursion}
 use Rattle.clk_packet.specs.declared.packet.Packet.{Packet}
