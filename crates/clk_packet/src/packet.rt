@@ -1,3 +1,4 @@
+//! Packets, kinds of queues, and what becomes of an offer.
 ghost use Rattle.std.specs.Prelude.{◌≤◌};
 ghost use Rattle.clk_packet.specs.Limits.{most_length};
 
