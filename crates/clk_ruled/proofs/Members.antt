@@ -1,9 +1,9 @@
 -- Which packets stand in a list, and how often.
-use Rattle.std.proofs.Common.{◌≡◌, ◌≢◌, ℕ, ◌+◌, ◌≤◌, ◌==◌, ◌&&◌, ◌||◌, Bool, true, false, true≢false, List, [], ◌∷◌, ◌++◌, refl, sym, ap, ◌∙◌, ⊎_elim, inl, inr, ◌⊎◌, arith, if◌then◌else◌}
-use Rattle.std.specs.List.{flat_map}
+use Rattle.std.proofs.Common.{◌≡◌, ◌≢◌, ℕ, ◌+◌, ◌<◌, ◌≤◌, ◌==◌, ◌&&◌, ◌||◌, Bool, true, false, true≢false, List, [], ◌∷◌, ◌++◌, refl, sym, ap, ◌∙◌, ⊎_elim, inl, inr, ◌⊎◌, arith, if◌then◌else◌}
+use Rattle.std.specs.List.{flat_map, AllByRecursion}
 use Rattle.clk_packet.specs.declared.packet.Packet.{Packet}
-use Rattle.clk_packet.specs.Lists.{of_sender, In}
-use Rattle.clk_ruled.specs.PacketLists.{AreAbove, IsRising, is_packet, has_packet, IsOnceEach}
+use Rattle.clk_packet.specs.Lists.{of_sender, In, AreRising}
+use Rattle.clk_ruled.specs.PacketLists.{packet_numbers, is_packet, has_packet, IsOnceEach}
 use Rattle.clk_ruled.proofs.ListLemmas.{eq-true, ne-false}
 use Rattle.clk_ruled.proofs.Counts.{count, one_if, eq-turned, true-eq}
 
@@ -75,7 +75,7 @@ not-number p q ne = ap (λ (y : Bool). (p.sender == q.sender) && y) (ne-false p.
   and-false true = refl
   and-false false = refl
 
-above-none : (p : Packet) (n : ℕ) (l : List Packet) → p.number ≤ n → AreAbove n l → count (is_packet p) l ≡ 0
+above-none : (p : Packet) (n : ℕ) (l : List Packet) → p.number ≤ n → AllByRecursion (λ m. n < m) (packet_numbers l) → count (is_packet p) l ≡ 0
 above-none p n [] le h = refl
 above-none p n (q ∷ l) le h =
     let lt = h.0 in let none = ap one_if (not-number p q (λ e. omega (arith, lt, le, e))) in let rest = above-none p n l le h.1 in omega (arith, none, rest)
@@ -86,7 +86,7 @@ same-number p q e = true-eq p.number q.number (both (p.sender == q.sender) (p.nu
   both true b e = e
   both false b e = absurd (true≢false (sym e))
 
-rising-once : (p : Packet) (l : List Packet) → IsRising l → count (is_packet p) l ≤ 1
+rising-once : (p : Packet) (l : List Packet) → AreRising (packet_numbers l) → count (is_packet p) l ≤ 1
 rising-once p [] h = omega arith
 rising-once p (q ∷ l) h = by-one (is_packet p q) refl (rising-once p l h.1) where
   by-one : (b : Bool) → is_packet p q ≡ b → count (is_packet p) l ≤ 1 → one_if (is_packet p q) + count (is_packet p) l ≤ 1
@@ -102,5 +102,5 @@ own-counts p (q ∷ l) = by-one (q.sender == p.sender) (λ e. ap (λ (y : Bool).
   by-one false f e = let none = ap one_if (f refl) in omega (arith, none, e)
 
 -- Where the numbers of each sender rise, each packet is there once.
-pub each-once : (l : List Packet) → ((s : ℕ) → IsRising (of_sender s l)) → (p : Packet) → count (is_packet p) l ≤ 1
+pub each-once : (l : List Packet) → ((s : ℕ) → AreRising (packet_numbers (of_sender s l))) → (p : Packet) → count (is_packet p) l ≤ 1
 each-once l rises p = let few = rising-once p (of_sender p.sender l) (rises p.sender) in let same = own-counts p l in omega (arith, few, same)

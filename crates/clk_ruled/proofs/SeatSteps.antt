@@ -8,8 +8,8 @@ use Rattle.clk_packet.specs.declared.packet.Kind.{Kind}
 use Rattle.clk_packet.specs.declared.packet.Kind.TheVariants.{TailDrop, FrontDrop}
 use Rattle.clk_ruled.specs.declared.view.Setup.{Setup}
 use Rattle.clk_ruled.specs.declared.view.View.{View}
-use Rattle.clk_packet.specs.Lists.{of_sender, stands_in}
-use Rattle.clk_ruled.specs.PacketLists.{IsRising}
+use Rattle.clk_packet.specs.Lists.{of_sender, stands_in, AreRising}
+use Rattle.clk_ruled.specs.PacketLists.{packet_numbers}
 use Rattle.clk_ruled.specs.Rooms.{room_of, rooms_in_all}
 use Rattle.clk_ruled.specs.Queue.{places_of, IsShared}
 use Rattle.clk_ruled.specs.Rule.{Books, IsSound, FitsSeat, went_out}
@@ -29,7 +29,7 @@ may-offer v s room next accepted refused evicted p f own number lt =
       sits = f.sits;
       own = own ∙ sym f.own;
       room = omega (arith, few, len, here);
-      rises = subst (λ (l : List Packet). IsRising (l ++ p ∷ [])) (sym f.accepted_is) (shares-rise s (next + 1) (accepted ++ p ∷ []) refused (shares-accepted s next accepted refused p own number f.shares));
+      rises = subst (λ (l : List Packet). AreRising (packet_numbers (l ++ p ∷ []))) (sym f.accepted_is) (shares-rise s (next + 1) (accepted ++ p ∷ []) refused (shares-accepted s next accepted refused p own number f.shares));
     }
 
 -- one that may offer something is a sender of the queue

@@ -1,8 +1,10 @@
 -- How what was offered is shared out into what was accepted and what was refused.
 use Rattle.std.proofs.Common.{◌≡◌, ℕ, ◌+◌, ◌<◌, ◌≤◌, suc, List, [], ◌∷◌, ◌++◌, length, refl, sym, ap, ◌∙◌, subst, ⊎_elim, inl, inr, arith}
 use Rattle.std.proofs.lemmas.List.{length-append}
+use Rattle.std.specs.List.{AllByRecursion}
 use Rattle.clk_packet.specs.declared.packet.Packet.{Packet}
-use Rattle.clk_ruled.specs.PacketLists.{AreAbove, IsRising}
+use Rattle.clk_packet.specs.Lists.{AreRising}
+use Rattle.clk_ruled.specs.PacketLists.{packet_numbers}
 use Rattle.clk_ruled.specs.Queue.{AreNumbered, IsDealt, IsShared}
 
 -- one packet more is accepted, or refused
@@ -40,32 +42,23 @@ shares-refused s next accepted refused p own number h = let count = h.count in r
   dealt = dealt-refused h.offered accepted refused p h.dealt;
 }
 
--- what is accepted has rising numbers, from n on, and p comes behind it
-above-more : (m n : ℕ) (packets : List Packet) (p : Packet) → m < p.number → AreAbove m packets → AreAbove m (packets ++ p ∷ [])
-above-more m n [] p lt h = (lt, tt)
-above-more m n (q ∷ packets) p lt h = (h.0, above-more m n packets p lt h.1)
-
-above-less : (m n : ℕ) (packets : List Packet) → m ≤ n → AreAbove n packets → AreAbove m packets
-above-less m n [] le h = tt
-above-less m n (q ∷ packets) le h = let x = h.0 in (omega (arith, x), above-less m n packets le h.1)
-
 -- those accepted of what was offered after number n are above it
-accepted-above : (s m n : ℕ) (offered accepted refused : List Packet) → m < n → AreNumbered s n offered → IsDealt offered accepted refused → AreAbove m accepted
-accepted-above s m n [] accepted refused lt k h = subst (AreAbove m) (sym h.0) tt
+accepted-above : (s m n : ℕ) (offered accepted refused : List Packet) → m < n → AreNumbered s n offered → IsDealt offered accepted refused → AllByRecursion (λ k. m < k) (packet_numbers accepted)
+accepted-above s m n [] accepted refused lt k h = subst (λ (l : List Packet). AllByRecursion (λ k. m < k) (packet_numbers l)) (sym h.0) tt
 accepted-above s m n (q ∷ offered) accepted refused lt k h = let number = k.1 in ⊎_elim
-    (λ (x : (rest : List Packet) × (accepted ≡ q ∷ rest) × IsDealt offered rest refused). subst (AreAbove m) (sym x.1) (omega (arith, number), accepted-above s m (suc n) offered x.0 refused (omega arith) k.2 x.2))
+    (λ (x : (rest : List Packet) × (accepted ≡ q ∷ rest) × IsDealt offered rest refused). subst (λ (l : List Packet). AllByRecursion (λ k. m < k) (packet_numbers l)) (sym x.1) (omega (arith, number), accepted-above s m (suc n) offered x.0 refused (omega arith) k.2 x.2))
     (λ (x : (rest : List Packet) × (refused ≡ q ∷ rest) × IsDealt offered accepted rest). accepted-above s m (suc n) offered accepted x.0 (omega arith) k.2 x.2)
     h
 
-rising-numbers : (s n : ℕ) (offered accepted refused : List Packet) → AreNumbered s n offered → IsDealt offered accepted refused → IsRising accepted
-rising-numbers s n [] accepted refused k h = subst IsRising (sym h.0) tt
+rising-numbers : (s n : ℕ) (offered accepted refused : List Packet) → AreNumbered s n offered → IsDealt offered accepted refused → AreRising (packet_numbers accepted)
+rising-numbers s n [] accepted refused k h = subst (λ (l : List Packet). AreRising (packet_numbers l)) (sym h.0) tt
 rising-numbers s n (q ∷ offered) accepted refused k h = ⊎_elim
     (λ (x : (rest : List Packet) × (accepted ≡ q ∷ rest) × IsDealt offered rest refused).
-    subst IsRising (sym x.1) (accepted-above s q.number (suc n) offered x.0 refused (let number = k.1 in omega (arith, number)) k.2 x.2, rising-numbers s (suc n) offered x.0 refused k.2 x.2))
+    subst (λ (l : List Packet). AreRising (packet_numbers l)) (sym x.1) (accepted-above s q.number (suc n) offered x.0 refused (let number = k.1 in omega (arith, number)) k.2 x.2, rising-numbers s (suc n) offered x.0 refused k.2 x.2))
     (λ (x : (rest : List Packet) × (refused ≡ q ∷ rest) × IsDealt offered accepted rest). rising-numbers s (suc n) offered accepted x.0 k.2 x.2)
     h
 
-pub shares-rise : (s next : ℕ) (accepted refused : List Packet) → IsShared s next accepted refused → IsRising accepted
+pub shares-rise : (s next : ℕ) (accepted refused : List Packet) → IsShared s next accepted refused → AreRising (packet_numbers accepted)
 shares-rise s next accepted refused h = rising-numbers s 0 h.offered accepted refused h.numbers h.dealt
 
 -- no more are accepted than were offered, and the two lists together are as long

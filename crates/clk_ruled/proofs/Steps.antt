@@ -13,8 +13,8 @@ use Rattle.clk_packet.specs.declared.packet.Kind.TheVariants.{TailDrop, FrontDro
 use Rattle.clk_ruled.specs.declared.view.Setup.{Setup}
 use Rattle.clk_ruled.specs.declared.view.Gathered.{Gathered}
 use Rattle.clk_ruled.specs.declared.view.View.{View}
-use Rattle.clk_packet.specs.Lists.{of_sender, stands_in}
-use Rattle.clk_ruled.specs.PacketLists.{IsRising}
+use Rattle.clk_packet.specs.Lists.{of_sender, stands_in, AreRising}
+use Rattle.clk_ruled.specs.PacketLists.{packet_numbers}
 use Rattle.clk_ruled.specs.Rooms.{room_of}
 use Rattle.clk_ruled.specs.Rule.{Out, to_puller, put_out, went_out, taken_in, Books, senders_of, gathered_senders, IsSound, IsNew, AreGathered, FitsSeat, FitsTap, Fits, Keeps, gathered_seat}
 use Rattle.clk_ruled.specs.inside.Rule.{Knows, KnowsAfter, spent_view, retired_view, seat_view, tap_view}
@@ -26,7 +26,7 @@ pub record MayOffer (v : View) (p : Packet) : Type 0 where
   pub sits : v.sits ≡ true
   pub own : p.sender ≡ v.sender
   pub room : length v.accepted < room_of v.setup.rooms v.sender
-  pub rises : IsRising (v.accepted ++ p ∷ [])
+  pub rises : AreRising (packet_numbers (v.accepted ++ p ∷ []))
 
 abbrev with_packet : Books → Packet → Books
 with_packet b p = record { setup = b.setup; all = b.all ++ p ∷ []; gone = b.gone; seat = b.seat; tap = b.tap }
@@ -46,8 +46,8 @@ accepted-sound b v pass p items may f room h = let own : p.sender ≡ v.sender =
       let some_room : length v.accepted < room_of b.setup.rooms s = subst (λ (y : ℕ). length v.accepted < room_of b.setup.rooms y) (sym own ∙ e) (subst (λ (y : Setup). length v.accepted < room_of y.rooms v.sender) f.setup may.room) in
       subst (λ (l : List Packet). length (l ++ p ∷ []) ≤ room_of b.setup.rooms s) (sym mine) (omega (arith, length-append v.accepted (p ∷ []))))
       (h.room s);
-  rises = λ s. by-sender IsRising b p s
-      (λ e. let mine : of_sender s b.all ≡ v.accepted = ap (λ t. of_sender t b.all) (sym e ∙ own) ∙ sym f.accepted in subst (λ (l : List Packet). IsRising (l ++ p ∷ [])) (sym mine) may.rises)
+  rises = λ s. by-sender (λ l. AreRising (packet_numbers l)) b p s
+      (λ e. let mine : of_sender s b.all ≡ v.accepted = ap (λ t. of_sender t b.all) (sym e ∙ own) ∙ sym f.accepted in subst (λ (l : List Packet). AreRising (packet_numbers (l ++ p ∷ []))) (sym mine) may.rises)
       (h.rises s);
   known = h.known;
   tail_drop = h.tail_drop;

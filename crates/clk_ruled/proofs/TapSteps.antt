@@ -6,9 +6,9 @@ use Rattle.clk_packet.specs.declared.packet.Packet.{Packet}
 use Rattle.clk_ruled.specs.declared.view.Setup.{Setup}
 use Rattle.clk_ruled.specs.declared.view.Gathered.{Gathered}
 use Rattle.clk_ruled.specs.declared.view.View.{View}
-use Rattle.clk_packet.specs.Lists.{of_sender, In, stands_in, are_distinct}
+use Rattle.clk_packet.specs.Lists.{of_sender, In, stands_in, are_distinct, AreRising}
 use Rattle.clk_packet.proofs.Callers.Lists.{distinct-more}
-use Rattle.clk_ruled.specs.PacketLists.{IsRising}
+use Rattle.clk_ruled.specs.PacketLists.{packet_numbers}
 use Rattle.clk_ruled.specs.Rooms.{rooms_in_all}
 use Rattle.clk_ruled.specs.Queue.{AreOfSenders, accepted_in_all, evicted_in_all}
 use Rattle.clk_ruled.specs.Rule.{Out, to_puller, put_out, went_out, taken_in, Books, senders_of, gathered_senders, IsSound, AreGathered, FitsTap}
@@ -72,9 +72,9 @@ room-left v w taken p k is =
     let rooms : rooms_in_all w.setup.rooms ≡ rooms_in_all v.setup.rooms = ap (λ (u : View). rooms_in_all u.setup.rooms) is.0 in omega (arith, within, long, rooms)
 
 -- Of each sender the numbers that were taken rise.
-pub taken-rises : (v : View) (taken : List Packet) → TapKeeps v taken → (s : ℕ) → IsRising (of_sender s taken)
+pub taken-rises : (v : View) (taken : List Packet) → TapKeeps v taken → (s : ℕ) → AreRising (packet_numbers (of_sender s taken))
 taken-rises v taken k s =
-    let known = tap-knows v taken k in subst (λ l. IsRising (of_sender s l)) (sym known.taken_is) (rising-taken s known.books.gone k.knows.0 (subst (λ l. IsRising (of_sender s l)) known.sound.order (known.sound.rises s)))
+    let known = tap-knows v taken k in subst (λ l. AreRising (packet_numbers (of_sender s l))) (sym known.taken_is) (rising-taken s known.books.gone k.knows.0 (subst (λ l. AreRising (packet_numbers (of_sender s l))) known.sound.order (known.sound.rises s)))
 
 -- Each packet that was taken is of one of the senders.
 pub in-all : (p : Packet) (gone : List Out) (held : List Packet) → In p (taken_in gone) → In p (went_out gone ++ held)

@@ -5,8 +5,8 @@ use Rattle.std.proofs.lemmas.List.{append-nil, length-append}
 use Rattle.std.specs.List.{AllByRecursion}
 use Rattle.clk_packet.specs.declared.packet.Packet.{Packet}
 use Rattle.clk_packet.specs.declared.packet.Kind.TheVariants.{TailDrop, FrontDrop}
-use Rattle.clk_packet.specs.Lists.{In, stands_in}
-use Rattle.clk_ruled.specs.PacketLists.{IsRising, without}
+use Rattle.clk_packet.specs.Lists.{In, stands_in, AreRising}
+use Rattle.clk_ruled.specs.PacketLists.{packet_numbers, without}
 use Rattle.clk_ruled.specs.Account.{IsAccount}
 use Rattle.clk_ruled.specs.Examples.{p0_0, p0_1, p1_0, p1_1, by_sender, for_seats, both, arrived, put_out, pulled, held}
 
@@ -45,7 +45,7 @@ front-account =
     record {
       balances = by-senders (λ a b. without (of_these a b arrived) put_out ≡ of_these a b pulled ++ of_these a b held) refl refl refl;
       is_last = by-senders (λ a b. (before : List Packet) × (of_these a b arrived ≡ before ++ of_these a b held)) (p0_0 ∷ p0_1 ∷ [], refl) ([], refl) ([], refl);
-      rises = by-senders (λ a b. IsRising (of_these a b arrived)) ((lit≤ tt, tt), (tt, tt)) ((lit≤ tt, tt), (tt, tt)) tt;
+      rises = by-senders (λ a b. AreRising (packet_numbers (of_these a b arrived))) ((lit≤ tt, tt), (tt, tt)) ((lit≤ tt, tt), (tt, tt)) tt;
       was_taken = of-all (λ p. In p (by_sender arrived p.sender)) put_out (inl refl, tt);
       once = (refl, tt);
       gives_known = of-all (λ p. stands_in p.sender both ≡ true) pulled (refl, tt);
@@ -66,7 +66,7 @@ tail-account =
     record {
       balances = by-senders (λ a b. without (of_these a b (p0_0 ∷ [])) [] ≡ of_these a b (p0_0 ∷ []) ++ []) refl refl refl;
       is_last = λ s. (by_sender (p0_0 ∷ []) s, sym (append-nil (by_sender (p0_0 ∷ []) s)));
-      rises = by-senders (λ a b. IsRising (of_these a b (p0_0 ∷ []))) (tt, tt) tt tt;
+      rises = by-senders (λ a b. AreRising (packet_numbers (of_these a b (p0_0 ∷ [])))) (tt, tt) tt tt;
       was_taken = λ p none. absurd none;
       once = tt;
       gives_known = of-all (λ p. stands_in p.sender (0 ∷ []) ≡ true) (p0_0 ∷ []) (refl, tt);

@@ -4,8 +4,8 @@ use Rattle.std.specs.List.{flat_map}
 use Rattle.clk_packet.specs.declared.packet.Packet.{Packet}
 use Rattle.clk_packet.specs.declared.packet.Kind.{Kind}
 use Rattle.clk_packet.specs.declared.packet.Kind.TheVariants.{TailDrop}
-use Rattle.clk_packet.specs.Lists.{of_sender, In, stands_in}
-use Rattle.clk_ruled.specs.PacketLists.{IsRising, without, IsOnceEach}
+use Rattle.clk_packet.specs.Lists.{of_sender, In, stands_in, AreRising}
+use Rattle.clk_ruled.specs.PacketLists.{packet_numbers, without, IsOnceEach}
 
 -- A queue of this kind and capacity, shared by these senders, took the packets `accepted s` from each sender s, put out the
 -- packets `evicted s` for it, gave the packets `taken` to the puller and holds the packets `held`, from the front.
@@ -15,7 +15,7 @@ pub record IsAccount (kind : Kind) (capacity : ℕ) (senders : List ℕ) (accept
   -- what is held of a sender is what was taken from it last
   pub is_last : (s : ℕ) → (before : List Packet) × (accepted s ≡ before ++ of_sender s held)
   -- the numbers that were taken from a sender rise
-  pub rises : (s : ℕ) → IsRising (accepted s)
+  pub rises : (s : ℕ) → AreRising (packet_numbers (accepted s))
   -- each packet that was put out had been taken from its sender, and it was put out once
   pub was_taken : (p : Packet) → In p (flat_map evicted senders) → In p (accepted p.sender)
   pub once : IsOnceEach (flat_map evicted senders)

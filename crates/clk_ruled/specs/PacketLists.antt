@@ -1,17 +1,11 @@
 -- Lists of packets.
-use Rattle.std.specs.Prelude.{◌≡◌, ℕ, ◌<◌, ◌==◌, ◌&&◌, Bool, false, List, [], ◌∷◌, filter, not, ⊤}
+use Rattle.std.specs.Prelude.{◌≡◌, ℕ, ◌==◌, ◌&&◌, Bool, false, List, [], ◌∷◌, filter, map, not, ⊤}
 use Rattle.std.specs.List.{list_any}
 use Rattle.clk_packet.specs.declared.packet.Packet.{Packet}
 
--- each packet of the list has a greater number than this
-abbrev pub AreAbove : ℕ → List Packet → Type 0
-AreAbove n [] = ⊤
-AreAbove n (p ∷ packets) = (n < p.number) × AreAbove n packets
-
--- the numbers rise
-abbrev pub IsRising : List Packet → Type 0
-IsRising [] = ⊤
-IsRising (p ∷ packets) = AreAbove p.number packets × IsRising packets
+-- the numbers of these packets, in order
+abbrev pub packet_numbers : List Packet → List ℕ
+packet_numbers packets = map (λ (p : Packet). p.number) packets
 
 -- One packet: the same sender, and the same number.
 abbrev pub is_packet : Packet → Packet → Bool

@@ -8,7 +8,7 @@ use Rattle.clk_ruled.specs.declared.view.Setup.{Setup}
 use Rattle.clk_ruled.specs.declared.view.Gathered.{Gathered}
 use Rattle.clk_ruled.specs.declared.view.View.{View}
 use Rattle.clk_packet.specs.Lists.{of_sender, stands_in, AreRising}
-use Rattle.clk_ruled.specs.PacketLists.{IsRising}
+use Rattle.clk_ruled.specs.PacketLists.{packet_numbers}
 use Rattle.clk_ruled.specs.Rooms.{named_in, room_of}
 
 -- A packet went out at the front: to the puller, or because a packet of this sender's seat was forced in.
@@ -52,7 +52,7 @@ pub record IsSound (b : Books) (held : List Packet) : Type 0 where
   pub order : b.all ≡ went_out b.gone ++ held
   pub fits : length held ≤ b.setup.capacity
   pub room : (s : ℕ) → length (of_sender s b.all) ≤ room_of b.setup.rooms s
-  pub rises : (s : ℕ) → IsRising (of_sender s b.all)
+  pub rises : (s : ℕ) → AreRising (packet_numbers (of_sender s b.all))
   pub known : (s : ℕ) → stands_in s (senders_of b.setup) ≡ false → evicted_by s b.gone ≡ []
   pub tail_drop : b.setup.kind ≡ TailDrop → (s : ℕ) → evicted_by s b.gone ≡ []
 

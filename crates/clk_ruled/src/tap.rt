@@ -38,8 +38,8 @@ impl Tap {
     ghost use Rattle.std.specs.Prelude.{◌≡◌, ℕ, ◌≤◌, ◌+◌, true, false, List, [], length, None, IfOk, IsOkUnless};
     ghost use Rattle.crossbeam_queue.specs.Passes.{view as known, IsPassOf};
     ghost use Rattle.clk_packet.specs.declared.fault.Fault.TheVariants.{Memory};
-    ghost use Rattle.clk_packet.specs.Lists.{of_sender};
-    ghost use Rattle.clk_ruled.specs.PacketLists.{IsRising};
+    ghost use Rattle.clk_packet.specs.Lists.{of_sender, AreRising};
+    ghost use Rattle.clk_ruled.specs.PacketLists.{packet_numbers};
     ghost use Rattle.clk_ruled.specs.Rooms.{rooms_in_all};
     ghost use Rattle.clk_ruled.specs.Queue.{ClosedLists, IsTapOf, IsPulled, AreOfSenders, AreAllGathered, accepted_in_all, evicted_in_all, gathering, empty_tap};
     ghost use Rattle.clk_ruled.specs.Settle.{HasAllSeats, IsTakenWithin, IsAllTaken};
@@ -70,7 +70,7 @@ impl Tap {
     pub fn pull(&mut self, queue: &RuledQueue, wait: &impl Wait) -> Option<Packet>
         requires together { IsTapOf queue.now self.old }
         ensures pulled { IsPulled self.old result self.new }
-        ensures rises { (s : ℕ) → IsRising (of_sender s self.new.taken) }
+        ensures rises { (s : ℕ) → AreRising (packet_numbers (of_sender s self.new.taken)) }
         ensures known { AreOfSenders self.new.setup self.new.taken }
         // With every seat gathered, the packets taken are never more than those accepted, less those evicted, and none comes only
         // where they are as many.
