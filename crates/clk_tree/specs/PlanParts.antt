@@ -4,7 +4,6 @@ use Rattle.std.specs.List.{cons_option}
 use Rattle.clk_packet.specs.Limits.{most_capacity}
 use Rattle.clk_packet.specs.declared.packet.Kind.{Kind}
 use Rattle.clk_packet.specs.Lists.{stands_in}
-pub use Rattle.clk_packet.specs.Lists.{AreRising}
 use Rattle.clk_syntax.specs.Classes.{Class, sender, queue}
 use Rattle.clk_tree.specs.declared.plan.parts.QueueSpec.{QueueSpec}
 use Rattle.clk_tree.specs.declared.plan.parts.SenderSpec.{SenderSpec}
