@@ -4,9 +4,9 @@ use Rattle.std.proofs.Math.Seq.{set-append_seam}
 use Rattle.std.proofs.lemmas.List.{length-map, map-append, map-set}
 use Rattle.clk_sched.specs.declared.session.inputs.Input.{Input}
 use Rattle.clk_sched.specs.declared.session.inputs.Inputs.{Inputs}
+use Rattle.clk_sched.specs.declared.session.layout.Tables.{Tables}
 use Rattle.clk_sched.specs.declared.session.state.State.{State}
 use Rattle.clk_sched.specs.declared.session.state.State.TheVariants.{Prio}
-use Rattle.clk_sched.specs.declared.tree.layout.Tables.{Tables}
 use Rattle.clk_sched.specs.Tree.{prio, Row, end, leaf, node, Tree, queue, scheduler, root, nodes, width}
 use Rattle.clk_sched.specs.Built.{row}
 use Rattle.clk_sched.specs.inside.Places.{inputs_of}

@@ -1,20 +1,21 @@
 //! A session: a tree that is pulled, and the log of its visits.
 
-pub(crate) mod all;
+mod all;
 pub(crate) mod departures;
-pub(crate) mod drr;
-pub(crate) mod emitted;
+mod drr;
+mod emitted;
 mod heads;
-pub(crate) mod inputs;
+mod inputs;
 pub(crate) mod keeps;
 pub(crate) mod kernel;
-pub(crate) mod log;
-pub(crate) mod nodes;
+mod layout;
+mod log;
+mod nodes;
 mod prio;
-pub(crate) mod round_robin;
-pub(crate) mod shaper;
-pub(crate) mod state;
-pub(crate) mod stride;
+mod round_robin;
+mod shaper;
+mod state;
+mod stride;
 
 use crate::ask::Ask;
 use crate::session::keeps::Keeps;

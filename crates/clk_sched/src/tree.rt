@@ -2,7 +2,6 @@
 
 mod bound;
 mod distinct;
-mod layout;
 
 ghost use Rattle.std.specs.Prelude.{◌≡◌, ◌≤◌, length};
 ghost use Rattle.clk_packet.specs.Limits.{most_quantum, most_tickets, most_rate, most_burst};
@@ -17,21 +16,21 @@ use std::marker::Model;
 #[cycle(tree)]
 #[derive(Drop)]
 pub struct Tree {
-    node: Node,
+    pub(crate) node: Node,
     // How many schedulers stand on the longest path.
     height: u8,
 }
 
 #[cycle(tree)]
 #[derive(Drop)]
-enum Node {
+pub(crate) enum Node {
     Leaf(u16),
     Scheduler(Class, Vec<Tree>),
 }
 
 /// What a scheduler does with its inputs, and its arguments.
 #[derive(Drop)]
-enum Class {
+pub(crate) enum Class {
     Prio,
     RoundRobin,
     /// The quantum of each input, in bytes.

@@ -4,8 +4,8 @@ use Rattle.clk_packet.specs.Limits.{most_inputs}
 use Rattle.clk_sched.specs.declared.session.inputs.Input.{Input}
 use Rattle.clk_sched.specs.declared.session.inputs.Input.TheVariants.{Queue, Scheduler}
 use Rattle.clk_sched.specs.declared.session.inputs.Inputs.{Inputs}
+use Rattle.clk_sched.specs.declared.session.layout.Tables.{Tables}
 use Rattle.clk_sched.specs.declared.session.state.State.{State}
-use Rattle.clk_sched.specs.declared.tree.layout.Tables.{Tables}
 use Rattle.clk_sched.specs.Tree.{Class, Row, end, leaf, node, Tree, queue, scheduler, nodes, width, HasArguments}
 use Rattle.clk_sched.specs.inside.Places.{inputs_of}
 use Rattle.clk_sched.specs.Session.{elements}

@@ -5,6 +5,7 @@ use crate::session::departures::{Departure, Departures};
 use crate::session::emitted::Emitted;
 use crate::session::heads::held_heads;
 use crate::session::keeps::Keeps;
+use crate::session::layout::lay_out;
 use crate::session::nodes::Nodes;
 use crate::session::prio::{DEVICE, pull_device};
 use crate::tree::Tree;
@@ -77,7 +78,7 @@ impl Kernel {
         ensures fits { IfOk result (λ s. 1 + elements (root tree) ≤ most_elements) }
         ensures refused { IfErr result (λ fault. IsRefused tree fault) }
     {
-        let nodes = tree.lay_out(alloc, keeps.visits)?;
+        let nodes = lay_out(alloc, &tree, keeps.visits)?;
         Ok(Kernel {
             tree,
             nodes,

@@ -1,0 +1,173 @@
+//! How a tree is laid out in tables, by node number, before its first pull.
+
+ghost use Rattle.std.specs.Prelude.{◌≡◌, ℕ, ◌+◌, ◌≤◌, ◌<◌, [], ◌++◌, length, MatchOption, IfOk, IfErr};
+ghost use Rattle.clk_packet.specs.Limits.{most_elements};
+ghost use Rattle.clk_sched.specs.Tree.{root, HasArguments};
+ghost use Rattle.clk_sched.specs.Built.{row};
+ghost use Rattle.clk_sched.specs.LaidOut.{IsRefused};
+ghost use Rattle.clk_sched.specs.Session.{elements};
+ghost use Rattle.clk_sched.specs.inside.Kept.{class_of};
+ghost use Rattle.clk_sched.specs.inside.Places.{inputs_of};
+ghost use Rattle.clk_sched.specs.inside.Holds.OfClass.{Holds};
+ghost use Rattle.clk_sched.specs.inside.LaidOut.{elements_of, input_of, entries, entries_of, kinds, kinds_of, Adds, AddsNode, FitsInputs};
+ghost use Rattle.clk_sched.specs.inside.Session.{IsLaidOut};
+
+use crate::session::drr::Deficits;
+use crate::session::inputs::{Input, Inputs};
+use crate::session::log::Log;
+use crate::session::nodes::Nodes;
+use crate::session::round_robin::Beginning;
+use crate::session::shaper::Bucket;
+use crate::session::state::State;
+use crate::session::stride::Passes;
+use crate::tree::{Class, Node, Tree};
+use clk_packet::{Fault, MAX_ELEMENTS};
+use std::alloc::{AllocError, Global};
+use std::slice;
+
+/// The tables of nodes, by number, as they are filled.
+#[derive(Drop)]
+struct Tables {
+    inputs: Vec<Inputs>,
+    states: Vec<State>,
+}
+
+/// The tables of a tree, before its first pull, with a log that is kept or not.
+///
+/// # Errors
+///
+/// Fault 18 where the tree has more than 256 queues and schedulers, the device counted, and fault 1.
+pub fn lay_out(alloc: Global, tree: &Tree, keeps: bool) -> Result<Nodes, Fault>
+    ensures laid_out { IfOk result (λ n. IsLaidOut tree.now n) }
+    ensures kind { IfOk result (λ n. n.log.kind ≡ record { keeps = keeps; gone = 0 }) }
+    ensures fits { IfOk result (λ n. 1 + elements (root tree.now) ≤ most_elements) }
+    ensures refused { IfErr result (λ fault. IsRefused tree.now fault) }
+{
+    // That the tree is well formed is known where a field of it is read.
+    let _ = &tree.node;
+    if room_after(tree, MAX_ELEMENTS - 1).is_none() {
+        return Err(Fault::TooLarge);
+    }
+    let mut tables = Tables {
+        inputs: Vec::new(alloc),
+        states: Vec::new(alloc),
+    };
+    // The device is node 0: it stands over this tree as a PrioSched over one input.
+    lay_node(alloc, &mut tables, State::Prio, slice::from_ref(tree))?;
+    Ok(Nodes {
+        inputs: tables.inputs,
+        states: tables.states,
+        log: Log::new(alloc, keeps),
+        pull: 0,
+        moment: 0,
+    })
+}
+
+/// What is left of room for so many queues and schedulers after those of a tree, if they have room.
+#[cycle(room)]
+fn room_after(tree: &Tree, room: u16) -> Option<u16>
+    ensures { MatchOption result (room < elements_of tree.now) (λ left. left + elements_of tree.now ≡ room) }
+{
+    let left = room.checked_sub(1)?;
+    match &tree.node {
+        Node::Leaf(_) => Some(left),
+        Node::Scheduler(_, inputs) => room_after_each(inputs, left),
+    }
+}
+
+/// What is left of room for so many queues and schedulers after those of these trees, if they have room.
+#[cycle(room)]
+fn room_after_each(trees: &[Tree], room: u16) -> Option<u16>
+    ensures { MatchOption result (room < elements (row trees.now)) (λ left. left + elements (row trees.now) ≡ room) }
+{
+    let [first, rest @ ..] = trees else {
+        return Some(room);
+    };
+    room_after_each(rest, room_after(first, room)?)
+}
+
+/// Lays a tree out, and answers what stands for it at an input, and how many edges there are to it and below.
+#[cycle(lay)]
+fn lay(alloc: Global, tables: &mut Tables, tree: &Tree) -> Result<(Input, usize), AllocError>
+    requires room { length tables.old.inputs.items + elements_of tree.now ≤ most_elements }
+    ensures adds { IfOk result (λ r. Adds tables.old tables.new (entries_of (length tables.old.inputs.items) tree.now) (kinds_of tree.now)) }
+    ensures input { IfOk result (λ r. r.0 ≡ input_of (length tables.old.inputs.items) tree.now) }
+    ensures edges { IfOk result (λ r. r.1 ≡ elements_of tree.now) }
+{
+    match &tree.node {
+        Node::Leaf(q) => Ok((Input::Queue(*q), 1)),
+        Node::Scheduler(class, inputs) => {
+            let number = tables.inputs.len() as u16;
+            let state = first_state(alloc, class)?;
+            let edges = lay_node(alloc, tables, state, inputs)?;
+            Ok((Input::Scheduler(number), 1 + edges))
+        }
+    }
+}
+
+/// What a scheduler of a class holds before its first pull.
+fn first_state(alloc: Global, class: &Class) -> Result<State, AllocError>
+    requires { FitsInputs (class_of class.now) }
+    ensures { IfOk result (λ state. (inputs : ℕ) → HasArguments (class_of class.now) inputs → Holds (class_of class.now) inputs [] state) }
+{
+    match class {
+        Class::Prio => Ok(State::Prio),
+        Class::RoundRobin => Ok(State::RoundRobin(Beginning { input: 0 })),
+        Class::Drr(quanta) => Ok(State::Drr(Box::new(alloc, Deficits::new(alloc, quanta)?)?)),
+        Class::Stride(tickets) => Ok(State::Stride(Box::new(alloc, Passes::new(alloc, tickets)?)?)),
+        Class::Shaper(rate, burst) => Ok(State::Shaper(Bucket::new(*rate, *burst))),
+    }
+}
+
+/// Adds a node that holds this, and stands over these trees, and lays them out after it. It answers how many edges there are
+/// from the node and below.
+#[cycle(lay)]
+fn lay_node(
+    alloc: Global,
+    tables: &mut Tables,
+    state: State,
+    trees: &[Tree],
+) -> Result<usize, AllocError>
+    requires room { length tables.old.inputs.items + elements (row trees.now) < most_elements }
+    ensures adds { IfOk result (λ edges. AddsNode tables.old tables.new state (row trees.now)) }
+    ensures edges { IfOk result (λ edges. edges ≡ elements (row trees.now)) }
+{
+    let number = tables.inputs.len();
+    tables.states.push(state)?;
+    // This takes the node's number, until what stands at its inputs is known.
+    tables.inputs.push(Inputs {
+        each: Vec::new(alloc),
+        edges: 0,
+    })?;
+    let mut node = Inputs {
+        each: Vec::with_capacity(alloc, trees.len())?,
+        edges: 0,
+    };
+    lay_inputs(alloc, tables, &mut node, trees)?;
+    let edges = node.edges;
+    tables.inputs[number] = node;
+    Ok(edges)
+}
+
+/// Lays these trees out, and adds what stands for them to the inputs of a node.
+#[cycle(lay)]
+fn lay_inputs(
+    alloc: Global,
+    tables: &mut Tables,
+    node: &mut Inputs,
+    trees: &[Tree],
+) -> Result<(), AllocError>
+    requires room { length tables.old.inputs.items + elements (row trees.now) ≤ most_elements }
+    requires edges { node.old.edges + elements (row trees.now) ≤ most_elements }
+    ensures adds { IfOk result (λ r. Adds tables.old tables.new (entries (length tables.old.inputs.items) (row trees.now)) (kinds (row trees.now))) }
+    ensures each { IfOk result (λ r. node.new.each.items ≡ node.old.each.items ++ inputs_of (length tables.old.inputs.items) (row trees.now)) }
+    ensures edges { IfOk result (λ r. node.new.edges ≡ node.old.edges + elements (row trees.now)) }
+{
+    let [first, rest @ ..] = trees else {
+        return Ok(());
+    };
+    let (input, edges) = lay(alloc, tables, first)?;
+    node.each.push(input)?;
+    node.edges += edges;
+    lay_inputs(alloc, tables, node, rest)
+}
