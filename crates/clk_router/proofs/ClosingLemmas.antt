@@ -152,7 +152,7 @@ closes-by calls setup events old new d moment made left before after departures 
             (ap (λ n. length (emitted before.session.log) + n) all.drained.given_are ∙ is);
         stops = all.stops;
       };
-      came_out = told ∙ ap departures_in (ap (drop (length (pulls before.session.log))) all.drained.pulls_are ∙ drop-append_seam (pulls before.session.log) all.drained.more);
+      emitted = told ∙ ap departures_in (ap (drop (length (pulls before.session.log))) all.drained.pulls_are ∙ drop-append_seam (pulls before.session.log) all.drained.more);
       moments = moments calls setup events old new d moment made left before after at set kept kind all.drained;
     }
 

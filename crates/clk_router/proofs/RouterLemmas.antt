@@ -214,7 +214,7 @@ module _ (setup : Setup) (events : List Event) (old new : Parts) (d moment : ℕ
 pub IsClosed-shown : (old new : Course) (d moment : ℕ) (session : AnySession) (departures : List Departure) → ClosesBy old.setup old.events d moment session departures
     → new ≡ after old (pulls_shown old.setup old.events d moment session) → IsClosed old new d moment departures
 IsClosed-shown old new d moment session departures by goes_on =
-    record { last = pulls_shown old.setup old.events d moment session; closes = by.closes; came_out = by.came_out; moments = by.moments; goes_on = goes_on }
+    record { last = pulls_shown old.setup old.events d moment session; closes = by.closes; emitted = by.emitted; moments = by.moments; goes_on = goes_on }
 
 -- what follows from what a success says, and what holds of each failure
 pub ok-weaker : {T E : Type 0} {P Q : T → Type 0} (r : Result T E) → ((x : T) → P x → Q x) → IfOk r P → IfOk r Q

@@ -102,7 +102,7 @@ pub record IsPulled (old new : Course) (device moment : ℕ) (got : Option Packe
 pub record IsClosed (old new : Course) (device moment : ℕ) (departures : List Departure) : Type 0 where
   pub last : List Event
   pub closes : Closes device moment (events_of old device) last
-  pub came_out : departures ≡ departures_in closes.closing
+  pub emitted : departures ≡ departures_in closes.closing
   pub moments : map moment_of closes.closing ≡ range_with_len (max (moment_at old device) moment + 1) (length closes.closing)
   pub goes_on : new ≡ after old last
 

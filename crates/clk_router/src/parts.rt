@@ -161,13 +161,13 @@ impl Parts {
         ensures fault { IsOkUnless result Fault.Memory }
     {
         let mut logs = Vec::new(alloc);
-        let mut came_out = Vec::new(alloc);
+        let mut emitted = Vec::new(alloc);
         for device in self.devices {
             let (visits, packets) = device.session.into_parts();
             logs.push(visits)?;
-            came_out.push(packets)?;
+            emitted.push(packets)?;
         }
-        Ok((logs, came_out))
+        Ok((logs, emitted))
     }
 }
 

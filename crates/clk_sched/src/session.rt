@@ -159,14 +159,14 @@ impl Session {
         ensures packets { IfOk result (λ packets. packets.items ≡ emitted self.now.log) }
         ensures fault { IsOkUnless result Fault.Memory }
     {
-        Ok(self.came_out().to_vec(alloc)?)
+        Ok(self.as_emitted().to_vec(alloc)?)
     }
 
     /// The same packets, where the session keeps them.
-    pub fn came_out(&self) -> &[Packet]
+    pub fn as_emitted(&self) -> &[Packet]
         ensures { result.now ≡ emitted self.now.log }
     {
-        self.kernel.emitted()
+        self.kernel.as_emitted()
     }
 
     /// Every visit and the packets that came out at the device, in order, without taking memory.

@@ -133,7 +133,7 @@ impl Unlogged {
     }
 
     /// How many packets came out at the device.
-    pub fn came_out(&self) -> u64
+    pub fn count_emitted(&self) -> u64
         ensures { result ≡ length (emitted self.now.log) }
     {
         self.kernel.count_emitted()

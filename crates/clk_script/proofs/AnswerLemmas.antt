@@ -223,31 +223,31 @@ module _ (setup : Setup) (old mid : Recorder) (commands : List Command) (asked d
     its_logs : logs_of new.router.setup new.router.events ≡ logs_of setup (carried.more ++ later)
     its_logs = λ i. logs_of (at.setup_is i) (at.events_are i)
 
-    came : lists_of past.came_out.items ≡ map emitted (logs_of setup (carried.more ++ later))
-    came = is.came_out ∙ ap (map emitted) its_logs
+    came : lists_of past.emitted.items ≡ map emitted (logs_of setup (carried.more ++ later))
+    came = is.emitted ∙ ap (map emitted) its_logs
 
     several : are_several past ≡ has_several setup
     several =
         ap (nat_lt 1)
-        (sym (length-map past.came_out.items (λ l. l.items)) ∙ ap length came ∙ length-map (logs_of setup (carried.more ++ later)) emitted
+        (sym (length-map past.emitted.items (λ l. l.items)) ∙ ap length came ∙ length-map (logs_of setup (carried.more ++ later)) emitted
         ∙ length-map-range_with_len (λ d. log_of (events_at setup d (carried.more ++ later))) 0 (length setup.trees))
 
     -- the lines of the commands, whatever the router did later
     lines : rows_text (are_several past) done (given_of past) past.put_out.items ≡ flat_map (event_text (has_several setup)) carried.more
     lines =
         ap (λ b. rows_text b done (given_of past) past.put_out.items) several
-        ∙ ap (λ came_out. rows_text (has_several setup) done (given_first came_out past.given.items) past.put_out.items) came
+        ∙ ap (λ lists. rows_text (has_several setup) done (given_first lists past.given.items) past.put_out.items) came
         ∙ ap (λ rows. rows_text (has_several setup) rows (given_first (map emitted (logs_of setup (carried.more ++ later))) past.given.items) past.put_out.items) carried.rows
         ∙ rows-written setup carried.more later past.given.items past.put_out.items starts.some at.can_happen (is.put_out ∙ at.evicted) (λ many. is.given ∙ ap (λ ps. ps.items) given ∙ kept many)
 
     logs : AreLogs new.router.keeps.visits past (logs_of setup (carried.more ++ later))
     logs are_kept = is.logs are_kept ∙ its_logs
 
-    report : report_text (came_out past.came_out.items) past.tallies.items
+    report : report_text (came_out past.emitted.items) past.tallies.items
         ≡ report_text (flat_map emitted (logs_of setup (carried.more ++ later))) (map (tally_after (carried.more ++ later)) (sender_numbers setup))
     report =
         ap₂ report_text
-        (sym (flat-mapped (λ l. l) (λ (l : Vec Packet Global). l.items) past.came_out.items) ∙ ap (flat_map (λ l. l)) came ∙ flat-mapped (λ l. l) emitted (logs_of setup (carried.more ++ later)))
+        (sym (flat-mapped (λ l. l) (λ (l : Vec Packet Global). l.items) past.emitted.items) ∙ ap (flat_map (λ l. l)) came ∙ flat-mapped (λ l. l) emitted (logs_of setup (carried.more ++ later)))
         (is.tallies ∙ at.tallies)
 
   -- What it comes to, without a closing and with one.
@@ -303,9 +303,9 @@ module _ (setup : Setup) (old mid : Recorder) (asked done : List Row) (starts : 
   setup-closed new (Some moment) None closed = absurd closed
   setup-closed new (Some moment) (Some closings) closed = (closed.closes setup carried_to.more carried_to.leads).closing.leads.setup_is
 
-  pub devices-kept : (new : Recorder) (past : Past) (drain : Option ℕ) (closings : Option (List (List Departure))) → IsClosedFrom mid new drain closings → IsPastOf new past → length past.came_out.items ≡ length old.router.setup.trees
+  pub devices-kept : (new : Recorder) (past : Past) (drain : Option ℕ) (closings : Option (List (List Departure))) → IsClosedFrom mid new drain closings → IsPastOf new past → length past.emitted.items ≡ length old.router.setup.trees
   devices-kept new past drain closings closed is =
-      sym (length-map past.came_out.items (λ l. l.items)) ∙ ap length is.came_out ∙ length-map (logs_of new.router.setup new.router.events) emitted
+      sym (length-map past.emitted.items (λ l. l.items)) ∙ ap length is.emitted ∙ length-map (logs_of new.router.setup new.router.events) emitted
       ∙ length-map-range_with_len (λ d. log_of (events_at new.router.setup d new.router.events)) 0 (length new.router.setup.trees)
       ∙ ap (λ (s : Setup). length s.trees) (setup-closed new drain closings closed ∙ sym starts.leads.setup_is)
 

@@ -117,7 +117,7 @@ module _ (old new : Recorder) (d moment : ℕ) (departures : List Departure) (cl
           closes = subst (λ l. Closes d moment l closed.last) before closed.closes;
           lines =
               ap (flat_map (closing_text (has_several setup))) closed.closes.are ∙ closing-lines (has_several setup) d start closed.closes.closing closed.moments
-              ∙ ap (flat_map (departure_text (has_several setup) d)) (sym closed.came_out);
+              ∙ ap (flat_map (departure_text (has_several setup) d)) (sym closed.emitted);
           leads = record {
             can_happen = subst (λ s. CanHappen s (events ++ closed.last)) setup_is (subst (λ l. CanHappen new.router.setup l) events_are can);
             setup_is = setup_is;

@@ -39,7 +39,7 @@ pub fn answer_script(alloc: Global, recorder: Recorder, script: Script) -> Resul
     requires sound { CanBeRun (names_in recorder) script }
     ensures means { IfOk result (λ answer. (setup : Setup) (commands : _) → Starts setup recorder → asked_by (names_in recorder) script.rows.items ≡ map Some commands
         → (logs : _) × AreLogs recorder.router.keeps.visits answer.past logs × Writes setup commands script.closing (answer_text answer) logs) }
-    ensures devices { IfOk result (λ answer. length answer.past.came_out.items ≡ length recorder.router.setup.trees) }
+    ensures devices { IfOk result (λ answer. length answer.past.emitted.items ≡ length recorder.router.setup.trees) }
     ensures closings { IfOk result (λ answer. IfSome answer.closing (λ closings. length closings.items ≡ length recorder.router.setup.trees)) }
     ensures fault { IsOkUnless result Fault.Memory }
 {

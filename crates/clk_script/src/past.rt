@@ -9,7 +9,7 @@ pub struct Past {
     /// Every visit of each device, in order, where visits are kept.
     pub logs: Vec<Vec<Visit>>,
     /// The packets that came out at each device, in order.
-    pub came_out: Vec<Vec<Packet>>,
+    pub emitted: Vec<Vec<Packet>>,
     /// Where there are several devices, the packets that pulls gave before the closing, in order.
     pub given: Vec<Packet>,
     /// The packets that queues put out for later ones, in order.

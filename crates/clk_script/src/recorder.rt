@@ -148,10 +148,10 @@ impl Recorder {
         ensures past { IfOk result (IsPastOf self) }
         ensures fault { IsOkUnless result Fault.Memory }
     {
-        let (logs, came_out) = self.router.into_kept(alloc)?;
+        let (logs, emitted) = self.router.into_kept(alloc)?;
         Ok(Past {
             logs,
-            came_out,
+            emitted,
             given: self.given,
             put_out: self.evicted,
             tallies: self.tallies,

@@ -23,7 +23,7 @@ use clk_sched::Departure;
 ///
 /// Fault 20 where the sink fails. It has taken a front of these then.
 pub fn write_answer<W: Sink>(answer: &Answer, writer: &mut W) -> Result<(), Fault>
-    requires few { length answer.now.past.came_out.items ≤ MAX_DEVICES }
+    requires few { length answer.now.past.emitted.items ≤ MAX_DEVICES }
     requires closings { IfSome answer.now.closing (λ closings. length closings.items ≤ MAX_DEVICES) }
     ensures { Wrote (W.Sink.taken writer.old) (W.Sink.taken writer.new)
         (W.Sink.failures writer.old) (W.Sink.failures writer.new) result (answer_text answer.now) }
@@ -44,21 +44,21 @@ pub fn write_answer<W: Sink>(answer: &Answer, writer: &mut W) -> Result<(), Faul
     };
     write_closings(&mut lines, several, 0, closings, writer)?;
     lines.write(writer)?;
-    report(&past.tallies, &past.came_out, writer)
+    report(&past.tallies, &past.emitted, writer)
 }
 
 /// Whether there are several devices.
 fn are_several(past: &Past) -> bool
     ensures { result ≡ are_several past.now }
 {
-    past.came_out.len() > 1
+    past.emitted.len() > 1
 }
 
 /// The packets that pulls gave before the closing, in order, and perhaps more.
 fn given_of(past: &Past) -> &[Packet]
     ensures { result.now ≡ given_of past.now }
 {
-    match past.came_out.as_slice() {
+    match past.emitted.as_slice() {
         [only] => only,
         _ => &past.given,
     }
@@ -69,16 +69,16 @@ fn write_rows<W: Sink>(
     lines: &mut Lines,
     several: bool,
     rows: &[Row],
-    came_out: &[Packet],
+    emitted: &[Packet],
     put_out: &[Packet],
     writer: &mut W,
 ) -> Result<(), Fault>
     ensures { Passes (W.Sink.taken writer.old) (W.Sink.taken writer.new)
         (W.Sink.failures writer.old) (W.Sink.failures writer.new) result
-        lines.old.held.items (rows_text several rows.now came_out.now put_out.now) lines.new.held.items }
+        lines.old.held.items (rows_text several rows.now emitted.now put_out.now) lines.new.held.items }
 {
     let mut line = [0; LINE];
-    let mut given = came_out;
+    let mut given = emitted;
     let mut fronts = put_out;
     for row in rows {
         let start;

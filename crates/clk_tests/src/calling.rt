@@ -73,7 +73,7 @@ fn two_pulls_bring_two_packets(rt: HostRuntime) -> Result<(), Fault> {
     let mut session = Session::new(rt.alloc(), Tree::leaf(0))?;
     sched::pull_twice(&mut session, &mut waiting, 7)?;
     assert_eq!(rt;
-        session.came_out(),
+        session.as_emitted(),
         [from_one(0, 10), from_one(1, 20)].as_slice()
     );
     Ok(())

@@ -240,7 +240,7 @@ pub record LeadsOnByPulls (setup : Setup) (new : Parts) (device moment : ℕ) (e
 -- These were its whole closing, in which these packets came out, at these moments.
 pub record ClosesBy (setup : Setup) (events : List Event) (device moment : ℕ) (session : AnySession) (departures : List Departure) : Type 0 where
   pub closes : Closes device moment (events_at setup device events) (pulls_shown setup events device moment session)
-  pub came_out : departures ≡ departures_in closes.closing
+  pub emitted : departures ≡ departures_in closes.closing
   pub moments : map moment_of closes.closing ≡ range_with_len (max (fold max 0 (filter_map moment_in (events_at setup device events))) moment + 1) (length closes.closing)
 
 -- The parts of a router are where its course led.

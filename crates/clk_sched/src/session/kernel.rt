@@ -30,7 +30,7 @@ impl Model for Kernel {
     ghost use Rattle.clk_sched.specs.Tree.{leaves_distinct};
     ghost use Rattle.clk_sched.specs.inside.Session.{IsAfterRun};
     ghost use Rattle.clk_sched.specs.Kinds.{AnySession};
-    ghost use Rattle.clk_sched.specs.Results.{emitted as came_out};
+    ghost use Rattle.clk_sched.specs.Results.{emitted as emitted_in};
     ghost use Rattle.std.specs.Coded.{codes};
     ghost use Rattle.clk_sched.specs.Stored.{tree_code};
 
@@ -46,8 +46,8 @@ impl Model for Kernel {
     } };
 
     ghost invariant = { λ s. IsAfterRun s.tree s.nodes × (s.nodes.moment < end_of_moments) × (leaves_distinct s.tree ≡ true)
-        × (s.emitted.keeps ≡ true → s.emitted.packets.items ≡ came_out s.nodes.log.items)
-        × (s.emitted.count ≡ length (came_out s.nodes.log.items)) × (s.emitted.count ≤ s.nodes.pull) };
+        × (s.emitted.keeps ≡ true → s.emitted.packets.items ≡ emitted_in s.nodes.log.items)
+        × (s.emitted.count ≡ length (emitted_in s.nodes.log.items)) × (s.emitted.count ≤ s.nodes.pull) };
 }
 
 impl Kernel {
@@ -256,7 +256,7 @@ impl Kernel {
     }
 
     /// The packets that came out at the device, in order, where they are kept.
-    pub fn emitted(&self) -> &[Packet]
+    pub fn as_emitted(&self) -> &[Packet]
         ensures { self.now.keeps.packets ≡ true → result.now ≡ emitted self.now.log }
     {
         // That these came out is known where a field is read.

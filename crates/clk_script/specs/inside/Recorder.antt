@@ -112,7 +112,7 @@ AreLogs visits past logs = visits ≡ true → lists_of past.logs.items ≡ logs
 -- All that a router did, as it was recorded.
 pub record IsPastOf (r : Recorder) (past : Past) : Type 0 where
   pub logs : AreLogs r.router.keeps.visits past (logs_of r.router.setup r.router.events)
-  pub came_out : lists_of past.came_out.items ≡ map emitted (logs_of r.router.setup r.router.events)
+  pub emitted : lists_of past.emitted.items ≡ map emitted (logs_of r.router.setup r.router.events)
   pub given : past.given.items ≡ r.given.items
   pub put_out : past.put_out.items ≡ r.evicted.items
   pub tallies : past.tallies.items ≡ r.tallies.items

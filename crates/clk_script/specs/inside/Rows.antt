@@ -142,7 +142,7 @@ closings_of (Some closings) = Some (lists_of closings.items)
 
 -- whether there are several devices
 abbrev pub are_several : Past → Bool
-are_several past = nat_lt 1 (length past.came_out.items)
+are_several past = nat_lt 1 (length past.emitted.items)
 
 -- what the pulls of the script's commands gave, in order: where there is one device it is what came out of it
 abbrev pub given_first : List (List Packet) → List Packet → List Packet
@@ -150,12 +150,12 @@ given_first (only ∷ []) given = only
 given_first devices given = given
 
 abbrev pub given_of : Past → List Packet
-given_of past = given_first (lists_of past.came_out.items) past.given.items
+given_of past = given_first (lists_of past.emitted.items) past.given.items
 
 -- what the closing writes in which these packets came out, if there is one, and then the report
 abbrev pub ending_of : Past → Option (List (List Departure)) → List ℕ
 ending_of past None = []
-ending_of past (Some closings) = closings_text (are_several past) 0 closings ++ report_text (came_out past.came_out.items) past.tallies.items
+ending_of past (Some closings) = closings_text (are_several past) 0 closings ++ report_text (came_out past.emitted.items) past.tallies.items
 
 -- all that an answer writes
 abbrev pub answer_text : Answer → List ℕ

@@ -83,7 +83,10 @@ fn shown(
 fn assert_kept(rt: &impl Abort, alloc: Global, keeps: Keeps) {
     let session = closed(rt, alloc, keeps);
     assert_kept_of_pulls(rt, &session, if keeps.visits { 7 } else { 0 }, 3);
-    assert_eq!(rt; session.emitted().len(), if keeps.packets { 3 } else { 0 });
+    assert_eq!(rt;
+        session.as_emitted().len(),
+        if keeps.packets { 3 } else { 0 }
+    );
     assert_eq!(rt; session.count_emitted(), 3);
 }
 

@@ -57,7 +57,7 @@ pub fn assert_row(rt: &impl Abort, alloc: Global, tree: Result<Tree, Fault>, row
     let mut shown = Shown::after(rt, alloc, tree, row, usize::MAX);
     assert_answered(rt, row, &shown.text);
     let emitted = shown.session.emitted(alloc).expect(rt, "ample memory");
-    assert_eq!(rt; emitted.as_slice(), shown.came_out.as_slice());
+    assert_eq!(rt; emitted.as_slice(), shown.emitted.as_slice());
     if !row.visits.is_empty() {
         shown.text.clear();
         shown.visits().expect(rt, "ample memory");
@@ -126,7 +126,7 @@ struct Shown {
     text: String,
     // What commands of a script sent, and what these brought out.
     sent: u64,
-    came_out: Vec<Packet>,
+    emitted: Vec<Packet>,
 }
 
 impl Shown {
@@ -137,7 +137,7 @@ impl Shown {
             queues: Queues::new(alloc, QUEUES).expect(rt, "ample memory"),
             text: String::new(alloc),
             sent: 0,
-            came_out: Vec::new(alloc),
+            emitted: Vec::new(alloc),
         }
     }
 
@@ -173,14 +173,14 @@ impl Shown {
         assert!(rt; moment < 1 << 44);
         let got = self.session.pull(&mut self.queues, moment)?;
         if let Some(packet) = got {
-            self.came_out.push(packet)?;
+            self.emitted.push(packet)?;
         }
         Ok(show_pull(&mut self.text, moment, got)?)
     }
 
     // Drains what is left, a pull a tick, with a line for each packet that comes out.
     fn close(&mut self, rt: &impl Abort, moment: u64) -> Result<(), Fault> {
-        let left = self.sent.saturating_sub(self.came_out.len() as u64);
+        let left = self.sent.saturating_sub(self.emitted.len() as u64);
         assert!(rt; left <= 1_000_000);
         let latest = self.session.now().max(moment);
         assert!(rt; latest < (1 << 43) - 1);
@@ -189,7 +189,7 @@ impl Shown {
         assert_eq!(rt; pulls, self.session.now().saturating_sub(latest));
         for visit in self.session.log().iter().skip(before) {
             if let (0, Some(packet)) = (visit.node, visit.got) {
-                self.came_out.push(packet)?;
+                self.emitted.push(packet)?;
                 show_pull(&mut self.text, visit.moment, visit.got)?;
             }
         }

@@ -86,10 +86,10 @@ impl Both {
     }
 
     // Whether so much came out of both by now, and they hold the same.
-    fn assert_same(&self, rt: &impl Abort, alloc: Global, came_out: usize) -> Result<(), Fault> {
+    fn assert_same(&self, rt: &impl Abort, alloc: Global, emitted: usize) -> Result<(), Fault> {
         assert_eq!(rt; self.unlogged.now(), self.logged.now());
-        assert_eq!(rt; self.logged.came_out().len(), came_out);
-        assert_eq!(rt; self.unlogged.came_out(), came_out as u64);
+        assert_eq!(rt; self.logged.as_emitted().len(), emitted);
+        assert_eq!(rt; self.unlogged.count_emitted(), emitted as u64);
         self.assert_same_heads(rt, alloc)
     }
 
