@@ -35,6 +35,7 @@ mod TurnPrio
 mod TurnRoundRobin
 mod TurnStride
 mod TurnShaper
+mod ShaperRow
 mod Logged
 mod LooksDrr
 mod TurnDrr

@@ -1,8 +1,10 @@
 -- The ranks of a StrideSched: how they are put in their places, and what stays true of them.
-use Rattle.std.proofs.Common.{◌≡◌, ℕ, zero, suc, ◌+◌, ◌-◌, ◌<◌, ◌≤◌, if◌then◌else◌, Bool, true, false, List, [], ◌∷◌, ◌++◌, length, map, take, drop, set, get_or, refl, sym, ap, ap₂, ◌∙◌, subst, arith, drop-cons}
+use Rattle.std.proofs.Common.{◌≡◌, ℕ, zero, suc, ◌+◌, ◌-◌, ◌<◌, ◌≤◌, if◌then◌else◌, Bool, true, false, List, [], ◌∷◌, ◌++◌, length, map, take, drop, set, get_or, refl, sym, ap, ap₂, ◌∙◌, subst, append_assoc, arith, drop-cons}
 use Rattle.std.specs.List.{AllByRecursion}
 use Rattle.std.proofs.lemmas.Bool.Decides.{nat_tests}
-use Rattle.std.proofs.lemmas.List.{set_split}
+use Rattle.std.proofs.Math.Seq.{paste, set_at, length_paste_head, take-suc}
+use Rattle.std.proofs.Math.ListN.{drop_of_length-le}
+use Rattle.std.proofs.lemmas.List.{drop-drop, length-drop, take_all}
 use Rattle.clk_sched.specs.declared.session.stride.Rank.{Rank}
 use Rattle.clk_sched.specs.inside.Ranks.{greatest_stride, IsRankOf, HasRisingPasses, is_up_to, put_rank, at_pass, after_win, first_pass, less}
 use Rattle.clk_sched.proofs.Members.{all-weaker}
@@ -16,27 +18,44 @@ put-here r other others e = ap (λ b. if b then r ∷ other ∷ others else othe
 from-place : (row : List Rank) (place : ℕ) (d r : Rank) → place < length row → r ≡ get_or row place d → drop place row ≡ r ∷ drop (suc place) row
 from-place row place d r l e = drop-cons row place d l ∙ ap (λ x. x ∷ drop (suc place) row) (sym e)
 
--- a rank is written where it stands
-put-write : (r : Rank) (row : List Rank) (place : ℕ) → place < length row → put_rank r (drop (place + 1) row) ≡ r ∷ drop (place + 1) row
-    → set row place r ≡ take place row ++ put_rank r (drop (place + 1) row)
-put-write r row place l e = set_split row place r l ∙ ap (λ n. take place row ++ r ∷ drop n row) (let same : suc place ≡ place + 1 = omega arith in same) ∙ ap (λ x. take place row ++ x) (sym e)
+-- Of ranks in order so many stand before one that is put among them.
+abbrev pub StandBefore : Rank → List Rank → ℕ → Type 0
+StandBefore r row n = put_rank r row ≡ take n row ++ put_rank r (drop n row)
 
-pub put-last : (r : Rank) (row : List Rank) (place : ℕ) → place < length row → length row ≤ place + 1 → set row place r ≡ take place row ++ put_rank r (drop (place + 1) row)
-put-last r row place l m = put-write r row place l (rw (none row (place + 1) m) refl)
-  where
-    none : (xs : List Rank) (n : ℕ) → length xs ≤ n → drop n xs ≡ []
-    none [] zero h = refl
-    none [] (suc n) h = refl
-    none (x ∷ xs) zero h = absurd (omega arith)
-    none (x ∷ xs) (suc n) h = none xs n (omega arith)
+put-past : (r other : Rank) (others : List Rank) → is_up_to r other ≡ false → put_rank r (other ∷ others) ≡ other ∷ put_rank r others
+put-past r other others e = ap (λ b. if b then r ∷ other ∷ others else other ∷ put_rank r others) e
 
-pub put-before : (r : Rank) (row : List Rank) (place next : ℕ) (d other : Rank) → next ≡ place + 1 → next < length row → other ≡ get_or row next d → is_up_to r other ≡ true
-    → set row place r ≡ take place row ++ put_rank r (drop (place + 1) row)
-put-before r row place next d other e l at test =
-    put-write r row place (omega arith) (subst (λ n. put_rank r (drop n row) ≡ r ∷ drop n row) e (ap (put_rank r) from ∙ put-here r other (drop (suc next) row) test ∙ ap (λ x. r ∷ x) (sym from)))
+pub before-next : (r : Rank) (row : List Rank) (n : ℕ) (d other : Rank) → n < length row → other ≡ get_or row n d → is_up_to r other ≡ false → StandBefore r row n → StandBefore r row (n + 1)
+before-next r row n d other l at test so =
+    so ∙ ap (λ x. take n row ++ x) (ap (put_rank r) (from-place row n d other l at) ∙ put-past r other (drop (suc n) row) test) ∙ sym (append_assoc (take n row) (other ∷ []) (put_rank r (drop (suc n) row)))
+    ∙ ap (λ x. x ++ put_rank r (drop (suc n) row)) (ap (λ y. take n row ++ y ∷ []) at ∙ sym (take-suc row n d l)) ∙ ap (λ k. take k row ++ put_rank r (drop k row)) (let same : suc n ≡ n + 1 = omega arith in same)
+
+pub before-found : (r : Rank) (row : List Rank) (n : ℕ) (d other : Rank) → n < length row → other ≡ get_or row n d → is_up_to r other ≡ true → StandBefore r row n → put_rank r row ≡ take n row ++ r ∷ drop n row
+before-found r row n d other l at test so =
+    let from = from-place row n d other l at in so ∙ ap (λ x. take n row ++ x) (ap (put_rank r) from ∙ put-here r other (drop (suc n) row) test ∙ ap (λ x. r ∷ x) (sym from))
+
+pub before-all : (r : Rank) (row : List Rank) (n : ℕ) → length row ≤ n → StandBefore r row n → put_rank r row ≡ take n row ++ r ∷ drop n row
+before-all r row n l so = let none = drop_of_length-le row l in so ∙ ap (λ x. take n row ++ x) (ap (put_rank r) none ∙ ap (λ x. r ∷ x) (sym none))
+
+-- A rank is put in its place, and those before it move down.
+pub put-moved : (r : Rank) (row : List Rank) (from before : ℕ) → from < length row → before ≤ length (drop (from + 1) row) → put_rank r (drop (from + 1) row) ≡ take before (drop (from + 1) row) ++ r ∷ drop before (drop (from + 1) row)
+    → set (paste row from (drop (from + 1) row) before) (from + before) r ≡ take from row ++ put_rank r (drop (from + 1) row)
+put-moved r row from before l m put =
+    ap (λ x. set (front ++ x) (from + before) r) (drop-cons row (from + before) r (let all = length-drop (from + 1) row in omega (arith, all)))
+    ∙ set_at front (get_or row (from + before) r) (drop (suc (from + before)) row) r (from + before) (length_paste_head row from rest before (omega arith) m)
+    ∙ ap (λ x. front ++ r ∷ x) (ap (λ k. drop k row) (let same : suc (from + before) ≡ from + 1 + before = omega arith in same) ∙ sym (drop-drop before (from + 1) row))
+    ∙ append_assoc (take from row) (take before rest) (r ∷ drop before rest)
+    ∙ ap (λ x. take from row ++ x) (sym put)
   where
-    from : drop next row ≡ other ∷ drop (suc next) row
-    from = from-place row next d other l at
+    rest : List Rank
+    rest = drop (from + 1) row
+
+    front : List Rank
+    front = take from row ++ take before rest
+
+-- what stands after a place, as a slice has it
+pub after-place : (row : List Rank) (n : ℕ) → take (length row - n) (drop n row) ≡ drop n row
+after-place row n = take_all (length row - n) (drop n row) (let l = length-drop n row in omega (arith, l))
 
 -- of those before the winner, one more is put in its place
 win-step : (pass stride idle k : ℕ) (row : List Rank) (d r : Rank) → idle < length row → r ≡ get_or (take (suc idle) row ++ after_win pass stride k (drop (suc idle) row)) idle d

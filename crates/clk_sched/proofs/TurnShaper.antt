@@ -138,7 +138,7 @@ shaper-vain a b x s z None e there some tells asked left rate burst =
     (λ rate burst turns holds before. left rate burst turns (as_turn a.moment (asked_in_order (now_of a) x (0 ∷ []) None)) holds before refl (in_order-giver (now_of a) x (0 ∷ []) None tt))
 
 -- A node holds the bucket of a Shaper.
-shaper-input : (a : Nodes) (x : ℕ) (s : Bucket) → CanPull a x (edges_of a.inputs.items x) → slice_get a.states.items x ≡ Some (Shaper s) → HasInput a.inputs.items x
+pub shaper-input : (a : Nodes) (x : ℕ) (s : Bucket) → CanPull a x (edges_of a.inputs.items x) → slice_get a.states.items x ≡ Some (Shaper s) → HasInput a.inputs.items x
 shaper-input a x s can state = fits-there a.inputs.items a.states.items x (Shaper s) can.fit state
 
 -- It may ask, once the token is taken.

@@ -36,12 +36,13 @@ impl Nodes {
     ghost use Rattle.clk_sched.specs.declared.session.state.State.TheVariants.{Prio};
     ghost use Rattle.clk_sched.specs.Places.{Answers};
     ghost use Rattle.clk_sched.specs.inside.Places.{edges_of, edges_at, edges_in, input_at, queue_asked};
+    ghost use Rattle.clk_sched.specs.Log.{asking};
+    ghost use Rattle.clk_sched.specs.inside.Looking.{Logs};
     ghost use Rattle.clk_sched.specs.inside.Pulling.{CanPull, Keeps, Asks, added, inputs_in};
     ghost use Rattle.clk_sched.specs.inside.Turning.{with_state, HasAsked, HasAskedAll, WasPulled};
 
     /// Pulls a node, as its class does, and answers its result.
-    // A Shaper is told first, and what it does stands in here, so that a chain of Shapers is one short call each. What the other
-    // classes need stands apart.
+    // A Shaper is told first, and what it does stands in here. What the other classes need stands apart.
     #[cycle(pull)]
     #[inline(never)]
     pub fn pull<Q: Ask>(&mut self, q: &mut Q, node: u16) -> Option<Packet>
@@ -144,9 +145,18 @@ impl Nodes {
         ensures { HasAsked Q.gives self.old self.new q.old q.new node input result }
     {
         let got = self.ask(q, node, input);
+        self.record(node, input, got);
+        got
+    }
+
+    /// Records that an input of a node was asked, and what it gave.
+    #[inline]
+    pub fn record(&mut self, node: u16, input: u16, got: Option<Packet>)
+        requires { 1 ≤ self.old.log.spare }
+        ensures { Logs self.old self.new (asking self.old.pull self.old.moment node input got) }
+    {
         self.log
             .push(Visit::asking(self.pull, self.moment, node, input, got));
-        got
     }
 
     /// Asks what stands at an input of a node.

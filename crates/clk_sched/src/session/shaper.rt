@@ -5,6 +5,7 @@ ghost use Rattle.clk_packet.specs.Limits.{most_rate, most_burst};
 ghost use Rattle.clk_sched.specs.Limits.{end_of_moments};
 
 use crate::ask::Ask;
+use crate::session::inputs::Input;
 use crate::session::nodes::Nodes;
 use crate::session::state::State;
 use clk_packet::Packet;
@@ -79,15 +80,17 @@ impl Bucket {
         tokens as u32
     }
 
-    ghost use Rattle.std.specs.Prelude.{length, slice_get, IfSome};
+    ghost use Rattle.std.specs.Prelude.{◌+◌, ◌-◌, length, slice_get, IfSome, IsSome, Some};
+    ghost use Rattle.clk_sched.specs.declared.session.inputs.Input.TheVariants.{Scheduler};
     ghost use Rattle.clk_sched.specs.inside.Holds.OfClass.{IsShaper};
-    ghost use Rattle.clk_sched.specs.inside.Places.{edges_of};
+    ghost use Rattle.clk_sched.specs.inside.Places.{AllFit, edges_of, edges_at, input_at};
     ghost use Rattle.clk_sched.specs.inside.Pulling.{CanPull};
     ghost use Rattle.clk_sched.specs.inside.Turning.{WasPulled};
-    ghost use Rattle.clk_sched.specs.inside.Tokens.{TakesToken, GivesBack};
+    ghost use Rattle.clk_sched.specs.inside.Tokens.{TakesToken, GivesBack, GoesDown, AnswersAt, AnswersUp};
 
     /// Pulls a Shaper, which asks for a packet with a token alone.
-    // Its bucket stays in its place: nothing of it is needed while the input is asked.
+    // Its bucket stays in its place: nothing of it is needed while the input is asked. Shapers one below another are gone down and up in
+    // loops: a processor doesn't foresee the returns of as many calls.
     #[cycle(pull)]
     #[inline]
     pub fn pull<Q: Ask>(nodes: &mut Nodes, q: &mut Q, node: u16) -> Option<Packet>
@@ -95,15 +98,83 @@ impl Bucket {
         requires holds { IfSome (slice_get nodes.old.states.items node) IsShaper }
         ensures { WasPulled Q.gives nodes.old nodes.new q.old q.new node result }
     {
-        if !Bucket::take_at(nodes, node) {
+        let (last, token) = Bucket::take_down(nodes, node);
+        if !token {
+            Bucket::answer_up(nodes, node, last, None);
             return None;
         }
-        let got = nodes.look(q, node, 0);
-        if got.is_some() {
-            return got;
+        let got = nodes.ask(q, last, 0);
+        Bucket::answer_at(nodes, last, got);
+        Bucket::answer_up(nodes, node, last, got);
+        got
+    }
+
+    // Takes a token of this Shaper and of those one below another from it on, up to the first that has none. Answers the last that was
+    // tried, and whether it had one.
+    #[inline]
+    fn take_down(nodes: &mut Nodes, node: u16) -> (u16, bool)
+        requires can_pull { CanPull nodes.old node (edges_of nodes.old.inputs.items node) }
+        requires holds { IfSome (slice_get nodes.old.states.items node) IsShaper }
+        ensures { GoesDown nodes.old nodes.new node result.0 result.1 }
+    {
+        let mut last = node;
+        let mut token = Bucket::take_at(nodes, last);
+        while token {
+            let Some(below) = Bucket::below(nodes, last) else {
+                return (last, true);
+            };
+            token = Bucket::take_at(nodes, below);
+            last = below;
         }
-        Bucket::give_back_at(nodes, node);
-        None
+        (last, false)
+    }
+
+    // The Shaper that stands at the input of a node, if its number follows.
+    #[inline]
+    fn below(nodes: &Nodes, node: u16) -> Option<u16>
+        requires can_pull { CanPull nodes.now node (edges_at nodes.now.inputs.items node 0) }
+        requires within { IsSome (input_at nodes.now.inputs.items node 0) }
+        ensures next { IfSome result (λ below. below ≡ node + 1) }
+        ensures stands { IfSome result (λ below. input_at nodes.now.inputs.items node 0 ≡ Some (Scheduler below)) }
+        ensures holds { IfSome result (λ below. IfSome (slice_get nodes.now.states.items below) IsShaper) }
+    {
+        let Input::Scheduler(below) = nodes.inputs[node as usize].each[0] else {
+            return None;
+        };
+        if below - node != 1 {
+            return None;
+        }
+        match nodes.states[below as usize] {
+            State::Shaper(_) => Some(below),
+            _ => None,
+        }
+    }
+
+    // Records what a Shaper got, and gives its token back where that is nothing.
+    #[inline]
+    fn answer_at(nodes: &mut Nodes, node: u16, got: Option<Packet>)
+        requires there { node < length nodes.old.states.items }
+        requires room { 1 ≤ nodes.old.log.spare }
+        ensures { AnswersAt nodes.old nodes.new node got }
+    {
+        nodes.record(node, 0, got);
+        if got.is_none() {
+            Bucket::give_back_at(nodes, node);
+        }
+    }
+
+    // The same for those from the one before `last` up to the first.
+    #[inline]
+    fn answer_up(nodes: &mut Nodes, first: u16, last: u16, got: Option<Packet>)
+        requires order { first ≤ last }
+        requires there { last ≤ length nodes.old.inputs.items }
+        requires fit { AllFit nodes.old.inputs.items nodes.old.states.items }
+        requires room { last - first ≤ nodes.old.log.spare }
+        ensures { AnswersUp nodes.old nodes.new last (last - first) got }
+    {
+        for above in (first..last).rev() {
+            Bucket::answer_at(nodes, above, got);
+        }
     }
 
     // Takes a token out of the bucket of a Shaper, and answers whether there was one.

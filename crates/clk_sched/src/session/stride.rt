@@ -1,6 +1,6 @@
 //! The passes of a StrideSched.
 
-ghost use Rattle.std.specs.Prelude.{◌≡◌, ◌≤◌, ◌<◌, ◌+◌, ◌^◌, ◌++◌, take, drop, length, map, IfOk};
+ghost use Rattle.std.specs.Prelude.{◌≡◌, ◌≤◌, ◌<◌, ◌+◌, ◌^◌, ◌++◌, ◌∷◌, take, drop, length, map, IfOk};
 ghost use Rattle.std.specs.List.{All, AllByRecursion, range_with_len};
 ghost use Rattle.clk_packet.specs.Limits.{most_inputs, most_tickets};
 ghost use Rattle.clk_sched.specs.Laws.Stride.{stride_of};
@@ -45,7 +45,7 @@ pub struct Passes {
 }
 
 impl Passes {
-    ghost use Rattle.std.specs.Prelude.{ℕ, [], ◌∷◌, List, slice_get, IfSome};
+    ghost use Rattle.std.specs.Prelude.{ℕ, [], List, slice_get, IfSome};
     ghost use Rattle.clk_sched.specs.declared.visit.Visit.{Visit};
     ghost use Rattle.clk_sched.specs.Turns.{Turn, giver};
     ghost use Rattle.clk_sched.specs.inside.Holds.Stride.{HoldsPasses};
@@ -185,15 +185,22 @@ fn put(row: &mut [Rank], from: usize, rank: Rank)
     requires { from < length row.old }
     ensures { row.new ≡ take from row.old ++ put_rank rank (drop (from + 1) row.old) }
 {
-    let mut place = from;
-    for next in from + 1..row.len() {
-        if rank.is_up_to(&row[next]) {
-            break;
+    let before = count_before(rank, &row[from + 1..]);
+    row.copy_within(from + 1..from + 1 + before, from);
+    row[from + before] = rank;
+}
+
+/// How many of these ranks, which are in order, stand before this one.
+fn count_before(rank: Rank, others: &[Rank]) -> usize
+    ensures within { result ≤ length others.now }
+    ensures count { put_rank rank others.now ≡ take result others.now ++ rank ∷ drop result others.now }
+{
+    for before in 0..others.len() {
+        if rank.is_up_to(&others[before]) {
+            return before;
         }
-        row[place] = row[next];
-        place = next;
     }
-    row[place] = rank;
+    others.len()
 }
 
 /// Takes the first pass, which is the least, from all, so that no pass grows with the number of pulls.

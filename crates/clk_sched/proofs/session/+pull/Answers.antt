@@ -23,7 +23,8 @@ use Rattle.clk_sched.proofs.Logged.{edge-there, keeps-logged, added-logged, aske
 use Rattle.clk_sched.proofs.LooksDrr.{answers-held, looks-held, looks-fresh}
 use Rattle.clk_sched.proofs.TurnDrr.{has-looked, making-first, making-can, making-next, making-passed, making-all, HasEnded, had-ended}
 use Rattle.clk_sched.proofs.TurnStride.{FitsAt, stride-may, had-won, had-lost}
-use Rattle.clk_sched.proofs.TurnShaper.{shaper-may, shaper-refused, shaper-passed, shaper-returned}
+use Rattle.clk_sched.proofs.ShaperRow.{WasAsked, below-refused, below-answered, whole-answered, answers-keep, goes-may, goes-room, goes-edges, goes-order, goes-inputs}
+use Rattle.clk_sched.specs.inside.Tokens.{GoesDown}
 use Rattle.clk_sched.specs.inside.Turning.{HasAskedAll, WasPulled}
 use Rattle.clk_sched.proofs.InOrder.{packet_of}
 use Rattle.clk_sched.proofs.session.+pull.Goals as goal
@@ -149,8 +150,7 @@ nodes::Nodes::ask_in_turn-returns g t c =
 
 pub nodes::Nodes::look-returns : goal.nodes::Nodes::look-returns
 nodes::Nodes::look-returns g t c =
-    asked-logged g.Q.Ask.gives c.args.self.now c.ask-got.new.self _ c.args.q.now c.ask-got.new.q c.args.node c.args.input c.ask-got.result c.asking.result c.requires.within c.ask-got.ensures.keeps c.ask-got.ensures.answers c.ask-got.ensures.asks c.asking.ensures
-    (record { inputs = refl; states = refl; pull = refl; moment = refl; log = c.push.ensures })
+    asked-logged g.Q.Ask.gives c.args.self.now c.ask-got.new.self _ c.args.q.now c.ask-got.new.q c.args.node c.args.input c.ask-got.result _ c.requires.within c.ask-got.ensures.keeps c.ask-got.ensures.answers c.ask-got.ensures.asks refl c.record.ensures
 
 pub prio::pull_prio-ask_in_turn-requires : goal.prio::pull_prio-ask_in_turn-requires
 prio::pull_prio-ask_in_turn-requires g t c =
@@ -392,22 +392,61 @@ stride::Passes::pull-returns g t c =
     pulled-back g.Q.Ask.gives c.args.nodes.now c.take.new.self c.turn-got.new.nodes c.put.new.self c.args.q.now c.turn-got.new.q c.args.node _ (Stride c.in-Stride.passes) (Stride _) c.turn-got.result c.take.ensures.taken
     (c.take.ensures.state ∙ ap Some c.in-Stride.is) c.requires.can_pull (c.turn-got.ensures c.in-Stride.passes _ (sym c.deref_mut.ensures.value) refl) c.put.ensures
 
-pub shaper::Bucket::pull-look-got-requires : goal.shaper::Bucket::pull-look-got-requires
-shaper::Bucket::pull-look-got-requires g t c =
-    let may = shaper-may c.args.nodes.now c.take_at.new.nodes c.args.node _ c.requires.can_pull c.take_at.ensures in
-    let same = ap (λ (n : Nodes). length n.inputs.items) c.take_at.ensures.is in
+pub shaper::Bucket::pull-answer_up-requires-clause-room : goal.shaper::Bucket::pull-answer_up-requires-clause-room
+shaper::Bucket::pull-answer_up-requires-clause-room g t c =
+    let room = goes-room c.args.nodes.now c.take_down-last.new.nodes c.args.node c.take_down-last.result.0 _ c.requires.can_pull c.take_down-last.ensures in omega (arith, room)
+
+pub shaper::Bucket::pull-returns-then-not-token : goal.shaper::Bucket::pull-returns-then-not-token
+shaper::Bucket::pull-returns-then-not-token g t c =
+    let a = c.args.nodes.now in
+    let b = c.take_down-last.new.nodes in
+    let last = c.take_down-last.result.0 in
+    whole-answered g.Q.Ask.gives a b c.answer_up.new.nodes c.args.q.now c.args.q.now c.args.node last None (goes-order a b c.args.node last _ c.take_down-last.ensures)
+    (below-refused g.Q.Ask.gives a b c.args.q.now c.args.node last _ c.take_down-last.ensures c.if-not-token.true) c.answer_up.ensures
+
+pub shaper::Bucket::pull-ask-got-requires : goal.shaper::Bucket::pull-ask-got-requires
+shaper::Bucket::pull-ask-got-requires g t c =
+    let a = c.args.nodes.now in
+    let b = c.take_down-last.new.nodes in
+    let last = c.take_down-last.result.0 in
+    let may = goes-may a b c.args.node last _ c.take_down-last.ensures in
+    let order = goes-order a b c.args.node last _ c.take_down-last.ensures in
+    let same = ap (λ v. length v.items) (goes-inputs a b c.args.node last _ c.take_down-last.ensures) in
     let less = c.decreases in
-    λ κs le. (omega (arith, less, same), (search, (may.0, may.1)))
+    λ κs le. (omega (arith, order, less, same), (search, (may.0, may.1)))
 
-pub shaper::Bucket::pull-returns-then-not-take_at : goal.shaper::Bucket::pull-returns-then-not-take_at
-shaper::Bucket::pull-returns-then-not-take_at g t c =
-    shaper-refused g.Q.Ask.gives c.args.nodes.now c.take_at.new.nodes c.args.q.now c.args.node _ c.requires.can_pull c.take_at.ensures c.if-not-take_at.true
+pub shaper::Bucket::pull-answer_at-requires-clause-room : goal.shaper::Bucket::pull-answer_at-requires-clause-room
+shaper::Bucket::pull-answer_at-requires-clause-room g t c =
+    let a = c.args.nodes.now in
+    let b = c.take_down-last.new.nodes in
+    let last = c.take_down-last.result.0 in
+    let room = goes-room a b c.args.node last _ c.requires.can_pull c.take_down-last.ensures in
+    let edges = goes-edges a b c.args.node last _ c.take_down-last.ensures in
+    let some = edges.0 in
+    let most = edges.1 in
+    let kept = c.ask-got.ensures.keeps.at_most in
+    omega (arith, room, some, most, kept)
 
-pub shaper::Bucket::pull-returns-then-is_some : goal.shaper::Bucket::pull-returns-then-is_some
-shaper::Bucket::pull-returns-then-is_some g t c =
-    shaper-passed g.Q.Ask.gives c.args.nodes.now c.take_at.new.nodes c.look-got.new.self c.args.q.now c.look-got.new.q c.args.node _ c.look-got.result c.requires.can_pull c.take_at.ensures c.if-not-take_at.false c.look-got.ensures (sym c.is_some.ensures ∙ c.if-is_some.true)
+pub shaper::Bucket::pull-answer_up-requires-2-clause-room : goal.shaper::Bucket::pull-answer_up-requires-2-clause-room
+shaper::Bucket::pull-answer_up-requires-2-clause-room g t c =
+    let a = c.args.nodes.now in
+    let b = c.take_down-last.new.nodes in
+    let last = c.take_down-last.result.0 in
+    let room = goes-room a b c.args.node last _ c.requires.can_pull c.take_down-last.ensures in
+    let edges = goes-edges a b c.args.node last _ c.take_down-last.ensures in
+    let some = edges.0 in
+    let most = edges.1 in
+    let kept = c.ask-got.ensures.keeps.at_most in
+    let more = (answers-keep c.ask-got.new.self c.answer_at.new.nodes last c.ask-got.result c.answer_at.ensures b.inputs.items c.ask-got.ensures.keeps.fit).1 in
+    omega (arith, room, some, most, kept, more)
 
 pub shaper::Bucket::pull-returns : goal.shaper::Bucket::pull-returns
 shaper::Bucket::pull-returns g t c =
-    shaper-returned g.Q.Ask.gives c.args.nodes.now c.take_at.new.nodes c.look-got.new.self c.give_back_at.new.nodes c.args.q.now c.look-got.new.q c.args.node _ c.look-got.result c.requires.can_pull c.take_at.ensures c.if-not-take_at.false c.look-got.ensures
-    (sym c.is_some.ensures ∙ c.if-is_some.false) c.give_back_at.ensures
+    let a = c.args.nodes.now in
+    let b = c.take_down-last.new.nodes in
+    let last = c.take_down-last.result.0 in
+    let down : GoesDown a b c.args.node last true = subst (GoesDown a b c.args.node last) c.if-not-token.false c.take_down-last.ensures in
+    whole-answered g.Q.Ask.gives a c.answer_at.new.nodes c.answer_up-2.new.nodes c.args.q.now c.ask-got.new.q c.args.node last c.ask-got.result (goes-order a b c.args.node last _ c.take_down-last.ensures)
+    (below-answered g.Q.Ask.gives a b c.ask-got.new.self c.answer_at.new.nodes c.args.q.now c.ask-got.new.q c.args.node last c.ask-got.result down
+    (record { keeps = c.ask-got.ensures.keeps; answers = c.ask-got.ensures.answers; asks = c.ask-got.ensures.asks }) c.answer_at.ensures)
+    c.answer_up-2.ensures

@@ -1,11 +1,20 @@
-use Rattle.std.proofs.Common.{◌∙◌, refl, sym, arith}
-use Rattle.clk_sched.proofs.RankLemmas.{put-last, put-before}
+use Rattle.std.proofs.Common.{◌≡◌, ◌+◌, ◌-◌, ◌≤◌, ◌∷◌, ◌++◌, List, length, ap, ◌∙◌, set, take, drop, subst, arith}
+use Rattle.std.proofs.Math.Seq.{paste}
+use Rattle.clk_sched.specs.declared.session.stride.Rank.{Rank}
+use Rattle.clk_sched.specs.inside.Ranks.{put_rank}
+use Rattle.clk_sched.proofs.RankLemmas.{after-place, put-moved}
 use Rattle.clk_sched.proofs.session.stride.put.Goals as goal
-use Rattle.clk_sched.proofs.session.stride.put.Goals.{else-loop-next-test, then-loop-next-test+then-is_up_to}
 
 pub returns : goal.returns
 returns c =
-    elim c.loop-next-test.branch [
-      | else-loop-next-test w ↦ put-last c.args.rank c.loop-next.row c.loop-next.place c.loop-next.invariant.1 (omega arith) ∙ c.loop-next.invariant.2
-      | then-loop-next-test+then-is_up_to w ↦ put-before c.args.rank c.loop-next.row c.loop-next.place c.loop-next.next _ _ c.loop-next.invariant.0 (omega arith) refl (sym w.is_up_to.ensures ∙ w.if-is_up_to.true) ∙ c.loop-next.invariant.2
-    ]
+    let row = c.args.row.now in
+    let from = c.args.from in
+    let rank = c.args.rank in
+    let before = c.count_before-before.result in
+    let count =
+    subst (λ (xs : List Rank). (before ≤ length xs) × (put_rank rank xs ≡ take before xs ++ rank ∷ drop before xs)) (after-place row (from + 1))
+    (c.count_before-before.ensures.within, c.count_before-before.ensures.count)
+    in
+    ap (λ x. set x (from + before) rank) c.copy_within.ensures.after
+    ∙ ap (λ n. set (paste row from (drop (from + 1) row) n) (from + before) rank) (let same : from + 1 + before - (from + 1) ≡ before = omega arith in same)
+    ∙ put-moved rank row from before c.requires count.0 count.1
