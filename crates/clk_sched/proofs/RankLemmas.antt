@@ -1,12 +1,13 @@
 -- The ranks of a StrideSched: how they are put in their places, and what stays true of them.
-use Rattle.std.proofs.Common.{◌≡◌, ℕ, zero, suc, ◌+◌, ◌-◌, ◌<◌, ◌≤◌, if◌then◌else◌, Bool, true, false, List, [], ◌∷◌, ◌++◌, length, map, take, drop, set, get_or, refl, sym, ap, ap₂, ◌∙◌, subst, append_assoc, arith, drop-cons}
+use Rattle.std.proofs.Common.{◌≡◌, ℕ, zero, suc, ◌+◌, ◌-◌, ◌<◌, ◌≤◌, if◌then◌else◌, nat_lt, Bool, true, false, List, [], ◌∷◌, ◌++◌, length, map, take, drop, set, get_or, refl, sym, ap, ap₂, ◌∙◌, subst, append_assoc, arith, drop-cons}
 use Rattle.std.specs.List.{AllByRecursion}
 use Rattle.std.proofs.lemmas.Bool.Decides.{nat_tests}
 use Rattle.std.proofs.Math.Seq.{paste, set_at, length_paste_head, take-suc}
 use Rattle.std.proofs.Math.ListN.{drop_of_length-le}
 use Rattle.std.proofs.lemmas.List.{drop-drop, length-drop, take_all}
 use Rattle.clk_sched.specs.declared.session.stride.Rank.{Rank}
-use Rattle.clk_sched.specs.inside.Ranks.{greatest_stride, IsRankOf, HasRisingPasses, is_up_to, put_rank, at_pass, after_win, first_pass, less}
+use Rattle.clk_sched.specs.declared.session.stride.TheConstants.{FAR}
+use Rattle.clk_sched.specs.inside.Ranks.{greatest_stride, IsRankOf, HasRisingPasses, is_up_to, put_rank, at_pass, after_win, first_pass, taken_from, less}
 use Rattle.clk_sched.proofs.Members.{all-weaker}
 use Rattle.clk_sched.proofs.Apart.{all-map}
 
@@ -130,43 +131,85 @@ all-two : (P Q : Rank → Type 0) (ranks : List Rank) → AllByRecursion P ranks
 all-two P Q [] h k = tt
 all-two P Q (r ∷ ranks) h k = ((h.0, k.0), all-two P Q ranks h.1 k.1)
 
-pub won-ranks : (inputs pass stride place : ℕ) (row : List Rank) → stride ≤ greatest_stride → AllByRecursion (IsRankOf inputs) row → AllByRecursion (λ (r : Rank). pass ≤ r.pass) (drop (suc place) row)
+pub won-ranks : (inputs least pass stride place : ℕ) (row : List Rank) → stride ≤ greatest_stride → least ≤ pass → AllByRecursion (IsRankOf inputs least) row → AllByRecursion (λ (r : Rank). pass ≤ r.pass) (drop (suc place) row)
     → AllByRecursion (IsWonRank inputs pass) (after_win pass stride place row)
-won-ranks inputs pass stride place row l h k =
-    win-all (IsWonRank inputs pass) (IsRankOf inputs) pass stride place row (λ r one. let a = one.0 in ((a, omega arith, omega arith), (a, omega arith, omega arith))) h
-    (all-weaker (λ (r : Rank). IsRankOf inputs r × (pass ≤ r.pass)) (IsWonRank inputs pass) (drop (suc place) row)
-    (λ r one. (one.0.0, one.1, let a = one.0.1 in let b = one.1 in omega (arith, a, b)))
-    (all-two (IsRankOf inputs) (λ (r : Rank). pass ≤ r.pass) (drop (suc place) row) (all-drop (IsRankOf inputs) (suc place) row h) k))
+won-ranks inputs least pass stride place row l m h k =
+    win-all (IsWonRank inputs pass) (IsRankOf inputs least) pass stride place row (λ r one. let a = one.0 in ((a, omega arith, omega arith), (a, omega arith, omega arith))) h
+    (all-weaker (λ (r : Rank). IsRankOf inputs least r × (pass ≤ r.pass)) (IsWonRank inputs pass) (drop (suc place) row)
+    (λ r one. (one.0.0, one.1, let a = one.0.1 in let b = one.1 in omega (arith, a, b, m)))
+    (all-two (IsRankOf inputs least) (λ (r : Rank). pass ≤ r.pass) (drop (suc place) row) (all-drop (IsRankOf inputs least) (suc place) row h) k))
 
--- the first pass is the least, and is taken from all
+-- the first pass is the least
 pub first-least : (ranks : List Rank) → HasRisingPasses ranks → AllByRecursion (λ (r : Rank). first_pass ranks ≤ r.pass) ranks
 first-least [] h = tt
 first-least (r ∷ ranks) h = (omega arith, h.0)
+
+pub first-below : (ranks : List Rank) → HasRisingPasses ranks → (place : ℕ) (d : Rank) → place < length ranks → first_pass ranks ≤ (get_or ranks place d).pass
+first-below [] h place d l = absurd (omega arith)
+first-below (r ∷ ranks) h place d l = below (r ∷ ranks) (omega arith, h.0) place l
+  where
+    below : (others : List Rank) → AllByRecursion (λ (o : Rank). r.pass ≤ o.pass) others → (place : ℕ) → place < length others → r.pass ≤ (get_or others place d).pass
+    below [] k place m = absurd (omega arith)
+    below (o ∷ others) k zero m = k.0
+    below (o ∷ others) k (suc place) m = below others k.1 place (omega arith)
 
 pub less-rises : (least : ℕ) (ranks : List Rank) → HasRisingPasses ranks → HasRisingPasses (map (less least) ranks)
 less-rises least [] h = tt
 less-rises least (r ∷ ranks) h =
     (all-map (λ (o : Rank). r.pass - least ≤ o.pass) (less least) ranks (all-weaker (λ (o : Rank). r.pass ≤ o.pass) (λ (o : Rank). r.pass - least ≤ o.pass - least) ranks (λ o k. omega arith) h.0), less-rises least ranks h.1)
 
-pub less-ranks : (inputs pass : ℕ) (ranks : List Rank) → AllByRecursion (IsWonRank inputs pass) ranks → AllByRecursion (IsRankOf inputs) (map (less (first_pass ranks)) ranks)
-less-ranks inputs pass [] h = tt
-less-ranks inputs pass (r ∷ ranks) h =
-    all-map (IsRankOf inputs) (less r.pass) (r ∷ ranks)
-    (all-weaker (IsWonRank inputs pass) (λ (o : Rank). IsRankOf inputs (less r.pass o)) (r ∷ ranks) (λ o k. (k.0, let a = h.0.1 in let b = k.2 in omega (arith, a, b))) h)
+pub less-ranks : (inputs pass n : ℕ) (ranks : List Rank) → n ≤ first_pass ranks → AllByRecursion (IsWonRank inputs pass) ranks → AllByRecursion (IsRankOf inputs (first_pass (map (less n) ranks))) (map (less n) ranks)
+less-ranks inputs pass n [] l h = tt
+less-ranks inputs pass n (r ∷ ranks) l h =
+    all-map (IsRankOf inputs (r.pass - n)) (less n) (r ∷ ranks)
+    (all-weaker (IsWonRank inputs pass) (λ (o : Rank). IsRankOf inputs (r.pass - n) (less n o)) (r ∷ ranks) (λ o k. (k.0, let a = h.0.1 in let b = k.2 in omega (arith, a, b, l))) h)
+
+-- what is taken is no more than the least, and leaves one that isn't far
+pub taken-least : (ranks : List Rank) → taken_from ranks ≤ first_pass ranks
+taken-least ranks = by_test (nat_lt (first_pass ranks) FAR)
+  where
+    by_test : (b : Bool) → (if b then 0 else first_pass ranks) ≤ first_pass ranks
+    by_test true = omega arith
+    by_test false = omega arith
+
+less-first : (n : ℕ) (ranks : List Rank) → first_pass (map (less n) ranks) ≡ first_pass ranks - n
+less-first n [] = omega arith
+less-first n (r ∷ ranks) = refl
+
+pub taken-near : (ranks : List Rank) → first_pass (map (less (taken_from ranks)) ranks) < FAR
+taken-near ranks = subst (λ n. n < FAR) (sym (less-first (taken_from ranks) ranks)) (by_test (nat_lt (first_pass ranks) FAR) refl)
+  where
+    by_test : (b : Bool) → nat_lt (first_pass ranks) FAR ≡ b → first_pass ranks - (if b then 0 else first_pass ranks) < FAR
+    by_test true e = grind (arith, nat_tests)
+    by_test false e = omega arith
+
+pub taken-none : (ranks : List Rank) → first_pass ranks < FAR → taken_from ranks ≡ 0
+taken-none ranks l = by_test (nat_lt (first_pass ranks) FAR) refl
+  where
+    by_test : (b : Bool) → nat_lt (first_pass ranks) FAR ≡ b → (if b then 0 else first_pass ranks) ≡ 0
+    by_test true e = refl
+    by_test false e = absurd (let k : FAR ≤ first_pass ranks = grind (arith, nat_tests) in omega (arith, k, l))
+
+pub taken-first : (ranks : List Rank) → FAR ≤ first_pass ranks → taken_from ranks ≡ first_pass ranks
+taken-first ranks l = by_test (nat_lt (first_pass ranks) FAR) refl
+  where
+    by_test : (b : Bool) → nat_lt (first_pass ranks) FAR ≡ b → (if b then 0 else first_pass ranks) ≡ first_pass ranks
+    by_test true e = absurd (let k : first_pass ranks < FAR = grind (arith, nat_tests) in omega (arith, k, l))
+    by_test false e = refl
 
 pub less-none : (ranks : List Rank) → map (less 0) ranks ≡ ranks
 less-none [] = refl
 less-none (r ∷ ranks) = ap₂ (λ x xs. x ∷ xs) (ap (λ pass. at_pass pass r) (let same : r.pass - 0 ≡ r.pass = omega arith in same)) (less-none ranks)
 
 -- winning rows keep what the type says
-pub win-kept : (inputs pass stride place : ℕ) (row : List Rank) (d : Rank) → stride ≤ greatest_stride → place < length row → (get_or row place d).pass ≡ pass → AllByRecursion (IsRankOf inputs) row → HasRisingPasses row
-    → AllByRecursion (IsRankOf inputs) (map (less (first_pass (after_win pass stride place row))) (after_win pass stride place row))
-win-kept inputs pass stride place row d l m e h rises =
-    less-ranks inputs pass (after_win pass stride place row)
-    (won-ranks inputs pass stride place row l h (subst (λ p. AllByRecursion (λ (r : Rank). p ≤ r.pass) (drop (suc place) row)) e (beyond-place row place d m rises)))
+pub win-kept : (inputs least pass stride place : ℕ) (row : List Rank) (d : Rank) → stride ≤ greatest_stride → place < length row → (get_or row place d).pass ≡ pass → least ≤ pass → AllByRecursion (IsRankOf inputs least) row → HasRisingPasses row
+    → AllByRecursion (IsRankOf inputs (first_pass (map (less (taken_from (after_win pass stride place row))) (after_win pass stride place row)))) (map (less (taken_from (after_win pass stride place row))) (after_win pass stride place row))
+win-kept inputs least pass stride place row d l m e k h rises =
+    less-ranks inputs pass (taken_from (after_win pass stride place row)) (after_win pass stride place row) (taken-least (after_win pass stride place row))
+    (won-ranks inputs least pass stride place row l k h (subst (λ p. AllByRecursion (λ (r : Rank). p ≤ r.pass) (drop (suc place) row)) e (beyond-place row place d m rises)))
 
-pub win-kept_rising : (pass stride place : ℕ) (row : List Rank) → HasRisingPasses row → HasRisingPasses (map (less (first_pass (after_win pass stride place row))) (after_win pass stride place row))
-win-kept_rising pass stride place row rises = less-rises (first_pass (after_win pass stride place row)) (after_win pass stride place row) (win-rises pass stride place row rises)
+pub win-kept_rising : (pass stride place : ℕ) (row : List Rank) → HasRisingPasses row → HasRisingPasses (map (less (taken_from (after_win pass stride place row))) (after_win pass stride place row))
+win-kept_rising pass stride place row rises = less-rises (taken_from (after_win pass stride place row)) (after_win pass stride place row) (win-rises pass stride place row rises)
 
 pub win-least : (pass stride place : ℕ) (row : List Rank) → HasRisingPasses row → AllByRecursion (λ (r : Rank). first_pass (after_win pass stride place row) ≤ r.pass) (after_win pass stride place row)
 win-least pass stride place row rises = first-least (after_win pass stride place row) (win-rises pass stride place row rises)

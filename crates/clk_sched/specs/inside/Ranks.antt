@@ -3,6 +3,7 @@ use Rattle.std.specs.Prelude.{ℕ, zero, suc, ◌+◌, ◌-◌, ◌<◌, ◌≤�
 use Rattle.std.specs.List.{AllByRecursion, AllByRecursion-prop}
 use Rattle.std.specs.Coded.{×_prop, Unit-prop, le_prop}
 use Rattle.clk_sched.specs.declared.session.stride.Rank.{Rank}
+use Rattle.clk_sched.specs.declared.session.stride.TheConstants.{FAR}
 
 -- an input with its pass, to which what was taken is added again
 abbrev pub with_pass : ℕ → Rank → ℕ × ℕ
@@ -12,9 +13,9 @@ with_pass taken r = (r.input, r.pass + taken)
 abbrev pub greatest_stride : ℕ
 greatest_stride = 65536
 
--- a rank of one of so many inputs, as it stands between pulls
-abbrev pub IsRankOf : ℕ → Rank → Type 0
-IsRankOf inputs r = (r.input < inputs) × (r.pass ≤ greatest_stride)
+-- a rank of one of so many inputs, where this is the least pass of all
+abbrev pub IsRankOf : ℕ → ℕ → Rank → Type 0
+IsRankOf inputs least r = (r.input < inputs) × (r.pass ≤ least + greatest_stride)
 
 -- no pass is above one after it
 abbrev pub HasRisingPasses : List Rank → Type 0
@@ -52,6 +53,10 @@ first_pass (r ∷ others) = r.pass
 
 abbrev pub less : ℕ → Rank → Rank
 less least r = at_pass (r.pass - least) r
+
+-- what is taken from all passes after a pull: the least, once it is far
+abbrev pub taken_from : List Rank → ℕ
+taken_from ranks = if nat_lt (first_pass ranks) FAR then 0 else first_pass ranks
 
 -- the rank of an input before the first pull
 abbrev pub first_rank : ℕ → Rank

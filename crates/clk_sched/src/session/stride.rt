@@ -4,7 +4,8 @@ ghost use Rattle.std.specs.Prelude.{◌≡◌, ◌≤◌, ◌<◌, ◌+◌, ◌^
 ghost use Rattle.std.specs.List.{All, AllByRecursion, range_with_len};
 ghost use Rattle.clk_packet.specs.Limits.{most_inputs, most_tickets};
 ghost use Rattle.clk_sched.specs.Laws.Stride.{stride_of};
-ghost use Rattle.clk_sched.specs.inside.Ranks.{greatest_stride, IsRankOf, HasRisingPasses, HasRisingPasses-prop, is_up_to, put_rank, after_win, first_pass, first_rank, less};
+ghost use Rattle.clk_sched.specs.declared.session.stride.TheConstants.{FAR};
+ghost use Rattle.clk_sched.specs.inside.Ranks.{greatest_stride, IsRankOf, HasRisingPasses, HasRisingPasses-prop, is_up_to, put_rank, after_win, first_pass, taken_from, first_rank, less};
 
 use crate::ask::Ask;
 use crate::session::nodes::Nodes;
@@ -16,7 +17,10 @@ use std::alloc::{AllocError, Global};
 /// The stride of one ticket.
 const GREATEST_STRIDE: u32 = 65_536;
 
-/// An input with its pass, less the least of all.
+/// The pass from which on the least is taken from all.
+const FAR: u32 = 1_073_741_824;
+
+/// An input with its pass, less what was taken from all.
 #[derive(Clone, Copy, Debug, Default, PartialEq, Eq)]
 pub struct Rank {
     pub pass: u32,
@@ -33,13 +37,14 @@ impl Rank {
     }
 }
 
-/// The inputs of a StrideSched in rising order of (pass, index), with the stride of each. No pass is above 65,536 between
-/// pulls.
+/// The inputs of a StrideSched in rising order of (pass, index), with the stride of each. No pass is more than 65,536 above the least, which
+/// isn't far between pulls.
 #[derive(Drop)]
 pub struct Passes {
     row: SmallVec<Rank, 2>,
     strides: SmallVec<u32, 4>,
-    ghost ranks: { All (IsRankOf (length strides.items)) row.items },
+    ghost ranks: { All (IsRankOf (length strides.items) (first_pass row.items)) row.items },
+    ghost near: { first_pass row.items < FAR },
     ghost rising: { HasRisingPasses row.items } by { HasRisingPasses-prop row.items },
     ghost bounded: { All (λ stride. stride ≤ greatest_stride) strides.items },
 }
@@ -91,7 +96,7 @@ impl Passes {
             winner.pass,
             self.strides[usize::from(winner.input)],
         );
-        take_least(row);
+        bring_near(row);
     }
 
     ghost use Rattle.clk_sched.specs.inside.Places.{edges_of};
@@ -203,14 +208,14 @@ fn count_before(rank: Rank, others: &[Rank]) -> usize
     others.len()
 }
 
-/// Takes the first pass, which is the least, from all, so that no pass grows with the number of pulls.
-fn take_least(row: &mut [Rank])
+/// Takes the first pass, which is the least, from all once it is far, so that no pass grows with the number of pulls.
+fn bring_near(row: &mut [Rank])
     requires some { 0 < length row.old }
     requires least { All (λ rank. first_pass row.old ≤ rank.pass) row.old }
-    ensures { row.new ≡ map (less (first_pass row.old)) row.old }
+    ensures { row.new ≡ map (less (taken_from row.old)) row.old }
 {
     let least = row[0].pass;
-    if least == 0 {
+    if least < FAR {
         return;
     }
     for rank in row.iter_mut() {
