@@ -1,5 +1,5 @@
 -- Shapers one below another, which are gone down and up in loops.
-use Rattle.std.proofs.Common.{◌≡◌, ℕ, zero, suc, ◌+◌, ◌-◌, ◌<◌, ◌≤◌, Bool, true, false, List, [], ◌∷◌, ◌++◌, length, slice_get, Option, Some, None, IsSome, is_some, MatchOption, refl, sym, ap, ◌∙◌, subst, arith}
+use Rattle.std.proofs.Common.{◌≡◌, ℕ, zero, suc, ◌+◌, ◌-◌, ◌<◌, ◌≤◌, Bool, true, false, List, [], ◌∷◌, ◌++◌, length, Option, Some, None, IsSome, is_some, MatchOption, refl, sym, ap, ◌∙◌, subst, arith}
 use Rattle.std.proofs.lemmas.Bool.{false≢true}
 use Rattle.std.proofs.lemmas.List.{length-set}
 use Rattle.clk_packet.specs.declared.packet.Packet.{Packet}
@@ -13,7 +13,7 @@ use Rattle.clk_sched.specs.inside.Looking.{Logs}
 use Rattle.clk_sched.specs.Places.{Answers, at_queue}
 use Rattle.clk_sched.specs.inside.Places.{AllFit, edges_of, edges_at, input_at, queue_asked}
 use Rattle.clk_sched.specs.inside.Pulling.{CanPull, Keeps, Asks, added}
-use Rattle.clk_sched.specs.inside.Turning.{with_state, HasAsked, WasPulled}
+use Rattle.clk_sched.specs.inside.Turning.{HasAsked, WasPulled}
 use Rattle.clk_sched.specs.inside.Tokens.{TakesToken, GivesBack, AnswersAt, AnswersUp, IsBelow, SpendsAt, TakesDown, GoesDown}
 use Rattle.clk_sched.proofs.Asking.{keeps-more, answers-then}
 use Rattle.clk_sched.proofs.Asked.{child-after, edges-scheduler, queue-visited, asks-child}
@@ -254,6 +254,3 @@ goes-edges a b x last token h = (
 
 pub goes-order : (a b : Nodes) (x last : ℕ) (token : Bool) → GoesDown a b x last token → x ≤ last
 goes-order a b x last token h = let l = h.last_is in omega (arith, l)
-
-pub goes-fit : (a b : Nodes) (x last : ℕ) (token : Bool) → GoesDown a b x last token → AllFit b.inputs.items b.states.items
-goes-fit a b x last token h = (goes-may a b x last token h).0.fit

@@ -23,7 +23,7 @@ use Rattle.clk_sched.proofs.Logged.{edge-there, keeps-logged, added-logged, aske
 use Rattle.clk_sched.proofs.LooksDrr.{answers-held, looks-held, looks-fresh}
 use Rattle.clk_sched.proofs.TurnDrr.{has-looked, making-first, making-can, making-next, making-passed, making-all, HasEnded, had-ended}
 use Rattle.clk_sched.proofs.TurnStride.{FitsAt, stride-may, had-won, had-lost}
-use Rattle.clk_sched.proofs.ShaperRow.{WasAsked, below-refused, below-answered, whole-answered, answers-keep, goes-may, goes-room, goes-edges, goes-order, goes-inputs}
+use Rattle.clk_sched.proofs.ShaperRow.{below-refused, below-answered, whole-answered, answers-keep, goes-may, goes-room, goes-edges, goes-order, goes-inputs}
 use Rattle.clk_sched.specs.inside.Tokens.{GoesDown}
 use Rattle.clk_sched.specs.inside.Turning.{HasAskedAll, WasPulled}
 use Rattle.clk_sched.proofs.InOrder.{packet_of}
