@@ -42,23 +42,9 @@ impl Nodes {
     ghost use Rattle.clk_sched.specs.inside.Turning.{with_state, HasAsked, HasAskedAll, WasPulled};
 
     /// Pulls a node, as its class does, and answers its result.
-    // A Shaper is told first, and what it does stands in here. What the other classes need stands apart.
     #[cycle(pull)]
     #[inline(never)]
     pub fn pull<Q: Ask>(&mut self, q: &mut Q, node: u16) -> Option<Packet>
-        requires can_pull { CanPull self.old node (edges_of self.old.inputs.items node) }
-        ensures { WasPulled Q.gives self.old self.new q.old q.new node result }
-    {
-        if let State::Shaper(_) = self.states[node as usize] {
-            return Bucket::pull(self, q, node);
-        }
-        self.pull_by_class(q, node)
-    }
-
-    // Pulls a node of any class.
-    #[cycle(pull)]
-    #[inline(never)]
-    fn pull_by_class<Q: Ask>(&mut self, q: &mut Q, node: u16) -> Option<Packet>
         requires can_pull { CanPull self.old node (edges_of self.old.inputs.items node) }
         ensures { WasPulled Q.gives self.old self.new q.old q.new node result }
     {

@@ -92,7 +92,7 @@ impl Bucket {
     // Its bucket stays in its place: nothing of it is needed while the input is asked. Shapers one below another are gone down and up in
     // loops: a processor doesn't foresee the returns of as many calls.
     #[cycle(pull)]
-    #[inline]
+    #[inline(never)]
     pub fn pull<Q: Ask>(nodes: &mut Nodes, q: &mut Q, node: u16) -> Option<Packet>
         requires can_pull { CanPull nodes.old node (edges_of nodes.old.inputs.items node) }
         requires holds { IfSome (slice_get nodes.old.states.items node) IsShaper }

@@ -191,7 +191,9 @@ fn put(row: &mut [Rank], from: usize, rank: Rank)
     ensures { row.new ≡ take from row.old ++ put_rank rank (drop (from + 1) row.old) }
 {
     let before = count_before(rank, &row[from + 1..]);
-    row.copy_within(from + 1..from + 1 + before, from);
+    if before > 0 {
+        row.copy_within(from + 1..from + 1 + before, from);
+    }
     row[from + before] = rank;
 }
 

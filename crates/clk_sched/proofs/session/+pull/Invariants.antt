@@ -49,10 +49,7 @@ abbrev pub decreases-shaper::Bucket::pull : goal.decreases-shaper::Bucket::pull
 decreases-shaper::Bucket::pull g l = rank (length l.nodes.now.inputs.items) l.node 5
 
 abbrev pub decreases-nodes::Nodes::pull : goal.decreases-nodes::Nodes::pull
-decreases-nodes::Nodes::pull g l = rank (length l.self.now.inputs.items) l.node 7
-
-abbrev pub decreases-nodes::Nodes::pull_by_class : goal.decreases-nodes::Nodes::pull_by_class
-decreases-nodes::Nodes::pull_by_class g l = rank (length l.self.now.inputs.items) l.node 6
+decreases-nodes::Nodes::pull g l = rank (length l.self.now.inputs.items) l.node 6
 
 abbrev pub invariant-nodes::Nodes::ask_in_order-loop-place : goal.invariant-nodes::Nodes::ask_in_order-loop-place
 invariant-nodes::Nodes::ask_in_order-loop-place g l = IsAsking g.Q.Ask.gives l.initial.self l.self l.initial.q l.q l.node (take l.place (inputs_in l.fn.order))
