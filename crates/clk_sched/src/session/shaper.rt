@@ -80,7 +80,7 @@ impl Bucket {
         tokens as u32
     }
 
-    ghost use Rattle.std.specs.Prelude.{◌+◌, ◌-◌, length, slice_get, IfSome, IsSome, Some};
+    ghost use Rattle.std.specs.Prelude.{◌+◌, ◌-◌, ◌^◌, length, slice_get, IfSome, IsSome, Some, true};
     ghost use Rattle.clk_sched.specs.declared.session.inputs.Input.TheVariants.{Scheduler};
     ghost use Rattle.clk_sched.specs.inside.Holds.OfClass.{IsShaper};
     ghost use Rattle.clk_sched.specs.inside.Places.{AllFit, edges_of, edges_at, input_at};
@@ -119,34 +119,28 @@ impl Bucket {
     {
         let mut last = node;
         let mut token = Bucket::take_at(nodes, last);
-        while token {
-            let Some(below) = Bucket::below(nodes, last) else {
-                return (last, true);
-            };
-            token = Bucket::take_at(nodes, below);
-            last = below;
+        // Its number is counted on, so that a processor goes down without waiting for what stands at each input.
+        while token && Bucket::leads_on(nodes, last) {
+            last += 1;
+            token = Bucket::take_at(nodes, last);
         }
-        (last, false)
+        (last, token)
     }
 
-    // The Shaper that stands at the input of a node, if its number follows.
+    // Whether the node whose number follows that of a node is a Shaper and stands at its input.
     #[inline]
-    fn below(nodes: &Nodes, node: u16) -> Option<u16>
+    fn leads_on(nodes: &Nodes, node: u16) -> bool
         requires can_pull { CanPull nodes.now node (edges_at nodes.now.inputs.items node 0) }
         requires within { IsSome (input_at nodes.now.inputs.items node 0) }
-        ensures next { IfSome result (λ below. below ≡ node + 1) }
-        ensures stands { IfSome result (λ below. input_at nodes.now.inputs.items node 0 ≡ Some (Scheduler below)) }
-        ensures holds { IfSome result (λ below. IfSome (slice_get nodes.now.states.items below) IsShaper) }
+        ensures fits { result ≡ true → node + 1 < 2 ^ 16 }
+        ensures stands { result ≡ true → input_at nodes.now.inputs.items node 0 ≡ Some (Scheduler (node + 1)) }
+        ensures holds { result ≡ true → IfSome (slice_get nodes.now.states.items (node + 1)) IsShaper }
     {
-        let Input::Scheduler(below) = nodes.inputs[node as usize].each[0] else {
-            return None;
-        };
-        if below - node != 1 {
-            return None;
-        }
-        match nodes.states[below as usize] {
-            State::Shaper(_) => Some(below),
-            _ => None,
+        match nodes.inputs[node as usize].each[0] {
+            Input::Queue(_) => false,
+            Input::Scheduler(below) => {
+                below - node == 1 && matches!(nodes.states[below as usize], State::Shaper(_))
+            }
         }
     }
 

@@ -18,8 +18,8 @@ returns c =
     (c.count_before-before.ensures.within, c.count_before-before.ensures.count)
     in
     let moved : c.if-before-gt0.row ≡ paste row from (drop (from + 1) row) before =
-        elim c.if-before-gt0.branch [
-          then-before-gt0 w ↦ w.row-is ∙ w.copy_within.ensures.after ∙ ap (paste row from (drop (from + 1) row)) (let same : from + 1 + before - (from + 1) ≡ before = omega arith in same)
-        | else-before-gt0 w ↦ w.row-is ∙ paste-zero row from (drop (from + 1) row) ∙ ap (paste row from (drop (from + 1) row)) (let test = w.if-before-gt0.false in let none : zero ≡ before = grind (arith, nat_tests, test) in none)
-        ] in
+    elim c.if-before-gt0.branch [
+      | then-before-gt0 w ↦ w.row-is ∙ w.copy_within.ensures.after ∙ ap (paste row from (drop (from + 1) row)) (let same : from + 1 + before - (from + 1) ≡ before = omega arith in same)
+      | else-before-gt0 w ↦ w.row-is ∙ paste-zero row from (drop (from + 1) row) ∙ ap (paste row from (drop (from + 1) row)) (let test = w.if-before-gt0.false in let none : zero ≡ before = grind (arith, nat_tests, test) in none)
+    ] in
     ap (λ x. set x (from + before) rank) moved ∙ put-moved rank row from before c.requires count.0 count.1
