@@ -1,6 +1,7 @@
 -- The lemmas of trees, runs and sessions, of which `Callers` has those that crates above may cite.
 pub mod Callers
 mod Numbers
+mod Rows
 mod Members
 mod TreeLemmas
 mod LaidOut
@@ -37,6 +38,7 @@ mod TurnStride
 mod TurnShaper
 mod ShaperRow
 mod Logged
+mod Idle
 mod LooksDrr
 mod TurnDrr
 mod Orders

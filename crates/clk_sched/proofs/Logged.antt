@@ -7,14 +7,16 @@ use Rattle.clk_sched.specs.declared.session.inputs.Input.{Input}
 use Rattle.clk_sched.specs.declared.session.inputs.Input.TheVariants.{Queue, Scheduler}
 use Rattle.clk_sched.specs.declared.session.inputs.Inputs.{Inputs}
 use Rattle.clk_sched.specs.declared.session.nodes.Nodes.{Nodes}
-use Rattle.clk_sched.specs.Places.{Answers}
+use Rattle.clk_sched.specs.Places.{Answers, at_queue}
 use Rattle.clk_sched.specs.inside.Places.{AllFit, edges_at, option_edges_to, input_at, queue_asked}
 use Rattle.clk_sched.specs.inside.Pulling.{Keeps, Asks, AsksAll, IsPulling, IsVisitAt, added, now_of}
 use Rattle.clk_sched.specs.inside.Looking.{Logs}
 use Rattle.clk_sched.proofs.Asking.{added-is, keeps-more}
 use Rattle.clk_sched.proofs.Asking.{asks-one}
 use Rattle.clk_sched.specs.Log.{asking}
-use Rattle.clk_sched.specs.inside.Turning.{HasAsked}
+use Rattle.clk_sched.specs.inside.Turning.{HasAsked, IsIdle}
+use Rattle.clk_sched.proofs.Asking.{added-none, keeps-none}
+use Rattle.clk_sched.proofs.Asked.{asks-queue, queue-visited}
 
 -- a visit is logged after a pull below
 logged-whole : (a b c : Nodes) (m : ℕ) (v : Visit) → Keeps a b m → Logs b c v → c.log.items ≡ a.log.items ++ (added a b ++ v ∷ [])
@@ -69,3 +71,16 @@ asked-logged gives a b c q r x i got w there keeps answers asks is logs =
       answers = subst (λ k. Answers gives (queue_asked a.inputs.items) q k r) (sym (added-logged a b c _ v keeps l)) (answers v refl refl refl refl);
       asks = asks-one a b c _ x i got keeps (ap (λ k. k.items) l.log) l.states asks;
     }
+
+-- A queue that stands at an input answered.
+pub queue-answers : {S : Type 0} (gives : S → ℕ → Option Packet → S → Type 0) (a : Nodes) (q r : S) (x i leaf : ℕ) (got : Option Packet) → input_at a.inputs.items x i ≡ Some (Queue leaf) → gives q leaf got r
+    → (v : Visit) → v.node ≡ x → v.input ≡ i → v.fresh ≡ true → v.got ≡ got → Answers gives (queue_asked a.inputs.items) q (added a a ++ v ∷ []) r
+queue-answers gives a q r x i leaf got stands answer v node at fresh is =
+    subst (λ l. Answers gives (queue_asked a.inputs.items) q (l ++ v ∷ []) r) (sym (added-none a))
+    (subst (λ o. at_queue gives o v.got q (λ s. s ≡ r)) (sym (queue-visited a.inputs.items x i (Queue leaf) v stands node at fresh)) (r, subst (λ o. gives q leaf o r) (sym is) answer, refl))
+
+-- A queue that has nothing needn't be asked: the visit is recorded.
+pub idle-asked : {S : Type 0} (gives : S → ℕ → Option Packet → S → Type 0) (a c : Nodes) (q : S) (x i : ℕ) → AllFit a.inputs.items a.states.items → IsIdle gives a q x i → Logs a c (asking a.pull a.moment x i None) → HasAsked gives a c q q x i None
+idle-asked gives a c q x i fit idle logs =
+    asked-logged gives a a c q q x i None (asking a.pull a.moment x i None) (subst IsSome (sym idle.stands) refl) (keeps-more a a 0 _ (keeps-none a fit) (omega arith)) (queue-answers gives a q q x i idle.leaf None idle.stands idle.gives_none)
+    (asks-queue a x i idle.leaf None idle.stands) refl logs

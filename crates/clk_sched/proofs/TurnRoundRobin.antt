@@ -217,7 +217,7 @@ may-second a b x n first h can kept =
     )
 
 -- An order was asked in vain, and then another.
-asked-both : {S : Type 0} (gives : S → ℕ → Option Packet → S → Type 0) (a b c : Nodes) (q s t : S) (x : ℕ) (one other : List ℕ) (r : Option (ℕ × Packet)) → IsAsking gives a b q s x one → HasAskedAll gives b c s t x other r
+pub asked-both : {S : Type 0} (gives : S → ℕ → Option Packet → S → Type 0) (a b c : Nodes) (q s t : S) (x : ℕ) (one other : List ℕ) (r : Option (ℕ × Packet)) → IsAsking gives a b q s x one → HasAskedAll gives b c s t x other r
     → HasAskedAll gives a c q t x (one ++ other) (in_second one r)
 asked-both gives a b c q s t x one other r h k =
     let second : Keeps b c (edges_in a.inputs.items x other) = subst (λ table. Keeps b c (edges_in table x other)) h.keeps.inputs k.keeps in

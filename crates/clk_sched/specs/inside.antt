@@ -10,6 +10,7 @@ pub mod Marks
 pub mod Places
 pub mod Pulling
 pub mod Ranks
+pub mod Rows
 pub mod Session
 pub mod Tokens
 pub mod Turning

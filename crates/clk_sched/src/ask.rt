@@ -1,6 +1,6 @@
 //! What a tree pulls from.
 
-ghost use Rattle.std.specs.Prelude.{◌≡◌, ℕ, Bool, false, None};
+ghost use Rattle.std.specs.Prelude.{◌≡◌, ℕ, ◌<◌, ◌≤◌, ◌+◌, Bool, false, None};
 ghost use Rattle.std.specs.declared.option.Option.{Option};
 ghost use Rattle.clk_packet.specs.declared.packet.Packet.{Packet};
 
@@ -21,4 +21,13 @@ pub trait Ask {
     fn ask(&mut self, leaf: u16) -> Option<Packet>
         ensures answer { gives self.old leaf result self.new }
         ensures missing { has self.old leaf ≡ false → result ≡ None };
+
+    /// How many queues, of so many from a leaf on, are known to have none, so that they needn't be asked one by one. What knows nothing of
+    /// that answers 0.
+    fn idle_from(&self, leaf: u16, count: u16) -> u16
+        ensures within { result ≤ count }
+        ensures idle { (k : ℕ) → k < result → gives self.now (leaf + k) None self.now }
+    {
+        0
+    }
 }

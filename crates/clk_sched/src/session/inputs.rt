@@ -1,12 +1,29 @@
 //! What stands at the inputs of a node.
 
-ghost use Rattle.std.specs.Prelude.{◌≡◌, ◌+◌, ◌<◌, ◌%◌};
+ghost use Rattle.std.specs.Prelude.{◌≡◌, ◌+◌, ◌<◌, ◌%◌, IfSome};
+ghost use Rattle.std.proofs.Props.{props};
+ghost use Rattle.clk_sched.specs.inside.Rows.{AreQueuesFrom};
 
 /// What stands at an input: a queue, or a scheduler by its node number.
 #[derive(Clone, Copy, Debug, PartialEq, Eq)]
 pub enum Input {
     Queue(u16),
     Scheduler(u16),
+}
+
+impl Input {
+    ghost use Rattle.std.specs.Prelude.{◌↔◌, true};
+    ghost use Rattle.clk_sched.specs.declared.session.inputs.Input.TheVariants.{Queue};
+
+    /// Whether it is the queue of this leaf.
+    fn is_queue(self, leaf: usize) -> bool
+        ensures { result ≡ true ↔ self ≡ Queue leaf }
+    {
+        match self {
+            Input::Queue(queue) => usize::from(queue) == leaf,
+            Input::Scheduler(_) => false,
+        }
+    }
 }
 
 /// The inputs of a node.
@@ -16,6 +33,51 @@ pub struct Inputs {
     pub each: Vec<Input>,
     /// How many inputs the node and the schedulers below it have.
     pub edges: usize,
+    /// The leaf of the first, where all are queues whose leaves follow one another.
+    queues_from: Option<u16>,
+    ghost in_a_row: { IfSome queues_from (λ leaf. AreQueuesFrom leaf each.items) } by { Prim.hlevel props },
+}
+
+impl Inputs {
+    /// These inputs, of a node that has so many with the schedulers below it.
+    pub fn new(each: Vec<Input>, edges: usize) -> Inputs
+        ensures each { result.each ≡ each }
+        ensures edges { result.edges ≡ edges }
+    {
+        let queues_from = queues_from(&each);
+        Inputs {
+            each,
+            edges,
+            queues_from,
+        }
+    }
+
+    /// The leaf of the first, where all are queues whose leaves follow one another.
+    #[inline]
+    pub fn queues_from(&self) -> Option<u16>
+        ensures { IfSome result (λ leaf. AreQueuesFrom leaf self.now.each.items) }
+    {
+        self.queues_from
+    }
+}
+
+/// The leaf of the first of these inputs, where all are queues whose leaves follow one another.
+fn queues_from(each: &[Input]) -> Option<u16>
+    ensures { IfSome result (λ leaf. AreQueuesFrom leaf each.now) }
+{
+    let [Input::Queue(first), ..] = each else {
+        return None;
+    };
+    let leaf = *first;
+    if each.len() > usize::from(u16::MAX - leaf) {
+        return None;
+    }
+    for place in 0..each.len() {
+        if !each[place].is_queue(usize::from(leaf) + place) {
+            return None;
+        }
+    }
+    Some(leaf)
 }
 
 /// The input after this one, of so many, wrapping round.

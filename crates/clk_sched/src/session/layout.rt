@@ -135,39 +135,30 @@ fn lay_node(
     let number = tables.inputs.len();
     tables.states.push(state)?;
     // This takes the node's number, until what stands at its inputs is known.
-    tables.inputs.push(Inputs {
-        each: Vec::new(alloc),
-        edges: 0,
-    })?;
-    let mut node = Inputs {
-        each: Vec::with_capacity(alloc, trees.len())?,
-        edges: 0,
-    };
-    lay_inputs(alloc, tables, &mut node, trees)?;
-    let edges = node.edges;
-    tables.inputs[number] = node;
+    tables.inputs.push(Inputs::new(Vec::new(alloc), 0))?;
+    let mut each = Vec::with_capacity(alloc, trees.len())?;
+    let edges = lay_inputs(alloc, tables, &mut each, trees)?;
+    tables.inputs[number] = Inputs::new(each, edges);
     Ok(edges)
 }
 
-/// Lays these trees out, and adds what stands for them to the inputs of a node.
+/// Lays these trees out, and adds what stands for them to the inputs of a node. It answers how many edges there are to them and below.
 #[cycle(lay)]
 fn lay_inputs(
     alloc: Global,
     tables: &mut Tables,
-    node: &mut Inputs,
+    each: &mut Vec<Input>,
     trees: &[Tree],
-) -> Result<(), AllocError>
+) -> Result<usize, AllocError>
     requires room { length tables.old.inputs.items + elements (row trees.now) ≤ most_elements }
-    requires edges { node.old.edges + elements (row trees.now) ≤ most_elements }
-    ensures adds { IfOk result (λ r. Adds tables.old tables.new (entries (length tables.old.inputs.items) (row trees.now)) (kinds (row trees.now))) }
-    ensures each { IfOk result (λ r. node.new.each.items ≡ node.old.each.items ++ inputs_of (length tables.old.inputs.items) (row trees.now)) }
-    ensures edges { IfOk result (λ r. node.new.edges ≡ node.old.edges + elements (row trees.now)) }
+    ensures adds { IfOk result (λ edges. Adds tables.old tables.new (entries (length tables.old.inputs.items) (row trees.now)) (kinds (row trees.now))) }
+    ensures each { IfOk result (λ edges. each.new.items ≡ each.old.items ++ inputs_of (length tables.old.inputs.items) (row trees.now)) }
+    ensures edges { IfOk result (λ edges. edges ≡ elements (row trees.now)) }
 {
     let [first, rest @ ..] = trees else {
-        return Ok(());
+        return Ok(0);
     };
     let (input, edges) = lay(alloc, tables, first)?;
-    node.each.push(input)?;
-    node.edges += edges;
-    lay_inputs(alloc, tables, node, rest)
+    each.push(input)?;
+    Ok(edges + lay_inputs(alloc, tables, each, rest)?)
 }

@@ -29,7 +29,7 @@ pub struct Nodes {
 }
 
 impl Nodes {
-    ghost use Rattle.std.specs.Prelude.{◌≡◌, ◌-◌, ◌<◌, ◌++◌, ◌∷◌, [], ◌+◌, ◌≤◌, length, IsSome, IfSome, Some, slice_get, true};
+    ghost use Rattle.std.specs.Prelude.{◌≡◌, ℕ, None, ◌-◌, ◌<◌, ◌++◌, ◌∷◌, [], ◌+◌, ◌≤◌, length, IsSome, IfSome, Some, slice_get, true};
     ghost use Rattle.std.specs.List.{AllByRecursion, range_with_len};
     ghost use Rattle.clk_packet.specs.Limits.{most_inputs};
     ghost use Rattle.clk_sched.specs.declared.visit.Visit.{Visit};
@@ -39,7 +39,7 @@ impl Nodes {
     ghost use Rattle.clk_sched.specs.Log.{asking};
     ghost use Rattle.clk_sched.specs.inside.Looking.{Logs};
     ghost use Rattle.clk_sched.specs.inside.Pulling.{CanPull, Keeps, Asks, added, inputs_in};
-    ghost use Rattle.clk_sched.specs.inside.Turning.{with_state, HasAsked, HasAskedAll, WasPulled};
+    ghost use Rattle.clk_sched.specs.inside.Turning.{with_state, HasAsked, HasAskedAll, IsIdle, WasPulled};
 
     /// Pulls a node, as its class does, and answers its result.
     #[cycle(pull)]
@@ -114,12 +114,46 @@ impl Nodes {
         ensures place { IfSome result (λ r. r.0 < count) }
         ensures asked { HasAskedAll Q.gives self.old self.new q.old q.new node (range_with_len first count) result }
     {
-        for place in 0..count {
+        let mut place = 0;
+        while place < count {
             if let Some(packet) = self.look(q, node, first + place) {
                 return Some((place, packet));
             }
+            place += 1;
+            place += self.pass_idle(q, node, first + place, count - place);
         }
         None
+    }
+
+    /// Passes over inputs of a node, so many at most from the first on, that are queues of which it is known that they have nothing: each
+    /// visit is recorded. It answers how many these are.
+    #[inline]
+    fn pass_idle<Q: Ask>(&mut self, q: &Q, node: u16, first: u16, count: u16) -> u16
+        requires can_pull { CanPull self.old node (edges_in self.old.inputs.items node (range_with_len first count)) }
+        requires within { AllByRecursion (λ i. IsSome (input_at self.old.inputs.items node i)) (range_with_len first count) }
+        requires few { first + count ≤ most_inputs }
+        ensures within { result ≤ count }
+        ensures asked { HasAskedAll Q.gives self.old self.new q.now q.now node (range_with_len first result) None }
+    {
+        let idle = self.idle_from(q, node, first, count);
+        for place in 0..idle {
+            self.record(node, first + place, None);
+        }
+        idle
+    }
+
+    /// How many inputs of a node, of so many from the first on, are queues of which it is known that they have nothing.
+    #[inline]
+    fn idle_from<Q: Ask>(&self, q: &Q, node: u16, first: u16, count: u16) -> u16
+        requires there { node < length self.now.inputs.items }
+        requires within { (i : ℕ) → i < count → IsSome (input_at self.now.inputs.items node (first + i)) }
+        ensures within { result ≤ count }
+        ensures idle { (i : ℕ) → i < result → IsIdle Q.gives self.now q.now node (first + i) }
+    {
+        match self.inputs[node as usize].queues_from() {
+            Some(leaf) if count > 0 => q.idle_from(leaf + first, count),
+            _ => 0,
+        }
     }
 
     /// Asks what stands at an input of a node, and records the visit.

@@ -1,4 +1,4 @@
-use Rattle.std.proofs.Common.{IfSome, slice_get, ◌≡◌, ◌+◌, ◌<◌, true, false, ◌∷◌, [], ◌++◌, length, Some, None, refl, sym, ap, ap₂, ◌∙◌, subst, arith}
+use Rattle.std.proofs.Common.{IfSome, slice_get, ◌≡◌, ◌+◌, ◌<◌, ◌≤◌, true, false, ◌∷◌, [], length, Some, None, refl, sym, ap, ap₂, ◌∙◌, subst, arith}
 use Rattle.std.specs.Global.{Box}
 use Rattle.std.specs.List.{range_with_len}
 use Rattle.std.proofs.lemmas.List.{length-map}
@@ -14,12 +14,13 @@ use Rattle.clk_sched.specs.Places.{Answers, at_queue}
 use Rattle.clk_sched.specs.inside.Places.{input_at, queue_asked}
 use Rattle.clk_sched.specs.inside.Pulling.{added, inputs_in}
 use Rattle.clk_sched.specs.inside.Looking.{looking}
-use Rattle.clk_sched.proofs.Asking.{added-none, keeps-none, keeps-more, answers-then, asking-first, asking-ready, asking-given, asking-next, asking-all}
+use Rattle.clk_sched.proofs.Asking.{keeps-none, keeps-more, answers-then, asking-first, asking-ready, asking-given, asking-next, asking-all}
 use Rattle.clk_sched.proofs.Asked.{entry, rank_at, entry-input, input-is, edges-scheduler, queue-visited, asks-queue, asks-child}
+use Rattle.clk_sched.proofs.Idle.{rest-can, asking-past}
 use Rattle.clk_sched.proofs.Placed.{can-turn, kept-there, pulled-back}
 use Rattle.clk_sched.proofs.TurnPrio.{prio-asks, prio-pulled}
 use Rattle.clk_sched.proofs.TurnRoundRobin.{begins, may-first, may-second, had-first, had-second, had-none, few-first, few-second}
-use Rattle.clk_sched.proofs.Logged.{edge-there, keeps-logged, added-logged, asked-logged}
+use Rattle.clk_sched.proofs.Logged.{edge-there, queue-answers, keeps-logged, added-logged, asked-logged}
 use Rattle.clk_sched.proofs.LooksDrr.{answers-held, looks-held, looks-fresh}
 use Rattle.clk_sched.proofs.TurnDrr.{has-looked, making-first, making-can, making-next, making-passed, making-all, HasEnded, had-ended}
 use Rattle.clk_sched.proofs.TurnStride.{FitsAt, stride-may, had-won, had-lost}
@@ -38,10 +39,7 @@ nodes::Nodes::ask-returns-in-Queue-clause-answers g t c =
     let table = c.args.self.now.inputs.items in
     let place = entry table c.args.node c.index.result.now (c.requires.can_pull.there) c.index.ensures in
     let input : input_at table c.args.node c.args.input ≡ Some (Queue c.in-Queue.leaf) = input-is table c.args.node c.args.input c.index.result.now c.index-2.result.now place c.requires.within c.index-2.ensures ∙ ap Some c.in-Queue.is in
-    λ v node at fresh got.
-    subst (λ l. Answers g.Q.Ask.gives (queue_asked table) c.args.q.now (l ++ v ∷ []) c.ask.new.self) (sym (added-none c.args.self.now))
-    (subst (λ o. at_queue g.Q.Ask.gives o v.got c.args.q.now (λ s. s ≡ c.ask.new.self)) (sym (queue-visited table c.args.node c.args.input (Queue c.in-Queue.leaf) v input node at fresh))
-    (c.ask.new.self, subst (λ o. g.Q.Ask.gives c.args.q.now c.in-Queue.leaf o c.ask.new.self) (sym got) c.ask.ensures.answer, refl))
+    queue-answers g.Q.Ask.gives c.args.self.now c.args.q.now c.ask.new.self c.args.node c.args.input c.in-Queue.leaf c.ask.result input c.ask.ensures.answer
 
 pub nodes::Nodes::ask-returns-in-Queue-clause-asks : goal.nodes::Nodes::ask-returns-in-Queue-clause-asks
 nodes::Nodes::ask-returns-in-Queue-clause-asks g t c =
@@ -113,13 +111,13 @@ nodes::Nodes::ask_in_order-returns g t c =
 
 pub nodes::Nodes::ask_in_turn-loop-place-init : goal.nodes::Nodes::ask_in_turn-loop-place-init
 nodes::Nodes::ask_in_turn-loop-place-init g t c =
-    asking-first g.Q.Ask.gives c.args.self.now c.args.q.now c.args.node c.requires.can_pull.fit
+    (omega arith, asking-first g.Q.Ask.gives c.args.self.now c.args.q.now c.args.node c.requires.can_pull.fit)
 
 pub nodes::Nodes::ask_in_turn-look-requires : goal.nodes::Nodes::ask_in_turn-look-requires
 nodes::Nodes::ask_in_turn-look-requires g t c =
     let order = range_with_len c.args.first c.args.count in
     let k = c.loop-place.place in
-    let h = c.loop-place.invariant in
+    let h = c.loop-place.invariant.1 in
     let ready = asking-ready g.Q.Ask.gives c.args.self.now c.loop-place.self c.args.q.now c.loop-place.q c.args.node k (c.args.first + k) order c.requires.can_pull c.requires.within h (subst (λ n. k < n) (sym (length-range_with_len c.args.first c.args.count)) c.loop-place-test.true) (sym (get_or-range_with_len c.args.first c.args.count k 0 c.loop-place-test.true)) in
     let same = ap length h.keeps.inputs in
     let less = c.decreases in
@@ -131,14 +129,32 @@ nodes::Nodes::ask_in_turn-returns-in-Some g t c =
     let k = c.loop-place.place in
     record {
       place = c.loop-place-test.true;
-      asked = asking-given g.Q.Ask.gives c.args.self.now c.loop-place.self c.look.new.self c.args.q.now c.loop-place.q c.look.new.q c.args.node k (c.args.first + k) c.look.result c.in-Some.packet order (subst (λ n. k < n) (sym (length-range_with_len c.args.first c.args.count)) c.loop-place-test.true) c.loop-place.invariant (sym (get_or-range_with_len c.args.first c.args.count k 0 c.loop-place-test.true)) c.in-Some.is c.look.ensures;
+      asked = asking-given g.Q.Ask.gives c.args.self.now c.loop-place.self c.look.new.self c.args.q.now c.loop-place.q c.look.new.q c.args.node k (c.args.first + k) c.look.result c.in-Some.packet order (subst (λ n. k < n) (sym (length-range_with_len c.args.first c.args.count)) c.loop-place-test.true) c.loop-place.invariant.1 (sym (get_or-range_with_len c.args.first c.args.count k 0 c.loop-place-test.true)) c.in-Some.is c.look.ensures;
     }
+
+pub nodes::Nodes::ask_in_turn-pass_idle-place-requires : goal.nodes::Nodes::ask_in_turn-pass_idle-place-requires
+nodes::Nodes::ask_in_turn-pass_idle-place-requires g t c =
+    let first = c.args.first in
+    let count = c.args.count in
+    let k = c.loop-place.place in
+    let test : k < count = c.loop-place-test.true in
+    let order = range_with_len first count in
+    let asked = asking-next g.Q.Ask.gives c.args.self.now c.loop-place.self c.look.new.self c.args.q.now c.loop-place.q c.look.new.q c.args.node k (first + k) c.look.result order (subst (λ n. k < n) (sym (length-range_with_len first count)) test) c.loop-place.invariant.1 (sym (get_or-range_with_len first count k 0 test)) c.in_default.is c.look.ensures in
+    let rest = rest-can g.Q.Ask.gives c.args.self.now c.look.new.self c.args.q.now c.look.new.q c.args.node first count (k + 1) (omega (arith, test)) c.requires.can_pull c.requires.within asked in
+    let few = c.requires.few in
+    record { can_pull = rest.0; within = rest.1; few = omega (arith, test, few) }
 
 pub nodes::Nodes::ask_in_turn-loop-place-preserved : goal.nodes::Nodes::ask_in_turn-loop-place-preserved
 nodes::Nodes::ask_in_turn-loop-place-preserved g t c =
-    let order = range_with_len c.args.first c.args.count in
+    let first = c.args.first in
+    let count = c.args.count in
     let k = c.loop-place.place in
-    asking-next g.Q.Ask.gives c.args.self.now c.loop-place.self c.look.new.self c.args.q.now c.loop-place.q c.look.new.q c.args.node k (c.args.first + k) c.look.result order (subst (λ n. k < n) (sym (length-range_with_len c.args.first c.args.count)) c.loop-place-test.true) c.loop-place.invariant (sym (get_or-range_with_len c.args.first c.args.count k 0 c.loop-place-test.true)) c.in_default.is c.look.ensures
+    let test : k < count = c.loop-place-test.true in
+    let order = range_with_len first count in
+    let asked = asking-next g.Q.Ask.gives c.args.self.now c.loop-place.self c.look.new.self c.args.q.now c.loop-place.q c.look.new.q c.args.node k (first + k) c.look.result order (subst (λ n. k < n) (sym (length-range_with_len first count)) test) c.loop-place.invariant.1 (sym (get_or-range_with_len first count k 0 test)) c.in_default.is c.look.ensures in
+    let within = c.pass_idle-place.ensures.within in
+    let most : k + 1 + c.pass_idle-place.result ≤ count = omega (arith, test, within) in
+    (most, asking-past g.Q.Ask.gives c.args.self.now c.look.new.self c.pass_idle-place.new.self c.args.q.now c.look.new.q c.args.node first count (k + 1) c.pass_idle-place.result most asked c.pass_idle-place.ensures.asked)
 
 pub nodes::Nodes::ask_in_turn-returns : goal.nodes::Nodes::ask_in_turn-returns
 nodes::Nodes::ask_in_turn-returns g t c =
@@ -146,7 +162,7 @@ nodes::Nodes::ask_in_turn-returns g t c =
     let k = c.loop-place.place in
     let f = c.loop-place-test.false in
     let e = length-range_with_len c.args.first c.args.count in
-    record { place = tt; asked = asking-all g.Q.Ask.gives c.args.self.now c.loop-place.self c.args.q.now c.loop-place.q c.args.node k order (omega (arith, f, e)) c.loop-place.invariant }
+    record { place = tt; asked = asking-all g.Q.Ask.gives c.args.self.now c.loop-place.self c.args.q.now c.loop-place.q c.args.node k order (omega (arith, f, e)) c.loop-place.invariant.1 }
 
 pub nodes::Nodes::look-returns : goal.nodes::Nodes::look-returns
 nodes::Nodes::look-returns g t c =

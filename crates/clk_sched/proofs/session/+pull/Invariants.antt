@@ -1,4 +1,4 @@
-use Rattle.std.proofs.Common.{ℕ, ◌+◌, ◌*◌, ◌-◌, length, take}
+use Rattle.std.proofs.Common.{ℕ, ◌+◌, ◌*◌, ◌-◌, ◌≤◌, length, take}
 use Rattle.std.specs.List.{range_with_len}
 use Rattle.clk_sched.specs.inside.Pulling.{inputs_in}
 use Rattle.clk_sched.proofs.Asking.{IsAsking}
@@ -54,8 +54,11 @@ decreases-nodes::Nodes::pull g l = rank (length l.self.now.inputs.items) l.node 
 abbrev pub invariant-nodes::Nodes::ask_in_order-loop-place : goal.invariant-nodes::Nodes::ask_in_order-loop-place
 invariant-nodes::Nodes::ask_in_order-loop-place g l = IsAsking g.Q.Ask.gives l.initial.self l.self l.initial.q l.q l.node (take l.place (inputs_in l.fn.order))
 
+abbrev pub decreases-nodes::Nodes::ask_in_turn-loop-place : goal.decreases-nodes::Nodes::ask_in_turn-loop-place
+decreases-nodes::Nodes::ask_in_turn-loop-place g l = l.count - l.place
+
 abbrev pub invariant-nodes::Nodes::ask_in_turn-loop-place : goal.invariant-nodes::Nodes::ask_in_turn-loop-place
-invariant-nodes::Nodes::ask_in_turn-loop-place g l = IsAsking g.Q.Ask.gives l.initial.self l.self l.initial.q l.q l.node (take l.place (range_with_len l.fn.first l.fn.count))
+invariant-nodes::Nodes::ask_in_turn-loop-place g l = (l.place ≤ l.count) × IsAsking g.Q.Ask.gives l.initial.self l.self l.initial.q l.q l.node (take l.place (range_with_len l.fn.first l.fn.count))
 
 abbrev pub invariant-drr::Deficits::turn-loop : goal.invariant-drr::Deficits::turn-loop
 invariant-drr::Deficits::turn-loop g l = IsMaking g.Q.Ask.gives l.initial.nodes l.nodes l.initial.q l.q l.node l.initial.self l.self l.counter
