@@ -4,7 +4,7 @@ use Rattle.std.specs.List.{AllByRecursion}
 use Rattle.std.proofs.lemmas.Bool.Decides.{nat_tests}
 use Rattle.std.proofs.Math.Seq.{paste, set_at, length_paste_head, take-suc}
 use Rattle.std.proofs.Math.ListN.{drop_of_length-le}
-use Rattle.std.proofs.lemmas.List.{drop-drop, length-drop, take_all}
+use Rattle.std.proofs.lemmas.List.{drop-drop, length-drop, set_split, take_all}
 use Rattle.clk_sched.specs.declared.session.stride.Rank.{Rank}
 use Rattle.clk_sched.specs.declared.session.stride.TheConstants.{FAR}
 use Rattle.clk_sched.specs.inside.Ranks.{greatest_stride, IsRankOf, HasRisingPasses, is_up_to, put_rank, at_pass, after_win, first_pass, taken_from, less}
@@ -53,6 +53,11 @@ put-moved r row from before l m put =
 
     front : List Rank
     front = take from row ++ take before rest
+
+-- A rank stays in its place.
+pub put-first : (r : Rank) (row : List Rank) (from : ℕ) → from < length row → put_rank r (drop (from + 1) row) ≡ r ∷ drop (from + 1) row → set row from r ≡ take from row ++ put_rank r (drop (from + 1) row)
+put-first r row from l first =
+    set_split row from r l ∙ ap (λ k. take from row ++ r ∷ drop k row) (let same : suc from ≡ from + 1 = omega arith in same) ∙ ap (λ xs. take from row ++ xs) (sym first)
 
 -- what stands after a place, as a slice has it
 pub after-place : (row : List Rank) (n : ℕ) → take (length row - n) (drop n row) ≡ drop n row

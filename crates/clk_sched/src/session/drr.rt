@@ -221,8 +221,9 @@ impl Deficits {
         ensures cursor { self.new.cursor ≡ (self.old.cursor + 1) % length self.old.row.items }
         ensures row { (s : Served) → slice_get self.old.row.items self.new.cursor ≡ Some s → self.new.row.items ≡ slice_set self.old.row.items self.new.cursor (with_quantum s) }
     {
-        self.cursor = input_after(self.cursor, self.row.len() as u16);
-        add_quantum(self.row.as_mut_slice(), usize::from(self.cursor));
+        let row = self.row.as_mut_slice();
+        self.cursor = input_after(self.cursor, row.len() as u16);
+        add_quantum(row, usize::from(self.cursor));
     }
 
     // What is held of the input whose turn it is.

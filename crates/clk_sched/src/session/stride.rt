@@ -1,6 +1,6 @@
 //! The passes of a StrideSched.
 
-ghost use Rattle.std.specs.Prelude.{◌≡◌, ◌≤◌, ◌<◌, ◌+◌, ◌^◌, ◌++◌, ◌∷◌, take, drop, length, map, IfOk};
+ghost use Rattle.std.specs.Prelude.{◌≡◌, ◌≤◌, ◌<◌, ◌+◌, ◌^◌, ◌++◌, ◌∷◌, true, take, drop, length, map, IfOk};
 ghost use Rattle.std.specs.List.{All, AllByRecursion, range_with_len};
 ghost use Rattle.clk_packet.specs.Limits.{most_inputs, most_tickets};
 ghost use Rattle.clk_sched.specs.Laws.Stride.{stride_of};
@@ -186,14 +186,38 @@ fn place_visited(row: &mut [Rank], place: usize, pass: u32, stride: u32)
 }
 
 /// Takes out the rank at a place, and puts this one among those after it, which are in order.
+#[inline]
 fn put(row: &mut [Rank], from: usize, rank: Rank)
     requires { from < length row.old }
     ensures { row.new ≡ take from row.old ++ put_rank rank (drop (from + 1) row.old) }
 {
-    let before = count_before(rank, &row[from + 1..]);
-    if before > 0 {
-        row.copy_within(from + 1..from + 1 + before, from);
+    // Most stay where they are: those that had no packet are in order already.
+    if is_first(rank, &row[from + 1..]) {
+        row[from] = rank;
+    } else {
+        put_behind(row, from, rank);
     }
+}
+
+/// Whether this rank stands before all of these, which are in order.
+#[inline]
+fn is_first(rank: Rank, others: &[Rank]) -> bool
+    ensures { result ≡ true → put_rank rank others.now ≡ rank ∷ others.now }
+{
+    match others {
+        [] => true,
+        [next, ..] => rank.is_up_to(next),
+    }
+}
+
+/// The same as `put`, where those after it that stand before this one move down.
+#[inline(never)]
+fn put_behind(row: &mut [Rank], from: usize, rank: Rank)
+    requires { from < length row.old }
+    ensures { row.new ≡ take from row.old ++ put_rank rank (drop (from + 1) row.old) }
+{
+    let before = count_before(rank, &row[from + 1..]);
+    row.copy_within(from + 1..from + 1 + before, from);
     row[from + before] = rank;
 }
 
