@@ -23,7 +23,8 @@ use Rattle.clk_router.specs.declared.queues.Queues.{Queues}
 use Rattle.clk_router.specs.declared.parts.Parts.{Parts}
 use Rattle.clk_router.specs.Events.{Room, Setup, Event, is_at, happens_at, events_at, log_of, history, plan_setup}
 use Rattle.clk_router.specs.inside.Closable.{AreQueuesOf, IsClosable}
-use Rattle.clk_router.specs.inside.Parts.{CanStand, packets_in, packets_at, PullsFrom, GivesAt, AreQueuesAt, IsAt}
+use Rattle.clk_router.specs.inside.Parts.{CanStand, AreQueuesAt, IsAt}
+use Rattle.clk_router.specs.inside.Queues.{packets_in, packets_at, PullsFrom, GivesAt}
 use Rattle.clk_router.proofs.Callers.Plans.{plan-apart, leaves-at}
 use Rattle.clk_router.proofs.Callers.Apart.{alone, history-alone}
 use Rattle.clk_router.proofs.QueueCounts.{stands-first, stands-rest, left-is}

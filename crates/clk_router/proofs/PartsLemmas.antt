@@ -36,7 +36,8 @@ use Rattle.clk_router.specs.declared.devices.Device.{Device}
 use Rattle.clk_router.specs.declared.parts.Parts.{Parts}
 use Rattle.clk_router.specs.Events.{Room, Setup, room_of, setup_of, is_at, is_of_device, Event, offered, pulled, happens_at, events_at, numbers_of, accepted_in, evicted_in, visits_in, log_of, sends_to, answers_in, at_queue, history, RunsTree}
 use Rattle.clk_router.specs.Course.{room_device}
-use Rattle.clk_router.specs.inside.Parts.{queue_made, path_made, device_made, sender_made, sent_one_more, OffersTo, PullsFrom, OffersAt, GivesAt, AreQueuesAt, IsDeviceAt, AreDevicesAt, IsAt, CanSendOn, CanCount, ChangesDevice, kept_by, CountsHere, CountsAt, Counts, KeepsAs, KeepsAsAt, LeadsOnByPull}
+use Rattle.clk_router.specs.inside.Parts.{path_made, device_made, sender_made, sent_one_more, AreQueuesAt, IsDeviceAt, AreDevicesAt, IsAt, CanSendOn, CanCount, ChangesDevice, kept_by, CountsHere, CountsAt, Counts, KeepsAs, KeepsAsAt, LeadsOnByPull}
+use Rattle.clk_router.specs.inside.Queues.{packets_at, queue_made, OffersTo, PullsFrom, OffersAt, GivesAt}
 use Rattle.clk_router.proofs.Callers.Events.{events-here, events-elsewhere, RunsTree-pulled, CanHappen-offer, CanHappen-pull, log-pulled}
 use Rattle.clk_router.proofs.SenderLemmas.{senders-pulled, senders-sent, passes-its, sends-its, IsSpecAt, spec-at}
 
@@ -538,6 +539,12 @@ IsAt-made calls trees queues senders parts run devices_are queues_are paths_are 
     each q =
         subst (λ o. AreQueuesAt [] o (slice_get parts.queues.rings.items q)) (sym (slice_get-map room_of queues q))
         (subst (AreQueuesAt [] (option_map room_of (slice_get queues q))) (sym (ap (λ rings. slice_get rings q) queues_are ∙ slice_get-map queue_made queues q)) (first (slice_get queues q)))
+
+-- Queues as they are made hold nothing.
+pub made-hold-none : (specs : List Queued) (q : ℕ) → packets_at (map queue_made specs) q ≡ []
+made-hold-none [] q = refl
+made-hold-none (s ∷ specs) zero = refl
+made-hold-none (s ∷ specs) (suc q) = made-hold-none specs q
 
 -- the capacity of one of some queues is within the limits
 pub capacity-at : (specs : List QueueSpec) (i : ℕ) (spec : QueueSpec) → AllByRecursion HasCapacity (map queued specs) → i < length specs → spec ≡ get_or specs i spec → HasCapacity (queued spec)

@@ -2,4 +2,5 @@
 pub mod Closable
 pub mod Parts
 pub mod Past
+pub mod Queues
 pub mod Accounts

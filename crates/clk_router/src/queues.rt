@@ -1,21 +1,31 @@
 //! The queues of a router.
 
-ghost use Rattle.std.specs.Prelude.{◌≡◌, ◌<◌, length, map, nat_lt, IfOk, IsOkUnless};
+ghost use Rattle.std.specs.Prelude.{◌≡◌, ◌≢◌, ℕ, ◌<◌, length, map, nat_lt, slice_index, IfOk, IsOkUnless};
 ghost use Rattle.std.specs.List.{AllByRecursion};
 ghost use Rattle.clk_packet.specs.declared.fault.Fault.TheVariants.{Memory};
 ghost use Rattle.clk_tree.specs.PlanParts.{queued, HasCapacity};
-ghost use Rattle.clk_router.specs.inside.Parts.{queue_made, packets_at, OffersAt, GivesAt};
+ghost use Rattle.clk_router.specs.declared.queues.TheConstants.{FILLED};
+ghost use Rattle.clk_router.specs.inside.Queues.{packets_at, AreMarked, queue_made, OffersAt, GivesAt};
 
 use clk_packet::{Fault, Offered, Packet};
 use clk_ring::Ring;
 use clk_sched::Ask;
 use clk_tree::QueueSpec;
+use memchr::memchr;
 use std::alloc::Global;
+
+/// The mark of a queue that may hold a packet, and that of one that holds none.
+const FILLED: u8 = 1;
+
+const IDLE: u8 = 0;
 
 /// The queues, by number.
 #[derive(Drop)]
 pub struct Queues {
     pub rings: Vec<Ring>,
+    // A mark for each, by which queues that hold nothing are passed over.
+    marks: Vec<u8>,
+    ghost marked: { AreMarked rings.items marks.items },
 }
 
 impl Queues {
@@ -26,10 +36,12 @@ impl Queues {
         ensures fault { IsOkUnless result Fault.Memory }
     {
         let mut rings = Vec::new(alloc);
+        let mut marks = Vec::new(alloc);
         for spec in specs {
             rings.push(Ring::new(alloc, spec.kind, spec.capacity as usize)?)?;
+            marks.push(IDLE)?;
         }
-        Ok(Queues { rings })
+        Ok(Queues { rings, marks })
     }
 
     /// Offers a packet to a queue that is there.
@@ -37,7 +49,9 @@ impl Queues {
         requires is_there { queue < length self.old.rings.items }
         ensures { OffersAt self.old.rings.items queue packet result self.new.rings.items }
     {
-        self.rings[usize::from(queue)].offer(packet)
+        let number = usize::from(queue);
+        self.marks[number] = FILLED;
+        self.rings[number].offer(packet)
     }
 }
 
@@ -53,6 +67,28 @@ impl Ask for Queues {
         if number >= self.rings.len() {
             return None;
         }
-        self.rings[number].pull()
+        let got = self.rings[number].pull();
+        if got.is_none() {
+            self.marks[number] = IDLE;
+        }
+        got
+    }
+
+    fn idle_from(&self, leaf: u16, count: u16) -> u16 {
+        let number = usize::from(leaf);
+        if number >= self.marks.len() {
+            return 0;
+        }
+        count_idle(&self.marks[number..]).min(usize::from(count)) as u16
+    }
+}
+
+/// How many of these marks stand before the first of a queue that may hold a packet.
+fn count_idle(marks: &[u8]) -> usize
+    ensures { (k : ℕ) → k < result → slice_index marks.now k ≢ FILLED }
+{
+    match memchr(FILLED, marks) {
+        Some(place) => place,
+        None => marks.len(),
     }
 }

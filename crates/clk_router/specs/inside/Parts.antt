@@ -5,7 +5,7 @@ use Rattle.clk_packet.specs.declared.packet.Packet.{Packet}
 use Rattle.clk_packet.specs.declared.packet.Offered.{Offered}
 use Rattle.clk_packet.specs.declared.packet.Offered.TheVariants.{Accepted}
 use Rattle.clk_packet.specs.Limits.{most_elements, most_capacity}
-use Rattle.clk_ring.specs.Queue.{Queue, empty_queue, IsOffered, IsPulled as IsQueuePulled}
+use Rattle.clk_ring.specs.Queue.{Queue}
 use Rattle.clk_ring.specs.QueueHistory.{QueueEvent}
 use Rattle.clk_ring.specs.Laws.{LeadsTo}
 use Rattle.clk_sched.specs.declared.visit.Visit.{Visit}
@@ -29,10 +29,7 @@ use Rattle.clk_router.specs.Course.{room_device, end_of_packets}
 use Rattle.clk_router.specs.inside.Past.{visits_shown, pull_shown, pulls_shown}
 use Rattle.clk_router.specs.Events.{Room, Setup, Event, CanHappen, numbers_of, moment_in, accepted_in, evicted_in, history, log_of, events_at, sender_numbers, Closes}
 
--- a queue and a sender as they are made, and what was asked for
-abbrev pub queue_made : Queued → Queue
-queue_made q = empty_queue q.kind q.capacity
-
+-- what was asked for, and a sender as it is made
 abbrev pub path_made : Queued → ℕ
 path_made q = q.device
 
@@ -54,40 +51,6 @@ sent_one_more s = record { number = s.number; queue = s.queue; sent = s.sent + 1
 
 abbrev pub sender_number : Sender → ℕ
 sender_number s = s.number
-
--- the packets that a queue holds, by number, and none where it isn't there
-abbrev pub packets_in : Option Queue → List Packet
-packets_in None = []
-packets_in (Some q) = q.packets
-
-abbrev pub packets_at : List Queue → ℕ → List Packet
-packets_at queues number = packets_in (slice_get queues number)
-
--- what an offer makes of the queue at a place, and a pull
-abbrev pub OffersTo : Packet → Offered → Option Queue → Option Queue → Type 0
-OffersTo p outcome None new = ⊥
-OffersTo p outcome (Some old) None = ⊥
-OffersTo p outcome (Some old) (Some new) = IsOffered old p outcome new
-
-abbrev pub PullsFrom : Option Packet → Option Queue → Option Queue → Type 0
-PullsFrom got None new = (got ≡ None) × (new ≡ None)
-PullsFrom got (Some old) None = ⊥
-PullsFrom got (Some old) (Some new) = IsQueuePulled old got new
-
--- Only the queue of this number may have changed.
-pub record ChangesOnly (old : List Queue) (number : ℕ) (new : List Queue) : Type 0 where
-  pub count : length new ≡ length old
-  pub others : (k : ℕ) → (number == k) ≡ false → slice_get new k ≡ slice_get old k
-
--- A packet is offered to the queue of this number, with this outcome, and all others stay.
-pub record OffersAt (old : List Queue) (number : ℕ) (p : Packet) (outcome : Offered) (new : List Queue) : Type 0 where
-  pub here : OffersTo p outcome (slice_get old number) (slice_get new number)
-  pub only : ChangesOnly old number new
-
--- The queue of this number is pulled, with this result, and all others stay. One that isn't there has none.
-pub record GivesAt (old : List Queue) (number : ℕ) (got : Option Packet) (new : List Queue) : Type 0 where
-  pub here : PullsFrom got (slice_get old number) (slice_get new number)
-  pub only : ChangesOnly old number new
 
 -- These events lead to this queue, which is as it was asked for.
 pub record IsQueueAt (events : List QueueEvent) (room : Room) (q : Queue) : Type 0 where
