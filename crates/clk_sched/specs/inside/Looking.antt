@@ -1,8 +1,9 @@
 -- What a scheduler that holds heads does at one of its inputs.
-use Rattle.std.specs.Prelude.{◌≡◌, ℕ, ◌+◌, ◌%◌, Bool, false, List, [], ◌∷◌, length, Option}
+use Rattle.std.specs.Prelude.{◌≡◌, ℕ, ◌+◌, ◌%◌, Bool, false, List, [], ◌∷◌, length, Option, Some, slice_get}
 use Rattle.clk_packet.specs.declared.packet.Packet.{Packet}
 use Rattle.clk_sched.specs.declared.visit.Visit.{Visit}
 use Rattle.clk_sched.specs.declared.session.drr.Deficits.{Deficits}
+use Rattle.clk_sched.specs.declared.session.drr.Served.{Served}
 use Rattle.clk_sched.specs.declared.session.nodes.Nodes.{Nodes}
 use Rattle.clk_sched.specs.inside.Logged.{with_visit}
 use Rattle.clk_sched.specs.Heads.{LooksAtHeads, is_covered}
@@ -21,6 +22,10 @@ pub record Logs (old new : Nodes) (v : Visit) : Type 0 where
   pub pull : new.pull ≡ old.pull
   pub moment : new.moment ≡ old.moment
   pub log : new.log ≡ with_visit old.log v
+
+-- This is held of the input whose turn it is, if anything is.
+abbrev pub IsHead : Deficits → Option Packet → Type 0
+IsHead d head = (s : Served) → slice_get d.row.items d.cursor ≡ Some s → s.head ≡ head
 
 -- What was got at the input whose turn it is was taken, and passed or not.
 pub record Settles (old new : Deficits) (got : Option Packet) (passed : Bool) : Type 0 where

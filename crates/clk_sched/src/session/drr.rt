@@ -1,6 +1,6 @@
 //! The heads, deficits and cursor of a DRRSched.
 
-ghost use Rattle.std.specs.Prelude.{◌≡◌, ◌+◌, ◌^◌, ◌<◌, ◌≤◌, length, map, slice_get, slice_set, Some, IfOk};
+ghost use Rattle.std.specs.Prelude.{◌≡◌, ◌+◌, ◌^◌, ◌<◌, ◌≤◌, false, length, map, slice_get, slice_set, Some, IfOk};
 ghost use Rattle.clk_packet.specs.Limits.{most_inputs, most_quantum};
 ghost use Rattle.clk_sched.specs.inside.Holds.Served.{AreQuantaWithin, AreDeficitsWithin, waiting, with_quantum};
 ghost use Rattle.clk_sched.specs.declared.session.drr.Served.{Served};
@@ -47,9 +47,10 @@ impl Served {
         }
     }
 
-    // Takes what a visit got, and answers whether the deficit covers it. If not, a packet is held.
+    // Takes what a visit got, fresh or as the head that is held, and answers whether the deficit covers it. If not, a packet is held.
     #[inline]
-    fn settle(&mut self, got: Option<Packet>) -> bool
+    fn settle(&mut self, got: Option<Packet>, fresh: bool) -> bool
+        requires { fresh ≡ false → self.old.head ≡ got }
         ensures covers { result ≡ covers self.old got }
         ensures after { self.new ≡ settled self.old got }
     {
@@ -66,7 +67,10 @@ impl Served {
                     self.head = None;
                     true
                 } else {
-                    self.head = got;
+                    // What is held stays held, and nothing is written.
+                    if fresh {
+                        self.head = got;
+                    }
                     false
                 }
             }
@@ -75,7 +79,7 @@ impl Served {
 }
 
 impl Deficits {
-    ghost use Rattle.std.specs.Prelude.{◌%◌, ◌++◌, ℕ, false, List, [], ◌∷◌, IsSome, IfSome};
+    ghost use Rattle.std.specs.Prelude.{◌%◌, ◌++◌, ℕ, List, [], ◌∷◌, IsSome, IfSome};
     ghost use Rattle.std.specs.List.{AllByRecursion};
     ghost use Rattle.clk_packet.specs.Limits.{most_length};
     ghost use Rattle.clk_sched.specs.declared.visit.Visit.{Visit};
@@ -90,7 +94,7 @@ impl Deficits {
     ghost use Rattle.clk_sched.specs.inside.Pulling.{CanPull, Keeps, added};
     ghost use Rattle.clk_sched.specs.inside.Turning.{WasPulled, HadTurn};
     ghost use Rattle.clk_sched.specs.inside.Holds.OfClass.{IsDrr};
-    ghost use Rattle.clk_sched.specs.inside.Looking.{looking, Logs, Settles, Looks};
+    ghost use Rattle.clk_sched.specs.inside.Looking.{looking, IsHead, Logs, Settles, Looks};
     ghost use Rattle.clk_sched.specs.declared.session.state.State.TheVariants.{Drr};
 
     /// What a DRRSched with these quanta, one for each input, holds before its first visit.
@@ -106,7 +110,8 @@ impl Deficits {
 
     /// The head held at the input whose turn it is.
     fn head(&self) -> Option<Packet>
-        ensures { (quanta : List ℕ) (inputs : ℕ) (before : List Visit) → HoldsDeficits quanta inputs before self.now → result ≡ head_at (next_input inputs before) before }
+        ensures held { IsHead self.now result }
+        ensures law { (quanta : List ℕ) (inputs : ℕ) (before : List Visit) → HoldsDeficits quanta inputs before self.now → result ≡ head_at (next_input inputs before) before }
     {
         self.at_cursor().head
     }
@@ -125,7 +130,8 @@ impl Deficits {
 
     /// Takes what was got at the input whose turn it is, as its head or by asking, and answers whether it is passed. If not, the
     /// turn moves on.
-    fn settle(&mut self, got: Option<Packet>) -> bool
+    fn settle(&mut self, got: Option<Packet>, fresh: bool) -> bool
+        requires { fresh ≡ false → IsHead self.old got }
         ensures holds { (quanta : List ℕ) (inputs : ℕ) (before : List Visit) (v : Visit) → HoldsDeficits quanta inputs before self.old → v.input ≡ next_input inputs before
             → v.got ≡ got → v.passed ≡ result → HoldsDeficits quanta inputs (v ∷ before) self.new }
         ensures covered { (quanta : List ℕ) (inputs : ℕ) (before : List Visit) → HoldsDeficits quanta inputs before self.old
@@ -134,7 +140,7 @@ impl Deficits {
         ensures moves { result ≡ false → self.new.cursor ≡ (self.old.cursor + 1) % length self.old.row.items }
     {
         let row = self.row.as_mut_slice();
-        let passed = row[usize::from(self.cursor)].settle(got);
+        let passed = row[usize::from(self.cursor)].settle(got, fresh);
         if !passed {
             self.move_on();
         }
@@ -197,11 +203,12 @@ impl Deficits {
     // Takes what was got at the input whose turn it is, records the visit, and answers whether it is passed.
     fn visit(&mut self, nodes: &mut Nodes, node: u16, got: Option<Packet>, fresh: bool) -> bool
         requires room { 1 ≤ nodes.old.log.spare }
+        requires held { fresh ≡ false → IsHead self.old got }
         ensures logs { Logs nodes.old nodes.new (looking nodes.old node self.old.cursor got fresh result) }
         ensures settles { Settles self.old self.new got result }
     {
         let input = self.cursor;
-        let passed = self.settle(got);
+        let passed = self.settle(got, fresh);
         nodes.log.push(Visit {
             pull: nodes.pull,
             moment: nodes.moment,

@@ -1,4 +1,4 @@
-use Rattle.std.proofs.Common.{IfSome, slice_get, ◌≡◌, ◌+◌, ◌<◌, ◌≤◌, true, false, ◌∷◌, [], length, Some, None, refl, sym, ap, ap₂, ◌∙◌, subst, arith}
+use Rattle.std.proofs.Common.{IfSome, slice_get, ◌≡◌, ◌+◌, ◌<◌, ◌≤◌, true, false, true≢false, ◌∷◌, [], length, Some, None, refl, sym, ap, ap₂, ◌∙◌, subst, arith}
 use Rattle.std.specs.Global.{Box}
 use Rattle.std.specs.List.{range_with_len}
 use Rattle.std.proofs.lemmas.List.{length-map}
@@ -202,14 +202,14 @@ pub drr::Deficits::look-visit-requires : goal.drr::Deficits::look-visit-requires
 drr::Deficits::look-visit-requires g t c =
     let there = edge-there c.args.nodes.now.inputs.items c.args.node c.args.self.now.cursor c.requires.within in
     let room = c.requires.can_pull.room in
-    record { room = omega (arith, there, room) }
+    record { room = omega (arith, there, room); held = λ fresh. c.head-head.ensures.held }
 
 pub drr::Deficits::look-visit-requires-in-None : goal.drr::Deficits::look-visit-requires-in-None
 drr::Deficits::look-visit-requires-in-None g t c =
     let there = edge-there c.args.nodes.now.inputs.items c.args.node c.args.self.now.cursor c.requires.within in
     let room = c.requires.can_pull.room in
     let at_most = c.ask-got.ensures.keeps.at_most in
-    record { room = omega (arith, there, room, at_most) }
+    record { room = omega (arith, there, room, at_most); held = λ fresh. absurd (true≢false fresh) }
 
 pub drr::Deficits::look-returns-in-Some : goal.drr::Deficits::look-returns-in-Some
 drr::Deficits::look-returns-in-Some g t c =
@@ -224,7 +224,7 @@ drr::Deficits::look-returns-in-Some g t c =
       answers = answers-held g.Q.Ask.gives a.inputs.items a after c.args.q.now v logs refl;
       length = settles.length_is;
       moves = settles.moves;
-      looks = looks-held a after c.args.node d c.visit.new.self c.in-Some.field-0 c.head-head.result c.visit.result c.in-Some.is c.head-head.ensures logs settles;
+      looks = looks-held a after c.args.node d c.visit.new.self c.in-Some.field-0 c.head-head.result c.visit.result c.in-Some.is c.head-head.ensures.law logs settles;
     }
 
 pub drr::Deficits::look-returns-in-None : goal.drr::Deficits::look-returns-in-None
@@ -243,7 +243,7 @@ drr::Deficits::look-returns-in-None g t c =
       answers = subst (λ l. Answers g.Q.Ask.gives (queue_asked a.inputs.items) c.args.q.now l c.ask-got.new.q) (sym (added-logged a b after _ v asked.keeps logs)) (asked.answers v refl refl refl refl);
       length = settles.length_is;
       moves = settles.moves;
-      looks = looks-fresh a b after _ c.args.node d c.visit-in-None.new.self c.head-head.result c.ask-got.result c.visit-in-None.result c.in-None.is c.head-head.ensures asked.keeps asked.asks logs settles;
+      looks = looks-fresh a b after _ c.args.node d c.visit-in-None.new.self c.head-head.result c.ask-got.result c.visit-in-None.result c.in-None.is c.head-head.ensures.law asked.keeps asked.asks logs settles;
     }
 
 pub drr::Deficits::turn-loop-init : goal.drr::Deficits::turn-loop-init

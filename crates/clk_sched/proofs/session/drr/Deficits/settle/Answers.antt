@@ -3,6 +3,13 @@ use Rattle.clk_sched.specs.inside.Holds.Served.{covers, settled}
 use Rattle.clk_sched.proofs.Deficits.{row-read, settled-within, deficits-cover, deficits-passed, deficits-moved-on}
 use Rattle.clk_sched.proofs.session.drr.Deficits.settle.Goals as goal
 
+pub settle-passed-requires : goal.settle-passed-requires
+settle-passed-requires c fresh =
+    let d = c.args.self.now in
+    let s = c.index-row-from.result in
+    let read = row-read d.row.items c.as_mut_slice-row.result.now d.cursor c.from.result s c.as_mut_slice-row.ensures.value c.from.ensures d.cursor_within c.index-row-from.is in
+    ap (λ t. t.head) (sym c.index-row-from.is) ∙ c.requires fresh s read
+
 pub returns-then-not-passed-clause-holds : goal.returns-then-not-passed-clause-holds
 returns-then-not-passed-clause-holds c quanta inputs before v holds at got passed =
     let d = c.args.self.now in
