@@ -32,7 +32,7 @@ pub struct Inputs {
     /// What stands at each.
     pub each: Vec<Input>,
     /// How many inputs the node and the schedulers below it have.
-    pub edges: usize,
+    pub edges: u16,
     /// The leaf of the first, where all are queues whose leaves follow one another.
     queues_from: Option<u16>,
     ghost in_a_row: { IfSome queues_from (λ leaf. AreQueuesFrom leaf each.items) } by { Prim.hlevel props },
@@ -40,7 +40,7 @@ pub struct Inputs {
 
 impl Inputs {
     /// These inputs, of a node that has so many with the schedulers below it.
-    pub fn new(each: Vec<Input>, edges: usize) -> Inputs
+    pub fn new(each: Vec<Input>, edges: u16) -> Inputs
         ensures each { result.each ≡ each }
         ensures edges { result.edges ≡ edges }
     {

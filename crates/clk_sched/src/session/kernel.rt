@@ -103,7 +103,7 @@ impl Kernel {
         ensures unchanged { OnErr result (self.new ≡ self.old) }
         ensures unasked { OnErr result (q.new ≡ q.old) }
     {
-        let edges = self.nodes.inputs[DEVICE as usize].edges;
+        let edges = usize::from(self.nodes.inputs[DEVICE as usize].edges);
         self.nodes.log.reserve(edges)?;
         self.emitted.reserve()?;
         self.nodes.moment = self.nodes.moment.max(moment);

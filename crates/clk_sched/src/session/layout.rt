@@ -88,7 +88,7 @@ fn room_after_each(trees: &[Tree], room: u16) -> Option<u16>
 
 /// Lays a tree out, and answers what stands for it at an input, and how many edges there are to it and below.
 #[cycle(lay)]
-fn lay(alloc: Global, tables: &mut Tables, tree: &Tree) -> Result<(Input, usize), AllocError>
+fn lay(alloc: Global, tables: &mut Tables, tree: &Tree) -> Result<(Input, u16), AllocError>
     requires room { length tables.old.inputs.items + elements_of tree.now ≤ most_elements }
     ensures adds { IfOk result (λ r. Adds tables.old tables.new (entries_of (length tables.old.inputs.items) tree.now) (kinds_of tree.now)) }
     ensures input { IfOk result (λ r. r.0 ≡ input_of (length tables.old.inputs.items) tree.now) }
@@ -127,7 +127,7 @@ fn lay_node(
     tables: &mut Tables,
     state: State,
     trees: &[Tree],
-) -> Result<usize, AllocError>
+) -> Result<u16, AllocError>
     requires room { length tables.old.inputs.items + elements (row trees.now) < most_elements }
     ensures adds { IfOk result (λ edges. AddsNode tables.old tables.new state (row trees.now)) }
     ensures edges { IfOk result (λ edges. edges ≡ elements (row trees.now)) }
@@ -149,7 +149,7 @@ fn lay_inputs(
     tables: &mut Tables,
     each: &mut Vec<Input>,
     trees: &[Tree],
-) -> Result<usize, AllocError>
+) -> Result<u16, AllocError>
     requires room { length tables.old.inputs.items + elements (row trees.now) ≤ most_elements }
     ensures adds { IfOk result (λ edges. Adds tables.old tables.new (entries (length tables.old.inputs.items) (row trees.now)) (kinds (row trees.now))) }
     ensures each { IfOk result (λ edges. each.new.items ≡ each.old.items ++ inputs_of (length tables.old.inputs.items) (row trees.now)) }

@@ -13,6 +13,9 @@ use crate::visit::Visit;
 use clk_packet::Packet;
 use std::mem::{forget, replace};
 
+/// From how many inputs on it takes less to look for those that have nothing than to ask each.
+const MANY: u16 = 8;
+
 /// The nodes of a tree in a pull, with the log.
 #[derive(Drop)]
 pub struct Nodes {
@@ -126,9 +129,24 @@ impl Nodes {
     }
 
     /// Passes over inputs of a node, so many at most from the first on, that are queues of which it is known that they have nothing: each
-    /// visit is recorded. It answers how many these are.
+    /// visit is recorded. It answers how many these are, and none where there are few, which are sooner asked.
     #[inline]
     fn pass_idle<Q: Ask>(&mut self, q: &Q, node: u16, first: u16, count: u16) -> u16
+        requires can_pull { CanPull self.old node (edges_in self.old.inputs.items node (range_with_len first count)) }
+        requires within { AllByRecursion (λ i. IsSome (input_at self.old.inputs.items node i)) (range_with_len first count) }
+        requires few { first + count ≤ most_inputs }
+        ensures within { result ≤ count }
+        ensures asked { HasAskedAll Q.gives self.old self.new q.now q.now node (range_with_len first result) None }
+    {
+        if count < MANY {
+            return 0;
+        }
+        self.pass_idle_queues(q, node, first, count)
+    }
+
+    /// The same, however few there are.
+    #[inline(never)]
+    fn pass_idle_queues<Q: Ask>(&mut self, q: &Q, node: u16, first: u16, count: u16) -> u16
         requires can_pull { CanPull self.old node (edges_in self.old.inputs.items node (range_with_len first count)) }
         requires within { AllByRecursion (λ i. IsSome (input_at self.old.inputs.items node i)) (range_with_len first count) }
         requires few { first + count ≤ most_inputs }
