@@ -12,7 +12,7 @@ use Rattle.clickpull_c.specs.declared.values.COffered.{COffered}
 use Rattle.clickpull_c.specs.declared.values.CDeparture.{CDeparture}
 use Rattle.clickpull_c.specs.Values.{packet_in_c}
 use Rattle.clickpull_c.specs.Chains.{IsChain}
-use Rattle.clickpull_c.specs.Calls.{IsOffered, OffersOne, IsOfferedSoFar, GivesOne, DrainPull, PullsNext, came_out, departures_of}
+use Rattle.clickpull_c.specs.Calls.{IsOffered, OffersOne, IsOfferedSoFar, GivesOne, DrainPull, PullsNext, with_departure, departures_of}
 use Rattle.clickpull_c.specs.inside.SoFar.{GaveSoFar, DrainedSoFar}
 use Rattle.clickpull_c.proofs.Chains.{chain-more, zip-more}
 
@@ -51,17 +51,17 @@ offered-more old mid new offers before filled done none y same fits low so_far o
     }
 
 -- what a pull gave stands before equal lists
-on-top : (moment : ℕ) (got : Option Packet) (pull : DrainPull) (longer shorter : List CDeparture) → longer ≡ shorter ++ came_out pull.moment pull.got [] → came_out moment got longer ≡ came_out moment got shorter ++ came_out pull.moment pull.got []
+on-top : (moment : ℕ) (got : Option Packet) (pull : DrainPull) (longer shorter : List CDeparture) → longer ≡ shorter ++ with_departure pull.moment pull.got [] → with_departure moment got longer ≡ with_departure moment got shorter ++ with_departure pull.moment pull.got []
 on-top moment None pull longer shorter same = same
 on-top moment (Some q) pull longer shorter same = ap (λ l. record { moment = moment; packet = packet_in_c q } ∷ l) same
 
 -- what one more pull gave stands last
-departures-more : (pulls : List DrainPull) (pull : DrainPull) → departures_of (pulls ++ pull ∷ []) ≡ departures_of pulls ++ came_out pull.moment pull.got []
+departures-more : (pulls : List DrainPull) (pull : DrainPull) → departures_of (pulls ++ pull ∷ []) ≡ departures_of pulls ++ with_departure pull.moment pull.got []
 departures-more [] pull = refl
 departures-more (p ∷ ps) pull = on-top p.moment p.got pull (departures_of (ps ++ pull ∷ [])) (departures_of ps) (departures-more ps pull)
 
 drained-more : (old mid new : Course) (device : ℕ) (before filled filled' : List CDeparture) (made given given' : ℕ) (pull : DrainPull) → DrainedSoFar old mid device before filled made given
-    → PullsNext device mid pull new → given' ≤ length before → take given' filled' ≡ take given filled ++ came_out pull.moment pull.got [] → drop given' filled' ≡ drop given' before
+    → PullsNext device mid pull new → given' ≤ length before → take given' filled' ≡ take given filled ++ with_departure pull.moment pull.got [] → drop given' filled' ≡ drop given' before
     → DrainedSoFar old new device before filled' (made + 1) given'
 drained-more old mid new device before filled filled' made given given' pull so_far one within gave others =
     let longer : length (so_far.pulls ++ pull ∷ []) ≡ made + 1 = length-append so_far.pulls (pull ∷ []) ∙ ap (λ n. n + 1) so_far.count in
@@ -70,7 +70,7 @@ drained-more old mid new device before filled filled' made given given' pull so_
       chain = chain-more (PullsNext device) old mid new so_far.pulls pull so_far.chain one;
       count = longer;
       within = within;
-      gave = gave ∙ ap (λ l. l ++ came_out pull.moment pull.got []) so_far.gave ∙ sym (departures-more so_far.pulls pull);
+      gave = gave ∙ ap (λ l. l ++ with_departure pull.moment pull.got []) so_far.gave ∙ sym (departures-more so_far.pulls pull);
       others = others;
     }
 

@@ -89,13 +89,13 @@ pub record PullsNext (device : ℕ) (c : Course) (pull : DrainPull) (next : Cour
   pub pulled : IsPulled c next device pull.moment pull.got
 
 -- what pulls gave, each with its moment, before others
-abbrev pub came_out : ℕ → Option Packet → List CDeparture → List CDeparture
-came_out moment None others = others
-came_out moment (Some p) others = record { moment = moment; packet = packet_in_c p } ∷ others
+abbrev pub with_departure : ℕ → Option Packet → List CDeparture → List CDeparture
+with_departure moment None others = others
+with_departure moment (Some p) others = record { moment = moment; packet = packet_in_c p } ∷ others
 
 abbrev pub departures_of : List DrainPull → List CDeparture
 departures_of [] = []
-departures_of (pull ∷ pulls) = came_out pull.moment pull.got (departures_of pulls)
+departures_of (pull ∷ pulls) = with_departure pull.moment pull.got (departures_of pulls)
 
 -- all packets that were accepted at a device were evicted or came out, and some were not
 abbrev pub IsEmptied : Course → ℕ → Type 0

@@ -27,8 +27,8 @@ pub extern "C" fn clk_router_drain(
         *given = 0;
         return UNKNOWN_DEVICE;
     }
-    let (came_out, status) = drain(router, device, departures, pulls);
-    *given = came_out;
+    let (emitted, status) = drain(router, device, departures, pulls);
+    *given = emitted;
     status
 }
 

@@ -46,9 +46,9 @@ pub extern "C" fn clk_router_pull_many(
 {
     let count = packets.len();
     match pull_often(router.get_mut(), device, moment, packets) {
-        Ok(came_out) => {
-            *given = came_out;
-            if came_out == 0 && count > 0 { NONE } else { OK }
+        Ok(emitted) => {
+            *given = emitted;
+            if emitted == 0 && count > 0 { NONE } else { OK }
         }
         Err(status) => {
             *given = 0;

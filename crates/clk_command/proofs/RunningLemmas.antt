@@ -9,7 +9,7 @@ use Rattle.clk_tree.specs.PlanTree.{device_count}
 use Rattle.clk_drain.specs.declared.outcome.Outcome.{Outcome}
 use Rattle.clk_drain.specs.Outcome.{Device}
 use Rattle.clk_drain.specs.Run.{AreDevicesFrom, IsRunWith}
-use Rattle.clk_report.specs.Devices.{came_out}
+use Rattle.clk_report.specs.Devices.{all_emitted}
 use Rattle.clk_report.specs.Report.{report_text}
 use Rattle.clk_command.specs.declared.pace.Pace.{Pace}
 use Rattle.clk_command.specs.Running.{RunWrites, Tells}
@@ -34,5 +34,5 @@ trace-tells (Some text) traces sound told = record { sound = sound; sent = told 
 
 -- what a run over it writes
 pub run-writes : (plan : List Planned) (pace : Pace) (known : Option (List ℕ)) (traces : List (List Packet)) (logs : List (List Visit)) (outcome : Outcome) → IfSome known (λ text. Tells text traces)
-    → IsRunWith plan traces pace.step pace.limit logs outcome → RunWrites plan pace known (report_text (came_out outcome.emitted.items) outcome.tallies.items) logs
+    → IsRunWith plan traces pace.step pace.limit logs outcome → RunWrites plan pace known (report_text (all_emitted outcome.emitted.items) outcome.tallies.items) logs
 run-writes plan pace known traces logs outcome tells is = record { traces = traces; tells = tells; outcome = outcome; came_to = is; reported = refl }

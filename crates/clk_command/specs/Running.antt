@@ -8,7 +8,7 @@ use Rattle.clk_sched.specs.declared.visit.Visit.{Visit}
 use Rattle.clk_tree.specs.Plan.{Planned}
 use Rattle.clk_drain.specs.declared.outcome.Outcome.{Outcome}
 use Rattle.clk_drain.specs.Run.{IsFaultOfRun, IsRunWith}
-use Rattle.clk_report.specs.Devices.{came_out}
+use Rattle.clk_report.specs.Devices.{all_emitted}
 use Rattle.clk_report.specs.Report.{report_text}
 use Rattle.clk_command.specs.declared.pace.Pace.{Pace}
 
@@ -24,7 +24,7 @@ pub record RunWrites (plan : List Planned) (pace : Pace) (trace : Option (List �
   pub tells : IfSome trace (λ bytes. Tells bytes traces)
   pub outcome : Outcome
   pub came_to : IsRunWith plan traces pace.step pace.limit logs outcome
-  pub reported : text ≡ report_text (came_out outcome.emitted.items) outcome.tallies.items
+  pub reported : text ≡ report_text (all_emitted outcome.emitted.items) outcome.tallies.items
 
 -- A run of the plan over what the trace tells is refused with this fault.
 pub record RefusesRun (plan : List Planned) (trace : Option (List ℕ)) (fault : Fault) : Type 0 where

@@ -53,10 +53,10 @@ line-joined a b c d e f g h p q r s t u v w x x-is w-is v-is u-is t-is s-is r-is
     again = simp append_assoc refl
 
 -- the line of a tally, told by the totals
-pub line-is : (emitted : List Packet) (tally : Tally) (came_out : Total) → came_out ≡ total_of (of_sender tally.sender emitted)
+pub line-is : (emitted : List Packet) (tally : Tally) (total : Total) → total ≡ total_of (of_sender tally.sender emitted)
     → codes "sender " ++ (decimal tally.sender ++ (words_text (codes ": sent") (both (total_of tally.accepted) (total_of tally.refused)) ++ (words_text (codes ", accepted") (total_of tally.accepted)
-    ++ (words_text (codes ", refused") (total_of tally.refused) ++ (words_text (codes ", evicted") (total_of tally.evicted) ++ (words_text (codes ", emitted") came_out ++ codes "\n")))))) ≡ tally_text emitted tally
-line-is emitted tally came_out is =
+    ++ (words_text (codes ", refused") (total_of tally.refused) ++ (words_text (codes ", evicted") (total_of tally.evicted) ++ (words_text (codes ", emitted") total ++ codes "\n")))))) ≡ tally_text emitted tally
+line-is emitted tally total is =
     ap₂ line_with (both-of tally.accepted tally.refused) is
     ∙ joined (codes "sender ") (decimal tally.sender) (codes ": sent") (total_text (tally.accepted ++ tally.refused)) (codes ", accepted") (total_text tally.accepted) (codes ", refused") (total_text tally.refused)
     (codes ", evicted") (total_text tally.evicted) (codes ", emitted") (total_text (of_sender tally.sender emitted)) (codes "\n")

@@ -9,7 +9,7 @@ use Rattle.std.proofs.lemmas.List.Elements.{All-set, filter-append}
 use Rattle.std.proofs.lemmas.Option.{slice_get-get_or, get_or_from_slice_get}
 use Rattle.clk_packet.specs.declared.packet.Packet.{Packet}
 use Rattle.clk_report.specs.declared.total.Total.{Total}
-use Rattle.clk_report.specs.Devices.{came_out}
+use Rattle.clk_report.specs.Devices.{all_emitted}
 use Rattle.clk_packet.specs.Lists.{of_sender}
 use Rattle.clk_report.specs.Report.{bytes_of}
 use Rattle.clk_report.specs.inside.Totals.{total_of, with_packet, both, AreTotals, HasRoom}
@@ -139,13 +139,13 @@ packets-few s (p ∷ packets) = by_test (p.sender == s) refl (packets-few s pack
 
 -- the packets of the devices before a place are counted, and so few that there is room for those of one more
 pub record AreCountedTo (emitted : List (Vec Packet Global)) (totals : List Total) (i : ℕ) : Type 0 where
-  pub are : AreTotals (came_out (take i emitted)) totals
-  pub few : length (came_out (take i emitted)) ≤ 2 ^ 64 * i
+  pub are : AreTotals (all_emitted (take i emitted)) totals
+  pub few : length (all_emitted (take i emitted)) ≤ 2 ^ 64 * i
 
 pub AreCountedTo-room : (emitted : List (Vec Packet Global)) (totals : List Total) (i more : ℕ) → i ≤ 65535 → more < 2 ^ 64 → AreCountedTo emitted totals i → All (HasRoom more) totals
 AreCountedTo-room emitted totals i more below short so_far s d inside =
-    let packets = of_sender s (came_out (take i emitted)) in
-    let few = packets-few s (came_out (take i emitted)) in
+    let packets = of_sender s (all_emitted (take i emitted)) in
+    let few = packets-few s (all_emitted (take i emitted)) in
     let all = so_far.few in
     let bytes = bytes-few packets in
     subst (HasRoom more) (sym (get_or_from_slice_get totals s (total_of packets) d (so_far.are.each s inside))) (record { packets = omega (arith, few, all); bytes = omega (arith, few, all, bytes) })
@@ -153,16 +153,16 @@ AreCountedTo-room emitted totals i more below short so_far s d inside =
 pub AreCountedTo-more : (emitted : List (Vec Packet Global)) (old new : List Total) (i : ℕ) (v : Vec Packet Global) (packets : List Packet) → i < length emitted → v ≡ get_or emitted i v → packets ≡ v.items → length packets < 2 ^ 64
     → AreCountedTo emitted old i → ((before : List Packet) → AreTotals before old → AreTotals (before ++ packets) new) → AreCountedTo emitted new (i + 1)
 AreCountedTo-more emitted old new i v packets within is its short so_far counts =
-    let next : came_out (take (i + 1) emitted) ≡ came_out (take i emitted) ++ packets =
-    ap came_out (take_more emitted i v within ∙ ap (λ u. take i emitted ++ u ∷ []) (sym is)) ∙ flat_map-append (λ (u : Vec Packet Global). u.items) (take i emitted) (v ∷ [])
-    ∙ ap (λ l. came_out (take i emitted) ++ l) (append-nil v.items ∙ sym its)
+    let next : all_emitted (take (i + 1) emitted) ≡ all_emitted (take i emitted) ++ packets =
+    ap all_emitted (take_more emitted i v within ∙ ap (λ u. take i emitted ++ u ∷ []) (sym is)) ∙ flat_map-append (λ (u : Vec Packet Global). u.items) (take i emitted) (v ∷ [])
+    ∙ ap (λ l. all_emitted (take i emitted) ++ l) (append-nil v.items ∙ sym its)
     in
-    let many = ap length next ∙ length-append (came_out (take i emitted)) packets in
+    let many = ap length next ∙ length-append (all_emitted (take i emitted)) packets in
     let few = so_far.few in
-    record { are = subst (λ l. AreTotals l new) (sym next) (counts (came_out (take i emitted)) so_far.are); few = omega (arith, many, few) }
+    record { are = subst (λ l. AreTotals l new) (sym next) (counts (all_emitted (take i emitted)) so_far.are); few = omega (arith, many, few) }
 
-pub all-devices-counted : (emitted : List (Vec Packet Global)) (totals : List Total) (i : ℕ) → length emitted ≤ i → AreCountedTo emitted totals i → AreTotals (came_out emitted) totals
-all-devices-counted emitted totals i all so_far = subst (λ l. AreTotals (came_out l) totals) (take_all i emitted all) so_far.are
+pub all-devices-counted : (emitted : List (Vec Packet Global)) (totals : List Total) (i : ℕ) → length emitted ≤ i → AreCountedTo emitted totals i → AreTotals (all_emitted emitted) totals
+all-devices-counted emitted totals i all so_far = subst (λ l. AreTotals (all_emitted l) totals) (take_all i emitted all) so_far.are
 
 -- no packets of any sender
 pub AreTotals-zero : (n : ℕ) (totals : List Total) → totals ≡ replicate n (total_of []) → AreTotals [] totals

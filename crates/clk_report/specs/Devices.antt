@@ -9,5 +9,5 @@ abbrev pub lists_of : {X : Type 0} → List (Vec X Global) → List (List X)
 lists_of lists = map (λ l. l.items) lists
 
 -- all packets that came out, at whichever device
-abbrev pub came_out : List (Vec Packet Global) → List Packet
-came_out emitted = flat_map (λ (packets : Vec Packet Global). packets.items) emitted
+abbrev pub all_emitted : List (Vec Packet Global) → List Packet
+all_emitted emitted = flat_map (λ (packets : Vec Packet Global). packets.items) emitted

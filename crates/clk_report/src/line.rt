@@ -16,10 +16,10 @@ pub const LINE: usize = 512;
 
 /// Puts the line of a tally, of whose sender so many packets came out at all devices, before this place of some lines, and gives where
 /// it starts.
-pub fn put_line(lines: &mut [u8], tally: &Tally, came_out: Total, end: usize) -> usize
+pub fn put_line(lines: &mut [u8], tally: &Tally, emitted: Total, end: usize) -> usize
     requires room { 512 ≤ end }
     requires within { end ≤ length lines.old }
-    ensures piece { (emitted : List Packet) → came_out ≡ total_of (of_sender tally.now.sender emitted) → drop result lines.new ≡ tally_text emitted tally.now ++ drop end lines.old }
+    ensures piece { (packets : List Packet) → emitted ≡ total_of (of_sender tally.now.sender packets) → drop result lines.new ≡ tally_text packets tally.now ++ drop end lines.old }
     ensures near { end ≤ result + 512 }
     ensures before { result ≤ end }
 {
@@ -27,7 +27,7 @@ pub fn put_line(lines: &mut [u8], tally: &Tally, came_out: Total, end: usize) ->
     let refused = Total::of(tally.refused.as_slice());
     let evicted = Total::of(tally.evicted.as_slice());
     let end = put(lines, b"\n", end);
-    let end = put_total(lines, b", emitted", came_out, end);
+    let end = put_total(lines, b", emitted", emitted, end);
     let end = put_total(lines, b", evicted", evicted, end);
     let end = put_total(lines, b", refused", refused, end);
     let end = put_total(lines, b", accepted", accepted, end);

@@ -3,7 +3,7 @@
 ghost use Rattle.std.specs.Prelude.{◌≡◌, ◌+◌, ◌*◌, ◌<◌, ◌≤◌, ◌++◌, List, All, drop, length};
 ghost use Rattle.clk_packet.specs.Bytes.{Wrote};
 ghost use Rattle.clk_packet.specs.declared.packet.Packet.{Packet};
-ghost use Rattle.clk_report.specs.Devices.{came_out};
+ghost use Rattle.clk_report.specs.Devices.{all_emitted};
 ghost use Rattle.clk_report.specs.Report.{report_text};
 ghost use Rattle.clk_report.specs.inside.Totals.{AreTotals};
 
@@ -38,7 +38,7 @@ pub fn report<W: Sink>(
 ) -> Result<(), Fault>
     requires { length emitted.now ≤ MAX_DEVICES }
     ensures { Wrote (W.Sink.taken writer.old) (W.Sink.taken writer.new)
-        (W.Sink.failures writer.old) (W.Sink.failures writer.new) result (report_text (came_out emitted.now) tallies.now) }
+        (W.Sink.failures writer.old) (W.Sink.failures writer.new) result (report_text (all_emitted emitted.now) tallies.now) }
 {
     if senders_of(tallies) <= FEW {
         write_lines::<FEW, W>(tallies, emitted, writer)
@@ -70,7 +70,7 @@ fn write_lines<const N: usize, W: Sink>(
     requires within { All (λ t. t.sender < N) tallies.now }
     requires few { length emitted.now ≤ MAX_DEVICES }
     ensures { Wrote (W.Sink.taken writer.old) (W.Sink.taken writer.new)
-        (W.Sink.failures writer.old) (W.Sink.failures writer.new) result (report_text (came_out emitted.now) tallies.now) }
+        (W.Sink.failures writer.old) (W.Sink.failures writer.new) result (report_text (all_emitted emitted.now) tallies.now) }
 {
     let mut totals = [Total::NONE; N];
     count_by_sender(&mut totals, emitted);

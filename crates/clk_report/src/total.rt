@@ -2,7 +2,7 @@
 
 ghost use Rattle.std.specs.Prelude.{◌≤◌, ◌++◌, [], List, All, length};
 ghost use Rattle.clk_packet.specs.declared.packet.Packet.{Packet};
-ghost use Rattle.clk_report.specs.Devices.{came_out};
+ghost use Rattle.clk_report.specs.Devices.{all_emitted};
 ghost use Rattle.clk_report.specs.inside.Totals.{AreTotals, HasRoom};
 
 use crate::senders::MAX_DEVICES;
@@ -70,7 +70,7 @@ impl Total {
 pub fn count_by_sender(totals: &mut [Total], emitted: &[Vec<Packet>])
     requires none { AreTotals [] totals.old }
     requires few { length emitted.now ≤ MAX_DEVICES }
-    ensures totals { AreTotals (came_out emitted.now) totals.new }
+    ensures totals { AreTotals (all_emitted emitted.now) totals.new }
 {
     for packets in emitted {
         count(totals, packets);

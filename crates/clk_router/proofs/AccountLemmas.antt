@@ -21,7 +21,7 @@ use Rattle.clk_router.specs.Accounts.{capped, length_of, total_of, account_after
 use Rattle.clk_sched.specs.Kinds.{keeps_nothing}
 use Rattle.clk_router.specs.Course.{Course, after}
 use Rattle.clk_router.specs.Events.{sender_numbers, Event, offered, pulled, accepted_in, refused_in, evicted_in, emitted_in}
-use Rattle.clk_router.specs.inside.Accounts.{with_packet, with_its, account_sender, taken_in, turned_away, put_out, came_out, noted, given}
+use Rattle.clk_router.specs.inside.Accounts.{with_packet, with_its, account_sender, taken_in, turned_away, put_out, with_emitted, noted, given}
 use Rattle.clk_router.proofs.Callers.Keyed.{ChangesOnly, others-stay, changed-at}
 
 -- a count that was capped before more came
@@ -144,8 +144,8 @@ turned_away-its p a e = ap (λ t. has a a.accepted t a.evicted a.emitted) (its-o
 put_out-its : (p : Packet) → ChangesOnly account_sender p.sender (put_out p)
 put_out-its p a e = ap (λ t. has a a.accepted a.refused t a.emitted) (its-other a.sender p a.evicted e)
 
-came_out-its : (p : Packet) → ChangesOnly account_sender p.sender (came_out p)
-came_out-its p a e = ap (λ t. has a a.accepted a.refused a.evicted t) (its-other a.sender p a.emitted e)
+with_emitted-its : (p : Packet) → ChangesOnly account_sender p.sender (with_emitted p)
+with_emitted-its p a e = ap (λ t. has a a.accepted a.refused a.evicted t) (its-other a.sender p a.emitted e)
 
 -- the account of a packet's sender stands at a place
 module _ (accounts : List Account) (numbers : List ℕ) (p : Packet) (place : ℕ) (alike : map account_sender accounts ≡ numbers) (at : slice_get numbers place ≡ Some p.sender) where
@@ -176,15 +176,15 @@ module _ (accounts : List Account) (numbers : List ℕ) (p : Packet) (place : �
     pub put_out-at : total ≡ with_packet p a.evicted → set accounts i (has a a.accepted a.refused total a.emitted) ≡ map (put_out p) accounts
     put_out-at e = ap (λ t. set accounts i (has a a.accepted a.refused t a.emitted)) (e ∙ its-own a.sender p a.evicted own) ∙ changed (put_out p) (put_out-its p)
 
-    pub came_out-at : total ≡ with_packet p a.emitted → set accounts i (has a a.accepted a.refused a.evicted total) ≡ map (came_out p) accounts
-    came_out-at e = ap (λ t. set accounts i (has a a.accepted a.refused a.evicted t)) (e ∙ its-own a.sender p a.emitted own) ∙ changed (came_out p) (came_out-its p)
+    pub with_emitted-at : total ≡ with_packet p a.emitted → set accounts i (has a a.accepted a.refused a.evicted total) ≡ map (with_emitted p) accounts
+    with_emitted-at e = ap (λ t. set accounts i (has a a.accepted a.refused a.evicted t)) (e ∙ its-own a.sender p a.emitted own) ∙ changed (with_emitted p) (with_emitted-its p)
 
 -- a packet of a sender without an account changes none
 pub put_out-none : (accounts : List Account) (numbers : List ℕ) (p : Packet) → map account_sender accounts ≡ numbers → list_any (λ n. n == p.sender) numbers ≡ false → accounts ≡ map (put_out p) accounts
 put_out-none accounts numbers p alike none = others-stay account_sender p.sender (put_out p) accounts (put_out-its p) (subst (λ l. list_any (λ n. n == p.sender) l ≡ false) (sym alike) none)
 
-pub came_out-none : (accounts : List Account) (numbers : List ℕ) (p : Packet) → map account_sender accounts ≡ numbers → list_any (λ n. n == p.sender) numbers ≡ false → accounts ≡ map (came_out p) accounts
-came_out-none accounts numbers p alike none = others-stay account_sender p.sender (came_out p) accounts (came_out-its p) (subst (λ l. list_any (λ n. n == p.sender) l ≡ false) (sym alike) none)
+pub with_emitted-none : (accounts : List Account) (numbers : List ℕ) (p : Packet) → map account_sender accounts ≡ numbers → list_any (λ n. n == p.sender) numbers ≡ false → accounts ≡ map (with_emitted p) accounts
+with_emitted-none accounts numbers p alike none = others-stay account_sender p.sender (with_emitted p) accounts (with_emitted-its p) (subst (λ l. list_any (λ n. n == p.sender) l ≡ false) (sym alike) none)
 
 -- The accounts of a router that went on by some events.
 module _ (old new : Course) (more : List Event) where

@@ -3,7 +3,7 @@
 ghost use Rattle.std.specs.Prelude.{◌≡◌, Some, map, slice_get, IfOk, IsOkUnless};
 ghost use Rattle.clk_packet.specs.declared.fault.Fault.TheVariants.{Memory};
 ghost use Rattle.clk_packet.specs.Lists.{AreRising};
-ghost use Rattle.clk_router.specs.inside.Accounts.{account_made, account_sender, noted, put_out, came_out, given};
+ghost use Rattle.clk_router.specs.inside.Accounts.{account_made, account_sender, noted, put_out, with_emitted, given};
 
 use crate::senders::place_of;
 use clk_packet::{Fault, Offered, Packet};
@@ -131,7 +131,7 @@ pub fn count_given(accounts: &mut Vec<Account>, numbers: &[u16], got: Option<Pac
 fn count_emitted(accounts: &mut Vec<Account>, numbers: &[u16], packet: Packet)
     requires alike { map account_sender accounts.old.items ≡ numbers.now }
     requires rising { AreRising numbers.now }
-    ensures { accounts.new.items ≡ map (came_out packet) accounts.old.items }
+    ensures { accounts.new.items ≡ map (with_emitted packet) accounts.old.items }
 {
     match place_of(numbers, packet.sender) {
         Some(place) => accounts[usize::from(place)].emitted.add(packet),

@@ -10,7 +10,7 @@ use Rattle.std.proofs.lemmas.Grind.{drop_more_same}
 use Rattle.clk_packet.specs.declared.packet.Packet.{Packet}
 use Rattle.clk_packet.specs.declared.packet.Offered.{Offered}
 use Rattle.clk_report.specs.Report.{report_text}
-use Rattle.clk_report.specs.Devices.{came_out, lists_of}
+use Rattle.clk_report.specs.Devices.{all_emitted, lists_of}
 use Rattle.clk_sched.specs.declared.visit.Visit.{Visit}
 use Rattle.clk_sched.specs.declared.session.departures.Departure.{Departure}
 use Rattle.clk_sched.specs.Results.{emitted}
@@ -243,7 +243,7 @@ module _ (setup : Setup) (old mid : Recorder) (commands : List Command) (asked d
     logs : AreLogs new.router.keeps.visits past (logs_of setup (carried.more ++ later))
     logs are_kept = is.logs are_kept ∙ its_logs
 
-    report : report_text (came_out past.emitted.items) past.tallies.items
+    report : report_text (all_emitted past.emitted.items) past.tallies.items
         ≡ report_text (flat_map emitted (logs_of setup (carried.more ++ later))) (map (tally_after (carried.more ++ later)) (sender_numbers setup))
     report =
         ap₂ report_text

@@ -23,7 +23,7 @@ account_sender a = a.sender
 abbrev pub with_its : ℕ → Packet → Total → Total
 with_its s p t = if p.sender == s then with_packet p t else t
 
--- an account once a packet was taken in, turned away or put out, and once it came out
+-- an account once a packet was taken in, turned away or put out, and with a packet more that was emitted
 abbrev pub taken_in : Packet → Account → Account
 taken_in p a = record { sender = a.sender; queue = a.queue; accepted = with_its a.sender p a.accepted; refused = a.refused; evicted = a.evicted; emitted = a.emitted }
 
@@ -33,8 +33,8 @@ turned_away p a = record { sender = a.sender; queue = a.queue; accepted = a.acce
 abbrev pub put_out : Packet → Account → Account
 put_out p a = record { sender = a.sender; queue = a.queue; accepted = a.accepted; refused = a.refused; evicted = with_its a.sender p a.evicted; emitted = a.emitted }
 
-abbrev pub came_out : Packet → Account → Account
-came_out p a = record { sender = a.sender; queue = a.queue; accepted = a.accepted; refused = a.refused; evicted = a.evicted; emitted = with_its a.sender p a.emitted }
+abbrev pub with_emitted : Packet → Account → Account
+with_emitted p a = record { sender = a.sender; queue = a.queue; accepted = a.accepted; refused = a.refused; evicted = a.evicted; emitted = with_its a.sender p a.emitted }
 
 -- an account after an offer with this outcome, and after a pull with this result
 abbrev pub noted : Packet → Offered → Account → Account
@@ -44,4 +44,4 @@ noted p (Evicted front) a = put_out front (taken_in p a)
 
 abbrev pub given : Option Packet → Account → Account
 given None a = a
-given (Some p) a = came_out p a
+given (Some p) a = with_emitted p a

@@ -3,7 +3,7 @@
 ghost use Rattle.std.specs.Prelude.{◌≡◌, ◌≤◌, ◌++◌, ◌⊎◌, length, OnOk, IfErr};
 ghost use Rattle.std.specs.Io.KnownBytes.{Appends};
 ghost use Rattle.clk_packet.specs.declared.fault.Fault.TheVariants.{Memory, Write};
-ghost use Rattle.clk_report.specs.Devices.{came_out, lists_of};
+ghost use Rattle.clk_report.specs.Devices.{all_emitted, lists_of};
 ghost use Rattle.clk_report.specs.Report.{report_text};
 ghost use Rattle.clk_report.specs.VisitCsv.{visits_text};
 
@@ -22,7 +22,7 @@ pub fn write_run<W: Sink>(
 ) -> Result<(), Fault>
     requires { length emitted.now ≤ MAX_DEVICES }
     ensures text { OnOk result (Appends (W.Sink.taken writer.old) (W.Sink.taken writer.new)
-        (report_text (came_out emitted.now) tallies.now ++ visits_text (lists_of logs.now))) }
+        (report_text (all_emitted emitted.now) tallies.now ++ visits_text (lists_of logs.now))) }
     ensures fault { IfErr result (λ fault. (fault ≡ Memory) ⊎ (fault ≡ Write)) }
 {
     report(tallies, emitted, writer)?;

@@ -14,14 +14,14 @@ and-requires-clause-bytes c =
     omega (arith, accepted, refused, few, short)
 
 pub returns-clause-piece : goal.returns-clause-piece
-returns-clause-piece c emitted is =
+returns-clause-piece c packets is =
     let accepted = c.of-accepted.ensures ∙ ap total_of c.as_slice.ensures in
     let refused = c.of-refused.ensures ∙ ap total_of c.as_slice-2.ensures in
     let evicted = c.of-evicted.ensures ∙ ap total_of c.as_slice-3.ensures in
     let sent = c.and.ensures ∙ ap₂ both accepted refused in
     line-joined (codes "sender ") (decimal c.args.tally.now.sender) (words_text (codes ": sent") (both (total_of c.args.tally.now.accepted) (total_of c.args.tally.now.refused)))
     (words_text (codes ", accepted") (total_of c.args.tally.now.accepted)) (words_text (codes ", refused") (total_of c.args.tally.now.refused)) (words_text (codes ", evicted") (total_of c.args.tally.now.evicted))
-    (words_text (codes ", emitted") c.args.came_out) (codes "\n") (drop c.args.end c.args.lines.now) (drop c.put-end.result c.put-end.new.line) (drop c.put_total-end.result c.put_total-end.new.lines)
+    (words_text (codes ", emitted") c.args.emitted) (codes "\n") (drop c.args.end c.args.lines.now) (drop c.put-end.result c.put-end.new.line) (drop c.put_total-end.result c.put_total-end.new.lines)
     (drop c.put_total-end-2.result c.put_total-end-2.new.lines) (drop c.put_total-end-3.result c.put_total-end-3.new.lines) (drop c.put_total-end-4.result c.put_total-end-4.new.lines)
     (drop c.put_total-end-5.result c.put_total-end-5.new.lines) (drop c.put_number-end.result c.put_number-end.new.line) (drop c.put.result c.put.new.line)
     c.put.ensures.piece
@@ -31,4 +31,4 @@ returns-clause-piece c emitted is =
     (c.put_total-end-3.ensures.piece ∙ ap (λ t. words_text (codes ", refused") t ++ drop c.put_total-end-2.result c.put_total-end-2.new.lines) refused)
     (c.put_total-end-2.ensures.piece ∙ ap (λ t. words_text (codes ", evicted") t ++ drop c.put_total-end.result c.put_total-end.new.lines) evicted)
     c.put_total-end.ensures.piece c.put-end.ensures.piece
-    ∙ ap (λ l. l ++ drop c.args.end c.args.lines.now) (line-is emitted c.args.tally.now c.args.came_out is)
+    ∙ ap (λ l. l ++ drop c.args.end c.args.lines.now) (line-is packets c.args.tally.now c.args.emitted is)

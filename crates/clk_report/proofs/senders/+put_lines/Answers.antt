@@ -1,4 +1,4 @@
-use Rattle.std.proofs.Common.{ap, sym, ◌∙◌, ◌++◌, ◌-◌, ◌<◌, length, take, drop, get_or, append_assoc, arith}
+use Rattle.std.proofs.Common.{ap, sym, ◌∙◌, ◌++◌, ◌-◌, ◌<◌, length, take, drop, append_assoc, arith}
 use Rattle.clk_packet.specs.declared.tally.Tally.{Tally}
 use Rattle.clk_report.specs.declared.total.Total.{Total}
 use Rattle.clk_report.specs.Report.{tally_text, report_text}
@@ -15,7 +15,6 @@ returns-clause-piece t c emitted are =
     let tally = c.first-item.result in
     let tallies = c.args.tallies.now in
     let after = drop c.args.end c.args.lines.now in
-    let came_out = get_or c.args.totals.now c.from.result none in
     let first = ap (λ (t : Tally). t.sender) c.first-item.is in
     let counted_first = c.requires.counted 0 tally (omega arith) in
     let inside : tally.sender < length c.args.totals.now = omega (arith, first, counted_first) in

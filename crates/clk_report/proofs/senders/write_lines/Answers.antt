@@ -4,7 +4,7 @@ use Rattle.std.proofs.lemmas.List.Elements.{All-take, All-drop}
 use Rattle.std.proofs.lemmas.Result.{err_from_is_err_and}
 use Rattle.clk_packet.specs.declared.tally.Tally.{Tally}
 use Rattle.clk_report.specs.declared.total.Total.{Total}
-use Rattle.clk_report.specs.Devices.{came_out}
+use Rattle.clk_report.specs.Devices.{all_emitted}
 use Rattle.clk_report.specs.Report.{report_text, tally_text}
 use Rattle.clk_report.proofs.TotalLemmas.{AreTotals-zero}
 use Rattle.clk_report.proofs.ReportLemmas.{HasWritten-part, HasWritten-cut, flat_map-split, lines-alone}
@@ -23,7 +23,7 @@ put_lines-start-requires-clause-counted g c =
 pub returns-in_err-write_all : goal.returns-in_err-write_all
 returns-in_err-write_all g c =
     let p = err_from_is_err_and c.from_residual.result c.from_residual.ensures.1 in
-    let emitted = came_out c.args.emitted.now in
+    let emitted = all_emitted c.args.emitted.now in
     let part = c.split_at.result.0.now in
     let after = c.split_at.result.1.now in
     let is = c.split_at-in-loop-rest.ensures.back ∙ lines-alone emitted part _ c.loop-rest.lines 32768 (omega arith) (c.put_lines-start.ensures.piece emitted c.count_by_sender.ensures.totals) in
@@ -39,7 +39,7 @@ returns-in_err-write_all g c =
 
 pub loop-rest-preserved : goal.loop-rest-preserved
 loop-rest-preserved g c =
-    let emitted = came_out c.args.emitted.now in
+    let emitted = all_emitted c.args.emitted.now in
     let part = c.split_at.result.0.now in
     let after = c.split_at.result.1.now in
     let is = c.split_at-in-loop-rest.ensures.back ∙ lines-alone emitted part _ c.loop-rest.lines 32768 (omega arith) (c.put_lines-start.ensures.piece emitted c.count_by_sender.ensures.totals) in

@@ -1,12 +1,12 @@
 use Rattle.std.proofs.Common.{◌≡◌, ◌<◌, All, length}
 use Rattle.clk_packet.proofs.Callers.Bytes.{HasWritten}
-use Rattle.clk_report.specs.Devices.{came_out}
+use Rattle.clk_report.specs.Devices.{all_emitted}
 use Rattle.clk_report.specs.Report.{report_text}
 use Rattle.clk_report.proofs.senders.write_lines.Given as goal
 
 abbrev pub invariant-loop-rest : goal.invariant-loop-rest
 invariant-loop-rest g l = record {
-  front : HasWritten (g.W.Sink.taken l.fn.writer) (g.W.Sink.taken l.writer) (report_text (came_out l.emitted) l.tallies) (report_text (came_out l.emitted) l.rest);
+  front : HasWritten (g.W.Sink.taken l.fn.writer) (g.W.Sink.taken l.writer) (report_text (all_emitted l.emitted) l.tallies) (report_text (all_emitted l.emitted) l.rest);
   failures : g.W.Sink.failures l.writer ≡ g.W.Sink.failures l.fn.writer;
   within : All (λ t. t.sender < g.row.N) l.rest;
 }
