@@ -1,7 +1,7 @@
 -- How a router goes on by the commands of some rows, and what it comes to.
-use Rattle.std.proofs.Common.{◌≡◌, ℕ, ◌+◌, ◌<◌, ◌≤◌, zero, suc, nat_lt, true, List, [], ◌∷◌, ◌++◌, length, map, take, drop, set, get_or, Option, Some, None, IfSome, Vec, slice_get, refl, sym, ap, ap₂, subst, ◌∙◌, append_assoc, append-nil, arith}
-use Rattle.std.specs.Option.{option_map}
-use Rattle.std.specs.List.{flat_map, filter_map, cons_option, AllByRecursion}
+use Rattle.std.proofs.Common.{◌≡◌, ℕ, ◌+◌, ◌<◌, ◌≤◌, zero, suc, nat_lt, true, List, [], ◌∷◌, ◌++◌, length, map, take, drop, set, get_or, Option, Some, None, IfSome, Vec, refl, sym, ap, ap₂, subst, ◌∙◌, append_assoc, append-nil, arith}
+use Rattle.std.specs.Option.{is_some}
+use Rattle.std.specs.List.{flat_map, filter_map, cons_option, AllByRecursion, AllZip}
 use Rattle.std.specs.declared.alloc.Global.{Global}
 use Rattle.std.proofs.lemmas.List.{map-append, length-map, length-take, take_all, length-set, take-append-drop, take_more, take_more_set, drop_more, drop-set-lt}
 use Rattle.std.proofs.lemmas.List.Elements.{filter_map-append}
@@ -23,74 +23,63 @@ use Rattle.clk_script.specs.declared.past.Past.{Past}
 use Rattle.clk_script.specs.declared.recorder.Recorder.{Recorder}
 use Rattle.clk_script.specs.Script.{Names, most_lines}
 use Rattle.clk_router.specs.Events.{Setup, sender_numbers, Event, offered, pulled, events_at, log_of, logs_of, tally_after, emitted_in}
-use Rattle.clk_router.specs.Course.{sender_at}
 use Rattle.clk_script.specs.Meaning.{names_of, has_several, command_of, event_text, CloseFirst, Writes}
 use Rattle.clk_script.specs.inside.Recorder.{names_in, numbers_in, IsAt, AreLogs, IsPastOf, Starts, IsReady, given_kept, LeadsOnByPull, IsReadable}
-use Rattle.clk_script.specs.inside.Rows.{command_asked, asked_by, row_offered, row_pulled, row_of, IsToDo, CarriesOut, AnswersRows, IsClosedFrom, rows_text, closings_text, are_several, closings_of, given_first, given_of, ending_of}
+use Rattle.clk_script.specs.inside.Rows.{command_asked, asked_by, row_at, IsRowOf, IsToDo, CarriesOut, AnswersRows, IsClosedFrom, rows_text, closings_text, are_several, closings_of, given_first, given_of, ending_of}
 use Rattle.clk_script.proofs.RowLemmas.{rows-written}
 use Rattle.clk_script.proofs.RecorderLemmas.{numbers-its}
 
 -- the commands of rows that are to be carried out are readable
-row-readable : (names : Names) (r : Row) (command : Command) → IsToDo names r → command_asked names r ≡ Some command → IsReadable command
-row-readable names (row.Send place size) command h asks = by_sender (slice_get names.senders place) asks
-  where
-    by_sender : (o : Option ℕ) → option_map (λ sender. Send sender size) o ≡ Some command → IsReadable command
-    by_sender None e = absurd (cc)
-    by_sender (Some sender) e = let same : Send sender size ≡ command = cc in subst IsReadable same h.1
-row-readable names (row.Pull device moment) command h asks = let same : Pull device moment ≡ command = cc in subst IsReadable same h.1
-row-readable names r command h asks = absurd h
+row-readable : (names : Names) (r : Row) → IsToDo names r → IsReadable (command_asked r)
+row-readable names (row.Send place outcome p) h = p.has_length
+row-readable names (row.Pull device gave moment) h = h.1
 
-each-readable : (names : Names) (rows : List Row) (commands : List Command) → AllByRecursion (IsToDo names) rows → asked_by names rows ≡ map Some commands → AllByRecursion IsReadable commands
-each-readable names rows [] h e = tt
-each-readable names [] (command ∷ commands) h e = absurd (omega (arith, ap length e))
-each-readable names (r ∷ rows) (command ∷ commands) h e =
-    let first : command_asked names r ≡ Some command = cc e in
-    let rest : asked_by names rows ≡ map Some commands = cc e in
-    (row-readable names r command h.0 first, each-readable names rows commands h.1 rest)
+each-readable : (names : Names) (rows : List Row) → AllByRecursion (IsToDo names) rows → AllByRecursion IsReadable (asked_by rows)
+each-readable names [] h = tt
+each-readable names (r ∷ rows) h = (row-readable names r h.0, each-readable names rows h.1)
 
--- rows ask for some commands alone
-asked-one : (xs ys : List Command) → map Some xs ≡ map Some ys → xs ≡ ys
-asked-one [] [] e = refl
-asked-one [] (y ∷ ys) e = absurd (omega (arith, ap length e))
-asked-one (x ∷ xs) [] e = absurd (omega (arith, ap length e))
-asked-one (x ∷ xs) (y ∷ ys) e =
-    let first : x ≡ y = cc e in
-    let rest : map Some xs ≡ map Some ys = cc e in
-    ap₂ (λ (c : Command) cs. c ∷ cs) first (asked-one xs ys rest)
-
-asked-commands : (events : List Event) → map (λ e. Some (command_of e)) events ≡ map Some (map command_of events)
-asked-commands [] = refl
-asked-commands (e ∷ events) = ap (λ l. Some (command_of e) ∷ l) (asked-commands events)
+-- rows after others, which are of events after others
+rows-appended : (events more : List Event) (rows others : List Row) → AllZip IsRowOf events rows → AllZip IsRowOf more others → AllZip IsRowOf (events ++ more) (rows ++ others)
+rows-appended [] more [] others h k = k
+rows-appended [] more (r ∷ rows) others h k = absurd h
+rows-appended (e ∷ events) more [] others h k = absurd h
+rows-appended (e ∷ events) more (r ∷ rows) others h k = (h.0, rows-appended events more rows others h.1 k)
 
 -- No row was carried out, one was, and some were after others.
 pub AnswersRows-none : (router : Recorder) (asked done : List Row) → asked ≡ [] → done ≡ [] → AnswersRows router router asked done
 AnswersRows-none router asked done none nothing =
     λ setup events at.
-    record { more = []; theirs = ap (asked_by (names_of setup)) none; rows = nothing; given = λ several. sym (append-nil router.given.items); keeps = refl; leads = subst (λ l. IsAt setup l router) (sym (append-nil events)) at }
+    record {
+      more = [];
+      theirs = ap asked_by none;
+      rows = subst (AllZip IsRowOf []) (sym nothing) tt;
+      given = λ several. sym (append-nil router.given.items);
+      keeps = refl;
+      leads = subst (λ l. IsAt setup l router) (sym (append-nil events)) at;
+    }
 
-pub AnswersRows-sent : (old new : Recorder) (place size : ℕ) (done : Row) (p : Packet) (outcome : Offered) → sender_at old.router.setup place ≡ Some p.sender → p.length ≡ size → done ≡ row_offered p outcome → new.given ≡ old.given
-    → new.router.keeps ≡ old.router.keeps → ((setup : Setup) (events : List Event) → IsAt setup events old → IsAt setup (events ++ offered p outcome ∷ []) new) → AnswersRows old new (row.Send place size ∷ []) (done ∷ [])
-AnswersRows-sent old new place size done p outcome from long is given keeps leads =
+pub AnswersRows-sent : (old new : Recorder) (asked done : Row) (place : ℕ) (p : Packet) (outcome : Offered) → command_asked asked ≡ Send p.sender p.length → done ≡ row_at place (offered p outcome) → new.given ≡ old.given
+    → new.router.keeps ≡ old.router.keeps → ((setup : Setup) (events : List Event) → IsAt setup events old → IsAt setup (events ++ offered p outcome ∷ []) new) → AnswersRows old new (asked ∷ []) (done ∷ [])
+AnswersRows-sent old new asked done place p outcome asks is given keeps leads =
     λ setup events at.
-    let sender : slice_get (sender_numbers setup) place ≡ Some p.sender = ap (λ (s : Setup). slice_get (sender_numbers s) place) (sym at.setup_is) ∙ from in
     record {
       more = offered p outcome ∷ [];
-      theirs = ap₂ (λ (o : Option ℕ) (n : ℕ). option_map (λ s. Send s n) o ∷ []) sender (sym long);
-      rows = ap (λ r. r ∷ []) is;
+      theirs = ap (λ (c : Command). c ∷ []) asks;
+      rows = ((place, is), tt);
       given = λ several. ap (λ ps. ps.items) given ∙ sym (append-nil old.given.items);
       keeps = keeps;
       leads = leads setup events at;
     }
 
-pub AnswersRows-pulled : (old new : Recorder) (device moment : ℕ) (done : Row) (got : Option Packet) → done ≡ row_pulled device moment got → new.given.items ≡ given_kept old got → new.router.keeps ≡ old.router.keeps
-    → ((setup : Setup) (events : List Event) → IsAt setup events old → LeadsOnByPull setup new device moment got events) → AnswersRows old new (row.Pull device moment ∷ []) (done ∷ [])
-AnswersRows-pulled old new device moment done got is given keeps leads =
+pub AnswersRows-pulled : (old new : Recorder) (asked done : Row) (device moment : ℕ) (got : Option Packet) → command_asked asked ≡ Pull device moment → done ≡ row.Pull device (is_some got) moment → new.given.items ≡ given_kept old got
+    → new.router.keeps ≡ old.router.keeps → ((setup : Setup) (events : List Event) → IsAt setup events old → LeadsOnByPull setup new device moment got events) → AnswersRows old new (asked ∷ []) (done ∷ [])
+AnswersRows-pulled old new asked done device moment got asks is given keeps leads =
     λ setup events at.
     let led = leads setup events at in
     record {
       more = pulled device moment led.visits ∷ [];
-      theirs = refl;
-      rows = ap (λ r. r ∷ []) (is ∙ ap (row_pulled device moment) (sym led.result));
+      theirs = ap (λ (c : Command). c ∷ []) asks;
+      rows = ((0, is ∙ ap (λ o. row.Pull device (is_some o) moment) (sym led.result)), tt);
       given =
           λ several.
           let many : nat_lt 1 (length old.router.setup.trees) ≡ true = ap (λ (s : Setup). nat_lt 1 (length s.trees)) at.setup_is ∙ several in
@@ -106,8 +95,8 @@ AnswersRows-then a b c asked done later rows first next =
     let two = next setup (events ++ one.more) one.leads in
     record {
       more = one.more ++ two.more;
-      theirs = map-append (command_asked (names_of setup)) asked later ∙ ap₂ (λ x y. x ++ y) one.theirs two.theirs ∙ sym (map-append (λ e. Some (command_of e)) one.more two.more);
-      rows = ap₂ (λ x y. x ++ y) one.rows two.rows ∙ sym (map-append row_of one.more two.more);
+      theirs = map-append command_asked asked later ∙ ap₂ (λ x y. x ++ y) one.theirs two.theirs ∙ sym (map-append command_of one.more two.more);
+      rows = rows-appended one.more two.more done rows one.rows two.rows;
       given =
           λ several.
           two.given several ∙ ap (λ l. l ++ filter_map emitted_in two.more) (one.given several) ∙ append_assoc a.given.items (filter_map emitted_in one.more) (filter_map emitted_in two.more)
@@ -126,11 +115,8 @@ pub IsReady-answered : (setup : Setup) (old new : Recorder) (asked done : List R
 IsReady-answered setup old new asked done starts to_do few answers =
     let carried = answers setup [] starts.leads in
     let at = carried.leads in
-    let named : AllByRecursion (IsToDo (names_of setup)) asked = subst (λ names. AllByRecursion (IsToDo names) asked) (names-its setup [] old starts.leads) to_do in
-    let count : length asked ≡ length carried.more =
-    sym (length-map asked (command_asked (names_of setup))) ∙ ap length carried.theirs ∙ length-map carried.more (λ e. Some (command_of e))
-    in
-    let readable = each-readable (names_of setup) asked (map command_of carried.more) named (carried.theirs ∙ asked-commands carried.more) in
+    let count : length asked ≡ length carried.more = sym (length-map asked command_asked) ∙ ap length carried.theirs ∙ length-map carried.more command_of in
+    let readable = subst (AllByRecursion IsReadable) carried.theirs (each-readable (names_in old) asked to_do) in
     let alike : numbers_in new.tallies.items ≡ sender_numbers new.router.setup = numbers-its setup carried.more new at ∙ ap sender_numbers (sym at.setup_is) in (
       record {
         few = subst (λ l. length l ≤ most_lines) (sym at.events_are) (omega (arith, count, few));
@@ -205,14 +191,9 @@ flat-mapped f g [] = refl
 flat-mapped f g (x ∷ xs) = ap (λ l. f (g x) ++ l) (flat-mapped f g xs)
 
 -- A router over which all commands of a script were carried out, from what was kept of it, and what was kept when it ended.
-module _ (setup : Setup) (old mid : Recorder) (commands : List Command) (asked done : List Row) (starts : Starts setup old) (are : asked_by (names_in old) asked ≡ map Some commands) (answers : AnswersRows old mid asked done) where
+module _ (setup : Setup) (old mid : Recorder) (asked done : List Row) (starts : Starts setup old) (answers : AnswersRows old mid asked done) where
   carried : CarriesOut setup old mid asked done []
   carried = answers setup [] starts.leads
-
-  theirs : map command_of carried.more ≡ commands
-  theirs =
-      asked-one (map command_of carried.more) commands
-      (sym (asked-commands carried.more) ∙ sym carried.theirs ∙ subst (λ names. asked_by names asked ≡ map Some commands) (names-its setup [] old starts.leads) are)
 
   -- the pulls' packets that were kept, where there are several devices
   kept : has_several setup ≡ true → mid.given.items ≡ filter_map emitted_in carried.more
@@ -237,8 +218,7 @@ module _ (setup : Setup) (old mid : Recorder) (commands : List Command) (asked d
     lines =
         ap (λ b. rows_text b done (given_of past) past.put_out.items) several
         ∙ ap (λ lists. rows_text (has_several setup) done (given_first lists past.given.items) past.put_out.items) came
-        ∙ ap (λ rows. rows_text (has_several setup) rows (given_first (map emitted (logs_of setup (carried.more ++ later))) past.given.items) past.put_out.items) carried.rows
-        ∙ rows-written setup carried.more later past.given.items past.put_out.items starts.some at.can_happen (is.put_out ∙ at.evicted) (λ many. is.given ∙ ap (λ ps. ps.items) given ∙ kept many)
+        ∙ rows-written setup carried.more later done past.given.items past.put_out.items carried.rows starts.some at.can_happen (is.put_out ∙ at.evicted) (λ many. is.given ∙ ap (λ ps. ps.items) given ∙ kept many)
 
     logs : AreLogs new.router.keeps.visits past (logs_of setup (carried.more ++ later))
     logs are_kept = is.logs are_kept ∙ its_logs
@@ -252,7 +232,7 @@ module _ (setup : Setup) (old mid : Recorder) (commands : List Command) (asked d
 
   -- What it comes to, without a closing and with one.
   pub Writes-answered : (new : Recorder) (past : Past) (drain : Option ℕ) (closings : Option (List (List Departure))) → IsClosedFrom mid new drain closings → IsPastOf new past
-      → (logs : List (List Visit)) × AreLogs old.router.keeps.visits past logs × Writes setup commands drain (rows_text (are_several past) done (given_of past) past.put_out.items ++ ending_of past closings) logs
+      → (logs : List (List Visit)) × AreLogs old.router.keeps.visits past logs × Writes setup (asked_by asked) drain (rows_text (are_several past) done (given_of past) past.put_out.items ++ ending_of past closings) logs
   Writes-answered new past None None closed is =
       let at : IsAt setup (carried.more ++ []) new = subst (λ l. IsAt setup l new) (sym (append-nil carried.more)) (subst (λ (r : Recorder). IsAt setup carried.more r) (sym closed) carried.leads) in
       let keeps = ap (λ (r : Recorder). r.router.keeps) closed ∙ carried.keeps in (
@@ -260,7 +240,7 @@ module _ (setup : Setup) (old mid : Recorder) (commands : List Command) (asked d
         (λ kept. logs new past [] at (ap (λ (r : Recorder). r.given) closed) is (ap (λ k. k.visits) keeps ∙ kept)),
         record {
           events = carried.more;
-          theirs = theirs;
+          theirs = sym carried.theirs;
           closed = [];
           closes = refl;
           can_happen = at.can_happen;
@@ -278,7 +258,7 @@ module _ (setup : Setup) (old mid : Recorder) (commands : List Command) (asked d
         (λ kept. logs new past closes.closing.closed at closed.given is (ap (λ k. k.visits) keeps ∙ kept)),
         record {
           events = carried.more;
-          theirs = theirs;
+          theirs = sym carried.theirs;
           closed = closes.closing.closed;
           closes = subst (λ n. CloseFirst setup moment n carried.more closes.closing.closed) (ap (λ (s : Setup). length s.trees) carried.leads.setup_is) closes.closing.closes;
           can_happen = at.can_happen;

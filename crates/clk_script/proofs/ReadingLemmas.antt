@@ -1,23 +1,18 @@
 -- How the reading of a script goes on by one line.
-use Rattle.std.proofs.Common.{◌≡◌, ℕ, ◌+◌, ◌≤◌, ◌==◌, ◌||◌, zero, suc, List, [], ◌∷◌, ◌++◌, length, map, slice_get, Option, Some, None, ◌⊎◌, inl, inr, nat_lt, Bool, true, false, refl, sym, ap, subst, ◌∙◌, append_assoc, append-nil, length-append, arith}
-use Rattle.std.specs.Option.{option_map}
+use Rattle.std.proofs.Common.{◌≡◌, ℕ, ◌+◌, ◌≤◌, ◌==◌, ◌||◌, zero, suc, List, [], ◌∷◌, ◌++◌, length, slice_get, Option, Some, None, ◌⊎◌, inl, inr, nat_lt, Bool, true, false, refl, sym, ap, subst, ◌∙◌, append_assoc, append-nil, length-append, arith}
 use Rattle.std.specs.List.{filter_map, cons_option, list_any, AllByRecursion}
 use Rattle.std.proofs.lemmas.Bool.Decides.{nat_tests}
 use Rattle.std.proofs.lemmas.List.{map-append, length-map}
-use Rattle.std.proofs.lemmas.Option.{slice_get_within}
 use Rattle.clk_packet.specs.declared.fault.Fault.{Fault}
 use Rattle.clk_packet.specs.declared.fault.Fault.TheVariants.{Memory}
 use Rattle.clk_script.specs.declared.script.Command.{Command}
-use Rattle.clk_script.specs.declared.script.Command.TheVariants.{Send, Pull}
 use Rattle.clk_script.specs.declared.script.Line.{Line}
 use Rattle.clk_script.specs.declared.script.Line.TheVariants as line
 use Rattle.clk_script.specs.declared.rows.Row.{Row}
-use Rattle.clk_script.specs.declared.rows.Row.TheVariants as row
 use Rattle.clk_script.specs.declared.reading.Script.{Script}
 use Rattle.clk_script.specs.Script.{Names, lines_of, command_in, commands_of, drain_in, is_drain, closing_moment, line_fault, fault_at, first_fault, script_fault, most_script_bytes, most_lines}
-use Rattle.clk_script.specs.inside.Recorder.{IsReadable, IsSound}
 use Rattle.clk_script.specs.inside.Rows.{command_asked, asked_by, asked_in, IsToDo, IsReadFrom, CanBeRun}
-use Rattle.clk_script.proofs.ScriptLemmas.{readable-first, readable-drain, readable-commands, each-command-sound}
+use Rattle.clk_script.proofs.ScriptLemmas.{readable-first, readable-drain}
 
 -- the commands of what is left, by its first line
 commands_on : (rest after : List ℕ) (l : Line) → lines_of rest ≡ l ∷ lines_of after → commands_of rest ≡ cons_option (command_in l) [] ++ commands_of after
@@ -72,50 +67,52 @@ is-no_drain (line.Drain m) e = absurd (cc)
 abbrev pub fault_from : Names → Bool → ℕ → List ℕ → Option Fault
 fault_from names drained n text = first_fault names drained n (lines_of text)
 
--- The lines of a text that were read have rows, no fault and no drain, and what is left follows them.
+-- The lines of a text that were read have rows, which are to be carried out, no fault and no drain, and what is left follows them.
 pub record HasRead (names : Names) (text rest : List ℕ) (number : ℕ) (rows : List Row) : Type 0 where
   pub fault : fault_from names false (number + 1) rest ≡ fault_from names false 1 text
-  pub theirs : asked_by names rows ++ map Some (commands_of rest) ≡ map Some (commands_of text)
+  pub theirs : asked_by rows ++ commands_of rest ≡ commands_of text
+  pub to_do : AllByRecursion (IsToDo names) rows
   pub closing : closing_moment rest ≡ closing_moment text
   pub few : length rows ≤ number
 
 pub HasRead-none : (names : Names) (text : List ℕ) (rows : List Row) → rows ≡ [] → HasRead names text text 0 rows
-HasRead-none names text rows none = record { fault = refl; theirs = ap (λ l. asked_by names l ++ map Some (commands_of text)) none; closing = refl; few = omega (arith, ap length none) }
+HasRead-none names text rows none =
+    record {
+      fault = refl;
+      theirs = ap (λ l. asked_by l ++ commands_of text) none;
+      to_do = subst (AllByRecursion (IsToDo names)) (sym none) tt;
+      closing = refl;
+      few = omega (arith, ap length none);
+    }
 
 -- a line without a fault
 fault-later : (names : Names) (rest after : List ℕ) (l : Line) (n : ℕ) (drained : Bool) → lines_of rest ≡ l ∷ lines_of after → fault_at names false n l ≡ None → is_drain l ≡ drained
     → fault_from names false n rest ≡ fault_from names drained (n + 1) after
 fault-later names rest after l n drained e f is = rw (e, f) (ap (λ b. fault_from names b (n + 1) after) is)
 
--- what rows ask for, with that of one more
-pub asked-pushed : (names : Names) (before rows : List Row) (r : Row) (command : Command) → rows ≡ before ++ r ∷ [] → command_asked names r ≡ Some command
-    → asked_by names rows ≡ asked_by names before ++ asked_in (line.Command command)
-asked-pushed names before rows r command more asks =
-    ap (asked_by names) more ∙ map-append (command_asked names) before (r ∷ []) ∙ ap (λ (o : Option Command). asked_by names before ++ o ∷ []) asks
-
--- and with that of one line more
-asked-more : (text rest after : List ℕ) (l : Line) (before asked : List (Option Command)) → before ++ map Some (commands_of rest) ≡ map Some (commands_of text) → lines_of rest ≡ l ∷ lines_of after
-    → asked ≡ before ++ asked_in l → asked ++ map Some (commands_of after) ≡ map Some (commands_of text)
+-- what rows ask for, with what is asked in one line more
+asked-more : (text rest after : List ℕ) (l : Line) (before asked : List Command) → before ++ commands_of rest ≡ commands_of text → lines_of rest ≡ l ∷ lines_of after → asked ≡ before ++ asked_in l
+    → asked ++ commands_of after ≡ commands_of text
 asked-more text rest after l before asked theirs e more =
-    ap (λ l. l ++ map Some (commands_of after)) more ∙ append_assoc before (asked_in l) (map Some (commands_of after))
-    ∙ ap (λ l. before ++ l) (sym (ap (map Some) (commands_on rest after l e) ∙ map-append Some (cons_option (command_in l) []) (commands_of after))) ∙ theirs
+    ap (λ l. l ++ commands_of after) more ∙ append_assoc before (asked_in l) (commands_of after) ∙ ap (λ l. before ++ l) (sym (commands_on rest after l e)) ∙ theirs
 
 pub HasRead-line : (names : Names) (text rest after : List ℕ) (l : Line) (number : ℕ) (before rows : List Row) → HasRead names text rest number before → lines_of rest ≡ l ∷ lines_of after
-    → fault_at names false (number + 1) l ≡ None → drain_in l ≡ None → asked_by names rows ≡ asked_by names before ++ asked_in l → HasRead names text after (number + 1) rows
-HasRead-line names text rest after l number before rows h e sound undrained more =
+    → fault_at names false (number + 1) l ≡ None → drain_in l ≡ None → asked_by rows ≡ asked_by before ++ asked_in l → AllByRecursion (IsToDo names) rows → HasRead names text after (number + 1) rows
+HasRead-line names text rest after l number before rows h e sound undrained more to_do =
     record {
       fault = sym (fault-later names rest after l (number + 1) false e sound (is-no_drain l undrained)) ∙ h.fault;
-      theirs = asked-more text rest after l (asked_by names before) (asked_by names rows) h.theirs e more;
+      theirs = asked-more text rest after l (asked_by before) (asked_by rows) h.theirs e more;
+      to_do = to_do;
       closing = sym (closing_on rest after l e undrained) ∙ h.closing;
       few =
           let few = h.few in
-          let longer = sym (length-map rows (command_asked names)) ∙ ap length more ∙ length-append (asked_by names before) (asked_in l) in
-          let as_many = length-map before (command_asked names) in
+          let longer = sym (length-map rows command_asked) ∙ ap length more ∙ length-append (asked_by before) (asked_in l) in
+          let as_many = length-map before command_asked in
           let one = at_most (command_in l) in
           omega (arith, few, longer, as_many, one);
     }
   where
-    at_most : (o : Option Command) → length (map Some (cons_option o [])) ≤ 1
+    at_most : (o : Option Command) → length (cons_option o []) ≤ 1
     at_most None = omega arith
     at_most (Some command) = omega arith
 
@@ -137,60 +134,31 @@ pub later-refused : (names : Names) (text rest after : List ℕ) (l : Line) (num
 later-refused names text rest after l number moment rows o small h e sound drains is =
     fault-whole names text rest false (number + 1) o small h.fault (fault-later names rest after l (number + 1) true e sound (is-drain l moment drains) ∙ is)
 
--- a row that asks for a command that is sound and readable is to be carried out
-row-to_do : (names : Names) (r : Row) (command : Command) → command_asked names r ≡ Some command → IsSound names command → IsReadable command → IsToDo names r
-row-to_do names (row.Send place size) command asks sound readable = by_sender (slice_get names.senders place) refl asks
-  where
-    by_sender : (o : Option ℕ) → slice_get names.senders place ≡ o → option_map (λ sender. Send sender size) o ≡ Some command → IsToDo names (row.Send place size)
-    by_sender None e is = absurd (cc)
-    by_sender (Some sender) e is =
-        let same : Send sender size ≡ command = cc in
-        (slice_get_within names.senders place sender e, subst IsReadable (sym same) readable)
-row-to_do names (row.Pull device moment) command asks sound readable =
-    let same : Pull device moment ≡ command = cc in
-    (subst (IsSound names) (sym same) sound, subst IsReadable (sym same) readable)
-row-to_do names r command asks sound readable = absurd (cc)
-
--- the rows of a script that has no fault are to be carried out
-each-to_do : (names : Names) (rows : List Row) (commands : List Command) → asked_by names rows ≡ map Some commands → AllByRecursion (IsSound names) commands → AllByRecursion IsReadable commands
-    → AllByRecursion (IsToDo names) rows
-each-to_do names [] commands e sound readable = tt
-each-to_do names (r ∷ rows) [] e sound readable = absurd (omega (arith, ap length e))
-each-to_do names (r ∷ rows) (command ∷ commands) e sound readable =
-    let first : command_asked names r ≡ Some command = cc e in
-    let rest : asked_by names rows ≡ map Some commands = cc e in
-    (row-to_do names r command first sound.0 readable.0, each-to_do names rows commands rest sound.1 readable.1)
-
-pub rows-to_do : (names : Names) (text : List ℕ) (rows : List Row) → script_fault names text ≡ None → asked_by names rows ≡ map Some (commands_of text) → AllByRecursion (IsToDo names) rows
-rows-to_do names text rows sound are = each-to_do names rows (commands_of text) are (each-command-sound names text sound) (readable-commands text)
-
 -- A script that ended, without a drain and with one.
 pub record IsRead (names : Names) (text : List ℕ) (script : Script) : Type 0 where
   pub sound : script_fault names text ≡ None
-  pub holds : IsReadFrom names text script
+  pub holds : IsReadFrom text script
   pub can_be_run : CanBeRun names script
 
 pub IsRead-ended : (names : Names) (text rest : List ℕ) (number : ℕ) (script : Script) → length text ≤ most_script_bytes → HasRead names text rest number script.rows.items → number ≤ most_lines → length rest ≡ 0
     → script.closing ≡ None → IsRead names text script
 IsRead-ended names text (byte ∷ rest) number script small h bound none closing = absurd (omega arith)
 IsRead-ended names text [] number script small h bound none closing =
-    let sound = fault-whole names text [] false (number + 1) None small h.fault refl in
-    let are = sym (append-nil (asked_by names script.rows.items)) ∙ h.theirs in
     record {
-      sound = sound;
-      holds = record { rows = are; closing = closing ∙ h.closing };
-      can_be_run = record { to_do = rows-to_do names text script.rows.items sound are; few = let few = h.few in omega (arith, few, bound); closing = rw closing tt };
+      sound = fault-whole names text [] false (number + 1) None small h.fault refl;
+      holds = record { rows = sym (append-nil (asked_by script.rows.items)) ∙ h.theirs; closing = closing ∙ h.closing };
+      can_be_run = record { to_do = h.to_do; few = let few = h.few in omega (arith, few, bound); closing = rw closing tt };
     }
 
 pub IsRead-drained : (names : Names) (text rest after : List ℕ) (l : Line) (number moment : ℕ) (before : List Row) (script : Script) → length text ≤ most_script_bytes → HasRead names text rest number before → number + 1 ≤ most_lines
-    → lines_of rest ≡ l ∷ lines_of after → fault_at names false (number + 1) l ≡ None → drain_in l ≡ Some moment → asked_by names script.rows.items ≡ asked_by names before ++ asked_in l
-    → fault_from names true (number + 1 + 1) after ≡ None → script.closing ≡ Some moment → IsRead names text script
-IsRead-drained names text rest after l number moment before script small h bound e sound drains more blank closing =
+    → lines_of rest ≡ l ∷ lines_of after → fault_at names false (number + 1) l ≡ None → drain_in l ≡ Some moment → asked_by script.rows.items ≡ asked_by before ++ asked_in l
+    → AllByRecursion (IsToDo names) script.rows.items → fault_from names true (number + 1 + 1) after ≡ None → script.closing ≡ Some moment → IsRead names text script
+IsRead-drained names text rest after l number moment before script small h bound e sound drains more to_do blank closing =
     record {
-      sound = whole;
+      sound = later-refused names text rest after l number moment before None small h e sound drains blank;
       holds = record { rows = are; closing = closing ∙ sym (rw (e, drains) refl) ∙ h.closing };
       can_be_run = record {
-        to_do = rows-to_do names text script.rows.items whole are;
+        to_do = to_do;
         few = let few = h.few in omega (arith, few, as_many, bound);
         closing = rw closing (readable-drain l moment (readable-first rest l (lines_of after) e) drains);
       };
@@ -198,20 +166,17 @@ IsRead-drained names text rest after l number moment before script small h bound
   where
     as_many : length script.rows.items ≡ length before
     as_many =
-        sym (length-map script.rows.items (command_asked names))
-        ∙ ap length (more ∙ ap (λ (o : Option Command). asked_by names before ++ map Some (cons_option o [])) (no-command l moment drains) ∙ append-nil (asked_by names before))
-        ∙ length-map before (command_asked names)
-
-    whole : script_fault names text ≡ None
-    whole = later-refused names text rest after l number moment before None small h e sound drains blank
+        sym (length-map script.rows.items command_asked)
+        ∙ ap length (more ∙ ap (λ (o : Option Command). asked_by before ++ cons_option o []) (no-command l moment drains) ∙ append-nil (asked_by before))
+        ∙ length-map before command_asked
 
     none : commands_of after ≡ []
     none = blank-commands names (number + 1 + 1) (lines_of after) blank
 
-    are : asked_by names script.rows.items ≡ map Some (commands_of text)
+    are : asked_by script.rows.items ≡ commands_of text
     are =
-        sym (append-nil (asked_by names script.rows.items)) ∙ ap (λ cs. asked_by names script.rows.items ++ map Some cs) (sym none)
-        ∙ asked-more text rest after l (asked_by names before) (asked_by names script.rows.items) h.theirs e more
+        sym (append-nil (asked_by script.rows.items)) ∙ ap (λ cs. asked_by script.rows.items ++ cs) (sym none)
+        ∙ asked-more text rest after l (asked_by before) (asked_by script.rows.items) h.theirs e more
 
 -- a number that stands at a place is one of them
 pub known-at : (numbers : List ℕ) (n place : ℕ) → slice_get numbers place ≡ Some n → list_any (λ s. s == n) numbers ≡ true

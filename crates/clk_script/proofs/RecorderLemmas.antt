@@ -1,7 +1,8 @@
 -- How a recorder goes on, and what it can do next.
-use Rattle.std.proofs.Common.{◌≡◌, ℕ, ◌+◌, ◌<◌, ◌≤◌, ◌==◌, Bool, true, false, List, [], ◌∷◌, ◌++◌, length, map, filter, max, fold, append-nil, Option, Some, None, refl, sym, ap, ap₂, ◌∙◌, subst, arith}
+use Rattle.std.proofs.Common.{◌≡◌, ℕ, ◌+◌, ◌<◌, ◌≤◌, ◌==◌, Bool, true, false, List, [], ◌∷◌, ◌++◌, length, map, filter, max, fold, append-nil, Option, Some, None, slice_get, refl, sym, ap, ap₂, ◌∙◌, subst, arith}
 use Rattle.std.specs.List.{flat_map, filter_map, range_with_len, AllByRecursion}
 use Rattle.std.proofs.lemmas.List.{length-map}
+use Rattle.std.proofs.lemmas.Option.{slice_get_within}
 use Rattle.std.proofs.lemmas.List.Concat.{flat_map-append}
 use Rattle.std.proofs.lemmas.List.Elements.{filter-append, filter_map-append}
 use Rattle.clk_packet.specs.declared.packet.Packet.{Packet}
@@ -18,7 +19,7 @@ use Rattle.clk_router.proofs.Callers.Events.{pulls-elsewhere, pulls-add_none}
 use Rattle.clk_script.specs.declared.recorder.Recorder.{Recorder}
 use Rattle.clk_script.specs.Script.{most_lines, most_moment}
 use Rattle.clk_script.specs.Meaning.{has_several, command_of, given_text, closing_text}
-use Rattle.clk_script.specs.inside.Recorder.{noted, numbers_in, tally_sender, evicted_kept, IsAt, IsReadable, IsReady, LeadsOnByPull, departure_text, LeadsOnByDrain, StaysElsewhere}
+use Rattle.clk_script.specs.inside.Recorder.{noted, names_in, numbers_in, tally_sender, evicted_kept, IsAt, IsReadable, IsReady, LeadsOnByPull, departure_text, LeadsOnByDrain, StaysElsewhere}
 use Rattle.clk_script.proofs.TallyLemmas.{tallies-offered, tallies-pulled, tallies-closed, map-tallies}
 
 -- the senders of the tallies
@@ -176,6 +177,13 @@ module _ (r : Recorder) (ready : IsReady r) where
 
   few-pulls : (d : ℕ) → length (filter_map pull_in (events_of r.router d)) ≤ most_lines
   few-pulls d = let fewer = length-filter_map-le pull_in (events_of r.router d) in let few = few-at d in omega (arith, fewer, few)
+
+  -- the tally of a sender stands at its place among those that may be named
+  pub place-there : (place sender : ℕ) → slice_get (names_in r).senders place ≡ Some sender → place < length r.tallies.items
+  place-there place sender here =
+      let within = slice_get_within (sender_numbers r.router.setup) place sender here in
+      let count = sym (length-map r.tallies.items tally_sender) ∙ ap length ready.alike in
+      omega (arith, within, count)
 
   pub can-offer : (place : ℕ) → place < length r.tallies.items → CanOffer r.router place
   can-offer place within =

@@ -1,7 +1,7 @@
 -- What the rows of some events write.
 use Rattle.std.proofs.Common.{◌≡◌, ℕ, ◌+◌, ◌<◌, ◌≤◌, ◌==◌, Bool, true, false, List, [], ◌∷◌, ◌++◌, map, drop, get_or, if◌then◌else◌, Option, Some, None, MatchOption, slice_get, length, Vec, append-nil, refl, arith, sym, ap, ap₂, subst, ◌∙◌}
 use Rattle.std.specs.Bool.{⊤}
-use Rattle.std.specs.List.{flat_map, filter_map, cons_option, range_with_len, AllByRecursion}
+use Rattle.std.specs.List.{flat_map, filter_map, cons_option, range_with_len, AllByRecursion, AllZip}
 use Rattle.std.specs.declared.alloc.Global.{Global}
 use Rattle.std.proofs.lemmas.List.{drop_more, length-map}
 use Rattle.std.proofs.lemmas.List.FromFn.{length-map-range_with_len}
@@ -21,23 +21,29 @@ use Rattle.clk_router.specs.Events.{Setup, Event, offered, pulled, happens_at, e
 use Rattle.clk_script.specs.Meaning.{has_several, offer_text, event_text, pull_text}
 use Rattle.clk_script.specs.inside.Recorder.{departure_text}
 use Rattle.clk_report.specs.Devices.{lists_of}
-use Rattle.clk_script.specs.inside.Rows.{closings_text, row_of, row_text, rows_text, given_first, given_after, fronts_after}
+use Rattle.clk_script.specs.inside.Rows.{closings_text, row_at, IsRowOf, row_text, rows_text, given_first, given_after, fronts_after}
 
--- the lines of events are those of their rows, where what they gave and put out comes first
-rows-lines : (several : Bool) (events : List Event) (given fronts : List Packet)
-    → rows_text several (map row_of events) (filter_map emitted_in events ++ given) (filter_map evicted_in events ++ fronts) ≡ flat_map (event_text several) events
-rows-lines several [] given fronts = refl
-rows-lines several (offered p Accepted ∷ events) given fronts = ap (λ l. offer_text p Accepted ++ l) (rows-lines several events given fronts)
-rows-lines several (offered p (Refused q) ∷ events) given fronts = ap (λ l. offer_text p (Refused q) ++ l) (rows-lines several events given fronts)
-rows-lines several (offered p (Evicted front) ∷ events) given fronts = ap (λ l. offer_text p (Evicted front) ++ l) (rows-lines several events given fronts)
-rows-lines several (pulled device moment visits ∷ events) given fronts = by_result (result_of (visits_of 0 visits)) refl (rows-lines several events given fronts)
-  where
-    by_result : (o : Option Packet) → result_of (visits_of 0 visits) ≡ o
-        → rows_text several (map row_of events) (filter_map emitted_in events ++ given) (filter_map evicted_in events ++ fronts) ≡ flat_map (event_text several) events
-        → rows_text several (map row_of (pulled device moment visits ∷ events)) (filter_map emitted_in (pulled device moment visits ∷ events) ++ given) (filter_map evicted_in events ++ fronts)
-        ≡ flat_map (event_text several) (pulled device moment visits ∷ events)
-    by_result None e rest = rw e (ap (λ l. pull_text several device moment None ++ l) rest)
-    by_result (Some p) e rest = rw e (ap (λ l. pull_text several device moment (Some p) ++ l) rest)
+-- rows write the lines of their events, where what these gave and put out comes first
+module _ (several : Bool) (given fronts : List Packet) where
+  abbrev WriteTheirs : List Event → List Row → Type 0
+  WriteTheirs events rows = rows_text several rows (filter_map emitted_in events ++ given) (filter_map evicted_in events ++ fronts) ≡ flat_map (event_text several) events
+
+  first-line : (place : ℕ) (e : Event) (events : List Event) (rows : List Row) → WriteTheirs events rows → WriteTheirs (e ∷ events) (row_at place e ∷ rows)
+  first-line place (offered p Accepted) events rows rest = ap (λ l. offer_text p Accepted ++ l) rest
+  first-line place (offered p (Refused q)) events rows rest = ap (λ l. offer_text p (Refused q) ++ l) rest
+  first-line place (offered p (Evicted front)) events rows rest = ap (λ l. offer_text p (Evicted front) ++ l) rest
+  first-line place (pulled device moment visits) events rows rest = by_result (result_of (visits_of 0 visits)) refl
+    where
+      by_result : (o : Option Packet) → result_of (visits_of 0 visits) ≡ o → WriteTheirs (pulled device moment visits ∷ events) (row_at place (pulled device moment visits) ∷ rows)
+      by_result None e = rw e (ap (λ l. pull_text several device moment None ++ l) rest)
+      by_result (Some p) e = rw e (ap (λ l. pull_text several device moment (Some p) ++ l) rest)
+
+  rows-lines : (events : List Event) (rows : List Row) → AllZip IsRowOf events rows → WriteTheirs events rows
+  rows-lines [] [] are = refl
+  rows-lines [] (r ∷ rows) are = absurd are
+  rows-lines (e ∷ events) [] are = absurd are
+  rows-lines (e ∷ events) (r ∷ rows) are =
+      subst (λ (q : Row). WriteTheirs (e ∷ events) (q ∷ rows)) (sym are.0.1) (first-line are.0.0 e events rows (rows-lines events rows are.1))
 
 -- the device has one visit in a pull
 pub alone : (v : Visit) (visits : List Visit) → UpToFirst (0 ∷ []) (v ∷ visits) → visits ≡ []
@@ -97,10 +103,10 @@ first-several (only ∷ []) kept many = absurd (omega (arith, many))
 first-several (first ∷ other ∷ lists) kept many = refl
 
 -- What the rows of events write, where a router has gone on since, and what the pulls gave was kept where there are several devices.
-pub rows-written : (setup : Setup) (events later : List Event) (kept fronts : List Packet) → 1 ≤ length setup.trees → CanHappen setup (events ++ later) → fronts ≡ filter_map evicted_in (events ++ later)
-    → (has_several setup ≡ true → kept ≡ filter_map emitted_in events)
-    → rows_text (has_several setup) (map row_of events) (given_first (map emitted (logs_of setup (events ++ later))) kept) fronts ≡ flat_map (event_text (has_several setup)) events
-rows-written setup events later kept fronts some can out is = by_several (has_several setup) refl
+pub rows-written : (setup : Setup) (events later : List Event) (rows : List Row) (kept fronts : List Packet) → AllZip IsRowOf events rows → 1 ≤ length setup.trees → CanHappen setup (events ++ later)
+    → fronts ≡ filter_map evicted_in (events ++ later) → (has_several setup ≡ true → kept ≡ filter_map emitted_in events)
+    → rows_text (has_several setup) rows (given_first (map emitted (logs_of setup (events ++ later))) kept) fronts ≡ flat_map (event_text (has_several setup)) events
+rows-written setup events later rows kept fronts are some can out is = by_several (has_several setup) refl
   where
     all : List Event
     all = events ++ later
@@ -111,14 +117,14 @@ rows-written setup events later kept fronts some can out is = by_several (has_se
     these : fronts ≡ filter_map evicted_in events ++ filter_map evicted_in later
     these = out ∙ filter_map-append evicted_in events later
 
-    by_several : (b : Bool) → has_several setup ≡ b → rows_text (has_several setup) (map row_of events) (given_first (map emitted (logs_of setup all)) kept) fronts ≡ flat_map (event_text (has_several setup)) events
+    by_several : (b : Bool) → has_several setup ≡ b → rows_text (has_several setup) rows (given_first (map emitted (logs_of setup all)) kept) fronts ≡ flat_map (event_text (has_several setup)) events
     by_several true e =
         let many : 1 < length setup.trees = grind (arith, nat_tests) in
         let count = length-map (logs_of setup all) emitted ∙ length-map-range_with_len its_log 0 (length setup.trees) in
         let given : given_first (map emitted (logs_of setup all)) kept ≡ filter_map emitted_in events ++ [] =
         first-several (map emitted (logs_of setup all)) kept (omega (arith, count, many)) ∙ is e ∙ sym (append-nil (filter_map emitted_in events))
         in
-        ap₂ (rows_text (has_several setup) (map row_of events)) given these ∙ rows-lines (has_several setup) events [] (filter_map evicted_in later)
+        ap₂ (rows_text (has_several setup) rows) given these ∙ rows-lines (has_several setup) [] (filter_map evicted_in later) events rows are
     by_several false e =
         let one : length setup.trees ≡ 1 = grind (arith, nat_tests) in
         let theirs : filter_map emitted_in (events_at setup 0 all) ≡ filter_map emitted_in events ++ filter_map emitted_in later =
@@ -127,7 +133,7 @@ rows-written setup events later kept fronts some can out is = by_several (has_se
         let given : given_first (map emitted (logs_of setup all)) kept ≡ filter_map emitted_in events ++ filter_map emitted_in later =
         ap (λ n. given_first (map emitted (map its_log (range_with_len 0 n))) kept) one ∙ first-emitted setup.trees (events_at setup 0 all) some (can.runs 0) ∙ theirs
         in
-        ap₂ (rows_text (has_several setup) (map row_of events)) given these ∙ rows-lines (has_several setup) events (filter_map emitted_in later) (filter_map evicted_in later)
+        ap₂ (rows_text (has_several setup) rows) given these ∙ rows-lines (has_several setup) (filter_map emitted_in later) (filter_map evicted_in later) events rows are
 
 -- the line of the row at a place, and those after it
 pub rows-left : (several : Bool) (rows : List Row) (i : ℕ) (r : Row) (given fronts : List Packet) → i < length rows → r ≡ get_or rows i r

@@ -13,7 +13,7 @@ use Rattle.clk_script.specs.declared.script.Line.{Line}
 use Rattle.clk_script.specs.declared.script.Line.TheVariants as line
 use Rattle.clk_packet.specs.Numbers.{has_bytes, number_in}
 use Rattle.clk_script.specs.Script.{Names, most_script_bytes, send_of, pull_of, drain_of, sender_and_length, moment_and_device, only_moment, line_of_fields, line_of, fields, line_fault, fault_at, is_drain, first_fault, lines_of, script_fault, command_in, commands_of, drain_in, most_lines, most_moment, most_device}
-use Rattle.clk_script.specs.inside.Recorder.{IsReadable, IsReadableLine, IsSound}
+use Rattle.clk_script.specs.inside.Recorder.{IsReadableLine, IsSound}
 
 -- a test that answers with its number
 tested : (v n : ℕ) (a b : Bool) → cond (a && nat_le 1 v && b) (Some v) None ≡ Some n → 1 ≤ n
@@ -95,25 +95,6 @@ readable-drain line.Blank moment h e = absurd (cc e)
 readable-drain line.Malformed moment h e = absurd (cc e)
 readable-drain (line.Command command) moment h e = absurd (cc e)
 readable-drain (line.Drain m) moment h e = let same : m ≡ moment = cc in subst (λ n. n ≤ most_moment) same h
-
-readable-in : (l : Line) → IsReadableLine l → IfSome (command_in l) IsReadable
-readable-in line.Blank h = tt
-readable-in line.Malformed h = tt
-readable-in (line.Command command) h = h
-readable-in (line.Drain moment) h = tt
-
-readable-texts : (texts : List (List ℕ)) → AllByRecursion IsReadable (filter_map command_in (map line_of texts))
-readable-texts [] = tt
-readable-texts (text ∷ texts) = by_command (command_in (line_of text)) refl (readable-in (line_of text) (reads_fields (fields text))) (readable-texts texts)
-  where
-    by_command : (o : Option Command) → command_in (line_of text) ≡ o → IfSome (command_in (line_of text)) IsReadable → AllByRecursion IsReadable (filter_map command_in (map line_of texts))
-        → AllByRecursion IsReadable (filter_map command_in (map line_of (text ∷ texts)))
-    by_command None e here rest = rw e rest
-    by_command (Some command) e here rest = rw e ((rw e at here), rest)
-
--- each command of a script can be read
-pub readable-commands : (script : List ℕ) → AllByRecursion IsReadable (commands_of script)
-readable-commands script = readable-texts (lines script)
 
 -- a line with no fault can be carried out
 line_sound : (names : Names) (drained : Bool) (number : ℕ) (l : Line) → IsReadableLine l → line_fault names drained number l ≡ None → IfSome (command_in l) (IsSound names)

@@ -1,6 +1,6 @@
 //! The answer to a script.
 
-ghost use Rattle.std.specs.Prelude.{◌≡◌, ◌≤◌, ◌∷◌, [], IfOk, IfSome, OnOk, IsOkUnless, Some, length, map};
+ghost use Rattle.std.specs.Prelude.{◌≡◌, ◌≤◌, ◌∷◌, [], IfOk, IfSome, OnOk, IsOkUnless, length};
 ghost use Rattle.std.specs.List.{AllByRecursion};
 ghost use Rattle.clk_packet.specs.declared.fault.Fault.TheVariants.{Memory};
 ghost use Rattle.clk_report.specs.Devices.{lists_of};
@@ -13,7 +13,7 @@ ghost use Rattle.clk_script.specs.inside.Rows.{asked_by, answer_text, IsToDo, Ca
 use crate::past::Past;
 use crate::reading::Script;
 use crate::recorder::Recorder;
-use crate::rows::Row;
+use crate::rows::{Outcome, Row};
 use clk_packet::Fault;
 use clk_sched::Departure;
 use std::alloc::Global;
@@ -21,7 +21,7 @@ use std::alloc::Global;
 /// What a script comes to.
 #[derive(Drop)]
 pub struct Answer {
-    /// What its commands came to, in order.
+    /// Its commands, in order, each with what it came to.
     pub rows: Vec<Row>,
     /// The packets that came out in the closing of each device, if it closes: then the report follows.
     pub closing: Option<Vec<Vec<Departure>>>,
@@ -37,8 +37,8 @@ pub struct Answer {
 pub fn answer_script(alloc: Global, recorder: Recorder, script: Script) -> Result<Answer, Fault>
     requires fresh { (setup : Setup) × Starts setup recorder }
     requires sound { CanBeRun (names_in recorder) script }
-    ensures means { IfOk result (λ answer. (setup : Setup) (commands : _) → Starts setup recorder → asked_by (names_in recorder) script.rows.items ≡ map Some commands
-        → (logs : _) × AreLogs recorder.router.keeps.visits answer.past logs × Writes setup commands script.closing (answer_text answer) logs) }
+    ensures means { IfOk result (λ answer. (setup : Setup) → Starts setup recorder
+        → (logs : _) × AreLogs recorder.router.keeps.visits answer.past logs × Writes setup (asked_by script.rows.items) script.closing (answer_text answer) logs) }
     ensures devices { IfOk result (λ answer. length answer.past.emitted.items ≡ length recorder.router.setup.trees) }
     ensures closings { IfOk result (λ answer. IfSome answer.closing (λ closings. length closings.items ≡ length recorder.router.setup.trees)) }
     ensures fault { IsOkUnless result Fault.Memory }
@@ -54,7 +54,7 @@ pub fn answer_script(alloc: Global, recorder: Recorder, script: Script) -> Resul
     })
 }
 
-/// Carries out the commands of some rows, and puts what each came to in its place. Fault 1 where memory is refused.
+/// Carries out the commands of some rows, and puts into each what its command came to. Fault 1 where memory is refused.
 fn carry_out(recorder: &mut Recorder, rows: &mut [Row]) -> Result<(), Fault>
     requires fresh { (setup : Setup) × Starts setup recorder.old }
     requires to_do { AllByRecursion (IsToDo (names_in recorder.old)) rows.old }
@@ -70,7 +70,7 @@ fn carry_out(recorder: &mut Recorder, rows: &mut [Row]) -> Result<(), Fault>
     Ok(())
 }
 
-/// Carries out the command of a row, and gives what it came to. Fault 1 where memory is refused.
+/// Carries out the command of a row, and gives the row with what that came to. Fault 1 where memory is refused.
 fn carry_out_one(recorder: &mut Recorder, row: Row) -> Result<Row, Fault>
     requires ready { IsReady recorder.old }
     requires to_do { IsToDo (names_in recorder.old) row }
@@ -78,15 +78,22 @@ fn carry_out_one(recorder: &mut Recorder, row: Row) -> Result<Row, Fault>
     ensures fault { IsOkUnless result Fault.Memory }
 {
     match row {
-        Row::Send { place, length } => {
-            let (packet, outcome) = recorder.send(usize::from(place), length)?;
-            Ok(Row::offered(packet, outcome))
+        Row::Send { place, packet, .. } => {
+            let (packet, offered) = recorder.send(usize::from(place), packet.length)?;
+            Ok(Row::Send {
+                place,
+                outcome: Outcome::of(offered),
+                packet,
+            })
         }
-        Row::Pull { device, moment } => {
+        Row::Pull { device, moment, .. } => {
             let got = recorder.pull(device, moment)?;
-            Ok(Row::pulled(device, moment, got))
+            Ok(Row::Pull {
+                device,
+                gave: got.is_some(),
+                moment,
+            })
         }
-        _ => unreachable!(),
     }
 }
 

@@ -1,16 +1,17 @@
 //! The reading of a script.
 
 ghost use Rattle.std.specs.Prelude.{◌≡◌, ◌≤◌, ◌+◌, ◌++◌, ◌⊎◌, true, false, None, Some, MatchResult, OnOk};
+ghost use Rattle.std.specs.List.{AllByRecursion};
 ghost use Rattle.clk_packet.specs.declared.fault.Fault.TheVariants.{Memory};
 ghost use Rattle.clk_packet.specs.Lists.{AreRising};
 ghost use Rattle.clk_script.specs.Script.{lines_of, drain_in, command_fault, fault_at, first_fault, script_fault, most_lines};
-ghost use Rattle.clk_script.specs.inside.Recorder.{named_by};
-ghost use Rattle.clk_script.specs.inside.Rows.{command_asked, asked_by, asked_in, IsReadFrom, CanBeRun};
+ghost use Rattle.clk_script.specs.inside.Recorder.{named_by, IsReadable, IsReadableLine};
+ghost use Rattle.clk_script.specs.inside.Rows.{command_asked, asked_by, asked_in, IsToDo, IsReadFrom, CanBeRun};
 
 use crate::limits::{MAX_LINES, MAX_SCRIPT_BYTES};
-use crate::rows::Row;
+use crate::rows::{Outcome, Row};
 use crate::script::{Command, Line};
-use clk_packet::Fault;
+use clk_packet::{Fault, Packet};
 use clk_router::place_of;
 use std::alloc::Global;
 
@@ -37,7 +38,7 @@ pub fn read_script(
     requires rising { AreRising numbers.now }
     ensures { MatchResult result
         (λ script. (script_fault (named_by numbers.now devices) text.now ≡ None)
-        × IsReadFrom (named_by numbers.now devices) text.now script × CanBeRun (named_by numbers.now devices) script)
+        × IsReadFrom text.now script × CanBeRun (named_by numbers.now devices) script)
         (λ fault. (fault ≡ Memory) ⊎ (script_fault (named_by numbers.now devices) text.now ≡ Some fault)) }
 {
     if text.len() > MAX_SCRIPT_BYTES {
@@ -75,11 +76,13 @@ fn read_line(
     rows: &mut Vec<Row>,
 ) -> Result<Option<u64>, Fault>
     requires rising { AreRising numbers.now }
+    requires readable { IsReadableLine line }
+    requires to_do { AllByRecursion (IsToDo (named_by numbers.now devices)) rows.old.items }
     ensures exact { MatchResult result
         (λ drain. (fault_at (named_by numbers.now devices) false number line ≡ None)
-        × (drain ≡ drain_in line)
-        × (asked_by (named_by numbers.now devices) rows.new.items ≡ asked_by (named_by numbers.now devices) rows.old.items ++ asked_in line))
+        × (drain ≡ drain_in line) × (asked_by rows.new.items ≡ asked_by rows.old.items ++ asked_in line))
         (λ fault. (fault ≡ Memory) ⊎ (fault_at (named_by numbers.now devices) false number line ≡ Some fault)) }
+    ensures to_do { OnOk result (AllByRecursion (IsToDo (named_by numbers.now devices)) rows.new.items) }
     ensures within { OnOk result (number ≤ most_lines) }
 {
     if number > MAX_LINES {
@@ -101,18 +104,29 @@ fn read_line(
 /// it isn't.
 fn row_asked(numbers: &[u16], devices: usize, number: u32, command: Command) -> Result<Row, Fault>
     requires rising { AreRising numbers.now }
+    requires readable { IsReadable command }
     ensures { MatchResult result
         (λ row. (command_fault (named_by numbers.now devices) number command ≡ None)
-        × (command_asked (named_by numbers.now devices) row ≡ Some command))
+        × (command_asked row ≡ command) × IsToDo (named_by numbers.now devices) row)
         (λ fault. command_fault (named_by numbers.now devices) number command ≡ Some fault) }
 {
     match command {
-        Command::Pull { device, moment } if usize::from(device) < devices => {
-            Ok(Row::Pull { device, moment })
-        }
+        Command::Pull { device, moment } if usize::from(device) < devices => Ok(Row::Pull {
+            device,
+            gave: false,
+            moment,
+        }),
         Command::Pull { .. } => Err(Fault::BadScript { line: number }),
         Command::Send { sender, length } => match place_of(numbers, sender) {
-            Some(place) => Ok(Row::Send { place, length }),
+            Some(place) => Ok(Row::Send {
+                place,
+                outcome: Outcome::Refused,
+                packet: Packet {
+                    number: 0,
+                    sender,
+                    length,
+                },
+            }),
             None => Err(Fault::UnknownSender { sender }),
         },
     }

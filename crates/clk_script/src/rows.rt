@@ -1,50 +1,50 @@
 //! What is kept of each command of a script.
 
-ghost use Rattle.clk_script.specs.inside.Rows.{row_offered, row_pulled};
+ghost use Rattle.clk_script.specs.inside.Rows.{outcome_of};
 
 use clk_packet::{Offered, Packet};
 
-/// What is kept of a command, in 16 bytes: what it asks for, and once it is carried out, what it came to. Which packets came out of the
-/// tree and which were put out of queues is kept elsewhere.
+/// A command of a script, and what it came to. Before it is carried out, the packet of a send has the number 0 and counts as refused, and a
+/// pull counts as one that gave none. Which packet a pull gave, and which was put out of a queue, is kept elsewhere.
+// The fields stand so that a row takes 16 bytes.
 #[derive(Clone, Copy)]
 pub enum Row {
-    /// The sender at this place is to offer its next packet, of this length in bytes.
-    Send { place: u16, length: u16 },
-    /// A device is to be pulled, at this moment in ticks.
-    Pull { device: u16, moment: u64 },
-    /// The packet was offered, and accepted.
-    Accepted(Packet),
-    /// It was refused.
-    Refused(Packet),
-    /// It was accepted, and its queue put out a packet for it.
-    Evicting(Packet),
-    /// The pull of the device at this moment gave a packet.
-    Gave { device: u16, moment: u64 },
-    /// It gave none.
-    GaveNone { device: u16, moment: u64 },
+    /// The sender at this place offers this packet, and this becomes of it.
+    Send {
+        place: u16,
+        outcome: Outcome,
+        packet: Packet,
+    },
+    /// A device is pulled, at this moment in ticks, and gives a packet or none.
+    Pull {
+        device: u16,
+        gave: bool,
+        moment: u64,
+    },
 }
 
-impl Row {
+/// What becomes of a packet that is offered.
+#[derive(Clone, Copy)]
+pub enum Outcome {
+    /// It is accepted.
+    Accepted,
+    /// It is refused.
+    Refused,
+    /// It is accepted, and its queue puts out a packet for it.
+    Evicting,
+}
+
+impl Outcome {
     ghost use Rattle.std.specs.Prelude.{◌≡◌};
 
-    /// Of a packet that was offered.
-    pub fn offered(packet: Packet, outcome: Offered) -> Row
-        ensures { result ≡ row_offered packet outcome }
+    /// What became of a packet, without the packet that was put out for it.
+    pub fn of(offered: Offered) -> Outcome
+        ensures { result ≡ outcome_of offered }
     {
-        match outcome {
-            Offered::Accepted => Row::Accepted(packet),
-            Offered::Refused(_) => Row::Refused(packet),
-            Offered::Evicted(_) => Row::Evicting(packet),
-        }
-    }
-
-    /// Of a pull of a device at this moment in ticks.
-    pub fn pulled(device: u16, moment: u64, got: Option<Packet>) -> Row
-        ensures { result ≡ row_pulled device moment got }
-    {
-        match got {
-            Some(_) => Row::Gave { device, moment },
-            None => Row::GaveNone { device, moment },
+        match offered {
+            Offered::Accepted => Outcome::Accepted,
+            Offered::Refused(_) => Outcome::Refused,
+            Offered::Evicted(_) => Outcome::Evicting,
         }
     }
 }

@@ -4,14 +4,15 @@ ghost use Rattle.std.specs.Prelude.{◌≡◌, ◌≤◌, ◌+◌, ◌++◌, dro
 ghost use Rattle.std.specs.List.{flat_map};
 ghost use Rattle.clk_packet.specs.Bytes.{Wrote};
 ghost use Rattle.clk_report.specs.Devices.{lists_of};
+ghost use Rattle.clk_script.specs.Meaning.{offer_text};
 ghost use Rattle.clk_script.specs.inside.Lines.{Passes};
-ghost use Rattle.clk_script.specs.inside.Rows.{row_text, rows_text, are_several, given_of, given_after, fronts_after, closings_text, answer_text};
+ghost use Rattle.clk_script.specs.inside.Rows.{offered_as, fronts_left, row_text, rows_text, are_several, given_of, given_after, fronts_after, closings_text, answer_text};
 ghost use Rattle.clk_script.specs.inside.Recorder.{departure_text};
 
 use crate::answer::Answer;
 use crate::lines::Lines;
 use crate::past::Past;
-use crate::rows::Row;
+use crate::rows::{Outcome, Row};
 use crate::text::{LINE, put_offer, put_pull};
 use clk_packet::{Fault, Offered, Packet, Sink};
 use clk_report::{MAX_DEVICES, report};
@@ -104,35 +105,55 @@ fn put_row<'a>(
     ensures fronts { result.2.now ≡ fronts_after row fronts.now }
 {
     match row {
-        Row::Accepted(packet) => (
-            put_offer(line, packet, Offered::Accepted, LINE),
-            given,
-            fronts,
-        ),
-        Row::Refused(packet) => (
-            put_offer(line, packet, Offered::Refused(packet), LINE),
-            given,
-            fronts,
-        ),
-        Row::Evicting(packet) => {
-            let (front, fronts) = first(fronts);
-            let outcome = front.map_or(Offered::Accepted, Offered::Evicted);
-            (put_offer(line, packet, outcome, LINE), given, fronts)
+        Row::Send {
+            outcome,
+            packet,
+            ..
+        } => {
+            let (start, fronts) = put_send(line, outcome, packet, fronts);
+            (start, given, fronts)
         }
-        Row::Gave { device, moment } => {
+        Row::Pull {
+            device,
+            gave,
+            moment,
+        } => {
+            if !gave {
+                let start = put_pull(line, several, device, moment, None, LINE);
+                return (start, given, fronts);
+            }
             let (got, given) = first(given);
-            (
-                put_pull(line, several, device, moment, got, LINE),
-                given,
-                fronts,
-            )
+            let start = put_pull(line, several, device, moment, got, LINE);
+            (start, given, fronts)
         }
-        Row::GaveNone { device, moment } => (
-            put_pull(line, several, device, moment, None, LINE),
-            given,
+    }
+}
+
+/// Puts the line of a send, whose row has this outcome and this packet, and gives where it starts, and what is left of these packets that
+/// were put out.
+#[inline(always)]
+fn put_send<'a>(
+    line: &mut [u8],
+    outcome: Outcome,
+    packet: Packet,
+    fronts: &'a [Packet],
+) -> (usize, &'a [Packet])
+    requires within { 128 ≤ length line.old }
+    ensures piece { drop result.0 line.new ≡ offer_text packet (offered_as packet outcome (slice_get fronts.now 0)) ++ drop 128 line.old }
+    ensures before { result.0 ≤ 128 }
+    ensures fronts { result.1.now ≡ fronts_left outcome fronts.now }
+{
+    match outcome {
+        Outcome::Accepted => (put_offer(line, packet, Offered::Accepted, LINE), fronts),
+        Outcome::Refused => (
+            put_offer(line, packet, Offered::Refused(packet), LINE),
             fronts,
         ),
-        Row::Send { .. } | Row::Pull { .. } => (LINE, given, fronts),
+        Outcome::Evicting => {
+            let (front, fronts) = first(fronts);
+            let offered = front.map_or(Offered::Accepted, Offered::Evicted);
+            (put_offer(line, packet, offered, LINE), fronts)
+        }
     }
 }
 

@@ -1,7 +1,7 @@
 -- What is kept of each command of a script, and what is written of it.
-use Rattle.std.specs.Prelude.{◌≡◌, ℕ, ◌<◌, ◌≤◌, List, [], ◌∷◌, ◌++◌, length, map, drop, ◌+◌, nat_lt, Bool, true, Option, Some, None, IfSome, Vec, slice_get}
-use Rattle.std.specs.Option.{option_map}
-use Rattle.std.specs.List.{flat_map, filter_map, cons_option, AllByRecursion}
+use Rattle.std.specs.Prelude.{◌≡◌, ℕ, ◌<◌, ◌≤◌, List, [], ◌∷◌, ◌++◌, length, map, drop, ◌+◌, nat_lt, Bool, true, if◌then◌else◌, Option, Some, None, IfSome, Vec, slice_get}
+use Rattle.std.specs.Option.{is_some}
+use Rattle.std.specs.List.{flat_map, filter_map, cons_option, AllByRecursion, AllZip}
 use Rattle.std.specs.declared.alloc.Global.{Global}
 use Rattle.clk_packet.specs.declared.packet.Packet.{Packet}
 use Rattle.clk_packet.specs.declared.packet.Offered.{Offered}
@@ -13,6 +13,8 @@ use Rattle.clk_report.specs.Devices.{lists_of, all_emitted}
 use Rattle.clk_script.specs.declared.script.Command.{Command}
 use Rattle.clk_script.specs.declared.script.Command.TheVariants.{Send, Pull}
 use Rattle.clk_script.specs.declared.script.Line.{Line}
+use Rattle.clk_script.specs.declared.rows.Outcome.{Outcome}
+use Rattle.clk_script.specs.declared.rows.Outcome.TheVariants as outcome
 use Rattle.clk_script.specs.declared.rows.Row.{Row}
 use Rattle.clk_script.specs.declared.rows.Row.TheVariants as row
 use Rattle.clk_script.specs.declared.reading.Script.{Script}
@@ -21,46 +23,44 @@ use Rattle.clk_script.specs.declared.past.Past.{Past}
 use Rattle.clk_script.specs.declared.recorder.Recorder.{Recorder}
 use Rattle.clk_script.specs.Script.{Names, command_in, commands_of, closing_moment, most_lines, most_moment}
 use Rattle.clk_router.specs.Events.{Setup, Event, offered, pulled, emitted_in}
-use Rattle.clk_script.specs.Meaning.{names_of, has_several, command_of, offer_text, pull_text, closing_text}
+use Rattle.clk_script.specs.Meaning.{has_several, command_of, offer_text, pull_text, closing_text}
 use Rattle.clk_script.specs.inside.Recorder.{IsAt, departure_text, LeadsOnByClosing}
 
--- the command that a row asks for, if it is to be carried out: a send is kept with the place of its sender among those that may be named
-abbrev pub command_asked : Names → Row → Option Command
-command_asked names (row.Send place size) = option_map (λ sender. Send sender size) (slice_get names.senders place)
-command_asked names (row.Pull device moment) = Some (Pull device moment)
-command_asked names r = None
+-- the command of a row, whether it was carried out or not
+abbrev pub command_asked : Row → Command
+command_asked (row.Send place outcome p) = Send p.sender p.length
+command_asked (row.Pull device gave moment) = Pull device moment
 
--- what each of some rows asks for, and what a line does, if it holds a command
-abbrev pub asked_by : Names → List Row → List (Option Command)
-asked_by names rows = map (command_asked names) rows
+-- the commands of some rows, and that of a line, if it holds one
+abbrev pub asked_by : List Row → List Command
+asked_by rows = map command_asked rows
 
-abbrev pub asked_in : Line → List (Option Command)
-asked_in l = map Some (cons_option (command_in l) [])
+abbrev pub asked_in : Line → List Command
+asked_in l = cons_option (command_in l) []
 
--- what is kept of an offer, and of a pull
-abbrev pub row_offered : Packet → Offered → Row
-row_offered p Accepted = row.Accepted p
-row_offered p (Refused q) = row.Refused p
-row_offered p (Evicted front) = row.Evicting p
-
-abbrev pub row_pulled : ℕ → ℕ → Option Packet → Row
-row_pulled device moment None = row.GaveNone device moment
-row_pulled device moment (Some p) = row.Gave device moment
-
--- what is kept of an event
-abbrev pub row_of : Event → Row
-row_of (offered p outcome) = row_offered p outcome
-row_of (pulled device moment visits) = row_pulled device moment (result_of (visits_of 0 visits))
-
--- a row that is to be carried out: it names what is there, and its numbers are those of a script
+-- a row that can be carried out: its sender stands at its place, or its device is there and its moment is one of a script
 abbrev pub IsToDo : Names → Row → Type 0
-IsToDo names (row.Send place size) = (place < length names.senders) × (1 ≤ size)
-IsToDo names (row.Pull device moment) = (device < names.devices) × (moment ≤ most_moment)
-IsToDo names r = ⊥
+IsToDo names (row.Send place outcome p) = slice_get names.senders place ≡ Some p.sender
+IsToDo names (row.Pull device gave moment) = (device < names.devices) × (moment ≤ most_moment)
 
--- The script holds what a text says, over what it may name.
-pub record IsReadFrom (names : Names) (text : List ℕ) (script : Script) : Type 0 where
-  pub rows : asked_by names script.rows.items ≡ map Some (commands_of text)
+-- what a row keeps of what became of a packet
+abbrev pub outcome_of : Offered → Outcome
+outcome_of Accepted = outcome.Accepted
+outcome_of (Refused p) = outcome.Refused
+outcome_of (Evicted front) = outcome.Evicting
+
+-- the row of an event, where its sender, if it has one, stands at this place
+abbrev pub row_at : ℕ → Event → Row
+row_at place (offered p outcome) = row.Send place (outcome_of outcome) p
+row_at place (pulled device moment visits) = row.Pull device (is_some (result_of (visits_of 0 visits))) moment
+
+-- a row of an event, wherever its sender stands
+abbrev pub IsRowOf : Event → Row → Type 0
+IsRowOf e r = (place : ℕ) × (r ≡ row_at place e)
+
+-- The script holds what a text says.
+pub record IsReadFrom (text : List ℕ) (script : Script) : Type 0 where
+  pub rows : asked_by script.rows.items ≡ commands_of text
   pub closing : script.closing ≡ closing_moment text
 
 -- A script names what is there.
@@ -69,12 +69,12 @@ pub record CanBeRun (names : Names) (script : Script) : Type 0 where
   pub few : length script.rows.items ≤ most_lines
   pub closing : IfSome script.closing (λ moment. moment ≤ most_moment)
 
--- More events led on from these: they are of the commands that were asked for, the rows are theirs, and where there are several devices
--- what the pulls gave was added to what was kept of it.
+-- More events led on from these: they are of the commands that were asked for, the rows are theirs, one each, and where there are several
+-- devices what the pulls gave was added to what was kept of it.
 pub record CarriesOut (setup : Setup) (old new : Recorder) (asked done : List Row) (events : List Event) : Type 0 where
   pub more : List Event
-  pub theirs : asked_by (names_of setup) asked ≡ map (λ e. Some (command_of e)) more
-  pub rows : done ≡ map row_of more
+  pub theirs : asked_by asked ≡ map command_of more
+  pub rows : AllZip IsRowOf more done
   pub given : has_several setup ≡ true → new.given.items ≡ old.given.items ++ filter_map emitted_in more
   pub keeps : new.router.keeps ≡ old.router.keeps
   pub leads : IsAt setup (events ++ more) new
@@ -83,27 +83,34 @@ pub record CarriesOut (setup : Setup) (old new : Recorder) (asked done : List Ro
 abbrev pub AnswersRows : Recorder → Recorder → List Row → List Row → Type 0
 AnswersRows old new asked done = (setup : Setup) (events : List Event) → IsAt setup events old → CarriesOut setup old new asked done events
 
--- the line of a row, where these packets come out from it on, and these are put out
-abbrev pub evicting_text : Packet → Option Packet → List ℕ
-evicting_text p None = offer_text p Accepted
-evicting_text p (Some front) = offer_text p (Evicted front)
+-- what became of a packet that was accepted, where this one was put out for it
+abbrev pub evicted_as : Option Packet → Offered
+evicted_as None = Accepted
+evicted_as (Some front) = Evicted front
 
+-- what became of a packet, by what its row keeps of it, where this is the next that was put out
+abbrev pub offered_as : Packet → Outcome → Option Packet → Offered
+offered_as p outcome.Accepted front = Accepted
+offered_as p outcome.Refused front = Refused p
+offered_as p outcome.Evicting front = evicted_as front
+
+-- the line of a row, where these packets come out from it on, and these are put out
 abbrev pub row_text : Bool → Row → List Packet → List Packet → List ℕ
-row_text several (row.Accepted p) given fronts = offer_text p Accepted
-row_text several (row.Refused p) given fronts = offer_text p (Refused p)
-row_text several (row.Evicting p) given fronts = evicting_text p (slice_get fronts 0)
-row_text several (row.Gave device moment) given fronts = pull_text several device moment (slice_get given 0)
-row_text several (row.GaveNone device moment) given fronts = pull_text several device moment None
-row_text several r given fronts = []
+row_text several (row.Send place outcome p) given fronts = offer_text p (offered_as p outcome (slice_get fronts 0))
+row_text several (row.Pull device gave moment) given fronts = pull_text several device moment (if gave then slice_get given 0 else None)
 
 -- what comes out after a row, and what is put out
 abbrev pub given_after : Row → List Packet → List Packet
-given_after (row.Gave device moment) given = drop 1 given
-given_after r given = given
+given_after (row.Send place outcome p) given = given
+given_after (row.Pull device gave moment) given = if gave then drop 1 given else given
+
+abbrev pub fronts_left : Outcome → List Packet → List Packet
+fronts_left outcome.Evicting fronts = drop 1 fronts
+fronts_left outcome fronts = fronts
 
 abbrev pub fronts_after : Row → List Packet → List Packet
-fronts_after (row.Evicting p) fronts = drop 1 fronts
-fronts_after r fronts = fronts
+fronts_after (row.Send place outcome p) fronts = fronts_left outcome fronts
+fronts_after (row.Pull device gave moment) fronts = fronts
 
 -- the lines of some rows
 abbrev pub rows_text : Bool → List Row → List Packet → List Packet → List ℕ

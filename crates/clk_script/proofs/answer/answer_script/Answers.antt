@@ -1,4 +1,4 @@
-use Rattle.std.proofs.Common.{rules, ◌≡◌, ◌≤◌, length, ap, sym, subst, ◌∙◌}
+use Rattle.std.proofs.Common.{rules, ◌≡◌, ◌≤◌, length, ap, sym, subst}
 use Rattle.std.specs.List.{AllByRecursion}
 use Rattle.std.proofs.lemmas.List.{with_items_is}
 use Rattle.clk_script.specs.Script.{most_lines}
@@ -22,9 +22,9 @@ into_past-requires c =
 pub returns-clause-means : goal.returns-clause-means
 returns-clause-means c =
     let many : length c.carry_out.new.rows ≡ c.args.script.rows.len = search rules in
-    λ setup commands starts are. rw (with_items_is c.args.script.rows c.carry_out.new.rows many)
-    (Writes-answered setup c.args.recorder c.carry_out.new.recorder commands c.deref_mut.result.now c.carry_out.new.rows starts (ap (asked_by (names_in c.args.recorder)) c.deref_mut.ensures.value ∙ are) c.in_ok-carry_out.ensures.done c.close.new.recorder
-    c.in_ok-into_past.field-0 c.args.script.closing (closings_of c.in_ok-closing.closing) c.in_ok-closing.ensures.closed c.in_ok-into_past.ensures.past)
+    λ setup starts. rw (with_items_is c.args.script.rows c.carry_out.new.rows many, ap asked_by (sym c.deref_mut.ensures.value))
+    (Writes-answered setup c.args.recorder c.carry_out.new.recorder c.deref_mut.result.now c.carry_out.new.rows starts c.in_ok-carry_out.ensures.done c.close.new.recorder c.in_ok-into_past.field-0 c.args.script.closing (closings_of c.in_ok-closing.closing)
+    c.in_ok-closing.ensures.closed c.in_ok-into_past.ensures.past)
 
 pub returns-clause-devices : goal.returns-clause-devices
 returns-clause-devices c =

@@ -1,11 +1,18 @@
-use Rattle.std.proofs.Common.{◌≡◌, Some, [], ◌∷◌, sym, subst}
+use Rattle.std.proofs.Common.{◌≡◌, Some, sym, ap, ap₂, subst, ◌∙◌}
 use Rattle.clk_router.specs.Course.{sender_at}
-use Rattle.clk_script.specs.declared.rows.Row.{Row}
-use Rattle.clk_script.specs.inside.Recorder.{names_in}
-use Rattle.clk_script.specs.inside.Rows.{IsToDo, AnswersRows}
+use Rattle.clk_script.specs.declared.script.Command.TheVariants.{Send}
+use Rattle.clk_script.specs.declared.rows.Row.TheVariants as row
+use Rattle.clk_script.specs.inside.Recorder.{names_in, IsPlace}
+use Rattle.clk_script.specs.inside.Rows.{command_asked, IsToDo}
 use Rattle.clk_script.proofs.AnswerLemmas.{AnswersRows-sent}
-use Rattle.clk_script.proofs.RecorderLemmas.{can-pull}
+use Rattle.clk_script.proofs.RecorderLemmas.{place-there, can-pull}
 use Rattle.clk_script.proofs.answer.carry_out_one.Goals as goal
+
+pub send-requires-clause-is_there : goal.send-requires-clause-is_there
+send-requires-clause-is_there c =
+    let old = c.args.recorder.now in
+    let to_do = subst (IsToDo (names_in old)) c.in-Send.is c.requires.to_do in
+    subst (IsPlace old.tallies.items) (sym c.from.ensures) (place-there old c.requires.ready c.in-Send.place c.in-Send.packet.sender to_do)
 
 pub pull-requires : goal.pull-requires
 pull-requires c =
@@ -15,9 +22,11 @@ pull-requires c =
 pub returns-in_ok-packet-in-Send-clause-done : goal.returns-in_ok-packet-in-Send-clause-done
 returns-in_ok-packet-in-Send-clause-done c =
     let old = c.args.recorder.now in
-    let new = c.send.new.self in
+    let asked = c.in-Send.packet in
     let packet = c.in_ok-packet-in-Send.packet in
+    let to_do = subst (IsToDo (names_in old)) c.in-Send.is c.requires.to_do in
     let from = subst (λ place. sender_at old.router.setup place ≡ Some packet.sender) c.from.ensures c.in_ok-packet-in-Send.ensures.sender in
-    subst (λ (r : Row). AnswersRows old new (r ∷ []) (c.offered.result ∷ [])) (sym c.in-Send.is)
-    (AnswersRows-sent old new c.in-Send.place c.in-Send.length c.offered.result packet c.in_ok-packet-in-Send.outcome from c.in_ok-packet-in-Send.ensures.length c.offered.ensures c.in_ok-packet-in-Send.ensures.given
-    c.in_ok-packet-in-Send.ensures.keeps c.in_ok-packet-in-Send.ensures.leads)
+    let both : Some asked.sender ≡ Some packet.sender = sym to_do ∙ from in
+    let same : asked.sender ≡ packet.sender = cc both in
+    AnswersRows-sent old c.send.new.self c.args.row (row.Send c.in-Send.place c.of.result packet) c.in-Send.place packet c.in_ok-packet-in-Send.offered (ap command_asked c.in-Send.is ∙ ap₂ Send same (sym c.in_ok-packet-in-Send.ensures.length))
+    (ap (λ o. row.Send c.in-Send.place o packet) c.of.ensures) c.in_ok-packet-in-Send.ensures.given c.in_ok-packet-in-Send.ensures.keeps c.in_ok-packet-in-Send.ensures.leads

@@ -2,7 +2,7 @@ use Rattle.std.proofs.Common.{◌≡◌, ◌⊎◌, inr, None, Some, ap, sym, su
 use Rattle.std.proofs.lemmas.Result.{err_from_is_err_and}
 use Rattle.clk_packet.specs.declared.fault.Fault.TheVariants.{Memory}
 use Rattle.clk_router.specs.Events.{Setup}
-use Rattle.clk_script.specs.Script.{script_fault, commands_of}
+use Rattle.clk_script.specs.Script.{script_fault}
 use Rattle.clk_script.specs.Meaning.{Explains}
 use Rattle.clk_script.specs.inside.Rows.{answer_text, CanBeRun, IsReadFrom}
 use Rattle.clk_packet.proofs.Callers.Written.{wrote-whole, wrote-front, wrote-nothing}
@@ -69,8 +69,8 @@ returns-clause-wrote g c =
     let opened = c.in_ok-recorder.ensures.opened in
     let starts = c.in_ok-recorder.ensures.starts in
     let names = same-names recorder _ _ c.senders-senders.ensures.numbers c.devices-devices.ensures.count in
-    let read = subst (λ names. (script_fault names bytes ≡ None) × IsReadFrom names bytes script × CanBeRun names script) names (rw c.deref.ensures.value at c.in_ok-script.ensures) in
-    let means = rw read.1.closing at (c.in_ok-answer.ensures.means setup (commands_of bytes) starts read.1.rows) in
+    let read = subst (λ names. (script_fault names bytes ≡ None) × IsReadFrom bytes script × CanBeRun names script) names (rw c.deref.ensures.value at c.in_ok-script.ensures) in
+    let means = rw (read.1.rows, read.1.closing) at (c.in_ok-answer.ensures.means setup starts) in
     let text = answer_text c.in_ok-answer.answer in
     wrote-whole _ _ _ _ text (
       means.0,
@@ -89,8 +89,8 @@ returns-in_err-write_answer-clause-wrote g c =
     let opened = c.in_ok-recorder.ensures.opened in
     let starts = c.in_ok-recorder.ensures.starts in
     let names = same-names recorder _ _ c.senders-senders.ensures.numbers c.devices-devices.ensures.count in
-    let read = subst (λ names. (script_fault names bytes ≡ None) × IsReadFrom names bytes script × CanBeRun names script) names (rw c.deref.ensures.value at c.in_ok-script.ensures) in
-    let means = rw read.1.closing at (c.in_ok-answer.ensures.means setup (commands_of bytes) starts read.1.rows) in
+    let read = subst (λ names. (script_fault names bytes ≡ None) × IsReadFrom bytes script × CanBeRun names script) names (rw c.deref.ensures.value at c.in_ok-script.ensures) in
+    let means = rw (read.1.rows, read.1.closing) at (c.in_ok-answer.ensures.means setup starts) in
     let text = answer_text c.in_ok-answer.answer in
     rw (p.1, p.2)
     (wrote-front _ _ _ _ text c.in_err-write_answer.ensures.fault
