@@ -31,8 +31,8 @@ use Rattle.clk_script.proofs.RecorderLemmas.{numbers-its}
 
 -- the commands of rows that are to be carried out are readable
 row-readable : (names : Names) (r : Row) → IsToDo names r → IsReadable (command_asked r)
-row-readable names (row.Send place outcome p) h = p.has_length
-row-readable names (row.Pull device gave moment) h = h.1
+row-readable names (row.Send outcome place p) h = p.has_length
+row-readable names (row.Pull gave device moment) h = h.1
 
 each-readable : (names : Names) (rows : List Row) → AllByRecursion (IsToDo names) rows → AllByRecursion IsReadable (asked_by rows)
 each-readable names [] h = tt
@@ -71,7 +71,7 @@ AnswersRows-sent old new asked done place p outcome asks is given keeps leads =
       leads = leads setup events at;
     }
 
-pub AnswersRows-pulled : (old new : Recorder) (asked done : Row) (device moment : ℕ) (got : Option Packet) → command_asked asked ≡ Pull device moment → done ≡ row.Pull device (is_some got) moment → new.given.items ≡ given_kept old got
+pub AnswersRows-pulled : (old new : Recorder) (asked done : Row) (device moment : ℕ) (got : Option Packet) → command_asked asked ≡ Pull device moment → done ≡ row.Pull (is_some got) device moment → new.given.items ≡ given_kept old got
     → new.router.keeps ≡ old.router.keeps → ((setup : Setup) (events : List Event) → IsAt setup events old → LeadsOnByPull setup new device moment got events) → AnswersRows old new (asked ∷ []) (done ∷ [])
 AnswersRows-pulled old new asked done device moment got asks is given keeps leads =
     λ setup events at.
@@ -79,7 +79,7 @@ AnswersRows-pulled old new asked done device moment got asks is given keeps lead
     record {
       more = pulled device moment led.visits ∷ [];
       theirs = ap (λ (c : Command). c ∷ []) asks;
-      rows = ((0, is ∙ ap (λ o. row.Pull device (is_some o) moment) (sym led.result)), tt);
+      rows = ((0, is ∙ ap (λ o. row.Pull (is_some o) device moment) (sym led.result)), tt);
       given =
           λ several.
           let many : nat_lt 1 (length old.router.setup.trees) ≡ true = ap (λ (s : Setup). nat_lt 1 (length s.trees)) at.setup_is ∙ several in

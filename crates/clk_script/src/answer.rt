@@ -81,16 +81,16 @@ fn carry_out_one(recorder: &mut Recorder, row: Row) -> Result<Row, Fault>
         Row::Send { place, packet, .. } => {
             let (packet, offered) = recorder.send(usize::from(place), packet.length)?;
             Ok(Row::Send {
-                place,
                 outcome: Outcome::of(offered),
+                place,
                 packet,
             })
         }
         Row::Pull { device, moment, .. } => {
-            let got = recorder.pull(device, moment)?;
+            let got = recorder.pull(device, moment.ticks())?;
             Ok(Row::Pull {
-                device,
                 gave: got.is_some(),
+                device,
                 moment,
             })
         }

@@ -6,6 +6,7 @@ mod fields;
 mod laws;
 mod limits;
 mod lines;
+mod moment;
 mod past;
 mod reading;
 mod recorder;

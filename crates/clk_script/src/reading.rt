@@ -9,6 +9,7 @@ ghost use Rattle.clk_script.specs.inside.Recorder.{named_by, IsReadable, IsReada
 ghost use Rattle.clk_script.specs.inside.Rows.{command_asked, asked_by, asked_in, IsToDo, IsReadFrom, CanBeRun};
 
 use crate::limits::{MAX_LINES, MAX_SCRIPT_BYTES};
+use crate::moment::Moment;
 use crate::rows::{Outcome, Row};
 use crate::script::{Command, Line};
 use clk_packet::{Fault, Packet};
@@ -112,15 +113,15 @@ fn row_asked(numbers: &[u16], devices: usize, number: u32, command: Command) -> 
 {
     match command {
         Command::Pull { device, moment } if usize::from(device) < devices => Ok(Row::Pull {
-            device,
             gave: false,
-            moment,
+            device,
+            moment: Moment::at(moment),
         }),
         Command::Pull { .. } => Err(Fault::BadScript { line: number }),
         Command::Send { sender, length } => match place_of(numbers, sender) {
             Some(place) => Ok(Row::Send {
-                place,
                 outcome: Outcome::Refused,
+                place,
                 packet: Packet {
                     number: 0,
                     sender,

@@ -2,24 +2,25 @@
 
 ghost use Rattle.clk_script.specs.inside.Rows.{outcome_of};
 
+use crate::moment::Moment;
 use clk_packet::{Offered, Packet};
 
 /// A command of a script, and what it came to. Before it is carried out, the packet of a send has the number 0 and counts as refused, and a
 /// pull counts as one that gave none. Which packet a pull gave, and which was put out of a queue, is kept elsewhere.
-// The fields stand so that a row takes 16 bytes.
+// The fields stand so that a row takes 12 bytes.
 #[derive(Clone, Copy)]
 pub enum Row {
     /// The sender at this place offers this packet, and this becomes of it.
     Send {
-        place: u16,
         outcome: Outcome,
+        place: u16,
         packet: Packet,
     },
     /// A device is pulled, at this moment in ticks, and gives a packet or none.
     Pull {
-        device: u16,
         gave: bool,
-        moment: u64,
+        device: u16,
+        moment: Moment,
     },
 }
 

@@ -114,10 +114,11 @@ fn put_row<'a>(
             (start, given, fronts)
         }
         Row::Pull {
-            device,
             gave,
+            device,
             moment,
         } => {
+            let moment = moment.ticks();
             if !gave {
                 let start = put_pull(line, several, device, moment, None, LINE);
                 return (start, given, fronts);

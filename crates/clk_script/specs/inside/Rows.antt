@@ -28,8 +28,8 @@ use Rattle.clk_script.specs.inside.Recorder.{IsAt, departure_text, LeadsOnByClos
 
 -- the command of a row, whether it was carried out or not
 abbrev pub command_asked : Row → Command
-command_asked (row.Send place outcome p) = Send p.sender p.length
-command_asked (row.Pull device gave moment) = Pull device moment
+command_asked (row.Send outcome place p) = Send p.sender p.length
+command_asked (row.Pull gave device moment) = Pull device moment
 
 -- the commands of some rows, and that of a line, if it holds one
 abbrev pub asked_by : List Row → List Command
@@ -40,8 +40,8 @@ asked_in l = cons_option (command_in l) []
 
 -- a row that can be carried out: its sender stands at its place, or its device is there and its moment is one of a script
 abbrev pub IsToDo : Names → Row → Type 0
-IsToDo names (row.Send place outcome p) = slice_get names.senders place ≡ Some p.sender
-IsToDo names (row.Pull device gave moment) = (device < names.devices) × (moment ≤ most_moment)
+IsToDo names (row.Send outcome place p) = slice_get names.senders place ≡ Some p.sender
+IsToDo names (row.Pull gave device moment) = (device < names.devices) × (moment ≤ most_moment)
 
 -- what a row keeps of what became of a packet
 abbrev pub outcome_of : Offered → Outcome
@@ -51,8 +51,8 @@ outcome_of (Evicted front) = outcome.Evicting
 
 -- the row of an event, where its sender, if it has one, stands at this place
 abbrev pub row_at : ℕ → Event → Row
-row_at place (offered p outcome) = row.Send place (outcome_of outcome) p
-row_at place (pulled device moment visits) = row.Pull device (is_some (result_of (visits_of 0 visits))) moment
+row_at place (offered p outcome) = row.Send (outcome_of outcome) place p
+row_at place (pulled device moment visits) = row.Pull (is_some (result_of (visits_of 0 visits))) device moment
 
 -- a row of an event, wherever its sender stands
 abbrev pub IsRowOf : Event → Row → Type 0
@@ -96,21 +96,21 @@ offered_as p outcome.Evicting front = evicted_as front
 
 -- the line of a row, where these packets come out from it on, and these are put out
 abbrev pub row_text : Bool → Row → List Packet → List Packet → List ℕ
-row_text several (row.Send place outcome p) given fronts = offer_text p (offered_as p outcome (slice_get fronts 0))
-row_text several (row.Pull device gave moment) given fronts = pull_text several device moment (if gave then slice_get given 0 else None)
+row_text several (row.Send outcome place p) given fronts = offer_text p (offered_as p outcome (slice_get fronts 0))
+row_text several (row.Pull gave device moment) given fronts = pull_text several device moment (if gave then slice_get given 0 else None)
 
 -- what comes out after a row, and what is put out
 abbrev pub given_after : Row → List Packet → List Packet
-given_after (row.Send place outcome p) given = given
-given_after (row.Pull device gave moment) given = if gave then drop 1 given else given
+given_after (row.Send outcome place p) given = given
+given_after (row.Pull gave device moment) given = if gave then drop 1 given else given
 
 abbrev pub fronts_left : Outcome → List Packet → List Packet
 fronts_left outcome.Evicting fronts = drop 1 fronts
 fronts_left outcome fronts = fronts
 
 abbrev pub fronts_after : Row → List Packet → List Packet
-fronts_after (row.Send place outcome p) fronts = fronts_left outcome fronts
-fronts_after (row.Pull device gave moment) fronts = fronts
+fronts_after (row.Send outcome place p) fronts = fronts_left outcome fronts
+fronts_after (row.Pull gave device moment) fronts = fronts
 
 -- the lines of some rows
 abbrev pub rows_text : Bool → List Row → List Packet → List Packet → List ℕ

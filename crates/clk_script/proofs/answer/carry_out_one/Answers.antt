@@ -1,5 +1,5 @@
 use Rattle.std.proofs.Common.{◌≡◌, Some, sym, ap, ap₂, subst, ◌∙◌}
-use Rattle.clk_router.specs.Course.{sender_at}
+use Rattle.clk_router.specs.Course.{CanPull, sender_at}
 use Rattle.clk_script.specs.declared.script.Command.TheVariants.{Send}
 use Rattle.clk_script.specs.declared.rows.Row.TheVariants as row
 use Rattle.clk_script.specs.inside.Recorder.{names_in, IsPlace}
@@ -17,7 +17,8 @@ send-requires-clause-is_there c =
 pub pull-requires : goal.pull-requires
 pull-requires c =
     let to_do = subst (IsToDo (names_in c.args.recorder.now)) c.in-Pull.is c.requires.to_do in
-    record { can = can-pull c.args.recorder.now c.requires.ready c.in-Pull.device c.in-Pull.moment to_do.0 to_do.1 }
+    let can = can-pull c.args.recorder.now c.requires.ready c.in-Pull.device c.in-Pull.moment to_do.0 to_do.1 in
+    record { can = subst (CanPull c.args.recorder.now.router c.in-Pull.device) (sym c.ticks.ensures) can }
 
 pub returns-in_ok-packet-in-Send-clause-done : goal.returns-in_ok-packet-in-Send-clause-done
 returns-in_ok-packet-in-Send-clause-done c =
@@ -28,5 +29,5 @@ returns-in_ok-packet-in-Send-clause-done c =
     let from = subst (λ place. sender_at old.router.setup place ≡ Some packet.sender) c.from.ensures c.in_ok-packet-in-Send.ensures.sender in
     let both : Some asked.sender ≡ Some packet.sender = sym to_do ∙ from in
     let same : asked.sender ≡ packet.sender = cc both in
-    AnswersRows-sent old c.send.new.self c.args.row (row.Send c.in-Send.place c.of.result packet) c.in-Send.place packet c.in_ok-packet-in-Send.offered (ap command_asked c.in-Send.is ∙ ap₂ Send same (sym c.in_ok-packet-in-Send.ensures.length))
-    (ap (λ o. row.Send c.in-Send.place o packet) c.of.ensures) c.in_ok-packet-in-Send.ensures.given c.in_ok-packet-in-Send.ensures.keeps c.in_ok-packet-in-Send.ensures.leads
+    AnswersRows-sent old c.send.new.self c.args.row (row.Send c.of.result c.in-Send.place packet) c.in-Send.place packet c.in_ok-packet-in-Send.offered (ap command_asked c.in-Send.is ∙ ap₂ Send same (sym c.in_ok-packet-in-Send.ensures.length))
+    (ap (λ o. row.Send o c.in-Send.place packet) c.of.ensures) c.in_ok-packet-in-Send.ensures.given c.in_ok-packet-in-Send.ensures.keeps c.in_ok-packet-in-Send.ensures.leads
