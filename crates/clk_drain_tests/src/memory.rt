@@ -57,21 +57,21 @@ fn refused_run<R: Threads + Wait + Abort + Sync>(
     };
     match run(rt, alloc, rt, plan, traces, 1, 1, &gate) {
         Ok(outcome) => {
-            assert_all_came_out(rt, &outcome);
+            assert_all_emitted(rt, &outcome);
             None
         }
         Err(fault) => {
             assert!(rt; gate.calls.have_ended(), "no thread goes on");
             assert_eq!(rt; fault, Fault::Memory);
             let again = run(rt, alloc, rt, plan, traces, 1, 1, &gate);
-            assert_all_came_out(rt, &again.expect(rt, "memory"));
+            assert_all_emitted(rt, &again.expect(rt, "memory"));
             Some(Call::Run)
         }
     }
 }
 
 // Fails unless all packets of the eight senders were accepted and came out.
-fn assert_all_came_out(rt: &impl Abort, outcome: &Outcome) {
+fn assert_all_emitted(rt: &impl Abort, outcome: &Outcome) {
     assert_eq!(rt; outcome.emitted.len(), 1);
     for emitted in &outcome.emitted {
         assert_eq!(rt; emitted.len(), 800);

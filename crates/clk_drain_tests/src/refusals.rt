@@ -91,12 +91,12 @@ fn run_once<R: Threads + Wait + Abort + Sync>(
     visits: bool,
 ) -> Result<(), Fault> {
     let outcome = run_with(rt, alloc, rt, plan, traces, 1, 1, gate, visits)?;
-    assert_all_came_out(rt, &outcome);
+    assert_all_emitted(rt, &outcome);
     assert_eq!(rt; outcome.logs.len(), if visits { 2 } else { 0 });
     Ok(())
 }
 
-fn assert_all_came_out(rt: &impl Abort, outcome: &Outcome) {
+fn assert_all_emitted(rt: &impl Abort, outcome: &Outcome) {
     assert_eq!(rt; outcome.emitted.len(), 2);
     for (device, emitted) in outcome.emitted.iter().enumerate() {
         assert_eq!(rt; emitted.len(), 2 * EACH as usize);

@@ -82,8 +82,8 @@ fn merged(alloc: Global, some: &[Packet], more: &[Packet]) -> Result<Vec<Packet>
     Ok(all)
 }
 
-// The packets of a sender that came out, in order.
-fn came_out(alloc: Global, outcome: &Outcome, sender: u16) -> Result<Vec<Packet>, Fault> {
+// The packets of a sender that were emitted, in order.
+fn emitted_of(alloc: Global, outcome: &Outcome, sender: u16) -> Result<Vec<Packet>, Fault> {
     let mut packets = Vec::new(alloc);
     for emitted in &outcome.emitted {
         for packet in emitted {
@@ -112,9 +112,9 @@ fn assert_accounted(
         merged(alloc, accepted, refused)?,
         sent_by(alloc, traces, tally.sender)?
     );
-    let came = came_out(alloc, outcome, tally.sender)?;
-    assert_eq!(rt; merged(alloc, &came, evicted)?, accepted.to_vec(alloc)?);
-    assert!(rt; came.is_sorted_by_key(|packet| packet.number));
+    let emitted = emitted_of(alloc, outcome, tally.sender)?;
+    assert_eq!(rt; merged(alloc, &emitted, evicted)?, accepted.to_vec(alloc)?);
+    assert!(rt; emitted.is_sorted_by_key(|packet| packet.number));
     Ok(())
 }
 

@@ -153,7 +153,7 @@ fn packets_of_senders_without_a_tally_are_left_out(rt: HostRuntime) {
 
 // Sender 0's packets came out at the first and at the last device, and none at the one between.
 #[test]
-fn packets_came_out_at_several_devices(rt: HostRuntime) {
+fn packets_are_emitted_at_several_devices(rt: HostRuntime) {
     let [first, second] = [packet(0, 0, 10), packet(0, 1, 20)];
     let other = packet(1, 0, 5);
     let none = &[][..];
@@ -168,7 +168,7 @@ fn packets_came_out_at_several_devices(rt: HostRuntime) {
 }
 
 #[test]
-fn without_a_device_nothing_came_out(rt: HostRuntime) {
+fn without_a_device_nothing_is_emitted(rt: HostRuntime) {
     let refused = packet(7, 0, 10);
     let sent = [(7, &[][..], &[refused][..], &[][..])];
     let expected = b"sender 7: sent 1 10, accepted 0 0, refused 1 10, evicted 0 0, emitted 0 0\n";
