@@ -13,11 +13,11 @@ use Rattle.clk_sched.specs.Heads.{head_at, is_covered}
 use Rattle.clk_sched.specs.Log.{asks}
 use Rattle.clk_sched.specs.Laws.Deficit.{arrives, arrivals, bytes_of, passed_bytes, quantum_at}
 use Rattle.clk_sched.specs.inside.Pulling.{AreApart, input_of}
-use Rattle.clk_sched.proofs.Numbers.{equal, differs, same}
+use Rattle.clk_sched.proofs.Lists.Numbers.{equal, differs, same}
 use Rattle.clk_packet.specs.Lists.{In}
-use Rattle.clk_sched.proofs.Members.{of-all, filter-in}
-use Rattle.clk_sched.proofs.Allowed.{onto, each-split}
-use Rattle.clk_sched.proofs.DeficitShares.{IsDeficitVisit, IsCovered, deficit-bound, covers-all}
+use Rattle.clk_sched.proofs.Lists.Members.{of-all, filter-in}
+use Rattle.clk_sched.proofs.Runs.Allowed.{onto, each-split}
+use Rattle.clk_sched.proofs.Shares.DeficitShares.{IsDeficitVisit, IsCovered, deficit-bound, covers-all}
 use Rattle.clk_sched.proofs.Closing.Visited.{Misses, IsAt, at-input, one_if, hits, hits-misses, hits-at}
 use Rattle.clk_sched.proofs.Closing.Turned.{passes}
 

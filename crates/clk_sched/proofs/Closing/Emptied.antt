@@ -20,16 +20,16 @@ use Rattle.clk_sched.specs.Results.{asks_queue, traced_heads}
 use Rattle.clk_sched.specs.Choice.{answers_of}
 use Rattle.clk_sched.specs.Session.{latest_moment, given_in}
 use Rattle.clk_sched.specs.Closing.{GivesOut, IsClosing, left_in, BoundIsEnough}
-use Rattle.clk_sched.proofs.Numbers.{equal}
-use Rattle.clk_sched.proofs.Members.{all-append, all-weaker}
-use Rattle.clk_sched.proofs.Allowed.{device-visit, onto, onto-reverse}
-use Rattle.clk_sched.proofs.Blocks.{owns-root}
-use Rattle.clk_sched.proofs.Pulled.{joined, pulled-root}
-use Rattle.clk_sched.proofs.Distinct.{distinct-parts}
-use Rattle.clk_sched.proofs.NoChoice.{root-width}
-use Rattle.clk_sched.proofs.Origins.{StandsOnlyIn, only-after_leaf, only-after_node, only-inputs, only-here, asks-at}
-use Rattle.clk_sched.proofs.TreeLemmas.{stands_in-append}
-use Rattle.clk_sched.proofs.GoesOn.{goes-on}
+use Rattle.clk_sched.proofs.Lists.Numbers.{equal}
+use Rattle.clk_sched.proofs.Lists.Members.{all-append, all-weaker}
+use Rattle.clk_sched.proofs.Runs.Allowed.{device-visit, onto, onto-reverse}
+use Rattle.clk_sched.proofs.Runs.Blocks.{owns-root}
+use Rattle.clk_sched.proofs.Runs.Pulled.{joined, pulled-root}
+use Rattle.clk_sched.proofs.Trees.Distinct.{distinct-parts}
+use Rattle.clk_sched.proofs.Runs.NoChoice.{root-width}
+use Rattle.clk_sched.proofs.Conservation.Origins.{StandsOnlyIn, only-after_leaf, only-after_node, only-inputs, only-here, asks-at}
+use Rattle.clk_sched.proofs.Trees.TreeLemmas.{stands_in-append}
+use Rattle.clk_sched.proofs.Runs.GoesOn.{goes-on}
 use Rattle.clk_sched.proofs.Closing.Visited.{one_if, hits, hits-all, sum_from}
 use Rattle.clk_sched.proofs.Closing.Turned.{passes, IsTurn, is-turn, all-visited}
 use Rattle.clk_sched.proofs.Closing.Rows.{Amount, Costs, EachGives, answers_at, EachIsEnough}

@@ -14,9 +14,9 @@ use Rattle.clk_sched.specs.Laws.Deficit.{next_input, arrives, arrivals, bytes_of
 use Rattle.clk_sched.specs.Run.{EachObeys}
 use Rattle.clk_sched.specs.Results.{traced, own_heads, held_at, traced_heads, latest_origin, origin_in}
 use Rattle.clk_sched.specs.Closing.{held_in_all}
-use Rattle.clk_sched.proofs.Allowed.{onto, onto-reverse, each-follows, turns-look}
-use Rattle.clk_sched.proofs.Pulled.{IsPulledIn, pulled-after_leaf, pulled-after_node, pulled-inputs, turns-visits}
-use Rattle.clk_sched.proofs.DeficitShares.{IsDeficitVisit, IsCovered, deficit-bound, covers-visit}
+use Rattle.clk_sched.proofs.Runs.Allowed.{onto, onto-reverse, each-follows, turns-look}
+use Rattle.clk_sched.proofs.Runs.Pulled.{IsPulledIn, pulled-after_leaf, pulled-after_node, pulled-inputs, turns-visits}
+use Rattle.clk_sched.proofs.Shares.DeficitShares.{IsDeficitVisit, IsCovered, deficit-bound, covers-visit}
 use Rattle.clk_sched.proofs.Closing.Visited.{one_if, sum_from}
 use Rattle.clk_sched.proofs.Closing.Costs.{CostsAt}
 use Rattle.clk_sched.proofs.Closing.Rows.{latest, Amount, sum_of, Costs, AreEnough, EachIsEnough, enough-at}

@@ -10,9 +10,9 @@ use Rattle.clk_sched.specs.Tree.{Class, Row, end, leaf, node, width, nodes}
 use Rattle.clk_sched.specs.Log.{visits_of, asks, pulls_below, result_of}
 use Rattle.clk_sched.specs.Closing.{GivesOut}
 use Rattle.clk_sched.specs.inside.Pulling.{AreApart, input_of}
-use Rattle.clk_sched.proofs.Numbers.{differs, equal}
+use Rattle.clk_sched.proofs.Lists.Numbers.{differs, equal}
 use Rattle.clk_packet.specs.Lists.{In}
-use Rattle.clk_sched.proofs.Members.{of-all, in-filter, any-in, filter-none, all-weaker}
+use Rattle.clk_sched.proofs.Lists.Members.{of-all, in-filter, any-in, filter-none, all-weaker}
 use Rattle.clk_sched.proofs.Closing.Visited.{Misses, IsAt, at-input, one_if, count, hits, hits-misses, hits-at, hits-all, hits-at_most, sum_from, each-one}
 use Rattle.clk_sched.proofs.Closing.Turned.{passes, IsTurn}
 use Rattle.clk_sched.proofs.Closing.Costs.{CostsAt, IsAsked, TurnLaw, IsInputAfter, input-after}

@@ -4,8 +4,8 @@ use Rattle.std.specs.List.{AllByRecursion}
 use Rattle.std.proofs.Math.Nat.{lt-mul-div-succ}
 use Rattle.clk_sched.specs.Tree.{Class, drr, Row, end, leaf, node, IsSound}
 use Rattle.clk_sched.specs.Bound.{lesser, least, quanta_of, least_quantum, rounds}
-use Rattle.clk_sched.proofs.Members.{all-weaker}
-use Rattle.clk_sched.proofs.TreeBound.{IsPositive, positive-row}
+use Rattle.clk_sched.proofs.Lists.Members.{all-weaker}
+use Rattle.clk_sched.proofs.Trees.TreeBound.{IsPositive, positive-row}
 use Rattle.clk_sched.proofs.Closing.Rows.{AreEnough, EachIsEnough}
 
 -- a number that is no less than one, which is there

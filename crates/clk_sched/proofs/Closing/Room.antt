@@ -9,10 +9,10 @@ use Rattle.clk_sched.specs.Tree.{Class, shaper, HasArguments}
 use Rattle.clk_sched.specs.Turns.{Turn, EachAfter, AsksInOrder, giver}
 use Rattle.clk_sched.specs.Laws.{AllowsTurn}
 use Rattle.clk_sched.specs.Laws.Shaper.{has_passed, packets_passed, keeps_since, keeps_since_each, has_room, shaper_order}
-use Rattle.clk_sched.proofs.Allowed.{onto}
-use Rattle.clk_sched.proofs.Bucket.{room-unpassed, room-passed}
-use Rattle.clk_sched.proofs.Counted.{and-both}
-use Rattle.clk_sched.proofs.Classes.{MayAsk}
+use Rattle.clk_sched.proofs.Runs.Allowed.{onto}
+use Rattle.clk_sched.proofs.Classes.Bucket.{room-unpassed, room-passed}
+use Rattle.clk_sched.proofs.Conservation.Counted.{and-both}
+use Rattle.clk_sched.proofs.Classes.Table.{MayAsk}
 
 -- each member holds after those before it, of a list with the latest first
 abbrev pub EachBefore : {X : Type 0} → (List X → X → Type 0) → List X → Type 0

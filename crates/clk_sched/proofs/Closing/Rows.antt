@@ -16,13 +16,13 @@ use Rattle.clk_sched.specs.Laws.Deficit.{next_input, quantum_at, deficit_covers}
 use Rattle.clk_sched.specs.Run.{EachObeys}
 use Rattle.clk_sched.specs.Step.{EachAllows}
 use Rattle.clk_sched.specs.Closing.{GivesOut}
-use Rattle.clk_sched.proofs.Members.{all-filter}
-use Rattle.clk_sched.proofs.Allowed.{onto, onto-append, onto-reverse, each-follows, turns-look}
-use Rattle.clk_sched.proofs.Blocks.{Owns, owns-after_leaf, owns-after_node, owns-self, owns-inputs}
-use Rattle.clk_sched.proofs.Pulled.{IsPulledIn, pulled-after_leaf, pulled-after_node, pulled-inputs, turns-visits, copies-unasked}
-use Rattle.clk_sched.proofs.GoesOn.{filter-reverse, map-reverse}
-use Rattle.clk_sched.proofs.DeficitShares.{IsCovered, covers-all}
-use Rattle.clk_sched.proofs.Classes.{MayAsk}
+use Rattle.clk_sched.proofs.Lists.Members.{all-filter}
+use Rattle.clk_sched.proofs.Runs.Allowed.{onto, onto-append, onto-reverse, each-follows, turns-look}
+use Rattle.clk_sched.proofs.Runs.Blocks.{Owns, owns-after_leaf, owns-after_node, owns-self, owns-inputs}
+use Rattle.clk_sched.proofs.Runs.Pulled.{IsPulledIn, pulled-after_leaf, pulled-after_node, pulled-inputs, turns-visits, copies-unasked}
+use Rattle.clk_sched.proofs.Runs.GoesOn.{filter-reverse, map-reverse}
+use Rattle.clk_sched.proofs.Shares.DeficitShares.{IsCovered, covers-all}
+use Rattle.clk_sched.proofs.Classes.Table.{MayAsk}
 use Rattle.clk_sched.proofs.Closing.Turned.{IsTurn, is-turn, all-visited}
 use Rattle.clk_sched.proofs.Closing.Room.{EachBefore, each-before, may-ask}
 use Rattle.clk_sched.proofs.Closing.Costs.{CostsAt, KeepsDeficits, TurnLaw, onto-joined}

@@ -11,11 +11,11 @@ use Rattle.clk_sched.specs.Log.{result_of}
 use Rattle.clk_sched.specs.Laws.{AllowsTurn, manner}
 use Rattle.clk_sched.specs.Laws.Deficit.{next_input, deficit_covers}
 use Rattle.clk_sched.specs.inside.Pulling.{AreApart, input_of}
-use Rattle.clk_sched.proofs.Members.{all-weaker}
-use Rattle.clk_sched.proofs.Allowed.{AreWithin}
-use Rattle.clk_sched.proofs.HeadsByManner.{PassesLast, turn-last}
-use Rattle.clk_sched.proofs.Classes.{MayAsk, asks-right}
-use Rattle.clk_sched.proofs.Orders.{IsPlace, IsBeyond, first-place, next-place, beyond-differs, beyond-lower}
+use Rattle.clk_sched.proofs.Lists.Members.{all-weaker}
+use Rattle.clk_sched.proofs.Runs.Allowed.{AreWithin}
+use Rattle.clk_sched.proofs.Runs.HeadsByManner.{PassesLast, turn-last}
+use Rattle.clk_sched.proofs.Classes.Table.{MayAsk, asks-right}
+use Rattle.clk_sched.proofs.Classes.Orders.{IsPlace, IsBeyond, first-place, next-place, beyond-differs, beyond-lower}
 use Rattle.clk_sched.proofs.Closing.Visited.{one_if, count}
 
 abbrev pub passes : Visit → Bool

@@ -5,7 +5,7 @@ use Rattle.std.proofs.lemmas.Bool.{false≢true}
 use Rattle.std.proofs.lemmas.Bool.Decides.{nat_tests}
 use Rattle.clk_sched.specs.declared.visit.Visit.{Visit}
 use Rattle.clk_sched.specs.inside.Pulling.{AreApart, input_of}
-use Rattle.clk_sched.proofs.Numbers.{equal, differs}
+use Rattle.clk_sched.proofs.Lists.Numbers.{equal, differs}
 
 abbrev pub Misses : ℕ → List Visit → Type 0
 Misses i visits = AllByRecursion (λ (v : Visit). v.input ≢ i) visits

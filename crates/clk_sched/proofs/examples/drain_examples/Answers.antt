@@ -5,7 +5,7 @@ use Rattle.clk_sched.specs.Log.{moment_of}
 use Rattle.clk_sched.specs.Session.{given_in}
 use Rattle.clk_sched.specs.Examples.Priority.{p1_0}
 use Rattle.clk_sched.specs.Examples.Draining.{pull_giving}
-use Rattle.clk_sched.proofs.WorkedPulls.{run-of-two, run-of-three, run-of-four}
+use Rattle.clk_sched.proofs.Runs.WorkedPulls.{run-of-two, run-of-three, run-of-four}
 use Rattle.std.proofs.lemmas.List.{length-map}
 use Rattle.std.proofs.lemmas.List.FromFn.{length-range_with_len}
 use Rattle.clk_sched.proofs.examples.drain_examples.Goals as goal

@@ -4,7 +4,7 @@ use Rattle.clk_sched.specs.Log.{moment_of}
 use Rattle.clk_sched.specs.Session.{LastGives, given_in}
 use Rattle.clk_sched.specs.Examples.Priority.{p1_0}
 use Rattle.clk_sched.specs.Examples.Draining.{pull_giving}
-use Rattle.clk_sched.proofs.WorkedPulls.{run-of-two, run-of-three, run-of-four}
+use Rattle.clk_sched.proofs.Runs.WorkedPulls.{run-of-two, run-of-three, run-of-four}
 use Rattle.clk_sched.proofs.examples.full_drain_examples.Goals as goal
 
 pub returns-clause-is_drained : goal.returns-clause-is_drained

@@ -4,7 +4,7 @@ use Rattle.clk_packet.specs.declared.packet.Packet.{Packet}
 use Rattle.clk_sched.specs.declared.visit.Visit.{Visit}
 use Rattle.clk_sched.specs.Tree.{leaves, root}
 use Rattle.clk_sched.specs.Examples.Priority.{p1_0}
-use Rattle.clk_sched.proofs.WorkedPulls.{run-of-three}
+use Rattle.clk_sched.proofs.Runs.WorkedPulls.{run-of-three}
 use Rattle.clk_sched.proofs.examples.pull_examples.Goals as goal
 
 pub returns-clause-is_pulled_again : goal.returns-clause-is_pulled_again

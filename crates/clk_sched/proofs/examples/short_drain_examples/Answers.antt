@@ -4,7 +4,7 @@ use Rattle.clk_sched.specs.Log.{moment_of}
 use Rattle.clk_sched.specs.Session.{StopsShort, given_in}
 use Rattle.clk_sched.specs.Examples.Priority.{p1_0}
 use Rattle.clk_sched.specs.Examples.Draining.{pull_giving, pulled_twice, drained, stopped_at_first, stopped_at_bound}
-use Rattle.clk_sched.proofs.WorkedPulls.{run-of-three, run-of-four}
+use Rattle.clk_sched.proofs.Runs.WorkedPulls.{run-of-three, run-of-four}
 use Rattle.clk_sched.proofs.examples.short_drain_examples.Goals as goal
 
 at-first : StopsShort pulled_twice stopped_at_first 5 1 1

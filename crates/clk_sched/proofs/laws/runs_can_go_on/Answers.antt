@@ -1,4 +1,4 @@
-use Rattle.clk_sched.proofs.CanGoOn.{can-go_on}
+use Rattle.clk_sched.proofs.Runs.CanGoOn.{can-go_on}
 use Rattle.clk_sched.proofs.laws.runs_can_go_on.Goals as goal
 
 pub returns : goal.returns

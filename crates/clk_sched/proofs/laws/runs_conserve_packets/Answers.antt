@@ -1,6 +1,6 @@
-use Rattle.clk_sched.proofs.Conserved.{conserves-packets}
-use Rattle.clk_sched.proofs.CameFrom.{makes-nothing}
-use Rattle.clk_sched.proofs.Counted.{conserves-counts}
+use Rattle.clk_sched.proofs.Conservation.Conserved.{conserves-packets}
+use Rattle.clk_sched.proofs.Conservation.CameFrom.{makes-nothing}
+use Rattle.clk_sched.proofs.Conservation.Counted.{conserves-counts}
 use Rattle.clk_sched.proofs.laws.runs_conserve_packets.Goals as goal
 
 pub returns-clause-loses_nothing : goal.returns-clause-loses_nothing

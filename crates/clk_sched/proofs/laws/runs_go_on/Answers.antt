@@ -1,4 +1,4 @@
-use Rattle.clk_sched.proofs.GoesOn.{goes-on}
+use Rattle.clk_sched.proofs.Runs.GoesOn.{goes-on}
 use Rattle.clk_sched.proofs.laws.runs_go_on.Goals as goal
 
 pub returns : goal.returns

@@ -1,4 +1,4 @@
-use Rattle.clk_sched.proofs.NoChoice.{leaves-no_choice, pulls-leave_no_choice}
+use Rattle.clk_sched.proofs.Runs.NoChoice.{leaves-no_choice, pulls-leave_no_choice}
 use Rattle.clk_sched.proofs.laws.runs_leave_no_choice.Goals as goal
 
 pub returns-clause-runs : goal.returns-clause-runs

@@ -14,20 +14,20 @@ use Rattle.clk_sched.specs.Places.{Answers, at_queue}
 use Rattle.clk_sched.specs.inside.Places.{input_at, queue_asked}
 use Rattle.clk_sched.specs.inside.Pulling.{added, inputs_in}
 use Rattle.clk_sched.specs.inside.Looking.{looking}
-use Rattle.clk_sched.proofs.Asking.{keeps-none, keeps-more, answers-then, asking-first, asking-ready, asking-given, asking-next, asking-all}
-use Rattle.clk_sched.proofs.Asked.{entry, rank_at, entry-input, input-is, edges-scheduler, queue-visited, asks-queue, asks-child}
-use Rattle.clk_sched.proofs.Idle.{rest-can, asking-past}
-use Rattle.clk_sched.proofs.Placed.{can-turn, kept-there, pulled-back}
-use Rattle.clk_sched.proofs.TurnPrio.{prio-asks, prio-pulled}
-use Rattle.clk_sched.proofs.TurnRoundRobin.{begins, may-first, may-second, had-first, had-second, had-none, few-first, few-second}
-use Rattle.clk_sched.proofs.Logged.{edge-there, queue-answers, keeps-logged, added-logged, asked-logged}
-use Rattle.clk_sched.proofs.LooksDrr.{answers-held, looks-held, looks-fresh}
-use Rattle.clk_sched.proofs.TurnDrr.{has-looked, making-first, making-can, making-next, making-passed, making-all, HasEnded, had-ended}
-use Rattle.clk_sched.proofs.TurnStride.{FitsAt, stride-may, had-won, had-lost}
-use Rattle.clk_sched.proofs.ShaperRow.{below-refused, below-answered, whole-answered, answers-keep, goes-may, goes-room, goes-edges, goes-order, goes-inputs}
+use Rattle.clk_sched.proofs.Nodes.Asking.{keeps-none, keeps-more, answers-then, asking-first, asking-ready, asking-given, asking-next, asking-all}
+use Rattle.clk_sched.proofs.Nodes.Asked.{entry, rank_at, entry-input, input-is, edges-scheduler, queue-visited, asks-queue, asks-child}
+use Rattle.clk_sched.proofs.Nodes.Idle.{rest-can, asking-past}
+use Rattle.clk_sched.proofs.Nodes.Placed.{can-turn, kept-there, pulled-back}
+use Rattle.clk_sched.proofs.Classes.TurnPrio.{prio-asks, prio-pulled}
+use Rattle.clk_sched.proofs.Classes.TurnRoundRobin.{begins, may-first, may-second, had-first, had-second, had-none, few-first, few-second}
+use Rattle.clk_sched.proofs.Nodes.Logged.{edge-there, queue-answers, keeps-logged, added-logged, asked-logged}
+use Rattle.clk_sched.proofs.Classes.LooksDrr.{answers-held, looks-held, looks-fresh}
+use Rattle.clk_sched.proofs.Classes.TurnDrr.{has-looked, making-first, making-can, making-next, making-passed, making-all, HasEnded, had-ended}
+use Rattle.clk_sched.proofs.Classes.TurnStride.{FitsAt, stride-may, had-won, had-lost}
+use Rattle.clk_sched.proofs.Classes.ShaperRow.{below-refused, below-answered, whole-answered, answers-keep, goes-may, goes-room, goes-edges, goes-order, goes-inputs}
 use Rattle.clk_sched.specs.inside.Tokens.{GoesDown}
 use Rattle.clk_sched.specs.inside.Turning.{HasAskedAll, WasPulled}
-use Rattle.clk_sched.proofs.InOrder.{packet_of}
+use Rattle.clk_sched.proofs.Nodes.InOrder.{packet_of}
 use Rattle.clk_sched.proofs.session.+pull.Goals as goal
 
 -- a box with something else in it

@@ -4,8 +4,8 @@ use Rattle.clk_sched.specs.inside.Kept.{kept}
 use Rattle.clk_sched.specs.inside.Marks.{AreMarked}
 use Rattle.clk_sched.specs.Session.{elements}
 use Rattle.clk_sched.specs.inside.LaidOut.{elements_of}
-use Rattle.clk_sched.proofs.TreeLemmas.{leaves-row, elements-row}
-use Rattle.clk_sched.proofs.Distinct.{marked-less, marks-queue}
+use Rattle.clk_sched.proofs.Trees.TreeLemmas.{leaves-row, elements-row}
+use Rattle.clk_sched.proofs.Trees.Distinct.{marked-less, marks-queue}
 use Rattle.clk_sched.proofs.tree.+mark.Goals as goal
 
 pub Tree::mark-mark-requires : goal.Tree::mark-mark-requires

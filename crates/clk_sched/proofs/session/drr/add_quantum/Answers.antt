@@ -1,6 +1,6 @@
 use Rattle.std.proofs.Common.{slice_set, unwrap_or, refl, sym, ap, ◌∙◌}
 use Rattle.clk_sched.specs.inside.Holds.Served.{with_quantum}
-use Rattle.clk_sched.proofs.Deficits.{row-read}
+use Rattle.clk_sched.proofs.Classes.Deficits.{row-read}
 use Rattle.clk_sched.proofs.session.drr.add_quantum.Goals as goal
 
 pub returns-clause-adds : goal.returns-clause-adds

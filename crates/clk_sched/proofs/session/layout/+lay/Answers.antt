@@ -2,8 +2,8 @@ use Rattle.std.proofs.Common.{◌≡◌, ◌++◌, length, [], ◌∷◌, slice_
 use Rattle.clk_sched.specs.Built.{row}
 use Rattle.clk_sched.specs.inside.Places.{inputs_of}
 use Rattle.clk_sched.specs.inside.LaidOut.{input_of}
-use Rattle.clk_sched.proofs.TreeLemmas.{rest, elements-row}
-use Rattle.clk_sched.proofs.Added.{nodes_of-elements_of, adds-size, adds-row, adds-node, inputs-more}
+use Rattle.clk_sched.proofs.Trees.TreeLemmas.{rest, elements-row}
+use Rattle.clk_sched.proofs.Trees.Added.{nodes_of-elements_of, adds-size, adds-row, adds-node, inputs-more}
 use Rattle.clk_sched.proofs.session.layout.+lay.Goals as goal
 
 pub lay_inputs-lay_inputs-requires : goal.lay_inputs-lay_inputs-requires

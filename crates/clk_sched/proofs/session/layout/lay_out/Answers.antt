@@ -1,7 +1,7 @@
 use Rattle.std.proofs.Common.{refl, ap, subst}
 use Rattle.clk_sched.specs.Tree.{root, IsWellFormed}
-use Rattle.clk_sched.proofs.LaidOut.{lays-out}
-use Rattle.clk_sched.proofs.Added.{adds-device}
+use Rattle.clk_sched.proofs.Trees.LaidOut.{lays-out}
+use Rattle.clk_sched.proofs.Trees.Added.{adds-device}
 use Rattle.clk_sched.proofs.session.layout.lay_out.Goals as goal
 
 pub returns-clause-laid_out : goal.returns-clause-laid_out

@@ -3,7 +3,7 @@ use Rattle.std.proofs.lemmas.Bool.Decides.{nat_tests}
 use Rattle.clk_sched.specs.declared.session.stride.Rank.{Rank}
 use Rattle.clk_sched.specs.declared.session.stride.TheConstants.{FAR}
 use Rattle.clk_sched.specs.inside.Ranks.{first_pass, less}
-use Rattle.clk_sched.proofs.RankLemmas.{less-none, taken-none, first-is, changed-read, changed-more}
+use Rattle.clk_sched.proofs.Classes.RankLemmas.{less-none, taken-none, first-is, changed-read, changed-more}
 use Rattle.clk_sched.proofs.session.stride.bring_near.Goals as goal
 
 pub returns-then-least-lt-FAR : goal.returns-then-least-lt-FAR

@@ -1,4 +1,4 @@
-use Rattle.clk_sched.proofs.RankLemmas.{StandBefore}
+use Rattle.clk_sched.proofs.Classes.RankLemmas.{StandBefore}
 use Rattle.clk_sched.proofs.session.stride.count_before.Given as goal
 
 abbrev pub invariant-loop-before : goal.invariant-loop-before

@@ -1,5 +1,5 @@
 use Rattle.std.proofs.Common.{◌-◌, ◌∙◌, refl, arith}
-use Rattle.clk_sched.proofs.RankLemmas.{win-next}
+use Rattle.clk_sched.proofs.Classes.RankLemmas.{win-next}
 use Rattle.clk_sched.proofs.session.stride.place_visited.Goals as goal
 
 pub loop-idle-preserved : goal.loop-idle-preserved

@@ -1,7 +1,7 @@
 use Rattle.std.proofs.Common.{◌≡◌, ◌+◌, ◌∷◌, List, subst}
 use Rattle.clk_sched.specs.declared.session.stride.Rank.{Rank}
 use Rattle.clk_sched.specs.inside.Ranks.{put_rank}
-use Rattle.clk_sched.proofs.RankLemmas.{after-place, put-first}
+use Rattle.clk_sched.proofs.Classes.RankLemmas.{after-place, put-first}
 use Rattle.clk_sched.proofs.session.stride.put.Goals as goal
 
 pub returns-then-is_first : goal.returns-then-is_first

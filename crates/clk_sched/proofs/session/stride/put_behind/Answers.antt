@@ -2,7 +2,7 @@ use Rattle.std.proofs.Common.{◌≡◌, ◌+◌, ◌-◌, ◌≤◌, ◌∷◌,
 use Rattle.std.proofs.Math.Seq.{paste}
 use Rattle.clk_sched.specs.declared.session.stride.Rank.{Rank}
 use Rattle.clk_sched.specs.inside.Ranks.{put_rank}
-use Rattle.clk_sched.proofs.RankLemmas.{after-place, put-moved}
+use Rattle.clk_sched.proofs.Classes.RankLemmas.{after-place, put-moved}
 use Rattle.clk_sched.proofs.session.stride.put_behind.Goals as goal
 
 pub returns : goal.returns

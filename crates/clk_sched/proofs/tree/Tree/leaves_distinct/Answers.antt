@@ -3,7 +3,7 @@ use Rattle.std.proofs.lemmas.List.{get_or-replicate}
 use Rattle.clk_packet.specs.Lists.{are_distinct}
 use Rattle.clk_sched.specs.Tree.{root, IsSound}
 use Rattle.clk_sched.specs.inside.Kept.{kept}
-use Rattle.clk_sched.proofs.TreeLemmas.{leaves-root, sound-formed}
+use Rattle.clk_sched.proofs.Trees.TreeLemmas.{leaves-root, sound-formed}
 use Rattle.clk_sched.proofs.tree.Tree.leaves_distinct.Goals as goal
 
 pub returns-clause-distinct : goal.returns-clause-distinct

@@ -1,7 +1,7 @@
 use Rattle.std.proofs.Common.{◌≤◌, ◌+◌, ap, ◌∙◌, arith}
 use Rattle.std.proofs.Math.Nat.{mul-le-mul}
 use Rattle.clk_sched.specs.Built.{levels}
-use Rattle.clk_sched.proofs.TreeBound.{bound-each}
+use Rattle.clk_sched.proofs.Trees.TreeBound.{bound-each}
 use Rattle.clk_sched.proofs.tree.Tree.pulls_per_packet.Goals as goal
 
 pub returns-clause-value : goal.returns-clause-value

@@ -1,6 +1,6 @@
 use Rattle.std.proofs.Common.{◌≤◌, subst, arith}
 use Rattle.clk_sched.specs.Tree.{root, IsWellFormed}
-use Rattle.clk_sched.proofs.TreeBound.{quantum-positive}
+use Rattle.clk_sched.proofs.Trees.TreeBound.{quantum-positive}
 use Rattle.clk_sched.proofs.tree.Tree.rounds.Goals as goal
 use Rattle.clk_sched.proofs.tree.Tree.rounds.Goals.{After-from-quantum}
 

@@ -2,7 +2,7 @@ use Rattle.std.proofs.Common.{◌≡◌, subst, arith}
 use Rattle.clk_sched.specs.Tree.{height, HasArguments, IsWellFormed}
 use Rattle.clk_sched.specs.Built.{row}
 use Rattle.clk_sched.specs.inside.Kept.{class_of}
-use Rattle.clk_sched.proofs.TreeLemmas.{built-wide, built-high, built-fits, width-row}
+use Rattle.clk_sched.proofs.Trees.TreeLemmas.{built-wide, built-high, built-fits, width-row}
 use Rattle.clk_sched.proofs.tree.Tree.scheduler.Goals as goal
 
 pub returns-then-len-gt-MAX_INPUTS : goal.returns-then-len-gt-MAX_INPUTS

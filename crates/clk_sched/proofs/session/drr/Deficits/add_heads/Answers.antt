@@ -1,7 +1,7 @@
 use Rattle.std.proofs.Common.{◌≡◌, arith}
 use Rattle.std.proofs.lemmas.Grind.{common_steps}
 use Rattle.clk_sched.specs.declared.session.drr.Served.{Served}
-use Rattle.clk_sched.proofs.Held.{filter_map-more}
+use Rattle.clk_sched.proofs.Sessions.Held.{filter_map-more}
 use Rattle.clk_sched.proofs.session.drr.Deficits.add_heads.Goals as goal
 
 pub loop-served-preserved : goal.loop-served-preserved

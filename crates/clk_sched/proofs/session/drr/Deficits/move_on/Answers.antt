@@ -1,5 +1,5 @@
 use Rattle.std.proofs.Common.{rules, ℕ, ◌+◌, ◌%◌, ◌<◌, length, sym, ap, subst, mod-lt, arith}
-use Rattle.clk_sched.proofs.Deficits.{sum-fits, limits-of, limits-moved, adds-within}
+use Rattle.clk_sched.proofs.Classes.Deficits.{sum-fits, limits-of, limits-moved, adds-within}
 use Rattle.clk_sched.proofs.session.drr.Deficits.move_on.Goals as goal
 
 pub add_quantum-requires-clause-fits : goal.add_quantum-requires-clause-fits

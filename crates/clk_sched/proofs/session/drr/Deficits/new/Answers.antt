@@ -1,5 +1,5 @@
 use Rattle.std.proofs.Common.{rules, refl, sym}
-use Rattle.clk_sched.proofs.Deficits.{sum-fits, limits-first, limits-moved, none-left, deficits-first, adds-within}
+use Rattle.clk_sched.proofs.Classes.Deficits.{sum-fits, limits-first, limits-moved, none-left, deficits-first, adds-within}
 use Rattle.clk_sched.proofs.session.drr.Deficits.new.Goals as goal
 
 pub add_quantum-requires-clause-fits : goal.add_quantum-requires-clause-fits

@@ -1,6 +1,6 @@
 use Rattle.std.proofs.Common.{refl, sym, ap, ◌∙◌}
 use Rattle.clk_sched.specs.inside.Holds.Served.{covers, settled}
-use Rattle.clk_sched.proofs.Deficits.{row-read, settled-within, deficits-cover, deficits-passed, deficits-moved-on}
+use Rattle.clk_sched.proofs.Classes.Deficits.{row-read, settled-within, deficits-cover, deficits-passed, deficits-moved-on}
 use Rattle.clk_sched.proofs.session.drr.Deficits.settle.Goals as goal
 
 pub settle-passed-requires : goal.settle-passed-requires

@@ -4,10 +4,10 @@ use Rattle.clk_sched.specs.Run.{IsRun}
 use Rattle.clk_sched.specs.Tree.{leaves_distinct}
 use Rattle.clk_sched.specs.Session.{GivesAll, counted_moment}
 use Rattle.clk_sched.specs.Kinds.{progress_of}
-use Rattle.clk_sched.proofs.SessionDrain.{draining-first, drain-step, draining-all, given-one, given-none}
+use Rattle.clk_sched.proofs.Sessions.SessionDrain.{draining-first, drain-step, draining-all, given-one, given-none}
 use Rattle.clk_sched.proofs.Closing.Emptied.{emptied-first}
 use Rattle.clk_sched.specs.Departures.{departure_at, departures_in, pulls_since, IsAddedTo}
-use Rattle.clk_sched.proofs.Departed.{added-none, added-same, added-more, still-dropped, since-none}
+use Rattle.clk_sched.proofs.Sessions.Departed.{added-none, added-same, added-more, still-dropped, since-none}
 use Rattle.clk_sched.proofs.session.kernel.Kernel.drain_to.Goals as goal
 
 pub loop-given-init : goal.loop-given-init

@@ -1,7 +1,7 @@
 use Rattle.std.proofs.Common.{◌≡◌, ◌-◌, ◌≤◌}
 use Rattle.clk_sched.specs.Departures.{departures_in, pulls_since, IsAddedTo}
 use Rattle.clk_sched.specs.Kinds.{progress_of}
-use Rattle.clk_sched.proofs.SessionDrain.{IsDraining, Empties}
+use Rattle.clk_sched.proofs.Sessions.SessionDrain.{IsDraining, Empties}
 use Rattle.clk_sched.proofs.session.kernel.Kernel.drain_to.Given as goal
 
 abbrev pub invariant-loop-given : goal.invariant-loop-given

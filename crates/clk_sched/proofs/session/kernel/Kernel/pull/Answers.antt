@@ -7,8 +7,8 @@ use Rattle.clk_sched.specs.Places.{Answers, tree_queue}
 use Rattle.clk_sched.specs.declared.session.nodes.Nodes.{Nodes}
 use Rattle.clk_sched.specs.Session.{IsPulledOnce, newly}
 use Rattle.clk_sched.specs.Kinds.{progress_of, pulls_made, IsEndless}
-use Rattle.clk_sched.proofs.SessionPull.{session-pulled, emitted-once, one-at-most, pulls-fit, progress, HasGoneOn}
-use Rattle.clk_sched.proofs.QueuesAsked.{answers-tree}
+use Rattle.clk_sched.proofs.Sessions.SessionPull.{session-pulled, emitted-once, one-at-most, pulls-fit, progress, HasGoneOn}
+use Rattle.clk_sched.proofs.Trees.QueuesAsked.{answers-tree}
 use Rattle.clk_sched.proofs.session.kernel.Kernel.pull.Goals as goal
 
 pub overflow_add-self : goal.overflow_add-self

@@ -1,6 +1,6 @@
 use Rattle.std.proofs.Common.{refl, arith}
-use Rattle.clk_sched.proofs.Asking.{asking-first}
-use Rattle.clk_sched.proofs.Idle.{asking-front}
+use Rattle.clk_sched.proofs.Nodes.Asking.{asking-first}
+use Rattle.clk_sched.proofs.Nodes.Idle.{asking-front}
 use Rattle.clk_sched.proofs.session.nodes.Nodes.pass_idle.Goals as goal
 
 pub returns-then-count-lt-MANY-clause-asked : goal.returns-then-count-lt-MANY-clause-asked

@@ -2,9 +2,9 @@ use Rattle.std.proofs.Common.{◌≡◌, ◌+◌, ◌<◌, take, None, refl, sym
 use Rattle.std.specs.List.{range_with_len}
 use Rattle.std.proofs.lemmas.List.FromFn.{length-range_with_len, get_or-range_with_len}
 use Rattle.clk_sched.specs.inside.Places.{edges_in}
-use Rattle.clk_sched.proofs.Asking.{asking-first, asking-ready, asking-next}
-use Rattle.clk_sched.proofs.Logged.{edge-there, idle-asked}
-use Rattle.clk_sched.proofs.Idle.{there-at, idle-then, asking-front}
+use Rattle.clk_sched.proofs.Nodes.Asking.{asking-first, asking-ready, asking-next}
+use Rattle.clk_sched.proofs.Nodes.Logged.{edge-there, idle-asked}
+use Rattle.clk_sched.proofs.Nodes.Idle.{there-at, idle-then, asking-front}
 use Rattle.clk_sched.proofs.session.nodes.Nodes.pass_idle_queues.Goals as goal
 
 pub idle_from-idle-requires-clause-within : goal.idle_from-idle-requires-clause-within

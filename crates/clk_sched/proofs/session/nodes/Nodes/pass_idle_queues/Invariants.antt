@@ -1,6 +1,6 @@
 use Rattle.std.proofs.Common.{take}
 use Rattle.std.specs.List.{range_with_len}
-use Rattle.clk_sched.proofs.Asking.{IsAsking}
+use Rattle.clk_sched.proofs.Nodes.Asking.{IsAsking}
 use Rattle.clk_sched.proofs.session.nodes.Nodes.pass_idle_queues.Given as goal
 
 abbrev pub invariant-loop-place : goal.invariant-loop-place

@@ -1,5 +1,5 @@
 use Rattle.std.proofs.Common.{refl}
-use Rattle.clk_sched.proofs.Bucket.{bucket-back}
+use Rattle.clk_sched.proofs.Classes.Bucket.{bucket-back}
 use Rattle.clk_sched.proofs.session.shaper.Bucket.give_back.Goals as goal
 
 pub returns : goal.returns

@@ -6,7 +6,7 @@ use Rattle.std.proofs.lemmas.List.Elements.{All-from_recursion}
 use Rattle.clk_sched.specs.declared.session.stride.Rank.{Rank}
 use Rattle.clk_sched.specs.Laws.Stride.{stride_of}
 use Rattle.clk_sched.specs.inside.Ranks.{greatest_stride, IsRankOf, HasRisingPasses, first_pass, first_rank}
-use Rattle.clk_sched.proofs.StridePasses.{passes-first, first-ranks, first-near, first-rises, strides-bounded}
+use Rattle.clk_sched.proofs.Classes.StridePasses.{passes-first, first-ranks, first-near, first-rises, strides-bounded}
 use Rattle.clk_sched.proofs.session.stride.Passes.new.Goals as goal
 
 pub invariant_of-result : goal.invariant_of-result

@@ -5,8 +5,8 @@ use Rattle.smallvec.proofs.SmallVecLemmas.{items-with_items}
 use Rattle.clk_sched.specs.declared.session.stride.Rank.{Rank}
 use Rattle.clk_sched.specs.declared.session.stride.TheConstants.{FAR}
 use Rattle.clk_sched.specs.inside.Ranks.{IsRankOf, HasRisingPasses, after_win, first_pass, taken_from, less}
-use Rattle.clk_sched.proofs.RankLemmas.{win-from, first-below, taken-near, win-least, win-kept, win-kept_rising}
-use Rattle.clk_sched.proofs.StridePasses.{passes-won}
+use Rattle.clk_sched.proofs.Classes.RankLemmas.{win-from, first-below, taken-near, win-least, win-kept, win-kept_rising}
+use Rattle.clk_sched.proofs.Classes.StridePasses.{passes-won}
 use Rattle.clk_sched.proofs.session.stride.Passes.won.Goals as goal
 
 pub bring_near-requires-clause-least : goal.bring_near-requires-clause-least

@@ -1,0 +1,326 @@
+-- The row and the cursor of a DRRSched from visit to visit.
+use Rattle.std.proofs.Common.{◌≡◌, ◌≢◌, ℕ, zero, suc, ◌+◌, ◌-◌, ◌*◌, ◌%◌, ◌≤◌, ◌<◌, ◌==◌, nat_le, if◌then◌else◌, Bool, true, false, List, [], ◌∷◌, map, length, slice_get, slice_set, get_or, Option, Some, None, is_some, option_map, unwrap_or, refl, sym, ap, ap₂, ◌∙◌, subst, mul-add, zero-add, arith}
+use Rattle.std.specs.List.{AllByRecursion}
+use Rattle.std.proofs.lemmas.Bool.{false≢true}
+use Rattle.std.proofs.lemmas.Bool.Decides.{nat_tests}
+use Rattle.std.proofs.lemmas.List.{length-set, length-map}
+use Rattle.std.proofs.lemmas.Option.{slice_get_read, slice_get-map}
+use Rattle.smallvec.specs.SmallVec.{SmallVec, small_vec_len, with_items}
+use Rattle.smallvec.proofs.SmallVecLemmas.{items-with_items}
+use Rattle.clk_packet.specs.declared.packet.Packet.{Packet}
+use Rattle.clk_packet.specs.Limits.{most_length, most_inputs, most_quantum}
+use Rattle.clk_sched.specs.declared.session.drr.Served.{Served}
+use Rattle.clk_sched.specs.declared.session.drr.Deficits.{Deficits}
+use Rattle.clk_sched.specs.declared.visit.Visit.{Visit}
+use Rattle.clk_sched.specs.Heads.{head_at, is_covered}
+use Rattle.clk_sched.specs.Laws.Deficit.{next_input, arrives, arrivals, bytes_of, passed_bytes, quantum_at, deficit_covers}
+use Rattle.clk_sched.specs.inside.Holds.Served.{AreQuantaWithin, AreDeficitsWithin, waiting, with_quantum, covers, settled}
+use Rattle.clk_sched.specs.inside.Holds.Deficit.{HoldsInput, ahead_at, HoldsDeficits}
+use Rattle.clk_sched.proofs.Lists.Numbers.{equal, differs}
+
+-- what is read at a place, as the code reads it
+pub row-read : (row lent : List Served) (i place : ℕ) (s : Served) → lent ≡ row → place ≡ i → i < length row → s ≡ get_or lent place s → slice_get row i ≡ Some s
+row-read row lent i place s same at within is = slice_get_read row (length row) i s refl within (is ∙ ap₂ (λ xs j. get_or xs j s) same at)
+
+read-same : (row : List Served) (i : ℕ) (y s : Served) → slice_get (slice_set row i y) i ≡ Some s → y ≡ s
+read-same [] i y s e = absurd (false≢true (ap is_some e))
+read-same (x ∷ row) zero y s e = ap (λ o. unwrap_or o y) e
+read-same (x ∷ row) (suc i) y s e = read-same row i y s e
+
+read-other : (row : List Served) (i j : ℕ) (y : Served) → j ≢ i → slice_get (slice_set row i y) j ≡ slice_get row j
+read-other [] i j y d = refl
+read-other (x ∷ row) zero zero y d = absurd (d refl)
+read-other (x ∷ row) zero (suc j) y d = refl
+read-other (x ∷ row) (suc i) zero y d = refl
+read-other (x ∷ row) (suc i) (suc j) y d = read-other row i j y (λ e. d (ap suc e))
+
+-- what holds of what is written, and of the others, holds of the row
+each-written : (P : ℕ → Served → Type 0) (row : List Served) (i : ℕ) (y : Served) → P i y → ((j : ℕ) (s : Served) → j ≢ i → slice_get row j ≡ Some s → P j s)
+    → (j : ℕ) (s : Served) → slice_get (slice_set row i y) j ≡ Some s → P j s
+each-written P row i y here others j s e = by_place (j == i) refl
+  where
+    by_place : (b : Bool) → (j == i) ≡ b → P j s
+    by_place true f =
+        let same : j ≡ i = grind (arith, nat_tests) in
+        subst (λ k. P k s) (sym same) (subst (P i) (read-same row i y s (subst (λ k. slice_get (slice_set row i y) k ≡ Some s) same e)) here)
+    by_place false f = let other : j ≢ i = grind (arith, nat_tests) in others j s other (sym (read-other row i j y other) ∙ e)
+
+-- each place within a row has an input
+pub read-some : (row : List Served) (i : ℕ) → i < length row → (s : Served) × (slice_get row i ≡ Some s)
+read-some [] i l = absurd (omega arith)
+read-some (x ∷ row) zero l = (x, refl)
+read-some (x ∷ row) (suc i) l = read-some row i (omega arith)
+
+-- what a row is where a quantum was added
+abbrev pub Adds : List Served → ℕ → List Served → Type 0
+Adds row i after = (s : Served) → slice_get row i ≡ Some s → after ≡ slice_set row i (with_quantum s)
+
+-- What is added through the slice is added to the row.
+pub adds-within : (row : SmallVec Served) (lent new : List Served) (place i : ℕ) → lent ≡ row.items → length new ≡ small_vec_len row → place ≡ i → Adds lent place new → Adds row.items i (with_items row new).items
+adds-within row lent new place i same long at adds =
+    subst (λ (x : List Served × ℕ). Adds x.0 x.1 (with_items row new).items) (λ j. (same j, at j)) (λ s e. items-with_items row new long ∙ adds s e)
+
+-- And so is what is settled at a place.
+pub settled-within : (row : SmallVec Served) (lent : List Served) (place i : ℕ) (new after : Served) → lent ≡ row.items → place ≡ i → new ≡ after → (with_items row (slice_set lent place new)).items ≡ slice_set row.items i after
+settled-within row lent place i new after same at is = items-with_items row (slice_set lent place new) (length-set lent place new ∙ ap length same) ∙ (λ j. slice_set (same j) (at j) (is j))
+
+-- the limits of a row and its cursor
+pub record KeepsLimits (cursor : ℕ) (row : List Served) : Type 0 where
+  pub few : length row ≤ most_inputs
+  pub cursor_within : cursor < length row
+  pub quanta_within : AreQuantaWithin row
+  pub deficits_within : AreDeficitsWithin cursor row
+
+pub limits-of : (d : Deficits) → KeepsLimits d.cursor d.row.items
+limits-of d = record { few = d.few; cursor_within = d.cursor_within; quanta_within = d.quanta_within; deficits_within = d.deficits_within }
+
+-- the sum of deficit and quantum fits
+pub sum-fits : (cursor : ℕ) (row : List Served) (i : ℕ) (s : Served) → KeepsLimits cursor row → slice_get row i ≡ Some s → s.deficit + s.quantum < 4294967296
+sum-fits cursor row i s h e = by_place (i == cursor) (h.quanta_within i s e) (h.deficits_within i s e)
+  where
+    by_place : (b : Bool) → s.quantum ≤ most_quantum → s.deficit < most_length + (if b then s.quantum else 0) → s.deficit + s.quantum < 4294967296
+    by_place true q d = omega arith
+    by_place false q d = omega arith
+
+-- the limits after a move
+pub limits-moved : (cursor : ℕ) (row after : List Served) (i : ℕ) → KeepsLimits cursor row → ((t : Served) → slice_get row cursor ≡ Some t → t.deficit < most_length) → i < length row → Adds row i after
+    → KeepsLimits i after
+limits-moved cursor row after i h left within adds =
+    subst (KeepsLimits i) (sym (adds s e))
+    (record {
+      few = subst (λ n. n ≤ most_inputs) (sym (length-set row i (with_quantum s))) h.few;
+      cursor_within = subst (λ n. i < n) (sym (length-set row i (with_quantum s))) within;
+      quanta_within = each-written (λ j t. t.quantum ≤ most_quantum) row i (with_quantum s) (h.quanta_within i s e) (λ j t other f. h.quanta_within j t f);
+      deficits_within =
+          each-written (λ j t. t.deficit < most_length + (if j == i then t.quantum else 0)) row i (with_quantum s)
+          (subst (λ b. s.deficit + s.quantum < most_length + (if b then s.quantum else 0)) (sym (equal i i refl)) (let l = below i s e in omega (arith, l)))
+          (λ j t other f. subst (λ b. t.deficit < most_length + (if b then t.quantum else 0)) (sym (differs j i other)) (let l = below j t f in omega (arith, l)));
+    })
+  where
+    s : Served
+    s = (read-some row i within).0
+
+    e : slice_get row i ≡ Some s
+    e = (read-some row i within).1
+
+    below : (j : ℕ) (t : Served) → slice_get row j ≡ Some t → t.deficit < most_length
+    below j t f = by_place (j == cursor) refl (h.deficits_within j t f)
+      where
+        by_place : (b : Bool) → (j == cursor) ≡ b → t.deficit < most_length + (if b then t.quantum else 0) → t.deficit < most_length
+        by_place true g l = let same : j ≡ cursor = grind (arith, nat_tests) in left t (subst (λ k. slice_get row k ≡ Some t) same f)
+        by_place false g l = omega (arith, l)
+
+-- an input of a row before the first arrival
+at-waiting : (quanta : List ℕ) (i : ℕ) (s : Served) → slice_get (map waiting quanta) i ≡ Some s → (q : ℕ) × (slice_get quanta i ≡ Some q) × (waiting q ≡ s)
+at-waiting quanta i s e = by_quantum (slice_get quanta i) refl (sym (slice_get-map waiting quanta i) ∙ e)
+  where
+    by_quantum : (o : Option ℕ) → slice_get quanta i ≡ o → option_map waiting o ≡ Some s → (q : ℕ) × (slice_get quanta i ≡ Some q) × (waiting q ≡ s)
+    by_quantum None f g = absurd (false≢true (ap is_some g))
+    by_quantum (Some q) f g = (q, f, ap (λ o. unwrap_or o s) g)
+
+pub none-left : (quanta : List ℕ) (row : List Served) (i : ℕ) (s : Served) → row ≡ map waiting quanta → slice_get row i ≡ Some s → s.deficit < most_length
+none-left quanta row i s all e = let is = at-waiting quanta i s (subst (λ xs. slice_get xs i ≡ Some s) all e) in let none : s.deficit ≡ 0 = sym (ap (λ (t : Served). t.deficit) is.2) in omega (arith, none)
+
+quantum-within : (quanta : List ℕ) (i q : ℕ) → AllByRecursion (λ n. (1 ≤ n) × (n ≤ most_quantum)) quanta → slice_get quanta i ≡ Some q → q ≤ most_quantum
+quantum-within [] i q h e = absurd (false≢true (ap is_some e))
+quantum-within (n ∷ quanta) zero q h e = subst (λ m. m ≤ most_quantum) (ap (λ o. unwrap_or o n) e) h.0.1
+quantum-within (n ∷ quanta) (suc i) q h e = quantum-within quanta i q h.1 e
+
+pub limits-first : (quanta : List ℕ) (row : List Served) → row ≡ map waiting quanta → 1 ≤ length quanta → length quanta ≤ most_inputs → AllByRecursion (λ n. (1 ≤ n) × (n ≤ most_quantum)) quanta
+    → KeepsLimits 0 row
+limits-first quanta row all some few within = record {
+  few = subst (λ n. n ≤ most_inputs) (sym long) few;
+  cursor_within = subst (λ n. 1 ≤ n) (sym long) some;
+  quanta_within = λ i s e.
+      let is = at-waiting quanta i s (subst (λ xs. slice_get xs i ≡ Some s) all e) in
+      subst (λ n. n ≤ most_quantum) (ap (λ (t : Served). t.quantum) is.2) (quantum-within quanta i is.0 within is.1);
+  deficits_within = λ i s e. let left = none-left quanta row i s all e in omega (arith, left);
+}
+  where
+    long : length row ≡ length quanta
+    long = ap length all ∙ length-map quanta waiting
+
+-- an input before its first arrival
+input-waiting : (quanta : List ℕ) (i : ℕ) (s : Served) → slice_get (map waiting quanta) i ≡ Some s → HoldsInput quanta [] 0 i s
+input-waiting quanta i s e =
+    let is = at-waiting quanta i s e in
+    subst (HoldsInput quanta [] 0 i) is.2 (record { quantum_is = sym (ap (λ o. unwrap_or o 0) is.1); head_is = refl; deficit_is = omega arith })
+
+-- an input that is arrived at
+input-arrived : (quanta : List ℕ) (before : List Visit) (i : ℕ) (s : Served) → HoldsInput quanta before 0 i s → HoldsInput quanta before 1 i (with_quantum s)
+input-arrived quanta before i s h =
+    record {
+      quantum_is = h.quantum_is;
+      head_is = h.head_is;
+      deficit_is = let q = h.quantum_is in let d = h.deficit_is in let one = mul-add (quantum_at quanta i) 1 (arrivals i before) in let none = mul-add (quantum_at quanta i) 0 (arrivals i before) in omega (arith, q, d, one, none);
+    }
+
+-- an input that isn't visited
+input-other : (quanta : List ℕ) (before : List Visit) (v : Visit) (i : ℕ) (s : Served) → (v.input == i) ≡ false → HoldsInput quanta before 0 i s → HoldsInput quanta (v ∷ before) 0 i s
+input-other quanta before v i s other h =
+    record {
+      quantum_is = h.quantum_is;
+      head_is = h.head_is ∙ sym (ap (λ b. if b then (if v.passed then None else v.got) else head_at i before) other);
+      deficit_is =
+          ap (λ n. s.deficit + n) (ap (λ b. if b then (if is_some v.got then (if v.passed then bytes_of v.got else 0) + passed_bytes i before else 0) else passed_bytes i before) other) ∙ h.deficit_is
+          ∙ sym (ap (λ n. quantum_at quanta i * (0 + n)) (ap (λ b. if b then (if is_some v.got then arrives before + arrivals i before else 0) else arrivals i before) other));
+    }
+
+-- the input that is visited
+input-settled : (quanta : List ℕ) (before : List Visit) (v : Visit) (i : ℕ) (s : Served) → (v.input == i) ≡ true → v.passed ≡ covers s v.got → HoldsInput quanta before (arrives before) i s
+    → HoldsInput quanta (v ∷ before) 0 i (settled s v.got)
+input-settled quanta before v i s here passes h = record {
+  quantum_is = by_quantum v.got ∙ h.quantum_is;
+  head_is = by_head v.got v.passed passes ∙ sym (ap (λ b. if b then (if v.passed then None else v.got) else head_at i before) here);
+  deficit_is =
+      ap (λ n. (settled s v.got).deficit + n) (ap (λ b. if b then (if is_some v.got then (if v.passed then bytes_of v.got else 0) + passed_bytes i before else 0) else passed_bytes i before) here)
+      ∙ by_deficit v.got v.passed passes
+      ∙ sym (ap (λ n. quantum_at quanta i * (0 + n)) (ap (λ b. if b then (if is_some v.got then arrives before + arrivals i before else 0) else arrivals i before) here));
+}
+  where
+    q : ℕ
+    q = quantum_at quanta i
+
+    sent : ℕ
+    sent = passed_bytes i before
+
+    arrived : ℕ
+    arrived = arrives before + arrivals i before
+
+    after : Packet → Bool → Served
+    after p b = if b then record { quantum = s.quantum; deficit = s.deficit - p.length; head = None } else record { quantum = s.quantum; deficit = s.deficit; head = Some p }
+
+    by_quantum : (o : Option Packet) → (settled s o).quantum ≡ s.quantum
+    by_quantum None = refl
+    by_quantum (Some p) = by_test (nat_le p.length s.deficit)
+      where
+        by_test : (b : Bool) → (after p b).quantum ≡ s.quantum
+        by_test true = refl
+        by_test false = refl
+
+    by_head : (o : Option Packet) (passed : Bool) → passed ≡ covers s o → (settled s o).head ≡ (if passed then None else o)
+    by_head None passed e = ap (λ b. if b then None else None) (sym e)
+    by_head (Some p) passed e = by_test (nat_le p.length s.deficit) ∙ sym (ap (λ b. if b then None else Some p) e)
+      where
+        by_test : (b : Bool) → (after p b).head ≡ (if b then None else Some p)
+        by_test true = refl
+        by_test false = refl
+
+    by_deficit : (o : Option Packet) (passed : Bool) → passed ≡ covers s o
+        → (settled s o).deficit + (if is_some o then (if passed then bytes_of o else 0) + sent else 0) ≡ q * (0 + (if is_some o then arrived else 0))
+    by_deficit None passed e = omega arith
+    by_deficit (Some p) passed e = ap (λ b. (settled s (Some p)).deficit + ((if b then p.length else 0) + sent)) e ∙ by_test (nat_le p.length s.deficit) refl ∙ sym (ap (λ n. q * n) (zero-add arrived))
+      where
+        by_test : (b : Bool) → nat_le p.length s.deficit ≡ b → (after p b).deficit + ((if b then p.length else 0) + sent) ≡ q * arrived
+        by_test true f = let within : p.length ≤ s.deficit = grind (arith, nat_tests) in let d = h.deficit_is in omega (arith, within, d)
+        by_test false f = ap (λ n. s.deficit + n) (zero-add sent) ∙ h.deficit_is
+
+-- whether what was got is covered
+input-covers : (quanta : List ℕ) (before : List Visit) (i : ℕ) (s : Served) (got : Option Packet) → HoldsInput quanta before (arrives before) i s → covers s got ≡ is_covered (deficit_covers quanta before i) got
+input-covers quanta before i s None h = refl
+input-covers quanta before i s (Some p) h = more p.length s.deficit (passed_bytes i before) ∙ ap (nat_le (p.length + passed_bytes i before)) h.deficit_is
+  where
+    more : (m n k : ℕ) → nat_le m n ≡ nat_le (m + k) (n + k)
+    more m n k = grind (arith, nat_tests)
+
+-- the input at the cursor
+at-cursor : (quanta : List ℕ) (inputs : ℕ) (before : List Visit) (d : Deficits) (s : Served) → HoldsDeficits quanta inputs before d → slice_get d.row.items d.cursor ≡ Some s
+    → HoldsInput quanta before (arrives before) (next_input inputs before) s
+at-cursor quanta inputs before d s h e =
+    let turn = next_input inputs before in
+    subst (λ n. HoldsInput quanta before n turn s) (ap (λ b. if b then arrives before else 0) (equal turn turn refl)) (h.each turn s (subst (λ k. slice_get d.row.items k ≡ Some s) h.cursor_is e))
+
+pub deficits-cover : (quanta : List ℕ) (inputs : ℕ) (before : List Visit) (d : Deficits) (s : Served) (got : Option Packet) → HoldsDeficits quanta inputs before d → slice_get d.row.items d.cursor ≡ Some s
+    → covers s got ≡ is_covered (deficit_covers quanta before (next_input inputs before)) got
+deficits-cover quanta inputs before d s got h e = input-covers quanta before (next_input inputs before) s got (at-cursor quanta inputs before d s h e)
+
+-- a row in which no arrival is counted ahead
+abbrev HoldsRow : List ℕ → List Visit → List Served → Type 0
+HoldsRow quanta before row = (i : ℕ) (s : Served) → slice_get row i ≡ Some s → HoldsInput quanta before 0 i s
+
+row-settled : (quanta : List ℕ) (inputs : ℕ) (before : List Visit) (v : Visit) (d : Deficits) (s : Served) → HoldsDeficits quanta inputs before d → slice_get d.row.items d.cursor ≡ Some s
+    → v.input ≡ next_input inputs before → v.passed ≡ covers s v.got → HoldsRow quanta (v ∷ before) (slice_set d.row.items d.cursor (settled s v.got))
+row-settled quanta inputs before v d s h e at passes =
+    each-written (HoldsInput quanta (v ∷ before) 0) d.row.items d.cursor (settled s v.got)
+    (subst (λ k. HoldsInput quanta (v ∷ before) 0 k (settled s v.got)) (sym h.cursor_is) (input-settled quanta before v turn s (equal v.input turn at) passes (at-cursor quanta inputs before d s h e)))
+    (λ j t other f. input-other quanta before v j t (differs v.input j (λ g. other (sym g ∙ at ∙ sym h.cursor_is)))
+    (subst (λ n. HoldsInput quanta before n j t) (ap (λ b. if b then arrives before else 0) (differs j turn (λ g. other (g ∙ sym h.cursor_is)))) (h.each j t f)))
+  where
+    turn : ℕ
+    turn = next_input inputs before
+
+-- the row once the next input is arrived at
+row-arrived : (quanta : List ℕ) (inputs : ℕ) (before : List Visit) (row : List Served) (s : Served) → HoldsRow quanta before row → slice_get row (next_input inputs before) ≡ Some s → arrives before ≡ 1
+    → (i : ℕ) (t : Served) → slice_get (slice_set row (next_input inputs before) (with_quantum s)) i ≡ Some t → HoldsInput quanta before (ahead_at inputs before i) i t
+row-arrived quanta inputs before row s h e one =
+    each-written (λ i t. HoldsInput quanta before (ahead_at inputs before i) i t) row turn (with_quantum s)
+    (subst (λ n. HoldsInput quanta before n turn (with_quantum s)) (sym (ap (λ b. if b then arrives before else 0) (equal turn turn refl) ∙ one)) (input-arrived quanta before turn s (h turn s e)))
+    (λ j t other f. subst (λ n. HoldsInput quanta before n j t) (sym (ap (λ b. if b then arrives before else 0) (differs j turn other))) (h j t f))
+  where
+    turn : ℕ
+    turn = next_input inputs before
+
+-- the state before the first visit
+pub deficits-first : (quanta : List ℕ) (d : Deficits) (row : List Served) → row ≡ map waiting quanta → 0 < length row → d.cursor ≡ 0 → Adds row 0 d.row.items → HoldsDeficits quanta (length quanta) [] d
+deficits-first quanta d row all some at adds = record {
+  length_is = ap length is ∙ length-set row 0 (with_quantum s) ∙ ap length all ∙ length-map quanta waiting;
+  cursor_is = at;
+  each = subst (λ xs. (i : ℕ) (t : Served) → slice_get xs i ≡ Some t → HoldsInput quanta [] (ahead_at (length quanta) [] i) i t) (sym is)
+      (row-arrived quanta (length quanta) [] row s (subst (HoldsRow quanta []) (sym all) (input-waiting quanta)) e refl);
+}
+  where
+    s : Served
+    s = (read-some row 0 some).0
+
+    e : slice_get row 0 ≡ Some s
+    e = (read-some row 0 some).1
+
+    is : d.row.items ≡ slice_set row 0 (with_quantum s)
+    is = adds s e
+
+-- after a visit that passed the cursor stays
+pub deficits-passed : (quanta : List ℕ) (inputs : ℕ) (before : List Visit) (v : Visit) (d e : Deficits) (s : Served) → HoldsDeficits quanta inputs before d → slice_get d.row.items d.cursor ≡ Some s
+    → v.input ≡ next_input inputs before → v.passed ≡ covers s v.got → v.passed ≡ true → e.cursor ≡ d.cursor → e.row.items ≡ slice_set d.row.items d.cursor (settled s v.got)
+    → HoldsDeficits quanta inputs (v ∷ before) e
+deficits-passed quanta inputs before v d e s h read at passes passed stays is = record {
+  length_is = ap length is ∙ length-set d.row.items d.cursor (settled s v.got) ∙ h.length_is;
+  cursor_is = stays ∙ h.cursor_is ∙ sym at ∙ sym (ap (λ b. if b then v.input else (v.input + 1) % inputs) passed);
+  each = λ i t f. subst (λ n. HoldsInput quanta (v ∷ before) n i t) (sym (none i)) (row-settled quanta inputs before v d s h read at passes i t (subst (λ xs. slice_get xs i ≡ Some t) is f));
+}
+  where
+    none : (i : ℕ) → ahead_at inputs (v ∷ before) i ≡ 0
+    none i = ap (λ n. if i == next_input inputs (v ∷ before) then n else 0) (ap (λ b. if b then 0 else 1) passed) ∙ by_place (i == next_input inputs (v ∷ before))
+      where
+        by_place : (b : Bool) → (let n : ℕ = if b then 0 else 0 in n) ≡ 0
+        by_place true = refl
+        by_place false = refl
+
+-- after any other the turn moves on
+pub deficits-moved-on : (quanta : List ℕ) (inputs : ℕ) (before : List Visit) (v : Visit) (d e : Deficits) (row : List Served) (s : Served) → HoldsDeficits quanta inputs before d → slice_get d.row.items d.cursor ≡ Some s
+    → v.input ≡ next_input inputs before → v.passed ≡ covers s v.got → v.passed ≡ false → row ≡ slice_set d.row.items d.cursor (settled s v.got)
+    → e.cursor ≡ (d.cursor + 1) % length row → length e.row.items ≡ length row → Adds row e.cursor e.row.items
+    → HoldsDeficits quanta inputs (v ∷ before) e
+deficits-moved-on quanta inputs before v d e row s h read at passes passed is moves same_length adds = record {
+  length_is = same_length ∙ long;
+  cursor_is = cursor;
+  each = λ i t f. row-arrived quanta inputs (v ∷ before) row next held (subst (λ k. slice_get row k ≡ Some next) cursor reads) (ap (λ b. if b then 0 else 1) passed) i t
+      (subst (λ xs. slice_get xs i ≡ Some t) (adds next reads ∙ ap (λ k. slice_set row k (with_quantum next)) cursor) f);
+}
+  where
+    long : length row ≡ inputs
+    long = ap length is ∙ length-set d.row.items d.cursor (settled s v.got) ∙ h.length_is
+
+    cursor : e.cursor ≡ next_input inputs (v ∷ before)
+    cursor = moves ∙ ap₂ (λ k n. (k + 1) % n) (h.cursor_is ∙ sym at) long ∙ sym (ap (λ b. if b then v.input else (v.input + 1) % inputs) passed)
+
+    within : e.cursor < length row
+    within = subst (λ n. e.cursor < n) same_length e.cursor_within
+
+    next : Served
+    next = (read-some row e.cursor within).0
+
+    reads : slice_get row e.cursor ≡ Some next
+    reads = (read-some row e.cursor within).1
+
+    held : HoldsRow quanta (v ∷ before) row
+    held = subst (HoldsRow quanta (v ∷ before)) (sym is) (row-settled quanta inputs before v d s h read at passes)

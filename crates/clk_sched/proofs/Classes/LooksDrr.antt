@@ -1,0 +1,80 @@
+-- A DRRSched looks at the input whose turn it is.
+use Rattle.std.proofs.Common.{◌≡◌, ℕ, Bool, true, false, not, List, [], ◌∷◌, ◌++◌, slice_get, Option, Some, None, is_some, MatchOption, refl, sym, ap, ◌∙◌, subst}
+use Rattle.std.specs.Bool.{⊤}
+use Rattle.clk_packet.specs.declared.packet.Packet.{Packet}
+use Rattle.clk_sched.specs.declared.visit.Visit.{Visit}
+use Rattle.clk_sched.specs.declared.session.inputs.Inputs.{Inputs}
+use Rattle.clk_sched.specs.declared.session.drr.Deficits.{Deficits}
+use Rattle.clk_sched.specs.declared.session.nodes.Nodes.{Nodes}
+use Rattle.clk_sched.specs.Heads.{LooksAtHeads, head_at, is_covered}
+use Rattle.clk_sched.specs.Laws.Deficit.{next_input, deficit_covers}
+use Rattle.clk_sched.specs.inside.Holds.Deficit.{HoldsDeficits}
+use Rattle.clk_sched.specs.Places.{Answers, at_queue}
+use Rattle.clk_sched.specs.inside.Places.{queue_asked}
+use Rattle.clk_sched.specs.inside.Pulling.{Keeps, Asks, AsksAll, IsPulling, IsVisitAt, added, now_of}
+use Rattle.clk_sched.specs.inside.Looking.{looking, Logs, Settles, Looks}
+use Rattle.clk_sched.proofs.Nodes.Pulling.{pulling-looks}
+use Rattle.clk_sched.proofs.Nodes.Asking.{added-is}
+use Rattle.clk_sched.proofs.Nodes.Logged.{asks-fresh}
+
+pub asks-held : (a c : Nodes) (x : ℕ) (v : Visit) → Logs a c v → IsVisitAt (now_of a) x v → v.fresh ≡ false → AsksAll a c x (v.input ∷ []) (v ∷ [])
+asks-held a c x v l at fresh row history visits own going unasked apart =
+    let r = pulling-looks (now_of a) history x row a.states.items visits own going.pulling v at fresh in
+    record {
+      pulling =
+          subst (λ k. IsPulling (now_of a) history x row c.states.items (visits ++ k) (own ++ v ∷ [])) (sym (added-is a c (v ∷ []) (ap (λ k. k.items) l.log)))
+          (subst (λ s. IsPulling (now_of a) history x row s (visits ++ v ∷ []) (own ++ v ∷ [])) (sym l.states) r);
+      outside = λ y k. ap (λ s. slice_get s y) l.states;
+    }
+
+pub answers-held : {S : Type 0} (gives : S → ℕ → Option Packet → S → Type 0) (table : List Inputs) (a c : Nodes) (q : S) (v : Visit) → Logs a c v → v.fresh ≡ false
+    → Answers gives (queue_asked table) q (added a c) q
+answers-held gives table a c q v l fresh =
+    subst (λ k. Answers gives (queue_asked table) q k q) (sym (added-is a c (v ∷ []) (ap (λ k. k.items) l.log)))
+    (subst (λ o. at_queue gives o v.got q (λ s. s ≡ q)) (sym none) refl)
+  where
+    none : queue_asked table v ≡ None
+    none = rw fresh refl
+
+-- A look at the input whose turn it is keeps to the law, whether a head is held there or none is.
+looks-lawful : (d later : Deficits) (v : Visit) (head : Option Packet) (quanta : List ℕ) (inputs : ℕ) (earlier : List Visit) → Settles d later v.got v.passed → (held : HoldsDeficits quanta inputs earlier d) → v.input ≡ d.cursor
+    → head_at (next_input inputs earlier) earlier ≡ head → v.fresh ≡ not (is_some head) → MatchOption head ⊤ (λ p. v.got ≡ Some p) → LooksAtHeads (next_input inputs) (deficit_covers quanta) earlier v
+looks-lawful d later v head quanta inputs earlier settles held at is fresh looks =
+    let turn : v.input ≡ next_input inputs earlier = at ∙ held.cursor_is in
+    let there : head_at v.input earlier ≡ head = ap (λ i. head_at i earlier) turn ∙ is in
+    record {
+      in_turn = turn;
+      fresh = fresh ∙ sym (ap (λ o. not (is_some o)) there);
+      looks = subst (λ o. MatchOption o ⊤ (λ p. v.got ≡ Some p)) (sym there) looks;
+      passes = settles.covered quanta inputs earlier held ∙ ap (λ i. is_covered (deficit_covers quanta earlier i) v.got) (sym turn);
+    }
+
+-- a head that is held is looked at
+pub looks-held : (a c : Nodes) (x : ℕ) (d later : Deficits) (p : Packet) (got : Option Packet) (passed : Bool) → got ≡ Some p
+    → ((quanta : List ℕ) (inputs : ℕ) (before : List Visit) → HoldsDeficits quanta inputs before d → got ≡ head_at (next_input inputs before) before) → Logs a c (looking a x d.cursor got false passed) → Settles d later got passed
+    → Looks a c x d later got passed
+looks-held a c x d later p got passed some is logs settles =
+    record {
+      visit = looking a x d.cursor got false passed;
+      input = refl;
+      gets = refl;
+      passes = refl;
+      asks = asks-held a c x (looking a x d.cursor got false passed) logs (record { number = refl; moment = refl; node = refl }) refl;
+      lawful = λ quanta inputs earlier held. looks-lawful d later (looking a x d.cursor got false passed) (Some p) quanta inputs earlier settles held refl (sym (is quanta inputs earlier held) ∙ some) refl some;
+      holds = λ quanta inputs earlier held. settles.holds quanta inputs earlier (looking a x d.cursor got false passed) held held.cursor_is refl refl;
+    }
+
+-- an input without a head is asked
+pub looks-fresh : (a b c : Nodes) (m x : ℕ) (d later : Deficits) (head got : Option Packet) (passed : Bool) → head ≡ None
+    → ((quanta : List ℕ) (inputs : ℕ) (before : List Visit) → HoldsDeficits quanta inputs before d → head ≡ head_at (next_input inputs before) before) → Keeps a b m → Asks a b x d.cursor got
+    → Logs b c (looking b x d.cursor got true passed) → Settles d later got passed → Looks a c x d later got passed
+looks-fresh a b c m x d later head got passed empty is keeps asked logs settles =
+    record {
+      visit = looking b x d.cursor got true passed;
+      input = refl;
+      gets = refl;
+      passes = refl;
+      asks = asks-fresh a b c m x (looking b x d.cursor got true passed) keeps logs (record { number = keeps.pull; moment = keeps.moment; node = refl }) refl asked;
+      lawful = λ quanta inputs earlier held. looks-lawful d later (looking b x d.cursor got true passed) None quanta inputs earlier settles held refl (sym (is quanta inputs earlier held) ∙ empty) refl tt;
+      holds = λ quanta inputs earlier held. settles.holds quanta inputs earlier (looking b x d.cursor got true passed) held held.cursor_is refl refl;
+    }

@@ -1,0 +1,242 @@
+-- The ranks of a StrideSched: how they are put in their places, and what stays true of them.
+use Rattle.std.proofs.Common.{◌≡◌, ℕ, zero, suc, ◌+◌, ◌-◌, ◌<◌, ◌≤◌, if◌then◌else◌, nat_lt, Bool, true, false, List, [], ◌∷◌, ◌++◌, length, map, take, drop, set, get_or, refl, sym, ap, ap₂, ◌∙◌, subst, append_assoc, arith, drop-cons}
+use Rattle.std.specs.List.{AllByRecursion}
+use Rattle.std.proofs.lemmas.Bool.Decides.{nat_tests}
+use Rattle.std.proofs.Math.Seq.{paste, set_at, length_paste_head, take-suc}
+use Rattle.std.proofs.Math.ListN.{drop_of_length-le}
+use Rattle.std.proofs.lemmas.List.{drop-drop, length-drop, set_split, take_all}
+use Rattle.clk_sched.specs.declared.session.stride.Rank.{Rank}
+use Rattle.clk_sched.specs.declared.session.stride.TheConstants.{FAR}
+use Rattle.clk_sched.specs.inside.Ranks.{greatest_stride, IsRankOf, HasRisingPasses, is_up_to, put_rank, at_pass, after_win, first_pass, taken_from, less}
+use Rattle.clk_sched.proofs.Lists.Members.{all-weaker}
+use Rattle.clk_sched.proofs.Lists.Apart.{all-map}
+
+-- a rank that stands before all others
+put-here : (r other : Rank) (others : List Rank) → is_up_to r other ≡ true → put_rank r (other ∷ others) ≡ r ∷ other ∷ others
+put-here r other others e = ap (λ b. if b then r ∷ other ∷ others else other ∷ put_rank r others) e
+
+-- the row from a place on
+from-place : (row : List Rank) (place : ℕ) (d r : Rank) → place < length row → r ≡ get_or row place d → drop place row ≡ r ∷ drop (suc place) row
+from-place row place d r l e = drop-cons row place d l ∙ ap (λ x. x ∷ drop (suc place) row) (sym e)
+
+-- Of ranks in order so many stand before one that is put among them.
+abbrev pub StandBefore : Rank → List Rank → ℕ → Type 0
+StandBefore r row n = put_rank r row ≡ take n row ++ put_rank r (drop n row)
+
+put-past : (r other : Rank) (others : List Rank) → is_up_to r other ≡ false → put_rank r (other ∷ others) ≡ other ∷ put_rank r others
+put-past r other others e = ap (λ b. if b then r ∷ other ∷ others else other ∷ put_rank r others) e
+
+pub before-next : (r : Rank) (row : List Rank) (n : ℕ) (d other : Rank) → n < length row → other ≡ get_or row n d → is_up_to r other ≡ false → StandBefore r row n → StandBefore r row (n + 1)
+before-next r row n d other l at test so =
+    so ∙ ap (λ x. take n row ++ x) (ap (put_rank r) (from-place row n d other l at) ∙ put-past r other (drop (suc n) row) test) ∙ sym (append_assoc (take n row) (other ∷ []) (put_rank r (drop (suc n) row)))
+    ∙ ap (λ x. x ++ put_rank r (drop (suc n) row)) (ap (λ y. take n row ++ y ∷ []) at ∙ sym (take-suc row n d l)) ∙ ap (λ k. take k row ++ put_rank r (drop k row)) (let same : suc n ≡ n + 1 = omega arith in same)
+
+pub before-found : (r : Rank) (row : List Rank) (n : ℕ) (d other : Rank) → n < length row → other ≡ get_or row n d → is_up_to r other ≡ true → StandBefore r row n → put_rank r row ≡ take n row ++ r ∷ drop n row
+before-found r row n d other l at test so =
+    let from = from-place row n d other l at in so ∙ ap (λ x. take n row ++ x) (ap (put_rank r) from ∙ put-here r other (drop (suc n) row) test ∙ ap (λ x. r ∷ x) (sym from))
+
+pub before-all : (r : Rank) (row : List Rank) (n : ℕ) → length row ≤ n → StandBefore r row n → put_rank r row ≡ take n row ++ r ∷ drop n row
+before-all r row n l so = let none = drop_of_length-le row l in so ∙ ap (λ x. take n row ++ x) (ap (put_rank r) none ∙ ap (λ x. r ∷ x) (sym none))
+
+-- A rank is put in its place, and those before it move down.
+pub put-moved : (r : Rank) (row : List Rank) (from before : ℕ) → from < length row → before ≤ length (drop (from + 1) row) → put_rank r (drop (from + 1) row) ≡ take before (drop (from + 1) row) ++ r ∷ drop before (drop (from + 1) row)
+    → set (paste row from (drop (from + 1) row) before) (from + before) r ≡ take from row ++ put_rank r (drop (from + 1) row)
+put-moved r row from before l m put =
+    ap (λ x. set (front ++ x) (from + before) r) (drop-cons row (from + before) r (let all = length-drop (from + 1) row in omega (arith, all)))
+    ∙ set_at front (get_or row (from + before) r) (drop (suc (from + before)) row) r (from + before) (length_paste_head row from rest before (omega arith) m)
+    ∙ ap (λ x. front ++ r ∷ x) (ap (λ k. drop k row) (let same : suc (from + before) ≡ from + 1 + before = omega arith in same) ∙ sym (drop-drop before (from + 1) row))
+    ∙ append_assoc (take from row) (take before rest) (r ∷ drop before rest)
+    ∙ ap (λ x. take from row ++ x) (sym put)
+  where
+    rest : List Rank
+    rest = drop (from + 1) row
+
+    front : List Rank
+    front = take from row ++ take before rest
+
+-- A rank stays in its place.
+pub put-first : (r : Rank) (row : List Rank) (from : ℕ) → from < length row → put_rank r (drop (from + 1) row) ≡ r ∷ drop (from + 1) row → set row from r ≡ take from row ++ put_rank r (drop (from + 1) row)
+put-first r row from l first =
+    set_split row from r l ∙ ap (λ k. take from row ++ r ∷ drop k row) (let same : suc from ≡ from + 1 = omega arith in same) ∙ ap (λ xs. take from row ++ xs) (sym first)
+
+-- what stands after a place, as a slice has it
+pub after-place : (row : List Rank) (n : ℕ) → take (length row - n) (drop n row) ≡ drop n row
+after-place row n = take_all (length row - n) (drop n row) (let l = length-drop n row in omega (arith, l))
+
+-- of those before the winner, one more is put in its place
+win-step : (pass stride idle k : ℕ) (row : List Rank) (d r : Rank) → idle < length row → r ≡ get_or (take (suc idle) row ++ after_win pass stride k (drop (suc idle) row)) idle d
+    → take idle (take (suc idle) row ++ after_win pass stride k (drop (suc idle) row)) ++ put_rank (at_pass pass r) (drop (suc idle) (take (suc idle) row ++ after_win pass stride k (drop (suc idle) row)))
+    ≡ take idle row ++ after_win pass stride (suc k) (drop idle row)
+win-step pass stride idle k [] d r l e = absurd (omega arith)
+win-step pass stride zero k (x ∷ row) d r l e = ap (λ y. put_rank (at_pass pass y) (after_win pass stride k row)) e
+win-step pass stride (suc idle) k (x ∷ row) d r l e = ap (λ xs. x ∷ xs) (win-step pass stride idle k row d r (omega arith) e)
+
+pub win-next : (pass stride : ℕ) (row now : List Rank) (place idle above : ℕ) (d r : Rank) → above ≡ idle + 1 → idle < place → place < length row → r ≡ get_or now idle d
+    → now ≡ take above row ++ after_win pass stride (place - above) (drop above row)
+    → take idle now ++ put_rank (at_pass pass r) (drop (idle + 1) now) ≡ take idle row ++ after_win pass stride (place - idle) (drop idle row)
+win-next pass stride row now place idle above d r next l m e is =
+    let here : above ≡ suc idle = omega arith in
+    let after : idle + 1 ≡ suc idle = omega arith in
+    let more : place - idle ≡ suc (place - suc idle) = omega arith in
+    let now_is = is ∙ ap (λ n. take n row ++ after_win pass stride (place - n) (drop n row)) here in
+    ap₂ (λ xs n. take idle xs ++ put_rank (at_pass pass r) (drop n xs)) now_is after
+    ∙ win-step pass stride idle (place - suc idle) row d r (omega arith) (e ∙ ap (λ xs. get_or xs idle d) now_is)
+    ∙ sym (ap (λ k. take idle row ++ after_win pass stride k (drop idle row)) more)
+
+-- what holds of a rank that is put among others that it holds of
+put-all : (P : Rank → Type 0) (r : Rank) (others : List Rank) → P r → AllByRecursion P others → AllByRecursion P (put_rank r others)
+put-all P r [] one h = (one, tt)
+put-all P r (other ∷ others) one h = by_test (is_up_to r other) (put-all P r others one h.1)
+  where
+    by_test : (b : Bool) → AllByRecursion P (put_rank r others) → AllByRecursion P (if b then r ∷ other ∷ others else other ∷ put_rank r others)
+    by_test true rest = (one, h)
+    by_test false rest = (h.0, rest)
+
+win-all : (P Q : Rank → Type 0) (pass stride place : ℕ) (row : List Rank) → ((r : Rank) → Q r → P (at_pass pass r) × P (at_pass (pass + stride) r))
+    → AllByRecursion Q row → AllByRecursion P (drop (suc place) row) → AllByRecursion P (after_win pass stride place row)
+win-all P Q pass stride zero [] f h k = tt
+win-all P Q pass stride (suc place) [] f h k = tt
+win-all P Q pass stride zero (r ∷ others) f h k = put-all P (at_pass (pass + stride) r) others (f r h.0).1 k
+win-all P Q pass stride (suc place) (r ∷ others) f h k = put-all P (at_pass pass r) (after_win pass stride place others) (f r h.0).0 (win-all P Q pass stride place others f h.1 k)
+
+-- passes rise
+lower : (least pass : ℕ) (ranks : List Rank) → least ≤ pass → AllByRecursion (λ (r : Rank). pass ≤ r.pass) ranks → AllByRecursion (λ (r : Rank). least ≤ r.pass) ranks
+lower least pass ranks l h = all-weaker (λ (r : Rank). pass ≤ r.pass) (λ (r : Rank). least ≤ r.pass) ranks (λ r k. omega arith) h
+
+put-rises : (r : Rank) (others : List Rank) → HasRisingPasses others → HasRisingPasses (put_rank r others)
+put-rises r [] h = (tt, tt)
+put-rises r (other ∷ others) h = by_test (is_up_to r other) refl (put-rises r others h.1)
+  where
+    by_test : (b : Bool) → is_up_to r other ≡ b → HasRisingPasses (put_rank r others) → HasRisingPasses (if b then r ∷ other ∷ others else other ∷ put_rank r others)
+    by_test true e rest = let l : r.pass ≤ other.pass = grind (arith, nat_tests) in ((l, lower r.pass other.pass others l h.0), h)
+    by_test false e rest = (put-all (λ (o : Rank). other.pass ≤ o.pass) r others (grind (arith, nat_tests)) h.0, rest)
+
+win-rises : (pass stride place : ℕ) (row : List Rank) → HasRisingPasses row → HasRisingPasses (after_win pass stride place row)
+win-rises pass stride zero [] h = tt
+win-rises pass stride (suc place) [] h = tt
+win-rises pass stride zero (r ∷ others) h = put-rises (at_pass (pass + stride) r) others h.1
+win-rises pass stride (suc place) (r ∷ others) h = put-rises (at_pass pass r) (after_win pass stride place others) (win-rises pass stride place others h.1)
+
+-- those after a place have no lower pass than the one there
+pub beyond-place : (row : List Rank) (place : ℕ) (d : Rank) → place < length row → HasRisingPasses row → AllByRecursion (λ (r : Rank). (get_or row place d).pass ≤ r.pass) (drop (suc place) row)
+beyond-place [] place d l h = absurd (omega arith)
+beyond-place (r ∷ others) zero d l h = h.0
+beyond-place (r ∷ others) (suc place) d l h = beyond-place others place d (omega arith) h.1
+
+-- a rank after a win: its pass is from the one that the winner had to a greatest stride above
+abbrev pub IsWonRank : ℕ → ℕ → Rank → Type 0
+IsWonRank inputs pass r = (r.input < inputs) × (pass ≤ r.pass) × (r.pass ≤ pass + greatest_stride)
+
+all-drop : (P : Rank → Type 0) (n : ℕ) (ranks : List Rank) → AllByRecursion P ranks → AllByRecursion P (drop n ranks)
+all-drop P zero ranks h = h
+all-drop P (suc n) [] h = tt
+all-drop P (suc n) (r ∷ ranks) h = all-drop P n ranks h.1
+
+all-two : (P Q : Rank → Type 0) (ranks : List Rank) → AllByRecursion P ranks → AllByRecursion Q ranks → AllByRecursion (λ r. P r × Q r) ranks
+all-two P Q [] h k = tt
+all-two P Q (r ∷ ranks) h k = ((h.0, k.0), all-two P Q ranks h.1 k.1)
+
+pub won-ranks : (inputs least pass stride place : ℕ) (row : List Rank) → stride ≤ greatest_stride → least ≤ pass → AllByRecursion (IsRankOf inputs least) row → AllByRecursion (λ (r : Rank). pass ≤ r.pass) (drop (suc place) row)
+    → AllByRecursion (IsWonRank inputs pass) (after_win pass stride place row)
+won-ranks inputs least pass stride place row l m h k =
+    win-all (IsWonRank inputs pass) (IsRankOf inputs least) pass stride place row (λ r one. let a = one.0 in ((a, omega arith, omega arith), (a, omega arith, omega arith))) h
+    (all-weaker (λ (r : Rank). IsRankOf inputs least r × (pass ≤ r.pass)) (IsWonRank inputs pass) (drop (suc place) row)
+    (λ r one. (one.0.0, one.1, let a = one.0.1 in let b = one.1 in omega (arith, a, b, m)))
+    (all-two (IsRankOf inputs least) (λ (r : Rank). pass ≤ r.pass) (drop (suc place) row) (all-drop (IsRankOf inputs least) (suc place) row h) k))
+
+-- the first pass is the least
+pub first-least : (ranks : List Rank) → HasRisingPasses ranks → AllByRecursion (λ (r : Rank). first_pass ranks ≤ r.pass) ranks
+first-least [] h = tt
+first-least (r ∷ ranks) h = (omega arith, h.0)
+
+pub first-below : (ranks : List Rank) → HasRisingPasses ranks → (place : ℕ) (d : Rank) → place < length ranks → first_pass ranks ≤ (get_or ranks place d).pass
+first-below [] h place d l = absurd (omega arith)
+first-below (r ∷ ranks) h place d l = below (r ∷ ranks) (omega arith, h.0) place l
+  where
+    below : (others : List Rank) → AllByRecursion (λ (o : Rank). r.pass ≤ o.pass) others → (place : ℕ) → place < length others → r.pass ≤ (get_or others place d).pass
+    below [] k place m = absurd (omega arith)
+    below (o ∷ others) k zero m = k.0
+    below (o ∷ others) k (suc place) m = below others k.1 place (omega arith)
+
+pub less-rises : (least : ℕ) (ranks : List Rank) → HasRisingPasses ranks → HasRisingPasses (map (less least) ranks)
+less-rises least [] h = tt
+less-rises least (r ∷ ranks) h =
+    (all-map (λ (o : Rank). r.pass - least ≤ o.pass) (less least) ranks (all-weaker (λ (o : Rank). r.pass ≤ o.pass) (λ (o : Rank). r.pass - least ≤ o.pass - least) ranks (λ o k. omega arith) h.0), less-rises least ranks h.1)
+
+pub less-ranks : (inputs pass n : ℕ) (ranks : List Rank) → n ≤ first_pass ranks → AllByRecursion (IsWonRank inputs pass) ranks → AllByRecursion (IsRankOf inputs (first_pass (map (less n) ranks))) (map (less n) ranks)
+less-ranks inputs pass n [] l h = tt
+less-ranks inputs pass n (r ∷ ranks) l h =
+    all-map (IsRankOf inputs (r.pass - n)) (less n) (r ∷ ranks)
+    (all-weaker (IsWonRank inputs pass) (λ (o : Rank). IsRankOf inputs (r.pass - n) (less n o)) (r ∷ ranks) (λ o k. (k.0, let a = h.0.1 in let b = k.2 in omega (arith, a, b, l))) h)
+
+-- what is taken is no more than the least, and leaves one that isn't far
+pub taken-least : (ranks : List Rank) → taken_from ranks ≤ first_pass ranks
+taken-least ranks = by_test (nat_lt (first_pass ranks) FAR)
+  where
+    by_test : (b : Bool) → (if b then 0 else first_pass ranks) ≤ first_pass ranks
+    by_test true = omega arith
+    by_test false = omega arith
+
+less-first : (n : ℕ) (ranks : List Rank) → first_pass (map (less n) ranks) ≡ first_pass ranks - n
+less-first n [] = omega arith
+less-first n (r ∷ ranks) = refl
+
+pub taken-near : (ranks : List Rank) → first_pass (map (less (taken_from ranks)) ranks) < FAR
+taken-near ranks = subst (λ n. n < FAR) (sym (less-first (taken_from ranks) ranks)) (by_test (nat_lt (first_pass ranks) FAR) refl)
+  where
+    by_test : (b : Bool) → nat_lt (first_pass ranks) FAR ≡ b → first_pass ranks - (if b then 0 else first_pass ranks) < FAR
+    by_test true e = grind (arith, nat_tests)
+    by_test false e = omega arith
+
+pub taken-none : (ranks : List Rank) → first_pass ranks < FAR → taken_from ranks ≡ 0
+taken-none ranks l = by_test (nat_lt (first_pass ranks) FAR) refl
+  where
+    by_test : (b : Bool) → nat_lt (first_pass ranks) FAR ≡ b → (if b then 0 else first_pass ranks) ≡ 0
+    by_test true e = refl
+    by_test false e = absurd (let k : FAR ≤ first_pass ranks = grind (arith, nat_tests) in omega (arith, k, l))
+
+pub taken-first : (ranks : List Rank) → FAR ≤ first_pass ranks → taken_from ranks ≡ first_pass ranks
+taken-first ranks l = by_test (nat_lt (first_pass ranks) FAR) refl
+  where
+    by_test : (b : Bool) → nat_lt (first_pass ranks) FAR ≡ b → (if b then 0 else first_pass ranks) ≡ first_pass ranks
+    by_test true e = absurd (let k : first_pass ranks < FAR = grind (arith, nat_tests) in omega (arith, k, l))
+    by_test false e = refl
+
+pub less-none : (ranks : List Rank) → map (less 0) ranks ≡ ranks
+less-none [] = refl
+less-none (r ∷ ranks) = ap₂ (λ x xs. x ∷ xs) (ap (λ pass. at_pass pass r) (let same : r.pass - 0 ≡ r.pass = omega arith in same)) (less-none ranks)
+
+-- winning rows keep what the type says
+pub win-kept : (inputs least pass stride place : ℕ) (row : List Rank) (d : Rank) → stride ≤ greatest_stride → place < length row → (get_or row place d).pass ≡ pass → least ≤ pass → AllByRecursion (IsRankOf inputs least) row → HasRisingPasses row
+    → AllByRecursion (IsRankOf inputs (first_pass (map (less (taken_from (after_win pass stride place row))) (after_win pass stride place row)))) (map (less (taken_from (after_win pass stride place row))) (after_win pass stride place row))
+win-kept inputs least pass stride place row d l m e k h rises =
+    less-ranks inputs pass (taken_from (after_win pass stride place row)) (after_win pass stride place row) (taken-least (after_win pass stride place row))
+    (won-ranks inputs least pass stride place row l k h (subst (λ p. AllByRecursion (λ (r : Rank). p ≤ r.pass) (drop (suc place) row)) e (beyond-place row place d m rises)))
+
+pub win-kept_rising : (pass stride place : ℕ) (row : List Rank) → HasRisingPasses row → HasRisingPasses (map (less (taken_from (after_win pass stride place row))) (after_win pass stride place row))
+win-kept_rising pass stride place row rises = less-rises (taken_from (after_win pass stride place row)) (after_win pass stride place row) (win-rises pass stride place row rises)
+
+pub win-least : (pass stride place : ℕ) (row : List Rank) → HasRisingPasses row → AllByRecursion (λ (r : Rank). first_pass (after_win pass stride place row) ≤ r.pass) (after_win pass stride place row)
+win-least pass stride place row rises = first-least (after_win pass stride place row) (win-rises pass stride place row rises)
+
+-- a row of which the first so many are changed, and one more
+pub changed-read : {X : Type 0} (f : X → X) (n : ℕ) (xs : List X) (d : X) → get_or (map f (take n xs) ++ drop n xs) n d ≡ get_or xs n d
+changed-read f zero xs d = refl
+changed-read f (suc n) [] d = refl
+changed-read f (suc n) (x ∷ xs) d = changed-read f n xs d
+
+pub changed-more : {X : Type 0} (f : X → X) (n : ℕ) (xs : List X) (d : X) → n < length xs → set (map f (take n xs) ++ drop n xs) n (f (get_or xs n d)) ≡ map f (take (suc n) xs) ++ drop (suc n) xs
+changed-more f n [] d l = absurd (omega arith)
+changed-more f zero (x ∷ xs) d l = refl
+changed-more f (suc n) (x ∷ xs) d l = ap (λ ys. f x ∷ ys) (changed-more f n xs d (omega arith))
+
+pub first-is : (row : List Rank) (d : Rank) → 0 < length row → (get_or row 0 d).pass ≡ first_pass row
+first-is [] d l = absurd (omega arith)
+first-is (r ∷ row) d l = refl
+
+-- the new row, in words of the row and the strides that it was made of
+pub win-from : (row now : List Rank) (strides read : List ℕ) (place input : ℕ) (d : Rank) (new : List Rank) → now ≡ row → read ≡ strides → input ≡ (get_or now place d).input
+    → new ≡ after_win (get_or now place d).pass (get_or read input 0) place now → new ≡ after_win (get_or row place d).pass (get_or strides (get_or row place d).input 0) place row
+win-from row now strides read place input d new e f g h =
+    h ∙ ap (λ i. after_win (get_or now place d).pass (get_or read i 0) place now) g
+    ∙ ap₂ (λ (xs : List Rank) (ns : List ℕ). after_win (get_or xs place d).pass (get_or ns (get_or xs place d).input 0) place xs) e f

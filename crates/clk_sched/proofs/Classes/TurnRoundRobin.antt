@@ -1,0 +1,317 @@
+-- The turn of a RoundRobinSched.
+use Rattle.std.proofs.Common.{◌≡◌, ℕ, zero, suc, ◌+◌, ◌-◌, ◌*◌, ◌%◌, ◌<◌, ◌≤◌, List, [], ◌∷◌, ◌++◌, length, map, get_or, slice_get, slice_index, Option, Some, None, IsSome, IfSome, refl, sym, ap, ap₂, ◌∙◌, subst, mod-lt, mod-eq_of_lt, arith}
+use Rattle.std.specs.List.{AllByRecursion, range_with_len}
+use Rattle.std.specs.Vec.{vec_len}
+use Rattle.std.proofs.lemmas.List.{length-append}
+use Rattle.std.proofs.lemmas.List.FromFn.{length-range_with_len, get_or-range_with_len}
+use Rattle.std.proofs.lemmas.Nat.{mod-mul-add}
+use Rattle.clk_packet.specs.declared.packet.Packet.{Packet}
+use Rattle.clk_sched.specs.declared.visit.Visit.{Visit}
+use Rattle.clk_sched.specs.declared.session.inputs.Inputs.{Inputs}
+use Rattle.clk_sched.specs.declared.session.nodes.Nodes.{Nodes}
+use Rattle.clk_sched.specs.declared.session.state.State.{State}
+use Rattle.clk_sched.specs.declared.session.state.State.TheVariants.{RoundRobin}
+use Rattle.clk_sched.specs.declared.session.round_robin.Beginning.{Beginning}
+use Rattle.clk_sched.specs.Tree.{Class, round_robin, width}
+use Rattle.clk_sched.specs.Log.{asking}
+use Rattle.clk_sched.specs.Turns.{Turn, AsksInOrder, giver}
+use Rattle.clk_sched.specs.Laws.RoundRobin.{beginning, round_robin_order}
+use Rattle.clk_sched.specs.Places.{Answers}
+use Rattle.clk_sched.specs.inside.Places.{edges_of, edges_in, input_at, queue_asked}
+use Rattle.clk_sched.specs.inside.Pulling.{Now, CanPull, Keeps, AsksAll, now_of, after, with_turn, added, asked_in_vain, asked_in_order}
+use Rattle.clk_sched.specs.inside.Pulling.{TakesTurn}
+use Rattle.clk_sched.specs.inside.Turning.{HasAskedAll, HadTurn}
+use Rattle.clk_sched.proofs.Lists.Members.{all-weaker, all-split}
+use Rattle.clk_sched.proofs.Nodes.Asking.{IsAsking, keeps-then, keeps-more, added-then, answers-then, asks-then, asks-front, asked-vain, edges-append, vain-in, same-now, apart-split, can-go_on}
+use Rattle.clk_sched.proofs.Nodes.Asked.{entry}
+use Rattle.clk_sched.proofs.Classes.Orders.{IsOrderOf, IsBeyond, around, round_robin-order}
+use Rattle.clk_sched.proofs.Nodes.InOrder.{IsWithin, HasTurnedBy, packet_of, turned-in-order, after-own, with_turn-given, giver_at, in_order-giver}
+use Rattle.clk_sched.proofs.Nodes.Ordered.{stands-width, can-order, order-there, keeps-order}
+
+-- by what a RoundRobinSched holds, a scheduler of no other class has a turn
+round_robin-alone : (a b : Nodes) (x : ℕ) (s : Beginning) (now : State) (got : Option Packet) → TakesTurn a b x round_robin (RoundRobin s) now got → (class : Class) → TakesTurn a b x class (RoundRobin s) now got
+round_robin-alone a b x s now got h round_robin row history ready holds = h row history ready holds
+round_robin-alone a b x s now got h class row history ready holds = absurd holds
+
+-- numbers around so many, before they wrap and after
+before-wrap : (n s j m : ℕ) → s + j + m ≤ n → map (λ k. (s + k) % n) (range_with_len j m) ≡ range_with_len (s + j) m
+before-wrap n s j zero l = refl
+before-wrap n s j (suc m) l =
+    let here : s + j < n = omega arith in
+    let next : s + (j + 1) ≡ s + j + 1 = omega arith in
+    ap₂ (λ i is. i ∷ is) (mod-eq_of_lt here) (before-wrap n s (j + 1) m (omega arith) ∙ ap (λ i. range_with_len i m) next)
+
+after-wrap : (n s j m low : ℕ) → s + j ≡ n + low → low + m ≤ n → map (λ k. (s + k) % n) (range_with_len j m) ≡ range_with_len low m
+after-wrap n s j zero low e l = refl
+after-wrap n s j (suc m) low e l =
+    let is : s + j ≡ 1 * n + low = omega (arith, e) in
+    let here : (s + j) % n ≡ low = ap (λ k. k % n) is ∙ mod-mul-add 1 n low (omega arith) in
+    ap₂ (λ i is. i ∷ is) here (after-wrap n s (j + 1) m (low + 1) (omega (arith, e)) (omega arith))
+
+pub range-append : (a m n : ℕ) → range_with_len a (m + n) ≡ range_with_len a m ++ range_with_len (a + m) n
+range-append a zero n = let e : zero + n ≡ n = omega arith in let f : a + zero ≡ a = omega arith in ap (range_with_len a) e ∙ ap (λ b. range_with_len b n) (sym f)
+range-append a (suc m) n =
+    let e : suc m + n ≡ suc (m + n) = omega arith in
+    let f : a + 1 + m ≡ a + suc m = omega arith in
+    ap (range_with_len a) e ∙ ap (λ l. a ∷ l) (range-append (a + 1) m n ∙ ap (λ b. range_with_len (a + 1) m ++ range_with_len b n) f)
+
+map-join : (f : ℕ → ℕ) (xs ys : List ℕ) → map f (xs ++ ys) ≡ map f xs ++ map f ys
+map-join f [] ys = refl
+map-join f (x ∷ xs) ys = ap (λ l. f x ∷ l) (map-join f xs ys)
+
+-- the order of a RoundRobinSched, in two parts
+abbrev pub parts : ℕ → ℕ → List ℕ
+parts first n = range_with_len first (n - first) ++ range_with_len 0 first
+
+pub order-parts : (n first : ℕ) → first < n → map (λ k. (first + k) % n) (range_with_len 0 n) ≡ parts first n
+order-parts n first l =
+    let whole : n ≡ (n - first) + first = omega arith in
+    let start : first + 0 ≡ first = omega arith in
+    ap (λ m. map (λ k. (first + k) % n) (range_with_len 0 m)) whole ∙ ap (map (λ k. (first + k) % n)) (range-append 0 (n - first) first)
+    ∙ map-join (λ k. (first + k) % n) (range_with_len 0 (n - first)) (range_with_len (0 + (n - first)) first)
+    ∙ ap₂ (λ a b. a ++ b) (before-wrap n first 0 (n - first) (omega arith) ∙ ap (λ i. range_with_len i (n - first)) start) (after-wrap n first (0 + (n - first)) first 0 (omega arith) (omega arith))
+
+-- a place in the second of two orders, as one of both
+abbrev pub past : List ℕ → ℕ → ℕ
+past [] k = k
+past (i ∷ one) k = suc (past one k)
+
+abbrev pub in_second : List ℕ → Option (ℕ × Packet) → Option (ℕ × Packet)
+in_second one None = None
+in_second one (Some r) = Some (past one r.0, r.1)
+
+pub past-length : (one : List ℕ) (k : ℕ) → past one k ≡ length one + k
+past-length [] k = omega arith
+past-length (i ∷ one) k = let e = past-length one k in omega (arith, e)
+
+vain-append : (now : Now) (x : ℕ) (one other : List ℕ) → asked_in_vain now x (one ++ other) ≡ asked_in_vain now x one ++ asked_in_vain now x other
+vain-append now x [] other = refl
+vain-append now x (i ∷ one) other = ap (λ l. asking now.number now.moment x i None ∷ l) (vain-append now x one other)
+
+pub in_order-second : (now : Now) (x : ℕ) (one other : List ℕ) (r : Option (ℕ × Packet)) → asked_in_vain now x one ++ asked_in_order now x other r ≡ asked_in_order now x (one ++ other) (in_second one r)
+in_order-second now x one other None = sym (vain-append now x one other)
+in_order-second now x one other (Some r) = again one
+  where
+    again : (one : List ℕ) → asked_in_vain now x one ++ asked_in_order now x other (Some r) ≡ asked_in_order now x (one ++ other) (Some (past one r.0, r.1))
+    again [] = refl
+    again (i ∷ one) = ap (λ l. asking now.number now.moment x i None ∷ l) (again one)
+
+pub in_order-first : (now : Now) (x : ℕ) (one other : List ℕ) (k : ℕ) (p : Packet) → k < length one → asked_in_order now x one (Some (k, p)) ≡ asked_in_order now x (one ++ other) (Some (k, p))
+in_order-first now x [] other k p l = absurd (omega arith)
+in_order-first now x (i ∷ one) other zero p l = refl
+in_order-first now x (i ∷ one) other (suc k) p l = ap (λ l. asking now.number now.moment x i None ∷ l) (in_order-first now x one other k p (omega arith))
+
+pub index-first : (one other : List ℕ) (k : ℕ) → k < length one → slice_index (one ++ other) k ≡ slice_index one k
+index-first [] other k l = absurd (omega arith)
+index-first (i ∷ one) other zero l = refl
+index-first (i ∷ one) other (suc k) l = index-first one other k (omega arith)
+
+pub index-second : (one other : List ℕ) (k : ℕ) → slice_index (one ++ other) (past one k) ≡ slice_index other k
+index-second [] other k = refl
+index-second (i ∷ one) other k = index-second one other k
+
+-- the beginning after a turn
+beginning-none : (n moment : ℕ) (own : List Visit) (turns : List Turn) → giver own ≡ None → beginning n (with_turn moment own turns) ≡ beginning n turns
+beginning-none n moment [] turns e = refl
+beginning-none n moment (v ∷ own) turns e = rw e refl
+
+beginning-given : (n moment : ℕ) (own : List Visit) (turns : List Turn) (i : ℕ) → giver own ≡ Some i → beginning n (with_turn moment own turns) ≡ (i + 1) % n
+beginning-given n moment own turns i e = ap (beginning n) (with_turn-given moment own turns i e) ∙ rw e refl
+
+-- the next beginning, by what was given
+abbrev pub begins_next : ℕ → ℕ → Option ℕ → ℕ
+begins_next n first None = first
+begins_next n first (Some i) = (i + 1) % n
+
+pub round_robin-turn : (a b : Nodes) (x n first next : ℕ) (p : Inputs) (r : Option (ℕ × Packet)) → slice_get a.inputs.items x ≡ Some p → n ≡ length p.each.items → first < n → IsWithin (parts first n) r
+    → AsksAll a b x (parts first n) (asked_in_order (now_of a) x (parts first n) r) → next ≡ begins_next n first (giver_at (parts first n) r)
+    → TakesTurn a b x round_robin (RoundRobin (record { input = first })) (RoundRobin (record { input = next })) (packet_of r)
+round_robin-turn a b x n first next p r e all low within asked is row history ready holds =
+    record {
+      turned = done.turned;
+      holds = is ∙ by_giver (giver_at order r) (in_order-giver (now_of a) x order r within) ∙ ap (λ k. beginning k (after history a.moment (added a b) x)) inputs;
+    }
+  where
+    order : List ℕ
+    order = parts first n
+
+    inputs : n ≡ width row
+    inputs = all ∙ stands-width a.inputs.items x row p ready.stands e
+
+    first_is : first ≡ beginning n (history x)
+    first_is = holds ∙ ap (λ k. beginning k (history x)) (sym inputs)
+
+    law : order ≡ round_robin_order n (history x)
+    law = sym (order-parts n first low) ∙ ap (λ s. map (λ k. (s + k) % n) (range_with_len 0 n)) first_is
+
+    own : List Visit
+    own = asked_in_order (now_of a) x order r
+
+    done : HasTurnedBy a b history x round_robin row own (packet_of r)
+    done =
+        turned-in-order a b history x round_robin row order r ready within asked
+        (subst (λ k. IsOrderOf k order) inputs (subst (IsOrderOf n) (sym law) (round_robin-order n (history x) (omega arith))))
+        (λ h. subst (λ k. AsksInOrder (round_robin_order k (history x)) own) inputs (subst (λ l. AsksInOrder l own) law h))
+
+    by_giver : (o : Option ℕ) → giver own ≡ o → begins_next n first o ≡ beginning n (after history a.moment (added a b) x)
+    by_giver None g = first_is ∙ sym (beginning-none n a.moment own (history x) g) ∙ ap (beginning n) (sym (after-own a b history x own done.own_is))
+    by_giver (Some i) g = sym (beginning-given n a.moment own (history x) i g) ∙ ap (beginning n) (sym (after-own a b history x own done.own_is))
+
+-- both parts name all inputs, and none twice
+pub parts-order : (n first : ℕ) → first < n → IsOrderOf n (parts first n)
+parts-order n first l =
+    let all = around n first 0 n l (omega arith) in
+    subst (IsOrderOf n) (order-parts n first l)
+    (record { within = all-weaker (IsBeyond n first 0) (λ i. i < n) (map (λ k. (first + k) % n) (range_with_len 0 n)) (λ i b. b.place.within) all.0; apart = all.1 })
+
+-- The inputs of a node, and the one at which it begins.
+pub record Begins (table : List Inputs) (x n first : ℕ) : Type 0 where
+  pub inputs : Inputs
+  pub place : slice_get table x ≡ Some inputs
+  pub count : n ≡ length inputs.each.items
+  pub low : first < n
+  pub few : n ≤ 64
+
+pub begins : (a : Nodes) (x n : ℕ) (b : Beginning) (p : Inputs) → CanPull a x (edges_of a.inputs.items x) → p ≡ get_or a.inputs.items x p → n ≡ vec_len p.each
+    → IfSome (slice_get a.inputs.items x) (λ (q : Inputs). b.input < length q.each.items) → Begins a.inputs.items x n b.input
+begins a x n b p can e all fits =
+    let place : slice_get a.inputs.items x ≡ Some p = entry a.inputs.items x p can.there e in
+    let count : n ≡ length p.each.items = all ∙ p.each.ok.0 in
+    let few = (can.wired x p place).few in
+    record {
+      inputs = p;
+      place = place;
+      count = count;
+      low = subst (λ m. b.input < m) (sym count) (subst (λ o. IfSome o (λ (q : Inputs). b.input < length q.each.items)) place fits);
+      few = omega (arith, few, count);
+    }
+
+-- what is wanted for asking the first part, and after that the second
+abbrev pub MayAsk : Nodes → ℕ → ℕ → ℕ → Type 0
+MayAsk a x first count = CanPull a x (edges_in a.inputs.items x (range_with_len first count)) × AllByRecursion (λ i. IsSome (input_at a.inputs.items x i)) (range_with_len first count) × (first + count ≤ 64)
+
+there-both : (table : List Inputs) (x n first : ℕ) → Begins table x n first
+    → AllByRecursion (λ i. IsSome (input_at table x i)) (range_with_len first (n - first)) × AllByRecursion (λ i. IsSome (input_at table x i)) (range_with_len 0 first)
+there-both table x n first h =
+    all-split (λ i. IsSome (input_at table x i)) (range_with_len first (n - first)) (range_with_len 0 first)
+    (order-there table x h.inputs (parts first n) h.place (subst (λ k. AllByRecursion (λ i. i < k) (parts first n)) h.count (parts-order n first h.low).within))
+
+pub may-first : (a : Nodes) (x n first : ℕ) → Begins a.inputs.items x n first → CanPull a x (edges_of a.inputs.items x) → MayAsk a x first (n - first)
+may-first a x n first h can = let low = h.low in let few = h.few in (
+  can-order a x h.inputs (range_with_len first (n - first)) can h.place (apart-split (range_with_len first (n - first)) (range_with_len 0 first) (parts-order n first h.low).apart).0,
+  (there-both a.inputs.items x n first h).0,
+  omega (arith, low, few),
+)
+
+pub may-second : (a b : Nodes) (x n first : ℕ) → Begins a.inputs.items x n first → CanPull a x (edges_of a.inputs.items x) → Keeps a b (edges_in a.inputs.items x (range_with_len first (n - first))) → MayAsk b x 0 first
+may-second a b x n first h can kept =
+    let both = can-order a x h.inputs (parts first n) can h.place (parts-order n first h.low).apart in
+    let edges = edges-append a.inputs.items x (range_with_len first (n - first)) (range_with_len 0 first) in
+    let low = h.low in
+    let few = h.few in (
+      subst (λ t. CanPull b x (edges_in t x (range_with_len 0 first))) (sym kept.inputs)
+          (can-go_on a b x (edges_in a.inputs.items x (range_with_len first (n - first))) (edges_in a.inputs.items x (range_with_len 0 first))
+          (record { wired = both.wired; fit = both.fit; there = both.there; room = let r = both.room in omega (arith, edges); moment = both.moment }) kept),
+      subst (λ t. AllByRecursion (λ i. IsSome (input_at t x i)) (range_with_len 0 first)) (sym kept.inputs) (there-both a.inputs.items x n first h).1,
+      omega (arith, low, few),
+    )
+
+-- An order was asked in vain, and then another.
+pub asked-both : {S : Type 0} (gives : S → ℕ → Option Packet → S → Type 0) (a b c : Nodes) (q s t : S) (x : ℕ) (one other : List ℕ) (r : Option (ℕ × Packet)) → IsAsking gives a b q s x one → HasAskedAll gives b c s t x other r
+    → HasAskedAll gives a c q t x (one ++ other) (in_second one r)
+asked-both gives a b c q s t x one other r h k =
+    let second : Keeps b c (edges_in a.inputs.items x other) = subst (λ table. Keeps b c (edges_in table x other)) h.keeps.inputs k.keeps in
+    let edges = edges-append a.inputs.items x one other in
+    record {
+      keeps = subst (Keeps a c) (sym edges) (keeps-then a b c (edges_in a.inputs.items x one) (edges_in a.inputs.items x other) h.keeps second);
+      answers = subst (λ l. Answers gives (queue_asked a.inputs.items) q l t) (sym (added-then a b c _ _ h.keeps second))
+          (answers-then gives (queue_asked a.inputs.items) (added a b) (added b c) q s t h.answers (subst (λ table. Answers gives (queue_asked table) s (added b c) t) h.keeps.inputs k.answers));
+      asks = subst (AsksAll a c x (one ++ other)) (in_order-second (now_of a) x one other r)
+          (asks-then a b c _ _ x one other (asked_in_vain (now_of a) x one) (asked_in_order (now_of a) x other r) h.keeps second (vain-in (now_of a) x one) h.asks
+          (subst (λ now. AsksAll b c x other (asked_in_order now x other r)) (same-now a b _ h.keeps) k.asks));
+    }
+
+-- Both parts were asked, up to a place, and that was its turn.
+had-both : {S : Type 0} (gives : S → ℕ → Option Packet → S → Type 0) (a b : Nodes) (q r : S) (x n first next : ℕ) (o : Option (ℕ × Packet)) → Begins a.inputs.items x n first → CanPull a x (edges_of a.inputs.items x)
+    → HasAskedAll gives a b q r x (parts first n) o → IsWithin (parts first n) o → next ≡ begins_next n first (giver_at (parts first n) o) → next < n
+    → HadTurn gives a b q r x (RoundRobin (record { input = first })) (RoundRobin (record { input = next })) (packet_of o)
+had-both gives a b q r x n first next o h can asked within is lower =
+    record {
+      keeps = keeps-order a b x h.inputs (parts first n) can h.place (parts-order n first h.low).apart asked.keeps;
+      answers = asked.answers;
+      fits = subst (λ k. IfSome k (λ (p : Inputs). next < length p.each.items)) (sym h.place) (subst (λ m. next < m) h.count lower);
+      turn = round_robin-alone a b x (record { input = first }) (RoundRobin (record { input = next })) (packet_of o) (round_robin-turn a b x n first next h.inputs o h.place h.count h.low within asked.asks is);
+    }
+
+-- The first part gave a packet.
+pub had-first : {S : Type 0} (gives : S → ℕ → Option Packet → S → Type 0) (a b : Nodes) (q r : S) (x n first k : ℕ) (p : Packet) (o : Option (ℕ × Packet)) → Begins a.inputs.items x n first → CanPull a x (edges_of a.inputs.items x)
+    → o ≡ Some (k, p) → IfSome o (λ g. g.0 < n - first) → HasAskedAll gives a b q r x (range_with_len first (n - first)) o
+    → HadTurn gives a b q r x (RoundRobin (record { input = first })) (RoundRobin (record { input = (first + k + 1) % n })) (Some p)
+had-first gives a b q r x n first k p o h can is place given =
+    let low = h.low in
+    had-both gives a b q r x n first ((first + k + 1) % n) (Some (k, p)) h can
+    (record {
+      keeps = keeps-more a b _ _ asked.keeps (omega (arith, edges));
+      answers = asked.answers;
+      asks = subst (AsksAll a b x (parts first n)) (in_order-first (now_of a) x one other k p inside) (asks-front a b x one other (asked_in_order (now_of a) x one (Some (k, p))) asked.asks);
+    })
+    (omega (arith, inside, length-append one other)) (ap (λ i. (i + 1) % n) (sym input)) (mod-lt (first + k + 1) (omega (arith, low)))
+  where
+    one : List ℕ
+    one = range_with_len first (n - first)
+
+    other : List ℕ
+    other = range_with_len 0 first
+
+    asked : HasAskedAll gives a b q r x one (Some (k, p))
+    asked = subst (HasAskedAll gives a b q r x one) is given
+
+    within : k < n - first
+    within = subst (λ g. IfSome g (λ v. v.0 < n - first)) is place
+
+    inside : k < length one
+    inside = subst (λ m. k < m) (sym (length-range_with_len first (n - first))) within
+
+    edges : edges_in a.inputs.items x (one ++ other) ≡ edges_in a.inputs.items x one + edges_in a.inputs.items x other
+    edges = edges-append a.inputs.items x one other
+
+    input : slice_index (parts first n) k ≡ first + k
+    input = index-first one other k inside ∙ get_or-range_with_len first (n - first) k 0 within
+
+-- The first part gave none, and the second a packet.
+pub had-second : {S : Type 0} (gives : S → ℕ → Option Packet → S → Type 0) (a b c : Nodes) (q r s : S) (x n first k : ℕ) (p : Packet) (o u : Option (ℕ × Packet)) → Begins a.inputs.items x n first → CanPull a x (edges_of a.inputs.items x)
+    → o ≡ None → HasAskedAll gives a b q r x (range_with_len first (n - first)) o → u ≡ Some (k, p) → IfSome u (λ g. g.0 < first) → HasAskedAll gives b c r s x (range_with_len 0 first) u
+    → HadTurn gives a c q s x (RoundRobin (record { input = first })) (RoundRobin (record { input = k + 1 })) (Some p)
+had-second gives a b c q r s x n first k p o u h can none vain is place given =
+    let low = h.low in
+    had-both gives a c q s x n first (k + 1) (Some (past one k, p)) h can
+    (asked-both gives a b c q r s x one other (Some (k, p)) (asked-vain gives a b q r x one o none vain) (subst (HasAskedAll gives b c r s x other) is given))
+    (omega (arith, within, past-length one k, length-append one other, length-range_with_len 0 first)) (sym (mod-eq_of_lt (omega (arith, within, low))) ∙ ap (λ i. (i + 1) % n) (sym input)) (omega (arith, within, low))
+  where
+    one : List ℕ
+    one = range_with_len first (n - first)
+
+    other : List ℕ
+    other = range_with_len 0 first
+
+    within : k < first
+    within = subst (λ g. IfSome g (λ v. v.0 < first)) is place
+
+    input : slice_index (parts first n) (past one k) ≡ k
+    input = index-second one other k ∙ get_or-range_with_len 0 first k 0 within ∙ omega arith
+
+-- Neither part gave one.
+pub had-none : {S : Type 0} (gives : S → ℕ → Option Packet → S → Type 0) (a b c : Nodes) (q r s : S) (x n first : ℕ) (o u : Option (ℕ × Packet)) → Begins a.inputs.items x n first → CanPull a x (edges_of a.inputs.items x) → o ≡ None
+    → HasAskedAll gives a b q r x (range_with_len first (n - first)) o → u ≡ None → HasAskedAll gives b c r s x (range_with_len 0 first) u
+    → HadTurn gives a c q s x (RoundRobin (record { input = first })) (RoundRobin (record { input = first })) None
+had-none gives a b c q r s x n first o u h can none vain neither given =
+    let one = range_with_len first (n - first) in
+    let other = range_with_len 0 first in
+    had-both gives a c q s x n first first None h can (asked-both gives a b c q r s x one other None (asked-vain gives a b q r x one o none vain) (subst (HasAskedAll gives b c r s x other) neither given)) tt refl h.low
+
+-- The place at which a part gave a packet names one of 64 inputs.
+pub few-first : (table : List Inputs) (x n first k : ℕ) (p : Packet) (o : Option (ℕ × Packet)) → Begins table x n first → o ≡ Some (k, p) → IfSome o (λ g. g.0 < n - first) → first + k < 64
+few-first table x n first k p o h is place = let within : k < n - first = subst (λ g. IfSome g (λ v. v.0 < n - first)) is place in let few = h.few in let low = h.low in omega (arith, within, few, low)
+
+pub few-second : (table : List Inputs) (x n first k : ℕ) (p : Packet) (o : Option (ℕ × Packet)) → Begins table x n first → o ≡ Some (k, p) → IfSome o (λ g. g.0 < first) → k < 64
+few-second table x n first k p o h is place = let within : k < first = subst (λ g. IfSome g (λ v. v.0 < first)) is place in let few = h.few in let low = h.low in omega (arith, within, few, low)

@@ -1,0 +1,5 @@
+-- That no packet is lost: where those come from that a node passes or holds.
+pub mod Origins
+pub mod Conserved
+pub mod CameFrom
+pub mod Counted

@@ -1,0 +1,5 @@
+-- Lists, numbers and pairs, whatever stands in them.
+pub mod Numbers
+pub mod Members
+pub mod Apart
+pub mod Rising

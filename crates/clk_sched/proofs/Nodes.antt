@@ -1,0 +1,11 @@
+-- Nodes that are pulled: what they ask, what they record, and what stays.
+pub mod Below
+pub mod Pulling
+pub mod Asking
+pub mod Asked
+pub mod Edges
+pub mod InOrder
+pub mod Placed
+pub mod Ordered
+pub mod Logged
+pub mod Idle

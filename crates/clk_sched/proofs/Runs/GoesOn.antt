@@ -1,0 +1,267 @@
+-- A run goes on by one pull.
+use Rattle.std.proofs.Common.{◌≡◌, ◌≢◌, ℕ, zero, suc, ◌+◌, ◌<◌, ◌≤◌, ◌==◌, Bool, true, false, if◌then◌else◌, List, [], ◌∷◌, ◌++◌, length, map, filter, reverse, refl, sym, ap, ap₂, ◌∙◌, subst, append-nil, append_assoc, length-append, arith}
+use Rattle.std.specs.List.{flat_map, range_with_len, AllByRecursion, list_any}
+use Rattle.std.proofs.lemmas.List.{map-append, reverse-append, length-reverse, append_cancel_right}
+use Rattle.std.proofs.lemmas.List.Concat.{flat_map-append}
+use Rattle.std.proofs.lemmas.List.Elements.{filter-append}
+use Rattle.std.proofs.lemmas.List.FromFn.{map-range_with_len_more, length-map-range_with_len}
+use Rattle.clk_sched.specs.declared.visit.Visit.{Visit}
+use Rattle.clk_sched.specs.Tree.{Row, end, leaf, node, Tree, root, nodes, width}
+use Rattle.clk_sched.specs.Turns.{EachAfter}
+use Rattle.clk_sched.specs.Log.{visits_of, in_pull, pulls, block, moment_of, HasOneMoment, NeverFalls, turn, asks, pulls_below}
+use Rattle.clk_sched.specs.Laws.{AllowsTurn, Obeys}
+use Rattle.clk_sched.specs.Laws.Device.{IsDeviceTurn}
+use Rattle.clk_sched.specs.Run.{GetsResult, EachObeys, IsRun}
+use Rattle.clk_sched.specs.Step.{EachAllows, IsNextPull, IsOnePullMore, GoesOn, IsOnePullLess, IsRunOf}
+use Rattle.clk_sched.proofs.Lists.Members.{all-append, all-weaker, filter-all, filter-none, all-split, of-all}
+use Rattle.clk_sched.proofs.Runs.Allowed.{onto, onto-reverse, each-split, each-join, each-allowed, device-visit}
+use Rattle.clk_sched.proofs.Runs.PullByPull.{in_pull-number, IsNumbered, each-numbered, each-whole}
+use Rattle.clk_sched.proofs.Runs.Blocks.{flat_map-same}
+use Rattle.clk_sched.proofs.Runs.Pulled.{joined}
+use Rattle.clk_sched.proofs.Lists.Numbers.{equal, differs}
+
+each-more : {X : Type 0} (P : List X → X → Type 0) (xs : List X) (x : X) → EachAfter P [] xs → P (reverse xs) x → EachAfter P [] (xs ++ x ∷ [])
+each-more P xs x h k = each-join P [] xs (x ∷ []) h (subst (λ e. P e x) (sym (onto-reverse xs)) k, tt)
+
+reverse-more : {X : Type 0} (x : X) (xs : List X) → reverse (x ∷ xs) ≡ reverse xs ++ x ∷ []
+reverse-more x xs = reverse-append (x ∷ []) xs
+
+pub filter-reverse : {X : Type 0} (test : X → Bool) (xs : List X) → filter test (reverse xs) ≡ reverse (filter test xs)
+filter-reverse test [] = refl
+filter-reverse test (x ∷ xs) = ap (filter test) (reverse-more x xs) ∙ filter-append test (reverse xs) (x ∷ []) ∙ ap (λ l. l ++ filter test (x ∷ [])) (filter-reverse test xs) ∙ by_test (test x)
+  where
+    by_test : (b : Bool) → reverse (filter test xs) ++ (if b then x ∷ [] else []) ≡ reverse (if b then x ∷ filter test xs else filter test xs)
+    by_test true = sym (reverse-more x (filter test xs))
+    by_test false = append-nil (reverse (filter test xs))
+
+pub map-reverse : {X Y : Type 0} (f : X → Y) (xs : List X) → map f (reverse xs) ≡ reverse (map f xs)
+map-reverse f [] = refl
+map-reverse f (x ∷ xs) = ap (map f) (reverse-more x xs) ∙ map-append f (reverse xs) (x ∷ []) ∙ ap (λ l. l ++ f x ∷ []) (map-reverse f xs) ∙ sym (reverse-more (f x) (map f xs))
+
+each-obeys : (row : Row) (above first next : ℕ) (pulled : List (List Visit)) (pull : List Visit) → EachObeys above pulled first next row → EachAllows above first next row (reverse pulled) pull
+    → EachObeys above (pulled ++ pull ∷ []) first next row
+each-obeys end above first next pulled pull h k = tt
+each-obeys (leaf q row) above first next pulled pull h k = each-obeys row above (suc first) next pulled pull h k
+each-obeys (node class inputs row) above first next pulled pull h k =
+    let here = by_asked (asked pull) k.0 (λ m. each-obeys inputs next 0 (suc next) (pulls_below above first pulled) pull h.2 m) in (
+      subst (λ ps. Obeys class (width inputs) (map (turn next) ps)) (sym more) here.0,
+      all-append (GetsResult above first next) pulled (pull ∷ []) h.1 (k.1, tt),
+      subst (λ ps. EachObeys next ps 0 (suc next) inputs) (sym more) here.1,
+      each-obeys row above (suc first) (suc (next + nodes inputs)) pulled pull h.3 k.2,
+    )
+  where
+    asked : List Visit → Bool
+    asked p = list_any (asks first) (visits_of above p)
+
+    before : List (List Visit)
+    before = pulls_below above first pulled
+
+    more : pulls_below above first (pulled ++ pull ∷ []) ≡ before ++ (if asked pull then pull ∷ [] else [])
+    more = filter-append asked pulled (pull ∷ [])
+
+    turned : pulls_below above first (reverse pulled) ≡ reverse before
+    turned = filter-reverse asked pulled
+
+    After : List (List Visit) → Type 0
+    After ps = Obeys class (width inputs) (map (turn next) ps) × EachObeys next ps 0 (suc next) inputs
+
+    by_asked : (b : Bool)
+        → (b ≡ true → AllowsTurn class (width inputs) (map (turn next) (pulls_below above first (reverse pulled))) (turn next pull) × EachAllows next 0 (suc next) inputs (pulls_below above first (reverse pulled)) pull)
+        → (EachAllows next 0 (suc next) inputs (reverse before) pull → EachObeys next (before ++ pull ∷ []) 0 (suc next) inputs) → After (before ++ (if b then pull ∷ [] else []))
+    by_asked false a rest = subst After (sym (append-nil before)) (h.0, h.2)
+    by_asked true a rest = (
+      subst (Obeys class (width inputs)) (sym (map-append (turn next) before (pull ∷ [])))
+          (each-more (AllowsTurn class (width inputs)) (map (turn next) before) (turn next pull) h.0
+          (subst (λ ts. AllowsTurn class (width inputs) ts (turn next pull)) (ap (map (turn next)) turned ∙ map-reverse (turn next) before) (a refl).0)),
+      rest (subst (λ ps. EachAllows next 0 (suc next) inputs ps pull) turned (a refl).1),
+    )
+
+-- the visits of the pulls before one are of pulls numbered below it
+numbers-below : (log : List Visit) (a n total : ℕ) → a + n ≤ total → AllByRecursion (λ (v : Visit). v.pull < total) (flat_map (λ p. p) (map (λ k. in_pull k log) (range_with_len a n)))
+numbers-below log a zero total l = tt
+numbers-below log a (suc n) total l =
+    all-append (λ (v : Visit). v.pull < total) (in_pull a log) _ (all-weaker (λ (v : Visit). v.pull ≡ a) (λ (v : Visit). v.pull < total) (in_pull a log) (λ v e. omega (arith, e)) (in_pull-number a log))
+    (numbers-below log (a + 1) n total (omega arith))
+
+in-one : (k : ℕ) (visits : List Visit) → AllByRecursion (λ (v : Visit). v.pull ≡ k) visits → in_pull k visits ≡ visits
+in-one k visits h = filter-all (λ (v : Visit). v.pull == k) visits (all-weaker (λ (v : Visit). v.pull ≡ k) (λ (v : Visit). (v.pull == k) ≡ true) visits (λ v e. equal v.pull k e) h)
+
+in-other : (k : ℕ) (visits : List Visit) → AllByRecursion (λ (v : Visit). v.pull ≢ k) visits → in_pull k visits ≡ []
+in-other k visits h = filter-none (λ (v : Visit). v.pull == k) visits (all-weaker (λ (v : Visit). v.pull ≢ k) (λ (v : Visit). (v.pull == k) ≡ false) visits (λ v d. differs v.pull k d) h)
+
+map-range : {X : Type 0} (f g : ℕ → X) (a n : ℕ) → ((k : ℕ) → k < a + n → f k ≡ g k) → map f (range_with_len a n) ≡ map g (range_with_len a n)
+map-range f g a zero h = refl
+map-range f g a (suc n) h = λ i. h a (omega arith) i ∷ map-range f g (a + 1) n (λ k l. h k (omega arith)) i
+
+-- the pulls of a log to which the visits of the next pull are added
+pulls-more : (log next : List Visit) (n : ℕ) → n ≡ length (visits_of 0 log) → AllByRecursion (λ (v : Visit). v.pull < n) log
+    → AllByRecursion (λ (v : Visit). v.pull ≡ n) next → length (visits_of 0 next) ≡ 1 → pulls (log ++ next) ≡ pulls log ++ next ∷ []
+pulls-more log next n count before now one =
+    let total : length (visits_of 0 (log ++ next)) ≡ n + 1 =
+    omega (arith, ap length (filter-append (λ (v : Visit). v.node == 0) log next), length-append (visits_of 0 log) (visits_of 0 next))
+    in
+    ap (λ m. map (λ k. in_pull k (log ++ next)) (range_with_len 0 m)) total
+    ∙ map-range_with_len_more (λ k. in_pull k (log ++ next)) 0 n n (omega arith)
+    ∙ ap₂ (λ ps p. ps ++ p ∷ []) (map-range (λ k. in_pull k (log ++ next)) (λ k. in_pull k log) 0 n earlier ∙ ap (λ m. map (λ k. in_pull k log) (range_with_len 0 m)) count) latest
+  where
+    earlier : (k : ℕ) → k < 0 + n → in_pull k (log ++ next) ≡ in_pull k log
+    earlier k l =
+        filter-append (λ (v : Visit). v.pull == k) log next
+        ∙ ap (λ vs. in_pull k log ++ vs) (in-other k next (all-weaker (λ (v : Visit). v.pull ≡ n) (λ (v : Visit). v.pull ≢ k) next (λ v e d. absurd (omega arith)) now))
+        ∙ append-nil (in_pull k log)
+
+    latest : in_pull n (log ++ next) ≡ next
+    latest =
+        filter-append (λ (v : Visit). v.pull == n) log next
+        ∙ ap (λ vs. vs ++ in_pull n next) (in-other n log (all-weaker (λ (v : Visit). v.pull < n) (λ (v : Visit). v.pull ≢ n) log (λ v l d. absurd (omega arith)) before))
+        ∙ in-one n next now
+
+one-more : (tree : Tree) (log pull : List Visit) → IsRun tree log → IsNextPull tree log pull → IsOnePullMore tree log pull
+one-more tree log pull run is =
+    record {
+      run = record {
+        shape = record {
+          blocks =
+              ap₂ (λ l p. l ++ p) run.shape.blocks (is.whole ∙ sym (append-nil (block tree pull))) ∙ sym (flat_map-append (block tree) (pulls log) (pull ∷ [])) ∙ ap (flat_map (block tree)) (sym last);
+          one_moment = subst (AllByRecursion HasOneMoment) (sym last) (all-append HasOneMoment (pulls log) (pull ∷ []) run.shape.one_moment (is.one_moment, tt));
+          moments = subst (λ ps. NeverFalls 0 (map moment_of ps)) (sym last) is.moments;
+        };
+        device =
+            subst (AllByRecursion IsDeviceTurn) (sym (ap (map (turn 0)) last ∙ map-append (turn 0) (pulls log) (pull ∷ [])))
+            (all-append IsDeviceTurn (map (turn 0) (pulls log)) (turn 0 pull ∷ []) run.device (is.device, tt));
+        below = subst (λ ps. EachObeys 0 ps 0 1 (root tree)) (sym last) (each-obeys (root tree) 0 0 1 (pulls log) pull run.below is.below);
+      };
+      last = last;
+    }
+  where
+    count : ℕ
+    count = length (visits_of 0 log)
+
+    counted : length (pulls log) ≡ count
+    counted = length-map-range_with_len (λ k. in_pull k log) 0 count
+
+    before : AllByRecursion (λ (v : Visit). v.pull < count) log
+    before = subst (AllByRecursion (λ (v : Visit). v.pull < count)) (sym (joined tree log run)) (numbers-below log 0 count count (omega arith))
+
+    last : pulls (log ++ pull) ≡ pulls log ++ pull ∷ []
+    last = pulls-more log pull count refl before (subst (λ n. AllByRecursion (λ (v : Visit). v.pull ≡ n) pull) counted is.number) (ap length (device-visit (visits_of 0 pull) is.device).only)
+
+-- nothing has happened yet
+each-none : (row : Row) (above first next : ℕ) → EachObeys above [] first next row
+each-none end above first next = tt
+each-none (leaf q row) above first next = each-none row above (suc first) next
+each-none (node class inputs row) above first next = (tt, tt, each-none inputs next 0 (suc next), each-none row above (suc first) (suc (next + nodes inputs)))
+
+-- and back: what holds of the pulls up to one holds of those before it
+each-less : (row : Row) (above first next : ℕ) (pulled later : List (List Visit)) → EachObeys above (pulled ++ later) first next row → EachObeys above pulled first next row
+each-less end above first next pulled later h = tt
+each-less (leaf q row) above first next pulled later h = each-less row above (suc first) next pulled later h
+each-less (node class inputs row) above first next pulled later h =
+    let split = filter-append (λ p. list_any (asks first) (visits_of above p)) pulled later in (
+      (each-split (AllowsTurn class (width inputs)) [] (map (turn next) (pulls_below above first pulled)) (map (turn next) (pulls_below above first later))
+          (subst (Obeys class (width inputs)) (ap (map (turn next)) split ∙ map-append (turn next) (pulls_below above first pulled) (pulls_below above first later)) h.0)).0,
+      (all-split (GetsResult above first next) pulled later h.1).0,
+      each-less inputs next 0 (suc next) (pulls_below above first pulled) (pulls_below above first later) (subst (λ ps. EachObeys next ps 0 (suc next) inputs) split h.2),
+      each-less row above (suc first) (suc (next + nodes inputs)) pulled later h.3,
+    )
+
+never-less : (least : ℕ) (ms later : List ℕ) → NeverFalls least (ms ++ later) → NeverFalls least ms
+never-less least [] later h = tt
+never-less least (m ∷ ms) later h = (h.0, never-less m ms later h.1)
+
+-- pulls that are numbered one after another, and in each of which the device has its turn, are those of the log that they are joined to
+joined-more : (tree : Tree) (before more : List (List Visit)) → pulls (flat_map (λ p. p) before) ≡ before → AllByRecursion (λ (v : Visit). v.pull < length before) (flat_map (λ p. p) before) → EachAfter (IsNumbered tree) (reverse before) more
+    → AllByRecursion IsDeviceTurn (map (turn 0) more) → pulls (flat_map (λ p. p) (before ++ more)) ≡ before ++ more
+joined-more tree before [] are below numbered devices = subst (λ ps. pulls (flat_map (λ p. p) ps) ≡ ps) (sym (append-nil before)) are
+joined-more tree before (pull ∷ more) are below numbered devices =
+    subst (λ ps. pulls (flat_map (λ p. p) ps) ≡ ps) (append_assoc before (pull ∷ []) more)
+    (joined-more tree (before ++ pull ∷ []) more (ap pulls log ∙ last ∙ ap (λ ps. ps ++ pull ∷ []) are) (subst (AllByRecursion (λ (v : Visit). v.pull < length (before ++ pull ∷ []))) (sym log) numbers)
+    (subst (λ e. EachAfter (IsNumbered tree) e more) (sym (reverse-append before (pull ∷ []))) numbered.1) devices.1)
+  where
+    earlier : List Visit
+    earlier = flat_map (λ p. p) before
+
+    log : flat_map (λ p. p) (before ++ pull ∷ []) ≡ earlier ++ pull
+    log = flat_map-append (λ p. p) before (pull ∷ []) ∙ ap (λ l. earlier ++ l) (append-nil pull)
+
+    number : AllByRecursion (λ (v : Visit). v.pull ≡ length before) pull
+    number = subst (λ n. AllByRecursion (λ (v : Visit). v.pull ≡ n) pull) (length-reverse before) numbered.0.number
+
+    last : pulls (earlier ++ pull) ≡ pulls earlier ++ pull ∷ []
+    last =
+        pulls-more earlier pull (length before) (sym (ap length are) ∙ length-map-range_with_len (λ k. in_pull k earlier) 0 (length (visits_of 0 earlier))) below number
+        (ap length (device-visit (visits_of 0 pull) devices.0).only)
+
+    numbers : AllByRecursion (λ (v : Visit). v.pull < length (before ++ pull ∷ [])) (earlier ++ pull)
+    numbers =
+        let long = length-append before (pull ∷ []) in
+        all-append (λ (v : Visit). v.pull < length (before ++ pull ∷ [])) earlier pull
+        (all-weaker (λ (v : Visit). v.pull < length before) (λ (v : Visit). v.pull < length (before ++ pull ∷ [])) earlier (λ v l. omega (arith, long, l)) below)
+        (all-weaker (λ (v : Visit). v.pull ≡ length before) (λ (v : Visit). v.pull < length (before ++ pull ∷ [])) pull (λ v e. omega (arith, long, e)) number)
+
+-- what comes before some pulls of a run
+pub front : (tree : Tree) (log : List Visit) (before after : List (List Visit)) → IsRun tree log → pulls log ≡ before ++ after → IsRunOf tree (flat_map (λ p. p) before) before
+front tree log before after run are =
+    record {
+      run = record {
+        shape = record {
+          blocks = flat_map-same (λ p. p) (block tree) before (λ p m. of-all (λ r. r ≡ block tree r) p before wholes m) ∙ ap (flat_map (block tree)) (sym them);
+          one_moment = subst (AllByRecursion HasOneMoment) (sym them) (all-split HasOneMoment before after (subst (AllByRecursion HasOneMoment) are run.shape.one_moment)).0;
+          moments = subst (λ ps. NeverFalls 0 (map moment_of ps)) (sym them) (never-less 0 (map moment_of before) (map moment_of after) (subst (NeverFalls 0) (ap (map moment_of) are ∙ map-append moment_of before after) run.shape.moments));
+        };
+        device = subst (λ ps. AllByRecursion IsDeviceTurn (map (turn 0) ps)) (sym them) devices;
+        below = subst (λ ps. EachObeys 0 ps 0 1 (root tree)) (sym them) (each-less (root tree) 0 0 1 before after (subst (λ ps. EachObeys 0 ps 0 1 (root tree)) are run.below));
+      };
+      are = them;
+    }
+  where
+    wholes : AllByRecursion (λ p. p ≡ block tree p) before
+    wholes = (all-split (λ p. p ≡ block tree p) before after (subst (AllByRecursion (λ p. p ≡ block tree p)) are (each-whole tree log run.shape))).0
+
+    devices : AllByRecursion IsDeviceTurn (map (turn 0) before)
+    devices = (all-split IsDeviceTurn (map (turn 0) before) (map (turn 0) after) (subst (AllByRecursion IsDeviceTurn) (ap (map (turn 0)) are ∙ map-append (turn 0) before after) run.device)).0
+
+    them : pulls (flat_map (λ p. p) before) ≡ before
+    them = joined-more tree [] before refl tt (each-split (IsNumbered tree) [] before after (subst (EachAfter (IsNumbered tree) []) are (each-numbered tree log run.shape))).0 devices
+
+one-less : (tree : Tree) (log pull : List Visit) → IsOnePullMore tree log pull → IsOnePullLess tree log pull
+one-less tree log pull more =
+    record {
+      run = subst (IsRun tree) (sym log_is) (front tree (log ++ pull) (pulls log) (pull ∷ []) more.run more.last).run;
+      next = record {
+        number = subst (λ n. AllByRecursion (λ (v : Visit). v.pull ≡ n) pull) (ap length (onto-reverse (pulls log)) ∙ length-reverse (pulls log)) numbered.number;
+        whole = numbered.whole;
+        one_moment = numbered.one_moment;
+        moments = moments;
+        device = devices.1.0;
+        below =
+            subst (λ e. EachAllows 0 0 1 (root tree) e pull) (onto-reverse (pulls log))
+            (each-split (EachAllows 0 0 1 (root tree)) [] (pulls log) (pull ∷ [])
+            (subst (EachAfter (EachAllows 0 0 1 (root tree)) []) more.last (each-allowed 0 0 1 (root tree) (pulls (log ++ pull)) more.run.below))).1.0;
+      };
+    }
+  where
+    log_is : log ≡ flat_map (λ p. p) (pulls log)
+    log_is =
+        append_cancel_right log (flat_map (λ p. p) (pulls log)) pull
+        (joined tree (log ++ pull) more.run ∙ ap (flat_map (λ p. p)) more.last ∙ flat_map-append (λ p. p) (pulls log) (pull ∷ []) ∙ ap (λ l. flat_map (λ p. p) (pulls log) ++ l) (append-nil pull))
+
+    moments : NeverFalls 0 (map moment_of (pulls log ++ pull ∷ []))
+    moments = subst (λ ps. NeverFalls 0 (map moment_of ps)) more.last more.run.shape.moments
+
+    devices : AllByRecursion IsDeviceTurn (map (turn 0) (pulls log)) × AllByRecursion IsDeviceTurn (turn 0 pull ∷ [])
+    devices =
+        all-split IsDeviceTurn (map (turn 0) (pulls log)) (turn 0 pull ∷ [])
+        (subst (AllByRecursion IsDeviceTurn) (ap (map (turn 0)) more.last ∙ map-append (turn 0) (pulls log) (pull ∷ [])) more.run.device)
+
+    numbered : IsNumbered tree (onto (pulls log) []) pull
+    numbered = (each-split (IsNumbered tree) [] (pulls log) (pull ∷ []) (subst (EachAfter (IsNumbered tree) []) more.last (each-numbered tree (log ++ pull) more.run.shape))).1.0
+
+pub goes-on : (tree : Tree) → GoesOn tree
+goes-on tree =
+    record {
+      start = record { shape = record { blocks = refl; one_moment = tt; moments = tt }; device = tt; below = each-none (root tree) 0 0 1 };
+      step = one-more tree;
+      back = one-less tree;
+      fronts = front tree;
+    }

@@ -1,0 +1,78 @@
+-- No law takes notice of a turn without visits: what it allows after some turns follows from those that have visits.
+use Rattle.std.proofs.Common.{◌≡◌, ◌&&◌, ℕ, Bool, true, false, if◌then◌else◌, List, [], ◌∷◌, ◌++◌, map, filter, reverse, Option, Some, None, inl, inr, refl, sym, ap, ◌∙◌, subst}
+use Rattle.std.specs.Bool.{⊤}
+use Rattle.clk_sched.specs.declared.visit.Visit.{Visit}
+use Rattle.clk_sched.specs.Turns.{Turn, EachAfter, AsksInOrder, visits_before, giver}
+use Rattle.clk_sched.specs.Log.{visits_of, moment_of, turn}
+use Rattle.clk_sched.specs.Heads.{LooksAtHeads}
+use Rattle.clk_sched.specs.Laws.{Manner, in_order, with_heads, Follows}
+use Rattle.clk_sched.specs.Laws.RoundRobin.{beginning}
+use Rattle.clk_sched.specs.Laws.Stride.{passes_after, passes_of}
+use Rattle.clk_sched.specs.Laws.Shaper.{has_passed, keeps_since, keeps_since_each}
+use Rattle.clk_sched.specs.inside.Pulling.{as_turn, with_turn}
+use Rattle.clk_sched.specs.inside.Session.{history_of}
+use Rattle.clk_packet.specs.Lists.{In}
+use Rattle.clk_sched.proofs.Classes.Bucket.{room-unpassed}
+
+-- turns without those that have no visits
+abbrev pub busy : List Turn → List Turn
+busy [] = []
+busy (t ∷ turns) = with_turn t.moment t.visits (busy turns)
+
+-- the turns of a history are those with visits
+pub history-busy : (earlier : List (List Visit)) (x : ℕ) → history_of earlier x ≡ busy (map (turn x) earlier)
+history-busy [] x = refl
+history-busy (p ∷ earlier) x = ap (with_turn (moment_of p) (visits_of x p)) (history-busy earlier x)
+
+-- they are all in pulls that pass a test, where a node has no visits in the others
+pub busy-filtered : (test : List Visit → Bool) (x : ℕ) (earlier : List (List Visit)) → ((p : List Visit) → In p earlier → test p ≡ false → visits_of x p ≡ [])
+    → busy (map (turn x) earlier) ≡ busy (map (turn x) (filter test earlier))
+busy-filtered test x [] none = refl
+busy-filtered test x (p ∷ earlier) none = by_test (test p) (none p (inl refl)) (busy-filtered test x earlier (λ r m. none r (inr m)))
+  where
+    by_test : (b : Bool) → (b ≡ false → visits_of x p ≡ []) → busy (map (turn x) earlier) ≡ busy (map (turn x) (filter test earlier))
+        → with_turn (moment_of p) (visits_of x p) (busy (map (turn x) earlier)) ≡ busy (map (turn x) (if b then p ∷ filter test earlier else filter test earlier))
+    by_test true e rest = ap (with_turn (moment_of p) (visits_of x p)) rest
+    by_test false e rest = ap (λ vs. with_turn (moment_of p) vs (busy (map (turn x) earlier))) (e refl) ∙ rest
+
+-- what is told from turns one by one, and stays at a turn without visits, is told from those with visits
+idle : {X : Type 0} (tell : List Turn → X) → ((t : Turn) (us ts : List Turn) → tell us ≡ tell ts → tell (t ∷ us) ≡ tell (t ∷ ts)) → ((moment : ℕ) (ts : List Turn) → tell (as_turn moment [] ∷ ts) ≡ tell ts)
+    → (ts : List Turn) → tell (busy ts) ≡ tell ts
+idle tell step stays [] = refl
+idle tell step stays (t ∷ ts) = by_visits t.moment t.visits (idle tell step stays ts)
+  where
+    by_visits : (moment : ℕ) (visits : List Visit) → tell (busy ts) ≡ tell ts → tell (with_turn moment visits (busy ts)) ≡ tell (as_turn moment visits ∷ ts)
+    by_visits moment [] e = e ∙ sym (stays moment ts)
+    by_visits moment (v ∷ visits) e = step (as_turn moment (v ∷ visits)) (busy ts) ts e
+
+idle-visits : (ts : List Turn) → visits_before (busy ts) ≡ visits_before ts
+idle-visits = idle visits_before (λ t us ts e. ap (λ vs. reverse t.visits ++ vs) e) (λ moment ts. refl)
+
+pub idle-beginning : (inputs : ℕ) (ts : List Turn) → beginning inputs (busy ts) ≡ beginning inputs ts
+idle-beginning inputs = idle (beginning inputs) (λ t us ts e. by_giver t us ts (giver t.visits) refl e) (λ moment ts. refl)
+  where
+    by_giver : (t : Turn) (us ts : List Turn) (o : Option ℕ) → giver t.visits ≡ o → beginning inputs us ≡ beginning inputs ts → beginning inputs (t ∷ us) ≡ beginning inputs (t ∷ ts)
+    by_giver t us ts None e h = rw e h
+    by_giver t us ts (Some input) e h = rw e refl
+
+pub idle-passes : (tickets : List ℕ) (ts : List Turn) → passes_of tickets (busy ts) ≡ passes_of tickets ts
+idle-passes tickets = idle (passes_of tickets) (λ t us ts e. ap (λ passes. passes_after tickets passes t) e) (λ moment ts. refl)
+
+pub idle-room : (rate burst moment : ℕ) (later ts : List Turn) → keeps_since_each rate burst moment later (busy ts) ≡ keeps_since_each rate burst moment later ts
+idle-room rate burst moment later [] = refl
+idle-room rate burst moment later (t ∷ ts) = by_visits t.moment t.visits (λ l. idle-room rate burst moment l ts)
+  where
+    by_visits : (past : ℕ) (visits : List Visit) → ((l : List Turn) → keeps_since_each rate burst moment l (busy ts) ≡ keeps_since_each rate burst moment l ts)
+        → keeps_since_each rate burst moment later (with_turn past visits (busy ts)) ≡ keeps_since_each rate burst moment later (as_turn past visits ∷ ts)
+    by_visits past [] same = same later ∙ sym (room-unpassed rate burst moment later (as_turn past []) ts refl)
+    by_visits past (v ∷ visits) same =
+        ap (λ room. (if has_passed (as_turn past (v ∷ visits)) then keeps_since rate burst moment later (as_turn past (v ∷ visits)) else true) && room) (same (as_turn past (v ∷ visits) ∷ later))
+
+-- a manner takes no notice of turns without visits, as far as it follows from turns
+abbrev pub TakesNoNotice : Manner → Type 0
+TakesNoNotice (in_order order) = (earlier : List Turn) (moment : ℕ) → order (busy earlier) moment ≡ order earlier moment
+TakesNoNotice (with_heads turn_of covers) = ⊤
+
+pub follows-idle : (m : Manner) (inputs : ℕ) (earlier : List Turn) (t : Turn) → TakesNoNotice m → Follows m inputs (busy earlier) t → Follows m inputs earlier t
+follows-idle (in_order order) inputs earlier t same h = subst (λ inputs. AsksInOrder inputs t.visits) (same earlier t.moment) h
+follows-idle (with_heads turn_of covers) inputs earlier t same h = (subst (λ vs. EachAfter (LooksAtHeads turn_of covers) vs t.visits) (idle-visits earlier) h.0, h.1)

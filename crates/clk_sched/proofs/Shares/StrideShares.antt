@@ -1,0 +1,305 @@
+-- The shares of a StrideSched.
+use Rattle.std.proofs.Common.{◌≡◌, ℕ, zero, suc, ◌+◌, ◌*◌, ◌<◌, ◌≤◌, ◌==◌, ◌&&◌, ◌||◌, nat_lt, nat_le, if◌then◌else◌, inl, inr, Bool, true, false, List, [], ◌∷◌, ◌++◌, length, map, Option, Some, None, IsSome, is_some, MatchOption, option_map, slice_get, unwrap_or, refl, sym, ap, ap₂, ◌∙◌, subst, add-mul, zero-add, arith}
+use Rattle.std.specs.List.{enumerate_from, AllByRecursion}
+use Rattle.std.proofs.lemmas.Bool.{false≢true}
+use Rattle.std.proofs.lemmas.Bool.Decides.{nat_tests}
+use Rattle.std.proofs.lemmas.Option.{slice_get-map, slice_get-get_or, unwrap_or-slice_get}
+use Rattle.std.proofs.lemmas.List.FromFn.{get_or-enumerate_from, length-enumerate_from}
+use Rattle.clk_packet.specs.declared.packet.Packet.{Packet}
+use Rattle.clk_sched.specs.declared.visit.Visit.{Visit}
+use Rattle.clk_sched.specs.Tree.{is_number}
+use Rattle.clk_sched.specs.Turns.{Turn, EachAfter, giver, all_visits, UpToFirst, AsksInOrder}
+use Rattle.clk_sched.specs.Laws.Stride.{visits_input, passes_after, passes_of, put_in_order, in_rising_order, stride_order, pass_in, stride_at}
+use Rattle.clk_sched.specs.Service.{AlwaysGets, Near, largest_stride, packets_given, pass_at, SharesByStride}
+use Rattle.clk_packet.specs.Lists.{In}
+use Rattle.clk_sched.proofs.Lists.Members.{of-all, all-split, in-slice}
+use Rattle.clk_sched.proofs.Runs.Allowed.{onto, onto-reverse, each-split}
+use Rattle.clk_sched.proofs.Classes.Orders.{put-all, passes-length}
+
+-- inputs with their passes
+at-enumerated : (passes : List ℕ) (i : ℕ) → i < length passes → slice_get (enumerate_from 0 passes) i ≡ Some (i, pass_in passes i)
+at-enumerated passes i l =
+    slice_get-get_or (enumerate_from 0 passes) i (0, 0) (subst (λ n. i < n) (sym (length-enumerate_from 0 passes)) l)
+    ∙ ap Some (get_or-enumerate_from 0 passes i (0, 0) l ∙ ap₂ (λ j x. (j, x)) (zero-add i) (sym (unwrap_or-slice_get passes i 0)))
+
+in-enumerated : (passes : List ℕ) (i : ℕ) → i < length passes → In (i, pass_in passes i) (enumerate_from 0 passes)
+in-enumerated passes i l = in-slice (enumerate_from 0 passes) i (i, pass_in passes i) (at-enumerated passes i l)
+
+-- a pair among the inputs from one on, with its place
+pub enumerated-at : (n : ℕ) (passes : List ℕ) (x : ℕ × ℕ) → In x (enumerate_from n passes) → (k : ℕ) × (n + k ≡ x.0) × (k < length passes) × (pass_in passes k ≡ x.1)
+enumerated-at n [] x m = absurd m
+enumerated-at n (p ∷ passes) x (inl e) = (0, ap (λ y. y.0) (let zero_is : n + 0 ≡ n = omega arith in ap (λ j. (j, p)) zero_is ∙ e), omega arith, ap (λ y. y.1) e)
+enumerated-at n (p ∷ passes) x (inr m) = let rest = enumerated-at (n + 1) passes x m in (suc rest.0, let e = rest.1 in omega (arith, e), let l = rest.2 in omega arith, rest.3)
+
+-- putting in order keeps the members, and orders them
+in-put : (i x : ℕ × ℕ) (pairs : List (ℕ × ℕ)) → In x (i ∷ pairs) → In x (put_in_order i pairs)
+in-put i x [] m = m
+in-put i x (j ∷ pairs) m = by_order (nat_lt i.1 j.1 || ((i.1 == j.1) && nat_le i.0 j.0)) m (in-put i x pairs)
+  where
+    by_order : (b : Bool) → In x (i ∷ j ∷ pairs) → (In x (i ∷ pairs) → In x (put_in_order i pairs)) → In x (if b then i ∷ j ∷ pairs else j ∷ put_in_order i pairs)
+    by_order true k rest = k
+    by_order false (inl e) rest = inr (rest (inl e))
+    by_order false (inr (inl e)) rest = inl e
+    by_order false (inr (inr k)) rest = inr (rest (inr k))
+
+put-in : (i x : ℕ × ℕ) (pairs : List (ℕ × ℕ)) → In x (put_in_order i pairs) → In x (i ∷ pairs)
+put-in i x [] m = m
+put-in i x (j ∷ pairs) m = by_order (nat_lt i.1 j.1 || ((i.1 == j.1) && nat_le i.0 j.0)) (put-in i x pairs) m
+  where
+    by_order : (b : Bool) → (In x (put_in_order i pairs) → In x (i ∷ pairs)) → In x (if b then i ∷ j ∷ pairs else j ∷ put_in_order i pairs) → In x (i ∷ j ∷ pairs)
+    by_order true rest k = k
+    by_order false rest (inl e) = inr (inl e)
+    by_order false rest (inr k) = by_place (rest k)
+      where
+        by_place : In x (i ∷ pairs) → In x (i ∷ j ∷ pairs)
+        by_place (inl e) = inl e
+        by_place (inr n) = inr (inr n)
+
+in-ordered : (x : ℕ × ℕ) (pairs : List (ℕ × ℕ)) → In x pairs → In x (in_rising_order pairs)
+in-ordered x [] m = absurd m
+in-ordered x (i ∷ pairs) (inl e) = in-put i x (in_rising_order pairs) (inl e)
+in-ordered x (i ∷ pairs) (inr m) = in-put i x (in_rising_order pairs) (inr (in-ordered x pairs m))
+
+pub ordered-in : (x : ℕ × ℕ) (pairs : List (ℕ × ℕ)) → In x (in_rising_order pairs) → In x pairs
+ordered-in x [] m = absurd m
+ordered-in x (i ∷ pairs) m = by_place (put-in i x (in_rising_order pairs) m) (ordered-in x pairs)
+  where
+    by_place : In x (i ∷ in_rising_order pairs) → (In x (in_rising_order pairs) → In x pairs) → In x (i ∷ pairs)
+    by_place (inl e) rest = inl e
+    by_place (inr k) rest = inr (rest k)
+
+-- each pass is no greater than those after it
+abbrev AtLeast : ℕ → List (ℕ × ℕ) → Type 0
+AtLeast least pairs = AllByRecursion (λ (y : ℕ × ℕ). least ≤ y.1) pairs
+
+abbrev IsRising : List (ℕ × ℕ) → Type 0
+IsRising [] = Unit {0}
+IsRising (x ∷ pairs) = AtLeast x.1 pairs × IsRising pairs
+
+lower : (m n : ℕ) (pairs : List (ℕ × ℕ)) → m ≤ n → AtLeast n pairs → AtLeast m pairs
+lower m n [] l h = tt
+lower m n (y ∷ pairs) l h = (let k = h.0 in omega arith, lower m n pairs l h.1)
+
+put-rising : (i : ℕ × ℕ) (pairs : List (ℕ × ℕ)) → IsRising pairs → IsRising (put_in_order i pairs)
+put-rising i [] h = (tt, tt)
+put-rising i (j ∷ pairs) h = by_order (nat_lt i.1 j.1) (i.1 == j.1) (nat_le i.0 j.0) refl refl (put-rising i pairs h.1)
+  where
+    first : i.1 ≤ j.1 → IsRising (i ∷ j ∷ pairs)
+    first l = ((l, lower i.1 j.1 pairs l h.0), h)
+
+    by_order : (a b c : Bool) → nat_lt i.1 j.1 ≡ a → (i.1 == j.1) ≡ b → IsRising (put_in_order i pairs) → IsRising (if a || (b && c) then i ∷ j ∷ pairs else j ∷ put_in_order i pairs)
+    by_order true b c e f rest = first (grind (arith, nat_tests))
+    by_order false true true e f rest = first (grind (arith, nat_tests))
+    by_order false true false e f rest = (put-all (λ (y : ℕ × ℕ). j.1 ≤ y.1) i pairs (grind (arith, nat_tests)) h.0, rest)
+    by_order false false c e f rest = (put-all (λ (y : ℕ × ℕ). j.1 ≤ y.1) i pairs (grind (arith, nat_tests)) h.0, rest)
+
+rising : (pairs : List (ℕ × ℕ)) → IsRising (in_rising_order pairs)
+rising [] = tt
+rising (i ∷ pairs) = put-rising i (in_rising_order pairs) (rising pairs)
+
+-- the input that gave a packet has the least pass of those that weren't visited before it
+record IsLeast (pairs : List (ℕ × ℕ)) (visits : List Visit) (w : ℕ) : Type 0 where
+  pass : ℕ
+  member : In (w, pass) pairs
+  least : (x : ℕ × ℕ) → In x pairs → visits_input x.0 visits ≡ false → pass ≤ x.1
+
+winner-least : (pairs : List (ℕ × ℕ)) (visits : List Visit) (w : ℕ) → IsRising pairs → UpToFirst (map (λ (i : ℕ × ℕ). i.0) pairs) visits → giver visits ≡ Some w → IsLeast pairs visits w
+winner-least pairs [] w r h e = absurd (false≢true (ap is_some e))
+winner-least [] (v ∷ visits) w r h e = absurd h
+winner-least (s ∷ pairs) (v ∷ visits) w r h e = by_got v.got h.1 e (winner-least pairs visits w r.1)
+  where
+    seen : (v.input == s.0) ≡ true
+    seen = let k = h.0 in grind (arith, nat_tests)
+
+    by_got : (o : Option Packet) → MatchOption o (UpToFirst (map (λ (i : ℕ × ℕ). i.0) pairs) visits) (λ _. visits ≡ []) → (if is_some o then Some v.input else giver visits) ≡ Some w
+        → (UpToFirst (map (λ (i : ℕ × ℕ). i.0) pairs) visits → giver visits ≡ Some w → IsLeast pairs visits w) → IsLeast (s ∷ pairs) (v ∷ visits) w
+    by_got (Some p) k f rest =
+        record {
+          pass = s.1;
+          member = inl (ap (λ i. (i, s.1)) (sym h.0 ∙ ap (λ o. unwrap_or o 0) f));
+          least = λ x m n. by_place x m;
+        }
+      where
+        by_place : (x : ℕ × ℕ) → In x (s ∷ pairs) → s.1 ≤ x.1
+        by_place x (inl g) = let same = ap (λ (y : ℕ × ℕ). y.1) g in omega (arith, same)
+        by_place x (inr m) = of-all (λ (y : ℕ × ℕ). s.1 ≤ y.1) x pairs r.0 m
+    by_got None k f rest =
+        let below = rest k f in
+        record {
+          pass = below.pass;
+          member = inr below.member;
+          least = λ x m n. by_place below x m n;
+        }
+      where
+        by_place : (below : IsLeast pairs visits w) (x : ℕ × ℕ) → In x (s ∷ pairs) → ((v.input == x.0) || visits_input x.0 visits) ≡ false → below.pass ≤ x.1
+        by_place below x (inl g) n = let here : (v.input == x.0) ≡ true = ap (λ (y : ℕ × ℕ). v.input == y.0) (sym g) ∙ seen in absurd (false≢true (sym n ∙ ap (λ b. b || visits_input x.0 visits) here))
+        by_place below x (inr m) n = below.least x m (or-right (v.input == x.0) (visits_input x.0 visits) n)
+          where
+            or-right : (a b : Bool) → (a || b) ≡ false → b ≡ false
+            or-right true b e = absurd (false≢true (sym e))
+            or-right false b e = e
+
+after-none : (tickets passes : List ℕ) (t : Turn) → giver t.visits ≡ None → passes_after tickets passes t ≡ passes
+after-none tickets passes t e = rw e refl
+
+-- the pass of an input after a pull that a winner won
+after-won : (tickets passes : List ℕ) (t : Turn) (w i : ℕ) → giver t.visits ≡ Some w → i < length passes
+    → pass_in (passes_after tickets passes t) i ≡ (if i == w then pass_in passes i + stride_at tickets w else (if visits_input i t.visits then pass_in passes w else pass_in passes i))
+after-won tickets passes t w i e l = rw e (ap (λ o. unwrap_or o 0) (slice_get-map _ (enumerate_from 0 passes) i ∙ ap (option_map _) (at-enumerated passes i l)))
+
+-- the pass that the winner had, of which every pass after the pull is at least
+record IsWinnersPass (tickets passes : List ℕ) (t : Turn) (w : ℕ) : Type 0 where
+  within : w < length passes
+  least : (i : ℕ) → i < length passes → visits_input i t.visits ≡ false → pass_in passes w ≤ pass_in passes i
+
+winners-pass : (tickets passes : List ℕ) (t : Turn) (w : ℕ) → UpToFirst (map (λ (i : ℕ × ℕ). i.0) (in_rising_order (enumerate_from 0 passes))) t.visits → giver t.visits ≡ Some w
+    → IsWinnersPass tickets passes t w
+winners-pass tickets passes t w h e =
+    record {
+      within = let a = place.1 in let b = place.2 in omega (arith, a, b);
+      least = λ i l n. let k = least.least (i, pass_in passes i) (in-ordered (i, pass_in passes i) (enumerate_from 0 passes) (in-enumerated passes i l)) n in omega (arith, k, pass);
+    }
+  where
+    least : IsLeast (in_rising_order (enumerate_from 0 passes)) t.visits w
+    least = winner-least (in_rising_order (enumerate_from 0 passes)) t.visits w (rising (enumerate_from 0 passes)) h e
+
+    place : (k : ℕ) × (0 + k ≡ w) × (k < length passes) × (pass_in passes k ≡ least.pass)
+    place = enumerated-at 0 passes (w, least.pass) (ordered-in (w, least.pass) (enumerate_from 0 passes) least.member)
+
+    pass : pass_in passes w ≡ least.pass
+    pass = ap (pass_in passes) (sym place.1 ∙ zero-add place.0) ∙ place.3
+
+strides : (tickets : List ℕ) (i : ℕ) → i < length tickets → stride_at tickets i ≤ largest_stride tickets
+strides [] i l = absurd (omega arith)
+strides (t ∷ tickets) zero l = omega arith
+strides (t ∷ tickets) (suc i) l = let rest = strides tickets i (omega arith) in omega (arith, rest)
+
+-- a turn as a StrideSched has it
+abbrev IsStrideTurn : List ℕ → List Turn → Turn → Type 0
+IsStrideTurn tickets earlier t = AsksInOrder (stride_order tickets earlier) t.visits
+
+-- two passes differ by the largest stride at most
+abbrev AreNear : List ℕ → List Turn → Type 0
+AreNear tickets earlier = (i j : ℕ) → i < length tickets → j < length tickets → pass_at tickets earlier i ≤ pass_at tickets earlier j + largest_stride tickets
+
+zeros : (tickets : List ℕ) (i : ℕ) → pass_in (map (λ _. 0) tickets) i ≡ 0
+zeros [] i = refl
+zeros (t ∷ tickets) zero = refl
+zeros (t ∷ tickets) (suc i) = zeros tickets i
+
+near-first : (tickets : List ℕ) → AreNear tickets []
+near-first tickets i j l m = let a = zeros tickets i in omega (arith, a)
+
+near-turn : (tickets : List ℕ) (earlier : List Turn) (t : Turn) → IsStrideTurn tickets earlier t → AreNear tickets earlier → AreNear tickets (t ∷ earlier)
+near-turn tickets earlier t law near i j l m = by_giver (giver t.visits) refl
+  where
+    passes : List ℕ
+    passes = passes_of tickets earlier
+
+    inside : (k : ℕ) → k < length tickets → k < length passes
+    inside k h = subst (λ n. k < n) (sym (passes-length tickets earlier)) h
+
+    by_giver : (o : Option ℕ) → giver t.visits ≡ o → pass_at tickets (t ∷ earlier) i ≤ pass_at tickets (t ∷ earlier) j + largest_stride tickets
+    by_giver None e = subst (λ p. pass_in p i ≤ pass_in p j + largest_stride tickets) (sym (after-none tickets passes t e)) (near i j l m)
+    by_giver (Some w) e =
+        let one = upper (i == w) (visits_input i t.visits) refl in
+        let other = under (j == w) (visits_input j t.visits) refl refl in
+        let a = after-won tickets passes t w i e (inside i l) in
+        let b = after-won tickets passes t w j e (inside j m) in
+        omega (arith, one, other, a, b)
+      where
+        won : IsWinnersPass tickets passes t w
+        won = winners-pass tickets passes t w law.in_order e
+
+        in_tickets : w < length tickets
+        in_tickets = subst (λ n. w < n) (passes-length tickets earlier) won.within
+
+        upper : (b c : Bool) → (i == w) ≡ b → (if b then pass_in passes i + stride_at tickets w else (if c then pass_in passes w else pass_in passes i)) ≤ pass_in passes w + largest_stride tickets
+        upper true c f = let s = strides tickets w in_tickets in let same : i ≡ w = grind (arith, nat_tests) in let p = ap (pass_in passes) same in omega (arith, s, p)
+        upper false true f = omega arith
+        upper false false f = near i w l in_tickets
+
+        under : (b c : Bool) → (j == w) ≡ b → visits_input j t.visits ≡ c → pass_in passes w ≤ (if b then pass_in passes j + stride_at tickets w else (if c then pass_in passes w else pass_in passes j))
+        under true c f g = let same : j ≡ w = grind (arith, nat_tests) in let p = ap (pass_in passes) same in omega (arith, p)
+        under false true f g = omega arith
+        under false false f g = won.least j (inside j m) g
+
+near-all : (tickets : List ℕ) (earlier turns : List Turn) → EachAfter (IsStrideTurn tickets) earlier turns → AreNear tickets earlier → AreNear tickets (onto turns earlier)
+near-all tickets earlier [] law near = near
+near-all tickets earlier (t ∷ turns) law near = near-all tickets (t ∷ earlier) turns law.1 (near-turn tickets earlier t law.0 near)
+
+-- an input that always gives a packet wins each pull in which it is visited
+visited-wins : (order : List ℕ) (visits : List Visit) (i : ℕ) → UpToFirst order visits → AlwaysGets i visits → visits_input i visits ≡ true → giver visits ≡ Some i
+visited-wins order [] i h gets e = absurd (false≢true e)
+visited-wins [] (v ∷ visits) i h gets e = absurd h
+visited-wins (k ∷ order) (v ∷ visits) i h gets e = by_got v.got (v.input == i) refl h.1 gets.0 e (visited-wins order visits i)
+  where
+    by_got : (o : Option Packet) (b : Bool) → (v.input == i) ≡ b → MatchOption o (UpToFirst order visits) (λ _. visits ≡ []) → (v.input ≡ i → IsSome o) → (b || visits_input i visits) ≡ true
+        → (UpToFirst order visits → AlwaysGets i visits → visits_input i visits ≡ true → giver visits ≡ Some i) → (if is_some o then Some v.input else giver visits) ≡ Some i
+    by_got None true f a g c rest = absurd (false≢true (g (grind (arith, nat_tests))))
+    by_got None false f a g c rest = rest a gets.1 c
+    by_got (Some p) true f a g c rest = ap Some (grind (arith, nat_tests))
+    by_got (Some p) false f a g c rest = absurd (false≢true (sym (ap (visits_input i) a) ∙ c))
+
+-- the pass of such an input grows by its stride for each packet
+pass-grows : (tickets : List ℕ) (earlier : List Turn) (t : Turn) (i : ℕ) → IsStrideTurn tickets earlier t → i < length tickets → AlwaysGets i t.visits
+    → pass_at tickets (t ∷ earlier) i ≡ (if is_number i (giver t.visits) then 1 else 0) * stride_at tickets i + pass_at tickets earlier i
+pass-grows tickets earlier t i law l gets = by_giver (giver t.visits) refl
+  where
+    passes : List ℕ
+    passes = passes_of tickets earlier
+
+    by_giver : (o : Option ℕ) → giver t.visits ≡ o → pass_at tickets (t ∷ earlier) i ≡ (if is_number i o then 1 else 0) * stride_at tickets i + pass_at tickets earlier i
+    by_giver None e = ap (λ p. pass_in p i) (after-none tickets passes t e) ∙ omega arith
+    by_giver (Some w) e =
+        after-won tickets passes t w i e (subst (λ n. i < n) (sym (passes-length tickets earlier)) l) ∙ by_input (i == w) (w == i) (visits_input i t.visits) refl refl refl
+      where
+        by_input : (b c d : Bool) → (i == w) ≡ b → (w == i) ≡ c → visits_input i t.visits ≡ d
+            → (if b then pass_in passes i + stride_at tickets w else (if d then pass_in passes w else pass_in passes i)) ≡ (if c then 1 else 0) * stride_at tickets i + pass_in passes i
+        by_input true true d f g h = let same : w ≡ i = grind (arith, nat_tests) in let s = ap (stride_at tickets) same in omega (arith, s)
+        by_input false false false f g h = omega arith
+        by_input false false true f g h =
+            let wins = visited-wins _ t.visits i law.in_order gets h in
+            let same : w ≡ i = ap (λ o. unwrap_or o 0) (sym e ∙ wins) in
+            let test : (w == i) ≡ true = grind (arith, nat_tests) in absurd (false≢true (sym g ∙ test))
+        by_input true false d f g h = absurd (grind (arith, nat_tests))
+        by_input false true d f g h = absurd (grind (arith, nat_tests))
+
+range-grows : (tickets : List ℕ) (earlier range : List Turn) (i : ℕ) → EachAfter (IsStrideTurn tickets) earlier range → i < length tickets → AlwaysGets i (all_visits range)
+    → pass_at tickets (onto range earlier) i ≡ packets_given i range * stride_at tickets i + pass_at tickets earlier i
+range-grows tickets earlier [] i law l gets = omega arith
+range-grows tickets earlier (t ∷ range) i law l gets =
+    let parts = all-split _ t.visits (all_visits range) gets in
+    let now = pass-grows tickets earlier t i law.0 l parts.0 in
+    let rest = range-grows tickets (t ∷ earlier) range i law.1 l parts.1 in
+    let both = add-mul (if is_number i (giver t.visits) then 1 else 0) (packets_given i range) (stride_at tickets i) in
+    omega (arith, now, rest, both)
+
+pub stride-shares : (tickets : List ℕ) (turns : List Turn) → EachAfter (IsStrideTurn tickets) [] turns → SharesByStride tickets turns
+stride-shares tickets turns law =
+    record {
+      passes_near =
+          λ before after e i j l m. subst (λ earlier. Near (largest_stride tickets) (pass_at tickets earlier i) (pass_at tickets earlier j)) (onto-reverse before)
+          (near before after e i j l m, near before after e j i m l);
+      served_near = λ before range after e i j l m gets other. served before range after e i j l m gets other;
+    }
+  where
+    split : (before after : List Turn) → turns ≡ before ++ after → EachAfter (IsStrideTurn tickets) [] before × EachAfter (IsStrideTurn tickets) (onto before []) after
+    split before after e = each-split (IsStrideTurn tickets) [] before after (subst (EachAfter (IsStrideTurn tickets) []) e law)
+
+    near : (before after : List Turn) → turns ≡ before ++ after → AreNear tickets (onto before [])
+    near before after e = near-all tickets [] before (split before after e).0 (near-first tickets)
+
+    served : (before range after : List Turn) → turns ≡ before ++ (range ++ after) → (i j : ℕ) → i < length tickets → j < length tickets
+        → AlwaysGets i (all_visits range) → AlwaysGets j (all_visits range) → Near (2 * largest_stride tickets) (packets_given i range * stride_at tickets i) (packets_given j range * stride_at tickets j)
+    served before range after e i j l m gets other =
+        let part = (each-split (IsStrideTurn tickets) (onto before []) range after (split before (range ++ after) e).1).0 in
+        let start = near before (range ++ after) e in
+        let stop = near-all tickets (onto before []) range part start in
+        let one = range-grows tickets (onto before []) range i part l gets in
+        let two = range-grows tickets (onto before []) range j part m other in
+        let a = start i j l m in
+        let b = start j i m l in
+        let c = stop i j l m in
+        let d = stop j i m l in
+        (omega (arith, one, two, a, b, c, d), omega (arith, one, two, a, b, c, d))

@@ -1,0 +1,9 @@
+-- Trees, and the tables that they are laid out in.
+pub mod Rows
+pub mod TreeLemmas
+pub mod LaidOut
+pub mod Added
+pub mod Distinct
+pub mod Numbering
+pub mod QueuesAsked
+pub mod TreeBound

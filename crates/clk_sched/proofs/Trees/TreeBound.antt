@@ -1,0 +1,48 @@
+-- The least quantum of a tree, and the bound of its closing.
+use Rattle.std.proofs.Common.{◌≡◌, ℕ, ◌+◌, ◌*◌, ◌≤◌, mul_assoc, List, [], ◌∷◌, Option, Some, None, refl, sym, ap₂, ◌∙◌, subst, arith}
+use Rattle.std.specs.Bool.{⊤}
+use Rattle.std.specs.List.{AllByRecursion}
+use Rattle.clk_packet.specs.Limits.{most_quantum}
+use Rattle.clk_sched.specs.Tree.{Class, drr, Row, end, leaf, node, Tree, queue, scheduler, root, width, height, HasArguments, IsWellFormed, IsSound}
+use Rattle.clk_sched.specs.Built.{levels}
+use Rattle.clk_sched.proofs.Trees.TreeLemmas.{sound-formed}
+use Rattle.clk_sched.specs.Bound.{lesser, least, quanta_of, least_quantum, rounds, closing_bound}
+
+-- where there is a number it is at least 1
+abbrev pub IsPositive : Option ℕ → Type 0
+IsPositive None = ⊤
+IsPositive (Some n) = 1 ≤ n
+
+positive-lesser : (a b : Option ℕ) → IsPositive a → IsPositive b → IsPositive (lesser a b)
+positive-lesser None b h k = k
+positive-lesser (Some a) None h k = h
+positive-lesser (Some a) (Some b) h k = omega arith
+
+positive-least : (ns : List ℕ) → AllByRecursion (λ n. (1 ≤ n) × (n ≤ most_quantum)) ns → IsPositive (least ns)
+positive-least [] h = tt
+positive-least (n ∷ ns) h = positive-lesser (Some n) (least ns) h.0.0 (positive-least ns h.1)
+
+positive-class : (class : Class) (inputs : ℕ) → HasArguments class inputs → IsPositive (least (quanta_of class))
+positive-class (drr quanta) inputs h = positive-least quanta h.1
+positive-class class inputs h = tt
+
+pub positive-row : (r : Row) → IsSound r → IsPositive (least_quantum r)
+positive-row end h = tt
+positive-row (leaf q r) h = positive-row r h
+positive-row (node class inputs r) h =
+    positive-lesser (least (quanta_of class)) (lesser (least_quantum inputs) (least_quantum r)) (positive-class class (width inputs) h.1)
+    (positive-lesser (least_quantum inputs) (least_quantum r) (positive-row inputs h.2) (positive-row r h.3))
+
+-- how many schedulers stand on the longest path, told of the tree and of its root
+levels-root : (tree : Tree) → levels tree ≡ height (root tree)
+levels-root (queue q) = refl
+levels-root (scheduler class inputs) = omega arith
+
+-- the least quantum of a well-formed tree can be divided by
+pub quantum-positive : (tree : Tree) (o : Option ℕ) (quantum : ℕ) → IsWellFormed (root tree) → o ≡ least_quantum (root tree) → o ≡ Some quantum → 1 ≤ quantum
+quantum-positive tree o quantum h e f = subst IsPositive (sym e ∙ f) (positive-row (root tree) (sound-formed (root tree) h))
+
+-- the closing's bound is a number of pulls for each packet
+pub bound-each : (tree : Tree) (left high many : ℕ) → high ≡ levels tree → many ≡ rounds (least_quantum (root tree)) → closing_bound tree left ≡ left * ((high + 1) * many)
+bound-each tree left high many e f =
+    mul_assoc left (height (root tree) + 1) (rounds (least_quantum (root tree))) ∙ ap₂ (λ m n. left * ((m + 1) * n)) (sym (e ∙ levels-root tree)) (sym f)
