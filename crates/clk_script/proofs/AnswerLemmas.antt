@@ -31,7 +31,7 @@ use Rattle.clk_script.proofs.RecorderLemmas.{numbers-its}
 
 -- the commands of rows that are to be carried out are readable
 row-readable : (names : Names) (r : Row) → IsToDo names r → IsReadable (command_asked r)
-row-readable names (row.Send outcome place p) h = p.has_length
+row-readable names (row.Send fate place p) h = p.has_length
 row-readable names (row.Pull gave device moment) h = h.1
 
 each-readable : (names : Names) (rows : List Row) → AllByRecursion (IsToDo names) rows → AllByRecursion IsReadable (asked_by rows)

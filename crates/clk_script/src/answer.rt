@@ -13,7 +13,7 @@ ghost use Rattle.clk_script.specs.inside.Rows.{asked_by, answer_text, IsToDo, Ca
 use crate::past::Past;
 use crate::reading::Script;
 use crate::recorder::Recorder;
-use crate::rows::{Outcome, Row};
+use crate::rows::{Fate, Row};
 use clk_packet::Fault;
 use clk_sched::Departure;
 use std::alloc::Global;
@@ -81,7 +81,7 @@ fn carry_out_one(recorder: &mut Recorder, row: Row) -> Result<Row, Fault>
         Row::Send { place, packet, .. } => {
             let (packet, offered) = recorder.send(usize::from(place), packet.length)?;
             Ok(Row::Send {
-                outcome: Outcome::of(offered),
+                fate: Fate::of(offered),
                 place,
                 packet,
             })

@@ -27,7 +27,7 @@ impl Model for Moment {
 impl Moment {
     ghost use Rattle.std.specs.Prelude.{◌≡◌};
 
-    /// This moment in ticks.
+    /// The moment of so many ticks.
     #[inline(always)]
     pub fn at(ticks: u64) -> Moment
         ensures { result ≡ ticks }
@@ -38,7 +38,7 @@ impl Moment {
         }
     }
 
-    /// It in ticks.
+    /// This moment, in ticks.
     #[inline(always)]
     pub fn ticks(self) -> u64
         ensures { result ≡ self }

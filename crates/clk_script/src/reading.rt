@@ -10,7 +10,7 @@ ghost use Rattle.clk_script.specs.inside.Rows.{command_asked, asked_by, asked_in
 
 use crate::limits::{MAX_LINES, MAX_SCRIPT_BYTES};
 use crate::moment::Moment;
-use crate::rows::{Outcome, Row};
+use crate::rows::{Fate, Row};
 use crate::script::{Command, Line};
 use clk_packet::{Fault, Packet};
 use clk_router::place_of;
@@ -101,8 +101,8 @@ fn read_line(
     }
 }
 
-/// The row of the command in a line, where its sender has one of these numbers, or its device is one of so many. Fault 15 or 16 where
-/// it isn't.
+/// The row of the command in a line, not carried out yet, where its sender has one of these numbers, or its device is one of so many.
+/// Fault 15 or 16 where it isn't.
 fn row_asked(numbers: &[u16], devices: usize, number: u32, command: Command) -> Result<Row, Fault>
     requires rising { AreRising numbers.now }
     requires readable { IsReadable command }
@@ -120,7 +120,7 @@ fn row_asked(numbers: &[u16], devices: usize, number: u32, command: Command) -> 
         Command::Pull { .. } => Err(Fault::BadScript { line: number }),
         Command::Send { sender, length } => match place_of(numbers, sender) {
             Some(place) => Ok(Row::Send {
-                outcome: Outcome::Refused,
+                fate: Fate::Refused,
                 place,
                 packet: Packet {
                     number: 0,

@@ -1,6 +1,6 @@
 //! What is kept of each command of a script.
 
-ghost use Rattle.clk_script.specs.inside.Rows.{outcome_of};
+ghost use Rattle.clk_script.specs.inside.Rows.{fate_of};
 
 use crate::moment::Moment;
 use clk_packet::{Offered, Packet};
@@ -12,7 +12,7 @@ use clk_packet::{Offered, Packet};
 pub enum Row {
     /// The sender at this place offers this packet, and this becomes of it.
     Send {
-        outcome: Outcome,
+        fate: Fate,
         place: u16,
         packet: Packet,
     },
@@ -26,7 +26,7 @@ pub enum Row {
 
 /// What becomes of a packet that is offered.
 #[derive(Clone, Copy)]
-pub enum Outcome {
+pub enum Fate {
     /// It is accepted.
     Accepted,
     /// It is refused.
@@ -35,17 +35,17 @@ pub enum Outcome {
     Evicting,
 }
 
-impl Outcome {
+impl Fate {
     ghost use Rattle.std.specs.Prelude.{◌≡◌};
 
     /// What became of a packet, without the packet that was put out for it.
-    pub fn of(offered: Offered) -> Outcome
-        ensures { result ≡ outcome_of offered }
+    pub fn of(offered: Offered) -> Fate
+        ensures { result ≡ fate_of offered }
     {
         match offered {
-            Offered::Accepted => Outcome::Accepted,
-            Offered::Refused(_) => Outcome::Refused,
-            Offered::Evicted(_) => Outcome::Evicting,
+            Offered::Accepted => Fate::Accepted,
+            Offered::Refused(_) => Fate::Refused,
+            Offered::Evicted(_) => Fate::Evicting,
         }
     }
 }

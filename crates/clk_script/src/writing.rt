@@ -12,7 +12,7 @@ ghost use Rattle.clk_script.specs.inside.Recorder.{departure_text};
 use crate::answer::Answer;
 use crate::lines::Lines;
 use crate::past::Past;
-use crate::rows::{Outcome, Row};
+use crate::rows::{Fate, Row};
 use crate::text::{LINE, put_offer, put_pull};
 use clk_packet::{Fault, Offered, Packet, Sink};
 use clk_report::{MAX_DEVICES, report};
@@ -105,12 +105,8 @@ fn put_row<'a>(
     ensures fronts { result.2.now ≡ fronts_after row fronts.now }
 {
     match row {
-        Row::Send {
-            outcome,
-            packet,
-            ..
-        } => {
-            let (start, fronts) = put_send(line, outcome, packet, fronts);
+        Row::Send { fate, packet, .. } => {
+            let (start, fronts) = put_send(line, fate, packet, fronts);
             (start, given, fronts)
         }
         Row::Pull {
@@ -130,27 +126,27 @@ fn put_row<'a>(
     }
 }
 
-/// Puts the line of a send, whose row has this outcome and this packet, and gives where it starts, and what is left of these packets that
-/// were put out.
+/// Puts the line of a send of this packet, of which this became, and gives where it starts, and what is left of these packets that were put
+/// out.
 #[inline(always)]
 fn put_send<'a>(
     line: &mut [u8],
-    outcome: Outcome,
+    fate: Fate,
     packet: Packet,
     fronts: &'a [Packet],
 ) -> (usize, &'a [Packet])
     requires within { 128 ≤ length line.old }
-    ensures piece { drop result.0 line.new ≡ offer_text packet (offered_as packet outcome (slice_get fronts.now 0)) ++ drop 128 line.old }
+    ensures piece { drop result.0 line.new ≡ offer_text packet (offered_as packet fate (slice_get fronts.now 0)) ++ drop 128 line.old }
     ensures before { result.0 ≤ 128 }
-    ensures fronts { result.1.now ≡ fronts_left outcome fronts.now }
+    ensures fronts { result.1.now ≡ fronts_left fate fronts.now }
 {
-    match outcome {
-        Outcome::Accepted => (put_offer(line, packet, Offered::Accepted, LINE), fronts),
-        Outcome::Refused => (
+    match fate {
+        Fate::Accepted => (put_offer(line, packet, Offered::Accepted, LINE), fronts),
+        Fate::Refused => (
             put_offer(line, packet, Offered::Refused(packet), LINE),
             fronts,
         ),
-        Outcome::Evicting => {
+        Fate::Evicting => {
             let (front, fronts) = first(fronts);
             let offered = front.map_or(Offered::Accepted, Offered::Evicted);
             (put_offer(line, packet, offered, LINE), fronts)

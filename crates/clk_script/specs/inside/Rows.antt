@@ -13,8 +13,8 @@ use Rattle.clk_report.specs.Devices.{lists_of, all_emitted}
 use Rattle.clk_script.specs.declared.script.Command.{Command}
 use Rattle.clk_script.specs.declared.script.Command.TheVariants.{Send, Pull}
 use Rattle.clk_script.specs.declared.script.Line.{Line}
-use Rattle.clk_script.specs.declared.rows.Outcome.{Outcome}
-use Rattle.clk_script.specs.declared.rows.Outcome.TheVariants as outcome
+use Rattle.clk_script.specs.declared.rows.Fate.{Fate}
+use Rattle.clk_script.specs.declared.rows.Fate.TheVariants as fate
 use Rattle.clk_script.specs.declared.rows.Row.{Row}
 use Rattle.clk_script.specs.declared.rows.Row.TheVariants as row
 use Rattle.clk_script.specs.declared.reading.Script.{Script}
@@ -28,7 +28,7 @@ use Rattle.clk_script.specs.inside.Recorder.{IsAt, departure_text, LeadsOnByClos
 
 -- the command of a row, whether it was carried out or not
 abbrev pub command_asked : Row → Command
-command_asked (row.Send outcome place p) = Send p.sender p.length
+command_asked (row.Send fate place p) = Send p.sender p.length
 command_asked (row.Pull gave device moment) = Pull device moment
 
 -- the commands of some rows, and that of a line, if it holds one
@@ -40,18 +40,18 @@ asked_in l = cons_option (command_in l) []
 
 -- a row that can be carried out: its sender stands at its place, or its device is there and its moment is one of a script
 abbrev pub IsToDo : Names → Row → Type 0
-IsToDo names (row.Send outcome place p) = slice_get names.senders place ≡ Some p.sender
+IsToDo names (row.Send fate place p) = slice_get names.senders place ≡ Some p.sender
 IsToDo names (row.Pull gave device moment) = (device < names.devices) × (moment ≤ most_moment)
 
 -- what a row keeps of what became of a packet
-abbrev pub outcome_of : Offered → Outcome
-outcome_of Accepted = outcome.Accepted
-outcome_of (Refused p) = outcome.Refused
-outcome_of (Evicted front) = outcome.Evicting
+abbrev pub fate_of : Offered → Fate
+fate_of Accepted = fate.Accepted
+fate_of (Refused p) = fate.Refused
+fate_of (Evicted front) = fate.Evicting
 
 -- the row of an event, where its sender, if it has one, stands at this place
 abbrev pub row_at : ℕ → Event → Row
-row_at place (offered p outcome) = row.Send (outcome_of outcome) place p
+row_at place (offered p outcome) = row.Send (fate_of outcome) place p
 row_at place (pulled device moment visits) = row.Pull (is_some (result_of (visits_of 0 visits))) device moment
 
 -- a row of an event, wherever its sender stands
@@ -63,7 +63,7 @@ pub record IsReadFrom (text : List ℕ) (script : Script) : Type 0 where
   pub rows : asked_by script.rows.items ≡ commands_of text
   pub closing : script.closing ≡ closing_moment text
 
--- A script names what is there.
+-- A script can be run: it names what is there, has few rows, and its drain a moment of a script.
 pub record CanBeRun (names : Names) (script : Script) : Type 0 where
   pub to_do : AllByRecursion (IsToDo names) script.rows.items
   pub few : length script.rows.items ≤ most_lines
@@ -89,27 +89,28 @@ evicted_as None = Accepted
 evicted_as (Some front) = Evicted front
 
 -- what became of a packet, by what its row keeps of it, where this is the next that was put out
-abbrev pub offered_as : Packet → Outcome → Option Packet → Offered
-offered_as p outcome.Accepted front = Accepted
-offered_as p outcome.Refused front = Refused p
-offered_as p outcome.Evicting front = evicted_as front
+abbrev pub offered_as : Packet → Fate → Option Packet → Offered
+offered_as p fate.Accepted front = Accepted
+offered_as p fate.Refused front = Refused p
+offered_as p fate.Evicting front = evicted_as front
 
 -- the line of a row, where these packets come out from it on, and these are put out
 abbrev pub row_text : Bool → Row → List Packet → List Packet → List ℕ
-row_text several (row.Send outcome place p) given fronts = offer_text p (offered_as p outcome (slice_get fronts 0))
+row_text several (row.Send fate place p) given fronts = offer_text p (offered_as p fate (slice_get fronts 0))
 row_text several (row.Pull gave device moment) given fronts = pull_text several device moment (if gave then slice_get given 0 else None)
 
--- what comes out after a row, and what is put out
+-- what is left to come out after a row
 abbrev pub given_after : Row → List Packet → List Packet
-given_after (row.Send outcome place p) given = given
+given_after (row.Send fate place p) given = given
 given_after (row.Pull gave device moment) given = if gave then drop 1 given else given
 
-abbrev pub fronts_left : Outcome → List Packet → List Packet
-fronts_left outcome.Evicting fronts = drop 1 fronts
-fronts_left outcome fronts = fronts
+-- what is left to be put out after a packet of which this became, and after a row
+abbrev pub fronts_left : Fate → List Packet → List Packet
+fronts_left fate.Evicting fronts = drop 1 fronts
+fronts_left fate fronts = fronts
 
 abbrev pub fronts_after : Row → List Packet → List Packet
-fronts_after (row.Send outcome place p) fronts = fronts_left outcome fronts
+fronts_after (row.Send fate place p) fronts = fronts_left fate fronts
 fronts_after (row.Pull gave device moment) fronts = fronts
 
 -- the lines of some rows
