@@ -1,5 +1,5 @@
 -- Trees, and the tables that they are laid out in.
-pub mod Rows
+pub mod QueuesFrom
 pub mod TreeLemmas
 pub mod LaidOut
 pub mod Added

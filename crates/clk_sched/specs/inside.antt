@@ -10,7 +10,7 @@ pub mod Marks
 pub mod Places
 pub mod Pulling
 pub mod Ranks
-pub mod Rows
+pub mod QueuesFrom
 pub mod Session
 pub mod Tokens
 pub mod Turning

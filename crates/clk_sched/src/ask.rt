@@ -22,8 +22,8 @@ pub trait Ask {
         ensures answer { gives self.old leaf result self.new }
         ensures missing { has self.old leaf ≡ false → result ≡ None };
 
-    /// How many queues, of so many from a leaf on, are known to have none, so that they needn't be asked one by one. What knows nothing of
-    /// that answers 0.
+    /// How many queues from a leaf on, of so many at most and with none left out, are known to have no packet, so that they needn't be
+    /// asked one by one. What knows nothing of that answers 0.
     fn idle_from(&self, leaf: u16, count: u16) -> u16
         ensures within { result ≤ count }
         ensures idle { (k : ℕ) → k < result → gives self.now (leaf + k) None self.now }

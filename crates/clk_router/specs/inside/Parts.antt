@@ -29,7 +29,7 @@ use Rattle.clk_router.specs.Course.{room_device, end_of_packets}
 use Rattle.clk_router.specs.inside.Past.{visits_shown, pull_shown, pulls_shown}
 use Rattle.clk_router.specs.Events.{Room, Setup, Event, CanHappen, numbers_of, moment_in, accepted_in, evicted_in, history, log_of, events_at, sender_numbers, Closes}
 
--- what was asked for, and a sender as it is made
+-- the device that a queue's packets go to
 abbrev pub path_made : Queued → ℕ
 path_made q = q.device
 
@@ -42,6 +42,7 @@ pub record CanStand (tree : Tree) : Type 0 where
 abbrev pub device_made : Keeps → Tree → Device
 device_made keeps tree = record { session = record { tree = tree; log = []; keeps = keeps; gone = 0 }; kept = 0 }
 
+-- a sender as it is made
 abbrev pub sender_made : SenderSpec → Sender
 sender_made spec = record { number = spec.number; queue = spec.queue; sent = 0 }
 

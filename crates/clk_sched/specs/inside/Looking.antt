@@ -23,7 +23,7 @@ pub record Logs (old new : Nodes) (v : Visit) : Type 0 where
   pub moment : new.moment ≡ old.moment
   pub log : new.log ≡ with_visit old.log v
 
--- This is held of the input whose turn it is, if anything is.
+-- the packet that is held as the head of the input whose turn it is, if there is one
 abbrev pub IsHead : Deficits → Option Packet → Type 0
 IsHead d head = (s : Served) → slice_get d.row.items d.cursor ≡ Some s → s.head ≡ head
 

@@ -3,12 +3,12 @@ use Rattle.std.specs.Prelude.{◌≡◌, ℕ, List, [], ◌∷◌, length, Optio
 use Rattle.std.specs.Vec.{with_item}
 use Rattle.clk_packet.specs.declared.packet.Packet.{Packet}
 use Rattle.clk_sched.specs.declared.session.state.State.{State}
+use Rattle.clk_sched.specs.declared.session.inputs.Input.TheVariants.{Queue}
 use Rattle.clk_sched.specs.declared.session.nodes.Nodes.{Nodes}
 use Rattle.clk_sched.specs.Tree.{Class}
 use Rattle.clk_sched.specs.inside.Holds.OfClass.{Fits}
 use Rattle.clk_sched.specs.Log.{asking}
 use Rattle.clk_sched.specs.Places.{Answers}
-use Rattle.clk_sched.specs.declared.session.inputs.Input.TheVariants.{Queue}
 use Rattle.clk_sched.specs.inside.Places.{edges_of, edges_at, edges_in, input_at, queue_asked}
 use Rattle.clk_sched.specs.inside.Pulling.{Keeps, Pulls, AsksAll, TakesTurn, added, now_of, asked_in_order}
 
@@ -29,7 +29,7 @@ pub record HadTurn {S : Type 0} (gives : S → ℕ → Option Packet → S → T
   pub fits : IfSome (slice_get old.inputs.items x) (λ p. Fits holds (length p.each.items))
   pub turn : (class : Class) → TakesTurn old new x class held holds got
 
--- At an input of a node stands a queue that answers that it has nothing, and stays as it is.
+-- At an input of a node stands a queue that may answer that it has nothing, and then stays as it is.
 pub record IsIdle {S : Type 0} (gives : S → ℕ → Option Packet → S → Type 0) (n : Nodes) (q : S) (x i : ℕ) : Type 0 where
   pub leaf : ℕ
   pub stands : input_at n.inputs.items x i ≡ Some (Queue leaf)

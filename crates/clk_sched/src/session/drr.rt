@@ -128,7 +128,7 @@ impl Deficits {
         Ok(())
     }
 
-    /// Takes what was got at the input whose turn it is, as its head or by asking, and answers whether it is passed. If not, the
+    /// Takes what was got at the input whose turn it is, by asking (fresh) or as its head, and answers whether it is passed. If not, the
     /// turn moves on.
     fn settle(&mut self, got: Option<Packet>, fresh: bool) -> bool
         requires { fresh ≡ false → IsHead self.old got }
@@ -200,7 +200,7 @@ impl Deficits {
         }
     }
 
-    // Takes what was got at the input whose turn it is, records the visit, and answers whether it is passed.
+    // Takes what was got at the input whose turn it is, by asking (fresh) or as its head, records the visit, and answers whether it is passed.
     fn visit(&mut self, nodes: &mut Nodes, node: u16, got: Option<Packet>, fresh: bool) -> bool
         requires room { 1 ≤ nodes.old.log.spare }
         requires held { fresh ≡ false → IsHead self.old got }

@@ -2,7 +2,7 @@
 
 ghost use Rattle.std.specs.Prelude.{◌≡◌, ◌+◌, ◌<◌, ◌%◌, IfSome};
 ghost use Rattle.std.proofs.Props.{props};
-ghost use Rattle.clk_sched.specs.inside.Rows.{AreQueuesFrom};
+ghost use Rattle.clk_sched.specs.inside.QueuesFrom.{AreQueuesFrom};
 
 /// What stands at an input: a queue, or a scheduler by its node number.
 #[derive(Clone, Copy, Debug, PartialEq, Eq)]
@@ -35,11 +35,11 @@ pub struct Inputs {
     pub edges: u16,
     /// The leaf of the first, where all are queues whose leaves follow one another.
     queues_from: Option<u16>,
-    ghost in_a_row: { IfSome queues_from (λ leaf. AreQueuesFrom leaf each.items) } by { Prim.hlevel props },
+    ghost follow: { IfSome queues_from (λ leaf. AreQueuesFrom leaf each.items) } by { Prim.hlevel props },
 }
 
 impl Inputs {
-    /// These inputs, of a node that has so many with the schedulers below it.
+    /// These inputs, of a node that has so many edges, those of the schedulers below it counted.
     pub fn new(each: Vec<Input>, edges: u16) -> Inputs
         ensures each { result.each ≡ each }
         ensures edges { result.edges ≡ edges }

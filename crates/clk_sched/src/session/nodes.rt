@@ -128,8 +128,8 @@ impl Nodes {
         None
     }
 
-    /// Passes over inputs of a node, so many at most from the first on, that are queues of which it is known that they have nothing: each
-    /// visit is recorded. It answers how many these are, and none where there are few, which are sooner asked.
+    /// Passes over inputs of a node from this one on, so many at most, that are queues of which it is known that they have nothing: each
+    /// visit is recorded. It answers how many these are, and 0 where so few are left that they are sooner asked.
     #[inline]
     fn pass_idle<Q: Ask>(&mut self, q: &Q, node: u16, first: u16, count: u16) -> u16
         requires can_pull { CanPull self.old node (edges_in self.old.inputs.items node (range_with_len first count)) }
@@ -144,7 +144,7 @@ impl Nodes {
         self.pass_idle_queues(q, node, first, count)
     }
 
-    /// The same, however few there are.
+    /// The same, however few are left.
     #[inline(never)]
     fn pass_idle_queues<Q: Ask>(&mut self, q: &Q, node: u16, first: u16, count: u16) -> u16
         requires can_pull { CanPull self.old node (edges_in self.old.inputs.items node (range_with_len first count)) }
@@ -160,7 +160,8 @@ impl Nodes {
         idle
     }
 
-    /// How many inputs of a node, of so many from the first on, are queues of which it is known that they have nothing.
+    /// How many inputs of a node from this one on, of so many at most and with none left out, are queues of which it is known that they
+    /// have nothing.
     #[inline]
     fn idle_from<Q: Ask>(&self, q: &Q, node: u16, first: u16, count: u16) -> u16
         requires there { node < length self.now.inputs.items }

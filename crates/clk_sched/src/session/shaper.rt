@@ -119,7 +119,7 @@ impl Bucket {
     {
         let mut last = node;
         let mut token = Bucket::take_at(nodes, last);
-        // Its number is counted on, so that a processor goes down without waiting for what stands at each input.
+        // The number of the next is counted, so that a processor goes down without waiting for what stands at each.
         while token && Bucket::leads_on(nodes, last) {
             last += 1;
             token = Bucket::take_at(nodes, last);
@@ -127,7 +127,7 @@ impl Bucket {
         (last, token)
     }
 
-    // Whether the node whose number follows that of a node is a Shaper and stands at its input.
+    // Whether at the input of a node stands a Shaper whose number follows that of the node.
     #[inline]
     fn leads_on(nodes: &Nodes, node: u16) -> bool
         requires can_pull { CanPull nodes.now node (edges_at nodes.now.inputs.items node 0) }

@@ -210,7 +210,7 @@ fn is_first(rank: Rank, others: &[Rank]) -> bool
     }
 }
 
-/// The same as `put`, where those after it that stand before this one move down.
+/// The same as `put`: those after it that stand before this one move a place to the front.
 #[inline(never)]
 fn put_behind(row: &mut [Rank], from: usize, rank: Rank)
     requires { from < length row.old }

@@ -1,7 +1,7 @@
 use Rattle.std.proofs.Common.{◌+◌, Some, ap, ◌∙◌, arith}
 use Rattle.std.proofs.lemmas.Option.{slice_get-get_or}
 use Rattle.clk_sched.specs.declared.session.inputs.Input.TheVariants.{Queue}
-use Rattle.clk_sched.proofs.Trees.Rows.{queues-more}
+use Rattle.clk_sched.proofs.Trees.QueuesFrom.{queues-more}
 use Rattle.clk_sched.proofs.session.inputs.queues_from.Goals as goal
 
 pub loop-place-init : goal.loop-place-init

@@ -1,4 +1,4 @@
-use Rattle.clk_sched.proofs.Trees.Rows.{AreQueuesSoFar}
+use Rattle.clk_sched.proofs.Trees.QueuesFrom.{AreQueuesSoFar}
 use Rattle.clk_sched.proofs.session.inputs.queues_from.Given as goal
 
 abbrev pub invariant-loop-place : goal.invariant-loop-place

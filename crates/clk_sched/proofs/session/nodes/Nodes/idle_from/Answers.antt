@@ -1,7 +1,7 @@
 use Rattle.std.proofs.Common.{◌≡◌, ◌+◌, Some, ap, ◌∙◌, arith}
 use Rattle.clk_sched.specs.declared.session.inputs.Input.TheVariants.{Queue}
 use Rattle.clk_sched.proofs.Nodes.Asked.{entry}
-use Rattle.clk_sched.proofs.Trees.Rows.{queue-stands}
+use Rattle.clk_sched.proofs.Trees.QueuesFrom.{queue-stands}
 use Rattle.clk_sched.proofs.session.nodes.Nodes.idle_from.Goals as goal
 
 pub returns-in-Some-clause-idle : goal.returns-in-Some-clause-idle

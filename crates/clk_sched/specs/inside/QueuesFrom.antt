@@ -1,4 +1,4 @@
--- Inputs that are queues in a row.
+-- Inputs that are queues whose leaves follow one another.
 use Rattle.std.specs.Prelude.{◌≡◌, ℕ, ◌<◌, ◌+◌, ◌^◌, List, length, Some, slice_get}
 use Rattle.clk_sched.specs.declared.session.inputs.Input.{Input}
 use Rattle.clk_sched.specs.declared.session.inputs.Input.TheVariants.{Queue}

@@ -1,11 +1,11 @@
--- Inputs that are queues in a row.
+-- Inputs that are queues whose leaves follow one another.
 use Rattle.std.proofs.Common.{◌≡◌, ◌⊎◌, ℕ, ◌+◌, ◌<◌, ◌≤◌, List, slice_get, Some, IsSome, inl, inr, sym, ap, ◌∙◌, subst, arith}
 use Rattle.std.proofs.Math.Nat.{eq-or-lt_of_le}
 use Rattle.clk_sched.specs.declared.session.inputs.Input.{Input}
 use Rattle.clk_sched.specs.declared.session.inputs.Input.TheVariants.{Queue}
 use Rattle.clk_sched.specs.declared.session.inputs.Inputs.{Inputs}
 use Rattle.clk_sched.specs.inside.Places.{input_at, option_input}
-use Rattle.clk_sched.specs.inside.Rows.{AreQueuesFrom}
+use Rattle.clk_sched.specs.inside.QueuesFrom.{AreQueuesFrom}
 use Rattle.clk_sched.proofs.Nodes.Asked.{some-below}
 
 -- so many inputs are queues, whose leaves follow one another from a leaf on
