@@ -13,6 +13,6 @@ pub mod Chosen
 pub mod WithAsked
 pub mod Made
 pub mod CanGoOn
-pub mod IdleTurns
+pub mod BusyTurns
 pub mod DeviceBlock
 pub mod WorkedPulls

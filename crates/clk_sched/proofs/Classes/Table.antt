@@ -14,7 +14,7 @@ use Rattle.clk_sched.specs.Laws.Shaper.{has_room}
 use Rattle.clk_sched.specs.inside.Holds.OfClass.{Fits, Holds}
 use Rattle.clk_sched.proofs.Classes.Orders.{IsOrderOf, priority-order, round_robin-order, stride-order, shaper-order, passes-length}
 use Rattle.clk_sched.proofs.Lists.Rising.{rising-length}
-use Rattle.clk_sched.proofs.Runs.IdleTurns.{busy, idle-beginning, idle-passes, idle-room, TakesNoNotice, follows-idle}
+use Rattle.clk_sched.proofs.Runs.BusyTurns.{busy, busy-beginning, busy-passes, busy-room, TakesNoNotice, follows-busy}
 
 -- a scheduler may ask all of its inputs at this moment, after its earlier turns: a Shaper needs room
 abbrev pub MayAsk : Class → List Turn → ℕ → Type 0
@@ -51,14 +51,14 @@ asks-right (shaper rate burst) inputs some args =
 -- No law takes notice of turns without visits.
 no-notice : (class : Class) (inputs : ℕ) → TakesNoNotice (manner class inputs)
 no-notice prio inputs = λ earlier moment. refl
-no-notice round_robin inputs = λ earlier moment. ap (λ b. map (λ k. (b + k) % inputs) (range_with_len 0 inputs)) (idle-beginning inputs earlier)
+no-notice round_robin inputs = λ earlier moment. ap (λ b. map (λ k. (b + k) % inputs) (range_with_len 0 inputs)) (busy-beginning inputs earlier)
 no-notice (drr quanta) inputs = tt
-no-notice (stride tickets) inputs = λ earlier moment. ap (λ passes. map (λ (i : ℕ × ℕ). i.0) (in_rising_order (enumerate_from 0 passes))) (idle-passes tickets earlier)
-no-notice (shaper rate burst) inputs = λ earlier moment. ap (λ room. if room then 0 ∷ [] else []) (idle-room rate burst moment [] earlier)
+no-notice (stride tickets) inputs = λ earlier moment. ap (λ passes. map (λ (i : ℕ × ℕ). i.0) (in_rising_order (enumerate_from 0 passes))) (busy-passes tickets earlier)
+no-notice (shaper rate burst) inputs = λ earlier moment. ap (λ room. if room then 0 ∷ [] else []) (busy-room rate burst moment [] earlier)
 
 -- a turn that is allowed after those with visits is allowed after all
-pub allows-idle : (class : Class) (inputs : ℕ) (earlier : List Turn) (t : Turn) → AllowsTurn class inputs (busy earlier) t → AllowsTurn class inputs earlier t
-allows-idle class inputs earlier t h = record { within = h.within; follows = follows-idle (manner class inputs) inputs earlier t (no-notice class inputs) h.follows }
+pub allows-busy : (class : Class) (inputs : ℕ) (earlier : List Turn) (t : Turn) → AllowsTurn class inputs (busy earlier) t → AllowsTurn class inputs earlier t
+allows-busy class inputs earlier t h = record { within = h.within; follows = follows-busy (manner class inputs) inputs earlier t (no-notice class inputs) h.follows }
 
 -- what a node holds before its first turn fits its inputs
 pub fits-first : (class : Class) (inputs : ℕ) (s : State) → 1 ≤ inputs → HasArguments class inputs → Holds class inputs [] s → Fits s inputs

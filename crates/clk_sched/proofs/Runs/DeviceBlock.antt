@@ -24,8 +24,8 @@ use Rattle.clk_sched.proofs.Runs.WithAsked.{absent, present}
 use Rattle.clk_sched.proofs.Runs.Blocks.{flat_map-same, filter-flat_map, flat_map-one, Owns, owns-after_leaf, owns-after_node, owns-self, owns-inputs, asks-both}
 use Rattle.clk_sched.proofs.Runs.Pulled.{copies-unasked, pulled-root}
 use Rattle.clk_sched.proofs.Nodes.Below.{LiesAt, lies-within, lies-apart, IsVisitBelow, asked-below}
-use Rattle.clk_sched.proofs.Runs.IdleTurns.{busy, history-busy, busy-filtered}
-use Rattle.clk_sched.proofs.Classes.Table.{allows-idle}
+use Rattle.clk_sched.proofs.Runs.BusyTurns.{busy, history-busy, busy-filtered}
+use Rattle.clk_sched.proofs.Classes.Table.{allows-busy}
 
 -- what a visit asked has no visits of a node that doesn't lie there
 asked-absent : (now : Now) (history : History) (next : ℕ) (row : Row) (made : ℕ → List Visit) (v : Visit) (y : ℕ) → (v.fresh ≡ true → IsAskedAt now history next row v.input (made v.input) v.got)
@@ -198,7 +198,7 @@ each-allows (leaf q row) now history above first next earlier made pull past at 
 each-allows (node class inputs row) now history above first next earlier made pull past at h = (
   λ some. let w = any-member (asks first) (visits_of above pull) some in let k = here w.0 w.1 w.2 in (
     subst (AllowsTurn class (width inputs) (map (turn next) (pulls_below above first earlier))) (ap₂ as_turn (sym at) (sym (block-own now history next class inputs (made w.0.input) w.0.got pull k)))
-        (allows-idle class (width inputs) (map (turn next) (pulls_below above first earlier)) (as_turn now.moment k.block.own)
+        (allows-busy class (width inputs) (map (turn next) (pulls_below above first earlier)) (as_turn now.moment k.block.own)
         (subst (λ ts. AllowsTurn class (width inputs) ts (as_turn now.moment k.block.own)) before.here k.block.allowed)),
     each-allows inputs now history next 0 (suc next) (pulls_below above first earlier) k.block.made pull before.below at (block-made now history next class inputs (made w.0.input) w.0.got pull k),
   ),

@@ -36,31 +36,31 @@ busy-filtered test x (p ∷ earlier) none = by_test (test p) (none p (inl refl))
     by_test false e rest = ap (λ vs. with_turn (moment_of p) vs (busy (map (turn x) earlier))) (e refl) ∙ rest
 
 -- what is told from turns one by one, and stays at a turn without visits, is told from those with visits
-idle : {X : Type 0} (tell : List Turn → X) → ((t : Turn) (us ts : List Turn) → tell us ≡ tell ts → tell (t ∷ us) ≡ tell (t ∷ ts)) → ((moment : ℕ) (ts : List Turn) → tell (as_turn moment [] ∷ ts) ≡ tell ts)
+busy-tells : {X : Type 0} (tell : List Turn → X) → ((t : Turn) (us ts : List Turn) → tell us ≡ tell ts → tell (t ∷ us) ≡ tell (t ∷ ts)) → ((moment : ℕ) (ts : List Turn) → tell (as_turn moment [] ∷ ts) ≡ tell ts)
     → (ts : List Turn) → tell (busy ts) ≡ tell ts
-idle tell step stays [] = refl
-idle tell step stays (t ∷ ts) = by_visits t.moment t.visits (idle tell step stays ts)
+busy-tells tell step stays [] = refl
+busy-tells tell step stays (t ∷ ts) = by_visits t.moment t.visits (busy-tells tell step stays ts)
   where
     by_visits : (moment : ℕ) (visits : List Visit) → tell (busy ts) ≡ tell ts → tell (with_turn moment visits (busy ts)) ≡ tell (as_turn moment visits ∷ ts)
     by_visits moment [] e = e ∙ sym (stays moment ts)
     by_visits moment (v ∷ visits) e = step (as_turn moment (v ∷ visits)) (busy ts) ts e
 
-idle-visits : (ts : List Turn) → visits_before (busy ts) ≡ visits_before ts
-idle-visits = idle visits_before (λ t us ts e. ap (λ vs. reverse t.visits ++ vs) e) (λ moment ts. refl)
+busy-visits : (ts : List Turn) → visits_before (busy ts) ≡ visits_before ts
+busy-visits = busy-tells visits_before (λ t us ts e. ap (λ vs. reverse t.visits ++ vs) e) (λ moment ts. refl)
 
-pub idle-beginning : (inputs : ℕ) (ts : List Turn) → beginning inputs (busy ts) ≡ beginning inputs ts
-idle-beginning inputs = idle (beginning inputs) (λ t us ts e. by_giver t us ts (giver t.visits) refl e) (λ moment ts. refl)
+pub busy-beginning : (inputs : ℕ) (ts : List Turn) → beginning inputs (busy ts) ≡ beginning inputs ts
+busy-beginning inputs = busy-tells (beginning inputs) (λ t us ts e. by_giver t us ts (giver t.visits) refl e) (λ moment ts. refl)
   where
     by_giver : (t : Turn) (us ts : List Turn) (o : Option ℕ) → giver t.visits ≡ o → beginning inputs us ≡ beginning inputs ts → beginning inputs (t ∷ us) ≡ beginning inputs (t ∷ ts)
     by_giver t us ts None e h = rw e h
     by_giver t us ts (Some input) e h = rw e refl
 
-pub idle-passes : (tickets : List ℕ) (ts : List Turn) → passes_of tickets (busy ts) ≡ passes_of tickets ts
-idle-passes tickets = idle (passes_of tickets) (λ t us ts e. ap (λ passes. passes_after tickets passes t) e) (λ moment ts. refl)
+pub busy-passes : (tickets : List ℕ) (ts : List Turn) → passes_of tickets (busy ts) ≡ passes_of tickets ts
+busy-passes tickets = busy-tells (passes_of tickets) (λ t us ts e. ap (λ passes. passes_after tickets passes t) e) (λ moment ts. refl)
 
-pub idle-room : (rate burst moment : ℕ) (later ts : List Turn) → keeps_since_each rate burst moment later (busy ts) ≡ keeps_since_each rate burst moment later ts
-idle-room rate burst moment later [] = refl
-idle-room rate burst moment later (t ∷ ts) = by_visits t.moment t.visits (λ l. idle-room rate burst moment l ts)
+pub busy-room : (rate burst moment : ℕ) (later ts : List Turn) → keeps_since_each rate burst moment later (busy ts) ≡ keeps_since_each rate burst moment later ts
+busy-room rate burst moment later [] = refl
+busy-room rate burst moment later (t ∷ ts) = by_visits t.moment t.visits (λ l. busy-room rate burst moment l ts)
   where
     by_visits : (past : ℕ) (visits : List Visit) → ((l : List Turn) → keeps_since_each rate burst moment l (busy ts) ≡ keeps_since_each rate burst moment l ts)
         → keeps_since_each rate burst moment later (with_turn past visits (busy ts)) ≡ keeps_since_each rate burst moment later (as_turn past visits ∷ ts)
@@ -73,6 +73,6 @@ abbrev pub TakesNoNotice : Manner → Type 0
 TakesNoNotice (in_order order) = (earlier : List Turn) (moment : ℕ) → order (busy earlier) moment ≡ order earlier moment
 TakesNoNotice (with_heads turn_of covers) = ⊤
 
-pub follows-idle : (m : Manner) (inputs : ℕ) (earlier : List Turn) (t : Turn) → TakesNoNotice m → Follows m inputs (busy earlier) t → Follows m inputs earlier t
-follows-idle (in_order order) inputs earlier t same h = subst (λ inputs. AsksInOrder inputs t.visits) (same earlier t.moment) h
-follows-idle (with_heads turn_of covers) inputs earlier t same h = (subst (λ vs. EachAfter (LooksAtHeads turn_of covers) vs t.visits) (idle-visits earlier) h.0, h.1)
+pub follows-busy : (m : Manner) (inputs : ℕ) (earlier : List Turn) (t : Turn) → TakesNoNotice m → Follows m inputs (busy earlier) t → Follows m inputs earlier t
+follows-busy (in_order order) inputs earlier t same h = subst (λ inputs. AsksInOrder inputs t.visits) (same earlier t.moment) h
+follows-busy (with_heads turn_of covers) inputs earlier t same h = (subst (λ vs. EachAfter (LooksAtHeads turn_of covers) vs t.visits) (busy-visits earlier) h.0, h.1)
