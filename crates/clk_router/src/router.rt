@@ -49,10 +49,8 @@ impl Model for Router {
 
 impl Router {
     ghost use Rattle.std.specs.Prelude.{◌≡◌, ◌+◌, ◌<◌, ◌≤◌, List, ◌∷◌, [], Some, true, false, map, length, IfOk, OnErr, IsOk, IsOkUnless};
-    ghost use Rattle.clk_packet.specs.declared.fault.Fault.TheVariants.{Memory};
-    ghost use Rattle.clk_packet.specs.Limits.{most_elements};
+    ghost use Rattle.clk_packet.specs.Limits.{most_elements, most_capacity};
     ghost use Rattle.clk_sched.specs.declared.visit.Visit.{Visit};
-    ghost use Rattle.clk_packet.specs.Limits.{most_capacity};
     ghost use Rattle.clk_sched.specs.Kinds.{keeps_nothing};
     ghost use Rattle.clk_sched.specs.Limits.{end_of_moments};
     ghost use Rattle.clk_sched.specs.Results.{emitted};

@@ -18,9 +18,8 @@ use Rattle.clk_sched.specs.Log.{visits_of, result_of}
 use Rattle.clk_sched.specs.inside.Holds.Deficit.{HoldsDeficits}
 use Rattle.clk_sched.specs.Places.{Answers}
 use Rattle.clk_sched.specs.inside.Places.{AllFit, edges_of, edges_at, edges_in, input_at, queue_asked}
-use Rattle.clk_sched.specs.inside.Pulling.{AreApart, input_of, CanPull, Keeps, AsksAll, GoesOnBy, IsUnasked, added, now_of, with_turn}
+use Rattle.clk_sched.specs.inside.Pulling.{AreApart, input_of, CanPull, Keeps, AsksAll, GoesOnBy, IsUnasked, added, now_of, with_turn, TakesTurn}
 use Rattle.clk_sched.specs.inside.Looking.{Looks}
-use Rattle.clk_sched.specs.inside.Pulling.{TakesTurn}
 use Rattle.clk_sched.specs.inside.Turning.{HadTurn}
 use Rattle.clk_packet.specs.Lists.{In}
 use Rattle.clk_sched.proofs.Lists.Members.{to-all, all-append, all-weaker}

@@ -18,8 +18,7 @@ use Rattle.clk_sched.specs.Turns.{Turn, AsksInOrder, giver}
 use Rattle.clk_sched.specs.Laws.RoundRobin.{beginning, round_robin_order}
 use Rattle.clk_sched.specs.Places.{Answers}
 use Rattle.clk_sched.specs.inside.Places.{edges_of, edges_in, input_at, queue_asked}
-use Rattle.clk_sched.specs.inside.Pulling.{Now, CanPull, Keeps, AsksAll, now_of, after, with_turn, added, asked_in_vain, asked_in_order}
-use Rattle.clk_sched.specs.inside.Pulling.{TakesTurn}
+use Rattle.clk_sched.specs.inside.Pulling.{Now, CanPull, Keeps, AsksAll, now_of, after, with_turn, added, asked_in_vain, asked_in_order, TakesTurn}
 use Rattle.clk_sched.specs.inside.Turning.{HasAskedAll, HadTurn}
 use Rattle.clk_sched.proofs.Lists.Members.{all-weaker, all-split}
 use Rattle.clk_sched.proofs.Nodes.Asking.{IsAsking, keeps-then, keeps-more, added-then, answers-then, asks-then, asks-front, asked-vain, edges-append, vain-in, same-now, apart-split, can-go_on}

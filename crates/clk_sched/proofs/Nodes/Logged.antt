@@ -11,11 +11,9 @@ use Rattle.clk_sched.specs.Places.{Answers, at_queue}
 use Rattle.clk_sched.specs.inside.Places.{AllFit, edges_at, option_edges_to, input_at, queue_asked}
 use Rattle.clk_sched.specs.inside.Pulling.{Keeps, Asks, AsksAll, IsPulling, IsVisitAt, added, now_of}
 use Rattle.clk_sched.specs.inside.Looking.{Logs}
-use Rattle.clk_sched.proofs.Nodes.Asking.{added-is, keeps-more}
-use Rattle.clk_sched.proofs.Nodes.Asking.{asks-one}
+use Rattle.clk_sched.proofs.Nodes.Asking.{added-is, keeps-more, asks-one, added-none, keeps-none}
 use Rattle.clk_sched.specs.Log.{asking}
 use Rattle.clk_sched.specs.inside.Turning.{HasAsked, IsIdle}
-use Rattle.clk_sched.proofs.Nodes.Asking.{added-none, keeps-none}
 use Rattle.clk_sched.proofs.Nodes.Asked.{asks-queue, queue-visited}
 
 -- a visit is logged after a pull below

@@ -14,8 +14,7 @@ use Rattle.clk_sched.specs.Tree.{Class, Row, nodes, width}
 use Rattle.clk_sched.specs.inside.Holds.OfClass.{Fits, Holds}
 use Rattle.clk_sched.specs.inside.Holds.Shaper.{AreBefore}
 use Rattle.clk_sched.specs.inside.Places.{StandsIn, AllFit, edges_of}
-use Rattle.clk_sched.specs.inside.Pulling.{Pulls, History, NodeHolds, CanPull, Keeps, EachHolds, IsBlock, IsReady, added, now_of, after}
-use Rattle.clk_sched.specs.inside.Pulling.{TakesTurn, TurnIsTaken}
+use Rattle.clk_sched.specs.inside.Pulling.{Pulls, History, NodeHolds, CanPull, Keeps, EachHolds, IsBlock, IsReady, added, now_of, after, TakesTurn, TurnIsTaken}
 use Rattle.clk_sched.specs.inside.Turning.{with_state, HadTurn, WasPulled}
 use Rattle.clk_sched.proofs.Nodes.Below.{holds-same}
 use Rattle.clk_sched.proofs.Lists.Numbers.{equal}

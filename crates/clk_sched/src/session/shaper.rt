@@ -26,10 +26,16 @@ pub struct Bucket {
 }
 
 impl Bucket {
-    ghost use Rattle.std.specs.Prelude.{◌≡◌, ℕ, nat_lt, List, [], None, MatchBool};
+    ghost use Rattle.std.specs.Prelude.{◌≡◌, ℕ, ◌+◌, ◌-◌, ◌^◌, nat_lt, List, [], length, slice_get, Some, IfSome, IsSome, true, MatchBool};
     ghost use Rattle.clk_sched.specs.Turns.{Turn};
     ghost use Rattle.clk_sched.specs.Laws.Shaper.{has_room};
     ghost use Rattle.clk_sched.specs.inside.Holds.Shaper.{AreBefore, HoldsBucket, IsTaken, IsGivenBack, tokens_at};
+    ghost use Rattle.clk_sched.specs.declared.session.inputs.Input.TheVariants.{Scheduler};
+    ghost use Rattle.clk_sched.specs.inside.Holds.OfClass.{IsShaper};
+    ghost use Rattle.clk_sched.specs.inside.Places.{AllFit, edges_of, edges_at, input_at};
+    ghost use Rattle.clk_sched.specs.inside.Pulling.{CanPull};
+    ghost use Rattle.clk_sched.specs.inside.Turning.{WasPulled};
+    ghost use Rattle.clk_sched.specs.inside.Tokens.{TakesToken, GivesBack, GoesDown, AnswersAt, AnswersUp};
 
     /// A full bucket.
     pub fn new(rate: u32, burst: u32) -> Bucket
@@ -79,14 +85,6 @@ impl Bucket {
         let tokens = (u64::from(self.tokens) + fresh).min(u64::from(self.burst));
         tokens as u32
     }
-
-    ghost use Rattle.std.specs.Prelude.{◌+◌, ◌-◌, ◌^◌, length, slice_get, IfSome, IsSome, Some, true};
-    ghost use Rattle.clk_sched.specs.declared.session.inputs.Input.TheVariants.{Scheduler};
-    ghost use Rattle.clk_sched.specs.inside.Holds.OfClass.{IsShaper};
-    ghost use Rattle.clk_sched.specs.inside.Places.{AllFit, edges_of, edges_at, input_at};
-    ghost use Rattle.clk_sched.specs.inside.Pulling.{CanPull};
-    ghost use Rattle.clk_sched.specs.inside.Turning.{WasPulled};
-    ghost use Rattle.clk_sched.specs.inside.Tokens.{TakesToken, GivesBack, GoesDown, AnswersAt, AnswersUp};
 
     /// Pulls a Shaper, which asks for a packet with a token alone.
     // Its bucket stays in its place: nothing of it is needed while the input is asked. Shapers one below another are gone down and up in
