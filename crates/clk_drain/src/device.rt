@@ -29,7 +29,6 @@ impl Model for DeviceSession {
 
 impl DeviceSession {
     ghost use Rattle.std.specs.Prelude.{◌≡◌, ◌<◌, ◌≤◌, true, false, [], length, max, IfOk, IfErr, OnOk, OnErr, IsOkUnless};
-    ghost use Rattle.clk_packet.specs.declared.fault.Fault.TheVariants.{Memory};
     ghost use Rattle.clk_sched.specs.Closing.{LosesNothing, left_in};
     ghost use Rattle.clk_sched.specs.Kinds.{pulls_made};
     ghost use Rattle.clk_sched.specs.LaidOut.{IsRefused};

@@ -34,7 +34,6 @@ impl<'a, W: Wait> Model for Lines<'a, W> {
 
 impl<'a, W: Wait> Lines<'a, W> {
     ghost use Rattle.std.specs.Prelude.{◌≡◌, ◌<◌, IfOk, OnErr, IsOkUnless};
-    ghost use Rattle.clk_packet.specs.declared.fault.Fault.TheVariants.{Memory};
     ghost use Rattle.clk_sched.specs.Limits.{end_of_moments};
     ghost use Rattle.clk_sched.specs.Session.{IsPulledOnce};
     ghost use Rattle.clk_packet.specs.Lists.{AreRising};

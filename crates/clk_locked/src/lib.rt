@@ -3,7 +3,6 @@
 
 ghost use Rattle.std.specs.Prelude.{◌≤◌, IsOkUnless};
 ghost use Rattle.clk_packet.specs.Limits.{most_capacity};
-ghost use Rattle.clk_packet.specs.declared.fault.Fault.TheVariants.{Memory};
 ghost use Rattle.clk_ring.specs.QueueHistory.{NamesOffer};
 
 use clk_packet::{Fault, Kind, Offered, Packet};

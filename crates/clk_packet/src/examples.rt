@@ -1,7 +1,7 @@
 //! What the definition of a text that was written (`Wrote`) says of worked examples: which endings of a write meet it, and which don't.
 //! The function does nothing.
 
-ghost use Rattle.std.specs.Prelude.{[], Some, None, Ok, Err};
+ghost use Rattle.std.specs.Prelude.{[], Some, None, Err};
 ghost use Rattle.clk_packet.specs.declared.fault.Fault.TheVariants.{Memory, Write};
 ghost use Rattle.clk_packet.specs.Bytes.{Wrote};
 ghost use Rattle.clk_packet.specs.Examples.{text, first_byte, second_byte, success};

@@ -33,7 +33,6 @@ impl Model for Lengths {
 
 impl Lengths {
     ghost use Rattle.std.specs.Prelude.{◌≡◌, ◌++◌, ◌∷◌, [], length, slice_get, OnOk, OnErr, IsOkUnless};
-    ghost use Rattle.clk_packet.specs.declared.fault.Fault.TheVariants.{Memory};
 
     /// No lengths. Takes no memory.
     pub fn new(alloc: Global) -> Lengths

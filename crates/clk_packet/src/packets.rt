@@ -22,7 +22,6 @@ impl Model for Packets {
 
 impl Packets {
     ghost use Rattle.std.specs.Prelude.{◌≡◌, ◌++◌, ◌∷◌, [], OnOk, OnErr, IsOkUnless};
-    ghost use Rattle.clk_packet.specs.declared.fault.Fault.TheVariants.{Memory};
 
     /// No packets. Takes no memory.
     pub fn new(alloc: Global) -> Packets

@@ -35,7 +35,6 @@ impl Model for Traces {
 
 impl Traces {
     ghost use Rattle.std.specs.Prelude.{◌≡◌, ◌≤◌, ◌<◌, ◌+◌, [], length, slice_get, None, IfSome, IfOk, IfErr, OnOk, IsOkUnless};
-    ghost use Rattle.clk_packet.specs.declared.fault.Fault.TheVariants.{Memory};
     ghost use Rattle.clk_packet.specs.Bytes.{Takes, read_failures};
     ghost use Rattle.clk_packet.specs.inside.Lengths.{IsAdded};
     ghost use Rattle.clk_packet.specs.Trace.{ExplainsTrace, most_records, most_trace_bytes, packets_in, pairs_of, sent, sent_by, shown, trace_fault};
@@ -115,7 +114,6 @@ impl Traces {
 }
 
 ghost use Rattle.std.specs.Prelude.{◌<◌, length, OnOk, IsOkUnless};
-ghost use Rattle.clk_packet.specs.declared.fault.Fault.TheVariants.{Memory};
 ghost use Rattle.clk_packet.specs.inside.Lengths.{IsWider};
 
 /// Adds rows without lengths to a table until it has a row at this place. Fault 1 where memory is refused.

@@ -1,6 +1,6 @@
 //! The visit CSV.
 
-ghost use Rattle.std.specs.Prelude.{◌≡◌, ◌+◌, ◌<◌, ◌++◌, ◌⊎◌, Some, false, decimal, drop, length, map, IfOk, IfErr, OnOk, OnErr, IsOkUnless};
+ghost use Rattle.std.specs.Prelude.{◌≡◌, ◌++◌, ◌⊎◌, Some, false, decimal, map, IfOk, IfErr, OnOk, OnErr, IsOkUnless};
 ghost use Rattle.std.specs.Io.KnownBytes.{Appends};
 ghost use Rattle.csv.specs.Writing.{default_writer, fields_written, has_written, row_text, text_written, writer_setup};
 ghost use Rattle.clk_packet.specs.Bytes.{AppendsFront, Wrote, write_failures};

@@ -32,7 +32,6 @@ impl Model for Ring {
 impl Ring {
     ghost use Rattle.std.specs.Prelude.{◌≡◌, ◌≤◌, ◌↔◌, length, [], IsTrue, IfOk, IsOkUnless};
     ghost use Rattle.clk_packet.specs.Limits.{most_capacity};
-    ghost use Rattle.clk_packet.specs.declared.fault.Fault.TheVariants.{Memory};
     ghost use Rattle.clk_ring.specs.Queue.{empty_queue, IsOffered, IsPulled};
 
     /// An empty queue of this kind that holds at most `capacity` packets, from 1 to 1,000,000. Its room is reserved here.

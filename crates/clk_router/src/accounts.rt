@@ -1,7 +1,6 @@
 //! What became of the packets of each sender of a router, in totals.
 
 ghost use Rattle.std.specs.Prelude.{◌≡◌, Some, map, slice_get, IfOk, IsOkUnless};
-ghost use Rattle.clk_packet.specs.declared.fault.Fault.TheVariants.{Memory};
 ghost use Rattle.clk_packet.specs.Lists.{AreRising};
 ghost use Rattle.clk_router.specs.inside.Accounts.{account_made, account_sender, noted, put_out, with_emitted, given};
 

@@ -38,7 +38,6 @@ impl Model for CountingRouter {
 
 impl CountingRouter {
     ghost use Rattle.std.specs.Prelude.{◌≡◌, ◌+◌, ◌<◌, ◌≤◌, ◌∷◌, [], Some, None, true, false, map, length, IfSome, IfOk, IsOkUnless};
-    ghost use Rattle.clk_packet.specs.declared.fault.Fault.TheVariants.{Memory};
     ghost use Rattle.clk_packet.specs.Limits.{most_elements, most_capacity};
     ghost use Rattle.clk_sched.specs.Kinds.{keeps_nothing};
     ghost use Rattle.clk_sched.specs.Limits.{end_of_moments};

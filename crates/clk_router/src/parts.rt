@@ -1,7 +1,6 @@
 //! The parts of a router, and how they go on.
 
 ghost use Rattle.std.specs.Prelude.{◌≡◌, map, IfOk, IsOkUnless};
-ghost use Rattle.clk_packet.specs.declared.fault.Fault.TheVariants.{Memory};
 ghost use Rattle.clk_tree.specs.PlanParts.{queued};
 ghost use Rattle.clk_router.specs.inside.Parts.{path_made};
 
@@ -34,7 +33,6 @@ pub struct Parts {
 impl Parts {
     ghost use Rattle.std.specs.Prelude.{◌≡◌, ◌+◌, ◌<◌, ◌≤◌, ◌++◌, List, ◌∷◌, [], Some, map, length, slice_get, IfOk, OnErr, IsOk, IsOkUnless, true};
     ghost use Rattle.std.specs.List.{AllByRecursion};
-    ghost use Rattle.clk_packet.specs.declared.fault.Fault.TheVariants.{Memory};
     ghost use Rattle.clk_sched.specs.Kinds.{keeps_nothing};
     ghost use Rattle.clk_sched.specs.Limits.{end_of_moments};
     ghost use Rattle.clk_sched.specs.Results.{emitted};

@@ -2,7 +2,6 @@
 
 ghost use Rattle.std.specs.Prelude.{◌≡◌, ◌≢◌, ℕ, ◌<◌, length, map, nat_lt, slice_index, IfOk, IsOkUnless};
 ghost use Rattle.std.specs.List.{AllByRecursion};
-ghost use Rattle.clk_packet.specs.declared.fault.Fault.TheVariants.{Memory};
 ghost use Rattle.clk_tree.specs.PlanParts.{queued, HasCapacity};
 ghost use Rattle.clk_router.specs.declared.queues.TheConstants.{FILLED};
 ghost use Rattle.clk_router.specs.inside.Queues.{packets_at, AreMarked, queue_made, OffersAt, GivesAt};

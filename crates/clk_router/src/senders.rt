@@ -2,7 +2,6 @@
 
 ghost use Rattle.std.specs.Prelude.{◌≡◌, ◌==◌, false, None, Some, map, slice_get, IfSome, IfOk, IsOkUnless};
 ghost use Rattle.std.specs.List.{list_any};
-ghost use Rattle.clk_packet.specs.declared.fault.Fault.TheVariants.{Memory};
 ghost use Rattle.clk_packet.specs.Lists.{AreRising};
 ghost use Rattle.clk_tree.specs.PlanParts.{number_of};
 ghost use Rattle.clk_router.specs.inside.Parts.{sender_made};

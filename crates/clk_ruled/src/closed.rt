@@ -39,7 +39,6 @@ impl ClosedSeat {
     ghost use Rattle.std.specs.Prelude.{◌≡◌, ◌≤◌, true, false};
     ghost use Rattle.crossbeam_queue.specs.Passes.{view as known, IsPassOf};
     ghost use Rattle.clk_ruled.specs.Queue.{IsSharedOut};
-    ghost use Rattle.clk_ruled.specs.inside.Rule.{seat_view};
 
     // Gives its pass away, to be gathered, and keeps one that neither sits nor taps.
     pub(crate) fn give_up(&mut self, line: &Line) -> Pass<Packet, View>

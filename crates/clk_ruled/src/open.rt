@@ -3,7 +3,6 @@
 ghost use Rattle.std.specs.Prelude.{◌≡◌, ◌≤◌, [], ◌∷◌, ◌++◌, true, false, min, max, IfOk, OnOk, IsOkUnless};
 ghost use Rattle.crossbeam_queue.specs.Passes.{view, IsPassOf, IsSamePass};
 ghost use Rattle.clk_packet.specs.Limits.{most_capacity};
-ghost use Rattle.clk_packet.specs.declared.fault.Fault.TheVariants.{Memory};
 ghost use Rattle.clk_packet.specs.Lists.{stands_in, AreRising};
 ghost use Rattle.clk_ruled.specs.Rooms.{named_in, room_of, rooms_in_all};
 ghost use Rattle.clk_ruled.specs.Queue.{setup_of, empty_seat};

@@ -41,7 +41,6 @@ impl Model for Seat {
 impl Seat {
     ghost use Rattle.std.specs.Prelude.{◌≡◌, ◌<◌, ◌≤◌, ◌∷◌, [], length, false, IfOk, IsOkUnless};
     ghost use Rattle.crossbeam_queue.specs.Passes.{view as known};
-    ghost use Rattle.clk_packet.specs.declared.fault.Fault.TheVariants.{Memory};
     ghost use Rattle.clk_ruled.specs.Rooms.{room_of};
     ghost use Rattle.clk_ruled.specs.inside.Rule.{seat_view};
     ghost use Rattle.clk_packet.specs.declared.packet.Offered.TheVariants.{Refused};

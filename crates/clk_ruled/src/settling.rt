@@ -5,7 +5,6 @@ mod reach;
 
 ghost use Rattle.std.specs.Prelude.{◌≡◌, map, IfOk, IfErr, IsOkUnless};
 ghost use Rattle.std.specs.List.{AllByRecursion};
-ghost use Rattle.clk_packet.specs.declared.fault.Fault.TheVariants.{Memory};
 ghost use Rattle.clk_ruled.specs.inside.Keys.{AreSorted, has_key};
 ghost use Rattle.clk_ruled.specs.Queue.{IsTapOf, IsSharedOut};
 ghost use Rattle.clk_ruled.specs.Settle.{AreOpenedTogether, AreOfTap, HasEach, IsAccounted, IsSettled, IsFaultOfSettle, lists_of, tally_by};

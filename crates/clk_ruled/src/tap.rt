@@ -37,7 +37,6 @@ impl Model for Tap {
 impl Tap {
     ghost use Rattle.std.specs.Prelude.{◌≡◌, ℕ, ◌≤◌, ◌+◌, true, false, List, [], length, None, IfOk, IsOkUnless};
     ghost use Rattle.crossbeam_queue.specs.Passes.{view as known, IsPassOf};
-    ghost use Rattle.clk_packet.specs.declared.fault.Fault.TheVariants.{Memory};
     ghost use Rattle.clk_packet.specs.Lists.{of_sender, AreRising};
     ghost use Rattle.clk_ruled.specs.PacketLists.{packet_numbers};
     ghost use Rattle.clk_ruled.specs.Rooms.{rooms_in_all};

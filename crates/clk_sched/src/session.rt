@@ -49,7 +49,7 @@ impl Model for Session {
 }
 
 impl Session {
-    ghost use Rattle.std.specs.Prelude.{◌≡◌, ◌+◌, ◌-◌, ◌<◌, ◌≤◌, ◌^◌, true, [], Ok, Err, max, IfOk, IfErr, OnOk, OnErr, IsOkUnless};
+    ghost use Rattle.std.specs.Prelude.{◌≡◌, ◌+◌, ◌<◌, ◌≤◌, ◌^◌, true, [], Ok, Err, max, IfOk, IfErr, OnOk, OnErr, IsOkUnless};
     ghost use Rattle.clk_packet.specs.Limits.{most_elements};
     ghost use Rattle.clk_sched.specs.Tree.{root, leaves_distinct, IsSound};
     ghost use Rattle.clk_sched.specs.Limits.{most_left, end_of_moments, end_of_drains};
@@ -57,7 +57,6 @@ impl Session {
     ghost use Rattle.clk_sched.specs.Run.{IsRun};
     ghost use Rattle.clk_sched.specs.Bound.{closing_bound};
     ghost use Rattle.clk_sched.specs.Results.{emitted, heads};
-    ghost use Rattle.clk_packet.specs.declared.fault.Fault.TheVariants.{Memory, TooLarge};
     ghost use Rattle.clk_sched.specs.Places.{Answers, tree_queue};
     ghost use Rattle.clk_sched.specs.Closing.{LosesNothing, left_in};
     ghost use Rattle.clk_sched.specs.Session.{IsPulledOnce, GivesAll, StopsAt, counted_moment, elements, newly};

@@ -41,7 +41,7 @@ impl Unlogged {
     ghost use Rattle.clk_sched.specs.Run.{IsRun};
     ghost use Rattle.clk_sched.specs.Bound.{closing_bound};
     ghost use Rattle.clk_sched.specs.Results.{emitted, heads};
-    ghost use Rattle.clk_packet.specs.declared.fault.Fault.TheVariants.{Memory, TooManyPulls};
+    ghost use Rattle.clk_packet.specs.declared.fault.Fault.TheVariants.{TooManyPulls};
     ghost use Rattle.clk_sched.specs.Places.{Answers, tree_queue};
     ghost use Rattle.clk_sched.specs.Closing.{LosesNothing, left_in};
     ghost use Rattle.clk_sched.specs.Session.{IsPulledOnce, GivesAll, StopsShort, counted_moment, elements, newly};

@@ -1,7 +1,6 @@
 //! What became of the packets of each sender of a router.
 
 ghost use Rattle.std.specs.Prelude.{◌≡◌, map, IfOk, OnOk, IsOkUnless};
-ghost use Rattle.clk_packet.specs.declared.fault.Fault.TheVariants.{Memory};
 ghost use Rattle.clk_packet.specs.Lists.{AreRising};
 ghost use Rattle.clk_script.specs.inside.Recorder.{tally_made, numbers_in, noted, put_out, IsPlaceOf};
 

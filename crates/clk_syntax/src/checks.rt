@@ -8,7 +8,6 @@ pub mod tables;
 mod used;
 
 ghost use Rattle.std.specs.Prelude.{◌≡◌, ◌⊎◌, Some, None, OnOk, IfErr};
-ghost use Rattle.clk_packet.specs.declared.fault.Fault.TheVariants.{Memory};
 ghost use Rattle.clk_syntax.specs.Faults.{port_fault, shape_fault, nodes_fault};
 ghost use Rattle.clk_syntax.specs.Tables.{IsTabled};
 

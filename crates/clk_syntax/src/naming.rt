@@ -7,7 +7,7 @@ mod numbers;
 ghost use Rattle.std.specs.Prelude.{◌≡◌, ◌∷◌, ◌||◌, Some, true, IfSome, IfOk, IfErr, IsOkUnless, ◌+◌, ◌++◌, ◌<◌, ◌≤◌, ◌^◌, ℕ, List, length, map, None, MatchResult, OnOk};
 ghost use Rattle.std.specs.Option.{option_map};
 ghost use Rattle.std.specs.List.{AllByRecursion};
-ghost use Rattle.clk_packet.specs.declared.fault.Fault.TheVariants.{Memory, NameTwice, UnknownClass, BadArgument, UnknownName};
+ghost use Rattle.clk_packet.specs.declared.fault.Fault.TheVariants.{NameTwice, UnknownClass, BadArgument, UnknownName};
 ghost use Rattle.clk_syntax.specs.Classes.{class_view, is_class};
 ghost use Rattle.clk_syntax.specs.Limits.{most_tree_bytes};
 ghost use Rattle.clk_syntax.specs.Source.{Declared, Element, letters, kept, elements_in, elements, word, port, wire, wires};

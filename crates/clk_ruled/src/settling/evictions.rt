@@ -1,10 +1,8 @@
 //! Which packets of a sender were put out.
 
-ghost use Rattle.std.specs.Prelude.{◌≡◌, ◌≤◌, ◌++◌, true, length, map, filter, IfOk, OnOk, IsOkUnless};
-ghost use Rattle.std.specs.List.{flat_map};
+ghost use Rattle.std.specs.Prelude.{◌≡◌, ◌++◌, true, length, map, filter, IfOk, OnOk, IsOkUnless};
 ghost use Rattle.std.specs.List.Sorted.{IsSearchInRange};
 ghost use Rattle.std.specs.Result.{is_ok};
-ghost use Rattle.clk_packet.specs.declared.fault.Fault.TheVariants.{Memory};
 ghost use Rattle.clk_ruled.specs.inside.Keys.{AreSorted, AreKeysOf, IsAfterKey, key_of, has_key};
 ghost use Rattle.clk_ruled.specs.Settle.{all_evicted, lists_of};
 

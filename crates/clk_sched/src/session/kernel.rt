@@ -51,7 +51,7 @@ impl Model for Kernel {
 }
 
 impl Kernel {
-    ghost use Rattle.std.specs.Prelude.{◌≡◌, ℕ, ◌+◌, ◌-◌, ◌<◌, ◌≤◌, ◌^◌, true, [], drop, length, max, Ok, Err, IfOk, IfErr, OnOk, OnErr, IsOk, IsOkUnless};
+    ghost use Rattle.std.specs.Prelude.{◌≡◌, ℕ, ◌+◌, ◌<◌, ◌≤◌, ◌^◌, true, [], drop, length, max, Ok, IfOk, IfErr, OnOk, OnErr, IsOk, IsOkUnless};
     ghost use Rattle.clk_packet.specs.Limits.{most_elements};
     ghost use Rattle.clk_sched.specs.Tree.{root, leaves_distinct, IsSound};
     ghost use Rattle.clk_sched.specs.Limits.{most_left, end_of_moments, end_of_drains, end_of_pulls, end_of_drained_pulls};
@@ -59,7 +59,7 @@ impl Kernel {
     ghost use Rattle.clk_sched.specs.Run.{IsRun};
     ghost use Rattle.clk_sched.specs.Bound.{closing_bound};
     ghost use Rattle.clk_sched.specs.Results.{emitted, heads};
-    ghost use Rattle.clk_packet.specs.declared.fault.Fault.TheVariants.{Memory, TooManyPulls};
+    ghost use Rattle.clk_packet.specs.declared.fault.Fault.TheVariants.{TooManyPulls};
     ghost use Rattle.clk_sched.specs.Places.{Answers, tree_queue};
     ghost use Rattle.clk_sched.specs.Closing.{LosesNothing, left_in};
     ghost use Rattle.clk_sched.specs.Session.{IsPulledOnce, GivesAll, StopsAt, counted_moment, elements, newly};

@@ -1,6 +1,6 @@
 //! How many pulls the closing of a tree is given.
 
-ghost use Rattle.std.specs.Prelude.{◌≡◌, ◌+◌, ◌*◌, ◌≤◌, ℕ, drop};
+ghost use Rattle.std.specs.Prelude.{◌≡◌, ◌+◌, ◌*◌, ◌≤◌, ℕ};
 ghost use Rattle.clk_sched.specs.Tree.{root, IsSound};
 ghost use Rattle.clk_sched.specs.Built.{row};
 ghost use Rattle.clk_sched.specs.Bound.{lesser, least, least_quantum};

@@ -1,7 +1,6 @@
 //! Where the ways from all elements lead.
 
-ghost use Rattle.std.specs.Prelude.{◌≡◌, ℕ, ◌<◌, length, slice_index, IfOk, IsOkUnless};
-ghost use Rattle.clk_packet.specs.declared.fault.Fault.TheVariants.{Memory};
+ghost use Rattle.std.specs.Prelude.{ℕ, ◌<◌, length, slice_index, IfOk, IsOkUnless};
 ghost use Rattle.clk_syntax.specs.Tables.{IsTabled};
 ghost use Rattle.clk_syntax.specs.inside.Checks.{IsFollowed, IsComposed};
 

@@ -1,7 +1,6 @@
 //! The checks of ports.
 
 ghost use Rattle.std.specs.Prelude.{◌≡◌, ℕ, ◌<◌, ◌==◌, ◌&&◌, ◌||◌, true, length, slice_set, Some, None, IfOk, IsOkUnless};
-ghost use Rattle.clk_packet.specs.declared.fault.Fault.TheVariants.{Memory};
 ghost use Rattle.std.specs.List.{AllByRecursion};
 ghost use Rattle.clk_syntax.specs.Ports.{role_at, bad_port, port_twice, port_missing, wrong_kind};
 ghost use Rattle.clk_syntax.specs.Within.{IsLinkWithin};

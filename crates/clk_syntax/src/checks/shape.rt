@@ -1,7 +1,6 @@
 //! The checks of devices, of trees and of sizes.
 
 ghost use Rattle.std.specs.Prelude.{◌≡◌, ◌<◌, ◌≤◌, length, Some, IfOk, IsOkUnless, if◌then◌else◌};
-ghost use Rattle.clk_packet.specs.declared.fault.Fault.TheVariants.{Memory};
 ghost use Rattle.clk_packet.specs.Limits.{most_elements};
 ghost use Rattle.clk_syntax.specs.Ports.{is_scheduler, has_device, not_a_tree};
 ghost use Rattle.clk_syntax.specs.Size.{levels, is_too_large, too_large};

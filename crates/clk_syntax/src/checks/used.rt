@@ -1,7 +1,6 @@
 //! The inputs that connections use, one after another.
 
 ghost use Rattle.std.specs.Prelude.{◌≡◌, ℕ, ◌<◌, ◌==◌, ◌&&◌, ◌||◌, not, length, false, IfOk, OnOk, IsOkUnless};
-ghost use Rattle.clk_packet.specs.declared.fault.Fault.TheVariants.{Memory};
 ghost use Rattle.clk_syntax.specs.Tables.{IsTabled};
 ghost use Rattle.clk_syntax.specs.inside.Used.{is_used, size};
 

@@ -2,7 +2,6 @@
 
 ghost use Rattle.std.specs.Prelude.{◌≡◌, ℕ, ◌<◌, ◌^◌, List, map, length, IfOk, IsOkUnless};
 ghost use Rattle.std.specs.Option.{option_map};
-ghost use Rattle.clk_packet.specs.declared.fault.Fault.TheVariants.{Memory};
 ghost use Rattle.clk_packet.specs.Numbers.{number_in};
 ghost use Rattle.clk_syntax.specs.Classes.{class_named, class_with, class_view, numbers_to, numbers_in, queue_name, role_of};
 ghost use Rattle.clk_syntax.specs.Source.{letters};

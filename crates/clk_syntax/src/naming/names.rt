@@ -26,7 +26,6 @@ impl<'a> Names<'a> {
     ghost use Rattle.std.specs.Map.{update};
     ghost use Rattle.std.specs.Option.{is_some};
     ghost use Rattle.std.specs.Str.{bytes_eq};
-    ghost use Rattle.clk_packet.specs.declared.fault.Fault.TheVariants.{Memory};
     ghost use Rattle.clk_syntax.specs.inside.Naming.{mixed_from, mixed, place_in, IsSlotted};
 
     /// No names, with room for about so many. Fault 1 where memory is refused.

@@ -1,10 +1,10 @@
 //! The statements of a text, by recursive descent over its tokens. Each function reads as the diagram of the text says, and stops at
 //! the first token that can't stand where it does.
 
-ghost use Rattle.std.specs.Prelude.{◌≡◌, ◌<◌, ℕ, List, [], length, ◌∷◌, ◌++◌, ◌⊎◌, map, true, false, Option, Some, None, MatchOption, IfOk, IfErr, OnOk, IsTrue};
+ghost use Rattle.std.specs.Prelude.{◌≡◌, ◌<◌, List, [], length, ◌∷◌, ◌++◌, ◌⊎◌, map, true, false, Some, None, MatchOption, IfOk, IfErr, OnOk};
 ghost use Rattle.std.specs.List.{flat_map, AllByRecursion};
 ghost use Rattle.clk_packet.specs.declared.fault.Fault.TheVariants.{Memory, BadText};
-ghost use Rattle.clk_syntax.specs.declared.texts.token.Symbol.TheVariants.{Name, Declares, CloseArguments, LeadsTo};
+ghost use Rattle.clk_syntax.specs.declared.texts.token.Symbol.TheVariants.{Declares, CloseArguments, LeadsTo};
 ghost use Rattle.clk_syntax.specs.declared.texts.token.Token.{Token};
 ghost use Rattle.clk_syntax.specs.Diagram.{start, further_name, declares, class, opened, argument, closed, leads_to, next_name, output_opened, input_opened, wrong_from};
 ghost use Rattle.clk_syntax.specs.Grammar.{Statement, IsText, IsName, IsWord, IsPort, mark, is_word, listed, written_port};
