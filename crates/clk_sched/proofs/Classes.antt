@@ -1,14 +1,9 @@
--- Each class of scheduler: its orders, its state from turn to turn, and its turn.
-pub mod TurnPrio
-pub mod TurnRoundRobin
+-- Each class of scheduler: its orders, and what its state tells from turn to turn.
 pub mod TurnStride
-pub mod TurnShaper
-pub mod ShaperRow
-pub mod LooksDrr
-pub mod TurnDrr
 pub mod Orders
 pub mod Table
 pub mod Bucket
+pub mod BusyTurns
 pub mod Deficits
 pub mod RankLemmas
 pub mod StridePasses

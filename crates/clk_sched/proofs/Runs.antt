@@ -13,6 +13,5 @@ pub mod Chosen
 pub mod WithAsked
 pub mod Made
 pub mod CanGoOn
-pub mod BusyTurns
 pub mod DeviceBlock
 pub mod WorkedPulls

@@ -5,5 +5,6 @@ pub mod LaidOut
 pub mod Added
 pub mod Distinct
 pub mod Numbering
+pub mod Below
 pub mod QueuesAsked
 pub mod TreeBound

@@ -14,7 +14,7 @@ use Rattle.clk_sched.specs.Laws.Shaper.{has_room}
 use Rattle.clk_sched.specs.inside.Holds.OfClass.{Fits, Holds}
 use Rattle.clk_sched.proofs.Classes.Orders.{IsOrderOf, priority-order, round_robin-order, stride-order, shaper-order, passes-length}
 use Rattle.clk_sched.proofs.Lists.Rising.{rising-length}
-use Rattle.clk_sched.proofs.Runs.BusyTurns.{busy, busy-beginning, busy-passes, busy-room, TakesNoNotice, follows-busy}
+use Rattle.clk_sched.proofs.Classes.BusyTurns.{busy, busy-beginning, busy-passes, busy-room, TakesNoNotice, follows-busy}
 
 -- a scheduler may ask all of its inputs at this moment, after its earlier turns: a Shaper needs room
 abbrev pub MayAsk : Class → List Turn → ℕ → Type 0

@@ -1,7 +1,8 @@
 -- Members of lists, and lists that a test or a law goes over.
-use Rattle.std.proofs.Common.{◌≡◌, ℕ, zero, suc, Bool, true, false, cond, ◌||◌, List, [], ◌∷◌, ◌++◌, map, filter, slice_get, unwrap_or, is_some, Some, inl, inr, refl, sym, ap, ◌∙◌, subst}
+use Rattle.std.proofs.Common.{◌≡◌, ℕ, zero, suc, ◌<◌, Bool, true, false, cond, ◌||◌, List, [], ◌∷◌, ◌++◌, map, filter, length, slice_get, unwrap_or, is_some, Option, Some, None, IsSome, inl, inr, refl, sym, ap, ◌∙◌, subst}
 use Rattle.std.specs.List.{AllByRecursion, list_any, flat_map}
 use Rattle.std.proofs.lemmas.Bool.{false≢true}
+use Rattle.std.proofs.lemmas.Option.{slice_get_within}
 use Rattle.clk_packet.specs.Lists.{In}
 pub use Rattle.clk_packet.proofs.Callers.Lists.{all-append}
 use Rattle.clk_sched.specs.Turns.{EachAfter}
@@ -10,6 +11,13 @@ pub in-slice : {X : Type 0} (xs : List X) (i : ℕ) (x : X) → slice_get xs i �
 in-slice [] i x e = absurd (false≢true (ap is_some e))
 in-slice (y ∷ xs) zero x e = inl (ap (λ o. unwrap_or o y) e)
 in-slice (y ∷ xs) (suc i) x e = inr (in-slice xs i x e)
+
+pub some-below : {X : Type 0} (xs : List X) (i : ℕ) → IsSome (slice_get xs i) → i < length xs
+some-below {X = X} xs i h = by_place (slice_get xs i) refl h
+  where
+    by_place : (o : Option X) → slice_get xs i ≡ o → IsSome o → i < length xs
+    by_place None e k = absurd (false≢true k)
+    by_place (Some x) e k = slice_get_within xs i x e
 
 pub of-all : {X : Type 0} (P : X → Type 0) (x : X) (xs : List X) → AllByRecursion P xs → In x xs → P x
 of-all P x [] h m = absurd m

@@ -2,7 +2,7 @@
 use Rattle.std.proofs.Common.{◌≡◌, ◌⊎◌, ℕ, suc, ◌+◌, ◌<◌, ◌≤◌, nat_lt, Bool, true, false, if◌then◌else◌, List, [], ◌∷◌, ◌++◌, length, get_or, slice_get, slice_index, option_map, Option, Some, None, IsSome, is_some, MatchOption, inl, inr, refl, sym, ap, ◌∙◌, subst, arith}
 use Rattle.std.proofs.lemmas.Bool.{false≢true}
 use Rattle.std.proofs.lemmas.Bool.Decides.{nat_tests}
-use Rattle.std.proofs.lemmas.Option.{slice_get-get_or, slice_get_within, get_or_from_slice_get, slice_get-map}
+use Rattle.std.proofs.lemmas.Option.{slice_get-get_or, get_or_from_slice_get, slice_get-map}
 use Rattle.clk_packet.specs.declared.packet.Packet.{Packet}
 use Rattle.clk_sched.specs.declared.visit.Visit.{Visit}
 use Rattle.clk_sched.specs.declared.session.nodes.Nodes.{Nodes}
@@ -13,20 +13,14 @@ use Rattle.clk_sched.specs.declared.session.stride.Rank.{Rank}
 use Rattle.clk_sched.specs.Tree.{Row, nodes}
 use Rattle.clk_sched.specs.inside.Places.{inputs_of, StandsIn, AreWired, IsAfter, edges_of, edges_at, option_edges_to, input_at, option_input, queue_of, queue_asked}
 use Rattle.clk_sched.specs.inside.Pulling.{Pulls, Asks, HasPulled, IsPulling, added, now_of, after, inputs_in}
-use Rattle.clk_sched.proofs.Lists.Members.{of-all, in-slice}
-use Rattle.clk_sched.proofs.Nodes.Below.{LiesAt, lies-within, IsChildAt, child-at, queue-at}
+use Rattle.clk_sched.proofs.Lists.Members.{of-all, in-slice, some-below}
+use Rattle.clk_sched.proofs.Trees.Below.{LiesAt, lies-within}
+use Rattle.clk_sched.proofs.Nodes.Below.{IsChildAt, child-at, queue-at}
 use Rattle.clk_sched.proofs.Nodes.Pulling.{pulling-asks, pulling-before}
 use Rattle.clk_sched.proofs.Nodes.Asking.{added-none}
 
 pub entry : {X : Type 0} (xs : List X) (i : ℕ) (x : X) → i < length xs → x ≡ get_or xs i x → slice_get xs i ≡ Some x
 entry xs i x l e = slice_get-get_or xs i x l ∙ ap Some (sym e)
-
-pub some-below : {X : Type 0} (xs : List X) (i : ℕ) → IsSome (slice_get xs i) → i < length xs
-some-below {X = X} xs i h = by_place (slice_get xs i) refl h
-  where
-    by_place : (o : Option X) → slice_get xs i ≡ o → IsSome o → i < length xs
-    by_place None e k = absurd (false≢true k)
-    by_place (Some x) e k = slice_get_within xs i x e
 
 -- what stands at an input, as it is looked up
 pub input-is : (table : List Inputs) (x i : ℕ) (p : Inputs) (input : Input) → slice_get table x ≡ Some p → IsSome (input_at table x i) → input ≡ get_or p.each.items i input → input_at table x i ≡ Some input

@@ -1,5 +1,5 @@
 -- Inputs of a node that are passed over, since they are queues that have nothing.
-use Rattle.std.proofs.Common.{◌≡◌, ℕ, zero, suc, ◌+◌, ◌-◌, ◌<◌, ◌≤◌, List, ◌∷◌, ◌++◌, take, Option, Some, None, IsSome, refl, sym, ap, ◌∙◌, subst, arith}
+use Rattle.std.proofs.Common.{◌≡◌, ℕ, zero, suc, ◌+◌, ◌-◌, ◌<◌, ◌≤◌, List, ◌++◌, take, Option, Some, None, IsSome, refl, sym, ap, ◌∙◌, subst, arith}
 use Rattle.std.specs.List.{AllByRecursion, range_with_len}
 use Rattle.clk_packet.specs.declared.packet.Packet.{Packet}
 use Rattle.clk_sched.specs.declared.session.inputs.Input.TheVariants.{Queue}
@@ -9,21 +9,9 @@ use Rattle.clk_sched.specs.inside.Places.{AllFit, edges_in, input_at}
 use Rattle.clk_sched.specs.inside.Pulling.{CanPull, Keeps}
 use Rattle.clk_sched.specs.inside.Turning.{HasAskedAll, IsIdle}
 use Rattle.clk_sched.proofs.Lists.Members.{all-split}
+use Rattle.clk_sched.proofs.Lists.Ranges.{range-append, range-front}
 use Rattle.clk_sched.proofs.Nodes.Asking.{IsAsking, asked-vain, can-go_on, edges-append}
-use Rattle.clk_sched.proofs.Classes.TurnRoundRobin.{asked-both}
-
--- numbers in a row, in two parts
-range-both : (a k n : ℕ) → range_with_len a k ++ range_with_len (a + k) n ≡ range_with_len a (k + n)
-range-both a zero n = (let here : a + 0 ≡ a = omega arith in ap (λ b. range_with_len b n) here) ∙ (let same : n ≡ 0 + n = omega arith in ap (range_with_len a) same)
-range-both a (suc k) n =
-    let next : a + suc k ≡ a + 1 + k = omega arith in
-    let all : suc (k + n) ≡ suc k + n = omega arith in
-    ap (λ l. a ∷ l) (ap (λ b. range_with_len (a + 1) k ++ range_with_len b n) next ∙ range-both (a + 1) k n) ∙ ap (range_with_len a) all
-
-pub range-front : (a n k : ℕ) → k ≤ n → take k (range_with_len a n) ≡ range_with_len a k
-range-front a n zero l = refl
-range-front a zero (suc k) l = absurd (omega arith)
-range-front a (suc n) (suc k) l = ap (λ xs. a ∷ xs) (range-front (a + 1) n k (omega arith))
+use Rattle.clk_sched.proofs.Nodes.InTwo.{asked-both}
 
 -- an input of so many that are there
 pub there-at : (table : List Inputs) (x first count : ℕ) → AllByRecursion (λ i. IsSome (input_at table x i)) (range_with_len first count) → (i : ℕ) → i < count → IsSome (input_at table x (first + i))
@@ -56,7 +44,7 @@ rest-can gives a b p q x first count k l can within h = (
     rest = range_with_len (first + k) (count - k)
 
     whole : take k order ++ rest ≡ order
-    whole = ap (λ front. front ++ rest) (range-front first count k l) ∙ range-both first k (count - k) ∙ (let all : k + (count - k) ≡ count = omega arith in ap (range_with_len first) all)
+    whole = ap (λ front. front ++ rest) (range-front first count k l) ∙ sym (range-append first k (count - k)) ∙ (let all : k + (count - k) ≡ count = omega arith in ap (range_with_len first) all)
 
     edges : edges_in a.inputs.items x (take k order ++ rest) ≡ edges_in a.inputs.items x (take k order) + edges_in a.inputs.items x rest
     edges = edges-append a.inputs.items x (take k order) rest
@@ -70,7 +58,7 @@ pub asking-past : {S : Type 0} (gives : S → ℕ → Option Packet → S → Ty
 asking-past gives a b c p q x first count k n l h passed =
     let front = range-front first count k (omega arith) in
     let both = asked-both gives a b c p q q x (range_with_len first k) (range_with_len (first + k) n) None (subst (IsAsking gives a b p q x) front h) passed in
-    subst (IsAsking gives a c p q x) (range-both first k n ∙ sym (range-front first count (k + n) l)) (asked-vain gives a c p q x (range_with_len first k ++ range_with_len (first + k) n) None refl both)
+    subst (IsAsking gives a c p q x) (sym (range-append first k n) ∙ sym (range-front first count (k + n) l)) (asked-vain gives a c p q x (range_with_len first k ++ range_with_len (first + k) n) None refl both)
 
 -- Those at the front were asked, and nothing else is.
 pub asking-front : {S : Type 0} (gives : S → ℕ → Option Packet → S → Type 0) (a b : Nodes) (p q : S) (x first count k n : ℕ) → k ≡ n → n ≤ count → IsAsking gives a b p q x (take k (range_with_len first count))

@@ -15,7 +15,8 @@ use Rattle.clk_packet.specs.Lists.{In}
 use Rattle.clk_sched.proofs.Lists.Members.{of-all, to-all, all-append, all-weaker, all-flat_map}
 use Rattle.clk_sched.proofs.Runs.Blocks.{flat_map-same}
 use Rattle.clk_sched.proofs.Runs.WithAsked.{absent, IsAbsent}
-use Rattle.clk_sched.proofs.Nodes.Below.{LiesAt, lies-within, lies-apart, IsVisitBelow, asked-below, HoldsAt, holds-at, holds_at-same, holds-put, holds-same}
+use Rattle.clk_sched.proofs.Trees.Below.{LiesAt, lies-within, lies-apart, IsVisitBelow, asked-below}
+use Rattle.clk_sched.proofs.Nodes.Below.{HoldsAt, holds-at, holds_at-same, holds-put, holds-same}
 
 pub pulling-first : (now : Now) (history : History) (x : ℕ) (row : Row) (states : List State) → EachHolds states history (suc x) row → IsPulling now history x row states [] []
 pulling-first now history x row states h = record { made = λ i. []; whole = refl; theirs = tt; each = tt; holds = h }

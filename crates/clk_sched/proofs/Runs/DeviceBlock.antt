@@ -23,8 +23,8 @@ use Rattle.clk_sched.proofs.Lists.Apart.{any-member, all-reverse, only-one}
 use Rattle.clk_sched.proofs.Runs.WithAsked.{absent, present}
 use Rattle.clk_sched.proofs.Runs.Blocks.{flat_map-same, filter-flat_map, flat_map-one, Owns, owns-after_leaf, owns-after_node, owns-self, owns-inputs, asks-both}
 use Rattle.clk_sched.proofs.Runs.Pulled.{copies-unasked, pulled-root}
-use Rattle.clk_sched.proofs.Nodes.Below.{LiesAt, lies-within, lies-apart, IsVisitBelow, asked-below}
-use Rattle.clk_sched.proofs.Runs.BusyTurns.{busy, history-busy, busy-filtered}
+use Rattle.clk_sched.proofs.Trees.Below.{LiesAt, lies-within, lies-apart, IsVisitBelow, asked-below}
+use Rattle.clk_sched.proofs.Classes.BusyTurns.{busy, history-busy, busy-filtered}
 use Rattle.clk_sched.proofs.Classes.Table.{allows-busy}
 
 -- what a visit asked has no visits of a node that doesn't lie there

@@ -21,7 +21,7 @@ use Rattle.clk_sched.specs.Closing.{GivesOut, TakesOne, LosesNothing, left_in}
 use Rattle.clk_sched.proofs.Lists.Numbers.{equal}
 use Rattle.clk_sched.proofs.Nodes.Asking.{answers-then}
 use Rattle.clk_sched.proofs.Closing.Emptied.{IsClosingPull, IsEmptied, emptied-more}
-use Rattle.clk_sched.proofs.Classes.TurnRoundRobin.{range-append}
+use Rattle.clk_sched.proofs.Lists.Ranges.{range-append}
 
 abbrev joined : List (List Visit) → List Visit
 joined more = flat_map (λ pull. pull) more

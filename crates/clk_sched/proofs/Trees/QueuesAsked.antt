@@ -13,7 +13,7 @@ use Rattle.clk_sched.specs.inside.Pulling.{Now, History, IsBlock}
 use Rattle.clk_sched.proofs.Lists.Numbers.{equal, differs}
 use Rattle.clk_sched.proofs.Lists.Members.{all-weaker}
 use Rattle.clk_sched.proofs.Trees.Numbering.{queue_in-before, queue_in-earlier, StandsAt, stands-root, stands-after_leaf, stands-after_node, stands-inputs}
-use Rattle.clk_sched.proofs.Nodes.Below.{IsVisitBelow, asked-below}
+use Rattle.clk_sched.proofs.Trees.Below.{IsVisitBelow, asked-below}
 
 -- the queue at an input of a node is the one at that place of its row
 row-queue : (above first next : ℕ) (row : Row) (i j : ℕ) → above < next → j ≡ first + i → queue_of (slice_get (inputs_of next row) i) ≡ queue_in above first next row above j

@@ -6,7 +6,7 @@ use Rattle.clk_sched.specs.declared.session.inputs.Input.TheVariants.{Queue}
 use Rattle.clk_sched.specs.declared.session.inputs.Inputs.{Inputs}
 use Rattle.clk_sched.specs.inside.Places.{input_at, option_input}
 use Rattle.clk_sched.specs.inside.QueuesFrom.{AreQueuesFrom}
-use Rattle.clk_sched.proofs.Nodes.Asked.{some-below}
+use Rattle.clk_sched.proofs.Lists.Members.{some-below}
 
 -- so many inputs are queues, whose leaves follow one another from a leaf on
 abbrev pub AreQueuesSoFar : ℕ → ℕ → List Input → Type 0

@@ -18,13 +18,13 @@ use Rattle.clk_sched.proofs.Nodes.Asking.{keeps-none, keeps-more, answers-then, 
 use Rattle.clk_sched.proofs.Nodes.Asked.{entry, rank_at, entry-input, input-is, edges-scheduler, queue-visited, asks-queue, asks-child}
 use Rattle.clk_sched.proofs.Nodes.Idle.{rest-can, asking-past}
 use Rattle.clk_sched.proofs.Nodes.Placed.{can-turn, kept-there, pulled-back}
-use Rattle.clk_sched.proofs.Classes.TurnPrio.{prio-asks, prio-pulled}
-use Rattle.clk_sched.proofs.Classes.TurnRoundRobin.{begins, may-first, may-second, had-first, had-second, had-none, few-first, few-second}
+use Rattle.clk_sched.proofs.Turns.TurnPrio.{prio-asks, prio-pulled}
+use Rattle.clk_sched.proofs.Turns.TurnRoundRobin.{begins, may-first, may-second, had-first, had-second, had-none, few-first, few-second}
 use Rattle.clk_sched.proofs.Nodes.Logged.{edge-there, queue-answers, keeps-logged, added-logged, asked-logged}
-use Rattle.clk_sched.proofs.Classes.LooksDrr.{answers-held, looks-held, looks-fresh}
-use Rattle.clk_sched.proofs.Classes.TurnDrr.{has-looked, making-first, making-can, making-next, making-passed, making-all, HasEnded, had-ended}
+use Rattle.clk_sched.proofs.Turns.LooksDrr.{answers-held, looks-held, looks-fresh}
+use Rattle.clk_sched.proofs.Turns.TurnDrr.{has-looked, making-first, making-can, making-next, making-passed, making-all, HasEnded, had-ended}
 use Rattle.clk_sched.proofs.Classes.TurnStride.{FitsAt, stride-may, had-won, had-lost}
-use Rattle.clk_sched.proofs.Classes.ShaperRow.{below-refused, below-answered, whole-answered, answers-keep, goes-may, goes-room, goes-edges, goes-order, goes-inputs}
+use Rattle.clk_sched.proofs.Turns.ShaperRow.{below-refused, below-answered, whole-answered, answers-keep, goes-may, goes-room, goes-edges, goes-order, goes-inputs}
 use Rattle.clk_sched.specs.inside.Tokens.{GoesDown}
 use Rattle.clk_sched.specs.inside.Turning.{HasAskedAll, WasPulled}
 use Rattle.clk_sched.proofs.Nodes.InOrder.{packet_of}

@@ -2,7 +2,7 @@ use Rattle.std.proofs.Common.{ℕ, ◌+◌, ◌*◌, ◌-◌, ◌≤◌, length,
 use Rattle.std.specs.List.{range_with_len}
 use Rattle.clk_sched.specs.inside.Pulling.{inputs_in}
 use Rattle.clk_sched.proofs.Nodes.Asking.{IsAsking}
-use Rattle.clk_sched.proofs.Classes.TurnDrr.{IsMaking}
+use Rattle.clk_sched.proofs.Turns.TurnDrr.{IsMaking}
 use Rattle.clk_sched.proofs.session.+pull.Given as goal
 
 -- a node is pulled before those below it, and each step of its pull before the next

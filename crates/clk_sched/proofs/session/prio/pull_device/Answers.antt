@@ -1,4 +1,4 @@
-use Rattle.clk_sched.proofs.Classes.TurnPrio.{device-asks, device-pulled}
+use Rattle.clk_sched.proofs.Turns.TurnPrio.{device-asks, device-pulled}
 use Rattle.clk_sched.proofs.session.prio.pull_device.Goals as goal
 
 pub look-requires-clause-can_pull : goal.look-requires-clause-can_pull

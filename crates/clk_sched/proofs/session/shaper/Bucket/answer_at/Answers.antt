@@ -1,5 +1,5 @@
 use Rattle.std.proofs.Common.{not, ap, ◌∙◌}
-use Rattle.clk_sched.proofs.Classes.ShaperRow.{answers-none, answers-some}
+use Rattle.clk_sched.proofs.Turns.ShaperRow.{answers-none, answers-some}
 use Rattle.clk_sched.proofs.session.shaper.Bucket.answer_at.Goals as goal
 
 pub returns-then-is_none : goal.returns-then-is_none

@@ -1,6 +1,6 @@
 use Rattle.std.proofs.Common.{◌≡◌, ◌-◌, subst, arith}
 use Rattle.clk_sched.specs.inside.Tokens.{AnswersUp}
-use Rattle.clk_sched.proofs.Classes.ShaperRow.{answers-keep, up-next}
+use Rattle.clk_sched.proofs.Turns.ShaperRow.{answers-keep, up-next}
 use Rattle.clk_sched.proofs.session.shaper.Bucket.answer_up.Goals as goal
 
 pub loop-above-preserved : goal.loop-above-preserved

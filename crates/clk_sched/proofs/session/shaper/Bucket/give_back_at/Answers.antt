@@ -1,6 +1,6 @@
 use Rattle.std.proofs.Common.{Some, ap, ◌∙◌}
 use Rattle.clk_sched.proofs.Nodes.Asked.{entry}
-use Rattle.clk_sched.proofs.Classes.TurnShaper.{given-back, none-given}
+use Rattle.clk_sched.proofs.Turns.TurnShaper.{given-back, none-given}
 use Rattle.clk_sched.proofs.session.shaper.Bucket.give_back_at.Goals as goal
 
 pub returns-in-Shaper : goal.returns-in-Shaper

@@ -1,7 +1,7 @@
 use Rattle.std.proofs.Common.{Some, refl, ap, ◌∙◌, subst, IfSome}
 use Rattle.clk_sched.specs.inside.Holds.OfClass.{IsShaper}
 use Rattle.clk_sched.proofs.Nodes.Asked.{entry}
-use Rattle.clk_sched.proofs.Classes.TurnShaper.{is-shaper}
+use Rattle.clk_sched.proofs.Turns.TurnShaper.{is-shaper}
 use Rattle.clk_sched.proofs.session.shaper.Bucket.take_at.Goals as goal
 
 pub returns-in-Shaper : goal.returns-in-Shaper

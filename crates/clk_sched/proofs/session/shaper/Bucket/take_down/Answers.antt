@@ -1,6 +1,6 @@
 use Rattle.std.proofs.Common.{◌+◌, ap, length, refl, subst, arith}
 use Rattle.clk_sched.specs.inside.Tokens.{GoesDown}
-use Rattle.clk_sched.proofs.Classes.ShaperRow.{down-first, down-can, down-next, goes-inputs, goes-may, goes-below}
+use Rattle.clk_sched.proofs.Turns.ShaperRow.{down-first, down-can, down-next, goes-inputs, goes-may, goes-below}
 use Rattle.clk_sched.proofs.session.shaper.Bucket.take_down.Goals as goal
 
 pub loop-token-init : goal.loop-token-init

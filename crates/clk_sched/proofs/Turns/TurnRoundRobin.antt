@@ -13,16 +13,16 @@ use Rattle.clk_sched.specs.declared.session.state.State.{State}
 use Rattle.clk_sched.specs.declared.session.state.State.TheVariants.{RoundRobin}
 use Rattle.clk_sched.specs.declared.session.round_robin.Beginning.{Beginning}
 use Rattle.clk_sched.specs.Tree.{Class, round_robin, width}
-use Rattle.clk_sched.specs.Log.{asking}
 use Rattle.clk_sched.specs.Turns.{Turn, AsksInOrder, giver}
 use Rattle.clk_sched.specs.Laws.RoundRobin.{beginning, round_robin_order}
-use Rattle.clk_sched.specs.Places.{Answers}
-use Rattle.clk_sched.specs.inside.Places.{edges_of, edges_in, input_at, queue_asked}
-use Rattle.clk_sched.specs.inside.Pulling.{Now, CanPull, Keeps, AsksAll, now_of, after, with_turn, added, asked_in_vain, asked_in_order, TakesTurn}
+use Rattle.clk_sched.specs.inside.Places.{edges_of, edges_in, input_at}
+use Rattle.clk_sched.specs.inside.Pulling.{CanPull, Keeps, AsksAll, now_of, after, with_turn, added, asked_in_order, TakesTurn}
 use Rattle.clk_sched.specs.inside.Turning.{HasAskedAll, HadTurn}
 use Rattle.clk_sched.proofs.Lists.Members.{all-weaker, all-split}
-use Rattle.clk_sched.proofs.Nodes.Asking.{IsAsking, keeps-then, keeps-more, added-then, answers-then, asks-then, asks-front, asked-vain, edges-append, vain-in, same-now, apart-split, can-go_on}
+use Rattle.clk_sched.proofs.Lists.Ranges.{range-append}
+use Rattle.clk_sched.proofs.Nodes.Asking.{keeps-more, asks-front, asked-vain, edges-append, apart-split, can-go_on}
 use Rattle.clk_sched.proofs.Nodes.Asked.{entry}
+use Rattle.clk_sched.proofs.Nodes.InTwo.{past, past-length, in_order-first, index-first, index-second, asked-both}
 use Rattle.clk_sched.proofs.Classes.Orders.{IsOrderOf, IsBeyond, around, round_robin-order}
 use Rattle.clk_sched.proofs.Nodes.InOrder.{IsWithin, HasTurnedBy, packet_of, turned-in-order, after-own, with_turn-given, giver_at, in_order-giver}
 use Rattle.clk_sched.proofs.Nodes.Ordered.{stands-width, can-order, order-there, keeps-order}
@@ -47,13 +47,6 @@ after-wrap n s j (suc m) low e l =
     let here : (s + j) % n ≡ low = ap (λ k. k % n) is ∙ mod-mul-add 1 n low (omega arith) in
     ap₂ (λ i is. i ∷ is) here (after-wrap n s (j + 1) m (low + 1) (omega (arith, e)) (omega arith))
 
-pub range-append : (a m n : ℕ) → range_with_len a (m + n) ≡ range_with_len a m ++ range_with_len (a + m) n
-range-append a zero n = let e : zero + n ≡ n = omega arith in let f : a + zero ≡ a = omega arith in ap (range_with_len a) e ∙ ap (λ b. range_with_len b n) (sym f)
-range-append a (suc m) n =
-    let e : suc m + n ≡ suc (m + n) = omega arith in
-    let f : a + 1 + m ≡ a + suc m = omega arith in
-    ap (range_with_len a) e ∙ ap (λ l. a ∷ l) (range-append (a + 1) m n ∙ ap (λ b. range_with_len (a + 1) m ++ range_with_len b n) f)
-
 map-join : (f : ℕ → ℕ) (xs ys : List ℕ) → map f (xs ++ ys) ≡ map f xs ++ map f ys
 map-join f [] ys = refl
 map-join f (x ∷ xs) ys = ap (λ l. f x ∷ l) (map-join f xs ys)
@@ -69,45 +62,6 @@ order-parts n first l =
     ap (λ m. map (λ k. (first + k) % n) (range_with_len 0 m)) whole ∙ ap (map (λ k. (first + k) % n)) (range-append 0 (n - first) first)
     ∙ map-join (λ k. (first + k) % n) (range_with_len 0 (n - first)) (range_with_len (0 + (n - first)) first)
     ∙ ap₂ (λ a b. a ++ b) (before-wrap n first 0 (n - first) (omega arith) ∙ ap (λ i. range_with_len i (n - first)) start) (after-wrap n first (0 + (n - first)) first 0 (omega arith) (omega arith))
-
--- a place in the second of two orders, as one of both
-abbrev pub past : List ℕ → ℕ → ℕ
-past [] k = k
-past (i ∷ one) k = suc (past one k)
-
-abbrev pub in_second : List ℕ → Option (ℕ × Packet) → Option (ℕ × Packet)
-in_second one None = None
-in_second one (Some r) = Some (past one r.0, r.1)
-
-pub past-length : (one : List ℕ) (k : ℕ) → past one k ≡ length one + k
-past-length [] k = omega arith
-past-length (i ∷ one) k = let e = past-length one k in omega (arith, e)
-
-vain-append : (now : Now) (x : ℕ) (one other : List ℕ) → asked_in_vain now x (one ++ other) ≡ asked_in_vain now x one ++ asked_in_vain now x other
-vain-append now x [] other = refl
-vain-append now x (i ∷ one) other = ap (λ l. asking now.number now.moment x i None ∷ l) (vain-append now x one other)
-
-pub in_order-second : (now : Now) (x : ℕ) (one other : List ℕ) (r : Option (ℕ × Packet)) → asked_in_vain now x one ++ asked_in_order now x other r ≡ asked_in_order now x (one ++ other) (in_second one r)
-in_order-second now x one other None = sym (vain-append now x one other)
-in_order-second now x one other (Some r) = again one
-  where
-    again : (one : List ℕ) → asked_in_vain now x one ++ asked_in_order now x other (Some r) ≡ asked_in_order now x (one ++ other) (Some (past one r.0, r.1))
-    again [] = refl
-    again (i ∷ one) = ap (λ l. asking now.number now.moment x i None ∷ l) (again one)
-
-pub in_order-first : (now : Now) (x : ℕ) (one other : List ℕ) (k : ℕ) (p : Packet) → k < length one → asked_in_order now x one (Some (k, p)) ≡ asked_in_order now x (one ++ other) (Some (k, p))
-in_order-first now x [] other k p l = absurd (omega arith)
-in_order-first now x (i ∷ one) other zero p l = refl
-in_order-first now x (i ∷ one) other (suc k) p l = ap (λ l. asking now.number now.moment x i None ∷ l) (in_order-first now x one other k p (omega arith))
-
-pub index-first : (one other : List ℕ) (k : ℕ) → k < length one → slice_index (one ++ other) k ≡ slice_index one k
-index-first [] other k l = absurd (omega arith)
-index-first (i ∷ one) other zero l = refl
-index-first (i ∷ one) other (suc k) l = index-first one other k (omega arith)
-
-pub index-second : (one other : List ℕ) (k : ℕ) → slice_index (one ++ other) (past one k) ≡ slice_index other k
-index-second [] other k = refl
-index-second (i ∷ one) other k = index-second one other k
 
 -- the beginning after a turn
 beginning-none : (n moment : ℕ) (own : List Visit) (turns : List Turn) → giver own ≡ None → beginning n (with_turn moment own turns) ≡ beginning n turns
@@ -214,21 +168,6 @@ may-second a b x n first h can kept =
       subst (λ t. AllByRecursion (λ i. IsSome (input_at t x i)) (range_with_len 0 first)) (sym kept.inputs) (there-both a.inputs.items x n first h).1,
       omega (arith, low, few),
     )
-
--- An order was asked in vain, and then another.
-pub asked-both : {S : Type 0} (gives : S → ℕ → Option Packet → S → Type 0) (a b c : Nodes) (q s t : S) (x : ℕ) (one other : List ℕ) (r : Option (ℕ × Packet)) → IsAsking gives a b q s x one → HasAskedAll gives b c s t x other r
-    → HasAskedAll gives a c q t x (one ++ other) (in_second one r)
-asked-both gives a b c q s t x one other r h k =
-    let second : Keeps b c (edges_in a.inputs.items x other) = subst (λ table. Keeps b c (edges_in table x other)) h.keeps.inputs k.keeps in
-    let edges = edges-append a.inputs.items x one other in
-    record {
-      keeps = subst (Keeps a c) (sym edges) (keeps-then a b c (edges_in a.inputs.items x one) (edges_in a.inputs.items x other) h.keeps second);
-      answers = subst (λ l. Answers gives (queue_asked a.inputs.items) q l t) (sym (added-then a b c _ _ h.keeps second))
-          (answers-then gives (queue_asked a.inputs.items) (added a b) (added b c) q s t h.answers (subst (λ table. Answers gives (queue_asked table) s (added b c) t) h.keeps.inputs k.answers));
-      asks = subst (AsksAll a c x (one ++ other)) (in_order-second (now_of a) x one other r)
-          (asks-then a b c _ _ x one other (asked_in_vain (now_of a) x one) (asked_in_order (now_of a) x other r) h.keeps second (vain-in (now_of a) x one) h.asks
-          (subst (λ now. AsksAll b c x other (asked_in_order now x other r)) (same-now a b _ h.keeps) k.asks));
-    }
 
 -- Both parts were asked, up to a place, and that was its turn.
 had-both : {S : Type 0} (gives : S → ℕ → Option Packet → S → Type 0) (a b : Nodes) (q r : S) (x n first next : ℕ) (o : Option (ℕ × Packet)) → Begins a.inputs.items x n first → CanPull a x (edges_of a.inputs.items x)

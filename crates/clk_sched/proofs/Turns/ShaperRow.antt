@@ -21,7 +21,7 @@ use Rattle.clk_sched.proofs.Nodes.Logged.{asked-logged, edge-there}
 use Rattle.clk_sched.proofs.Nodes.Ordered.{item-there}
 use Rattle.clk_sched.proofs.Nodes.Edges.{edges-order}
 use Rattle.clk_sched.proofs.Nodes.Placed.{state-there}
-use Rattle.clk_sched.proofs.Classes.TurnShaper.{HasInput, shaper-asks, shaper-input, shaper-may, shaper-refused, shaper-passed, shaper-returned}
+use Rattle.clk_sched.proofs.Turns.TurnShaper.{HasInput, shaper-asks, shaper-input, shaper-may, shaper-refused, shaper-passed, shaper-returned}
 
 -- a scheduler at an input can be pulled where the input can be asked
 child-can : (a : Nodes) (x child : ℕ) → CanPull a x (edges_at a.inputs.items x 0) → input_at a.inputs.items x 0 ≡ Some (Scheduler child) → CanPull a child (edges_of a.inputs.items child)
