@@ -79,12 +79,8 @@ pub record IsReadied (a b : Nodes) (moment : ℕ) : Type 0 where
   pub at_moment : b.moment ≡ max a.moment moment
 
 -- nodes that are counted one pull further
-pub record IsCounted (a b : Nodes) : Type 0 where
-  pub inputs : b.inputs.items ≡ a.inputs.items
-  pub states : b.states.items ≡ a.states.items
-  pub log : b.log.items ≡ a.log.items
-  pub pull : b.pull ≡ a.pull + 1
-  pub at_moment : b.moment ≡ a.moment
+abbrev pub one_further : Nodes → Nodes
+one_further n = record { inputs = n.inputs; states = n.states; log = n.log; pull = n.pull + 1; moment = n.moment }
 
 -- A session was pulled.
 pub record HasGoneOn (tree : Tree) (a b : Nodes) (moment : ℕ) (visits : List Visit) (got : Option Packet) : Type 0 where
@@ -93,19 +89,19 @@ pub record HasGoneOn (tree : Tree) (a b : Nodes) (moment : ℕ) (visits : List V
   pub new : newly (progress tree a) (progress tree b) ≡ visits
   pub within : AllByRecursion (λ (v : Visit). v.node < suc (nodes (root tree))) visits
 
-pub session-pulled : (tree : Tree) (a ready pulled b : Nodes) (moment most : ℕ) (got : Option Packet) → IsAfterRun tree a → IsReadied a ready moment → Keeps ready pulled most → Pulls ready pulled 0 got
-    → IsCounted pulled b → HasGoneOn tree a b moment (added ready pulled) got
-session-pulled tree a ready pulled b moment most got run readied keeps pull counted =
+pub session-pulled : (tree : Tree) (a ready pulled : Nodes) (moment most : ℕ) (got : Option Packet) → IsAfterRun tree a → IsReadied a ready moment → Keeps ready pulled most → Pulls ready pulled 0 got
+    → HasGoneOn tree a (one_further pulled) moment (added ready pulled) got
+session-pulled tree a ready pulled moment most got run readied keeps pull =
     record {
       still = record {
         stands = subst (λ t. StandsIn t 0 (root tree)) (sym inputs) run.stands;
         wired = subst AreWired (sym inputs) run.wired;
-        fit = subst (λ t. AllFit t b.states.items) (sym (counted.inputs ∙ keeps.inputs)) (subst (AllFit ready.inputs.items) (sym counted.states) keeps.fit);
+        fit = subst (λ t. AllFit t b.states.items) (sym keeps.inputs) keeps.fit;
         size = ap length inputs ∙ run.size;
         run = subst (IsRun tree) (sym logged) more.run;
-        holds = subst (λ s. NodeHolds s (history_of (reverse (pulls b.log.items))) 0 prio (root tree)) (sym counted.states) (subst (λ h. NodeHolds pulled.states.items h 0 prio (root tree)) history done.holds);
-        pull = counted.pull ∙ ap (λ n. n + 1) (keeps.pull ∙ readied.pull ∙ run.pull) ∙ sym (ap length last ∙ length-append (pulls a.log.items) (visits ∷ []));
-        moment = counted.at_moment ∙ keeps.moment ∙ sym next.at_moment ∙ ap latest_moment (sym turned);
+        holds = subst (λ h. NodeHolds pulled.states.items h 0 prio (root tree)) history done.holds;
+        pull = ap (λ n. n + 1) (keeps.pull ∙ readied.pull ∙ run.pull) ∙ sym (ap length last ∙ length-append (pulls a.log.items) (visits ∷ []));
+        moment = keeps.moment ∙ sym next.at_moment ∙ ap latest_moment (sym turned);
       };
       once = record {
         tree = refl;
@@ -120,11 +116,14 @@ session-pulled tree a ready pulled b moment most got run readied keeps pull coun
           (block-nodes (now_of ready) (history_of (reverse before)) 0 prio (root tree) visits got done.block);
     }
   where
+    b : Nodes
+    b = one_further pulled
+
     visits : List Visit
     visits = added ready pulled
 
     inputs : b.inputs.items ≡ a.inputs.items
-    inputs = counted.inputs ∙ keeps.inputs ∙ readied.inputs
+    inputs = keeps.inputs ∙ readied.inputs
 
     before : List (List Visit)
     before = pulls a.log.items
@@ -150,7 +149,7 @@ session-pulled tree a ready pulled b moment most got run readied keeps pull coun
     more = (goes-on tree).step a.log.items visits run.run next.next
 
     logged : b.log.items ≡ a.log.items ++ visits
-    logged = counted.log ∙ keeps.grown ∙ ap (λ l. l ++ visits) readied.log
+    logged = keeps.grown ∙ ap (λ l. l ++ visits) readied.log
 
     new : newly (progress tree a) (progress tree b) ≡ visits
     new = added-is a b visits logged

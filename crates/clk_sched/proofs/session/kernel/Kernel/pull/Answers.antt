@@ -1,13 +1,12 @@
-use Rattle.std.proofs.Common.{◌+◌, ◌<◌, [], ◌++◌, length, refl, sym, ap, ◌∙◌, subst, arith}
+use Rattle.std.proofs.Common.{◌<◌, [], ◌++◌, length, refl, sym, ap, ◌∙◌, subst, arith}
 use Rattle.std.specs.List.{cons_option}
 use Rattle.std.proofs.lemmas.List.{length-append}
 use Rattle.clk_sched.specs.Limits.{end_of_pulls}
 use Rattle.clk_sched.specs.Results.{emitted}
 use Rattle.clk_sched.specs.Places.{Answers, tree_queue}
-use Rattle.clk_sched.specs.declared.session.nodes.Nodes.{Nodes}
 use Rattle.clk_sched.specs.Session.{IsPulledOnce, newly}
 use Rattle.clk_sched.specs.Kinds.{progress_of, pulls_made, IsEndless}
-use Rattle.clk_sched.proofs.Sessions.SessionPull.{session-pulled, emitted-once, one-at-most, pulls-fit, progress, HasGoneOn}
+use Rattle.clk_sched.proofs.Sessions.SessionPull.{session-pulled, emitted-once, one-at-most, one_further, pulls-fit, progress, HasGoneOn}
 use Rattle.clk_sched.proofs.Trees.QueuesAsked.{answers-tree}
 use Rattle.clk_sched.proofs.session.kernel.Kernel.pull.Goals as goal
 
@@ -34,12 +33,11 @@ invariant_of-self-2 g c =
     let n = c.pull_device-got.new.nodes in
     let tree = c.self.inside.tree in
     let got = c.pull_device-got.result in
-    let b : Nodes = record { inputs = n.inputs; states = n.states; log = n.log; pull = n.pull + 1; moment = n.moment } in
+    let b = one_further n in
     let ready = c.in_ok-reserve.ensures.ready in
     let gone : HasGoneOn tree a b c.args.moment _ got =
-    session-pulled tree a _ n b c.args.moment _ got c.self.invariant.0
+    session-pulled tree a _ n c.args.moment _ got c.self.invariant.0
     (record { inputs = refl; states = refl; log = ap (λ l. l.items) ready; pull = refl; at_moment = c.max-self-inside.ensures }) c.pull_device-got.ensures.keeps c.pull_device-got.ensures.pulls
-    (record { inputs = refl; states = refl; log = refl; pull = refl; at_moment = refl })
     in
     let most = c.max-self-inside.ensures in
     let kept = c.pull_device-got.ensures.keeps.moment in
@@ -67,11 +65,10 @@ returns-clause-pulled g c =
     let a = c.self.inside.nodes in
     let n = c.pull_device-got.new.nodes in
     let tree = c.self.inside.tree in
-    let b : Nodes = record { inputs = n.inputs; states = n.states; log = n.log; pull = n.pull + 1; moment = n.moment } in
+    let b = one_further n in
     let gone : HasGoneOn tree a b c.args.moment _ c.pull_device-got.result =
-    session-pulled tree a _ n b c.args.moment _ c.pull_device-got.result c.self.invariant.0
+    session-pulled tree a _ n c.args.moment _ c.pull_device-got.result c.self.invariant.0
     (record { inputs = refl; states = refl; log = ap (λ l. l.items) c.in_ok-reserve.ensures.ready; pull = refl; at_moment = c.max-self-inside.ensures }) c.pull_device-got.ensures.keeps c.pull_device-got.ensures.pulls
-    (record { inputs = refl; states = refl; log = refl; pull = refl; at_moment = refl })
     in
     subst (λ s. IsPulledOnce (progress_of s) (progress tree b) c.args.moment c.pull_device-got.result) c.self.view_is gone.once
 
@@ -80,11 +77,10 @@ returns-clause-answers g c =
     let a = c.self.inside.nodes in
     let n = c.pull_device-got.new.nodes in
     let tree = c.self.inside.tree in
-    let b : Nodes = record { inputs = n.inputs; states = n.states; log = n.log; pull = n.pull + 1; moment = n.moment } in
+    let b = one_further n in
     let gone =
-    session-pulled tree a _ n b c.args.moment _ c.pull_device-got.result c.self.invariant.0
+    session-pulled tree a _ n c.args.moment _ c.pull_device-got.result c.self.invariant.0
     (record { inputs = refl; states = refl; log = ap (λ l. l.items) c.in_ok-reserve.ensures.ready; pull = refl; at_moment = c.max-self-inside.ensures }) c.pull_device-got.ensures.keeps c.pull_device-got.ensures.pulls
-    (record { inputs = refl; states = refl; log = refl; pull = refl; at_moment = refl })
     in
     subst (λ s. Answers g.Q.Ask.gives (tree_queue s.tree) c.args.q.now (newly (progress_of s) (progress tree b)) c.pull_device-got.new.q) c.self.view_is
     (subst (λ l. Answers g.Q.Ask.gives (tree_queue tree) c.args.q.now l c.pull_device-got.new.q) (sym gone.new)
