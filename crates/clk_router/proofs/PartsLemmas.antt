@@ -213,31 +213,24 @@ counts-offered events tree old new p outcome is session kept =
     record {
       tree_is = ap (λ s. s.tree) session ∙ is.tree_is;
       log = ap (λ s. s.log) session ∙ is.log ∙ sym (flat_map-append visits_in events (offered p outcome ∷ []) ∙ append-nil (log_of events));
-      kept = by_outcome outcome kept;
+      kept = counted;
     }
   where
     more : (f : Event → Option Packet) (e : Event) → length (filter_map f (events ++ e ∷ [])) ≡ length (filter_map f events) + length (cons_option (f e) [])
     more f e = ap length (filter_map-append f events (e ∷ [])) ∙ length-append (filter_map f events) (cons_option (f e) [])
 
-    by_outcome : (o : Offered) → new.kept ≡ old.kept + kept_by o → new.kept + length (filter_map evicted_in (events ++ offered p o ∷ [])) ≡ length (filter_map accepted_in (events ++ offered p o ∷ []))
-    by_outcome Accepted k =
+    kept-share : (o : Offered) → kept_by o + length (cons_option (evicted_in (offered p o)) []) ≡ length (cons_option (accepted_in (offered p o)) [])
+    kept-share Accepted = refl
+    kept-share (Refused q) = refl
+    kept-share (Evicted front) = refl
+
+    counted : new.kept + length (filter_map evicted_in (events ++ offered p outcome ∷ [])) ≡ length (filter_map accepted_in (events ++ offered p outcome ∷ []))
+    counted =
         let was = is.kept in
-        let accepted : length (filter_map accepted_in (events ++ offered p Accepted ∷ [])) ≡ length (filter_map accepted_in events) + 1 = more accepted_in (offered p Accepted) in
-        let evicted : length (filter_map evicted_in (events ++ offered p Accepted ∷ [])) ≡ length (filter_map evicted_in events) + 0 = more evicted_in (offered p Accepted) in
-        let one : new.kept ≡ old.kept + 1 = k in
-        omega (arith, was, accepted, evicted, one)
-    by_outcome (Refused q) k =
-        let was = is.kept in
-        let accepted : length (filter_map accepted_in (events ++ offered p (Refused q) ∷ [])) ≡ length (filter_map accepted_in events) + 0 = more accepted_in (offered p (Refused q)) in
-        let evicted : length (filter_map evicted_in (events ++ offered p (Refused q) ∷ [])) ≡ length (filter_map evicted_in events) + 0 = more evicted_in (offered p (Refused q)) in
-        let none : new.kept ≡ old.kept + 0 = k in
-        omega (arith, was, accepted, evicted, none)
-    by_outcome (Evicted front) k =
-        let was = is.kept in
-        let accepted : length (filter_map accepted_in (events ++ offered p (Evicted front) ∷ [])) ≡ length (filter_map accepted_in events) + 1 = more accepted_in (offered p (Evicted front)) in
-        let evicted : length (filter_map evicted_in (events ++ offered p (Evicted front) ∷ [])) ≡ length (filter_map evicted_in events) + 1 = more evicted_in (offered p (Evicted front)) in
-        let none : new.kept ≡ old.kept + 0 = k in
-        omega (arith, was, accepted, evicted, none)
+        let accepted = more accepted_in (offered p outcome) in
+        let evicted = more evicted_in (offered p outcome) in
+        let one = kept-share outcome in
+        omega (arith, was, accepted, evicted, kept, one)
 
 counts-here : (events : List Event) (tree : Option Tree) (old new : Option Device) (p : Packet) (outcome : Offered) → AreDevicesAt events tree old → CountsHere outcome old new
     → AreDevicesAt (events ++ offered p outcome ∷ []) tree new
