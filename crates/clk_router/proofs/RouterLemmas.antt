@@ -180,8 +180,8 @@ read-there : (devices : List Device) (d i : ℕ) (its read : Device) → slice_g
 read-there devices d i its read here same is = sym (is ∙ ap (λ k. get_or devices k read) same ∙ get_or_from_slice_get devices d its read here)
 
 -- A router stands where its past is told as its parts went on.
-pub Stand-made : (setup its : Setup) (past : Past) (parts : Parts) → its ≡ setup → past ≡ record { setup = its; events = [] } → Stand setup [] parts → Stand past.setup past.events parts
-Stand-made setup its past parts same told stand =
+pub Stand-made : (setup begun : Setup) (past : Past) (parts : Parts) → begun ≡ setup → past ≡ record { setup = begun; events = [] } → Stand setup [] parts → Stand past.setup past.events parts
+Stand-made setup begun past parts same told stand =
     subst (λ (h : Past). Stand h.setup h.events parts) (sym told) (subst (λ (s : Setup). Stand s [] parts) (sym same) stand)
 
 pub Stand-told : (setup : Setup) (events more : List Event) (old new : Parts) (past : Past) → Stand setup events old → past ≡ record { setup = setup; events = events ++ more } → IsAt setup (events ++ more) new → Stand past.setup past.events new
