@@ -1,6 +1,6 @@
 -- Each class of scheduler: its orders, and what its state tells from turn to turn.
-pub mod TurnStride
 pub mod Orders
+pub mod Enumerated
 pub mod Table
 pub mod Bucket
 pub mod BusyTurns

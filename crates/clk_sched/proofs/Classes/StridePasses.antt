@@ -17,8 +17,8 @@ use Rattle.clk_sched.proofs.Lists.Members.{of-all, to-all, any-in, all-weaker, i
 use Rattle.clk_sched.specs.inside.Pulling.{AreApart}
 use Rattle.clk_sched.proofs.Lists.Apart.{all-map}
 use Rattle.clk_sched.proofs.Classes.Orders.{paired_input, rising-apart, enumerated, passes-length}
-use Rattle.clk_sched.proofs.Shares.StrideShares.{enumerated-at, ordered-in}
-use Rattle.clk_sched.proofs.Lists.Rising.{up_to, put-first, IsInOrder, rising-is, rising-same, rising-length, mapped-rising}
+use Rattle.clk_sched.proofs.Classes.Enumerated.{enumerated-at}
+use Rattle.clk_sched.proofs.Lists.Rising.{up_to, put-first, IsInOrder, rising-is, rising-same, rising-length, mapped-rising, ordered-in}
 use Rattle.clk_sched.proofs.Classes.RankLemmas.{taken-least, win-least}
 
 -- a rank that is put among others, as a pair among pairs

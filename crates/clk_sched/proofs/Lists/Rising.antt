@@ -1,6 +1,7 @@
--- Pairs in rising order: the order of the putting makes no difference.
-use Rattle.std.proofs.Common.{◌≡◌, ℕ, suc, length, ◌==◌, ◌&&◌, ◌||◌, nat_lt, nat_le, if◌then◌else◌, Bool, true, false, List, [], ◌∷◌, map, refl, sym, ap, ap₂, ◌∙◌, arith}
+-- Pairs in rising order: the order of the putting makes no difference, and all that are put are there.
+use Rattle.std.proofs.Common.{◌≡◌, ℕ, suc, length, ◌==◌, ◌&&◌, ◌||◌, nat_lt, nat_le, if◌then◌else◌, Bool, true, false, List, [], ◌∷◌, map, inl, inr, refl, sym, ap, ap₂, ◌∙◌, arith}
 use Rattle.std.proofs.lemmas.Bool.Decides.{nat_tests}
+use Rattle.clk_packet.specs.Lists.{In}
 use Rattle.clk_sched.specs.Laws.Stride.{put_in_order, in_rising_order}
 
 -- whether a pair stands before another by (pass, index), or is the same
@@ -111,3 +112,40 @@ mapped-put f i (j ∷ pairs) = by_test (up_to i j) (mapped-put f i pairs)
 pub mapped-rising : (f : ℕ × ℕ → ℕ × ℕ) (pairs : List (ℕ × ℕ)) → in_rising_order (map f (in_rising_order pairs)) ≡ in_rising_order (map f pairs)
 mapped-rising f [] = refl
 mapped-rising f (i ∷ pairs) = mapped-put f i (in_rising_order pairs) ∙ ap (put_in_order (f i)) (mapped-rising f pairs)
+
+-- putting in order keeps the members
+in-put : (i x : ℕ × ℕ) (pairs : List (ℕ × ℕ)) → In x (i ∷ pairs) → In x (put_in_order i pairs)
+in-put i x [] m = m
+in-put i x (j ∷ pairs) m = by_order (nat_lt i.1 j.1 || ((i.1 == j.1) && nat_le i.0 j.0)) m (in-put i x pairs)
+  where
+    by_order : (b : Bool) → In x (i ∷ j ∷ pairs) → (In x (i ∷ pairs) → In x (put_in_order i pairs)) → In x (if b then i ∷ j ∷ pairs else j ∷ put_in_order i pairs)
+    by_order true k rest = k
+    by_order false (inl e) rest = inr (rest (inl e))
+    by_order false (inr (inl e)) rest = inl e
+    by_order false (inr (inr k)) rest = inr (rest (inr k))
+
+put-in : (i x : ℕ × ℕ) (pairs : List (ℕ × ℕ)) → In x (put_in_order i pairs) → In x (i ∷ pairs)
+put-in i x [] m = m
+put-in i x (j ∷ pairs) m = by_order (nat_lt i.1 j.1 || ((i.1 == j.1) && nat_le i.0 j.0)) (put-in i x pairs) m
+  where
+    by_order : (b : Bool) → (In x (put_in_order i pairs) → In x (i ∷ pairs)) → In x (if b then i ∷ j ∷ pairs else j ∷ put_in_order i pairs) → In x (i ∷ j ∷ pairs)
+    by_order true rest k = k
+    by_order false rest (inl e) = inr (inl e)
+    by_order false rest (inr k) = by_place (rest k)
+      where
+        by_place : In x (i ∷ pairs) → In x (i ∷ j ∷ pairs)
+        by_place (inl e) = inl e
+        by_place (inr n) = inr (inr n)
+
+pub in-ordered : (x : ℕ × ℕ) (pairs : List (ℕ × ℕ)) → In x pairs → In x (in_rising_order pairs)
+in-ordered x [] m = absurd m
+in-ordered x (i ∷ pairs) (inl e) = in-put i x (in_rising_order pairs) (inl e)
+in-ordered x (i ∷ pairs) (inr m) = in-put i x (in_rising_order pairs) (inr (in-ordered x pairs m))
+
+pub ordered-in : (x : ℕ × ℕ) (pairs : List (ℕ × ℕ)) → In x (in_rising_order pairs) → In x pairs
+ordered-in x [] m = absurd m
+ordered-in x (i ∷ pairs) m = by_place (put-in i x (in_rising_order pairs) m) (ordered-in x pairs)
+  where
+    by_place : In x (i ∷ in_rising_order pairs) → (In x (in_rising_order pairs) → In x pairs) → In x (i ∷ pairs)
+    by_place (inl e) rest = inl e
+    by_place (inr k) rest = inr (rest k)

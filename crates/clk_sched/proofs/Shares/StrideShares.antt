@@ -1,10 +1,9 @@
 -- The shares of a StrideSched.
-use Rattle.std.proofs.Common.{◌≡◌, ℕ, zero, suc, ◌+◌, ◌*◌, ◌<◌, ◌≤◌, ◌==◌, ◌&&◌, ◌||◌, nat_lt, nat_le, if◌then◌else◌, inl, inr, Bool, true, false, List, [], ◌∷◌, ◌++◌, length, map, Option, Some, None, IsSome, is_some, MatchOption, option_map, slice_get, unwrap_or, refl, sym, ap, ap₂, ◌∙◌, subst, add-mul, zero-add, arith}
+use Rattle.std.proofs.Common.{◌≡◌, ℕ, zero, suc, ◌+◌, ◌*◌, ◌<◌, ◌≤◌, ◌==◌, ◌&&◌, ◌||◌, nat_lt, nat_le, if◌then◌else◌, inl, inr, Bool, true, false, List, [], ◌∷◌, ◌++◌, length, map, Option, Some, None, IsSome, is_some, MatchOption, option_map, unwrap_or, refl, sym, ap, ◌∙◌, subst, add-mul, zero-add, arith}
 use Rattle.std.specs.List.{enumerate_from, AllByRecursion}
 use Rattle.std.proofs.lemmas.Bool.{false≢true}
 use Rattle.std.proofs.lemmas.Bool.Decides.{nat_tests}
-use Rattle.std.proofs.lemmas.Option.{slice_get-map, slice_get-get_or, unwrap_or-slice_get}
-use Rattle.std.proofs.lemmas.List.FromFn.{get_or-enumerate_from, length-enumerate_from}
+use Rattle.std.proofs.lemmas.Option.{slice_get-map}
 use Rattle.clk_packet.specs.declared.packet.Packet.{Packet}
 use Rattle.clk_sched.specs.declared.visit.Visit.{Visit}
 use Rattle.clk_sched.specs.Tree.{is_number}
@@ -12,61 +11,11 @@ use Rattle.clk_sched.specs.Turns.{Turn, EachAfter, giver, all_visits, UpToFirst,
 use Rattle.clk_sched.specs.Laws.Stride.{visits_input, passes_after, passes_of, put_in_order, in_rising_order, stride_order, pass_in, stride_at}
 use Rattle.clk_sched.specs.Service.{AlwaysGets, Near, largest_stride, packets_given, pass_at, SharesByStride}
 use Rattle.clk_packet.specs.Lists.{In}
-use Rattle.clk_sched.proofs.Lists.Members.{of-all, all-split, in-slice}
+use Rattle.clk_sched.proofs.Lists.Members.{of-all, all-split}
+use Rattle.clk_sched.proofs.Lists.Rising.{in-ordered, ordered-in}
 use Rattle.clk_sched.proofs.Runs.Allowed.{onto, onto-reverse, each-split}
 use Rattle.clk_sched.proofs.Classes.Orders.{put-all, passes-length}
-
--- inputs with their passes
-at-enumerated : (passes : List ℕ) (i : ℕ) → i < length passes → slice_get (enumerate_from 0 passes) i ≡ Some (i, pass_in passes i)
-at-enumerated passes i l =
-    slice_get-get_or (enumerate_from 0 passes) i (0, 0) (subst (λ n. i < n) (sym (length-enumerate_from 0 passes)) l)
-    ∙ ap Some (get_or-enumerate_from 0 passes i (0, 0) l ∙ ap₂ (λ j x. (j, x)) (zero-add i) (sym (unwrap_or-slice_get passes i 0)))
-
-in-enumerated : (passes : List ℕ) (i : ℕ) → i < length passes → In (i, pass_in passes i) (enumerate_from 0 passes)
-in-enumerated passes i l = in-slice (enumerate_from 0 passes) i (i, pass_in passes i) (at-enumerated passes i l)
-
--- a pair among the inputs from one on, with its place
-pub enumerated-at : (n : ℕ) (passes : List ℕ) (x : ℕ × ℕ) → In x (enumerate_from n passes) → (k : ℕ) × (n + k ≡ x.0) × (k < length passes) × (pass_in passes k ≡ x.1)
-enumerated-at n [] x m = absurd m
-enumerated-at n (p ∷ passes) x (inl e) = (0, ap (λ y. y.0) (let zero_is : n + 0 ≡ n = omega arith in ap (λ j. (j, p)) zero_is ∙ e), omega arith, ap (λ y. y.1) e)
-enumerated-at n (p ∷ passes) x (inr m) = let rest = enumerated-at (n + 1) passes x m in (suc rest.0, let e = rest.1 in omega (arith, e), let l = rest.2 in omega arith, rest.3)
-
--- putting in order keeps the members, and orders them
-in-put : (i x : ℕ × ℕ) (pairs : List (ℕ × ℕ)) → In x (i ∷ pairs) → In x (put_in_order i pairs)
-in-put i x [] m = m
-in-put i x (j ∷ pairs) m = by_order (nat_lt i.1 j.1 || ((i.1 == j.1) && nat_le i.0 j.0)) m (in-put i x pairs)
-  where
-    by_order : (b : Bool) → In x (i ∷ j ∷ pairs) → (In x (i ∷ pairs) → In x (put_in_order i pairs)) → In x (if b then i ∷ j ∷ pairs else j ∷ put_in_order i pairs)
-    by_order true k rest = k
-    by_order false (inl e) rest = inr (rest (inl e))
-    by_order false (inr (inl e)) rest = inl e
-    by_order false (inr (inr k)) rest = inr (rest (inr k))
-
-put-in : (i x : ℕ × ℕ) (pairs : List (ℕ × ℕ)) → In x (put_in_order i pairs) → In x (i ∷ pairs)
-put-in i x [] m = m
-put-in i x (j ∷ pairs) m = by_order (nat_lt i.1 j.1 || ((i.1 == j.1) && nat_le i.0 j.0)) (put-in i x pairs) m
-  where
-    by_order : (b : Bool) → (In x (put_in_order i pairs) → In x (i ∷ pairs)) → In x (if b then i ∷ j ∷ pairs else j ∷ put_in_order i pairs) → In x (i ∷ j ∷ pairs)
-    by_order true rest k = k
-    by_order false rest (inl e) = inr (inl e)
-    by_order false rest (inr k) = by_place (rest k)
-      where
-        by_place : In x (i ∷ pairs) → In x (i ∷ j ∷ pairs)
-        by_place (inl e) = inl e
-        by_place (inr n) = inr (inr n)
-
-in-ordered : (x : ℕ × ℕ) (pairs : List (ℕ × ℕ)) → In x pairs → In x (in_rising_order pairs)
-in-ordered x [] m = absurd m
-in-ordered x (i ∷ pairs) (inl e) = in-put i x (in_rising_order pairs) (inl e)
-in-ordered x (i ∷ pairs) (inr m) = in-put i x (in_rising_order pairs) (inr (in-ordered x pairs m))
-
-pub ordered-in : (x : ℕ × ℕ) (pairs : List (ℕ × ℕ)) → In x (in_rising_order pairs) → In x pairs
-ordered-in x [] m = absurd m
-ordered-in x (i ∷ pairs) m = by_place (put-in i x (in_rising_order pairs) m) (ordered-in x pairs)
-  where
-    by_place : In x (i ∷ in_rising_order pairs) → (In x (in_rising_order pairs) → In x pairs) → In x (i ∷ pairs)
-    by_place (inl e) rest = inl e
-    by_place (inr k) rest = inr (rest k)
+use Rattle.clk_sched.proofs.Classes.Enumerated.{at-enumerated, in-enumerated, enumerated-at}
 
 -- each pass is no greater than those after it
 abbrev AtLeast : ℕ → List (ℕ × ℕ) → Type 0

@@ -23,7 +23,7 @@ use Rattle.clk_sched.proofs.Turns.TurnRoundRobin.{begins, may-first, may-second,
 use Rattle.clk_sched.proofs.Nodes.Logged.{edge-there, queue-answers, keeps-logged, added-logged, asked-logged}
 use Rattle.clk_sched.proofs.Turns.LooksDrr.{answers-held, looks-held, looks-fresh}
 use Rattle.clk_sched.proofs.Turns.TurnDrr.{has-looked, making-first, making-can, making-next, making-passed, making-all, HasEnded, had-ended}
-use Rattle.clk_sched.proofs.Classes.TurnStride.{FitsAt, stride-may, had-won, had-lost}
+use Rattle.clk_sched.proofs.Turns.TurnStride.{FitsAt, stride-may, had-won, had-lost}
 use Rattle.clk_sched.proofs.Turns.ShaperRow.{below-refused, below-answered, whole-answered, answers-keep, goes-may, goes-room, goes-edges, goes-order, goes-inputs}
 use Rattle.clk_sched.specs.inside.Tokens.{GoesDown}
 use Rattle.clk_sched.specs.inside.Turning.{HasAskedAll, WasPulled}
