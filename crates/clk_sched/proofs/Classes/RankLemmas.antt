@@ -1,13 +1,14 @@
 -- The ranks of a StrideSched: how they are put in their places, and what stays true of them.
-use Rattle.std.proofs.Common.{◌≡◌, ℕ, zero, suc, ◌+◌, ◌-◌, ◌<◌, ◌≤◌, if◌then◌else◌, nat_lt, Bool, true, false, List, [], ◌∷◌, ◌++◌, length, map, take, drop, set, get_or, refl, sym, ap, ap₂, ◌∙◌, subst, append_assoc, arith, drop-cons}
-use Rattle.std.specs.List.{AllByRecursion}
+use Rattle.std.proofs.Common.{◌≡◌, ℕ, zero, suc, ◌+◌, ◌-◌, ◌<◌, ◌≤◌, if◌then◌else◌, nat_lt, Bool, true, false, List, [], ◌∷◌, ◌++◌, length, map, take, drop, set, get_or, slice_get, Some, refl, sym, ap, ap₂, ◌∙◌, subst, append_assoc, arith, drop-cons}
+use Rattle.std.specs.List.{AllByRecursion, range_with_len}
 use Rattle.std.proofs.lemmas.Bool.Decides.{nat_tests}
 use Rattle.std.proofs.Math.Seq.{paste, set_at, length_paste_head, take-suc}
 use Rattle.std.proofs.Math.ListN.{drop_of_length-le}
-use Rattle.std.proofs.lemmas.List.{drop-drop, length-drop, set_split, take_all}
+use Rattle.std.proofs.lemmas.List.{drop-drop, drop-map, length-append, length-drop, length-take-le, set_split, take_all}
+use Rattle.std.proofs.lemmas.Option.{slice_get_within, get_or_from_slice_get}
 use Rattle.clk_sched.specs.declared.session.stride.Rank.{Rank}
 use Rattle.clk_sched.specs.declared.session.stride.TheConstants.{FAR}
-use Rattle.clk_sched.specs.inside.Ranks.{greatest_stride, IsRankOf, HasRisingPasses, is_up_to, put_rank, at_pass, after_win, first_pass, taken_from, less}
+use Rattle.clk_sched.specs.inside.Ranks.{greatest_stride, IsRankOf, HasRisingPasses, is_up_to, put_rank, at_pass, after_win, first_pass, taken_from, less, inputs_in}
 use Rattle.clk_sched.proofs.Lists.Members.{all-weaker}
 use Rattle.clk_sched.proofs.Lists.Apart.{all-map}
 
@@ -59,9 +60,54 @@ pub put-first : (r : Rank) (row : List Rank) (from : ℕ) → from < length row 
 put-first r row from l first =
     set_split row from r l ∙ ap (λ k. take from row ++ r ∷ drop k row) (let same : suc from ≡ from + 1 = omega arith in same) ∙ ap (λ xs. take from row ++ xs) (sym first)
 
+-- the row from a place on, where it is known what stands there
+from-rank : (row : List Rank) (n : ℕ) (r : Rank) → slice_get row n ≡ Some r → drop n row ≡ r ∷ drop (suc n) row
+from-rank row n r e = from-place row n r r (slice_get_within row n r e) (sym (get_or_from_slice_get row n r r e))
+
+-- A rank stays in its place, since it stands before the next.
+pub put-next : (r next : Rank) (row : List Rank) (from : ℕ) → slice_get row (from + 1) ≡ Some next → is_up_to r next ≡ true → set row from r ≡ take from row ++ put_rank r (drop (from + 1) row)
+put-next r next row from e test =
+    let after = from-rank row (from + 1) next e in
+    put-first r row from (let l = slice_get_within row (from + 1) next e in omega (arith, l)) (ap (put_rank r) after ∙ put-here r next (drop (suc (from + 1)) row) test ∙ ap (λ x. r ∷ x) (sym after))
+
+put-some : (r : Rank) (others : List Rank) → 0 < length (put_rank r others)
+put-some r [] = omega arith
+put-some r (other ∷ others) = by_test (is_up_to r other)
+  where
+    by_test : (b : Bool) → 0 < length (if b then r ∷ other ∷ others else other ∷ put_rank r others)
+    by_test true = omega arith
+    by_test false = omega arith
+
+-- Something stands at the place then.
+pub put-there : (r : Rank) (row now : List Rank) (from : ℕ) → from < length row → now ≡ take from row ++ put_rank r (drop (from + 1) row) → from < length now
+put-there r row now from l is =
+    let all = ap length is ∙ length-append (take from row) (put_rank r (drop (from + 1) row)) in
+    let front = length-take-le from row (omega arith) in
+    let some = put-some r (drop (from + 1) row) in
+    omega (arith, all, front, some)
+
+-- One more input follows those that follow one another.
+pub follow-next : (row : List Rank) (first k : ℕ) (d : Rank) → k < length row → (get_or row k d).input ≡ first + k → take k (inputs_in row) ≡ range_with_len first k → take (suc k) (inputs_in row) ≡ range_with_len first (suc k)
+follow-next [] first k d l e h = absurd (omega arith)
+follow-next (r ∷ row) first zero d l e h = let same : r.input ≡ first = omega (arith, e) in ap (λ i. i ∷ []) same
+follow-next (r ∷ row) first (suc k) d l e h =
+    ap₂ (λ i l. i ∷ l) (ap (λ l. get_or l 0 r.input) h) (follow-next row (first + 1) k d (omega arith) (let same : (get_or row k d).input ≡ first + 1 + k = omega (arith, e) in same) (ap (drop 1) h))
+
 -- what stands after a place, as a slice has it
 pub after-place : (row : List Rank) (n : ℕ) → take (length row - n) (drop n row) ≡ drop n row
 after-place row n = take_all (length row - n) (drop n row) (let l = length-drop n row in omega (arith, l))
+
+pub inputs-after : (row : List Rank) (n : ℕ) → inputs_in (take (length row - n) (drop n row)) ≡ drop n (inputs_in row)
+inputs-after row n = ap inputs_in (after-place row n) ∙ sym (drop-map (λ (r : Rank). r.input) n row)
+
+-- The winner is put in its place.
+pub win-first : (pass stride place : ℕ) (row now : List Rank) (d : Rank) → place < length row → now ≡ take place row ++ put_rank (at_pass (pass + stride) (get_or row place d)) (drop (place + 1) row)
+    → now ≡ take place row ++ after_win pass stride (place - place) (drop place row)
+win-first pass stride place row now d l is =
+    let none : place - place ≡ 0 = omega arith in
+    let next : suc place ≡ place + 1 = omega arith in
+    is ∙ ap (λ n. take place row ++ put_rank (at_pass (pass + stride) (get_or row place d)) (drop n row)) (sym next) ∙ ap (λ xs. take place row ++ after_win pass stride 0 xs) (sym (drop-cons row place d l))
+    ∙ ap (λ k. take place row ++ after_win pass stride k (drop place row)) (sym none)
 
 -- of those before the winner, one more is put in its place
 win-step : (pass stride idle k : ℕ) (row : List Rank) (d r : Rank) → idle < length row → r ≡ get_or (take (suc idle) row ++ after_win pass stride k (drop (suc idle) row)) idle d

@@ -1,5 +1,5 @@
 -- Numbers in a row.
-use Rattle.std.proofs.Common.{◌≡◌, ℕ, zero, suc, ◌+◌, ◌≤◌, ◌∷◌, ◌++◌, take, refl, sym, ap, ◌∙◌, arith}
+use Rattle.std.proofs.Common.{◌≡◌, ℕ, zero, suc, ◌+◌, ◌-◌, ◌≤◌, ◌∷◌, ◌++◌, take, drop, refl, sym, ap, ap₂, ◌∙◌, arith}
 use Rattle.std.specs.List.{range_with_len}
 
 pub range-append : (a m n : ℕ) → range_with_len a (m + n) ≡ range_with_len a m ++ range_with_len (a + m) n
@@ -13,3 +13,9 @@ pub range-front : (a n k : ℕ) → k ≤ n → take k (range_with_len a n) ≡ 
 range-front a n zero l = refl
 range-front a zero (suc k) l = absurd (omega arith)
 range-front a (suc n) (suc k) l = ap (λ xs. a ∷ xs) (range-front (a + 1) n k (omega arith))
+
+-- numbers in a row, without those at the front
+pub range-drop : (a n k : ℕ) → k ≤ n → drop k (range_with_len a n) ≡ range_with_len (a + k) (n - k)
+range-drop a n zero l = ap₂ range_with_len (let here : a ≡ a + 0 = omega arith in here) (let all : n ≡ n - 0 = omega arith in all)
+range-drop a zero (suc k) l = absurd (omega arith)
+range-drop a (suc n) (suc k) l = range-drop (a + 1) n k (omega arith) ∙ ap₂ range_with_len (let here : a + 1 + k ≡ a + suc k = omega arith in here) (let rest : n - k ≡ suc n - suc k = omega arith in rest)

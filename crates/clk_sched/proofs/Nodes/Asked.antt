@@ -12,7 +12,8 @@ use Rattle.clk_sched.specs.declared.session.inputs.Inputs.{Inputs}
 use Rattle.clk_sched.specs.declared.session.stride.Rank.{Rank}
 use Rattle.clk_sched.specs.Tree.{Row, nodes}
 use Rattle.clk_sched.specs.inside.Places.{inputs_of, StandsIn, AreWired, IsAfter, edges_of, edges_at, option_edges_to, input_at, option_input, queue_of, queue_asked}
-use Rattle.clk_sched.specs.inside.Pulling.{Pulls, Asks, HasPulled, IsPulling, added, now_of, after, inputs_in}
+use Rattle.clk_sched.specs.inside.Pulling.{Pulls, Asks, HasPulled, IsPulling, added, now_of, after}
+use Rattle.clk_sched.specs.inside.Ranks.{inputs_in}
 use Rattle.clk_sched.proofs.Lists.Members.{of-all, in-slice, some-below}
 use Rattle.clk_sched.proofs.Trees.Below.{LiesAt, lies-within}
 use Rattle.clk_sched.proofs.Nodes.Below.{IsChildAt, child-at, queue-at}

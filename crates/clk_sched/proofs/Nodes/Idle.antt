@@ -1,15 +1,18 @@
 -- Inputs of a node that are passed over, since they are queues that have nothing.
-use Rattle.std.proofs.Common.{◌≡◌, ℕ, zero, suc, ◌+◌, ◌-◌, ◌<◌, ◌≤◌, List, ◌++◌, take, Option, Some, None, IsSome, refl, sym, ap, ◌∙◌, subst, arith}
+use Rattle.std.proofs.Common.{◌≡◌, ℕ, zero, suc, ◌+◌, ◌-◌, ◌<◌, ◌≤◌, List, [], ◌∷◌, ◌++◌, take, drop, slice_get, Option, Some, None, IsSome, refl, sym, ap, ◌∙◌, subst, arith}
+use Rattle.std.proofs.lemmas.Bool.{false≢true}
+use Rattle.std.proofs.lemmas.List.{take-append-drop}
+use Rattle.clk_packet.specs.Limits.{most_inputs}
 use Rattle.std.specs.List.{AllByRecursion, range_with_len}
 use Rattle.clk_packet.specs.declared.packet.Packet.{Packet}
 use Rattle.clk_sched.specs.declared.session.inputs.Input.TheVariants.{Queue}
 use Rattle.clk_sched.specs.declared.session.inputs.Inputs.{Inputs}
 use Rattle.clk_sched.specs.declared.session.nodes.Nodes.{Nodes}
-use Rattle.clk_sched.specs.inside.Places.{AllFit, edges_in, input_at}
+use Rattle.clk_sched.specs.inside.Places.{AllFit, AreWired, edges_in, input_at, option_input}
 use Rattle.clk_sched.specs.inside.Pulling.{CanPull, Keeps}
 use Rattle.clk_sched.specs.inside.Turning.{HasAskedAll, IsIdle}
-use Rattle.clk_sched.proofs.Lists.Members.{all-split}
-use Rattle.clk_sched.proofs.Lists.Ranges.{range-append, range-front}
+use Rattle.clk_sched.proofs.Lists.Members.{all-split, some-below}
+use Rattle.clk_sched.proofs.Lists.Ranges.{range-front, range-drop}
 use Rattle.clk_sched.proofs.Nodes.Asking.{IsAsking, asked-vain, can-go_on, edges-append}
 use Rattle.clk_sched.proofs.Nodes.InTwo.{asked-both}
 
@@ -26,39 +29,91 @@ idle-then gives a b q x i m h idle = (
   record { leaf = idle.leaf; stands = subst (λ t. input_at t x i ≡ Some (Queue idle.leaf)) (sym h.inputs) idle.stands; gives_none = idle.gives_none },
 )
 
--- After some inputs that gave nothing, those that are left can be passed over.
-pub rest-can : {S : Type 0} (gives : S → ℕ → Option Packet → S → Type 0) (a b : Nodes) (p q : S) (x first count k : ℕ) → k ≤ count → CanPull a x (edges_in a.inputs.items x (range_with_len first count))
-    → AllByRecursion (λ i. IsSome (input_at a.inputs.items x i)) (range_with_len first count) → IsAsking gives a b p q x (take k (range_with_len first count))
-    → CanPull b x (edges_in b.inputs.items x (range_with_len (first + k) (count - k))) × AllByRecursion (λ i. IsSome (input_at b.inputs.items x i)) (range_with_len (first + k) (count - k))
-rest-can gives a b p q x first count k l can within h = (
-  subst (λ t. CanPull b x (edges_in t x rest)) (sym h.keeps.inputs)
-      (can-go_on a b x (edges_in a.inputs.items x (take k order)) (edges_in a.inputs.items x rest)
-      (record { wired = can.wired; fit = can.fit; there = can.there; room = (let r = can.room in omega (arith, edges, same)); moment = can.moment }) h.keeps),
-  subst (λ t. AllByRecursion (λ i. IsSome (input_at t x i)) rest) (sym h.keeps.inputs) (all-split (λ i. IsSome (input_at a.inputs.items x i)) (take k order) rest (subst (AllByRecursion (λ i. IsSome (input_at a.inputs.items x i))) (sym whole) within)).1,
-)
+-- the front of an order, in two parts
+take-both : (k n : ℕ) (order : List ℕ) → take (k + n) order ≡ take k order ++ take n (drop k order)
+take-both zero n order = let same : 0 + n ≡ n = omega arith in ap (λ m. take m order) same
+take-both (suc k) n [] = ap (λ m. take m nothing) (let same : suc k + n ≡ suc (k + n) = omega arith in same) ∙ sym (take-nothing n)
   where
-    order : List ℕ
-    order = range_with_len first count
+    nothing : List ℕ
+    nothing = []
 
-    rest : List ℕ
-    rest = range_with_len (first + k) (count - k)
+    take-nothing : (m : ℕ) → take m nothing ≡ nothing
+    take-nothing zero = refl
+    take-nothing (suc m) = refl
 
-    whole : take k order ++ rest ≡ order
-    whole = ap (λ front. front ++ rest) (range-front first count k l) ∙ sym (range-append first k (count - k)) ∙ (let all : k + (count - k) ≡ count = omega arith in ap (range_with_len first) all)
+take-both (suc k) n (i ∷ order) = ap (λ m. take m (i ∷ order)) (let same : suc k + n ≡ suc (k + n) = omega arith in same) ∙ ap (λ l. i ∷ l) (take-both k n order)
 
-    edges : edges_in a.inputs.items x (take k order ++ rest) ≡ edges_in a.inputs.items x (take k order) + edges_in a.inputs.items x rest
-    edges = edges-append a.inputs.items x (take k order) rest
-
-    same : edges_in a.inputs.items x (take k order ++ rest) ≡ edges_in a.inputs.items x order
-    same = ap (edges_in a.inputs.items x) whole
+-- After some inputs that gave nothing, those that are left can be passed over.
+pub rest-can : {S : Type 0} (gives : S → ℕ → Option Packet → S → Type 0) (a b : Nodes) (p q : S) (x k : ℕ) (order : List ℕ) → CanPull a x (edges_in a.inputs.items x order) → AllByRecursion (λ i. IsSome (input_at a.inputs.items x i)) order
+    → IsAsking gives a b p q x (take k order) → CanPull b x (edges_in b.inputs.items x (drop k order)) × AllByRecursion (λ i. IsSome (input_at b.inputs.items x i)) (drop k order)
+rest-can gives a b p q x k order can within h =
+    let whole = take-append-drop k order in
+    let edges = edges-append a.inputs.items x (take k order) (drop k order) in
+    let same = ap (edges_in a.inputs.items x) whole in (
+      subst (λ t. CanPull b x (edges_in t x (drop k order))) (sym h.keeps.inputs)
+          (can-go_on a b x (edges_in a.inputs.items x (take k order)) (edges_in a.inputs.items x (drop k order))
+          (record { wired = can.wired; fit = can.fit; there = can.there; room = (let r = can.room in omega (arith, edges, same)); moment = can.moment }) h.keeps),
+      subst (λ t. AllByRecursion (λ i. IsSome (input_at t x i)) (drop k order)) (sym h.keeps.inputs)
+          (all-split (λ i. IsSome (input_at a.inputs.items x i)) (take k order) (drop k order) (subst (AllByRecursion (λ i. IsSome (input_at a.inputs.items x i))) (sym whole) within)).1,
+    )
 
 -- They were passed over.
-pub asking-past : {S : Type 0} (gives : S → ℕ → Option Packet → S → Type 0) (a b c : Nodes) (p q : S) (x first count k n : ℕ) → k + n ≤ count → IsAsking gives a b p q x (take k (range_with_len first count))
+pub asking-past : {S : Type 0} (gives : S → ℕ → Option Packet → S → Type 0) (a b c : Nodes) (p q : S) (x k n : ℕ) (order : List ℕ) → IsAsking gives a b p q x (take k order) → HasAskedAll gives b c q q x (take n (drop k order)) None
+    → IsAsking gives a c p q x (take (k + n) order)
+asking-past gives a b c p q x k n order h passed =
+    subst (IsAsking gives a c p q x) (sym (take-both k n order))
+    (asked-vain gives a c p q x (take k order ++ take n (drop k order)) None refl (asked-both gives a b c p q q x (take k order) (take n (drop k order)) None h passed))
+
+-- the same of inputs whose numbers follow one another
+pub turn-can : {S : Type 0} (gives : S → ℕ → Option Packet → S → Type 0) (a b : Nodes) (p q : S) (x first count k : ℕ) → k ≤ count → CanPull a x (edges_in a.inputs.items x (range_with_len first count))
+    → AllByRecursion (λ i. IsSome (input_at a.inputs.items x i)) (range_with_len first count) → IsAsking gives a b p q x (take k (range_with_len first count))
+    → CanPull b x (edges_in b.inputs.items x (range_with_len (first + k) (count - k))) × AllByRecursion (λ i. IsSome (input_at b.inputs.items x i)) (range_with_len (first + k) (count - k))
+turn-can gives a b p q x first count k l can within h =
+    subst (λ rest. CanPull b x (edges_in b.inputs.items x rest) × AllByRecursion (λ i. IsSome (input_at b.inputs.items x i)) rest) (range-drop first count k l) (rest-can gives a b p q x k (range_with_len first count) can within h)
+
+pub turn-past : {S : Type 0} (gives : S → ℕ → Option Packet → S → Type 0) (a b c : Nodes) (p q : S) (x first count k n : ℕ) → k + n ≤ count → IsAsking gives a b p q x (take k (range_with_len first count))
     → HasAskedAll gives b c q q x (range_with_len (first + k) n) None → IsAsking gives a c p q x (take (k + n) (range_with_len first count))
-asking-past gives a b c p q x first count k n l h passed =
-    let front = range-front first count k (omega arith) in
-    let both = asked-both gives a b c p q q x (range_with_len first k) (range_with_len (first + k) n) None (subst (IsAsking gives a b p q x) front h) passed in
-    subst (IsAsking gives a c p q x) (sym (range-append first k n) ∙ sym (range-front first count (k + n) l)) (asked-vain gives a c p q x (range_with_len first k ++ range_with_len (first + k) n) None refl both)
+turn-past gives a b c p q x first count k n l h passed =
+    let rest = ap (take n) (range-drop first count k (omega arith)) ∙ range-front (first + k) (count - k) n (omega arith) in
+    asking-past gives a b c p q x k n (range_with_len first count) h (subst (λ front. HasAskedAll gives b c q q x front None) (sym rest) passed)
+
+-- Inputs that are there, whose numbers follow one another, are no more than a node may have.
+there-few : (table : List Inputs) (x first n : ℕ) → AreWired table → AllByRecursion (λ i. IsSome (input_at table x i)) (range_with_len first n) → 0 < n → first + n ≤ most_inputs
+there-few table x first n wired h some =
+    let last = n - 1 in
+    by_place (slice_get table x) refl (there-at table x first n h last (omega arith))
+  where
+    by_place : (o : Option Inputs) → slice_get table x ≡ o → IsSome (option_input o (first + (n - 1))) → first + n ≤ most_inputs
+    by_place None e k = absurd (false≢true k)
+    by_place (Some p) e k = let below = some-below p.each.items (first + (n - 1)) k in let few = (wired x p e).few in omega (arith, below, few)
+
+-- What is wanted for passing over the first of an order, as far as these follow one another.
+pub row-can : (a : Nodes) (x first n : ℕ) (order : List ℕ) → CanPull a x (edges_in a.inputs.items x order) → AllByRecursion (λ i. IsSome (input_at a.inputs.items x i)) order → 0 < n → take n order ≡ range_with_len first n
+    → CanPull a x (edges_in a.inputs.items x (range_with_len first n)) × AllByRecursion (λ i. IsSome (input_at a.inputs.items x i)) (range_with_len first n) × (first + n ≤ most_inputs)
+row-can a x first n order can within some follow = (
+  subst (λ row. CanPull a x (edges_in a.inputs.items x row)) follow (record { wired = can.wired; fit = can.fit; there = can.there; room = (let r = can.room in omega (arith, edges, same)); moment = can.moment }),
+  there,
+  there-few a.inputs.items x first n can.wired there some,
+)
+  where
+    edges : edges_in a.inputs.items x (take n order ++ drop n order) ≡ edges_in a.inputs.items x (take n order) + edges_in a.inputs.items x (drop n order)
+    edges = edges-append a.inputs.items x (take n order) (drop n order)
+
+    same : edges_in a.inputs.items x (take n order ++ drop n order) ≡ edges_in a.inputs.items x order
+    same = ap (edges_in a.inputs.items x) (take-append-drop n order)
+
+    there : AllByRecursion (λ i. IsSome (input_at a.inputs.items x i)) (range_with_len first n)
+    there = subst (AllByRecursion (λ i. IsSome (input_at a.inputs.items x i))) follow (all-split (λ i. IsSome (input_at a.inputs.items x i)) (take n order) (drop n order) (subst (AllByRecursion (λ i. IsSome (input_at a.inputs.items x i))) (sym (take-append-drop n order)) within)).0
+
+-- Some of these were passed over.
+pub row-past : (first n k : ℕ) (order : List ℕ) → k ≤ n → take n order ≡ range_with_len first n → take k order ≡ range_with_len first k
+row-past first n k order l follow = front n k order l ∙ ap (take k) follow ∙ range-front first n k l
+  where
+    front : (n k : ℕ) (order : List ℕ) → k ≤ n → take k order ≡ take k (take n order)
+    front n zero order l = refl
+    front zero (suc k) order l = absurd (omega arith)
+    front (suc n) (suc k) [] l = refl
+    front (suc n) (suc k) (i ∷ order) l = ap (λ xs. i ∷ xs) (front n k order (omega arith))
 
 -- Those at the front were asked, and nothing else is.
 pub asking-front : {S : Type 0} (gives : S → ℕ → Option Packet → S → Type 0) (a b : Nodes) (p q : S) (x first count k n : ℕ) → k ≡ n → n ≤ count → IsAsking gives a b p q x (take k (range_with_len first count))

@@ -17,7 +17,8 @@ use Rattle.clk_sched.specs.Turns.{Turn, AsksInOrder, giver}
 use Rattle.clk_sched.specs.inside.Holds.OfClass.{FitsPasses}
 use Rattle.clk_sched.specs.inside.Holds.Stride.{HoldsPasses}
 use Rattle.clk_sched.specs.inside.Places.{edges_of, edges_in, input_at}
-use Rattle.clk_sched.specs.inside.Pulling.{Now, CanPull, AsksAll, TakesTurn, now_of, as_turn, with_turn, inputs_in, asked_in_order}
+use Rattle.clk_sched.specs.inside.Pulling.{Now, CanPull, AsksAll, TakesTurn, now_of, as_turn, with_turn, asked_in_order}
+use Rattle.clk_sched.specs.inside.Ranks.{inputs_in}
 use Rattle.clk_sched.specs.inside.Turning.{HasAskedAll, HadTurn}
 use Rattle.clk_sched.proofs.Classes.Orders.{IsOrderOf, stride-order}
 use Rattle.clk_sched.proofs.Classes.StridePasses.{order-is, passes-none}

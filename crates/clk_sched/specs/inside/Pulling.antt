@@ -5,7 +5,6 @@ use Rattle.clk_packet.specs.declared.packet.Packet.{Packet}
 use Rattle.clk_sched.specs.declared.visit.Visit.{Visit}
 use Rattle.clk_sched.specs.declared.session.state.State.{State}
 use Rattle.clk_sched.specs.declared.session.nodes.Nodes.{Nodes}
-use Rattle.clk_sched.specs.declared.session.stride.Rank.{Rank}
 use Rattle.clk_sched.specs.Limits.{end_of_moments}
 use Rattle.clk_sched.specs.Tree.{Class, Row, end, leaf, node, nodes, width}
 use Rattle.clk_sched.specs.Turns.{Turn}
@@ -178,10 +177,6 @@ abbrev pub AsksAll : Nodes → Nodes → ℕ → List ℕ → List Visit → Typ
 AsksAll old new x order more =
     (row : Row) (history : History) (visits own : List Visit) → IsGoing old history x row visits own → AllByRecursion (IsUnasked own) order → AreApart (λ (i : ℕ). i) order
     → GoesOnBy old new history x row visits own more
-
--- the inputs of ranks
-abbrev pub inputs_in : List Rank → List ℕ
-inputs_in ranks = map (λ (r : Rank). r.input) ranks
 
 -- the visits that ask these inputs in order and get none
 abbrev pub asked_in_vain : Now → ℕ → List ℕ → List Visit

@@ -1,5 +1,5 @@
 -- The ranks of a StrideSched's inputs, and what a pull does to them.
-use Rattle.std.specs.Prelude.{ℕ, zero, suc, ◌+◌, ◌-◌, ◌<◌, ◌≤◌, ◌==◌, ◌&&◌, ◌||◌, Bool, nat_lt, nat_le, List, [], ◌∷◌, ⊤, if◌then◌else◌}
+use Rattle.std.specs.Prelude.{ℕ, zero, suc, ◌+◌, ◌-◌, ◌<◌, ◌≤◌, ◌==◌, ◌&&◌, ◌||◌, Bool, nat_lt, nat_le, List, [], ◌∷◌, map, ⊤, if◌then◌else◌}
 use Rattle.std.specs.List.{AllByRecursion, AllByRecursion-prop}
 use Rattle.std.specs.Coded.{×_prop, Unit-prop, le_prop}
 use Rattle.clk_sched.specs.declared.session.stride.Rank.{Rank}
@@ -16,6 +16,10 @@ greatest_stride = 65536
 -- a rank of one of so many inputs, where this is the least pass of all
 abbrev pub IsRankOf : ℕ → ℕ → Rank → Type 0
 IsRankOf inputs least r = (r.input < inputs) × (r.pass ≤ least + greatest_stride)
+
+-- the inputs of ranks
+abbrev pub inputs_in : List Rank → List ℕ
+inputs_in ranks = map (λ (r : Rank). r.input) ranks
 
 -- no pass is above one after it
 abbrev pub HasRisingPasses : List Rank → Type 0

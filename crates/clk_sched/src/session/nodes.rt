@@ -8,7 +8,7 @@ use crate::session::prio::pull_prio;
 use crate::session::round_robin::Beginning;
 use crate::session::shaper::Bucket;
 use crate::session::state::State;
-use crate::session::stride::{Passes, Rank};
+use crate::session::stride::{Passes, Rank, following};
 use crate::visit::Visit;
 use clk_packet::Packet;
 use std::mem::{forget, replace};
@@ -32,7 +32,7 @@ pub struct Nodes {
 }
 
 impl Nodes {
-    ghost use Rattle.std.specs.Prelude.{◌≡◌, ℕ, None, ◌-◌, ◌<◌, ◌++◌, ◌∷◌, [], ◌+◌, ◌≤◌, length, IsSome, IfSome, Some, slice_get, true};
+    ghost use Rattle.std.specs.Prelude.{◌≡◌, ℕ, None, ◌-◌, ◌<◌, ◌++◌, ◌∷◌, [], ◌+◌, ◌≤◌, length, take, IsSome, IfSome, Some, slice_get, true};
     ghost use Rattle.std.specs.List.{AllByRecursion, range_with_len};
     ghost use Rattle.clk_packet.specs.Limits.{most_inputs};
     ghost use Rattle.clk_sched.specs.declared.visit.Visit.{Visit};
@@ -41,7 +41,8 @@ impl Nodes {
     ghost use Rattle.clk_sched.specs.inside.Places.{edges_of, edges_at, edges_in, input_at, queue_asked};
     ghost use Rattle.clk_sched.specs.Log.{asking};
     ghost use Rattle.clk_sched.specs.inside.Looking.{Logs};
-    ghost use Rattle.clk_sched.specs.inside.Pulling.{CanPull, Keeps, Asks, added, inputs_in};
+    ghost use Rattle.clk_sched.specs.inside.Pulling.{CanPull, Keeps, Asks, added};
+    ghost use Rattle.clk_sched.specs.inside.Ranks.{inputs_in};
     ghost use Rattle.clk_sched.specs.inside.Turning.{with_state, HasAsked, HasAskedAll, IsIdle, WasPulled};
 
     /// Pulls a node, as its class does, and answers its result.
@@ -94,12 +95,31 @@ impl Nodes {
         ensures place { IfSome result (λ r. r.0 < length order.now) }
         ensures asked { HasAskedAll Q.gives self.old self.new q.old q.new node (inputs_in order.now) result }
     {
-        for place in 0..order.len() {
+        let mut place = 0;
+        while place < order.len() {
             if let Some(packet) = self.look(q, node, order[place].input) {
                 return Some((place, packet));
             }
+            place += 1;
+            place += self.pass_idle_of(q, node, &order[place..]);
         }
         None
+    }
+
+    /// Passes over the first of these inputs of a node, as far as their numbers follow one another and they are queues of which it is known
+    /// that they have nothing: each visit is recorded. It answers how many these are, and 0 where they are so few that they are sooner asked.
+    #[inline]
+    fn pass_idle_of<Q: Ask>(&mut self, q: &Q, node: u16, order: &[Rank]) -> usize
+        requires can_pull { CanPull self.old node (edges_in self.old.inputs.items node (inputs_in order.now)) }
+        requires within { AllByRecursion (λ i. IsSome (input_at self.old.inputs.items node i)) (inputs_in order.now) }
+        ensures within { result ≤ length order.now }
+        ensures asked { HasAskedAll Q.gives self.old self.new q.now q.now node (take result (inputs_in order.now)) None }
+    {
+        if order.len() < usize::from(MANY) {
+            return 0;
+        }
+        let (first, count) = following(order);
+        usize::from(self.pass_idle(q, node, first, count as u16))
     }
 
     /// Asks so many inputs of a node from the first on until one gives a packet, and answers its place and the packet.

@@ -1,11 +1,11 @@
 //! The passes of a StrideSched.
 
-ghost use Rattle.std.specs.Prelude.{◌≡◌, ◌≤◌, ◌<◌, ◌+◌, ◌^◌, ◌++◌, ◌∷◌, true, take, drop, length, map, IfOk};
+ghost use Rattle.std.specs.Prelude.{◌≡◌, ◌≤◌, ◌<◌, ◌+◌, ◌^◌, ◌++◌, ◌∷◌, true, take, drop, length, map, slice_get, Some, IfOk};
 ghost use Rattle.std.specs.List.{All, AllByRecursion, range_with_len};
 ghost use Rattle.clk_packet.specs.Limits.{most_inputs, most_tickets};
 ghost use Rattle.clk_sched.specs.Laws.Stride.{stride_of};
 ghost use Rattle.clk_sched.specs.declared.session.stride.TheConstants.{FAR};
-ghost use Rattle.clk_sched.specs.inside.Ranks.{greatest_stride, IsRankOf, HasRisingPasses, HasRisingPasses-prop, is_up_to, put_rank, after_win, first_pass, taken_from, first_rank, less};
+ghost use Rattle.clk_sched.specs.inside.Ranks.{greatest_stride, IsRankOf, HasRisingPasses, HasRisingPasses-prop, is_up_to, put_rank, after_win, first_pass, taken_from, first_rank, less, inputs_in};
 
 use crate::ask::Ask;
 use crate::session::nodes::Nodes;
@@ -140,6 +140,23 @@ impl Passes {
     }
 }
 
+/// The input of the first of these ranks, and how many of them, it and those right after it, have inputs that follow one another.
+#[inline]
+pub fn following(ranks: &[Rank]) -> (u16, usize)
+    requires { 0 < length ranks.now }
+    ensures some { 0 < result.1 }
+    ensures within { result.1 ≤ length ranks.now }
+    ensures follow { take result.1 (inputs_in ranks.now) ≡ range_with_len result.0 result.1 }
+{
+    let first = ranks[0].input;
+    for place in 1..ranks.len() {
+        if usize::from(ranks[place].input) != usize::from(first) + place {
+            return (first, place);
+        }
+    }
+    (first, ranks.len())
+}
+
 /// So many inputs, with a pass of 0 each.
 fn first_row(alloc: Global, inputs: u16) -> Result<SmallVec<Rank, 2>, AllocError>
     ensures { IfOk result (λ row. row.items ≡ map first_rank (range_with_len 0 inputs)) }
@@ -176,12 +193,13 @@ fn place_visited(row: &mut [Rank], place: usize, pass: u32, stride: u32)
         input: row[place].input,
     };
     put(row, place, winner);
+    let mut next = row[place];
     for idle in (0..place).rev() {
         let rank = Rank {
             pass,
             input: row[idle].input,
         };
-        put(row, idle, rank);
+        next = put_before(row, idle, rank, next);
     }
 }
 
@@ -197,6 +215,22 @@ fn put(row: &mut [Rank], from: usize, rank: Rank)
     } else {
         put_behind(row, from, rank);
     }
+}
+
+/// The same as `put` where this other rank stands after the place. Gives the one that stands at the place then.
+// The other is handed in: a processor waits for a rank that was just written and is read.
+#[inline]
+fn put_before(row: &mut [Rank], from: usize, rank: Rank, next: Rank) -> Rank
+    requires { slice_get row.old (from + 1) ≡ Some next }
+    ensures put { row.new ≡ take from row.old ++ put_rank rank (drop (from + 1) row.old) }
+    ensures first { slice_get row.new from ≡ Some result }
+{
+    if rank.is_up_to(&next) {
+        row[from] = rank;
+        return rank;
+    }
+    put_behind(row, from, rank);
+    row[from]
 }
 
 /// Whether this rank stands before all of these, which are in order.

@@ -1,7 +1,7 @@
-use Rattle.std.proofs.Common.{IfSome, slice_get, ◌≡◌, ◌+◌, ◌<◌, ◌≤◌, true, false, true≢false, ◌∷◌, [], length, Some, None, refl, sym, ap, ap₂, ◌∙◌, subst, arith}
+use Rattle.std.proofs.Common.{IfSome, slice_get, ◌≡◌, ◌+◌, ◌<◌, ◌≤◌, true, false, true≢false, ◌∷◌, [], length, take, Some, None, IsSome, refl, sym, ap, ap₂, ◌∙◌, subst, arith}
 use Rattle.std.specs.Global.{Box}
-use Rattle.std.specs.List.{range_with_len}
-use Rattle.std.proofs.lemmas.List.{length-map}
+use Rattle.std.specs.List.{AllByRecursion, range_with_len}
+use Rattle.std.proofs.lemmas.List.{length-drop, length-map}
 use Rattle.std.proofs.lemmas.List.FromFn.{length-range_with_len, get_or-range_with_len}
 use Rattle.clk_sched.specs.declared.session.drr.Deficits.{Deficits}
 use Rattle.clk_sched.specs.declared.session.stride.Passes.{Passes}
@@ -11,12 +11,14 @@ use Rattle.clk_sched.specs.declared.session.nodes.Nodes.{Nodes}
 use Rattle.clk_sched.specs.declared.session.inputs.Input.TheVariants.{Queue, Scheduler}
 use Rattle.clk_sched.specs.declared.session.state.State.TheVariants.{RoundRobin, Drr, Stride}
 use Rattle.clk_sched.specs.Places.{Answers, at_queue}
-use Rattle.clk_sched.specs.inside.Places.{input_at, queue_asked}
-use Rattle.clk_sched.specs.inside.Pulling.{added, inputs_in}
+use Rattle.clk_sched.specs.inside.Places.{edges_in, input_at, queue_asked}
+use Rattle.clk_sched.specs.inside.Pulling.{CanPull, added}
+use Rattle.clk_sched.specs.inside.Ranks.{inputs_in}
 use Rattle.clk_sched.specs.inside.Looking.{looking}
 use Rattle.clk_sched.proofs.Nodes.Asking.{keeps-none, keeps-more, answers-then, asking-first, asking-ready, asking-given, asking-next, asking-all}
 use Rattle.clk_sched.proofs.Nodes.Asked.{entry, rank_at, entry-input, input-is, edges-scheduler, queue-visited, asks-queue, asks-child}
-use Rattle.clk_sched.proofs.Nodes.Idle.{rest-can, asking-past}
+use Rattle.clk_sched.proofs.Classes.RankLemmas.{after-place, inputs-after}
+use Rattle.clk_sched.proofs.Nodes.Idle.{rest-can, asking-past, turn-can, turn-past}
 use Rattle.clk_sched.proofs.Nodes.Placed.{can-turn, kept-there, pulled-back}
 use Rattle.clk_sched.proofs.Turns.TurnPrio.{prio-asks, prio-pulled}
 use Rattle.clk_sched.proofs.Turns.TurnRoundRobin.{begins, may-first, may-second, had-first, had-second, had-none, few-first, few-second}
@@ -74,13 +76,13 @@ nodes::Nodes::ask-returns-in-Scheduler-clause-asks g t c =
 
 pub nodes::Nodes::ask_in_order-loop-place-init : goal.nodes::Nodes::ask_in_order-loop-place-init
 nodes::Nodes::ask_in_order-loop-place-init g t c =
-    asking-first g.Q.Ask.gives c.args.self.now c.args.q.now c.args.node c.requires.can_pull.fit
+    (omega arith, asking-first g.Q.Ask.gives c.args.self.now c.args.q.now c.args.node c.requires.can_pull.fit)
 
 pub nodes::Nodes::ask_in_order-look-requires : goal.nodes::Nodes::ask_in_order-look-requires
 nodes::Nodes::ask_in_order-look-requires g t c =
     let order = inputs_in c.args.order.now in
     let k = c.loop-place.place in
-    let h = c.loop-place.invariant in
+    let h = c.loop-place.invariant.1 in
     let ready = asking-ready g.Q.Ask.gives c.args.self.now c.loop-place.self c.args.q.now c.loop-place.q c.args.node k (rank_at c.args.order.now k).input order c.requires.can_pull c.requires.within h (subst (λ n. k < n) (sym (length-map c.args.order.now (λ (r : Rank). r.input))) c.loop-place-test.true) (entry-input c.args.order.now k c.loop-place-test.true) in
     let same = ap length h.keeps.inputs in
     let less = c.decreases in
@@ -92,14 +94,35 @@ nodes::Nodes::ask_in_order-returns-in-Some g t c =
     let k = c.loop-place.place in
     record {
       place = c.loop-place-test.true;
-      asked = asking-given g.Q.Ask.gives c.args.self.now c.loop-place.self c.look.new.self c.args.q.now c.loop-place.q c.look.new.q c.args.node k (rank_at c.args.order.now k).input c.look.result c.in-Some.packet order (subst (λ n. k < n) (sym (length-map c.args.order.now (λ (r : Rank). r.input))) c.loop-place-test.true) c.loop-place.invariant (entry-input c.args.order.now k c.loop-place-test.true) c.in-Some.is c.look.ensures;
+      asked = asking-given g.Q.Ask.gives c.args.self.now c.loop-place.self c.look.new.self c.args.q.now c.loop-place.q c.look.new.q c.args.node k (rank_at c.args.order.now k).input c.look.result c.in-Some.packet order (subst (λ n. k < n) (sym (length-map c.args.order.now (λ (r : Rank). r.input))) c.loop-place-test.true) c.loop-place.invariant.1 (entry-input c.args.order.now k c.loop-place-test.true) c.in-Some.is c.look.ensures;
+    }
+
+pub nodes::Nodes::ask_in_order-pass_idle_of-place-requires : goal.nodes::Nodes::ask_in_order-pass_idle_of-place-requires
+nodes::Nodes::ask_in_order-pass_idle_of-place-requires g t c =
+    let order = inputs_in c.args.order.now in
+    let k = c.loop-place.place in
+    let asked = asking-next g.Q.Ask.gives c.args.self.now c.loop-place.self c.look.new.self c.args.q.now c.loop-place.q c.look.new.q c.args.node k (rank_at c.args.order.now k).input c.look.result order (subst (λ n. k < n) (sym (length-map c.args.order.now (λ (r : Rank). r.input))) c.loop-place-test.true) c.loop-place.invariant.1 (entry-input c.args.order.now k c.loop-place-test.true) c.in_default.is c.look.ensures in
+    let rest = rest-can g.Q.Ask.gives c.args.self.now c.look.new.self c.args.q.now c.look.new.q c.args.node (k + 1) order c.requires.can_pull c.requires.within asked in
+    let after = sym (inputs-after c.args.order.now (k + 1)) in
+    record {
+      can_pull = subst (λ l. CanPull c.look.new.self c.args.node (edges_in c.look.new.self.inputs.items c.args.node l)) after rest.0;
+      within = subst (AllByRecursion (λ i. IsSome (input_at c.look.new.self.inputs.items c.args.node i))) after rest.1;
     }
 
 pub nodes::Nodes::ask_in_order-loop-place-preserved : goal.nodes::Nodes::ask_in_order-loop-place-preserved
 nodes::Nodes::ask_in_order-loop-place-preserved g t c =
     let order = inputs_in c.args.order.now in
     let k = c.loop-place.place in
-    asking-next g.Q.Ask.gives c.args.self.now c.loop-place.self c.look.new.self c.args.q.now c.loop-place.q c.look.new.q c.args.node k (rank_at c.args.order.now k).input c.look.result order (subst (λ n. k < n) (sym (length-map c.args.order.now (λ (r : Rank). r.input))) c.loop-place-test.true) c.loop-place.invariant (entry-input c.args.order.now k c.loop-place-test.true) c.in_default.is c.look.ensures
+    let asked = asking-next g.Q.Ask.gives c.args.self.now c.loop-place.self c.look.new.self c.args.q.now c.loop-place.q c.look.new.q c.args.node k (rank_at c.args.order.now k).input c.look.result order (subst (λ n. k < n) (sym (length-map c.args.order.now (λ (r : Rank). r.input))) c.loop-place-test.true) c.loop-place.invariant.1 (entry-input c.args.order.now k c.loop-place-test.true) c.in_default.is c.look.ensures in
+    let n = c.pass_idle_of-place.result in
+    let within = c.pass_idle_of-place.ensures.within in
+    let test = c.loop-place-test.true in
+    let size = ap length (after-place c.args.order.now (k + 1)) ∙ length-drop (k + 1) c.args.order.now in
+    (
+      omega (arith, within, size, test),
+      asking-past g.Q.Ask.gives c.args.self.now c.look.new.self c.pass_idle_of-place.new.self c.args.q.now c.look.new.q c.args.node (k + 1) n order asked
+          (subst (λ l. HasAskedAll g.Q.Ask.gives c.look.new.self c.pass_idle_of-place.new.self c.look.new.q c.look.new.q c.args.node (take n l) None) (inputs-after c.args.order.now (k + 1)) c.pass_idle_of-place.ensures.asked),
+    )
 
 pub nodes::Nodes::ask_in_order-returns : goal.nodes::Nodes::ask_in_order-returns
 nodes::Nodes::ask_in_order-returns g t c =
@@ -107,7 +130,7 @@ nodes::Nodes::ask_in_order-returns g t c =
     let k = c.loop-place.place in
     let f = c.loop-place-test.false in
     let e = length-map c.args.order.now (λ (r : Rank). r.input) in
-    record { place = tt; asked = asking-all g.Q.Ask.gives c.args.self.now c.loop-place.self c.args.q.now c.loop-place.q c.args.node k order (omega (arith, f, e)) c.loop-place.invariant }
+    record { place = tt; asked = asking-all g.Q.Ask.gives c.args.self.now c.loop-place.self c.args.q.now c.loop-place.q c.args.node k order (omega (arith, f, e)) c.loop-place.invariant.1 }
 
 pub nodes::Nodes::ask_in_turn-loop-place-init : goal.nodes::Nodes::ask_in_turn-loop-place-init
 nodes::Nodes::ask_in_turn-loop-place-init g t c =
@@ -140,7 +163,7 @@ nodes::Nodes::ask_in_turn-pass_idle-place-requires g t c =
     let test : k < count = c.loop-place-test.true in
     let order = range_with_len first count in
     let asked = asking-next g.Q.Ask.gives c.args.self.now c.loop-place.self c.look.new.self c.args.q.now c.loop-place.q c.look.new.q c.args.node k (first + k) c.look.result order (subst (λ n. k < n) (sym (length-range_with_len first count)) test) c.loop-place.invariant.1 (sym (get_or-range_with_len first count k 0 test)) c.in_default.is c.look.ensures in
-    let rest = rest-can g.Q.Ask.gives c.args.self.now c.look.new.self c.args.q.now c.look.new.q c.args.node first count (k + 1) (omega (arith, test)) c.requires.can_pull c.requires.within asked in
+    let rest = turn-can g.Q.Ask.gives c.args.self.now c.look.new.self c.args.q.now c.look.new.q c.args.node first count (k + 1) (omega (arith, test)) c.requires.can_pull c.requires.within asked in
     let few = c.requires.few in
     record { can_pull = rest.0; within = rest.1; few = omega (arith, test, few) }
 
@@ -154,7 +177,7 @@ nodes::Nodes::ask_in_turn-loop-place-preserved g t c =
     let asked = asking-next g.Q.Ask.gives c.args.self.now c.loop-place.self c.look.new.self c.args.q.now c.loop-place.q c.look.new.q c.args.node k (first + k) c.look.result order (subst (λ n. k < n) (sym (length-range_with_len first count)) test) c.loop-place.invariant.1 (sym (get_or-range_with_len first count k 0 test)) c.in_default.is c.look.ensures in
     let within = c.pass_idle-place.ensures.within in
     let most : k + 1 + c.pass_idle-place.result ≤ count = omega (arith, test, within) in
-    (most, asking-past g.Q.Ask.gives c.args.self.now c.look.new.self c.pass_idle-place.new.self c.args.q.now c.look.new.q c.args.node first count (k + 1) c.pass_idle-place.result most asked c.pass_idle-place.ensures.asked)
+    (most, turn-past g.Q.Ask.gives c.args.self.now c.look.new.self c.pass_idle-place.new.self c.args.q.now c.look.new.q c.args.node first count (k + 1) c.pass_idle-place.result most asked c.pass_idle-place.ensures.asked)
 
 pub nodes::Nodes::ask_in_turn-returns : goal.nodes::Nodes::ask_in_turn-returns
 nodes::Nodes::ask_in_turn-returns g t c =

@@ -1,6 +1,6 @@
 use Rattle.std.proofs.Common.{ℕ, ◌+◌, ◌*◌, ◌-◌, ◌≤◌, length, take}
 use Rattle.std.specs.List.{range_with_len}
-use Rattle.clk_sched.specs.inside.Pulling.{inputs_in}
+use Rattle.clk_sched.specs.inside.Ranks.{inputs_in}
 use Rattle.clk_sched.proofs.Nodes.Asking.{IsAsking}
 use Rattle.clk_sched.proofs.Turns.TurnDrr.{IsMaking}
 use Rattle.clk_sched.proofs.session.+pull.Given as goal
@@ -51,8 +51,11 @@ decreases-shaper::Bucket::pull g l = rank (length l.nodes.now.inputs.items) l.no
 abbrev pub decreases-nodes::Nodes::pull : goal.decreases-nodes::Nodes::pull
 decreases-nodes::Nodes::pull g l = rank (length l.self.now.inputs.items) l.node 6
 
+abbrev pub decreases-nodes::Nodes::ask_in_order-loop-place : goal.decreases-nodes::Nodes::ask_in_order-loop-place
+decreases-nodes::Nodes::ask_in_order-loop-place g l = length l.order - l.place
+
 abbrev pub invariant-nodes::Nodes::ask_in_order-loop-place : goal.invariant-nodes::Nodes::ask_in_order-loop-place
-invariant-nodes::Nodes::ask_in_order-loop-place g l = IsAsking g.Q.Ask.gives l.initial.self l.self l.initial.q l.q l.node (take l.place (inputs_in l.fn.order))
+invariant-nodes::Nodes::ask_in_order-loop-place g l = (l.place ≤ length l.fn.order) × IsAsking g.Q.Ask.gives l.initial.self l.self l.initial.q l.q l.node (take l.place (inputs_in l.fn.order))
 
 abbrev pub decreases-nodes::Nodes::ask_in_turn-loop-place : goal.decreases-nodes::Nodes::ask_in_turn-loop-place
 decreases-nodes::Nodes::ask_in_turn-loop-place g l = l.count - l.place
