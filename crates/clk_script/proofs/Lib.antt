@@ -8,6 +8,7 @@ mod RecorderLemmas
 mod DrainLemmas
 mod TallyLemmas
 mod ReadingLemmas
+mod SourceLemmas
 mod RowLemmas
 mod PassLemmas
 mod AnswerLemmas

@@ -1,182 +1,271 @@
--- How the reading of a script goes on by one line.
-use Rattle.std.proofs.Common.{◌≡◌, ℕ, ◌+◌, ◌≤◌, ◌==◌, ◌||◌, zero, suc, List, [], ◌∷◌, ◌++◌, length, slice_get, Option, Some, None, ◌⊎◌, inl, inr, nat_lt, Bool, true, false, refl, sym, ap, subst, ◌∙◌, append_assoc, append-nil, length-append, arith}
-use Rattle.std.specs.List.{filter_map, cons_option, list_any, AllByRecursion}
+-- How the reading of a script goes on.
+use Rattle.std.proofs.Common.{◌≡◌, ◌≢◌, ℕ, ◌+◌, ◌<◌, ◌≤◌, ◌==◌, ◌||◌, zero, suc, List, [], ◌∷◌, ◌++◌, length, map, take, get_or, slice_get, Option, Some, None, IfSome, MatchOption, is_some, inl, inr, nat_lt, Bool, true, false, refl, sym, ap, ap₂, subst, ◌∙◌, append_assoc, append-nil, length-append, arith}
+use Rattle.std.specs.List.{filter_map, cons_option, list_any, slice_split, onto_first, AllByRecursion}
+use Rattle.std.specs.Option.{option_or}
+use Rattle.std.specs.Str.Lines.{lines, lines_of_parts, strip_carriage_return}
+use Rattle.std.proofs.Math.Seq.{take-suc}
 use Rattle.std.proofs.lemmas.Bool.Decides.{nat_tests}
-use Rattle.std.proofs.lemmas.List.{length-map}
+use Rattle.std.proofs.lemmas.List.{length-map, map-append}
+use Rattle.std.proofs.lemmas.List.Elements.{filter_map-append}
+use Rattle.std.proofs.lemmas.List.Splits.{length-slice_split}
+use Rattle.memchr.specs.Find.{IsLastByte, is_byte}
 use Rattle.clk_packet.specs.declared.fault.Fault.{Fault}
-use Rattle.clk_packet.specs.declared.fault.Fault.TheVariants.{Memory}
-use Rattle.clk_script.specs.declared.script.Command.{Command}
+use Rattle.clk_packet.proofs.Callers.Lists.{all-append}
 use Rattle.clk_script.specs.declared.script.Line.{Line}
 use Rattle.clk_script.specs.declared.script.Line.TheVariants as line
+use Rattle.clk_script.specs.declared.script.Command.{Command}
 use Rattle.clk_script.specs.declared.rows.Row.{Row}
-use Rattle.clk_script.specs.declared.reading.Script.{Script}
-use Rattle.clk_script.specs.Script.{Names, lines_of, command_in, commands_of, drain_in, is_drain, closing_moment, line_fault, fault_at, first_fault, script_fault, most_script_bytes, most_lines}
-use Rattle.clk_script.specs.inside.Rows.{command_asked, asked_by, asked_in, IsToDo, IsReadFrom, CanBeRun}
-use Rattle.clk_script.proofs.ScriptLemmas.{readable-first, readable-drain}
+use Rattle.clk_script.specs.declared.reading.Reading.{Reading}
+use Rattle.clk_script.specs.Script.{Names, line_of, lines_of, command_in, drain_in, is_drain, fault_at, first_fault, most_lines, most_moment}
+use Rattle.clk_script.specs.inside.Recorder.{IsReadableLine}
+use Rattle.clk_script.specs.inside.Rows.{command_asked, asked_by, asked_in, rows_of, IsToDo, IsReadFrom, CanBeRun}
+use Rattle.clk_script.specs.inside.Reading.{AreRead, IsReading, IsWrong, EndsLine, AreHeld, HasCome}
 
--- the commands of what is left, by its first line
-commands_on : (rest after : List ℕ) (l : Line) → lines_of rest ≡ l ∷ lines_of after → commands_of rest ≡ cons_option (command_in l) [] ++ commands_of after
-commands_on rest after l e = by_command (command_in l) refl
+-- A text that is cut at a line feed in its middle has the lines before it and those after it.
+abbrev parts_of : List ℕ → List (List ℕ)
+parts_of text = slice_split (λ byte. byte == 10) text
+
+onto-both : (byte : ℕ) (parts more : List (List ℕ)) → 0 < length parts → onto_first byte (parts ++ more) ≡ onto_first byte parts ++ more
+onto-both byte [] more some = absurd (omega arith)
+onto-both byte (part ∷ parts) more some = refl
+
+parts-some : (text : List ℕ) → 0 < length (parts_of text)
+parts-some text = let count = length-slice_split (λ byte. byte == 10) text in omega (arith, count)
+
+parts-both : (before after : List ℕ) → parts_of (before ++ 10 ∷ after) ≡ parts_of before ++ parts_of after
+parts-both [] after = refl
+parts-both (byte ∷ before) after = by_test (byte == 10) refl (parts-both before after)
   where
-    by_command : (o : Option Command) → command_in l ≡ o → commands_of rest ≡ cons_option (command_in l) [] ++ commands_of after
-    by_command None f = rw (e, f) refl
-    by_command (Some command) f = rw (e, f) refl
+    by_test : (b : Bool) → (byte == 10) ≡ b → parts_of (before ++ 10 ∷ after) ≡ parts_of before ++ parts_of after → parts_of (byte ∷ (before ++ 10 ∷ after)) ≡ parts_of (byte ∷ before) ++ parts_of after
+    by_test true e h = rw e (ap (λ parts. [] ∷ parts) h)
+    by_test false e h = rw e (ap (onto_first byte) h ∙ onto-both byte (parts_of before) (parts_of after) (parts-some before))
 
--- a line that is no drain leaves the closing to what follows
-closing_on : (rest after : List ℕ) (l : Line) → lines_of rest ≡ l ∷ lines_of after → drain_in l ≡ None → closing_moment rest ≡ closing_moment after
-closing_on rest after l e f = rw (e, f) refl
+lines-of-both : (parts more : List (List ℕ)) → 0 < length more → lines_of_parts (parts ++ more) ≡ map strip_carriage_return parts ++ lines_of_parts more
+lines-of-both [] more some = refl
+lines-of-both (part ∷ []) [] some = absurd (omega arith)
+lines-of-both (part ∷ []) (other ∷ more) some = refl
+lines-of-both (part ∷ next ∷ parts) more some = ap (λ l. strip_carriage_return part ∷ l) (lines-of-both (next ∷ parts) more some)
 
--- lines that are all blank hold no commands
-blank-commands : (names : Names) (n : ℕ) (ls : List Line) → first_fault names true n ls ≡ None → filter_map command_in ls ≡ []
-blank-commands names n [] e = refl
-blank-commands names n (l ∷ ls) e = by_fault (fault_at names true n l) refl (blank-commands names (n + 1) ls)
-  where
-    by_line : (m : Line) → line_fault names true n m ≡ None → command_in m ≡ None
-    by_line line.Blank f = refl
-    by_line line.Malformed f = refl
-    by_line (line.Command command) f = absurd (cc)
-    by_line (line.Drain moment) f = refl
+lines-both : (before after : List ℕ) → lines (before ++ 10 ∷ after) ≡ lines (before ++ 10 ∷ []) ++ lines after
+lines-both before after =
+    let front : lines (before ++ 10 ∷ []) ≡ map strip_carriage_return (parts_of before) =
+    ap lines_of_parts (parts-both before []) ∙ lines-of-both (parts_of before) ([] ∷ []) (omega arith) ∙ append-nil (map strip_carriage_return (parts_of before))
+    in
+    ap lines_of_parts (parts-both before after) ∙ lines-of-both (parts_of before) (parts_of after) (parts-some after) ∙ ap (λ l. l ++ lines after) (sym front)
 
-    by_few : (b : Bool) → nat_lt most_lines n ≡ b → fault_at names true n l ≡ None → command_in l ≡ None
-    by_few true g f = let no = rw g at f in absurd (cc)
-    by_few false g f = by_line l (rw g at f)
+pub lines_of-both : (front rest : List ℕ) → EndsLine front → lines_of (front ++ rest) ≡ lines_of front ++ lines_of rest
+lines_of-both front rest (inl none) = rw none refl
+lines_of-both front rest (inr (last, e)) =
+    rw e (ap lines_of (append_assoc last (10 ∷ []) rest) ∙ ap (map line_of) (lines-both last rest) ∙ map-append line_of (lines (last ++ 10 ∷ [])) (lines rest))
 
-    by_fault : (o : Option Fault) → fault_at names true n l ≡ o → (first_fault names true (n + 1) ls ≡ None → filter_map command_in ls ≡ []) → filter_map command_in (l ∷ ls) ≡ []
-    by_fault None f rest = rw (by_few (nat_lt most_lines n) refl f) (rest (rw f at e))
-    by_fault (Some fault) f rest = let no = rw f at e in absurd (cc)
-
-no-command : (l : Line) (moment : ℕ) → drain_in l ≡ Some moment → command_in l ≡ None
-no-command line.Blank moment e = refl
-no-command line.Malformed moment e = refl
-no-command (line.Command command) moment e = absurd (cc)
-no-command (line.Drain m) moment e = refl
-
-is-drain : (l : Line) (moment : ℕ) → drain_in l ≡ Some moment → is_drain l ≡ true
-is-drain line.Blank moment e = absurd (cc)
-is-drain line.Malformed moment e = absurd (cc)
-is-drain (line.Command command) moment e = absurd (cc)
-is-drain (line.Drain m) moment e = refl
-
-is-no_drain : (l : Line) → drain_in l ≡ None → is_drain l ≡ false
-is-no_drain line.Blank e = refl
-is-no_drain line.Malformed e = refl
-is-no_drain (line.Command command) e = refl
-is-no_drain (line.Drain m) e = absurd (cc)
-
--- the first fault of the lines of a text from the n-th on
-abbrev pub fault_from : Names → Bool → ℕ → List ℕ → Option Fault
-fault_from names drained n text = first_fault names drained n (lines_of text)
-
--- The lines of a text that were read have rows, which are to be carried out, no fault and no drain, and what is left follows them.
-pub record HasRead (names : Names) (text rest : List ℕ) (number : ℕ) (rows : List Row) : Type 0 where
-  pub fault : fault_from names false (number + 1) rest ≡ fault_from names false 1 text
-  pub theirs : asked_by rows ++ commands_of rest ≡ commands_of text
-  pub to_do : AllByRecursion (IsToDo names) rows
-  pub closing : closing_moment rest ≡ closing_moment text
-  pub few : length rows ≤ number
-
-pub HasRead-none : (names : Names) (text : List ℕ) (rows : List Row) → rows ≡ [] → HasRead names text text 0 rows
-HasRead-none names text rows none =
+-- before the first line
+AreRead-none : (names : Names) (r : Reading) → r.script.rows.items ≡ [] → r.script.closing ≡ None → r.lines ≡ 0 → AreRead names [] r
+AreRead-none names r none undrained first =
     record {
-      fault = refl;
-      theirs = ap (λ l. asked_by l ++ commands_of text) none;
+      fault = λ more. ap₂ (λ o n. first_fault names (is_some o) (n + 1) more) undrained first;
+      rows = ap asked_by none;
+      closing = undrained;
       to_do = subst (AllByRecursion (IsToDo names)) (sym none) tt;
-      closing = refl;
-      few = omega (arith, ap length none);
+      moment = rw undrained tt;
+      few = let length_is = ap length none in omega (arith, length_is);
+      within = omega (arith, first);
     }
 
--- a line without a fault
-fault-later : (names : Names) (rest after : List ℕ) (l : Line) (n : ℕ) (drained : Bool) → lines_of rest ≡ l ∷ lines_of after → fault_at names false n l ≡ None → is_drain l ≡ drained
-    → fault_from names false n rest ≡ fault_from names drained (n + 1) after
-fault-later names rest after l n drained e f is = rw (e, f) (ap (λ b. fault_from names b (n + 1) after) is)
+-- One more line is read with nothing wrong, and a reading goes on to what it holds.
+drained-more : (o : Option ℕ) (l : Line) → (is_some o || is_drain l) ≡ is_some (option_or o (drain_in l))
+drained-more (Some moment) l = refl
+drained-more None line.Blank = refl
+drained-more None line.Malformed = refl
+drained-more None (line.Command command) = refl
+drained-more None (line.Drain moment) = refl
 
--- what rows ask for, with what is asked in one line more
-asked-more : (text rest after : List ℕ) (l : Line) (before asked : List Command) → before ++ commands_of rest ≡ commands_of text → lines_of rest ≡ l ∷ lines_of after → asked ≡ before ++ asked_in l
-    → asked ++ commands_of after ≡ commands_of text
-asked-more text rest after l before asked theirs e more =
-    ap (λ l. l ++ commands_of after) more ∙ append_assoc before (asked_in l) (commands_of after) ∙ ap (λ l. before ++ l) (sym (commands_on rest after l e)) ∙ theirs
+closing-more : (o d : Option ℕ) (drains : List ℕ) → o ≡ slice_get drains 0 → option_or o d ≡ slice_get (drains ++ cons_option d []) 0
+closing-more None None [] e = refl
+closing-more None (Some moment) [] e = refl
+closing-more None d (drain ∷ drains) e = absurd (cc)
+closing-more (Some moment) d [] e = absurd (cc)
+closing-more (Some moment) d (drain ∷ drains) e = e
 
-pub HasRead-line : (names : Names) (text rest after : List ℕ) (l : Line) (number : ℕ) (before rows : List Row) → HasRead names text rest number before → lines_of rest ≡ l ∷ lines_of after
-    → fault_at names false (number + 1) l ≡ None → drain_in l ≡ None → asked_by rows ≡ asked_by before ++ asked_in l → AllByRecursion (IsToDo names) rows → HasRead names text after (number + 1) rows
-HasRead-line names text rest after l number before rows h e sound undrained more to_do =
+moment-more : (o : Option ℕ) (l : Line) → IfSome o (λ m. m ≤ most_moment) → IsReadableLine l → IfSome (option_or o (drain_in l)) (λ m. m ≤ most_moment)
+moment-more (Some moment) l h readable = h
+moment-more None line.Blank h readable = tt
+moment-more None line.Malformed h readable = tt
+moment-more None (line.Command command) h readable = tt
+moment-more None (line.Drain moment) h readable = readable
+
+asked-most : (o : Option Command) → length (cons_option o []) ≤ 1
+asked-most None = omega arith
+asked-most (Some command) = omega arith
+
+AreRead-more : (names : Names) (read : List Line) (r new : Reading) (l : Line) → AreRead names read r → IsReadableLine l → fault_at names (is_some r.script.closing) (r.lines + 1) l ≡ None → new.lines ≡ r.lines + 1 → new.lines ≤ most_lines
+    → new.script.closing ≡ option_or r.script.closing (drain_in l) → asked_by new.script.rows.items ≡ asked_by r.script.rows.items ++ asked_in l → AllByRecursion (IsToDo names) new.script.rows.items → AreRead names (read ++ l ∷ []) new
+AreRead-more names read r new l h readable sound count within closes asked to_do =
     record {
-      fault = sym (fault-later names rest after l (number + 1) false e sound (is-no_drain l undrained)) ∙ h.fault;
-      theirs = asked-more text rest after l (asked_by before) (asked_by rows) h.theirs e more;
+      fault = λ more.
+          ap₂ (λ o n. first_fault names (is_some o) (n + 1) more) closes count
+          ∙ ap (λ b. first_fault names b (r.lines + 1 + 1) more) (sym (drained-more r.script.closing l))
+          ∙ rw sound at (h.fault (l ∷ more))
+          ∙ ap (first_fault names false 1) (sym (append_assoc read (l ∷ []) more));
+      rows = asked ∙ ap (λ commands. commands ++ asked_in l) h.rows ∙ sym (filter_map-append command_in read (l ∷ []));
+      closing = closes ∙ closing-more r.script.closing (drain_in l) (filter_map drain_in read) h.closing ∙ ap (λ drains. slice_get drains 0) (sym (filter_map-append drain_in read (l ∷ [])));
       to_do = to_do;
-      closing = sym (closing_on rest after l e undrained) ∙ h.closing;
+      moment = subst (λ o. IfSome o (λ m. m ≤ most_moment)) (sym closes) (moment-more r.script.closing l h.moment readable);
       few =
           let few = h.few in
-          let longer = sym (length-map rows command_asked) ∙ ap length more ∙ length-append (asked_by before) (asked_in l) in
-          let as_many = length-map before command_asked in
-          let one = at_most (command_in l) in
-          omega (arith, few, longer, as_many, one);
+          let longer = sym (length-map new.script.rows.items command_asked) ∙ ap length asked ∙ length-append (asked_by r.script.rows.items) (asked_in l) in
+          let as_many = length-map r.script.rows.items command_asked in
+          let one = asked-most (command_in l) in
+          omega (arith, few, longer, as_many, one, count);
+      within = within;
     }
+
+option_or-none : (o : Option ℕ) → o ≡ option_or o None
+option_or-none None = refl
+option_or-none (Some moment) = refl
+
+-- A line that isn't a drain leaves the closing as it is, and a drain sets it, since none came before.
+pub undrained-command : (o : Option ℕ) (l : Line) (row : Row) → asked_by (rows_of (Some row)) ≡ asked_in l → o ≡ option_or o (drain_in l)
+undrained-command o line.Blank row e = absurd (cc)
+undrained-command o line.Malformed row e = absurd (cc)
+undrained-command o (line.Command command) row e = option_or-none o
+undrained-command o (line.Drain moment) row e = absurd (cc)
+
+pub undrained-other : (o : Option ℕ) (l : Line) → ((moment : ℕ) → l ≢ line.Drain moment) → o ≡ option_or o (drain_in l)
+undrained-other o line.Blank other = option_or-none o
+undrained-other o line.Malformed other = option_or-none o
+undrained-other o (line.Command command) other = option_or-none o
+undrained-other o (line.Drain moment) other = absurd (other moment refl)
+
+pub drained-first : (names : Names) (o : Option ℕ) (number moment : ℕ) → fault_at names (is_some o) number (line.Drain moment) ≡ None → Some moment ≡ option_or o (Some moment)
+drained-first names None number moment e = refl
+drained-first names (Some earlier) number moment e = absurd (by_number (nat_lt most_lines number) refl e)
   where
-    at_most : (o : Option Command) → length (cons_option o []) ≤ 1
-    at_most None = omega arith
-    at_most (Some command) = omega arith
+    by_number : (b : Bool) → nat_lt most_lines number ≡ b → fault_at names true number (line.Drain moment) ≡ None → ⊥
+    by_number true f h = let no = rw f at h in cc
+    by_number false f h = let no = rw f at h in cc
 
--- what is wrong with what is left is wrong with the script
-fault-whole : (names : Names) (text rest : List ℕ) (drained : Bool) (n : ℕ) (o : Option Fault) → length text ≤ most_script_bytes → fault_from names drained n rest ≡ fault_from names false 1 text
-    → fault_from names drained n rest ≡ o → script_fault names text ≡ o
-fault-whole names text rest drained n o small e f =
-    let no : nat_lt most_script_bytes (length text) ≡ false = grind (arith, nat_tests) in
-    rw no (sym e ∙ f)
+-- The line's row, if it has one, is added.
+pub reading-row : (names : Names) (read : List Line) (r new : Reading) (l : Line) (row : Option Row) (drained : Bool) → AreRead names read r → r.fault ≡ None → IsReadableLine l → drained ≡ is_some r.script.closing
+    → (fault_at names drained (r.lines + 1) l ≡ None) × (asked_by (rows_of row) ≡ asked_in l) × AllByRecursion (IsToDo names) (rows_of row) × (r.lines + 1 ≤ most_lines)
+    → new.fault ≡ r.fault → new.lines ≡ r.lines + 1 → new.script.rows.items ≡ r.script.rows.items ++ rows_of row → new.script.closing ≡ option_or r.script.closing (drain_in l) → IsReading names (read ++ l ∷ []) new
+reading-row names read r new l row drained h sound readable before fits same count rows closes =
+    subst (λ o. MatchOption o (AreRead names (read ++ l ∷ []) new) (IsWrong names (read ++ l ∷ []))) (sym (same ∙ sound))
+    (AreRead-more names read r new l h readable (subst (λ b. fault_at names b (r.lines + 1) l ≡ None) before fits.0) count (let few = fits.3 in omega (arith, count, few)) closes
+    (ap asked_by rows ∙ map-append command_asked r.script.rows.items (rows_of row) ∙ ap (λ commands. asked_by r.script.rows.items ++ commands) fits.1)
+    (subst (AllByRecursion (IsToDo names)) (sym rows) (all-append (IsToDo names) r.script.rows.items (rows_of row) h.to_do fits.2)))
 
--- the first line that has a fault decides
-pub line-refused : (names : Names) (text rest after : List ℕ) (l : Line) (number : ℕ) (rows : List Row) (fault : Fault) → length text ≤ most_script_bytes → HasRead names text rest number rows → lines_of rest ≡ l ∷ lines_of after
-    → (fault ≡ Memory) ⊎ (fault_at names false (number + 1) l ≡ Some fault) → (fault ≡ Memory) ⊎ (script_fault names text ≡ Some fault)
-line-refused names text rest after l number rows fault small h e (inl memory) = inl memory
-line-refused names text rest after l number rows fault small h e (inr is) = inr (fault-whole names text rest false (number + 1) (Some fault) small h.fault (rw (e, is) refl))
+-- The next line has something wrong, and so have all that it is among.
+pub wrong-line : (names : Names) (read : List Line) (r : Reading) (l : Line) (fault : Fault) → AreRead names read r → fault_at names (is_some r.script.closing) (r.lines + 1) l ≡ Some fault → IsWrong names (read ++ l ∷ []) fault
+wrong-line names read r l fault h wrong more = ap (first_fault names false 1) (append_assoc read (l ∷ []) more) ∙ sym (h.fault (l ∷ more)) ∙ rw wrong refl
 
-pub later-refused : (names : Names) (text rest after : List ℕ) (l : Line) (number moment : ℕ) (rows : List Row) (o : Option Fault) → length text ≤ most_script_bytes → HasRead names text rest number rows → lines_of rest ≡ l ∷ lines_of after
-    → fault_at names false (number + 1) l ≡ None → drain_in l ≡ Some moment → fault_from names true (number + 1 + 1) after ≡ o → script_fault names text ≡ o
-later-refused names text rest after l number moment rows o small h e sound drains is =
-    fault-whole names text rest false (number + 1) o small h.fault (fault-later names rest after l (number + 1) true e sound (is-drain l moment drains) ∙ is)
+wrong-more : (names : Names) (read others : List Line) (fault : Fault) → IsWrong names read fault → IsWrong names (read ++ others) fault
+wrong-more names read others fault h more = ap (first_fault names false 1) (append_assoc read others more) ∙ h (others ++ more)
 
--- A script that ended, without a drain and with one.
-pub record IsRead (names : Names) (text : List ℕ) (script : Script) : Type 0 where
-  pub sound : script_fault names text ≡ None
-  pub holds : IsReadFrom text script
-  pub can_be_run : CanBeRun names script
-
-pub IsRead-ended : (names : Names) (text rest : List ℕ) (number : ℕ) (script : Script) → length text ≤ most_script_bytes → HasRead names text rest number script.rows.items → number ≤ most_lines → length rest ≡ 0
-    → script.closing ≡ None → IsRead names text script
-IsRead-ended names text (byte ∷ rest) number script small h bound none closing = absurd (omega arith)
-IsRead-ended names text [] number script small h bound none closing =
-    record {
-      sound = fault-whole names text [] false (number + 1) None small h.fault refl;
-      holds = record { rows = sym (append-nil (asked_by script.rows.items)) ∙ h.theirs; closing = closing ∙ h.closing };
-      can_be_run = record { to_do = h.to_do; few = let few = h.few in omega (arith, few, bound); closing = rw closing tt };
-    }
-
-pub IsRead-drained : (names : Names) (text rest after : List ℕ) (l : Line) (number moment : ℕ) (before : List Row) (script : Script) → length text ≤ most_script_bytes → HasRead names text rest number before → number + 1 ≤ most_lines
-    → lines_of rest ≡ l ∷ lines_of after → fault_at names false (number + 1) l ≡ None → drain_in l ≡ Some moment → asked_by script.rows.items ≡ asked_by before ++ asked_in l
-    → AllByRecursion (IsToDo names) script.rows.items → fault_from names true (number + 1 + 1) after ≡ None → script.closing ≡ Some moment → IsRead names text script
-IsRead-drained names text rest after l number moment before script small h bound e sound drains more to_do blank closing =
-    record {
-      sound = later-refused names text rest after l number moment before None small h e sound drains blank;
-      holds = record { rows = are; closing = closing ∙ sym (rw (e, drains) refl) ∙ h.closing };
-      can_be_run = record {
-        to_do = to_do;
-        few = let few = h.few in omega (arith, few, as_many, bound);
-        closing = rw closing (readable-drain l moment (readable-first rest l (lines_of after) e) drains);
-      };
-    }
+-- Once something is wrong it stays so, and else all lines are read.
+pub reading-wrong : (names : Names) (read others : List Line) (r : Reading) → is_some r.fault ≡ true → IsReading names read r → IsReading names (read ++ others) r
+reading-wrong names read others r some h = by_fault r.fault some h
   where
-    as_many : length script.rows.items ≡ length before
-    as_many =
-        sym (length-map script.rows.items command_asked)
-        ∙ ap length (more ∙ ap (λ (o : Option Command). asked_by before ++ cons_option o []) (no-command l moment drains) ∙ append-nil (asked_by before))
-        ∙ length-map before command_asked
+    by_fault : (o : Option Fault) → is_some o ≡ true → MatchOption o (AreRead names read r) (IsWrong names read) → MatchOption o (AreRead names (read ++ others) r) (IsWrong names (read ++ others))
+    by_fault None none h = absurd (cc)
+    by_fault (Some fault) some h = wrong-more names read others fault h
 
-    none : commands_of after ≡ []
-    none = blank-commands names (number + 1 + 1) (lines_of after) blank
+pub none-wrong : (o : Option Fault) → is_some o ≡ false → o ≡ None
+none-wrong None e = refl
+none-wrong (Some fault) e = absurd (cc)
 
-    are : asked_by script.rows.items ≡ commands_of text
-    are =
-        sym (append-nil (asked_by script.rows.items)) ∙ ap (λ cs. asked_by script.rows.items ++ cs) (sym none)
-        ∙ asked-more text rest after l (asked_by before) (asked_by script.rows.items) h.theirs e more
+pub reading-sound : (names : Names) (read : List Line) (r : Reading) → r.fault ≡ None → IsReading names read r → AreRead names read r
+reading-sound names read r none h = subst (λ o. MatchOption o (AreRead names read r) (IsWrong names read)) none h
+
+-- lines before, those of a front, the next, and what is left
+pub lines-whole : (lines read : List Line) (l : Line) (text rest after : List ℕ) → lines_of rest ≡ l ∷ lines_of after → read ++ lines_of rest ≡ lines_of text → ((lines ++ read) ++ l ∷ []) ++ lines_of after ≡ lines ++ lines_of text
+lines-whole before read l text rest after e h =
+    append_assoc (before ++ read) (l ∷ []) (lines_of after) ∙ ap (λ ls. (before ++ read) ++ ls) (sym e) ∙ append_assoc before read (lines_of rest) ∙ ap (λ ls. before ++ ls) h
+
+pub lines-left : (read : List Line) (l : Line) (text rest after : List ℕ) → lines_of rest ≡ l ∷ lines_of after → read ++ lines_of rest ≡ lines_of text → (read ++ l ∷ []) ++ lines_of after ≡ lines_of text
+lines-left read l text rest after e h = append_assoc read (l ∷ []) (lines_of after) ∙ ap (λ ls. read ++ ls) (sym e) ∙ h
+
+-- What has come, with a piece more: where something is wrong, where nothing is and there is no whole line, and where whole lines are read.
+pub come-wrong : (names : Names) (text piece held other : List ℕ) (r : Reading) → is_some r.fault ≡ true → HasCome names text r held → HasCome names (text ++ piece) r other
+come-wrong names text piece held other r some h = by_fault r.fault some h
+  where
+    by_fault : (o : Option Fault) → is_some o ≡ true → MatchOption o (AreHeld names text r held) (λ fault. (later : List ℕ) → first_fault names false 1 (lines_of (text ++ later)) ≡ Some fault)
+        → MatchOption o (AreHeld names (text ++ piece) r other) (λ fault. (later : List ℕ) → first_fault names false 1 (lines_of ((text ++ piece) ++ later)) ≡ Some fault)
+    by_fault None none h = absurd (cc)
+    by_fault (Some fault) some h = λ later. ap (λ all. first_fault names false 1 (lines_of all)) (append_assoc text piece later) ∙ h (piece ++ later)
+
+pub come-sound : (names : Names) (text held : List ℕ) (r : Reading) → r.fault ≡ None → HasCome names text r held → AreHeld names text r held
+come-sound names text held r none h = subst (λ o. MatchOption o (AreHeld names text r held) (λ fault. (later : List ℕ) → first_fault names false 1 (lines_of (text ++ later)) ≡ Some fault)) none h
+
+come-if : (names : Names) (text held : List ℕ) (r : Reading) → r.fault ≡ None → AreHeld names text r held → HasCome names text r held
+come-if names text held r none h = subst (λ o. MatchOption o (AreHeld names text r held) (λ fault. (later : List ℕ) → first_fault names false 1 (lines_of (text ++ later)) ≡ Some fault)) (sym none) h
+
+pub come-held : (names : Names) (text piece held : List ℕ) (r : Reading) → r.fault ≡ None → HasCome names text r held → HasCome names (text ++ piece) r (held ++ piece)
+come-held names text piece held r none come =
+    let h = come-sound names text held r none come in
+    come-if names (text ++ piece) (held ++ piece) r none
+    (record { front = h.front; whole = ap (λ all. all ++ piece) h.whole ∙ append_assoc h.front held piece; ends = h.ends; read = h.read })
+
+pub come-lines : (names : Names) (text line rest held : List ℕ) (r new : Reading) (h : AreHeld names text r held) → IsReading names (lines_of h.front ++ lines_of (held ++ (line ++ 10 ∷ []))) new
+    → HasCome names (text ++ ((line ++ 10 ∷ []) ++ rest)) new rest
+come-lines names text line rest held r new h reading = by_fault new.fault reading
+  where
+    front : List ℕ
+    front = h.front ++ (held ++ (line ++ 10 ∷ []))
+
+    ends : EndsLine front
+    ends = inr (h.front ++ (held ++ line), ap (λ l. h.front ++ l) (sym (append_assoc held line (10 ∷ []))) ∙ sym (append_assoc h.front (held ++ line) (10 ∷ [])))
+
+    lines_are : lines_of front ≡ lines_of h.front ++ lines_of (held ++ (line ++ 10 ∷ []))
+    lines_are = lines_of-both h.front (held ++ (line ++ 10 ∷ [])) h.ends
+
+    whole : text ++ ((line ++ 10 ∷ []) ++ rest) ≡ front ++ rest
+    whole =
+        ap (λ all. all ++ ((line ++ 10 ∷ []) ++ rest)) h.whole ∙ append_assoc h.front held ((line ++ 10 ∷ []) ++ rest) ∙ ap (λ l. h.front ++ l) (sym (append_assoc held (line ++ 10 ∷ []) rest))
+        ∙ sym (append_assoc h.front (held ++ (line ++ 10 ∷ [])) rest)
+
+    by_fault : (o : Option Fault) → MatchOption o (AreRead names (lines_of h.front ++ lines_of (held ++ (line ++ 10 ∷ []))) new) (IsWrong names (lines_of h.front ++ lines_of (held ++ (line ++ 10 ∷ []))))
+        → MatchOption o (AreHeld names (text ++ ((line ++ 10 ∷ []) ++ rest)) new rest) (λ fault. (later : List ℕ) → first_fault names false 1 (lines_of ((text ++ ((line ++ 10 ∷ []) ++ rest)) ++ later)) ≡ Some fault)
+    by_fault None k = record { front = front; whole = whole; ends = ends; read = subst (λ ls. AreRead names ls new) (sym lines_are) k }
+    by_fault (Some fault) k = λ later.
+        ap (λ all. first_fault names false 1 (lines_of all)) (ap (λ all. all ++ later) whole ∙ append_assoc front rest later)
+        ∙ ap (first_fault names false 1) (lines_of-both front (rest ++ later) ends ∙ ap (λ ls. ls ++ lines_of (rest ++ later)) lines_are)
+        ∙ k (lines_of (rest ++ later))
+
+-- What a script comes to once all its lines are read.
+abbrev pub Ends : Names → List ℕ → Reading → Type 0
+Ends names text r =
+    MatchOption r.fault ((first_fault names false 1 (lines_of text) ≡ None) × IsReadFrom text r.script × CanBeRun names r.script) (λ fault. first_fault names false 1 (lines_of text) ≡ Some fault)
+
+pub ends-read : (names : Names) (text last : List ℕ) (r new : Reading) (h : AreHeld names text r last) → IsReading names (lines_of h.front ++ lines_of last) new → Ends names text new
+ends-read names text last r new h reading = by_fault new.fault (subst (λ ls. IsReading names ls new) (sym (ap lines_of h.whole ∙ lines_of-both h.front last h.ends)) reading)
+  where
+    by_fault : (o : Option Fault) → MatchOption o (AreRead names (lines_of text) new) (IsWrong names (lines_of text))
+        → MatchOption o ((first_fault names false 1 (lines_of text) ≡ None) × IsReadFrom text new.script × CanBeRun names new.script) (λ fault. first_fault names false 1 (lines_of text) ≡ Some fault)
+    by_fault None k = (
+      ap (first_fault names false 1) (sym (append-nil (lines_of text))) ∙ sym (k.fault []),
+      record { rows = k.rows; closing = k.closing },
+      record { to_do = k.to_do; few = (let few = k.few in let within = k.within in omega (arith, few, within)); closing = k.moment },
+    )
+    by_fault (Some fault) k = ap (first_fault names false 1) (sym (append-nil (lines_of text))) ∙ k []
+
+pub ends-wrong : (names : Names) (text held : List ℕ) (r : Reading) → is_some r.fault ≡ true → HasCome names text r held → Ends names text r
+ends-wrong names text held r some h = by_fault r.fault some h
+  where
+    by_fault : (o : Option Fault) → is_some o ≡ true → MatchOption o (AreHeld names text r held) (λ fault. (later : List ℕ) → first_fault names false 1 (lines_of (text ++ later)) ≡ Some fault)
+        → MatchOption o ((first_fault names false 1 (lines_of text) ≡ None) × IsReadFrom text r.script × CanBeRun names r.script) (λ fault. first_fault names false 1 (lines_of text) ≡ Some fault)
+    by_fault None none h = absurd (cc)
+    by_fault (Some fault) some h = ap (λ all. first_fault names false 1 (lines_of all)) (sym (append-nil text)) ∙ h []
+
+-- before the first byte
+pub come-first : (names : Names) (r : Reading) → r.fault ≡ None → r.script.rows.items ≡ [] → r.script.closing ≡ None → r.lines ≡ 0 → HasCome names [] r []
+come-first names r none rows undrained first = come-if names [] [] r none (record { front = []; whole = refl; ends = inl refl; read = AreRead-none names r rows undrained first })
+
+-- a text up to its last line feed, and with that
+pub up-to-feed : (text : List ℕ) (last : ℕ) → IsLastByte (is_byte 10) text (Some last) → take (last + 1) text ≡ take last text ++ 10 ∷ []
+up-to-feed text last h =
+    let low = h.0.high in
+    let feed : get_or text last 0 ≡ 10 = let is = h.1 in grind (arith, nat_tests) in
+    ap (λ n. take n text) (let next : last + 1 ≡ suc last = omega arith in next) ∙ take-suc text last 0 low ∙ ap (λ byte. take last text ++ byte ∷ []) feed
 
 -- a number that stands at a place is one of them
 pub known-at : (numbers : List ℕ) (n place : ℕ) → slice_get numbers place ≡ Some n → list_any (λ s. s == n) numbers ≡ true

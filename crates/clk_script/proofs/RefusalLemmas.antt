@@ -1,12 +1,12 @@
 -- How a script's meaning and its faults follow from those of its first bytes.
-use Rattle.std.proofs.Common.{◌+◌, ◌≡◌, ◌≤◌, ◌≢◌, ℕ, ◌==◌, ◌||◌, Bool, true, false, nat_lt, List, [], ◌∷◌, length, take, Option, Some, None, Err, refl, sym, ap, subst, ◌∙◌, ◌⊎◌, inl, inr, IfSome, Vec, arith}
+use Rattle.std.proofs.Common.{◌+◌, ◌≡◌, ◌≤◌, ◌≢◌, ℕ, ◌==◌, ◌||◌, Bool, true, false, nat_lt, List, [], ◌∷◌, length, take, Option, Some, None, Err, refl, sym, ap, subst, ◌∙◌, inl, inr, IfSome, Vec, arith}
 use Rattle.std.specs.declared.alloc.Global.{Global}
 use Rattle.std.specs.Bool.{⊤}
 use Rattle.std.specs.List.{list_any}
 use Rattle.std.proofs.lemmas.Bool.Decides.{nat_tests}
 use Rattle.std.proofs.lemmas.List.{take_all, length-take}
 use Rattle.clk_packet.specs.declared.fault.Fault.{Fault}
-use Rattle.clk_packet.specs.declared.fault.Fault.TheVariants.{Memory, UnknownSender, BadScript, TooLarge, Write}
+use Rattle.clk_packet.specs.declared.fault.Fault.TheVariants.{Memory, Read, UnknownSender, BadScript, TooLarge, Write}
 use Rattle.clk_sched.specs.declared.visit.Visit.{Visit}
 use Rattle.clk_sched.specs.Tree.{Tree}
 use Rattle.clk_tree.specs.Plan.{Planned}
@@ -20,6 +20,7 @@ use Rattle.clk_packet.specs.Bytes.{read_failures, write_failures, OfBytes}
 use Rattle.clk_router.specs.Events.{Setup, sender_numbers, plan_setup}
 use Rattle.clk_script.specs.Meaning.{names_of, Writes, MeansWith, MeansOver, MeansOverWith, Explains}
 use Rattle.clk_script.specs.declared.recorder.Recorder.{Recorder}
+use Rattle.clk_script.specs.inside.Reading.{IsNotRead}
 use Rattle.clk_script.specs.inside.Recorder.{named_by, names_in, Starts}
 use Rattle.clk_script.proofs.AnswerLemmas.{names-its}
 use Rattle.clk_packet.proofs.Callers.Written.{of-weaker}
@@ -114,6 +115,16 @@ of_first names drained number (l ∷ ls) = by_fault (fault_at names drained numb
     by_fault None e here rest = rw e rest
     by_fault (Some fault) e here rest = rw e (rw e at here)
 
+-- and no failure of a reader is among them
+pub not-read : (T : Type 0) (names : Names) (drained : Bool) (number : ℕ) (ls : List Line) (fault : Fault) → first_fault names drained number ls ≡ Some fault → (n : ℕ) → read_failures {T = T} (Err fault) n ≡ n
+not-read T names drained number ls fault e n = by_kind fault (rw e at (of_first names drained number ls))
+  where
+    by_kind : (fault : Fault) → IsOfScript fault → read_failures {T = T} (Err fault) n ≡ n
+    by_kind TooLarge kind = refl
+    by_kind (BadScript number) kind = refl
+    by_kind (UnknownSender sender) kind = refl
+    by_kind fault kind = absurd kind
+
 of_script : (names : Names) (script : List ℕ) → IfSome (script_fault names script) IsOfScript
 of_script names script = by_test (nat_lt most_script_bytes (length script)) refl
   where
@@ -124,7 +135,6 @@ of_script names script = by_test (nat_lt most_script_bytes (length script)) refl
 -- what a refusal of the script's first bytes says
 pub record IsRefusal (setup : Setup) (known : Option (List ℕ)) (fault : Fault) : Type 0 where
   pub explains : Explains setup known fault
-  pub reads : (n : ℕ) → read_failures {T = Unit {0}} (Err fault) n ≡ n
   pub writes : (n : ℕ) → write_failures {T = Unit {0}} (Err fault) n ≡ n
   pub not_write : fault ≢ Write
 
@@ -134,23 +144,28 @@ named names None bytes fault is e = tt
 named names (Some all) bytes fault is e = sym (fault-cut names all) ∙ ap (script_fault names) (sym is) ∙ e
 
 by_kind : (setup : Setup) (known : Option (List ℕ)) (fault : Fault) → IsOfScript fault → IfSome known (λ all. script_fault (names_of setup) all ≡ Some fault) → IsRefusal setup known fault
-by_kind setup known TooLarge kind h = record { explains = h; reads = λ n. refl; writes = λ n. refl; not_write = λ e. cc }
-by_kind setup known (BadScript number) kind h = record { explains = h; reads = λ n. refl; writes = λ n. refl; not_write = λ e. cc }
-by_kind setup known (UnknownSender sender) kind h = record { explains = h; reads = λ n. refl; writes = λ n. refl; not_write = λ e. cc }
+by_kind setup known TooLarge kind h = record { explains = h; writes = λ n. refl; not_write = λ e. cc }
+by_kind setup known (BadScript number) kind h = record { explains = h; writes = λ n. refl; not_write = λ e. cc }
+by_kind setup known (UnknownSender sender) kind h = record { explains = h; writes = λ n. refl; not_write = λ e. cc }
 by_kind setup known fault kind h = absurd kind
 
 -- memory may run out at any growth
 of-memory : (setup : Setup) (known : Option (List ℕ)) (fault : Fault) → fault ≡ Memory → IsRefusal setup known fault
-of-memory setup known fault e = subst (λ (f : Fault). IsRefusal setup known f) (sym e) (record { explains = tt; reads = λ n. refl; writes = λ n. refl; not_write = λ d. cc })
+of-memory setup known fault e = subst (λ (f : Fault). IsRefusal setup known f) (sym e) (record { explains = tt; writes = λ n. refl; not_write = λ d. cc })
 
--- why a script is refused as it is read
-pub IsRefusal-read : (setup : Setup) (router : Recorder) → Starts setup router → (known : Option (List ℕ)) (bytes : List ℕ) (fault : Fault) → IfSome known (λ all. bytes ≡ take (most_script_bytes + 1) all)
-    → (fault ≡ Memory) ⊎ (script_fault (names_in router) bytes ≡ Some fault) → IsRefusal setup known fault
-IsRefusal-read setup router starts known bytes fault is (inl e) = of-memory setup known fault e
-IsRefusal-read setup router starts known bytes fault is (inr e) =
+-- why a script isn't read
+pub not-read-why : (setup : Setup) (router : Recorder) → Starts setup router → (known : Option (List ℕ)) (fault : Fault) → IsNotRead (names_in router) known fault → IsRefusal setup known fault
+not-read-why setup router starts known fault (inl memory) = of-memory setup known fault memory
+not-read-why setup router starts known fault (inr (inl read)) = subst (λ (f : Fault). IsRefusal setup known f) (sym read) (record { explains = tt; writes = λ n. refl; not_write = λ d. cc })
+not-read-why setup router starts known fault (inr (inr (bytes, is, e))) =
     let here : script_fault (names_of setup) bytes ≡ Some fault = subst (λ names. script_fault names bytes ≡ Some fault) (names-its setup [] router starts.leads) e in
     let kind : IsOfScript fault = rw here at (of_script (names_of setup) bytes) in
     by_kind setup known fault kind (named (names_of setup) known bytes fault is here)
+
+-- A call that passes a fault on has failed to read as often.
+pub same-failures : (T U : Type 0) (fault : Fault) (n : ℕ) → read_failures {T = T} (Err fault) n ≡ read_failures {T = U} (Err fault) n
+same-failures T U Read n = refl
+same-failures T U fault n = refl
 
 -- the devices of a router are as many as its trees
 pub few-devices : (setup : Setup) (router : Recorder) (n : ℕ) → Starts setup router → n ≡ length router.router.setup.trees → n ≤ 65535

@@ -1,5 +1,6 @@
 -- What the code's own parts say to one another: no contract of a public call stands on it.
 pub mod Fields
 pub mod Lines
+pub mod Reading
 pub mod Recorder
 pub mod Rows

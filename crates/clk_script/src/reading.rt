@@ -1,20 +1,27 @@
-//! The reading of a script.
+//! The reading of a script, as its bytes come.
 
-ghost use Rattle.std.specs.Prelude.{◌≡◌, ◌≤◌, ◌+◌, ◌++◌, ◌⊎◌, true, false, None, Some, MatchResult, OnOk};
-ghost use Rattle.std.specs.List.{AllByRecursion};
+ghost use Rattle.std.specs.Prelude.{◌≡◌, ◌⊎◌, ◌≤◌, ◌<◌, ◌+◌, ◌++◌, ◌∷◌, [], false, None, Some, length, List, ℕ, MatchResult, OnOk, IsOkUnless};
+ghost use Rattle.std.specs.List.{AllByRecursion, filter_map};
 ghost use Rattle.clk_packet.specs.declared.fault.Fault.TheVariants.{Memory};
+ghost use Rattle.clk_packet.specs.Bytes.{Takes, read_failures};
 ghost use Rattle.clk_packet.specs.Lists.{AreRising};
-ghost use Rattle.clk_script.specs.Script.{lines_of, drain_in, command_fault, fault_at, first_fault, script_fault, most_lines};
+ghost use Rattle.clk_script.specs.Script.{lines_of, command_in, drain_in, command_fault, fault_at, first_fault, most_lines, most_script_bytes};
 ghost use Rattle.clk_script.specs.inside.Recorder.{named_by, IsReadable, IsReadableLine};
-ghost use Rattle.clk_script.specs.inside.Rows.{command_asked, asked_by, asked_in, IsToDo, IsReadFrom, CanBeRun};
+ghost use Rattle.clk_script.specs.inside.Rows.{command_asked, asked_by, asked_in, rows_of, IsToDo, IsReadFrom, CanBeRun};
+ghost use Rattle.clk_script.specs.inside.Reading.{AreRead, IsReading, IsWrong, HasCome, IsScriptOf, IsNotRead};
+ghost use Rattle.clk_script.specs.declared.script.Line.{Line};
 
 use crate::limits::{MAX_LINES, MAX_SCRIPT_BYTES};
 use crate::moment::Moment;
 use crate::rows::{Fate, Row};
 use crate::script::{Command, Line};
-use clk_packet::{Fault, Packet};
+use clk_packet::{Fault, Packet, Source};
 use clk_router::place_of;
+use memchr::memrchr;
 use std::alloc::Global;
+
+/// How many bytes are read at a time.
+const CHUNK: usize = 16_384;
 
 /// A script that was read.
 #[derive(Drop)]
@@ -25,66 +32,197 @@ pub struct Script {
     pub closing: Option<u64>,
 }
 
-/// Reads a script over senders of these numbers, and so many devices.
+/// A script that is being read.
+#[derive(Drop)]
+pub struct Reading {
+    /// What its lines so far hold.
+    pub script: Script,
+    /// How many lines were read.
+    pub lines: u32,
+    /// What is wrong with the first of them that has something wrong.
+    pub fault: Option<Fault>,
+}
+
+/// Reads a script over senders of these numbers, and so many devices, to its end. No more of it is held than its longest line and a chunk.
 ///
 /// # Errors
 ///
-/// Fault 1 where memory is refused; 18 for more than 33,554,432 bytes; then the fault of the first line that has one.
-pub fn read_script(
+/// Fault 1 where memory is refused; 19 where the reader fails; 18 for more than 33,554,432 bytes; then the fault of the first line that
+/// has one.
+pub fn read_script<R: Source>(
     alloc: Global,
+    reader: &mut R,
     numbers: &[u16],
     devices: usize,
-    text: &[u8],
 ) -> Result<Script, Fault>
     requires rising { AreRising numbers.now }
-    ensures { MatchResult result
-        (λ script. (script_fault (named_by numbers.now devices) text.now ≡ None)
-        × IsReadFrom text.now script × CanBeRun (named_by numbers.now devices) script)
-        (λ fault. (fault ≡ Memory) ⊎ (script_fault (named_by numbers.now devices) text.now ≡ Some fault)) }
+    ensures read { MatchResult result (IsScriptOf (named_by numbers.now devices) (R.Source.remaining reader.old))
+        (IsNotRead (named_by numbers.now devices) (R.Source.remaining reader.old)) }
+    ensures failures { R.Source.failures reader.new ≡ read_failures result (R.Source.failures reader.old) }
+    ensures limit { Takes (most_script_bytes + 1) (R.Source.remaining reader.old) (R.Source.remaining reader.new) }
 {
-    if text.len() > MAX_SCRIPT_BYTES {
-        return Err(Fault::TooLarge);
-    }
-    let mut rows = Vec::new(alloc);
-    let mut number = 0;
-    let mut rest = text;
-    while !rest.is_empty() {
-        let (line, after) = Line::next(rest);
-        number += 1;
-        if let Some(moment) = read_line(numbers, devices, number, line, &mut rows)? {
-            only_blank_lines(number, after)?;
-            return Ok(Script {
-                rows,
-                closing: Some(moment),
-            });
+    let mut reading = Reading::new(alloc);
+    let mut held = Vec::new(alloc);
+    let mut size = 0;
+    let mut chunk = [0; CHUNK];
+    while size <= MAX_SCRIPT_BYTES {
+        let room = (MAX_SCRIPT_BYTES + 1 - size).min(CHUNK);
+        let Ok(count) = reader.read(&mut chunk[..room]) else {
+            return Err(Fault::Read);
+        };
+        if count == 0 {
+            return reading.end(numbers, devices, &held);
         }
-        rest = after;
+        size += count;
+        reading.go_on(numbers, devices, &mut held, &chunk[..count])?;
     }
-    Ok(Script {
-        rows,
-        closing: None,
-    })
+    Err(Fault::TooLarge)
 }
 
-/// Adds a row for the line of this number, counted from 1, if it holds a command, and answers the moment of a drain. The line is one
-/// of the first 1,000,000 (fault 18), a command or blank (16), and names a sender (15) and a device (16) that are there. Fault 1 where
-/// memory is refused.
-fn read_line(
+impl Reading {
+    ghost use Rattle.clk_script.specs.Script.{Names};
+
+    /// Before its first line.
+    fn new(alloc: Global) -> Reading
+        ensures { (names : Names) → HasCome names [] result [] }
+    {
+        Reading {
+            script: Script {
+                rows: Vec::new(alloc),
+                closing: None,
+            },
+            lines: 0,
+            fault: None,
+        }
+    }
+
+    /// Reads what is held and a piece that follows it, as far as it has whole lines, and holds the rest. Fault 1 where memory is refused.
+    fn go_on(
+        &mut self,
+        numbers: &[u16],
+        devices: usize,
+        held: &mut Vec<u8>,
+        piece: &[u8],
+    ) -> Result<(), Fault>
+        requires rising { AreRising numbers.now }
+        requires come { (text : List ℕ) × HasCome (named_by numbers.now devices) text self.old held.old.items }
+        ensures come { OnOk result ((text : List ℕ) → HasCome (named_by numbers.now devices) text self.old held.old.items
+            → HasCome (named_by numbers.now devices) (text ++ piece.now) self.new held.new.items) }
+        ensures fault { IsOkUnless result Fault.Memory }
+    {
+        // Once something is wrong, nothing more is read.
+        if self.fault.is_some() {
+            return Ok(());
+        }
+        let Some(last) = memrchr(b'\n', piece) else {
+            held.extend_from_slice(piece)?;
+            return Ok(());
+        };
+        let (whole, rest) = piece.split_at(last + 1);
+        held.extend_from_slice(whole)?;
+        self.read_lines(numbers, devices, held)?;
+        held.clear();
+        held.extend_from_slice(rest)?;
+        Ok(())
+    }
+
+    /// The script, where this text is its last line, if it isn't empty.
+    ///
+    /// # Errors
+    ///
+    /// What is wrong with its first line that has something wrong. Fault 1 where memory is refused.
+    fn end(self, numbers: &[u16], devices: usize, last: &[u8]) -> Result<Script, Fault>
+        requires rising { AreRising numbers.now }
+        requires come { (text : List ℕ) × HasCome (named_by numbers.now devices) text self last.now }
+        ensures { (text : List ℕ) → HasCome (named_by numbers.now devices) text self last.now → MatchResult result
+            (λ script. (first_fault (named_by numbers.now devices) false 1 (lines_of text) ≡ None) × IsReadFrom text script × CanBeRun (named_by numbers.now devices) script)
+            (λ fault. (fault ≡ Memory) ⊎ (first_fault (named_by numbers.now devices) false 1 (lines_of text) ≡ Some fault)) }
+    {
+        if let Some(fault) = self.fault {
+            return Err(fault);
+        }
+        let mut reading = self;
+        reading.read_lines(numbers, devices, last)?;
+        match reading.fault {
+            Some(fault) => Err(fault),
+            None => Ok(reading.script),
+        }
+    }
+
+    /// Reads the lines of a text, up to the first that has something wrong. Fault 1 where memory is refused.
+    fn read_lines(&mut self, numbers: &[u16], devices: usize, text: &[u8]) -> Result<(), Fault>
+        requires rising { AreRising numbers.now }
+        requires none { self.old.fault ≡ None }
+        requires read { (lines : List Line) × AreRead (named_by numbers.now devices) lines self.old }
+        ensures read { OnOk result ((lines : List Line) → AreRead (named_by numbers.now devices) lines self.old
+            → IsReading (named_by numbers.now devices) (lines ++ lines_of text.now) self.new) }
+        ensures fault { IsOkUnless result Fault.Memory }
+    {
+        let mut rest = text;
+        while !rest.is_empty() {
+            let (line, after) = Line::next(rest);
+            self.read_line(numbers, devices, line)?;
+            if self.fault.is_some() {
+                return Ok(());
+            }
+            rest = after;
+        }
+        Ok(())
+    }
+
+    /// Reads the next line. Fault 1 where memory is refused.
+    #[inline(always)]
+    fn read_line(&mut self, numbers: &[u16], devices: usize, line: Line) -> Result<(), Fault>
+        requires rising { AreRising numbers.now }
+        requires readable { IsReadableLine line }
+        requires none { self.old.fault ≡ None }
+        requires read { (lines : List Line) × AreRead (named_by numbers.now devices) lines self.old }
+        ensures read { OnOk result ((lines : List Line) → AreRead (named_by numbers.now devices) lines self.old
+            → IsReading (named_by numbers.now devices) (lines ++ line ∷ []) self.new) }
+        ensures fault { IsOkUnless result Fault.Memory }
+    {
+        self.lines += 1;
+        match row_in(
+            numbers,
+            devices,
+            self.lines,
+            self.script.closing.is_some(),
+            line,
+        ) {
+            Ok(Some(row)) => {
+                self.script.rows.push(row)?;
+                Ok(())
+            }
+            Ok(None) => {
+                if let Line::Drain { moment } = line {
+                    self.script.closing = Some(moment);
+                }
+                Ok(())
+            }
+            Err(fault) => {
+                self.fault = Some(fault);
+                Ok(())
+            }
+        }
+    }
+}
+
+/// The row of the line of this number, counted from 1, if it holds a command, where a drain came before or none. The line is one of the
+/// first 1,000,000 (fault 18), a command or blank (16), blank after a drain (16), and names a sender (15) and a device (16) that are there.
+#[inline(always)]
+fn row_in(
     numbers: &[u16],
     devices: usize,
     number: u32,
+    drained: bool,
     line: Line,
-    rows: &mut Vec<Row>,
-) -> Result<Option<u64>, Fault>
+) -> Result<Option<Row>, Fault>
     requires rising { AreRising numbers.now }
     requires readable { IsReadableLine line }
-    requires to_do { AllByRecursion (IsToDo (named_by numbers.now devices)) rows.old.items }
-    ensures exact { MatchResult result
-        (λ drain. (fault_at (named_by numbers.now devices) false number line ≡ None)
-        × (drain ≡ drain_in line) × (asked_by rows.new.items ≡ asked_by rows.old.items ++ asked_in line))
-        (λ fault. (fault ≡ Memory) ⊎ (fault_at (named_by numbers.now devices) false number line ≡ Some fault)) }
-    ensures to_do { OnOk result (AllByRecursion (IsToDo (named_by numbers.now devices)) rows.new.items) }
-    ensures within { OnOk result (number ≤ most_lines) }
+    ensures { MatchResult result
+        (λ row. (fault_at (named_by numbers.now devices) drained number line ≡ None) × (asked_by (rows_of row) ≡ asked_in line)
+        × AllByRecursion (IsToDo (named_by numbers.now devices)) (rows_of row) × (number ≤ most_lines))
+        (λ fault. fault_at (named_by numbers.now devices) drained number line ≡ Some fault) }
 {
     if number > MAX_LINES {
         return Err(Fault::TooLarge);
@@ -92,12 +230,9 @@ fn read_line(
     match line {
         Line::Blank => Ok(None),
         Line::Malformed => Err(Fault::BadScript { line: number }),
-        Line::Drain { moment } => Ok(Some(moment)),
-        Line::Command(command) => {
-            let row = row_asked(numbers, devices, number, command)?;
-            rows.push(row)?;
-            Ok(None)
-        }
+        _ if drained => Err(Fault::BadScript { line: number }),
+        Line::Drain { .. } => Ok(None),
+        Line::Command(command) => Ok(Some(row_asked(numbers, devices, number, command)?)),
     }
 }
 
@@ -130,40 +265,5 @@ fn row_asked(numbers: &[u16], devices: usize, number: u32, command: Command) -> 
             }),
             None => Err(Fault::UnknownSender { sender }),
         },
-    }
-}
-
-/// Whether the lines of a text, which come after a drain that is the line of this number, have no fields. Fault 16 for the first that
-/// has one, and 18 for line 1,000,001.
-fn only_blank_lines(drain: u32, text: &[u8]) -> Result<(), Fault>
-    requires { drain ≤ most_lines }
-    ensures { (names : _) → MatchResult result
-        (λ blank. first_fault names true (drain + 1) (lines_of text.now) ≡ None)
-        (λ fault. first_fault names true (drain + 1) (lines_of text.now) ≡ Some fault) }
-{
-    let mut number = drain;
-    let mut rest = text;
-    while !rest.is_empty() {
-        let (line, after) = Line::next(rest);
-        number += 1;
-        blank_line(number, line)?;
-        rest = after;
-    }
-    Ok(())
-}
-
-/// Whether the line of this number, which comes after a drain, has no fields.
-fn blank_line(number: u32, line: Line) -> Result<(), Fault>
-    ensures fault { (names : _) → MatchResult result
-        (λ blank. fault_at names true number line ≡ None)
-        (λ fault. fault_at names true number line ≡ Some fault) }
-    ensures within { OnOk result (number ≤ most_lines) }
-{
-    if number > MAX_LINES {
-        return Err(Fault::TooLarge);
-    }
-    match line {
-        Line::Blank => Ok(()),
-        _ => Err(Fault::BadScript { line: number }),
     }
 }

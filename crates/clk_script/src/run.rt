@@ -9,12 +9,11 @@ ghost use Rattle.clk_packet.specs.Written.{WroteWhat};
 ghost use Rattle.clk_script.specs.Meaning.{MeansOver, MeansOverWith, ExplainsPlan};
 
 use crate::answer::answer_script;
-use crate::limits::MAX_SCRIPT_BYTES;
 use crate::past::Past;
 use crate::reading::read_script;
 use crate::recorder::Recorder;
 use crate::writing::write_answer;
-use clk_packet::{Fault, Sink, Source, let_go, read_up_to};
+use clk_packet::{Fault, Sink, Source};
 use clk_sched::Visit;
 use clk_tree::Plan;
 use std::alloc::Global;
@@ -83,10 +82,8 @@ fn run_plan<R: Source, W: Sink>(
     ensures limit { Takes (most_script_bytes + 1) (R.Source.remaining reader.old) (R.Source.remaining reader.new) }
 {
     let recorder = Recorder::new(alloc, plan, visits)?;
-    let text = read_up_to(alloc, reader, MAX_SCRIPT_BYTES + 1)?;
     let (senders, devices) = (recorder.router.senders(), recorder.router.devices());
-    let script = read_script(alloc, senders, devices, &text)?;
-    let_go(text);
+    let script = read_script(alloc, reader, senders, devices)?;
     let answer = answer_script(alloc, recorder, script)?;
     write_answer(&answer, writer)?;
     Ok(answer.past)

@@ -35,6 +35,10 @@ command_asked (row.Pull gave device moment) = Pull device moment
 abbrev pub asked_by : List Row → List Command
 asked_by rows = map command_asked rows
 
+-- a row, if there is one
+abbrev pub rows_of : Option Row → List Row
+rows_of row = cons_option row []
+
 abbrev pub asked_in : Line → List Command
 asked_in l = cons_option (command_in l) []
 

@@ -1,15 +1,17 @@
-use Rattle.std.proofs.Common.{◌≤◌, length}
-use Rattle.clk_script.specs.Script.{most_lines}
+use Rattle.std.proofs.Common.{◌≡◌, ◌≤◌, ◌-◌, List, ℕ, length}
+use Rattle.std.specs.Io.KnownBytes.{Consumes}
 use Rattle.clk_script.specs.inside.Recorder.{named_by}
-use Rattle.clk_script.proofs.ReadingLemmas.{HasRead}
+use Rattle.clk_script.specs.inside.Reading.{HasCome}
 use Rattle.clk_script.proofs.reading.read_script.Given as goal
 
--- the lines so far are read, and what is left follows them
-abbrev pub invariant-loop-rest : goal.invariant-loop-rest
-invariant-loop-rest l = record {
-  read : HasRead (named_by l.numbers l.devices) l.text l.rest l.number l.rows.items;
-  bound : l.number ≤ most_lines;
+-- A text of this size came.
+abbrev pub invariant-loop-size : goal.invariant-loop-size
+invariant-loop-size g l = record {
+  text : (text : List ℕ) × Consumes (g.R.Source.remaining l.fn.reader) (g.R.Source.remaining l.reader) text × (length text ≡ l.size) × HasCome (named_by l.numbers l.devices) text l.reading l.held.items;
+  failures : g.R.Source.failures l.reader ≡ g.R.Source.failures l.fn.reader;
+  most : l.size ≤ 33554433;
+  chunk : length l.chunk ≡ 16384;
 }
 
-abbrev pub decreases-loop-rest : goal.decreases-loop-rest
-decreases-loop-rest l = length l.rest
+abbrev pub decreases-loop-size : goal.decreases-loop-size
+decreases-loop-size g l = 33554433 - l.size

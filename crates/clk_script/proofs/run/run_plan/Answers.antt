@@ -1,18 +1,20 @@
-use Rattle.std.proofs.Common.{◌≡◌, ◌⊎◌, inr, None, Some, ap, sym, subst, ◌∙◌}
+use Rattle.std.proofs.Common.{◌≡◌, inr, None, ap, sym, subst, ◌∙◌}
 use Rattle.std.proofs.lemmas.Result.{err_from_is_err_and}
-use Rattle.clk_packet.specs.declared.fault.Fault.TheVariants.{Memory}
 use Rattle.clk_router.specs.Events.{Setup}
 use Rattle.clk_script.specs.Script.{script_fault}
 use Rattle.clk_script.specs.Meaning.{Explains}
-use Rattle.clk_script.specs.inside.Rows.{answer_text, CanBeRun, IsReadFrom}
+use Rattle.clk_script.specs.declared.past.Past.{Past}
+use Rattle.clk_script.specs.declared.reading.Script.{Script}
+use Rattle.clk_script.specs.inside.Reading.{IsNotRead}
+use Rattle.clk_script.specs.inside.Rows.{answer_text, CanBeRun}
 use Rattle.clk_packet.proofs.Callers.Written.{wrote-whole, wrote-front, wrote-nothing}
-use Rattle.clk_script.proofs.RefusalLemmas.{IsRefusal-read, same-names, meaning-known, meaning-over, few-devices, few-closings}
+use Rattle.clk_script.proofs.RefusalLemmas.{not-read-why, same-failures, same-names, meaning-known, meaning-over, few-devices, few-closings}
 use Rattle.clk_script.proofs.run.run_plan.Goals as goal
 
 pub answer_script-requires-clause-sound : goal.answer_script-requires-clause-sound
 answer_script-requires-clause-sound g c =
     let names = same-names c.in_ok-recorder.recorder _ _ c.senders-senders.ensures.numbers c.devices-devices.ensures.count in
-    subst (λ names. CanBeRun names c.in_ok-script.script) names c.in_ok-script.ensures.2
+    subst (λ names. CanBeRun names c.in_ok-script.script) names c.in_ok-script.ensures.read.runs
 
 -- a report takes as many devices as there are, and so do closings
 pub write_answer-requires-clause-few : goal.write_answer-requires-clause-few
@@ -21,14 +23,14 @@ write_answer-requires-clause-few g c = few-devices c.in_ok-recorder.recorder.rou
 pub write_answer-requires-clause-closings : goal.write_answer-requires-clause-closings
 write_answer-requires-clause-closings g c = few-closings c.in_ok-recorder.recorder.router.setup c.in_ok-recorder.recorder c.in_ok-answer.answer.closing c.in_ok-recorder.ensures.starts c.in_ok-answer.ensures.closings
 
--- what is wrong with the script
+-- why the script isn't read
 pub returns-in_err-script-clause-wrote : goal.returns-in_err-script-clause-wrote
 returns-in_err-script-clause-wrote g c =
     let p = err_from_is_err_and c.from_residual-in_err-script.result c.from_residual-in_err-script.ensures.1 in
     let names = same-names c.in_ok-recorder.recorder _ _ c.senders-senders.ensures.numbers c.devices-devices.ensures.count in
     let fault = c.in_err-script.field-0.0 in
-    let why = subst (λ names. (fault ≡ Memory) ⊎ (script_fault names c.in_ok-text.text.items ≡ Some fault)) names (rw c.deref.ensures.value at c.in_err-script.ensures) in
-    let refusal = IsRefusal-read c.in_ok-recorder.recorder.router.setup c.in_ok-recorder.recorder c.in_ok-recorder.ensures.starts _ c.in_ok-text.text.items fault c.in_ok-text.ensures.bytes why in
+    let known = g.R.Source.remaining c.args.reader.now in
+    let refusal = not-read-why c.in_ok-recorder.recorder.router.setup c.in_ok-recorder.recorder c.in_ok-recorder.ensures.starts known fault (subst (λ names. IsNotRead names known fault) names c.in_err-script.ensures.read) in
     rw (p.1, p.2) (wrote-nothing _ _ _ refusal.not_write)
 
 pub returns-in_err-script-clause-fault : goal.returns-in_err-script-clause-fault
@@ -36,27 +38,23 @@ returns-in_err-script-clause-fault g c =
     let p = err_from_is_err_and c.from_residual-in_err-script.result c.from_residual-in_err-script.ensures.1 in
     let names = same-names c.in_ok-recorder.recorder _ _ c.senders-senders.ensures.numbers c.devices-devices.ensures.count in
     let fault = c.in_err-script.field-0.0 in
-    let why = subst (λ names. (fault ≡ Memory) ⊎ (script_fault names c.in_ok-text.text.items ≡ Some fault)) names (rw c.deref.ensures.value at c.in_err-script.ensures) in
-    let refusal = IsRefusal-read c.in_ok-recorder.recorder.router.setup c.in_ok-recorder.recorder c.in_ok-recorder.ensures.starts _ c.in_ok-text.text.items fault c.in_ok-text.ensures.bytes why in
+    let known = g.R.Source.remaining c.args.reader.now in
+    let refusal = not-read-why c.in_ok-recorder.recorder.router.setup c.in_ok-recorder.recorder c.in_ok-recorder.ensures.starts known fault (subst (λ names. IsNotRead names known fault) names c.in_err-script.ensures.read) in
     let opened = c.in_ok-recorder.ensures.opened in
-    rw (p.1, p.2) (inr (opened.trees, opened.are, subst (λ (s : Setup). Explains s (g.R.Source.remaining c.args.reader.now) fault) (ap (λ k. k.setup) opened.is) refusal.explains))
+    rw (p.1, p.2) (inr (opened.trees, opened.are, subst (λ (s : Setup). Explains s known fault) (ap (λ k. k.setup) opened.is) refusal.explains))
 
 pub returns-in_err-script-clause-read_failures : goal.returns-in_err-script-clause-read_failures
 returns-in_err-script-clause-read_failures g c =
     let p = err_from_is_err_and c.from_residual-in_err-script.result c.from_residual-in_err-script.ensures.1 in
-    let names = same-names c.in_ok-recorder.recorder _ _ c.senders-senders.ensures.numbers c.devices-devices.ensures.count in
-    let fault = c.in_err-script.field-0.0 in
-    let why = subst (λ names. (fault ≡ Memory) ⊎ (script_fault names c.in_ok-text.text.items ≡ Some fault)) names (rw c.deref.ensures.value at c.in_err-script.ensures) in
-    let refusal = IsRefusal-read c.in_ok-recorder.recorder.router.setup c.in_ok-recorder.recorder c.in_ok-recorder.ensures.starts (g.R.Source.remaining c.args.reader.now) c.in_ok-text.text.items fault c.in_ok-text.ensures.bytes why in
-    rw (p.1, p.2) (c.in_ok-text.ensures.fault ∙ sym (refusal.reads _))
+    rw (p.1, p.2) (c.in_err-script.ensures.failures ∙ same-failures Script Past c.in_err-script.field-0.0 _)
 
 pub returns-in_err-script-clause-write_failures : goal.returns-in_err-script-clause-write_failures
 returns-in_err-script-clause-write_failures g c =
     let p = err_from_is_err_and c.from_residual-in_err-script.result c.from_residual-in_err-script.ensures.1 in
     let names = same-names c.in_ok-recorder.recorder _ _ c.senders-senders.ensures.numbers c.devices-devices.ensures.count in
     let fault = c.in_err-script.field-0.0 in
-    let why = subst (λ names. (fault ≡ Memory) ⊎ (script_fault names c.in_ok-text.text.items ≡ Some fault)) names (rw c.deref.ensures.value at c.in_err-script.ensures) in
-    let refusal = IsRefusal-read c.in_ok-recorder.recorder.router.setup c.in_ok-recorder.recorder c.in_ok-recorder.ensures.starts (g.R.Source.remaining c.args.reader.now) c.in_ok-text.text.items fault c.in_ok-text.ensures.bytes why in
+    let known = g.R.Source.remaining c.args.reader.now in
+    let refusal = not-read-why c.in_ok-recorder.recorder.router.setup c.in_ok-recorder.recorder c.in_ok-recorder.ensures.starts known fault (subst (λ names. IsNotRead names known fault) names c.in_err-script.ensures.read) in
     rw (p.1, p.2) (sym (refusal.writes _))
 
 -- What a router's answer means, with what it wrote.
@@ -64,18 +62,18 @@ pub returns-clause-wrote : goal.returns-clause-wrote
 returns-clause-wrote g c =
     let recorder = c.in_ok-recorder.recorder in
     let setup = recorder.router.setup in
-    let bytes = c.in_ok-text.text.items in
-    let script = c.in_ok-script.script in
+    let source = c.in_ok-script.ensures.read in
+    let bytes = source.text in
     let opened = c.in_ok-recorder.ensures.opened in
     let starts = c.in_ok-recorder.ensures.starts in
     let names = same-names recorder _ _ c.senders-senders.ensures.numbers c.devices-devices.ensures.count in
-    let read = subst (λ names. (script_fault names bytes ≡ None) × IsReadFrom bytes script × CanBeRun names script) names (rw c.deref.ensures.value at c.in_ok-script.ensures) in
-    let means = rw (read.1.rows, read.1.closing) at (c.in_ok-answer.ensures.means setup starts) in
+    let sound = subst (λ names. script_fault names bytes ≡ None) names source.sound in
+    let means = rw (source.holds.rows, source.holds.closing) at (c.in_ok-answer.ensures.means setup starts) in
     let text = answer_text c.in_ok-answer.answer in
     wrote-whole _ _ _ _ text (
       means.0,
       (λ kept. means.1 (ap (λ k. k.keeps.visits) opened.is ∙ kept)),
-      meaning-over c.args.plan.now opened.trees setup opened.are (ap (λ k. k.setup) opened.is) _ text means.0 (meaning-known setup recorder starts _ bytes text means.0 c.in_ok-text.ensures.bytes read.0 means.2),
+      meaning-over c.args.plan.now opened.trees setup opened.are (ap (λ k. k.setup) opened.is) _ text means.0 (meaning-known setup recorder starts _ bytes text means.0 source.is_text sound means.2),
     )
     c.in_ok-write_answer.ensures.whole
 
@@ -84,15 +82,15 @@ returns-in_err-write_answer-clause-wrote g c =
     let p = err_from_is_err_and c.from_residual-in_err-write_answer.result c.from_residual-in_err-write_answer.ensures.1 in
     let recorder = c.in_ok-recorder.recorder in
     let setup = recorder.router.setup in
-    let bytes = c.in_ok-text.text.items in
-    let script = c.in_ok-script.script in
+    let source = c.in_ok-script.ensures.read in
+    let bytes = source.text in
     let opened = c.in_ok-recorder.ensures.opened in
     let starts = c.in_ok-recorder.ensures.starts in
     let names = same-names recorder _ _ c.senders-senders.ensures.numbers c.devices-devices.ensures.count in
-    let read = subst (λ names. (script_fault names bytes ≡ None) × IsReadFrom bytes script × CanBeRun names script) names (rw c.deref.ensures.value at c.in_ok-script.ensures) in
-    let means = rw (read.1.rows, read.1.closing) at (c.in_ok-answer.ensures.means setup starts) in
+    let sound = subst (λ names. script_fault names bytes ≡ None) names source.sound in
+    let means = rw (source.holds.rows, source.holds.closing) at (c.in_ok-answer.ensures.means setup starts) in
     let text = answer_text c.in_ok-answer.answer in
     rw (p.1, p.2)
     (wrote-front _ _ _ _ text c.in_err-write_answer.ensures.fault
-    (means.0, tt, meaning-over c.args.plan.now opened.trees setup opened.are (ap (λ k. k.setup) opened.is) _ text means.0 (meaning-known setup recorder starts _ bytes text means.0 c.in_ok-text.ensures.bytes read.0 means.2))
+    (means.0, tt, meaning-over c.args.plan.now opened.trees setup opened.are (ap (λ k. k.setup) opened.is) _ text means.0 (meaning-known setup recorder starts _ bytes text means.0 source.is_text sound means.2))
     c.in_err-write_answer.ensures.front)

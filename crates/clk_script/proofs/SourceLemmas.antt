@@ -1,0 +1,72 @@
+-- What a script's reading comes to, by what its source gave.
+use Rattle.std.proofs.Common.{◌≡◌, ◌+◌, ◌≤◌, ℕ, nat_lt, true, false, List, [], ◌++◌, length, take, Option, Some, None, Result, Ok, Err, MatchResult, ◌⊎◌, inl, inr, refl, sym, ap, subst, ◌∙◌, append_assoc, append-nil, arith}
+use Rattle.std.specs.Io.KnownBytes.{Consumes, IsAtEnd}
+use Rattle.std.proofs.Math.Seq.{take-append_seam}
+use Rattle.std.proofs.lemmas.Bool.Decides.{nat_tests}
+use Rattle.std.proofs.lemmas.List.{take_all}
+use Rattle.clk_packet.specs.declared.fault.Fault.{Fault}
+use Rattle.clk_packet.specs.declared.fault.Fault.TheVariants.{Memory, TooLarge}
+use Rattle.clk_packet.specs.Bytes.{Takes, read_failures}
+use Rattle.clk_script.specs.declared.reading.Script.{Script}
+use Rattle.clk_script.specs.Script.{Names, lines_of, first_fault, script_fault, most_script_bytes}
+use Rattle.clk_script.specs.inside.Rows.{IsReadFrom, CanBeRun}
+use Rattle.clk_script.specs.inside.Reading.{IsTextOf, IsScriptOf, IsNotRead}
+use Rattle.clk_script.proofs.RefusalLemmas.{not-read}
+
+-- A source gave a text, and then a piece.
+pub consumed-more : (old now new : Option (List ℕ)) (text piece : List ℕ) → Consumes old now text → Consumes now new piece → Consumes old new (text ++ piece)
+consumed-more None now new text piece h k = tt
+consumed-more (Some all) None new text piece h k = absurd h
+consumed-more (Some all) (Some rest) None text piece h k = absurd k
+consumed-more (Some all) (Some rest) (Some last) text piece h k = h ∙ ap (λ l. text ++ l) k ∙ sym (append_assoc text piece last)
+
+pub consumed-none : (known : Option (List ℕ)) → Consumes known known []
+consumed-none None = tt
+consumed-none (Some all) = refl
+
+pub consumed-takes : (old new : Option (List ℕ)) (text : List ℕ) (most : ℕ) → Consumes old new text → length text ≤ most → Takes most old new
+consumed-takes None new text most h l = tt
+consumed-takes (Some all) None text most h l = absurd h
+consumed-takes (Some all) (Some rest) text most h l = (text, h, l)
+
+-- What it gave to its end is all that it had, and what it gave beyond the limit is as much as counts.
+consumed-all : (old new : Option (List ℕ)) (text : List ℕ) → Consumes old new text → IsAtEnd new → length text ≤ most_script_bytes → IsTextOf old text
+consumed-all None new text h end l = tt
+consumed-all (Some all) None text h end l = absurd h
+consumed-all (Some all) (Some rest) text h end l =
+    let same : all ≡ text = h ∙ ap (λ r. text ++ r) end ∙ append-nil text in
+    sym (ap (take (most_script_bytes + 1)) same ∙ take_all (most_script_bytes + 1) text (omega (arith, l)))
+
+pub consumed-ended : (old now new : Option (List ℕ)) (text piece : List ℕ) → Consumes old now text → Consumes now new piece → piece ≡ [] → IsAtEnd new → length text ≤ most_script_bytes → IsTextOf old text
+consumed-ended old now new text piece h k none end l =
+    consumed-all old new text (subst (Consumes old new) (ap (λ p. text ++ p) none ∙ append-nil text) (consumed-more old now new text piece h k)) end l
+
+consumed-long : (old new : Option (List ℕ)) (text : List ℕ) → Consumes old new text → length text ≡ most_script_bytes + 1 → IsTextOf old text
+consumed-long None new text h l = tt
+consumed-long (Some all) None text h l = absurd h
+consumed-long (Some all) (Some rest) text h l = sym (ap (take (most_script_bytes + 1)) h ∙ ap (λ n. take n (text ++ rest)) (sym l) ∙ take-append_seam text rest)
+
+-- A script that isn't too long has the fault of its lines.
+small-fault : (names : Names) (text : List ℕ) → length text ≤ most_script_bytes → script_fault names text ≡ first_fault names false 1 (lines_of text)
+small-fault names text l = let no : nat_lt most_script_bytes (length text) ≡ false = grind (arith, nat_tests) in rw no refl
+
+long-fault : (names : Names) (text : List ℕ) → length text ≡ most_script_bytes + 1 → script_fault names text ≡ Some TooLarge
+long-fault names text l = let yes : nat_lt most_script_bytes (length text) ≡ true = grind (arith, nat_tests) in rw yes refl
+
+pub not-read-long : (names : Names) (old new : Option (List ℕ)) (text : List ℕ) → Consumes old new text → length text ≡ most_script_bytes + 1 → IsNotRead names old TooLarge
+not-read-long names old new text h l = inr (inr (text, consumed-long old new text h l, long-fault names text l))
+
+-- what the end of a script's lines says of them
+abbrev pub EndsAs : Names → List ℕ → Result Script Fault → Type 0
+EndsAs names text result =
+    MatchResult result (λ script. (first_fault names false 1 (lines_of text) ≡ None) × IsReadFrom text script × CanBeRun names script) (λ fault. (fault ≡ Memory) ⊎ (first_fault names false 1 (lines_of text) ≡ Some fault))
+
+pub ended : (names : Names) (known : Option (List ℕ)) (text : List ℕ) (result : Result Script Fault) → IsTextOf known text → length text ≤ most_script_bytes → EndsAs names text result → MatchResult result (IsScriptOf names known) (IsNotRead names known)
+ended names known text (Ok script) is l h = record { text = text; is_text = is; sound = small-fault names text l ∙ h.0; holds = h.1; runs = h.2 }
+ended names known text (Err fault) is l (inl memory) = inl memory
+ended names known text (Err fault) is l (inr e) = inr (inr (text, is, small-fault names text l ∙ e))
+
+pub ended-failures : (names : Names) (text : List ℕ) (result : Result Script Fault) (n : ℕ) → EndsAs names text result → read_failures result n ≡ n
+ended-failures names text (Ok script) n h = refl
+ended-failures names text (Err fault) n (inl memory) = rw memory refl
+ended-failures names text (Err fault) n (inr e) = not-read Script names false 1 (lines_of text) fault e n
