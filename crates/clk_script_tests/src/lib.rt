@@ -18,6 +18,8 @@ mod limits;
 #[cfg(test)]
 mod logged;
 #[cfg(test)]
+mod pieces;
+#[cfg(test)]
 mod queues;
 #[cfg(test)]
 mod row;
