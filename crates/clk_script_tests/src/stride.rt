@@ -2,11 +2,13 @@
 
 use crate::row::assert_ends;
 use crate::text::{Pieces, text_of};
-use crate::trees::{STRIDE_1_1, STRIDE_3_1, STRIDE_32768_1, STRIDE_OVER_DEFICIT};
+use crate::trees::{
+    STRIDE_1_1, STRIDE_3_1, STRIDE_32768_1, STRIDE_OVER_DEFICIT, STRIDE_OVER_TWELVE,
+};
 use clk_rows::Row;
 
 /// Scripts, and what they write.
-pub const ROWS: [Row; 4] = [
+pub const ROWS: [Row; 5] = [
     Row {
         name: "an idle input gets the pass of the winner",
         tree: STRIDE_1_1,
@@ -24,6 +26,30 @@ pub const ROWS: [Row; 4] = [
         5,1,1,1,1,1,1,1,0\n5,0,0,1,1,1,1,1,0\n\
         6,1,0,1,0,4,1,1,0\n6,0,0,1,0,4,1,1,0\n\
         7,1,1,1,1,2,1,1,0\n7,0,0,1,1,2,1,1,0\n",
+    },
+    Row {
+        name: "queues that have nothing are passed over by rank, and visited",
+        tree: STRIDE_OVER_TWELVE,
+        script: "send 11 1\nsend 11 2\nsend 11 3\nsend 2 5\npull 0\npull 0\npull 0\npull 0\npull 0\nsend 10 6\npull 0\n",
+        answer: "11#0 1 accepted\n11#1 2 accepted\n11#2 3 accepted\n2#0 5 accepted\n\
+        pull 0: 2#0 5\npull 0: 11#0 1\npull 0: 11#1 2\npull 0: 11#2 3\npull 0: none\n\
+        10#0 6 accepted\npull 0: 10#0 6\n",
+        visits: "0,1,0,1,,,,0,0\n0,1,1,1,,,,0,0\n0,1,2,1,2,0,5,1,0\n0,0,0,1,2,0,5,1,0\n\
+        1,1,0,1,,,,0,0\n1,1,1,1,,,,0,0\n1,1,3,1,,,,0,0\n1,1,4,1,,,,0,0\n1,1,5,1,,,,0,0\n\
+        1,1,6,1,,,,0,0\n1,1,7,1,,,,0,0\n1,1,8,1,,,,0,0\n1,1,9,1,,,,0,0\n1,1,10,1,,,,0,0\n\
+        1,1,11,1,11,0,1,1,0\n1,0,0,1,11,0,1,1,0\n\
+        2,1,0,1,,,,0,0\n2,1,1,1,,,,0,0\n2,1,3,1,,,,0,0\n2,1,4,1,,,,0,0\n2,1,5,1,,,,0,0\n\
+        2,1,6,1,,,,0,0\n2,1,7,1,,,,0,0\n2,1,8,1,,,,0,0\n2,1,9,1,,,,0,0\n2,1,10,1,,,,0,0\n\
+        2,1,11,1,11,1,2,1,0\n2,0,0,1,11,1,2,1,0\n\
+        3,1,0,1,,,,0,0\n3,1,1,1,,,,0,0\n3,1,3,1,,,,0,0\n3,1,4,1,,,,0,0\n3,1,5,1,,,,0,0\n\
+        3,1,6,1,,,,0,0\n3,1,7,1,,,,0,0\n3,1,8,1,,,,0,0\n3,1,9,1,,,,0,0\n3,1,10,1,,,,0,0\n\
+        3,1,11,1,11,2,3,1,0\n3,0,0,1,11,2,3,1,0\n\
+        4,1,0,1,,,,0,0\n4,1,1,1,,,,0,0\n4,1,3,1,,,,0,0\n4,1,4,1,,,,0,0\n4,1,5,1,,,,0,0\n\
+        4,1,6,1,,,,0,0\n4,1,7,1,,,,0,0\n4,1,8,1,,,,0,0\n4,1,9,1,,,,0,0\n4,1,10,1,,,,0,0\n\
+        4,1,11,1,,,,0,0\n4,1,2,1,,,,0,0\n4,0,0,1,,,,0,0\n\
+        5,1,0,1,,,,0,0\n5,1,1,1,,,,0,0\n5,1,3,1,,,,0,0\n5,1,4,1,,,,0,0\n5,1,5,1,,,,0,0\n\
+        5,1,6,1,,,,0,0\n5,1,7,1,,,,0,0\n5,1,8,1,,,,0,0\n5,1,9,1,,,,0,0\n5,1,10,1,10,0,6,1,0\n\
+        5,0,0,1,10,0,6,1,0\n",
     },
     Row {
         name: "a pull that finds nothing changes no pass",
