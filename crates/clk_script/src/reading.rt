@@ -21,7 +21,7 @@ use memchr::memrchr;
 use std::alloc::Global;
 
 /// How many bytes are read at a time.
-const CHUNK: usize = 16_384;
+const CHUNK: usize = 4096;
 
 /// A script that was read.
 #[derive(Drop)]

@@ -76,7 +76,7 @@ fn write_rows<W: Sink>(
 ) -> Result<(), Fault>
     ensures { Passes (W.Sink.taken writer.old) (W.Sink.taken writer.new)
         (W.Sink.failures writer.old) (W.Sink.failures writer.new) result
-        lines.old.held.items (rows_text several rows.now emitted.now put_out.now) lines.new.held.items }
+        lines.old (rows_text several rows.now emitted.now put_out.now) lines.new }
 {
     let mut line = [0; LINE];
     let mut given = emitted;
@@ -176,7 +176,7 @@ fn write_closings<W: Sink>(
     requires { device + length closings.now ≤ MAX_DEVICES }
     ensures { Passes (W.Sink.taken writer.old) (W.Sink.taken writer.new)
         (W.Sink.failures writer.old) (W.Sink.failures writer.new) result
-        lines.old.held.items (closings_text several device (lists_of closings.now)) lines.new.held.items }
+        lines.old (closings_text several device (lists_of closings.now)) lines.new }
 {
     let [departures, closings @ ..] = closings else {
         return Ok(());
@@ -195,7 +195,7 @@ fn write_departures<W: Sink>(
 ) -> Result<(), Fault>
     ensures { Passes (W.Sink.taken writer.old) (W.Sink.taken writer.new)
         (W.Sink.failures writer.old) (W.Sink.failures writer.new) result
-        lines.old.held.items (flat_map (departure_text several device) departures.now) lines.new.held.items }
+        lines.old (flat_map (departure_text several device) departures.now) lines.new }
 {
     let mut line = [0; LINE];
     for departure in departures {

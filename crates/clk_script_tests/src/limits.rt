@@ -64,9 +64,11 @@ fn a_script_has_a_million_lines_at_most(rt: HostRuntime) {
     }
 }
 
+// Its length is told before what is wrong with its first line.
 #[test]
 fn a_script_has_32_mebibytes_at_most(rt: HostRuntime) {
-    let script = vec![in rt.alloc(); b' '; BYTES + 1].expect(&rt, "ample memory");
+    let mut script = vec![in rt.alloc(); b' '; BYTES + 1].expect(&rt, "ample memory");
+    script[..2].copy_from_slice(b"x\n");
     assert_ends(
         &rt,
         rt.alloc(),

@@ -1,4 +1,3 @@
-use Rattle.std.proofs.Common.{ap}
 use Rattle.std.proofs.lemmas.Result.{err_from_is_err_and}
 use Rattle.clk_packet.proofs.Callers.Bytes.{Wrote-then}
 use Rattle.clk_script.proofs.PassLemmas.{Passes-wrote, Passes-failed}
@@ -7,10 +6,7 @@ use Rattle.clk_script.proofs.lines.Lines.add.Goals as goal
 pub returns-in_err-write : goal.returns-in_err-write
 returns-in_err-write g c =
     let p = err_from_is_err_and c.from_residual.result c.from_residual.ensures.1 in
-    let failed = rw (ap (λ h. h.items) c.in-Err.ensures.err) at c.in_err-write.ensures.wrote in
-    rw (p.1, p.2) (Passes-failed _ _ _ _ _ c.args.self.now.held.items c.args.line.now _ failed)
+    rw (p.1, p.2) (Passes-failed _ _ _ _ _ c.args.self.now c.args.line.now _ c.in_err-write.ensures.wrote)
 
 pub returns : goal.returns
-returns g c =
-    let wrote = rw (ap (λ h. h.items) c.in-Err.ensures.err) at c.in_ok-write.ensures.wrote in
-    Passes-wrote _ _ _ _ c.write_all.result c.args.self.now.held.items c.args.line.now _ (Wrote-then _ _ _ _ _ _ _ _ _ _ wrote c.write_all.ensures) c.in_ok-write.ensures.empty
+returns g c = Passes-wrote _ _ _ _ c.write_all.result c.args.self.now c.args.line.now _ (Wrote-then _ _ _ _ _ _ _ _ _ _ c.in_ok-write.ensures.wrote c.write_all.ensures) c.in_ok-write.ensures.empty
