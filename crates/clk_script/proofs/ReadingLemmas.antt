@@ -8,7 +8,6 @@ use Rattle.std.proofs.lemmas.Bool.Decides.{nat_tests}
 use Rattle.std.proofs.lemmas.List.{length-map, map-append}
 use Rattle.std.proofs.lemmas.List.Elements.{filter_map-append}
 use Rattle.std.proofs.lemmas.List.Splits.{length-slice_split}
-use Rattle.memchr.specs.Find.{IsLastByte, is_byte}
 use Rattle.clk_packet.specs.declared.fault.Fault.{Fault}
 use Rattle.clk_packet.proofs.Callers.Lists.{all-append}
 use Rattle.clk_script.specs.declared.script.Line.{Line}
@@ -231,6 +230,9 @@ come-lines names text line rest held r new h reading = by_fault new.fault readin
         ∙ ap (first_fault names false 1) (lines_of-both front (rest ++ later) ends ∙ ap (λ ls. ls ++ lines_of (rest ++ later)) lines_are)
         ∙ k (lines_of (rest ++ later))
 
+pub come-line : (names : Names) (text line held : List ℕ) (r new : Reading) (h : AreHeld names text r held) → IsReading names (lines_of h.front ++ lines_of (held ++ (line ++ 10 ∷ []))) new → HasCome names (text ++ (line ++ 10 ∷ [])) new []
+come-line names text line held r new h reading = subst (λ l. HasCome names (text ++ l) new []) (append-nil (line ++ 10 ∷ [])) (come-lines names text line [] held r new h reading)
+
 -- What a script comes to once all its lines are read.
 abbrev pub Ends : Names → List ℕ → Reading → Type 0
 Ends names text r =
@@ -260,12 +262,11 @@ ends-wrong names text held r some h = by_fault r.fault some h
 pub come-first : (names : Names) (r : Reading) → r.fault ≡ None → r.script.rows.items ≡ [] → r.script.closing ≡ None → r.lines ≡ 0 → HasCome names [] r []
 come-first names r none rows undrained first = come-if names [] [] r none (record { front = []; whole = refl; ends = inl refl; read = AreRead-none names r rows undrained first })
 
--- a text up to its last line feed, and with that
-pub up-to-feed : (text : List ℕ) (last : ℕ) → IsLastByte (is_byte 10) text (Some last) → take (last + 1) text ≡ take last text ++ 10 ∷ []
-up-to-feed text last h =
-    let low = h.0.high in
-    let feed : get_or text last 0 ≡ 10 = let is = h.1 in grind (arith, nat_tests) in
-    ap (λ n. take n text) (let next : last + 1 ≡ suc last = omega arith in next) ∙ take-suc text last 0 low ∙ ap (λ byte. take last text ++ byte ∷ []) feed
+-- a text up to a line feed, and with that
+pub up-to-feed : (text : List ℕ) (place : ℕ) → place < length text → (get_or text place 0 == 10) ≡ true → take (place + 1) text ≡ take place text ++ 10 ∷ []
+up-to-feed text place low is =
+    let feed : get_or text place 0 ≡ 10 = grind (arith, nat_tests) in
+    ap (λ n. take n text) (let next : place + 1 ≡ suc place = omega arith in next) ∙ take-suc text place 0 low ∙ ap (λ byte. take place text ++ byte ∷ []) feed
 
 -- a number that stands at a place is one of them
 pub known-at : (numbers : List ℕ) (n place : ℕ) → slice_get numbers place ≡ Some n → list_any (λ s. s == n) numbers ≡ true

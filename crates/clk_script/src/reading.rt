@@ -17,11 +17,11 @@ use crate::rows::{Fate, Row};
 use crate::script::{Command, Line};
 use clk_packet::{Fault, Packet, Source};
 use clk_router::place_of;
-use memchr::memrchr;
+use memchr::{memchr, memrchr};
 use std::alloc::Global;
 
 /// How many bytes are read at a time.
-const CHUNK: usize = 4096;
+const CHUNK: usize = 65_536;
 
 /// A script that was read.
 #[derive(Drop)]
@@ -114,14 +114,42 @@ impl Reading {
         if self.fault.is_some() {
             return Ok(());
         }
+        let Some(first) = memchr(b'\n', piece) else {
+            held.extend_from_slice(piece)?;
+            return Ok(());
+        };
+        let (line, rest) = piece.split_at(first + 1);
+        held.extend_from_slice(line)?;
+        self.read_lines(numbers, devices, held)?;
+        held.clear();
+        self.go_on_from_line(numbers, devices, held, rest)?;
+        Ok(())
+    }
+
+    /// The same where nothing is held, so that the piece begins with a line. Its whole lines are read where they stand.
+    fn go_on_from_line(
+        &mut self,
+        numbers: &[u16],
+        devices: usize,
+        held: &mut Vec<u8>,
+        piece: &[u8],
+    ) -> Result<(), Fault>
+        requires rising { AreRising numbers.now }
+        requires none { held.old.items ≡ [] }
+        requires come { (text : List ℕ) × HasCome (named_by numbers.now devices) text self.old [] }
+        ensures come { OnOk result ((text : List ℕ) → HasCome (named_by numbers.now devices) text self.old []
+            → HasCome (named_by numbers.now devices) (text ++ piece.now) self.new held.new.items) }
+        ensures fault { IsOkUnless result Fault.Memory }
+    {
+        if self.fault.is_some() {
+            return Ok(());
+        }
         let Some(last) = memrchr(b'\n', piece) else {
             held.extend_from_slice(piece)?;
             return Ok(());
         };
         let (whole, rest) = piece.split_at(last + 1);
-        held.extend_from_slice(whole)?;
-        self.read_lines(numbers, devices, held)?;
-        held.clear();
+        self.read_lines(numbers, devices, whole)?;
         held.extend_from_slice(rest)?;
         Ok(())
     }

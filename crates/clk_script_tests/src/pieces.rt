@@ -98,14 +98,14 @@ fn a_line_may_be_longer_than_a_piece(rt: HostRuntime) {
     let alloc = rt.alloc();
     let mut script = Vec::new(alloc);
     for line in [&b"send 0 40"[..], b"send 1 60", b"pull 3", b"pull 4"] {
-        let blanks = vec![in alloc; b' '; 20_000].expect(&rt, "ample memory");
+        let blanks = vec![in alloc; b' '; 70_000].expect(&rt, "ample memory");
         script.extend_from_slice(line).expect(&rt, "ample memory");
         script
             .extend_from_slice(&blanks)
             .expect(&rt, "ample memory");
         script.extend_from_slice(b"\n").expect(&rt, "ample memory");
     }
-    for most in [4_096, 16_384, usize::MAX] {
+    for most in [4_096, 16_384, 65_536, usize::MAX] {
         assert_ends_in_pieces(
             &rt,
             alloc,

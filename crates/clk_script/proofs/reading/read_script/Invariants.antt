@@ -10,7 +10,7 @@ invariant-loop-size g l = record {
   text : (text : List ℕ) × Consumes (g.R.Source.remaining l.fn.reader) (g.R.Source.remaining l.reader) text × (length text ≡ l.size) × HasCome (named_by l.numbers l.devices) text l.reading l.held.items;
   failures : g.R.Source.failures l.reader ≡ g.R.Source.failures l.fn.reader;
   most : l.size ≤ 33554433;
-  chunk : length l.chunk ≡ 4096;
+  chunk : length l.chunk ≡ 65536;
 }
 
 abbrev pub decreases-loop-size : goal.decreases-loop-size
