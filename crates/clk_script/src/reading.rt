@@ -1,14 +1,14 @@
 //! The reading of a script, as its bytes come.
 
-ghost use Rattle.std.specs.Prelude.{◌≡◌, ◌⊎◌, ◌≤◌, ◌<◌, ◌+◌, ◌++◌, ◌∷◌, [], false, None, Some, length, List, ℕ, MatchResult, OnOk, IsOkUnless};
-ghost use Rattle.std.specs.List.{AllByRecursion, filter_map};
+ghost use Rattle.std.specs.Prelude.{◌≡◌, ◌⊎◌, ◌≤◌, ◌+◌, ◌++◌, ◌∷◌, [], false, None, Some, List, ℕ, MatchResult, OnOk, IsOkUnless};
+ghost use Rattle.std.specs.List.{AllByRecursion};
 ghost use Rattle.clk_packet.specs.declared.fault.Fault.TheVariants.{Memory};
 ghost use Rattle.clk_packet.specs.Bytes.{Takes, read_failures};
 ghost use Rattle.clk_packet.specs.Lists.{AreRising};
-ghost use Rattle.clk_script.specs.Script.{lines_of, command_in, drain_in, command_fault, fault_at, first_fault, most_lines, most_script_bytes};
+ghost use Rattle.clk_script.specs.Script.{lines_of, command_fault, fault_at, first_fault, most_lines, most_script_bytes};
 ghost use Rattle.clk_script.specs.inside.Recorder.{named_by, IsReadable, IsReadableLine};
 ghost use Rattle.clk_script.specs.inside.Rows.{command_asked, asked_by, asked_in, rows_of, IsToDo, IsReadFrom, CanBeRun};
-ghost use Rattle.clk_script.specs.inside.Reading.{AreRead, IsReading, IsWrong, HasCome, IsScriptOf, IsNotRead};
+ghost use Rattle.clk_script.specs.inside.Reading.{AreRead, IsReading, HasCome, IsScriptOf, IsNotRead};
 ghost use Rattle.clk_script.specs.declared.script.Line.{Line};
 
 use crate::limits::{MAX_LINES, MAX_SCRIPT_BYTES};

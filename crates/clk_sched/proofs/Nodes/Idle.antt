@@ -1,5 +1,5 @@
 -- Inputs of a node that are passed over, since they are queues that have nothing.
-use Rattle.std.proofs.Common.{◌≡◌, ℕ, zero, suc, ◌+◌, ◌-◌, ◌<◌, ◌≤◌, List, [], ◌∷◌, ◌++◌, take, drop, slice_get, Option, Some, None, IsSome, refl, sym, ap, ◌∙◌, subst, arith}
+use Rattle.std.proofs.Common.{◌≡◌, ℕ, zero, suc, ◌+◌, ◌-◌, ◌<◌, ◌≤◌, List, [], ◌∷◌, ◌++◌, length, take, drop, get_or, slice_get, Option, Some, None, IsSome, refl, sym, ap, ◌∙◌, subst, arith}
 use Rattle.std.proofs.lemmas.Bool.{false≢true}
 use Rattle.std.proofs.lemmas.List.{take-append-drop}
 use Rattle.clk_packet.specs.Limits.{most_inputs}
@@ -8,6 +8,8 @@ use Rattle.clk_packet.specs.declared.packet.Packet.{Packet}
 use Rattle.clk_sched.specs.declared.session.inputs.Input.TheVariants.{Queue}
 use Rattle.clk_sched.specs.declared.session.inputs.Inputs.{Inputs}
 use Rattle.clk_sched.specs.declared.session.nodes.Nodes.{Nodes}
+use Rattle.clk_sched.specs.declared.session.stride.Rank.{Rank}
+use Rattle.clk_sched.specs.inside.Ranks.{inputs_in}
 use Rattle.clk_sched.specs.inside.Places.{AllFit, AreWired, edges_in, input_at, option_input}
 use Rattle.clk_sched.specs.inside.Pulling.{CanPull, Keeps}
 use Rattle.clk_sched.specs.inside.Turning.{HasAskedAll, IsIdle}
@@ -86,6 +88,11 @@ there-few table x first n wired h some =
     by_place : (o : Option Inputs) → slice_get table x ≡ o → IsSome (option_input o (first + (n - 1))) → first + n ≤ most_inputs
     by_place None e k = absurd (false≢true k)
     by_place (Some p) e k = let below = some-below p.each.items (first + (n - 1)) k in let few = (wired x p e).few in omega (arith, below, few)
+
+-- the first input of an order is there
+pub first-there : (table : List Inputs) (x : ℕ) (order : List Rank) (d : Rank) → 0 < length order → AllByRecursion (λ i. IsSome (input_at table x i)) (inputs_in order) → (i : ℕ) → i < 1 → IsSome (input_at table x ((get_or order 0 d).input + i))
+first-there table x [] d some h i l = absurd (omega arith)
+first-there table x (r ∷ order) d some h i l = let here : r.input ≡ r.input + i = omega (arith, l) in subst (λ j. IsSome (input_at table x j)) here h.0
 
 -- What is wanted for passing over the first of an order, as far as these follow one another.
 pub row-can : (a : Nodes) (x first n : ℕ) (order : List ℕ) → CanPull a x (edges_in a.inputs.items x order) → AllByRecursion (λ i. IsSome (input_at a.inputs.items x i)) order → 0 < n → take n order ≡ range_with_len first n

@@ -118,6 +118,10 @@ impl Nodes {
         if order.len() < usize::from(MANY) {
             return 0;
         }
+        // Where the next isn't known to have nothing, none is passed over, and it isn't looked how many follow one another.
+        if self.idle_from(q, node, order[0].input, 1) == 0 {
+            return 0;
+        }
         let (first, count) = following(order);
         usize::from(self.pass_idle(q, node, first, count as u16))
     }

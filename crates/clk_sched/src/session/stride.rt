@@ -209,7 +209,7 @@ fn put(row: &mut [Rank], from: usize, rank: Rank)
     requires { from < length row.old }
     ensures { row.new ≡ take from row.old ++ put_rank rank (drop (from + 1) row.old) }
 {
-    // Most stay where they are: those that had no packet are in order already.
+    // One that stays where it is moves nothing.
     if is_first(rank, &row[from + 1..]) {
         row[from] = rank;
     } else {
@@ -218,7 +218,8 @@ fn put(row: &mut [Rank], from: usize, rank: Rank)
 }
 
 /// The same as `put` where this other rank stands after the place. Gives the one that stands at the place then.
-// The other is handed in: a processor waits for a rank that was just written and is read.
+// Most stay where they are: those that had no packet are in order already. The other is handed in: a processor waits for a rank that was
+// just written and is read.
 #[inline]
 fn put_before(row: &mut [Rank], from: usize, rank: Rank, next: Rank) -> Rank
     requires { slice_get row.old (from + 1) ≡ Some next }

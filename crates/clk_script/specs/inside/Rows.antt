@@ -31,13 +31,13 @@ abbrev pub command_asked : Row → Command
 command_asked (row.Send fate place p) = Send p.sender p.length
 command_asked (row.Pull gave device moment) = Pull device moment
 
--- the commands of some rows, and that of a line, if it holds one
-abbrev pub asked_by : List Row → List Command
-asked_by rows = map command_asked rows
-
 -- a row, if there is one
 abbrev pub rows_of : Option Row → List Row
 rows_of row = cons_option row []
+
+-- the commands of some rows, and that of a line, if it holds one
+abbrev pub asked_by : List Row → List Command
+asked_by rows = map command_asked rows
 
 abbrev pub asked_in : Line → List Command
 asked_in l = cons_option (command_in l) []

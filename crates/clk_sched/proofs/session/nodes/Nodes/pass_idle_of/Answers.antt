@@ -1,8 +1,14 @@
 use Rattle.std.proofs.Common.{None, ◌∙◌, take, ap, sym, subst, arith}
 use Rattle.clk_sched.specs.inside.Ranks.{inputs_in}
 use Rattle.clk_sched.specs.inside.Turning.{HasAskedAll}
-use Rattle.clk_sched.proofs.Nodes.Idle.{row-can, row-past}
+use Rattle.clk_sched.proofs.Nodes.Idle.{first-there, row-can, row-past}
 use Rattle.clk_sched.proofs.session.nodes.Nodes.pass_idle_of.Goals as goal
+
+pub idle_from-requires-clause-within : goal.idle_from-requires-clause-within
+idle_from-requires-clause-within g c =
+    let some = c.if-order-from.false in
+    let many = c.from.ensures in
+    first-there c.args.self.now.inputs.items c.args.node c.args.order.now (record { pass = 0; input = 0 }) (omega (arith, some, many)) c.requires.within
 
 pub overflow_cast-count : goal.overflow_cast-count
 overflow_cast-count g c =
