@@ -42,7 +42,6 @@ take-both (suc k) n [] = ap (λ m. take m nothing) (let same : suc k + n ≡ suc
     take-nothing : (m : ℕ) → take m nothing ≡ nothing
     take-nothing zero = refl
     take-nothing (suc m) = refl
-
 take-both (suc k) n (i ∷ order) = ap (λ m. take m (i ∷ order)) (let same : suc k + n ≡ suc (k + n) = omega arith in same) ∙ ap (λ l. i ∷ l) (take-both k n order)
 
 -- After some inputs that gave nothing, those that are left can be passed over.

@@ -118,8 +118,14 @@ impl Nodes {
         if order.len() < usize::from(MANY) {
             return 0;
         }
-        // Where the next isn't known to have nothing, none is passed over, and it isn't looked how many follow one another.
-        if self.idle_from(q, node, order[0].input, 1) == 0 {
+        // Where the last of so many doesn't stand so far behind the first, they don't follow one another; and where the first isn't known
+        // to have nothing, none is passed over.
+        let first = order[0].input;
+        let last = order[usize::from(MANY) - 1].input;
+        if usize::from(last) != usize::from(first) + usize::from(MANY) - 1 {
+            return 0;
+        }
+        if self.idle_from(q, node, first, 1) == 0 {
             return 0;
         }
         let (first, count) = following(order);

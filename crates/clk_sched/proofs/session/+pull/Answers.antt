@@ -117,8 +117,7 @@ nodes::Nodes::ask_in_order-loop-place-preserved g t c =
     let n = c.pass_idle_of-place.result in
     let within = c.pass_idle_of-place.ensures.within in
     let test = c.loop-place-test.true in
-    let size = ap length (after-place c.args.order.now (k + 1)) ∙ length-drop (k + 1) c.args.order.now in
-    (
+    let size = ap length (after-place c.args.order.now (k + 1)) ∙ length-drop (k + 1) c.args.order.now in (
       omega (arith, within, size, test),
       asking-past g.Q.Ask.gives c.args.self.now c.look.new.self c.pass_idle_of-place.new.self c.args.q.now c.look.new.q c.args.node (k + 1) n order asked
           (subst (λ l. HasAskedAll g.Q.Ask.gives c.look.new.self c.pass_idle_of-place.new.self c.look.new.q c.look.new.q c.args.node (take n l) None) (inputs-after c.args.order.now (k + 1)) c.pass_idle_of-place.ensures.asked),

@@ -27,4 +27,4 @@ returns-clause-asked g c =
     let n = c.pass_idle.result in
     let taken = row-past c.following-first.result.0 c.following-first.result.1 n (inputs_in c.args.order.now) c.pass_idle.ensures.within c.following-first.ensures.follow in
     subst (λ front. HasAskedAll g.Q.Ask.gives c.args.self.now c.pass_idle.new.self c.args.q.now c.args.q.now c.args.node front None)
-    (sym taken ∙ ap (λ m. take m (inputs_in c.args.order.now)) (sym c.from-2.ensures)) c.pass_idle.ensures.asked
+    (sym taken ∙ ap (λ m. take m (inputs_in c.args.order.now)) (sym c.from-6.ensures)) c.pass_idle.ensures.asked
