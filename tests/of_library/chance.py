@@ -42,7 +42,7 @@ class Text:
         kind = self.chance.choice(["Queue", "FrontDropQueue"])
         self.lines.append(f"{name} :: {kind}({self.chance.choice([1, 1, 2, 3, 5, 8, 40])});")
         for _ in range(self.chance.choice([0, 1, 1, 1, 2, 3])):
-            number = self.chance.choice([it for it in range(60) if it not in self.senders])
+            number = self.chance.choice([it for it in range(600) if it not in self.senders])
             self.senders.append(number)
             self.lines.append(f"s{number} :: Sender({number}); s{number} -> {name};")
         return name
@@ -52,7 +52,7 @@ class Text:
         name = f"n{self.schedulers}"
         self.schedulers += 1
         kind = self.chance.choice(["PrioSched", "RoundRobinSched", "DRRSched", "DRRSched", "StrideSched", "Shaper"])
-        inputs = 1 if kind == "Shaper" else self.chance.choice([1, 2, 2, 3, 4])
+        inputs = 1 if kind == "Shaper" else self.chance.choice([1, 2, 2, 3, 4, 12])
         self.lines.append(f"{name} :: {kind}{self.arguments(kind, inputs)};")
         for port in range(inputs):
             self.lines.append(f"{self.node(depth - 1)} -> [{port}] {name};")
