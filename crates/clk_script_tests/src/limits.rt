@@ -64,22 +64,17 @@ fn a_script_has_a_million_lines_at_most(rt: HostRuntime) {
     }
 }
 
-// Its length is told before what is wrong with its first line.
 #[test]
 fn a_script_has_32_mebibytes_at_most(rt: HostRuntime) {
-    let alloc = rt.alloc();
-    let mut script = vec![in alloc; b' '; BYTES + 1].expect(&rt, "ample memory");
-    for front in [b"  ", b"x\n"] {
-        script[..2].copy_from_slice(front);
-        assert_ends(
-            &rt,
-            alloc,
-            PRIO_OVER_ROOM_FOR_TWO,
-            &script,
-            Err(Fault::TooLarge),
-            b"",
-        );
-    }
+    let script = vec![in rt.alloc(); b' '; BYTES + 1].expect(&rt, "ample memory");
+    assert_ends(
+        &rt,
+        rt.alloc(),
+        PRIO_OVER_ROOM_FOR_TWO,
+        &script,
+        Err(Fault::TooLarge),
+        b"",
+    );
 }
 
 /// A PrioSched over four, over which queues are spread, with a sender to the first. With the device these are seven elements more than
