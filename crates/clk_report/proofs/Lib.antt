@@ -1,4 +1,6 @@
--- Lemmas that answers cite.
+-- Lemmas that answers cite, of which `Callers` has those that crates above may cite too.
+pub mod Callers
+mod CountLemmas
 mod ReportLemmas
 mod TotalLemmas
 mod VisitLemmas

@@ -8,11 +8,9 @@ use Rattle.clk_packet.specs.Bytes.{AppendsFront}
 use Rattle.clk_packet.specs.declared.packet.Packet.{Packet}
 use Rattle.clk_packet.specs.declared.tally.Tally.{Tally}
 use Rattle.clk_packet.proofs.Callers.Bytes.{HasWritten, Appends-append}
-use Rattle.clk_report.specs.declared.total.Total.{Total}
 use Rattle.clk_packet.specs.Lists.{of_sender}
 use Rattle.clk_report.specs.Report.{tally_text, report_text, total_text}
-use Rattle.clk_report.specs.inside.Totals.{total_of, both, words_text}
-use Rattle.clk_report.proofs.TotalLemmas.{both-of}
+use Rattle.clk_report.specs.Counts.{counts_of, counts_line}
 
 -- one part more is written
 pub HasWritten-part : (old mid new : Option (List ℕ)) (text rest part after : List ℕ) → HasWritten old mid text rest → rest ≡ part ++ after → Appends mid new part → HasWritten old new text after
@@ -52,32 +50,25 @@ line-joined a b c d e f g h p q r s t u v w x x-is w-is v-is u-is t-is s-is r-is
     again : a ++ (b ++ (c ++ (d ++ (e ++ (f ++ (g ++ (h ++ p))))))) ≡ (a ++ (b ++ (c ++ (d ++ (e ++ (f ++ (g ++ h))))))) ++ p
     again = simp append_assoc refl
 
--- the line of a tally, told by the totals
-pub line-is : (emitted : List Packet) (tally : Tally) (total : Total) → total ≡ total_of (of_sender tally.sender emitted)
-    → codes "sender " ++ (decimal tally.sender ++ (words_text (codes ": sent") (both (total_of tally.accepted) (total_of tally.refused)) ++ (words_text (codes ", accepted") (total_of tally.accepted)
-    ++ (words_text (codes ", refused") (total_of tally.refused) ++ (words_text (codes ", evicted") (total_of tally.evicted) ++ (words_text (codes ", emitted") total ++ codes "\n")))))) ≡ tally_text emitted tally
-line-is emitted tally total is =
-    ap₂ line_with (both-of tally.accepted tally.refused) is
-    ∙ joined (codes "sender ") (decimal tally.sender) (codes ": sent") (total_text (tally.accepted ++ tally.refused)) (codes ", accepted") (total_text tally.accepted) (codes ", refused") (total_text tally.refused)
+-- the line of a tally, told by what is counted of it
+line-is : (emitted : List Packet) (tally : Tally) → counts_line emitted (counts_of tally) ≡ tally_text emitted tally
+line-is emitted tally =
+    joined (codes "sender ") (decimal tally.sender) (codes ": sent") (total_text (tally.accepted ++ tally.refused)) (codes ", accepted") (total_text tally.accepted) (codes ", refused") (total_text tally.refused)
     (codes ", evicted") (total_text tally.evicted) (codes ", emitted") (total_text (of_sender tally.sender emitted)) (codes "\n")
   where
-    -- the line, where this was sent and that came out
-    line_with : Total → Total → List ℕ
-    line_with sent out =
-        codes "sender " ++ (decimal tally.sender ++ (words_text (codes ": sent") sent ++ (words_text (codes ", accepted") (total_of tally.accepted) ++ (words_text (codes ", refused") (total_of tally.refused)
-        ++ (words_text (codes ", evicted") (total_of tally.evicted) ++ (words_text (codes ", emitted") out ++ codes "\n"))))))
-
     joined : (a b c d e f g h i j k l m : List ℕ) → a ++ (b ++ ((c ++ d) ++ ((e ++ f) ++ ((g ++ h) ++ ((i ++ j) ++ ((k ++ l) ++ m)))))) ≡ a ++ (b ++ (c ++ (d ++ (e ++ (f ++ (g ++ (h ++ (i ++ (j ++ (k ++ (l ++ m)))))))))))
     joined a b c d e f g h i j k l m = simp append_assoc refl
 
--- the line of the first tally, before those of the others
-pub lines-first : (emitted : List Packet) (tallies : List Tally) (tally : Tally) → 1 ≤ length tallies → tally ≡ get_or tallies 0 tally
-    → tally_text emitted tally ++ report_text emitted (take (length tallies - 1) (drop 1 tallies)) ≡ report_text emitted tallies
-lines-first emitted [] tally some is = absurd (omega (arith, some))
-lines-first emitted (first ∷ tallies) tally some is =
-    ap (λ l. l ++ report_text emitted (take (length (first ∷ tallies) - 1) tallies)) (ap (tally_text emitted) is)
-    ∙ ap (λ ts. tally_text emitted first ++ report_text emitted ts) (take_all (length (first ∷ tallies) - 1) tallies (omega arith))
+-- the lines of tallies
+pub lines-are : (emitted : List Packet) (tallies : List Tally) → flat_map (λ t. counts_line emitted (counts_of t)) tallies ≡ report_text emitted tallies
+lines-are emitted tallies = ap (λ (f : Tally → List ℕ). flat_map f tallies) (λ i t. line-is emitted t i)
 
--- lines at the end of a buffer are all that stands from there on
-pub lines-alone : (emitted : List Packet) (part : List Tally) (from lines : List ℕ) (n : ℕ) → length lines ≤ n → from ≡ report_text emitted part ++ drop n lines → from ≡ report_text emitted part
-lines-alone emitted part from lines n full is = is ∙ ap (λ l. report_text emitted part ++ l) (drop_all n lines full) ∙ append-nil (report_text emitted part)
+-- the text of the first, before those of the others
+pub first-alone : {X : Type 0} (f : X → List ℕ) (xs : List X) (x : X) → 1 ≤ length xs → x ≡ get_or xs 0 x → f x ++ flat_map f (take (length xs - 1) (drop 1 xs)) ≡ flat_map f xs
+first-alone f [] x some is = absurd (omega (arith, some))
+first-alone f (first ∷ xs) x some is =
+    ap (λ l. l ++ flat_map f (take (length (first ∷ xs) - 1) xs)) (ap f is) ∙ ap (λ ys. f first ++ flat_map f ys) (take_all (length (first ∷ xs) - 1) xs (omega arith))
+
+-- a text at the end of a buffer is all that stands from there on
+pub text-alone : (text from buffer : List ℕ) (n : ℕ) → length buffer ≤ n → from ≡ text ++ drop n buffer → from ≡ text
+text-alone text from buffer n full is = is ∙ ap (λ l. text ++ l) (drop_all n buffer full) ∙ append-nil text

@@ -12,7 +12,8 @@ use Rattle.clk_report.specs.declared.total.Total.{Total}
 use Rattle.clk_report.specs.Devices.{all_emitted}
 use Rattle.clk_packet.specs.Lists.{of_sender}
 use Rattle.clk_report.specs.Report.{bytes_of}
-use Rattle.clk_report.specs.inside.Totals.{total_of, with_packet, both, AreTotals, HasRoom}
+use Rattle.clk_report.specs.Counts.{total_of, with_packet, both, HasRoom}
+use Rattle.clk_report.specs.inside.Totals.{AreTotals}
 
 pub bytes-few : (packets : List Packet) → bytes_of packets ≤ 65535 * length packets
 bytes-few [] = omega arith
@@ -22,11 +23,11 @@ pub bytes-append : (packets more : List Packet) → bytes_of (packets ++ more) �
 bytes-append [] more = omega arith
 bytes-append (p ∷ packets) more = let e = bytes-append packets more in omega (arith, e)
 
-same-total : (t u : Total) → t.packets ≡ u.packets → t.bytes ≡ u.bytes → t ≡ u
+pub same-total : (t u : Total) → t.packets ≡ u.packets → t.bytes ≡ u.bytes → t ≡ u
 same-total t u e f = λ i. record { packets = e i; bytes = f i }
 
 -- one packet more is counted
-total-more : (packets : List Packet) (p : Packet) → total_of (packets ++ p ∷ []) ≡ with_packet p (total_of packets)
+pub total-more : (packets : List Packet) (p : Packet) → total_of (packets ++ p ∷ []) ≡ with_packet p (total_of packets)
 total-more packets p =
     let many = length-append packets (p ∷ []) in
     let long = bytes-append packets (p ∷ []) in

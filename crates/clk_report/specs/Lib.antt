@@ -1,4 +1,5 @@
 -- What the texts of a run are.
+pub mod Counts
 pub mod Devices
 pub mod Report
 pub mod VisitCsv

@@ -1,10 +1,19 @@
 //! What the definitions of the texts say: a law is a function that does nothing and whose contract is the law.
 
-ghost use Rattle.std.specs.Prelude.{◌≡◌, ℕ, ◌++◌, ◌∷◌, [], List, Option, None, true, false};
+ghost use Rattle.std.specs.Prelude.{◌≡◌, ℕ, ◌++◌, ◌∷◌, [], List, map, Option, None, true, false};
 ghost use Rattle.std.specs.List.{flat_map};
+ghost use Rattle.clk_packet.specs.declared.packet.Packet.{Packet};
+ghost use Rattle.clk_packet.specs.declared.tally.Tally.{Tally};
 ghost use Rattle.csv.specs.Writing.{default_writer, row_text};
 ghost use Rattle.clk_sched.specs.declared.visit.Visit.{Visit};
+ghost use Rattle.clk_report.specs.Counts.{counts_of, counts_text};
+ghost use Rattle.clk_report.specs.Report.{report_text};
 ghost use Rattle.clk_report.specs.VisitCsv.{columns, devices_text, header_of, header_text, rows_text, visits_text};
+
+/// What was counted of tallies tells their report.
+pub fn counts_tell_tallies()
+    ensures { (emitted : List Packet) (tallies : List Tally) → counts_text emitted (map counts_of tallies) ≡ report_text emitted tallies }
+{}
 
 /// The visit CSV of one log has a row of the visit's columns alone for each visit, and no word of a device.
 pub fn one_device_is_not_told()

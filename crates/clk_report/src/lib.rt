@@ -1,6 +1,7 @@
 //! What a run came to, as texts: a line for each sender, and a row for each visit of the logs.
 #![tactic(auto)]
 
+mod counts;
 mod laws;
 mod line;
 mod pieces;
@@ -8,7 +9,9 @@ mod senders;
 mod total;
 mod visits;
 
-pub use laws::{one_device_is_not_told, visits_come_in_pieces};
+pub use counts::Counts;
+pub use laws::{counts_tell_tallies, one_device_is_not_told, visits_come_in_pieces};
 pub use pieces::{put, put_number};
-pub use senders::{MAX_DEVICES, report};
+pub use senders::{MAX_DEVICES, report, report_counts};
+pub use total::Total;
 pub use visits::{visit_rows, visits_csv, visits_header};

@@ -3,36 +3,31 @@
 ghost use Rattle.std.specs.Prelude.{◌≡◌, ◌+◌, ◌≤◌, ◌++◌, List, decimal, drop, length};
 ghost use Rattle.clk_packet.specs.declared.packet.Packet.{Packet};
 ghost use Rattle.clk_packet.specs.Lists.{of_sender};
-ghost use Rattle.clk_report.specs.Report.{tally_text};
-ghost use Rattle.clk_report.specs.inside.Totals.{total_of, words_text};
+ghost use Rattle.clk_report.specs.Counts.{counts_line, total_of, words_text};
 
+use crate::counts::Counts;
 use crate::pieces::{put, put_number};
 use crate::total::Total;
-use clk_packet::Tally;
 use itoa::Buffer;
 
 /// How many bytes a line has at most.
 pub const LINE: usize = 512;
 
-/// Puts the line of a tally, of whose sender so many packets came out at all devices, before this place of some lines, and gives where
-/// it starts.
-pub fn put_line(lines: &mut [u8], tally: &Tally, emitted: Total, end: usize) -> usize
+/// Puts the line of a sender, of whose packets so many came out at all devices, before this place of some lines, and gives where it starts.
+pub fn put_line(lines: &mut [u8], counts: &Counts, emitted: Total, end: usize) -> usize
     requires room { 512 ≤ end }
     requires within { end ≤ length lines.old }
-    ensures piece { (packets : List Packet) → emitted ≡ total_of (of_sender tally.now.sender packets) → drop result lines.new ≡ tally_text packets tally.now ++ drop end lines.old }
+    ensures piece { (packets : List Packet) → emitted ≡ total_of (of_sender counts.now.sender packets) → drop result lines.new ≡ counts_line packets counts.now ++ drop end lines.old }
     ensures near { end ≤ result + 512 }
     ensures before { result ≤ end }
 {
-    let accepted = Total::of(tally.accepted.as_slice());
-    let refused = Total::of(tally.refused.as_slice());
-    let evicted = Total::of(tally.evicted.as_slice());
     let end = put(lines, b"\n", end);
     let end = put_total(lines, b", emitted", emitted, end);
-    let end = put_total(lines, b", evicted", evicted, end);
-    let end = put_total(lines, b", refused", refused, end);
-    let end = put_total(lines, b", accepted", accepted, end);
-    let end = put_total(lines, b": sent", accepted.and(refused), end);
-    let end = put_number(lines, u64::from(tally.sender), end);
+    let end = put_total(lines, b", evicted", counts.evicted, end);
+    let end = put_total(lines, b", refused", counts.refused, end);
+    let end = put_total(lines, b", accepted", counts.accepted, end);
+    let end = put_total(lines, b": sent", counts.sent, end);
+    let end = put_number(lines, u64::from(counts.sender), end);
     put(lines, b"sender ", end)
 }
 

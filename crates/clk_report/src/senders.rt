@@ -1,12 +1,15 @@
 //! The report: what became of each sender's packets.
 
 ghost use Rattle.std.specs.Prelude.{◌≡◌, ◌+◌, ◌*◌, ◌<◌, ◌≤◌, ◌++◌, List, All, drop, length};
+ghost use Rattle.std.specs.List.{flat_map};
 ghost use Rattle.clk_packet.specs.Bytes.{Wrote};
 ghost use Rattle.clk_packet.specs.declared.packet.Packet.{Packet};
+ghost use Rattle.clk_report.specs.Counts.{counts_line, counts_text};
 ghost use Rattle.clk_report.specs.Devices.{all_emitted};
 ghost use Rattle.clk_report.specs.Report.{report_text};
 ghost use Rattle.clk_report.specs.inside.Totals.{AreTotals};
 
+use crate::counts::{Counted, Counts};
 use crate::line::{LINE, put_line};
 use crate::total::{FEW, SENDERS, Total, count_by_sender};
 use clk_packet::{Fault, Packet, Sink, Tally, write_all};
@@ -40,42 +43,75 @@ pub fn report<W: Sink>(
     ensures { Wrote (W.Sink.taken writer.old) (W.Sink.taken writer.new)
         (W.Sink.failures writer.old) (W.Sink.failures writer.new) result (report_text (all_emitted emitted.now) tallies.now) }
 {
-    if senders_of(tallies) <= FEW {
-        write_lines::<FEW, W>(tallies, emitted, writer)
+    write_report(tallies, emitted, writer)
+}
+
+/// Writes the report as `report` does, by what was counted of each sender: that of the tallies whose counts these are
+/// (`counts_tell_tallies`).
+///
+/// # Errors
+///
+/// Fault 20 where the sink fails. It has taken a front of the report then.
+pub fn report_counts<W: Sink>(
+    counts: &[Counts],
+    emitted: &[Vec<Packet>],
+    writer: &mut W,
+) -> Result<(), Fault>
+    requires { length emitted.now ≤ MAX_DEVICES }
+    ensures { Wrote (W.Sink.taken writer.old) (W.Sink.taken writer.new)
+        (W.Sink.failures writer.old) (W.Sink.failures writer.new) result (counts_text (all_emitted emitted.now) counts.now) }
+{
+    write_report(counts, emitted, writer)
+}
+
+/// Writes the report of what is counted of some senders.
+fn write_report<T: Counted, W: Sink>(
+    senders: &[T],
+    emitted: &[Vec<Packet>],
+    writer: &mut W,
+) -> Result<(), Fault>
+    requires { length emitted.now ≤ MAX_DEVICES }
+    ensures { Wrote (W.Sink.taken writer.old) (W.Sink.taken writer.new)
+        (W.Sink.failures writer.old) (W.Sink.failures writer.new) result
+        (flat_map (λ t. counts_line (all_emitted emitted.now) (T.Counted.counted t)) senders.now) }
+{
+    if senders_of(senders) <= FEW {
+        write_lines::<FEW, T, W>(senders, emitted, writer)
     } else {
-        write_lines::<SENDERS, W>(tallies, emitted, writer)
+        write_lines::<SENDERS, T, W>(senders, emitted, writer)
     }
 }
 
-/// How many totals a table has at least in which these tallies' senders stand: one more than the greatest of their numbers.
-fn senders_of(tallies: &[Tally]) -> usize
-    ensures within { All (λ t. t.sender < result) tallies.now }
+/// How many totals a table has at least in which these senders stand: one more than the greatest of their numbers.
+fn senders_of<T: Counted>(senders: &[T]) -> usize
+    ensures within { All (λ t. (T.Counted.counted t).sender < result) senders.now }
     ensures limit { result ≤ SENDERS }
 {
-    let mut senders = 0;
-    for tally in tallies {
-        senders = senders.max(usize::from(tally.sender) + 1);
+    let mut most = 0;
+    for sender in senders {
+        most = most.max(usize::from(sender.sender()) + 1);
     }
-    senders
+    most
 }
 
 /// Writes the report by a table of N totals. It isn't inlined: the larger table shall not stand in the frame of a report of few senders.
 #[inline(never)]
-fn write_lines<const N: usize, W: Sink>(
-    tallies: &[Tally],
+fn write_lines<const N: usize, T: Counted, W: Sink>(
+    senders: &[T],
     emitted: &[Vec<Packet>],
     writer: &mut W,
 ) -> Result<(), Fault>
     requires size { N ≤ SENDERS }
-    requires within { All (λ t. t.sender < N) tallies.now }
+    requires within { All (λ t. (T.Counted.counted t).sender < N) senders.now }
     requires few { length emitted.now ≤ MAX_DEVICES }
     ensures { Wrote (W.Sink.taken writer.old) (W.Sink.taken writer.new)
-        (W.Sink.failures writer.old) (W.Sink.failures writer.new) result (report_text (all_emitted emitted.now) tallies.now) }
+        (W.Sink.failures writer.old) (W.Sink.failures writer.new) result
+        (flat_map (λ t. counts_line (all_emitted emitted.now) (T.Counted.counted t)) senders.now) }
 {
     let mut totals = [Total::NONE; N];
     count_by_sender(&mut totals, emitted);
     let mut lines = [0; ROOM];
-    let mut rest = tallies;
+    let mut rest = senders;
     while !rest.is_empty() {
         let (part, after) = rest.split_at(rest.len().min(LINES));
         let start = put_lines(&mut lines, part, &totals, ROOM);
@@ -86,18 +122,19 @@ fn write_lines<const N: usize, W: Sink>(
     Ok(())
 }
 
-/// Puts the lines of some tallies, where these are the totals of what came out by sender, before this place, and gives where they start.
-fn put_lines(lines: &mut [u8], tallies: &[Tally], totals: &[Total], end: usize) -> usize
-    requires counted { All (λ t. t.sender < length totals.now) tallies.now }
-    requires room { 512 * length tallies.now ≤ end }
+/// Puts the lines of some senders, where these are the totals of what came out by sender, before this place, and gives where they start.
+fn put_lines<T: Counted>(lines: &mut [u8], senders: &[T], totals: &[Total], end: usize) -> usize
+    requires counted { All (λ t. (T.Counted.counted t).sender < length totals.now) senders.now }
+    requires room { 512 * length senders.now ≤ end }
     requires within { end ≤ length lines.old }
-    ensures piece { (emitted : List Packet) → AreTotals emitted totals.now → drop result lines.new ≡ report_text emitted tallies.now ++ drop end lines.old }
-    ensures near { end ≤ result + 512 * length tallies.now }
+    ensures piece { (emitted : List Packet) → AreTotals emitted totals.now → drop result lines.new ≡ flat_map (λ t. counts_line emitted (T.Counted.counted t)) senders.now ++ drop end lines.old }
+    ensures near { end ≤ result + 512 * length senders.now }
     ensures before { result ≤ end }
 {
-    let [first, rest @ ..] = tallies else {
+    let [first, rest @ ..] = senders else {
         return end;
     };
     let end = put_lines(lines, rest, totals, end);
-    put_line(lines, first, totals[usize::from(first.sender)], end)
+    let counts = first.counts();
+    put_line(lines, &counts, totals[usize::from(counts.sender)], end)
 }

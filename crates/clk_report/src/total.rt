@@ -2,8 +2,9 @@
 
 ghost use Rattle.std.specs.Prelude.{◌≤◌, ◌++◌, [], List, All, length};
 ghost use Rattle.clk_packet.specs.declared.packet.Packet.{Packet};
+ghost use Rattle.clk_report.specs.Counts.{HasRoom};
 ghost use Rattle.clk_report.specs.Devices.{all_emitted};
-ghost use Rattle.clk_report.specs.inside.Totals.{AreTotals, HasRoom};
+ghost use Rattle.clk_report.specs.inside.Totals.{AreTotals};
 
 use crate::senders::MAX_DEVICES;
 use clk_packet::{MAX_SENDER, Packet};
@@ -23,7 +24,7 @@ pub struct Total {
 
 impl Total {
     ghost use Rattle.std.specs.Prelude.{◌≡◌, ◌+◌, ◌<◌, ◌^◌};
-    ghost use Rattle.clk_report.specs.inside.Totals.{total_of, with_packet, both};
+    ghost use Rattle.clk_report.specs.Counts.{total_of, with_packet, both};
 
     /// Of no packets.
     pub const NONE: Total = Total {
@@ -32,7 +33,7 @@ impl Total {
     };
 
     /// With one packet more.
-    fn add(&mut self, packet: Packet)
+    pub fn add(&mut self, packet: Packet)
         requires packets { self.old.packets + 1 < 2 ^ 128 }
         requires bytes { self.old.bytes + packet.length < 2 ^ 128 }
         ensures { self.new ≡ with_packet packet self.old }

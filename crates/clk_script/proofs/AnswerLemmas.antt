@@ -1,15 +1,18 @@
 -- How a router goes on by the commands of some rows, and what it comes to.
-use Rattle.std.proofs.Common.{◌≡◌, ℕ, ◌+◌, ◌<◌, ◌≤◌, zero, suc, nat_lt, true, List, [], ◌∷◌, ◌++◌, length, map, take, drop, set, get_or, Option, Some, None, IfSome, Vec, refl, sym, ap, ap₂, subst, ◌∙◌, append_assoc, append-nil, arith}
+use Rattle.std.proofs.Common.{◌≡◌, ℕ, ◌+◌, ◌<◌, ◌≤◌, zero, suc, nat_lt, true, List, [], ◌∷◌, ◌++◌, length, map, All, take, drop, set, get_or, Option, Some, None, IfSome, Vec, refl, sym, ap, ap₂, subst, ◌∙◌, append_assoc, append-nil, arith}
 use Rattle.std.specs.Option.{is_some}
 use Rattle.std.specs.List.{flat_map, filter_map, cons_option, AllByRecursion, AllZip}
 use Rattle.std.specs.declared.alloc.Global.{Global}
 use Rattle.std.proofs.lemmas.List.{map-append, length-map, length-take, take_all, length-set, take-append-drop, take_more, take_more_set, drop_more, drop-set-lt}
 use Rattle.std.proofs.lemmas.List.Elements.{filter_map-append}
+use Rattle.std.proofs.lemmas.List.Folds.{flat_map-map}
 use Rattle.std.proofs.lemmas.List.FromFn.{length-map-range_with_len}
 use Rattle.std.proofs.lemmas.Grind.{drop_more_same}
 use Rattle.clk_packet.specs.declared.packet.Packet.{Packet}
 use Rattle.clk_packet.specs.declared.packet.Offered.{Offered}
 use Rattle.clk_report.specs.Report.{report_text}
+use Rattle.clk_report.specs.Counts.{counts_text, CanCount}
+use Rattle.clk_report.proofs.Callers.Counts.{counts-tell}
 use Rattle.clk_report.specs.Devices.{all_emitted, lists_of}
 use Rattle.clk_sched.specs.declared.visit.Visit.{Visit}
 use Rattle.clk_sched.specs.declared.session.departures.Departure.{Departure}
@@ -27,6 +30,7 @@ use Rattle.clk_script.specs.Meaning.{names_of, has_several, command_of, event_te
 use Rattle.clk_script.specs.inside.Recorder.{names_in, numbers_in, IsAt, AreLogs, IsPastOf, Starts, IsReady, given_kept, LeadsOnByPull, IsReadable}
 use Rattle.clk_script.specs.inside.Rows.{command_asked, asked_by, row_at, IsRowOf, IsToDo, CarriesOut, AnswersRows, IsClosedFrom, rows_text, closings_text, are_several, closings_of, given_first, given_of, ending_of}
 use Rattle.clk_script.proofs.RowLemmas.{rows-written}
+use Rattle.clk_script.proofs.CountLemmas.{room-after}
 use Rattle.clk_script.proofs.RecorderLemmas.{numbers-its}
 
 -- the commands of rows that are to be carried out are readable
@@ -117,9 +121,10 @@ IsReady-answered setup old new asked done starts to_do few answers =
     let at = carried.leads in
     let count : length asked ≡ length carried.more = sym (length-map asked command_asked) ∙ ap length carried.theirs ∙ length-map carried.more command_of in
     let readable = subst (AllByRecursion IsReadable) carried.theirs (each-readable (names_in old) asked to_do) in
-    let alike : numbers_in new.tallies.items ≡ sender_numbers new.router.setup = numbers-its setup carried.more new at ∙ ap sender_numbers (sym at.setup_is) in (
+    let alike : numbers_in new.counts.items ≡ sender_numbers new.router.setup = numbers-its setup carried.more new at ∙ ap sender_numbers (sym at.setup_is) in (
       record {
         few = subst (λ l. length l ≤ most_lines) (sym at.events_are) (omega (arith, count, few));
+        room = subst (All CanCount) (sym at.counts) (room-after carried.more (sender_numbers setup) (omega (arith, count, few)));
         readable = subst (λ l. AllByRecursion IsReadable (map command_of l)) (sym at.events_are) readable;
         alike = alike;
         rising = subst AreRising (sym (numbers-its setup carried.more new at)) starts.rising;
@@ -185,11 +190,6 @@ all-answered old new asked rows i carried all =
     let count = carried.count in
     subst (λ l. AnswersRows old new l rows) (take_all i asked (omega (arith, count, all))) (subst (λ l. AnswersRows old new (take i asked) l) (take_all i rows all) carried.answers)
 
--- lists of what members become, joined
-flat-mapped : {X Y Z : Type 0} (f : Y → List Z) (g : X → Y) (xs : List X) → flat_map f (map g xs) ≡ flat_map (λ x. f (g x)) xs
-flat-mapped f g [] = refl
-flat-mapped f g (x ∷ xs) = ap (λ l. f (g x) ++ l) (flat-mapped f g xs)
-
 -- A router over which all commands of a script were carried out, from what was kept of it, and what was kept when it ended.
 module _ (setup : Setup) (old mid : Recorder) (asked done : List Row) (starts : Starts setup old) (answers : AnswersRows old mid asked done) where
   carried : CarriesOut setup old mid asked done []
@@ -223,12 +223,13 @@ module _ (setup : Setup) (old mid : Recorder) (asked done : List Row) (starts : 
     logs : AreLogs new.router.keeps.visits past (logs_of setup (carried.more ++ later))
     logs are_kept = is.logs are_kept ∙ its_logs
 
-    report : report_text (all_emitted past.emitted.items) past.tallies.items
+    report : counts_text (all_emitted past.emitted.items) past.counts.items
         ≡ report_text (flat_map emitted (logs_of setup (carried.more ++ later))) (map (tally_after (carried.more ++ later)) (sender_numbers setup))
     report =
-        ap₂ report_text
-        (sym (flat-mapped (λ l. l) (λ (l : Vec Packet Global). l.items) past.emitted.items) ∙ ap (flat_map (λ l. l)) came ∙ flat-mapped (λ l. l) emitted (logs_of setup (carried.more ++ later)))
-        (is.tallies ∙ at.tallies)
+        ap₂ counts_text
+        (sym (flat_map-map (λ l. l) (λ (l : Vec Packet Global). l.items) past.emitted.items) ∙ ap (flat_map (λ l. l)) came ∙ flat_map-map (λ l. l) emitted (logs_of setup (carried.more ++ later)))
+        (is.counts ∙ at.counts)
+        ∙ counts-tell (flat_map emitted (logs_of setup (carried.more ++ later))) (map (tally_after (carried.more ++ later)) (sender_numbers setup))
 
   -- What it comes to, without a closing and with one.
   pub Writes-answered : (new : Recorder) (past : Past) (drain : Option ℕ) (closings : Option (List (List Departure))) → IsClosedFrom mid new drain closings → IsPastOf new past

@@ -6,6 +6,7 @@ mod PlainLines
 mod Alike
 mod RecorderLemmas
 mod DrainLemmas
+mod CountLemmas
 mod TallyLemmas
 mod ReadingLemmas
 mod SourceLemmas

@@ -8,6 +8,8 @@ use Rattle.std.proofs.lemmas.List.Elements.{filter-append, filter_map-append}
 use Rattle.clk_packet.specs.declared.packet.Packet.{Packet}
 use Rattle.clk_packet.specs.declared.packet.Offered.{Offered}
 use Rattle.clk_packet.specs.declared.packet.Offered.TheVariants.{Accepted, Refused, Evicted}
+use Rattle.clk_packet.specs.declared.tally.Tally.{Tally}
+use Rattle.clk_report.specs.Counts.{counts_of}
 use Rattle.clk_sched.specs.declared.visit.Visit.{Visit}
 use Rattle.clk_sched.specs.declared.session.departures.Departure.{Departure}
 use Rattle.clk_sched.specs.Departures.{departure_at, departures_in}
@@ -19,22 +21,23 @@ use Rattle.clk_router.proofs.Callers.Events.{pulls-elsewhere, pulls-add_none}
 use Rattle.clk_script.specs.declared.recorder.Recorder.{Recorder}
 use Rattle.clk_script.specs.Script.{most_lines, most_moment}
 use Rattle.clk_script.specs.Meaning.{has_several, command_of, given_text, closing_text}
-use Rattle.clk_script.specs.inside.Recorder.{noted, names_in, numbers_in, tally_sender, evicted_kept, IsAt, IsReadable, IsReady, LeadsOnByPull, departure_text, LeadsOnByDrain, StaysElsewhere}
+use Rattle.clk_script.specs.inside.Recorder.{noted, names_in, numbers_in, evicted_kept, IsAt, IsReadable, IsReady, LeadsOnByPull, departure_text, LeadsOnByDrain, StaysElsewhere}
+use Rattle.clk_script.proofs.CountLemmas.{numbers-counted, length-filter-le, length-filter_map-le}
 use Rattle.clk_script.proofs.TallyLemmas.{tallies-offered, tallies-pulled, tallies-closed, map-tallies}
 
--- the senders of the tallies
-pub numbers-its : (setup : Setup) (events : List Event) (r : Recorder) → IsAt setup events r → numbers_in r.tallies.items ≡ sender_numbers setup
-numbers-its setup events r at = ap (map tally_sender) at.tallies ∙ map-tallies events (sender_numbers setup)
+-- whose the counts are
+pub numbers-its : (setup : Setup) (events : List Event) (r : Recorder) → IsAt setup events r → numbers_in r.counts.items ≡ sender_numbers setup
+numbers-its setup events r at = ap numbers_in at.counts ∙ numbers-counted (map (tally_after events) (sender_numbers setup)) ∙ map-tallies events (sender_numbers setup)
 
 -- A packet more was offered.
 pub IsAt-offered : (setup : Setup) (events : List Event) (old new : Recorder) (p : Packet) (outcome : Offered) → IsAt setup events old → new.router ≡ after old.router (offered p outcome ∷ [])
-    → CanHappen new.router.setup new.router.events → new.tallies.items ≡ map (noted p outcome) old.tallies.items → new.evicted.items ≡ evicted_kept outcome old.evicted.items → IsAt setup (events ++ offered p outcome ∷ []) new
-IsAt-offered setup events old new p outcome at goes_on can tallies evicted =
+    → CanHappen new.router.setup new.router.events → ((ts : List Tally) → old.counts.items ≡ map counts_of ts → new.counts.items ≡ map counts_of (map (noted p outcome) ts)) → new.evicted.items ≡ evicted_kept outcome old.evicted.items → IsAt setup (events ++ offered p outcome ∷ []) new
+IsAt-offered setup events old new p outcome at goes_on can counted evicted =
     record {
       can_happen = subst (λ s. CanHappen s (events ++ offered p outcome ∷ [])) setup_is (subst (λ l. CanHappen new.router.setup l) events_are can);
       setup_is = setup_is;
       events_are = events_are;
-      tallies = tallies ∙ ap (map (noted p outcome)) at.tallies ∙ tallies-offered events p outcome (sender_numbers setup);
+      counts = counted (map (tally_after events) (sender_numbers setup)) at.counts ∙ ap (map counts_of) (tallies-offered events p outcome (sender_numbers setup));
       evicted = evicted ∙ ap (evicted_kept outcome) at.evicted ∙ fronts outcome ∙ sym (filter_map-append evicted_in events (offered p outcome ∷ []));
     }
   where
@@ -51,8 +54,8 @@ IsAt-offered setup events old new p outcome at goes_on can tallies evicted =
 
 -- A device was pulled once more.
 pub LeadsOnByPull-pulled : (setup : Setup) (events : List Event) (old new : Recorder) (d moment : ℕ) (got : Option Packet) → IsAt setup events old → IsPulled old.router new.router d moment got
-    → CanHappen new.router.setup new.router.events → new.tallies ≡ old.tallies → new.evicted ≡ old.evicted → LeadsOnByPull setup new d moment got events
-LeadsOnByPull-pulled setup events old new d moment got at pull can tallies evicted =
+    → CanHappen new.router.setup new.router.events → new.counts ≡ old.counts → new.evicted ≡ old.evicted → LeadsOnByPull setup new d moment got events
+LeadsOnByPull-pulled setup events old new d moment got at pull can counts evicted =
     record {
       visits = pull.visits;
       result = pull.result;
@@ -60,7 +63,7 @@ LeadsOnByPull-pulled setup events old new d moment got at pull can tallies evict
         can_happen = subst (λ s. CanHappen s (events ++ pulled d moment pull.visits ∷ [])) setup_is (subst (λ l. CanHappen new.router.setup l) events_are can);
         setup_is = setup_is;
         events_are = events_are;
-        tallies = ap (λ ts. ts.items) tallies ∙ at.tallies ∙ tallies-pulled events d moment pull.visits (sender_numbers setup);
+        counts = ap (λ cs. cs.items) counts ∙ at.counts ∙ ap (map counts_of) (tallies-pulled events d moment pull.visits (sender_numbers setup));
         evicted = ap (λ ps. ps.items) evicted ∙ at.evicted ∙ sym (filter_map-append evicted_in events (pulled d moment pull.visits ∷ []) ∙ append-nil (filter_map evicted_in events));
       };
     }
@@ -97,7 +100,7 @@ module _ (old new : Recorder) (d moment : ℕ) (departures : List Departure) (cl
       ∙ ap (λ l. events_of old.router k ++ l) (pulls-elsewhere old.router.setup d k _ closed.closes.closing other)
       ∙ append-nil (events_of old.router k)
 
-  module _ (setup : Setup) (events : List Event) (at : IsAt setup events old) (can : CanHappen new.router.setup new.router.events) (tallies : new.tallies ≡ old.tallies) (evicted : new.evicted ≡ old.evicted) where
+  module _ (setup : Setup) (events : List Event) (at : IsAt setup events old) (can : CanHappen new.router.setup new.router.events) (counts : new.counts ≡ old.counts) (evicted : new.evicted ≡ old.evicted) where
     setup_is : new.router.setup ≡ setup
     setup_is = ap (λ (c : Course). c.setup) closed.goes_on ∙ at.setup_is
 
@@ -123,31 +126,14 @@ module _ (old new : Recorder) (d moment : ℕ) (departures : List Departure) (cl
             can_happen = subst (λ s. CanHappen s (events ++ closed.last)) setup_is (subst (λ l. CanHappen new.router.setup l) events_are can);
             setup_is = setup_is;
             events_are = events_are;
-            tallies =
-                ap (λ ts. ts.items) tallies ∙ at.tallies ∙ tallies-closed events d start closed.closes.closing (sender_numbers setup)
-                ∙ ap (λ l. map (tally_after (events ++ l)) (sender_numbers setup)) (sym closed.closes.are);
+            counts =
+                ap (λ cs. cs.items) counts ∙ at.counts ∙ ap (map counts_of) (tallies-closed events d start closed.closes.closing (sender_numbers setup))
+                ∙ ap (λ l. map counts_of (map (tally_after (events ++ l)) (sender_numbers setup))) (sym closed.closes.are);
             evicted =
                 ap (λ ps. ps.items) evicted ∙ at.evicted ∙ sym (pulls-add_none evicted_in (λ k n visits. refl) events d start closed.closes.closing)
                 ∙ ap (λ l. filter_map evicted_in (events ++ l)) (sym closed.closes.are);
           };
         }
-
--- parts of a list are no longer than it
-length-filter_map-le : {X Y : Type 0} (f : X → Option Y) (xs : List X) → length (filter_map f xs) ≤ length xs
-length-filter_map-le f [] = omega arith
-length-filter_map-le {X} {Y} f (x ∷ xs) = by_case (f x) refl (length-filter_map-le f xs)
-  where
-    by_case : (o : Option Y) → f x ≡ o → length (filter_map f xs) ≤ length xs → length (filter_map f (x ∷ xs)) ≤ length (x ∷ xs)
-    by_case None e h = rw e (omega arith)
-    by_case (Some y) e h = rw e (omega arith)
-
-length-filter-le : {X : Type 0} (f : X → Bool) (xs : List X) → length (filter f xs) ≤ length xs
-length-filter-le f [] = omega arith
-length-filter-le f (x ∷ xs) = by_test (f x) refl (length-filter-le f xs)
-  where
-    by_test : (b : Bool) → f x ≡ b → length (filter f xs) ≤ length xs → length (filter f (x ∷ xs)) ≤ length (x ∷ xs)
-    by_test true e h = rw e (omega arith)
-    by_test false e h = rw e (omega arith)
 
 -- the greatest moment that a device's events hand in, if they are of readable commands, is one of a script
 readable-moments : (setup : Setup) (d : ℕ) (events : List Event) (before : ℕ) → before ≤ most_moment → AllByRecursion IsReadable (map command_of events)
@@ -178,18 +164,18 @@ module _ (r : Recorder) (ready : IsReady r) where
   few-pulls : (d : ℕ) → length (filter_map pull_in (events_of r.router d)) ≤ most_lines
   few-pulls d = let fewer = length-filter_map-le pull_in (events_of r.router d) in let few = few-at d in omega (arith, fewer, few)
 
-  -- the tally of a sender stands at its place among those that may be named
-  pub place-there : (place sender : ℕ) → slice_get (names_in r).senders place ≡ Some sender → place < length r.tallies.items
+  -- what is counted of a sender stands at its place among those that may be named
+  pub place-there : (place sender : ℕ) → slice_get (names_in r).senders place ≡ Some sender → place < length r.counts.items
   place-there place sender here =
       let within = slice_get_within (sender_numbers r.router.setup) place sender here in
-      let count = sym (length-map r.tallies.items tally_sender) ∙ ap length ready.alike in
+      let count = sym (length-map r.counts.items (λ c. c.sender)) ∙ ap length ready.alike in
       omega (arith, within, count)
 
-  pub can-offer : (place : ℕ) → place < length r.tallies.items → CanOffer r.router place
+  pub can-offer : (place : ℕ) → place < length r.counts.items → CanOffer r.router place
   can-offer place within =
       record {
         there =
-            let count = sym (length-map r.tallies.items tally_sender) ∙ ap length ready.alike ∙ length-map r.router.setup.senders number_of in
+            let count = sym (length-map r.counts.items (λ c. c.sender)) ∙ ap length ready.alike ∙ length-map r.router.setup.senders number_of in
             omega (arith, within, count);
         numbers = λ sender here. let fewer = length-filter_map-le (number_from sender) r.router.events in let few = ready.few in omega (arith, fewer, few);
         packets = λ device its. let few = few-accepted device in omega (arith, few);

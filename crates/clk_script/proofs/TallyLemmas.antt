@@ -1,9 +1,7 @@
 -- The tallies of a router after one event more.
-use Rattle.std.proofs.Common.{◌≡◌, ℕ, ◌<◌, ◌==◌, zero, suc, true, false, List, [], ◌∷◌, ◌++◌, map, set, Option, Some, slice_get, get_or, None, refl, sym, ap, ap₂, ◌∙◌, subst, arith, length}
+use Rattle.std.proofs.Common.{◌≡◌, ℕ, ◌==◌, true, false, List, [], ◌∷◌, ◌++◌, map, set, Option, Some, slice_get, None, refl, sym, ap, ap₂, ◌∙◌, subst, arith}
 use Rattle.std.specs.List.{list_any, filter_map, cons_option}
 use Rattle.std.proofs.lemmas.List.{append-nil}
-use Rattle.std.specs.Option.{option_map}
-use Rattle.std.proofs.lemmas.Option.{slice_get-map, slice_get_read}
 use Rattle.std.proofs.lemmas.List.Elements.{filter-append, filter_map-append}
 use Rattle.std.proofs.lemmas.Bool.Decides.{nat_tests}
 use Rattle.clk_packet.specs.declared.packet.Packet.{Packet}
@@ -13,7 +11,7 @@ use Rattle.clk_packet.specs.declared.tally.Tally.{Tally}
 use Rattle.clk_sched.specs.declared.visit.Visit.{Visit}
 use Rattle.clk_packet.specs.Lists.{of_sender, AreRising}
 use Rattle.clk_router.specs.Events.{Event, offered, pulled, accepted_in, refused_in, evicted_in, tally_after, pulls_from}
-use Rattle.clk_script.specs.inside.Recorder.{taken_in, turned_away, put_out, noted, tally_made, tally_sender, IsPlaceOf}
+use Rattle.clk_script.specs.inside.Recorder.{taken_in, turned_away, put_out, noted, tally_made, tally_sender}
 use Rattle.clk_router.proofs.Callers.Keyed.{ChangesOnly, others-stay, changed-at}
 use Rattle.clk_router.proofs.Callers.Events.{pulls-add_none}
 
@@ -84,42 +82,22 @@ turned_away-its p t e = with-same t.sender _ _ _ _ _ _ refl (none-from p t.sende
 put_out-its : (p : Packet) → ChangesIts p.sender (put_out p)
 put_out-its p t e = with-same t.sender _ _ _ _ _ _ refl refl (none-from p t.sender e t.evicted)
 
--- what stands at the place of a sender
-record StandsAt (ts : List Tally) (s i : ℕ) (t : Tally) : Type 0 where
-  pub here : slice_get ts i ≡ Some t
-  pub number : t.sender ≡ s
-  pub own : (s == t.sender) ≡ true
-
-pub place-within : (ts : List Tally) (s i : ℕ) → IsPlaceOf ts s i → i < length ts
-place-within [] s i at = absurd (cc)
-place-within (t ∷ ts) s zero at = omega arith
-place-within (t ∷ ts) s (suc i) at = let below = place-within ts s i at in omega (arith, below)
-
-StandsAt-place : (ts : List Tally) (s i : ℕ) (t : Tally) → IsPlaceOf ts s i → t ≡ get_or ts i t → StandsAt ts s i t
-StandsAt-place ts s i t at is =
-    let here = slice_get_read ts _ i t refl (place-within ts s i at) is in
-    let number : t.sender ≡ s =
-    let e : Some t.sender ≡ Some s = ap (option_map tally_sender) (sym here) ∙ sym (slice_get-map tally_sender ts i) ∙ at in
-    cc e
-    in
-    record { here = here; number = number; own = grind (arith, nat_tests) }
-
 -- a packet more in the tally of its sender, at its place
-module _ (ts : List Tally) (p : Packet) (i : ℕ) (t : Tally) (rising : AreRising (map tally_sender ts)) (at : IsPlaceOf ts p.sender i) (is : t ≡ get_or ts i t) (pushed : List Packet) where
-  stands : StandsAt ts p.sender i t
-  stands = StandsAt-place ts p.sender i t at is
+module _ (ts : List Tally) (p : Packet) (i : ℕ) (t : Tally) (rising : AreRising (map tally_sender ts)) (number : t.sender ≡ p.sender) (here : slice_get ts i ≡ Some t) where
+  own : (p.sender == t.sender) ≡ true
+  own = grind (arith, nat_tests)
 
   its : (f : Tally → Tally) → ChangesIts p.sender f → set ts i (f t) ≡ map f ts
-  its f changes = changed-at tally_sender f ts i t rising (subst (λ s. ChangesIts s f) (sym stands.number) changes) stands.here
+  its f changes = changed-at tally_sender f ts i t rising (subst (λ s. ChangesIts s f) (sym number) changes) here
 
-  pub taken_in-at : pushed ≡ t.accepted ++ p ∷ [] → set ts i (has t.sender pushed t.refused t.evicted) ≡ map (taken_in p) ts
-  taken_in-at e = ap (set ts i) (with-same t.sender _ _ _ _ _ _ (e ∙ sym (one-from p t.sender stands.own t.accepted)) refl refl) ∙ its (taken_in p) (taken_in-its p)
+  pub taken_in-at : set ts i (record t { accepted = t.accepted ++ p ∷ [] }) ≡ map (taken_in p) ts
+  taken_in-at = ap (set ts i) (with-same t.sender _ _ _ _ _ _ (sym (one-from p t.sender own t.accepted)) refl refl) ∙ its (taken_in p) (taken_in-its p)
 
-  pub turned_away-at : pushed ≡ t.refused ++ p ∷ [] → set ts i (has t.sender t.accepted pushed t.evicted) ≡ map (turned_away p) ts
-  turned_away-at e = ap (set ts i) (with-same t.sender _ _ _ _ _ _ refl (e ∙ sym (one-from p t.sender stands.own t.refused)) refl) ∙ its (turned_away p) (turned_away-its p)
+  pub turned_away-at : set ts i (record t { refused = t.refused ++ p ∷ [] }) ≡ map (turned_away p) ts
+  turned_away-at = ap (set ts i) (with-same t.sender _ _ _ _ _ _ refl (sym (one-from p t.sender own t.refused)) refl) ∙ its (turned_away p) (turned_away-its p)
 
-  pub put_out-at : pushed ≡ t.evicted ++ p ∷ [] → set ts i (has t.sender t.accepted t.refused pushed) ≡ map (put_out p) ts
-  put_out-at e = ap (set ts i) (with-same t.sender _ _ _ _ _ _ refl refl (e ∙ sym (one-from p t.sender stands.own t.evicted))) ∙ its (put_out p) (put_out-its p)
+  pub put_out-at : set ts i (record t { evicted = t.evicted ++ p ∷ [] }) ≡ map (put_out p) ts
+  put_out-at = ap (set ts i) (with-same t.sender _ _ _ _ _ _ refl refl (sym (one-from p t.sender own t.evicted))) ∙ its (put_out p) (put_out-its p)
 
 -- a packet of a sender without a tally changes none
 pub put_out-none : (ts : List Tally) (p : Packet) → list_any (λ n. n == p.sender) (map tally_sender ts) ≡ false → ts ≡ map (put_out p) ts

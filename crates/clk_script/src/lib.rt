@@ -2,6 +2,7 @@
 #![tactic(auto)]
 
 mod answer;
+mod counts;
 mod fields;
 mod laws;
 mod limits;
@@ -13,7 +14,6 @@ mod recorder;
 mod rows;
 mod run;
 mod script;
-mod tallies;
 mod text;
 mod writing;
 

@@ -1,6 +1,7 @@
 //! What a recorder saw a router do.
 
-use clk_packet::{Packet, Tally};
+use clk_packet::Packet;
+use clk_report::Counts;
 use clk_sched::Visit;
 
 /// All that a recorder saw its router do, once nothing more is asked of it.
@@ -14,6 +15,6 @@ pub struct Past {
     pub given: Vec<Packet>,
     /// The packets that queues put out for later ones, in order.
     pub put_out: Vec<Packet>,
-    /// What became of the packets of each sender.
-    pub tallies: Vec<Tally>,
+    /// What is counted of the packets of each sender.
+    pub counts: Vec<Counts>,
 }

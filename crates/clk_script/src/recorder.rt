@@ -1,8 +1,9 @@
 //! A router, and what the answer to a script needs of all that it did.
 
+use crate::counts::{counts_for, note};
 use crate::past::Past;
-use crate::tallies::{note, tallies_of};
-use clk_packet::{Fault, Offered, Packet, Tally};
+use clk_packet::{Fault, Offered, Packet};
+use clk_report::Counts;
 use clk_router::Router;
 use clk_sched::{Departure, Keeps};
 use clk_tree::Plan;
@@ -12,8 +13,8 @@ use std::alloc::Global;
 #[derive(Drop)]
 pub struct Recorder {
     pub router: Router,
-    /// What became of the packets of each sender, at its place.
-    tallies: Vec<Tally>,
+    /// What is counted of the packets of each sender, at its place.
+    counts: Vec<Counts>,
     /// Where there are several devices, the packets that pulls gave, closing pulls aside, in order. A device alone has them itself.
     given: Vec<Packet>,
     /// The packets that queues put out for later ones, in order.
@@ -41,11 +42,11 @@ impl Recorder {
         let router = Router::open(alloc, plan, keeps)?;
         // A law, which does nothing.
         router.has_happened();
-        let tallies = tallies_of(alloc, router.senders())?;
+        let counts = counts_for(alloc, router.senders())?;
         let _ = router.devices();
         Ok(Recorder {
             router,
-            tallies,
+            counts,
             given: Vec::new(alloc),
             evicted: Vec::new(alloc),
         })
@@ -54,7 +55,7 @@ impl Recorder {
     /// The sender at this place offers its next packet, of this length in bytes, to its queue. Fault 1 where memory is refused.
     pub fn send(&mut self, place: usize, length: u16) -> Result<(Packet, Offered), Fault>
         requires ready { IsReady self.old }
-        requires is_there { IsPlace self.old.tallies.items place }
+        requires is_there { IsPlace self.old.counts.items place }
         requires has_length { 1 ≤ length }
         ensures sender { IfOk result (λ r. sender_at self.old.router.setup place ≡ Some r.0.sender) }
         ensures length { IfOk result (λ r. r.0.length ≡ length) }
@@ -67,12 +68,12 @@ impl Recorder {
         // A law, which does nothing.
         self.router.has_happened();
         note(
-            &mut self.tallies,
+            &mut self.counts,
             self.router.senders(),
             place,
             packet,
             outcome,
-        )?;
+        );
         self.keep_evicted(outcome)?;
         Ok((packet, outcome))
     }
@@ -154,7 +155,7 @@ impl Recorder {
             emitted,
             given: self.given,
             put_out: self.evicted,
-            tallies: self.tallies,
+            counts: self.counts,
         })
     }
 }

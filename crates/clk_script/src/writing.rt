@@ -15,7 +15,7 @@ use crate::past::Past;
 use crate::rows::{Fate, Row};
 use crate::text::{LINE, put_offer, put_pull};
 use clk_packet::{Fault, Offered, Packet, Sink};
-use clk_report::{MAX_DEVICES, report};
+use clk_report::{MAX_DEVICES, report_counts};
 use clk_sched::Departure;
 
 /// Writes the lines of an answer, and the report where the router was closed.
@@ -45,7 +45,7 @@ pub fn write_answer<W: Sink>(answer: &Answer, writer: &mut W) -> Result<(), Faul
     };
     write_closings(&mut lines, several, 0, closings, writer)?;
     lines.write(writer)?;
-    report(&past.tallies, &past.emitted, writer)
+    report_counts(&past.counts, &past.emitted, writer)
 }
 
 /// Whether there are several devices.

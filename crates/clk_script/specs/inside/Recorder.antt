@@ -1,5 +1,5 @@
 -- What a recorder knows of its router, in the words of the definitions.
-use Rattle.std.specs.Prelude.{◌≡◌, ℕ, Bool, ◌<◌, ◌≤◌, List, [], ◌∷◌, ◌++◌, length, map, true, false, nat_lt, if◌then◌else◌, ◌==◌, ⊤, Option, Some, slice_get}
+use Rattle.std.specs.Prelude.{◌≡◌, ℕ, Bool, All, ◌<◌, ◌≤◌, List, [], ◌∷◌, ◌++◌, length, map, true, false, nat_lt, if◌then◌else◌, ◌==◌, ⊤, Option, Some, slice_get}
 use Rattle.std.specs.List.{list_any, flat_map, filter_map, cons_option, AllByRecursion}
 use Rattle.clk_packet.specs.declared.packet.Packet.{Packet}
 use Rattle.clk_packet.specs.declared.packet.Offered.{Offered}
@@ -7,6 +7,8 @@ use Rattle.clk_packet.specs.declared.packet.Offered.TheVariants.{Accepted, Refus
 use Rattle.clk_packet.specs.declared.tally.Tally.{Tally}
 use Rattle.clk_packet.specs.Limits.{most_elements}
 use Rattle.clk_packet.specs.Lists.{of_sender, AreRising}
+use Rattle.clk_report.specs.declared.counts.Counts.{Counts}
+use Rattle.clk_report.specs.Counts.{counts_of, CanCount}
 use Rattle.clk_report.specs.Devices.{lists_of}
 use Rattle.clk_sched.specs.declared.session.departures.Departure.{Departure}
 use Rattle.clk_sched.specs.declared.visit.Visit.{Visit}
@@ -46,16 +48,17 @@ noted p (Evicted front) t = put_out front (taken_in p t)
 abbrev pub tally_sender : Tally → ℕ
 tally_sender t = t.sender
 
-abbrev pub numbers_in : List Tally → List ℕ
-numbers_in tallies = map tally_sender tallies
+-- whose it is that something was counted of
+abbrev pub numbers_in : List Counts → List ℕ
+numbers_in counts = map (λ c. c.sender) counts
 
--- a tally stands at this place
-abbrev pub IsPlace : List Tally → ℕ → Type 0
-IsPlace tallies place = place < length tallies
+-- a sender's counts stand at this place
+abbrev pub IsPlace : List Counts → ℕ → Type 0
+IsPlace counts place = place < length counts
 
--- the tally of this sender stands at this place
-abbrev pub IsPlaceOf : List Tally → ℕ → ℕ → Type 0
-IsPlaceOf tallies sender place = slice_get (numbers_in tallies) place ≡ Some sender
+-- those of this sender stand at this place
+abbrev pub IsPlaceOf : List Counts → ℕ → ℕ → Type 0
+IsPlaceOf counts sender place = slice_get (numbers_in counts) place ≡ Some sender
 
 -- what a script may name over senders of these numbers, and so many devices
 abbrev pub named_by : List ℕ → ℕ → Names
@@ -69,7 +72,7 @@ pub record IsAt (setup : Setup) (events : List Event) (r : Recorder) : Type 0 wh
   pub can_happen : CanHappen setup events
   pub setup_is : r.router.setup ≡ setup
   pub events_are : r.router.events ≡ events
-  pub tallies : r.tallies.items ≡ map (tally_after events) (sender_numbers setup)
+  pub counts : r.counts.items ≡ map counts_of (map (tally_after events) (sender_numbers setup))
   pub evicted : r.evicted.items ≡ filter_map evicted_in events
 
 -- Nothing has happened over such a setup, which has a device, not too many, and senders by rising numbers.
@@ -98,12 +101,14 @@ abbrev pub IsSound : Names → Command → Type 0
 IsSound names (Send sender length) = (list_any (λ s. s == sender) names.senders ≡ true) × (1 ≤ length)
 IsSound names (Pull device moment) = device < names.devices
 
--- What has happened is less than what a script may ask for, and the tallies stand by rising numbers of the senders.
+-- What has happened is less than what a script may ask for, so that there is room to count one packet more, and the counts stand by rising
+-- numbers of the senders.
 pub record IsReady (r : Recorder) : Type 0 where
   pub few : length r.router.events ≤ most_lines
   pub readable : AllByRecursion IsReadable (map command_of r.router.events)
-  pub alike : numbers_in r.tallies.items ≡ sender_numbers r.router.setup
-  pub rising : AreRising (numbers_in r.tallies.items)
+  pub alike : numbers_in r.counts.items ≡ sender_numbers r.router.setup
+  pub rising : AreRising (numbers_in r.counts.items)
+  pub room : All CanCount r.counts.items
 
 -- These are the logs of the devices, where visits are kept.
 abbrev pub AreLogs : Bool → Past → List (List Visit) → Type 0
@@ -115,7 +120,7 @@ pub record IsPastOf (r : Recorder) (past : Past) : Type 0 where
   pub emitted : lists_of past.emitted.items ≡ map emitted (logs_of r.router.setup r.router.events)
   pub given : past.given.items ≡ r.given.items
   pub put_out : past.put_out.items ≡ r.evicted.items
-  pub tallies : past.tallies.items ≡ r.tallies.items
+  pub counts : past.counts.items ≡ r.counts.items
 
 -- One more pull of a device, at a moment that was handed in, led on from these events to this result.
 pub record LeadsOnByPull (setup : Setup) (new : Recorder) (device moment : ℕ) (got : Option Packet) (events : List Event) : Type 0 where

@@ -8,7 +8,7 @@ use Rattle.clk_packet.specs.declared.packet.Offered.{Offered}
 use Rattle.clk_packet.specs.declared.packet.Offered.TheVariants.{Accepted, Refused, Evicted}
 use Rattle.clk_sched.specs.declared.session.departures.Departure.{Departure}
 use Rattle.clk_sched.specs.Log.{visits_of, result_of}
-use Rattle.clk_report.specs.Report.{report_text}
+use Rattle.clk_report.specs.Counts.{counts_text}
 use Rattle.clk_report.specs.Devices.{lists_of, all_emitted}
 use Rattle.clk_script.specs.declared.script.Command.{Command}
 use Rattle.clk_script.specs.declared.script.Command.TheVariants.{Send, Pull}
@@ -167,7 +167,7 @@ given_of past = given_first (lists_of past.emitted.items) past.given.items
 -- what the closing writes in which these packets came out, if there is one, and then the report
 abbrev pub ending_of : Past → Option (List (List Departure)) → List ℕ
 ending_of past None = []
-ending_of past (Some closings) = closings_text (are_several past) 0 closings ++ report_text (all_emitted past.emitted.items) past.tallies.items
+ending_of past (Some closings) = closings_text (are_several past) 0 closings ++ counts_text (all_emitted past.emitted.items) past.counts.items
 
 -- all that an answer writes
 abbrev pub answer_text : Answer → List ℕ

@@ -1,8 +1,8 @@
 use Rattle.std.proofs.Common.{◌<◌, ◌≤◌, All, take}
 use Rattle.clk_report.proofs.senders.senders_of.Given as goal
 
-abbrev pub invariant-loop-tally : goal.invariant-loop-tally
-invariant-loop-tally l = record {
-  within : All (λ t. t.sender < l.senders) (take l.tally-index l.tallies);
-  limit : l.senders ≤ 65536;
+abbrev pub invariant-loop-sender : goal.invariant-loop-sender
+invariant-loop-sender g l = record {
+  within : All (λ t. (g.T.Counted.counted t).sender < l.most) (take l.sender-index l.senders);
+  limit : l.most ≤ 65536;
 }

@@ -12,7 +12,7 @@ pub send-requires-clause-is_there : goal.send-requires-clause-is_there
 send-requires-clause-is_there c =
     let old = c.args.recorder.now in
     let to_do = subst (IsToDo (names_in old)) c.in-Send.is c.requires.to_do in
-    subst (IsPlace old.tallies.items) (sym c.from.ensures) (place-there old c.requires.ready c.in-Send.place c.in-Send.packet.sender to_do)
+    subst (IsPlace old.counts.items) (sym c.from.ensures) (place-there old c.requires.ready c.in-Send.place c.in-Send.packet.sender to_do)
 
 pub pull-requires : goal.pull-requires
 pull-requires c =

@@ -1,7 +1,11 @@
-use Rattle.std.proofs.Common.{◌++◌, ◌∷◌, [], sym, subst}
+use Rattle.std.proofs.Common.{◌≡◌, ◌++◌, ◌∷◌, [], List, length, map, rules, sym, subst, ◌∙◌}
+use Rattle.std.specs.Vec.{with_items}
+use Rattle.std.proofs.lemmas.List.{with_items_is}
+use Rattle.clk_packet.specs.declared.tally.Tally.{Tally}
+use Rattle.clk_report.specs.Counts.{counts_of}
 use Rattle.clk_router.specs.Events.{offered}
 use Rattle.clk_script.specs.declared.recorder.Recorder.{Recorder}
-use Rattle.clk_script.specs.inside.Recorder.{IsAt}
+use Rattle.clk_script.specs.inside.Recorder.{noted, IsAt}
 use Rattle.clk_script.proofs.RecorderLemmas.{can-offer, IsAt-offered}
 use Rattle.clk_script.proofs.recorder.Recorder.send.Goals as goal
 
@@ -13,7 +17,11 @@ returns-clause-leads c =
     let old = c.args.self.now in
     let p = c.offer-outcome.result.0 in
     let outcome = c.offer-outcome.result.1 in
-    let after : Recorder = record old { router = c.offer-outcome.new.self; tallies = c.note.new.tallies; evicted = c.keep_evicted.new.self.evicted } in
+    let many : length c.note.new.counts ≡ old.counts.len = search rules in
+    let counted : (ts : List Tally) → old.counts.items ≡ map counts_of ts → (with_items old.counts c.note.new.counts).items ≡ map counts_of (map (noted p outcome) ts) =
+    λ ts are. with_items_is old.counts c.note.new.counts many ∙ c.note.ensures ts (c.deref_mut.ensures.value ∙ are)
+    in
+    let after : Recorder = record old { router = c.offer-outcome.new.self; counts = with_items old.counts c.note.new.counts; evicted = c.keep_evicted.new.self.evicted } in
     λ setup events at.
     subst (λ (r : Recorder). IsAt setup (events ++ offered p outcome ∷ []) r) (sym c.in_ok-keep_evicted.ensures.kept)
-    (IsAt-offered setup events old after p outcome at c.offer-outcome.ensures.goes_on c.has_happened.ensures c.in_ok-note.ensures.kept c.in_ok-keep_evicted.ensures.evicted)
+    (IsAt-offered setup events old after p outcome at c.offer-outcome.ensures.goes_on c.has_happened.ensures counted c.in_ok-keep_evicted.ensures.evicted)

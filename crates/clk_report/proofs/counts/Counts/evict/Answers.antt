@@ -1,0 +1,7 @@
+use Rattle.std.proofs.Common.{◌∙◌, ap}
+use Rattle.clk_report.specs.declared.total.Total.{Total}
+use Rattle.clk_report.proofs.CountLemmas.{counted-evicted}
+use Rattle.clk_report.proofs.counts.Counts.evict.Goals as goal
+
+pub returns-clause-counted : goal.returns-clause-counted
+returns-clause-counted c tally is = ap (λ (evicted : Total). record c.args.self.now { evicted = evicted }) c.add.ensures ∙ counted-evicted c.args.self.now tally c.args.packet is

@@ -1,0 +1,8 @@
+use Rattle.std.proofs.Common.{◌∙◌, ap₂}
+use Rattle.clk_report.specs.declared.total.Total.{Total}
+use Rattle.clk_report.proofs.CountLemmas.{counted-refused}
+use Rattle.clk_report.proofs.counts.Counts.refuse.Goals as goal
+
+pub returns-clause-counted : goal.returns-clause-counted
+returns-clause-counted c tally is =
+    ap₂ (λ (sent refused : Total). record c.args.self.now { sent = sent; refused = refused }) c.add.ensures c.add-2.ensures ∙ counted-refused c.args.self.now tally c.args.packet is
