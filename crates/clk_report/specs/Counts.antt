@@ -20,31 +20,24 @@ counts_of t = record { sender = t.sender; sent = total_of (t.accepted ++ t.refus
 abbrev pub with_packet : Packet → Total → Total
 with_packet p total = record { packets = total.packets + 1; bytes = total.bytes + p.length }
 
--- the total of both
-abbrev pub both : Total → Total → Total
-both one other = record { packets = one.packets + other.packets; bytes = one.bytes + other.bytes }
-
 -- There is room to count so many packets more.
 pub record HasRoom (more : ℕ) (total : Total) : Type 0 where
   pub packets : total.packets + more < 2 ^ 128
   pub bytes : total.bytes + most_length * more < 2 ^ 128
 
--- There is room to count one packet more, whatever becomes of it.
-pub record CanCount (c : Counts) : Type 0 where
-  pub sent : HasRoom 1 c.sent
-  pub accepted : HasRoom 1 c.accepted
-  pub refused : HasRoom 1 c.refused
-  pub evicted : HasRoom 1 c.evicted
-
 -- some words and ` N B`
 abbrev pub words_text : List ℕ → Total → List ℕ
 words_text words total = words ++ numbers_text total.packets total.bytes
 
--- the line of a sender of whom this was counted, where these packets came out at any device
-abbrev pub counts_line : List Packet → Counts → List ℕ
-counts_line emitted c =
+-- the line of a sender of whom this was counted, where so much came out
+abbrev pub line_with : Counts → Total → List ℕ
+line_with c emitted =
     codes "sender " ++ (decimal c.sender ++ (words_text (codes ": sent") c.sent ++ (words_text (codes ", accepted") c.accepted ++ (words_text (codes ", refused") c.refused
-    ++ (words_text (codes ", evicted") c.evicted ++ (words_text (codes ", emitted") (total_of (of_sender c.sender emitted)) ++ codes "\n"))))))
+    ++ (words_text (codes ", evicted") c.evicted ++ (words_text (codes ", emitted") emitted ++ codes "\n"))))))
+
+-- the same, where these packets came out at any device
+abbrev pub counts_line : List Packet → Counts → List ℕ
+counts_line emitted c = line_with c (total_of (of_sender c.sender emitted))
 
 -- the report, by what was counted of each sender, in order
 abbrev pub counts_text : List Packet → List Counts → List ℕ

@@ -21,7 +21,7 @@ pub struct Counts {
 impl Counts {
     ghost use Rattle.std.specs.Prelude.{◌≡◌, ◌++◌, ◌∷◌, []};
     ghost use Rattle.clk_packet.specs.declared.tally.Tally.{Tally};
-    ghost use Rattle.clk_report.specs.Counts.{counts_of, HasRoom};
+    ghost use Rattle.clk_report.specs.Counts.{counts_of, with_packet, HasRoom};
 
     /// Of a sender that has offered nothing.
     pub fn none(sender: u16) -> Counts
@@ -51,42 +51,42 @@ impl Counts {
         }
     }
 
-    /// With a packet that its queue took.
+    /// Counts a packet that its queue took.
     #[inline(always)]
     pub fn accept(&mut self, packet: Packet)
         requires sent { HasRoom 1 self.old.sent }
         requires accepted { HasRoom 1 self.old.accepted }
         ensures counted { (tally : Tally) → self.old ≡ counts_of tally → self.new ≡ counts_of (record tally { accepted = tally.accepted ++ packet ∷ [] }) }
-        ensures others { self.new ≡ record self.old { sent = self.new.sent; accepted = self.new.accepted } }
+        ensures exact { self.new ≡ record self.old { sent = with_packet packet self.old.sent; accepted = with_packet packet self.old.accepted } }
     {
         self.sent.add(packet);
         self.accepted.add(packet);
     }
 
-    /// With a packet that its queue was too full to take.
+    /// Counts a packet that its queue was too full to take.
     #[inline(always)]
     pub fn refuse(&mut self, packet: Packet)
         requires sent { HasRoom 1 self.old.sent }
         requires refused { HasRoom 1 self.old.refused }
         ensures counted { (tally : Tally) → self.old ≡ counts_of tally → self.new ≡ counts_of (record tally { refused = tally.refused ++ packet ∷ [] }) }
-        ensures others { self.new ≡ record self.old { sent = self.new.sent; refused = self.new.refused } }
+        ensures exact { self.new ≡ record self.old { sent = with_packet packet self.old.sent; refused = with_packet packet self.old.refused } }
     {
         self.sent.add(packet);
         self.refused.add(packet);
     }
 
-    /// With an accepted packet that its queue put out.
+    /// Counts an accepted packet that its queue put out for a later one.
     #[inline(always)]
     pub fn evict(&mut self, packet: Packet)
         requires { HasRoom 1 self.old.evicted }
         ensures counted { (tally : Tally) → self.old ≡ counts_of tally → self.new ≡ counts_of (record tally { evicted = tally.evicted ++ packet ∷ [] }) }
-        ensures others { self.new ≡ record self.old { evicted = self.new.evicted } }
+        ensures exact { self.new ≡ record self.old { evicted = with_packet packet self.old.evicted } }
     {
         self.evicted.add(packet);
     }
 }
 
-// What a report can tell of a sender: its packets' lists, or what was counted of them.
+/// What a report can tell of a sender: lists of its packets, or what was counted of them.
 pub trait Counted {
     ghost use Rattle.std.specs.Prelude.{◌≡◌};
     ghost use Rattle.clk_report.specs.declared.counts.Counts.{Counts};
@@ -94,10 +94,12 @@ pub trait Counted {
     // What is counted of it.
     ghost counted: { Self → Counts };
 
+    /// What is counted of it. Takes time in proportion to what it lists.
     fn counts(&self) -> Counts
         ensures { result ≡ counted self.now };
 
-    fn sender(&self) -> u16
+    /// The sender's number, for which nothing is counted.
+    fn number(&self) -> u16
         ensures { result ≡ (counted self.now).sender };
 }
 
@@ -108,7 +110,7 @@ impl Counted for Counts {
         *self
     }
 
-    fn sender(&self) -> u16 {
+    fn number(&self) -> u16 {
         self.sender
     }
 }
@@ -122,7 +124,7 @@ impl Counted for Tally {
         Counts::of(self)
     }
 
-    fn sender(&self) -> u16 {
+    fn number(&self) -> u16 {
         self.sender
     }
 }

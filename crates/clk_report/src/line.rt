@@ -1,9 +1,7 @@
 //! The lines of a report. Each is written from its end to its front.
 
-ghost use Rattle.std.specs.Prelude.{◌≡◌, ◌+◌, ◌≤◌, ◌++◌, List, decimal, drop, length};
-ghost use Rattle.clk_packet.specs.declared.packet.Packet.{Packet};
-ghost use Rattle.clk_packet.specs.Lists.{of_sender};
-ghost use Rattle.clk_report.specs.Counts.{counts_line, total_of, words_text};
+ghost use Rattle.std.specs.Prelude.{◌≡◌, ◌+◌, ◌≤◌, ◌++◌, decimal, drop, length};
+ghost use Rattle.clk_report.specs.Counts.{line_with, words_text};
 
 use crate::counts::Counts;
 use crate::pieces::{put, put_number};
@@ -17,7 +15,7 @@ pub const LINE: usize = 512;
 pub fn put_line(lines: &mut [u8], counts: &Counts, emitted: Total, end: usize) -> usize
     requires room { 512 ≤ end }
     requires within { end ≤ length lines.old }
-    ensures piece { (packets : List Packet) → emitted ≡ total_of (of_sender counts.now.sender packets) → drop result lines.new ≡ counts_line packets counts.now ++ drop end lines.old }
+    ensures piece { drop result lines.new ≡ line_with counts.now emitted ++ drop end lines.old }
     ensures near { end ≤ result + 512 }
     ensures before { result ≤ end }
 {

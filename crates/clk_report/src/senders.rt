@@ -47,7 +47,7 @@ pub fn report<W: Sink>(
 }
 
 /// Writes the report as `report` does, by what was counted of each sender: that of the tallies whose counts these are
-/// (`counts_tell_tallies`).
+/// (`counts_tell_tallies`). Takes no memory, and time in proportion to the packets that came out and the senders.
 ///
 /// # Errors
 ///
@@ -75,7 +75,7 @@ fn write_report<T: Counted, W: Sink>(
         (W.Sink.failures writer.old) (W.Sink.failures writer.new) result
         (flat_map (λ t. counts_line (all_emitted emitted.now) (T.Counted.counted t)) senders.now) }
 {
-    if senders_of(senders) <= FEW {
+    if table_len(senders) <= FEW {
         write_lines::<FEW, T, W>(senders, emitted, writer)
     } else {
         write_lines::<SENDERS, T, W>(senders, emitted, writer)
@@ -83,15 +83,15 @@ fn write_report<T: Counted, W: Sink>(
 }
 
 /// How many totals a table has at least in which these senders stand: one more than the greatest of their numbers.
-fn senders_of<T: Counted>(senders: &[T]) -> usize
+fn table_len<T: Counted>(senders: &[T]) -> usize
     ensures within { All (λ t. (T.Counted.counted t).sender < result) senders.now }
     ensures limit { result ≤ SENDERS }
 {
-    let mut most = 0;
+    let mut len = 0;
     for sender in senders {
-        most = most.max(usize::from(sender.sender()) + 1);
+        len = len.max(usize::from(sender.number()) + 1);
     }
-    most
+    len
 }
 
 /// Writes the report by a table of N totals. It isn't inlined: the larger table shall not stand in the frame of a report of few senders.
@@ -124,7 +124,7 @@ fn write_lines<const N: usize, T: Counted, W: Sink>(
 
 /// Puts the lines of some senders, where these are the totals of what came out by sender, before this place, and gives where they start.
 fn put_lines<T: Counted>(lines: &mut [u8], senders: &[T], totals: &[Total], end: usize) -> usize
-    requires counted { All (λ t. (T.Counted.counted t).sender < length totals.now) senders.now }
+    requires reached { All (λ t. (T.Counted.counted t).sender < length totals.now) senders.now }
     requires room { 512 * length senders.now ≤ end }
     requires within { end ≤ length lines.old }
     ensures piece { (emitted : List Packet) → AreTotals emitted totals.now → drop result lines.new ≡ flat_map (λ t. counts_line emitted (T.Counted.counted t)) senders.now ++ drop end lines.old }

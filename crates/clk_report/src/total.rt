@@ -24,16 +24,17 @@ pub struct Total {
 
 impl Total {
     ghost use Rattle.std.specs.Prelude.{◌≡◌, ◌+◌, ◌<◌, ◌^◌};
-    ghost use Rattle.clk_report.specs.Counts.{total_of, with_packet, both};
+    ghost use Rattle.clk_report.specs.Counts.{total_of, with_packet};
+    ghost use Rattle.clk_report.specs.inside.Totals.{both};
 
     /// Of no packets.
-    pub const NONE: Total = Total {
+    pub(crate) const NONE: Total = Total {
         packets: 0,
         bytes: 0,
     };
 
     /// With one packet more.
-    pub fn add(&mut self, packet: Packet)
+    pub(crate) fn add(&mut self, packet: Packet)
         requires packets { self.old.packets + 1 < 2 ^ 128 }
         requires bytes { self.old.bytes + packet.length < 2 ^ 128 }
         ensures { self.new ≡ with_packet packet self.old }
@@ -43,7 +44,7 @@ impl Total {
     }
 
     /// With those of another.
-    pub fn and(self, other: Total) -> Total
+    pub(crate) fn and(self, other: Total) -> Total
         requires packets { self.packets + other.packets < 2 ^ 128 }
         requires bytes { self.bytes + other.bytes < 2 ^ 128 }
         ensures { result ≡ both self other }
@@ -55,7 +56,7 @@ impl Total {
     }
 
     /// Of some packets.
-    pub fn of(packets: &[Packet]) -> Total
+    pub(crate) fn of(packets: &[Packet]) -> Total
         ensures { result ≡ total_of packets.now }
     {
         let mut total = Total::NONE;

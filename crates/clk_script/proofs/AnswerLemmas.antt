@@ -11,7 +11,7 @@ use Rattle.std.proofs.lemmas.Grind.{drop_more_same}
 use Rattle.clk_packet.specs.declared.packet.Packet.{Packet}
 use Rattle.clk_packet.specs.declared.packet.Offered.{Offered}
 use Rattle.clk_report.specs.Report.{report_text}
-use Rattle.clk_report.specs.Counts.{counts_text, CanCount}
+use Rattle.clk_report.specs.Counts.{counts_text}
 use Rattle.clk_report.proofs.Callers.Counts.{counts-tell}
 use Rattle.clk_report.specs.Devices.{all_emitted, lists_of}
 use Rattle.clk_sched.specs.declared.visit.Visit.{Visit}
@@ -27,7 +27,7 @@ use Rattle.clk_script.specs.declared.recorder.Recorder.{Recorder}
 use Rattle.clk_script.specs.Script.{Names, most_lines}
 use Rattle.clk_router.specs.Events.{Setup, sender_numbers, Event, offered, pulled, events_at, log_of, logs_of, tally_after, emitted_in}
 use Rattle.clk_script.specs.Meaning.{names_of, has_several, command_of, event_text, CloseFirst, Writes}
-use Rattle.clk_script.specs.inside.Recorder.{names_in, numbers_in, IsAt, AreLogs, IsPastOf, Starts, IsReady, given_kept, LeadsOnByPull, IsReadable}
+use Rattle.clk_script.specs.inside.Recorder.{names_in, numbers_in, IsAt, AreLogs, IsPastOf, Starts, IsReady, given_kept, LeadsOnByPull, IsReadable, HasRoomForOne}
 use Rattle.clk_script.specs.inside.Rows.{command_asked, asked_by, row_at, IsRowOf, IsToDo, CarriesOut, AnswersRows, IsClosedFrom, rows_text, closings_text, are_several, closings_of, given_first, given_of, ending_of}
 use Rattle.clk_script.proofs.RowLemmas.{rows-written}
 use Rattle.clk_script.proofs.CountLemmas.{room-after}
@@ -124,7 +124,7 @@ IsReady-answered setup old new asked done starts to_do few answers =
     let alike : numbers_in new.counts.items ≡ sender_numbers new.router.setup = numbers-its setup carried.more new at ∙ ap sender_numbers (sym at.setup_is) in (
       record {
         few = subst (λ l. length l ≤ most_lines) (sym at.events_are) (omega (arith, count, few));
-        room = subst (All CanCount) (sym at.counts) (room-after carried.more (sender_numbers setup) (omega (arith, count, few)));
+        room = subst (All HasRoomForOne) (sym at.counts) (room-after carried.more (sender_numbers setup) (omega (arith, count, few)));
         readable = subst (λ l. AllByRecursion IsReadable (map command_of l)) (sym at.events_are) readable;
         alike = alike;
         rising = subst AreRising (sym (numbers-its setup carried.more new at)) starts.rising;

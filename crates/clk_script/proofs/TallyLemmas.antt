@@ -11,9 +11,12 @@ use Rattle.clk_packet.specs.declared.tally.Tally.{Tally}
 use Rattle.clk_sched.specs.declared.visit.Visit.{Visit}
 use Rattle.clk_packet.specs.Lists.{of_sender, AreRising}
 use Rattle.clk_router.specs.Events.{Event, offered, pulled, accepted_in, refused_in, evicted_in, tally_after, pulls_from}
-use Rattle.clk_script.specs.inside.Recorder.{taken_in, turned_away, put_out, noted, tally_made, tally_sender}
+use Rattle.clk_script.specs.inside.Recorder.{taken_in, turned_away, put_out, noted}
 use Rattle.clk_router.proofs.Callers.Keyed.{ChangesOnly, others-stay, changed-at}
 use Rattle.clk_router.proofs.Callers.Events.{pulls-add_none}
+
+abbrev pub tally_sender : Tally → ℕ
+tally_sender t = t.sender
 
 -- what an event adds to a sender's packets of some kind
 its-more : (f : Event → Option Packet) (s : ℕ) (events : List Event) (e : Event)
@@ -103,20 +106,12 @@ module _ (ts : List Tally) (p : Packet) (i : ℕ) (t : Tally) (rising : AreRisin
 pub put_out-none : (ts : List Tally) (p : Packet) → list_any (λ n. n == p.sender) (map tally_sender ts) ≡ false → ts ≡ map (put_out p) ts
 put_out-none ts p none = others-stay tally_sender p.sender (put_out p) ts (put_out-its p) none
 
--- changes keep the senders
-pub senders-taken_in : (p : Packet) (ts : List Tally) → map tally_sender (map (taken_in p) ts) ≡ map tally_sender ts
-senders-taken_in p [] = refl
-senders-taken_in p (t ∷ ts) = ap (λ l. t.sender ∷ l) (senders-taken_in p ts)
-
+-- a packet that is taken in for another
 pub evicted-both : (p front : Packet) (ts : List Tally) → map (put_out front) (map (taken_in p) ts) ≡ map (noted p (Evicted front)) ts
 evicted-both p front [] = refl
 evicted-both p front (t ∷ ts) = ap (λ l. put_out front (taken_in p t) ∷ l) (evicted-both p front ts)
 
--- tallies before anything was sent, and whose they are
-pub tallies-made : (numbers : List ℕ) → map tally_made numbers ≡ map (tally_after []) numbers
-tallies-made [] = refl
-tallies-made (s ∷ numbers) = ap (λ l. tally_made s ∷ l) (tallies-made numbers)
-
+-- whose tallies these are
 pub map-tallies : (events : List Event) (numbers : List ℕ) → map tally_sender (map (tally_after events) numbers) ≡ numbers
 map-tallies events [] = refl
 map-tallies events (n ∷ numbers) = ap (λ l. n ∷ l) (map-tallies events numbers)

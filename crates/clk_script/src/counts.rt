@@ -3,8 +3,8 @@
 ghost use Rattle.std.specs.Prelude.{◌≡◌, List, All, map, IfOk, IsOkUnless};
 ghost use Rattle.clk_packet.specs.Lists.{AreRising};
 ghost use Rattle.clk_packet.specs.declared.tally.Tally.{Tally};
-ghost use Rattle.clk_report.specs.Counts.{counts_of, CanCount, HasRoom};
-ghost use Rattle.clk_script.specs.inside.Recorder.{tally_made, numbers_in, noted, put_out, IsPlaceOf};
+ghost use Rattle.clk_report.specs.Counts.{counts_of, HasRoom};
+ghost use Rattle.clk_script.specs.inside.Recorder.{tally_made, numbers_in, noted, put_out, HasRoomForOne, IsPlaceOf};
 
 use clk_packet::{Fault, Offered, Packet};
 use clk_report::Counts;
@@ -12,7 +12,7 @@ use clk_router::place_of;
 use std::alloc::Global;
 
 /// What is counted of senders of these numbers, before they have sent anything. Fault 1 where memory is refused.
-pub fn counts_for(alloc: Global, numbers: &[u16]) -> Result<Vec<Counts>, Fault>
+pub fn counts_of_senders(alloc: Global, numbers: &[u16]) -> Result<Vec<Counts>, Fault>
     ensures made { IfOk result (λ counts. counts.items ≡ map counts_of (map tally_made numbers.now)) }
     ensures fault { IsOkUnless result Fault.Memory }
 {
@@ -24,26 +24,32 @@ pub fn counts_for(alloc: Global, numbers: &[u16]) -> Result<Vec<Counts>, Fault>
 }
 
 /// Counts what became of a packet that the sender at this place offered, among senders of these numbers.
-pub fn note(counts: &mut [Counts], numbers: &[u16], place: usize, packet: Packet, outcome: Offered)
+pub fn count_offered(
+    counts: &mut [Counts],
+    numbers: &[u16],
+    place: usize,
+    packet: Packet,
+    outcome: Offered,
+)
     requires alike { numbers_in counts.old ≡ numbers.now }
     requires rising { AreRising numbers.now }
     requires here { IsPlaceOf counts.old packet.sender place }
-    requires room { All CanCount counts.old }
+    requires room { All HasRoomForOne counts.old }
     ensures { (tallies : List Tally) → counts.old ≡ map counts_of tallies → counts.new ≡ map counts_of (map (noted packet outcome) tallies) }
 {
-    let its = &mut counts[place];
+    let own = &mut counts[place];
     match outcome {
-        Offered::Accepted => its.accept(packet),
-        Offered::Refused(_) => its.refuse(packet),
+        Offered::Accepted => own.accept(packet),
+        Offered::Refused(_) => own.refuse(packet),
         Offered::Evicted(front) => {
-            its.accept(packet);
-            note_evicted(counts, numbers, front);
+            own.accept(packet);
+            count_evicted(counts, numbers, front);
         }
     }
 }
 
 /// Counts a packet that was put out of its queue for a later one, among senders of these numbers.
-fn note_evicted(counts: &mut [Counts], numbers: &[u16], front: Packet)
+fn count_evicted(counts: &mut [Counts], numbers: &[u16], front: Packet)
     requires alike { numbers_in counts.old ≡ numbers.now }
     requires rising { AreRising numbers.now }
     requires room { All (λ c. HasRoom 1 c.evicted) counts.old }

@@ -1,6 +1,6 @@
 //! A router, and what the answer to a script needs of all that it did.
 
-use crate::counts::{counts_for, note};
+use crate::counts::{count_offered, counts_of_senders};
 use crate::past::Past;
 use clk_packet::{Fault, Offered, Packet};
 use clk_report::Counts;
@@ -42,7 +42,7 @@ impl Recorder {
         let router = Router::open(alloc, plan, keeps)?;
         // A law, which does nothing.
         router.has_happened();
-        let counts = counts_for(alloc, router.senders())?;
+        let counts = counts_of_senders(alloc, router.senders())?;
         let _ = router.devices();
         Ok(Recorder {
             router,
@@ -67,7 +67,7 @@ impl Recorder {
         let (packet, outcome) = self.router.offer(place, length);
         // A law, which does nothing.
         self.router.has_happened();
-        note(
+        count_offered(
             &mut self.counts,
             self.router.senders(),
             place,

@@ -1,9 +1,13 @@
--- Totals of packets, as the report counts them.
-use Rattle.std.specs.Prelude.{◌≡◌, ℕ, ◌<◌, List, length, Some, slice_get}
+-- A table of totals, by the numbers of senders.
+use Rattle.std.specs.Prelude.{◌≡◌, ℕ, ◌+◌, ◌<◌, List, length, Some, slice_get}
 use Rattle.clk_packet.specs.declared.packet.Packet.{Packet}
 use Rattle.clk_packet.specs.Lists.{of_sender}
 use Rattle.clk_report.specs.declared.total.Total.{Total}
 use Rattle.clk_report.specs.Counts.{total_of}
+
+-- the total of two together
+abbrev pub both : Total → Total → Total
+both one other = record { packets = one.packets + other.packets; bytes = one.bytes + other.bytes }
 
 -- at the number of each sender that the table has stands the total of its packets
 pub record AreTotals (packets : List Packet) (totals : List Total) : Type 0 where

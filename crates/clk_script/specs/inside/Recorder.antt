@@ -8,7 +8,7 @@ use Rattle.clk_packet.specs.declared.tally.Tally.{Tally}
 use Rattle.clk_packet.specs.Limits.{most_elements}
 use Rattle.clk_packet.specs.Lists.{of_sender, AreRising}
 use Rattle.clk_report.specs.declared.counts.Counts.{Counts}
-use Rattle.clk_report.specs.Counts.{counts_of, CanCount}
+use Rattle.clk_report.specs.Counts.{counts_of, HasRoom}
 use Rattle.clk_report.specs.Devices.{lists_of}
 use Rattle.clk_sched.specs.declared.session.departures.Departure.{Departure}
 use Rattle.clk_sched.specs.declared.visit.Visit.{Visit}
@@ -45,10 +45,7 @@ noted p Accepted t = taken_in p t
 noted p (Refused q) t = turned_away p t
 noted p (Evicted front) t = put_out front (taken_in p t)
 
-abbrev pub tally_sender : Tally → ℕ
-tally_sender t = t.sender
-
--- whose it is that something was counted of
+-- the numbers of the senders whose counts these are, in order
 abbrev pub numbers_in : List Counts → List ℕ
 numbers_in counts = map (λ c. c.sender) counts
 
@@ -59,6 +56,13 @@ IsPlace counts place = place < length counts
 -- those of this sender stand at this place
 abbrev pub IsPlaceOf : List Counts → ℕ → ℕ → Type 0
 IsPlaceOf counts sender place = slice_get (numbers_in counts) place ≡ Some sender
+
+-- There is room to count one packet more, whatever becomes of it.
+pub record HasRoomForOne (c : Counts) : Type 0 where
+  pub sent : HasRoom 1 c.sent
+  pub accepted : HasRoom 1 c.accepted
+  pub refused : HasRoom 1 c.refused
+  pub evicted : HasRoom 1 c.evicted
 
 -- what a script may name over senders of these numbers, and so many devices
 abbrev pub named_by : List ℕ → ℕ → Names
@@ -108,7 +112,7 @@ pub record IsReady (r : Recorder) : Type 0 where
   pub readable : AllByRecursion IsReadable (map command_of r.router.events)
   pub alike : numbers_in r.counts.items ≡ sender_numbers r.router.setup
   pub rising : AreRising (numbers_in r.counts.items)
-  pub room : All CanCount r.counts.items
+  pub room : All HasRoomForOne r.counts.items
 
 -- These are the logs of the devices, where visits are kept.
 abbrev pub AreLogs : Bool → Past → List (List Visit) → Type 0

@@ -38,7 +38,7 @@ fn lists(alloc: Global, emitted: &[&[Packet]]) -> Result<Vec<Vec<Packet>>, Alloc
     Ok(lists)
 }
 
-fn counts(alloc: Global, tallies: &[Tally]) -> Result<Vec<Counts>, AllocError> {
+fn counts_of(alloc: Global, tallies: &[Tally]) -> Result<Vec<Counts>, AllocError> {
     let mut counts = Vec::new(alloc);
     for tally in tallies {
         counts.push(Counts::of(tally))?;
@@ -83,7 +83,7 @@ fn assert_takes(
     let mut sink = sink_of(alloc, bytes.len()).expect(rt, "ample memory");
     assert_eq!(rt; report(tallies, emitted, &mut sink), expected);
     assert!(rt; sink.taken() == bytes);
-    let counts = counts(alloc, tallies).expect(rt, "ample memory");
+    let counts = counts_of(alloc, tallies).expect(rt, "ample memory");
     let mut sink = sink_of(alloc, bytes.len()).expect(rt, "ample memory");
     assert_eq!(rt; report_counts(&counts, emitted, &mut sink), expected);
     assert!(rt; sink.taken() == bytes);

@@ -4,7 +4,7 @@ use Rattle.clk_report.proofs.ReportLemmas.{line-joined}
 use Rattle.clk_report.proofs.line.put_line.Goals as goal
 
 pub returns-clause-piece : goal.returns-clause-piece
-returns-clause-piece c packets is =
+returns-clause-piece c =
     let counts = c.args.counts.now in
     line-joined (codes "sender ") (decimal counts.sender) (words_text (codes ": sent") counts.sent) (words_text (codes ", accepted") counts.accepted) (words_text (codes ", refused") counts.refused)
     (words_text (codes ", evicted") counts.evicted) (words_text (codes ", emitted") c.args.emitted) (codes "\n") (drop c.args.end c.args.lines.now) (drop c.put-end.result c.put-end.new.line)
@@ -12,6 +12,4 @@ returns-clause-piece c packets is =
     (drop c.put_total-end-4.result c.put_total-end-4.new.lines) (drop c.put_total-end-5.result c.put_total-end-5.new.lines) (drop c.put_number-end.result c.put_number-end.new.line) (drop c.put.result c.put.new.line)
     c.put.ensures.piece (c.put_number-end.ensures.piece ∙ ap (λ n. decimal n ++ drop c.put_total-end-5.result c.put_total-end-5.new.lines) c.from.ensures)
     c.put_total-end-5.ensures.piece c.put_total-end-4.ensures.piece c.put_total-end-3.ensures.piece c.put_total-end-2.ensures.piece
-    (c.put_total-end.ensures.piece) c.put-end.ensures.piece
-    ∙ ap (λ t. (codes "sender " ++ (decimal counts.sender ++ (words_text (codes ": sent") counts.sent ++ (words_text (codes ", accepted") counts.accepted ++ (words_text (codes ", refused") counts.refused
-    ++ (words_text (codes ", evicted") counts.evicted ++ (words_text (codes ", emitted") t ++ codes "\n"))))))) ++ drop c.args.end c.args.lines.now) is
+    c.put_total-end.ensures.piece c.put-end.ensures.piece

@@ -13,8 +13,8 @@ use Rattle.clk_report.proofs.senders.write_lines.Goals as goal
 pub count_by_sender-requires-clause-none : goal.count_by_sender-requires-clause-none
 count_by_sender-requires-clause-none g c = AreTotals-zero _ _ refl
 
-pub put_lines-start-requires-clause-counted : goal.put_lines-start-requires-clause-counted
-put_lines-start-requires-clause-counted g c =
+pub put_lines-start-requires-clause-reached : goal.put_lines-start-requires-clause-reached
+put_lines-start-requires-clause-reached g c =
     let part = c.split_at.result.0.now in
     let front = All-take (λ t. (g.T.Counted.counted t).sender < g.row.N) c.min.result c.loop-rest.rest.now c.loop-rest.invariant.within in
     let many : length c.count_by_sender.new.totals ≡ g.row.N = omega (arith, c.count_by_sender.auto.totals, length-replicate {A = Total}) in

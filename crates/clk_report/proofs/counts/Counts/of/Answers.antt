@@ -1,6 +1,7 @@
 use Rattle.std.proofs.Common.{ap, ap₂, ◌∙◌, arith}
 use Rattle.clk_report.specs.declared.total.Total.{Total}
-use Rattle.clk_report.specs.Counts.{total_of, both}
+use Rattle.clk_report.specs.Counts.{total_of}
+use Rattle.clk_report.specs.inside.Totals.{both}
 use Rattle.clk_report.proofs.TotalLemmas.{bytes-few, both-of}
 use Rattle.clk_report.proofs.counts.Counts.of.Goals as goal
 

@@ -17,11 +17,11 @@ returns-clause-leads c =
     let old = c.args.self.now in
     let p = c.offer-outcome.result.0 in
     let outcome = c.offer-outcome.result.1 in
-    let many : length c.note.new.counts ≡ old.counts.len = search rules in
-    let counted : (ts : List Tally) → old.counts.items ≡ map counts_of ts → (with_items old.counts c.note.new.counts).items ≡ map counts_of (map (noted p outcome) ts) =
-    λ ts are. with_items_is old.counts c.note.new.counts many ∙ c.note.ensures ts (c.deref_mut.ensures.value ∙ are)
+    let many : length c.count_offered.new.counts ≡ old.counts.len = search rules in
+    let counted : (ts : List Tally) → old.counts.items ≡ map counts_of ts → (with_items old.counts c.count_offered.new.counts).items ≡ map counts_of (map (noted p outcome) ts) =
+    λ ts are. with_items_is old.counts c.count_offered.new.counts many ∙ c.count_offered.ensures ts (c.deref_mut.ensures.value ∙ are)
     in
-    let after : Recorder = record old { router = c.offer-outcome.new.self; counts = with_items old.counts c.note.new.counts; evicted = c.keep_evicted.new.self.evicted } in
+    let after : Recorder = record old { router = c.offer-outcome.new.self; counts = with_items old.counts c.count_offered.new.counts; evicted = c.keep_evicted.new.self.evicted } in
     λ setup events at.
     subst (λ (r : Recorder). IsAt setup (events ++ offered p outcome ∷ []) r) (sym c.in_ok-keep_evicted.ensures.kept)
     (IsAt-offered setup events old after p outcome at c.offer-outcome.ensures.goes_on c.has_happened.ensures counted c.in_ok-keep_evicted.ensures.evicted)

@@ -1,16 +1,9 @@
-use Rattle.std.proofs.Common.{◌≡◌, ◌==◌, false, sym, subst, get_or, []}
+use Rattle.std.proofs.Common.{◌≡◌, ◌==◌, false, sym, subst}
 use Rattle.std.specs.List.{list_any}
-use Rattle.std.proofs.lemmas.Option.{slice_get-get_or}
 use Rattle.clk_packet.specs.Lists.{AreRising}
-use Rattle.clk_report.specs.declared.counts.Counts.{Counts}
-use Rattle.clk_report.specs.Counts.{counts_of}
 use Rattle.clk_script.specs.inside.Recorder.{IsPlaceOf}
-use Rattle.clk_script.proofs.CountLemmas.{evicted-at, counted-none, place-within}
-use Rattle.clk_script.proofs.counts.note_evicted.Goals as goal
-
--- what would stand beyond them
-abbrev none : Counts
-none = counts_of (record { sender = 0; accepted = []; refused = []; evicted = [] })
+use Rattle.clk_script.proofs.CountLemmas.{evicted-at, counted-none}
+use Rattle.clk_script.proofs.counts.count_evicted.Goals as goal
 
 pub returns-in-Some : goal.returns-in-Some
 returns-in-Some c tallies are =
@@ -19,7 +12,7 @@ returns-in-Some c tallies are =
     let found = rw c.in-Some.is at c.place_of.ensures.found in
     let at : IsPlaceOf old c.args.front.sender c.in-Some.place = rw c.requires.alike found in
     let here = subst (IsPlaceOf old c.args.front.sender) (sym c.from.ensures) at in
-    evicted-at old tallies c.args.front c.from.result (get_or old c.from.result none) rising here (slice_get-get_or old c.from.result none (place-within old c.args.front.sender c.from.result here)) are c.evict.new.self c.evict.ensures.counted
+    evicted-at old tallies c.args.front c.from.result rising here are c.evict.new.self c.evict.ensures.counted
 
 pub returns-in_default : goal.returns-in_default
 returns-in_default c tallies are = counted-none c.args.counts.now tallies c.args.front are (subst (λ ns. list_any (λ n. n == c.args.front.sender) ns ≡ false) (sym c.requires.alike) (c.place_of.ensures.missing c.in_default.is))

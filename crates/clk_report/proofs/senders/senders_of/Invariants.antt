@@ -1,8 +1,0 @@
-use Rattle.std.proofs.Common.{◌<◌, ◌≤◌, All, take}
-use Rattle.clk_report.proofs.senders.senders_of.Given as goal
-
-abbrev pub invariant-loop-sender : goal.invariant-loop-sender
-invariant-loop-sender g l = record {
-  within : All (λ t. (g.T.Counted.counted t).sender < l.most) (take l.sender-index l.senders);
-  limit : l.most ≤ 65536;
-}

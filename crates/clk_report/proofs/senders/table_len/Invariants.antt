@@ -1,0 +1,8 @@
+use Rattle.std.proofs.Common.{◌<◌, ◌≤◌, All, take}
+use Rattle.clk_report.proofs.senders.table_len.Given as goal
+
+abbrev pub invariant-loop-sender : goal.invariant-loop-sender
+invariant-loop-sender g l = record {
+  within : All (λ t. (g.T.Counted.counted t).sender < l.len) (take l.sender-index l.senders);
+  limit : l.len ≤ 65536;
+}
