@@ -10,6 +10,7 @@ mod joining;
 mod opening;
 mod producer;
 mod threads;
+mod turns;
 
 ghost use Rattle.std.specs.Prelude.{◌≡◌, ◌≤◌, ◌<◌, true, false, [], map, length, IfOk, IfErr};
 ghost use Rattle.clk_packet.specs.declared.fault.Fault.TheVariants.{UnknownSender};

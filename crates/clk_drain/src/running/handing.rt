@@ -11,7 +11,7 @@ use crate::running::inlets::{Inlet, Inlets};
 use crate::running::opening::{Ends, LeafQueue};
 use crate::running::producer::Producer;
 use clk_packet::Fault;
-use clk_ruled::{RuledQueue, Seat, Tap};
+use clk_ruled::{Seat, Tap};
 use std::alloc::Global;
 use std::sync::Wait;
 
@@ -115,7 +115,7 @@ fn add_producers<'a>(
 {
     let mut place = 0;
     for its_seats in seats {
-        add_producers_of(producers, &queues[place].queue, its_seats)?;
+        add_producers_of(producers, &queues[place], its_seats)?;
         place += 1;
     }
     Ok(())
@@ -124,15 +124,16 @@ fn add_producers<'a>(
 // Adds a producer for each seat of a queue.
 fn add_producers_of<'a>(
     producers: &mut Vec<Producer<'a>>,
-    queue: &'a RuledQueue,
+    at: &'a LeafQueue,
     seats: Vec<Seat>,
 ) -> Result<(), Fault>
-    requires seats { AreSeatsOf queue.now seats.items }
+    requires seats { AreSeatsOf at.now.queue seats.items }
     ensures added { OnOk result (producers.new.items ≡ producers.old.items ++ seats.items) }
     ensures fault { IsOkUnless result Fault.Memory }
 {
+    let LeafQueue { queue, turns, .. } = at;
     for seat in seats {
-        producers.push(Producer { queue, seat })?;
+        producers.push(Producer { queue, turns, seat })?;
     }
     Ok(())
 }

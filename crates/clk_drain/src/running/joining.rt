@@ -97,6 +97,7 @@ fn join_lines(
         leaf,
         queue,
         senders,
+        ..
     } in queues {
         if let Some(tap) = taps.next() {
             let closed = first_seats(alloc, closed, senders)?;

@@ -214,7 +214,7 @@ fn packets_are_counted_one_by_one(rt: HostRuntime) {
     let expected = b"sender 3: sent 3 70, accepted 2 50, refused 1 20, evicted 1 40, emitted 0 0\n";
     let mut sink = sink_of(rt.alloc(), expected.len()).expect(&rt, "ample memory");
     assert_eq!(rt; report_counts(&[counts], &[], &mut sink), Ok(()));
-    assert!(rt; sink.taken() == expected);
+    assert!(rt; sink.taken() == expected.as_slice());
 }
 
 // A packet of each sender there may be.
