@@ -1,11 +1,11 @@
 -- How the reading of a script goes on.
-use Rattle.std.proofs.Common.{◌≡◌, ◌≢◌, ℕ, ◌+◌, ◌<◌, ◌≤◌, ◌==◌, ◌||◌, zero, suc, List, [], ◌∷◌, ◌++◌, length, map, take, get_or, slice_get, Option, Some, None, IfSome, MatchOption, is_some, inl, inr, nat_lt, Bool, true, false, refl, sym, ap, ap₂, subst, ◌∙◌, append_assoc, append-nil, length-append, arith}
+use Rattle.std.proofs.Common.{◌≡◌, ◌≢◌, ℕ, ◌+◌, ◌<◌, ◌≤◌, ◌==◌, ◌||◌, zero, suc, List, [], ◌∷◌, ◌++◌, length, map, take, drop, get_or, slice_get, Option, Some, None, IfSome, MatchOption, is_some, inl, inr, nat_lt, Bool, true, false, refl, sym, ap, ap₂, subst, ◌∙◌, append_assoc, append-nil, length-append, arith}
 use Rattle.std.specs.List.{filter_map, cons_option, list_any, slice_split, onto_first, AllByRecursion}
 use Rattle.std.specs.Option.{option_or}
 use Rattle.std.specs.Str.Lines.{lines, lines_of_parts, strip_carriage_return}
 use Rattle.std.proofs.Math.Seq.{take-suc}
 use Rattle.std.proofs.lemmas.Bool.Decides.{nat_tests}
-use Rattle.std.proofs.lemmas.List.{length-map, map-append}
+use Rattle.std.proofs.lemmas.List.{length-map, map-append, take-append-drop}
 use Rattle.std.proofs.lemmas.List.Elements.{filter_map-append}
 use Rattle.std.proofs.lemmas.List.Splits.{length-slice_split}
 use Rattle.clk_packet.specs.declared.fault.Fault.{Fault}
@@ -17,8 +17,8 @@ use Rattle.clk_script.specs.declared.rows.Row.{Row}
 use Rattle.clk_script.specs.declared.reading.Reading.{Reading}
 use Rattle.clk_script.specs.Script.{Names, line_of, lines_of, command_in, drain_in, is_drain, fault_at, first_fault, most_lines, most_moment}
 use Rattle.clk_script.specs.inside.Recorder.{IsReadableLine}
-use Rattle.clk_script.specs.inside.Rows.{command_asked, asked_by, asked_in, rows_of, IsToDo, IsReadFrom, CanBeRun}
-use Rattle.clk_script.specs.inside.Reading.{AreRead, IsReading, IsWrong, EndsLine, AreHeld, HasCome}
+use Rattle.clk_script.specs.inside.Rows.{command_asked, asked_by, asked_in, rows_of, IsToDo}
+use Rattle.clk_script.specs.inside.Reading.{AreRead, IsWrong, IsWrongText, IsReading, ReadsOn, EndsLine, AreHeld, HasCome, IsReadToEnd}
 
 -- A text that is cut at a line feed in its middle has the lines before it and those after it.
 abbrev parts_of : List ℕ → List (List ℕ)
@@ -57,19 +57,6 @@ lines_of-both front rest (inl none) = rw none refl
 lines_of-both front rest (inr (last, e)) =
     rw e (ap lines_of (append_assoc last (10 ∷ []) rest) ∙ ap (map line_of) (lines-both last rest) ∙ map-append line_of (lines (last ++ 10 ∷ [])) (lines rest))
 
--- before the first line
-AreRead-none : (names : Names) (r : Reading) → r.script.rows.items ≡ [] → r.script.closing ≡ None → r.lines ≡ 0 → AreRead names [] r
-AreRead-none names r none undrained first =
-    record {
-      fault = λ more. ap₂ (λ o n. first_fault names (is_some o) (n + 1) more) undrained first;
-      rows = ap asked_by none;
-      closing = undrained;
-      to_do = subst (AllByRecursion (IsToDo names)) (sym none) tt;
-      moment = rw undrained tt;
-      few = let length_is = ap length none in omega (arith, length_is);
-      within = omega (arith, first);
-    }
-
 -- One more line is read with nothing wrong, and a reading goes on to what it holds.
 drained-more : (o : Option ℕ) (l : Line) → (is_some o || is_drain l) ≡ is_some (option_or o (drain_in l))
 drained-more (Some moment) l = refl
@@ -99,22 +86,29 @@ asked-most (Some command) = omega arith
 AreRead-more : (names : Names) (read : List Line) (r new : Reading) (l : Line) → AreRead names read r → IsReadableLine l → fault_at names (is_some r.script.closing) (r.lines + 1) l ≡ None → new.lines ≡ r.lines + 1 → new.lines ≤ most_lines
     → new.script.closing ≡ option_or r.script.closing (drain_in l) → asked_by new.script.rows.items ≡ asked_by r.script.rows.items ++ asked_in l → AllByRecursion (IsToDo names) new.script.rows.items → AreRead names (read ++ l ∷ []) new
 AreRead-more names read r new l h readable sound count within closes asked to_do =
+    let few : length new.script.rows.items ≤ new.lines =
+    let few = h.few in
+    let longer = sym (length-map new.script.rows.items command_asked) ∙ ap length asked ∙ length-append (asked_by r.script.rows.items) (asked_in l) in
+    let as_many = length-map r.script.rows.items command_asked in
+    let one = asked-most (command_in l) in
+    omega (arith, few, longer, as_many, one, count)
+    in
     record {
       fault = λ more.
           ap₂ (λ o n. first_fault names (is_some o) (n + 1) more) closes count
           ∙ ap (λ b. first_fault names b (r.lines + 1 + 1) more) (sym (drained-more r.script.closing l))
           ∙ rw sound at (h.fault (l ∷ more))
           ∙ ap (first_fault names false 1) (sym (append_assoc read (l ∷ []) more));
-      rows = asked ∙ ap (λ commands. commands ++ asked_in l) h.rows ∙ sym (filter_map-append command_in read (l ∷ []));
-      closing = closes ∙ closing-more r.script.closing (drain_in l) (filter_map drain_in read) h.closing ∙ ap (λ drains. slice_get drains 0) (sym (filter_map-append drain_in read (l ∷ [])));
-      to_do = to_do;
-      moment = subst (λ o. IfSome o (λ m. m ≤ most_moment)) (sym closes) (moment-more r.script.closing l h.moment readable);
-      few =
-          let few = h.few in
-          let longer = sym (length-map new.script.rows.items command_asked) ∙ ap length asked ∙ length-append (asked_by r.script.rows.items) (asked_in l) in
-          let as_many = length-map r.script.rows.items command_asked in
-          let one = asked-most (command_in l) in
-          omega (arith, few, longer, as_many, one, count);
+      holds = record {
+        rows = asked ∙ ap (λ commands. commands ++ asked_in l) h.holds.rows ∙ sym (filter_map-append command_in read (l ∷ []));
+        closing = closes ∙ closing-more r.script.closing (drain_in l) (filter_map drain_in read) h.holds.closing ∙ ap (λ drains. slice_get drains 0) (sym (filter_map-append drain_in read (l ∷ [])));
+      };
+      runs = record {
+        to_do = to_do;
+        few = omega (arith, few, within);
+        closing = subst (λ o. IfSome o (λ m. m ≤ most_moment)) (sym closes) (moment-more r.script.closing l h.runs.closing readable);
+      };
+      few = few;
       within = within;
     }
 
@@ -151,14 +145,7 @@ reading-row names read r new l row drained h sound readable before fits same cou
     subst (λ o. MatchOption o (AreRead names (read ++ l ∷ []) new) (IsWrong names (read ++ l ∷ []))) (sym (same ∙ sound))
     (AreRead-more names read r new l h readable (subst (λ b. fault_at names b (r.lines + 1) l ≡ None) before fits.0) count (let few = fits.3 in omega (arith, count, few)) closes
     (ap asked_by rows ∙ map-append command_asked r.script.rows.items (rows_of row) ∙ ap (λ commands. asked_by r.script.rows.items ++ commands) fits.1)
-    (subst (AllByRecursion (IsToDo names)) (sym rows) (all-append (IsToDo names) r.script.rows.items (rows_of row) h.to_do fits.2)))
-
--- The next line has something wrong, and so have all that it is among.
-pub wrong-line : (names : Names) (read : List Line) (r : Reading) (l : Line) (fault : Fault) → AreRead names read r → fault_at names (is_some r.script.closing) (r.lines + 1) l ≡ Some fault → IsWrong names (read ++ l ∷ []) fault
-wrong-line names read r l fault h wrong more = ap (first_fault names false 1) (append_assoc read (l ∷ []) more) ∙ sym (h.fault (l ∷ more)) ∙ rw wrong refl
-
-wrong-more : (names : Names) (read others : List Line) (fault : Fault) → IsWrong names read fault → IsWrong names (read ++ others) fault
-wrong-more names read others fault h more = ap (first_fault names false 1) (append_assoc read others more) ∙ h (others ++ more)
+    (subst (AllByRecursion (IsToDo names)) (sym rows) (all-append (IsToDo names) r.script.rows.items (rows_of row) h.runs.to_do fits.2)))
 
 -- Once something is wrong it stays so, and else all lines are read.
 pub reading-wrong : (names : Names) (read others : List Line) (r : Reading) → is_some r.fault ≡ true → IsReading names read r → IsReading names (read ++ others) r
@@ -166,7 +153,7 @@ reading-wrong names read others r some h = by_fault r.fault some h
   where
     by_fault : (o : Option Fault) → is_some o ≡ true → MatchOption o (AreRead names read r) (IsWrong names read) → MatchOption o (AreRead names (read ++ others) r) (IsWrong names (read ++ others))
     by_fault None none h = absurd (cc)
-    by_fault (Some fault) some h = wrong-more names read others fault h
+    by_fault (Some fault) some h = λ more. ap (first_fault names false 1) (append_assoc read others more) ∙ h (others ++ more)
 
 pub none-wrong : (o : Option Fault) → is_some o ≡ false → o ≡ None
 none-wrong None e = refl
@@ -183,90 +170,71 @@ lines-whole before read l text rest after e h =
 pub lines-left : (read : List Line) (l : Line) (text rest after : List ℕ) → lines_of rest ≡ l ∷ lines_of after → read ++ lines_of rest ≡ lines_of text → (read ++ l ∷ []) ++ lines_of after ≡ lines_of text
 lines-left read l text rest after e h = append_assoc read (l ∷ []) (lines_of after) ∙ ap (λ ls. read ++ ls) (sym e) ∙ h
 
--- What has come, with a piece more: where something is wrong, where nothing is and there is no whole line, and where whole lines are read.
-pub come-wrong : (names : Names) (text piece held other : List ℕ) (r : Reading) → is_some r.fault ≡ true → HasCome names text r held → HasCome names (text ++ piece) r other
-come-wrong names text piece held other r some h = by_fault r.fault some h
-  where
-    by_fault : (o : Option Fault) → is_some o ≡ true → MatchOption o (AreHeld names text r held) (λ fault. (later : List ℕ) → first_fault names false 1 (lines_of (text ++ later)) ≡ Some fault)
-        → MatchOption o (AreHeld names (text ++ piece) r other) (λ fault. (later : List ℕ) → first_fault names false 1 (lines_of ((text ++ piece) ++ later)) ≡ Some fault)
-    by_fault None none h = absurd (cc)
-    by_fault (Some fault) some h = λ later. ap (λ all. first_fault names false 1 (lines_of all)) (append_assoc text piece later) ∙ h (piece ++ later)
-
+-- Where nothing is wrong, the whole lines of what came are read.
 pub come-sound : (names : Names) (text held : List ℕ) (r : Reading) → r.fault ≡ None → HasCome names text r held → AreHeld names text r held
-come-sound names text held r none h = subst (λ o. MatchOption o (AreHeld names text r held) (λ fault. (later : List ℕ) → first_fault names false 1 (lines_of (text ++ later)) ≡ Some fault)) none h
+come-sound names text held r none h = subst (λ o. MatchOption o (AreHeld names text r held) (IsWrongText names text)) none h
 
-come-if : (names : Names) (text held : List ℕ) (r : Reading) → r.fault ≡ None → AreHeld names text r held → HasCome names text r held
-come-if names text held r none h = subst (λ o. MatchOption o (AreHeld names text r held) (λ fault. (later : List ℕ) → first_fault names false 1 (lines_of (text ++ later)) ≡ Some fault)) (sym none) h
-
-pub come-held : (names : Names) (text piece held : List ℕ) (r : Reading) → r.fault ≡ None → HasCome names text r held → HasCome names (text ++ piece) r (held ++ piece)
-come-held names text piece held r none come =
-    let h = come-sound names text held r none come in
-    come-if names (text ++ piece) (held ++ piece) r none
-    (record { front = h.front; whole = ap (λ all. all ++ piece) h.whole ∙ append_assoc h.front held piece; ends = h.ends; read = h.read })
-
-pub come-lines : (names : Names) (text line rest held : List ℕ) (r new : Reading) (h : AreHeld names text r held) → IsReading names (lines_of h.front ++ lines_of (held ++ (line ++ 10 ∷ []))) new
-    → HasCome names (text ++ ((line ++ 10 ∷ []) ++ rest)) new rest
-come-lines names text line rest held r new h reading = by_fault new.fault reading
+-- Whole lines are read: what was held, with what follows it up to a line feed. What is left is held.
+come-whole : (names : Names) (text held read rest whole : List ℕ) (r new : Reading) (line : List ℕ) → read ≡ line ++ 10 ∷ [] → whole ≡ held ++ read → AreHeld names text r held → ReadsOn names r new (lines_of whole) → HasCome names (text ++ (read ++ rest)) new rest
+come-whole names text held read rest whole r new line ends is h reads = by_fault new.fault (reads (lines_of h.front) h.read)
   where
     front : List ℕ
-    front = h.front ++ (held ++ (line ++ 10 ∷ []))
+    front = h.front ++ whole
 
-    ends : EndsLine front
-    ends = inr (h.front ++ (held ++ line), ap (λ l. h.front ++ l) (sym (append_assoc held line (10 ∷ []))) ∙ sym (append_assoc h.front (held ++ line) (10 ∷ [])))
+    front_ends : EndsLine front
+    front_ends = inr (h.front ++ (held ++ line), ap (λ l. h.front ++ l) (is ∙ ap (λ l. held ++ l) ends ∙ sym (append_assoc held line (10 ∷ []))) ∙ sym (append_assoc h.front (held ++ line) (10 ∷ [])))
 
-    lines_are : lines_of front ≡ lines_of h.front ++ lines_of (held ++ (line ++ 10 ∷ []))
-    lines_are = lines_of-both h.front (held ++ (line ++ 10 ∷ [])) h.ends
+    lines_are : lines_of front ≡ lines_of h.front ++ lines_of whole
+    lines_are = lines_of-both h.front whole h.ends
 
-    whole : text ++ ((line ++ 10 ∷ []) ++ rest) ≡ front ++ rest
-    whole =
-        ap (λ all. all ++ ((line ++ 10 ∷ []) ++ rest)) h.whole ∙ append_assoc h.front held ((line ++ 10 ∷ []) ++ rest) ∙ ap (λ l. h.front ++ l) (sym (append_assoc held (line ++ 10 ∷ []) rest))
-        ∙ sym (append_assoc h.front (held ++ (line ++ 10 ∷ [])) rest)
+    all : text ++ (read ++ rest) ≡ front ++ rest
+    all =
+        ap (λ l. l ++ (read ++ rest)) h.whole ∙ append_assoc h.front held (read ++ rest) ∙ ap (λ l. h.front ++ l) (sym (append_assoc held read rest) ∙ ap (λ l. l ++ rest) (sym is))
+        ∙ sym (append_assoc h.front whole rest)
 
-    by_fault : (o : Option Fault) → MatchOption o (AreRead names (lines_of h.front ++ lines_of (held ++ (line ++ 10 ∷ []))) new) (IsWrong names (lines_of h.front ++ lines_of (held ++ (line ++ 10 ∷ []))))
-        → MatchOption o (AreHeld names (text ++ ((line ++ 10 ∷ []) ++ rest)) new rest) (λ fault. (later : List ℕ) → first_fault names false 1 (lines_of ((text ++ ((line ++ 10 ∷ []) ++ rest)) ++ later)) ≡ Some fault)
-    by_fault None k = record { front = front; whole = whole; ends = ends; read = subst (λ ls. AreRead names ls new) (sym lines_are) k }
+    by_fault : (o : Option Fault) → MatchOption o (AreRead names (lines_of h.front ++ lines_of whole) new) (IsWrong names (lines_of h.front ++ lines_of whole))
+        → MatchOption o (AreHeld names (text ++ (read ++ rest)) new rest) (IsWrongText names (text ++ (read ++ rest)))
+    by_fault None k = record { front = front; whole = all; ends = front_ends; read = subst (λ ls. AreRead names ls new) (sym lines_are) k }
     by_fault (Some fault) k = λ later.
-        ap (λ all. first_fault names false 1 (lines_of all)) (ap (λ all. all ++ later) whole ∙ append_assoc front rest later)
-        ∙ ap (first_fault names false 1) (lines_of-both front (rest ++ later) ends ∙ ap (λ ls. ls ++ lines_of (rest ++ later)) lines_are)
+        ap (λ l. first_fault names false 1 (lines_of l)) (ap (λ l. l ++ later) all ∙ append_assoc front rest later)
+        ∙ ap (first_fault names false 1) (lines_of-both front (rest ++ later) front_ends ∙ ap (λ ls. ls ++ lines_of (rest ++ later)) lines_are)
         ∙ k (lines_of (rest ++ later))
 
-pub come-line : (names : Names) (text line held : List ℕ) (r new : Reading) (h : AreHeld names text r held) → IsReading names (lines_of h.front ++ lines_of (held ++ (line ++ 10 ∷ []))) new → HasCome names (text ++ (line ++ 10 ∷ [])) new []
-come-line names text line held r new h reading = subst (λ l. HasCome names (text ++ l) new []) (append-nil (line ++ 10 ∷ [])) (come-lines names text line [] held r new h reading)
-
--- What a script comes to once all its lines are read.
-abbrev pub Ends : Names → List ℕ → Reading → Type 0
-Ends names text r =
-    MatchOption r.fault ((first_fault names false 1 (lines_of text) ≡ None) × IsReadFrom text r.script × CanBeRun names r.script) (λ fault. first_fault names false 1 (lines_of text) ≡ Some fault)
-
-pub ends-read : (names : Names) (text last : List ℕ) (r new : Reading) (h : AreHeld names text r last) → IsReading names (lines_of h.front ++ lines_of last) new → Ends names text new
-ends-read names text last r new h reading = by_fault new.fault (subst (λ ls. IsReading names ls new) (sym (ap lines_of h.whole ∙ lines_of-both h.front last h.ends)) reading)
-  where
-    by_fault : (o : Option Fault) → MatchOption o (AreRead names (lines_of text) new) (IsWrong names (lines_of text))
-        → MatchOption o ((first_fault names false 1 (lines_of text) ≡ None) × IsReadFrom text new.script × CanBeRun names new.script) (λ fault. first_fault names false 1 (lines_of text) ≡ Some fault)
-    by_fault None k = (
-      ap (first_fault names false 1) (sym (append-nil (lines_of text))) ∙ sym (k.fault []),
-      record { rows = k.rows; closing = k.closing },
-      record { to_do = k.to_do; few = (let few = k.few in let within = k.within in omega (arith, few, within)); closing = k.moment },
-    )
-    by_fault (Some fault) k = ap (first_fault names false 1) (sym (append-nil (lines_of text))) ∙ k []
-
-pub ends-wrong : (names : Names) (text held : List ℕ) (r : Reading) → is_some r.fault ≡ true → HasCome names text r held → Ends names text r
-ends-wrong names text held r some h = by_fault r.fault some h
-  where
-    by_fault : (o : Option Fault) → is_some o ≡ true → MatchOption o (AreHeld names text r held) (λ fault. (later : List ℕ) → first_fault names false 1 (lines_of (text ++ later)) ≡ Some fault)
-        → MatchOption o ((first_fault names false 1 (lines_of text) ≡ None) × IsReadFrom text r.script × CanBeRun names r.script) (λ fault. first_fault names false 1 (lines_of text) ≡ Some fault)
-    by_fault None none h = absurd (cc)
-    by_fault (Some fault) some h = ap (λ all. first_fault names false 1 (lines_of all)) (sym (append-nil text)) ∙ h []
-
--- before the first byte
-pub come-first : (names : Names) (r : Reading) → r.fault ≡ None → r.script.rows.items ≡ [] → r.script.closing ≡ None → r.lines ≡ 0 → HasCome names [] r []
-come-first names r none rows undrained first = come-if names [] [] r none (record { front = []; whole = refl; ends = inl refl; read = AreRead-none names r rows undrained first })
-
 -- a text up to a line feed, and with that
-pub up-to-feed : (text : List ℕ) (place : ℕ) → place < length text → (get_or text place 0 == 10) ≡ true → take (place + 1) text ≡ take place text ++ 10 ∷ []
+up-to-feed : (text : List ℕ) (place : ℕ) → place < length text → (get_or text place 0 == 10) ≡ true → take (place + 1) text ≡ take place text ++ 10 ∷ []
 up-to-feed text place low is =
     let feed : get_or text place 0 ≡ 10 = grind (arith, nat_tests) in
     ap (λ n. take n text) (let next : place + 1 ≡ suc place = omega arith in next) ∙ take-suc text place 0 low ∙ ap (λ byte. take place text ++ byte ∷ []) feed
+
+-- The same where this is the place of a line feed in a piece: what follows it is held, or isn't there yet.
+pub come-lines : (names : Names) (text held piece whole : List ℕ) (place : ℕ) (r new : Reading) → is_some r.fault ≡ false → place < length piece → (get_or piece place 0 == 10) ≡ true → whole ≡ held ++ take (place + 1) piece
+    → HasCome names text r held → ReadsOn names r new (lines_of whole) → HasCome names (text ++ piece) new (drop (place + 1) piece)
+come-lines names text held piece whole place r new none low feed is come reads =
+    let h = come-sound names text held r (none-wrong r.fault none) come in
+    subst (λ all. HasCome names (text ++ all) new (drop (place + 1) piece)) (take-append-drop (place + 1) piece)
+    (come-whole names text held (take (place + 1) piece) (drop (place + 1) piece) whole r new (take place piece) (up-to-feed piece place low feed) is h reads)
+
+pub come-line : (names : Names) (text held piece whole : List ℕ) (place : ℕ) (r new : Reading) → is_some r.fault ≡ false → place < length piece → (get_or piece place 0 == 10) ≡ true → whole ≡ held ++ take (place + 1) piece
+    → HasCome names text r held → ReadsOn names r new (lines_of whole) → HasCome names (text ++ take (place + 1) piece) new []
+come-line names text held piece whole place r new none low feed is come reads =
+    let h = come-sound names text held r (none-wrong r.fault none) come in
+    subst (λ read. HasCome names (text ++ read) new []) (append-nil (take (place + 1) piece))
+    (come-whole names text held (take (place + 1) piece) [] whole r new (take place piece) (up-to-feed piece place low feed) is h reads)
+
+-- At its end a text has the lines that are read, and those of what is held.
+pub reading-end : (names : Names) (text last : List ℕ) (r new : Reading) → r.fault ≡ None → HasCome names text r last → ReadsOn names r new (lines_of last) → IsReading names (lines_of text) new
+reading-end names text last r new none come reads =
+    let h = come-sound names text last r none come in
+    subst (λ ls. IsReading names ls new) (sym (ap lines_of h.whole ∙ lines_of-both h.front last h.ends)) (reads (lines_of h.front) h.read)
+
+pub ends-read : (names : Names) (text : List ℕ) (r : Reading) → AreRead names (lines_of text) r → IsReadToEnd names text r.script
+ends-read names text r h = record { sound = ap (first_fault names false 1) (sym (append-nil (lines_of text))) ∙ sym (h.fault []); holds = h.holds; runs = h.runs }
+
+pub ends-wrong : (names : Names) (text : List ℕ) (fault : Fault) → IsWrong names (lines_of text) fault → first_fault names false 1 (lines_of text) ≡ Some fault
+ends-wrong names text fault h = ap (first_fault names false 1) (sym (append-nil (lines_of text))) ∙ h []
+
+pub ends-wrong-text : (names : Names) (text : List ℕ) (fault : Fault) → IsWrongText names text fault → first_fault names false 1 (lines_of text) ≡ Some fault
+ends-wrong-text names text fault h = ap (λ all. first_fault names false 1 (lines_of all)) (sym (append-nil text)) ∙ h []
 
 -- a number that stands at a place is one of them
 pub known-at : (numbers : List ℕ) (n place : ℕ) → slice_get numbers place ≡ Some n → list_any (λ s. s == n) numbers ≡ true

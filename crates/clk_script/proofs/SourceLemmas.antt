@@ -1,16 +1,15 @@
 -- What a script's reading comes to, by what its source gave.
-use Rattle.std.proofs.Common.{◌≡◌, ◌+◌, ◌≤◌, ℕ, nat_lt, true, false, List, [], ◌++◌, length, take, Option, Some, None, Result, Ok, Err, MatchResult, ◌⊎◌, inl, inr, refl, sym, ap, subst, ◌∙◌, append_assoc, append-nil, arith}
+use Rattle.std.proofs.Common.{◌≡◌, ◌+◌, ◌≤◌, ℕ, nat_lt, true, false, List, [], ◌++◌, length, take, Option, Some, None, Result, Ok, Err, MatchResult, inl, inr, refl, sym, ap, subst, ◌∙◌, append_assoc, append-nil, arith}
 use Rattle.std.specs.Io.KnownBytes.{Consumes, IsAtEnd}
 use Rattle.std.proofs.Math.Seq.{take-append_seam}
 use Rattle.std.proofs.lemmas.Bool.Decides.{nat_tests}
 use Rattle.std.proofs.lemmas.List.{take_all}
 use Rattle.clk_packet.specs.declared.fault.Fault.{Fault}
-use Rattle.clk_packet.specs.declared.fault.Fault.TheVariants.{Memory, TooLarge}
+use Rattle.clk_packet.specs.declared.fault.Fault.TheVariants.{TooLarge}
 use Rattle.clk_packet.specs.Bytes.{Takes, read_failures}
 use Rattle.clk_script.specs.declared.reading.Script.{Script}
 use Rattle.clk_script.specs.Script.{Names, lines_of, first_fault, script_fault, most_script_bytes}
-use Rattle.clk_script.specs.inside.Rows.{IsReadFrom, CanBeRun}
-use Rattle.clk_script.specs.inside.Reading.{IsTextOf, IsScriptOf, IsNotRead}
+use Rattle.clk_script.specs.inside.Reading.{IsTextOf, EndsAs, IsScriptOf, IsNotRead}
 use Rattle.clk_script.proofs.RefusalLemmas.{not-read}
 
 -- A source gave a text, and then a piece.
@@ -46,9 +45,12 @@ consumed-long None new text h l = tt
 consumed-long (Some all) None text h l = absurd h
 consumed-long (Some all) (Some rest) text h l = sym (ap (take (most_script_bytes + 1)) h ∙ ap (λ n. take n (text ++ rest)) (sym l) ∙ take-append_seam text rest)
 
--- A script that isn't too long has the fault of its lines.
+-- A script that isn't too long has the fault of its lines: none where it is what a source had.
 small-fault : (names : Names) (text : List ℕ) → length text ≤ most_script_bytes → script_fault names text ≡ first_fault names false 1 (lines_of text)
 small-fault names text l = let no : nat_lt most_script_bytes (length text) ≡ false = grind (arith, nat_tests) in rw no refl
+
+pub source-sound : (names : Names) (known : Option (List ℕ)) (script : Script) (h : IsScriptOf names known script) → script_fault names h.text ≡ None
+source-sound names known script h = small-fault names h.text h.short ∙ h.to_end.sound
 
 long-fault : (names : Names) (text : List ℕ) → length text ≡ most_script_bytes + 1 → script_fault names text ≡ Some TooLarge
 long-fault names text l = let yes : nat_lt most_script_bytes (length text) ≡ true = grind (arith, nat_tests) in rw yes refl
@@ -56,13 +58,8 @@ long-fault names text l = let yes : nat_lt most_script_bytes (length text) ≡ t
 pub not-read-long : (names : Names) (old new : Option (List ℕ)) (text : List ℕ) → Consumes old new text → length text ≡ most_script_bytes + 1 → IsNotRead names old TooLarge
 not-read-long names old new text h l = inr (inr (text, consumed-long old new text h l, long-fault names text l))
 
--- what the end of a script's lines says of them
-abbrev pub EndsAs : Names → List ℕ → Result Script Fault → Type 0
-EndsAs names text result =
-    MatchResult result (λ script. (first_fault names false 1 (lines_of text) ≡ None) × IsReadFrom text script × CanBeRun names script) (λ fault. (fault ≡ Memory) ⊎ (first_fault names false 1 (lines_of text) ≡ Some fault))
-
 pub ended : (names : Names) (known : Option (List ℕ)) (text : List ℕ) (result : Result Script Fault) → IsTextOf known text → length text ≤ most_script_bytes → EndsAs names text result → MatchResult result (IsScriptOf names known) (IsNotRead names known)
-ended names known text (Ok script) is l h = record { text = text; is_text = is; sound = small-fault names text l ∙ h.0; holds = h.1; runs = h.2 }
+ended names known text (Ok script) is l h = record { text = text; is_text = is; short = l; to_end = h }
 ended names known text (Err fault) is l (inl memory) = inl memory
 ended names known text (Err fault) is l (inr e) = inr (inr (text, is, small-fault names text l ∙ e))
 

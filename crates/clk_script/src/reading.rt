@@ -1,14 +1,13 @@
 //! The reading of a script, as its bytes come.
 
-ghost use Rattle.std.specs.Prelude.{◌≡◌, ◌⊎◌, ◌≤◌, ◌+◌, ◌++◌, ◌∷◌, [], false, None, Some, List, ℕ, MatchResult, OnOk, IsOkUnless};
+ghost use Rattle.std.specs.Prelude.{◌≡◌, ◌≤◌, ◌+◌, ◌++◌, ◌∷◌, [], false, None, Some, List, ℕ, MatchResult, OnOk, IsOkUnless};
 ghost use Rattle.std.specs.List.{AllByRecursion};
-ghost use Rattle.clk_packet.specs.declared.fault.Fault.TheVariants.{Memory};
 ghost use Rattle.clk_packet.specs.Bytes.{Takes, read_failures};
 ghost use Rattle.clk_packet.specs.Lists.{AreRising};
-ghost use Rattle.clk_script.specs.Script.{lines_of, command_fault, fault_at, first_fault, most_lines, most_script_bytes};
+ghost use Rattle.clk_script.specs.Script.{lines_of, command_fault, fault_at, most_lines, most_script_bytes};
 ghost use Rattle.clk_script.specs.inside.Recorder.{named_by, IsReadable, IsReadableLine};
-ghost use Rattle.clk_script.specs.inside.Rows.{command_asked, asked_by, asked_in, rows_of, IsToDo, IsReadFrom, CanBeRun};
-ghost use Rattle.clk_script.specs.inside.Reading.{AreRead, IsReading, HasCome, IsScriptOf, IsNotRead};
+ghost use Rattle.clk_script.specs.inside.Rows.{command_asked, asked_by, asked_in, rows_of, IsToDo};
+ghost use Rattle.clk_script.specs.inside.Reading.{AreRead, ReadsOn, HasCome, EndsAs, IsScriptOf, IsNotRead};
 ghost use Rattle.clk_script.specs.declared.script.Line.{Line};
 
 use crate::limits::{MAX_LINES, MAX_SCRIPT_BYTES};
@@ -162,9 +161,8 @@ impl Reading {
     fn end(self, numbers: &[u16], devices: usize, last: &[u8]) -> Result<Script, Fault>
         requires rising { AreRising numbers.now }
         requires come { (text : List ℕ) × HasCome (named_by numbers.now devices) text self last.now }
-        ensures { (text : List ℕ) → HasCome (named_by numbers.now devices) text self last.now → MatchResult result
-            (λ script. (first_fault (named_by numbers.now devices) false 1 (lines_of text) ≡ None) × IsReadFrom text script × CanBeRun (named_by numbers.now devices) script)
-            (λ fault. (fault ≡ Memory) ⊎ (first_fault (named_by numbers.now devices) false 1 (lines_of text) ≡ Some fault)) }
+        ensures { (text : List ℕ) → HasCome (named_by numbers.now devices) text self last.now
+            → EndsAs (named_by numbers.now devices) text result }
     {
         if let Some(fault) = self.fault {
             return Err(fault);
@@ -182,8 +180,7 @@ impl Reading {
         requires rising { AreRising numbers.now }
         requires none { self.old.fault ≡ None }
         requires read { (lines : List Line) × AreRead (named_by numbers.now devices) lines self.old }
-        ensures read { OnOk result ((lines : List Line) → AreRead (named_by numbers.now devices) lines self.old
-            → IsReading (named_by numbers.now devices) (lines ++ lines_of text.now) self.new) }
+        ensures read { OnOk result (ReadsOn (named_by numbers.now devices) self.old self.new (lines_of text.now)) }
         ensures fault { IsOkUnless result Fault.Memory }
     {
         let mut rest = text;
@@ -205,8 +202,7 @@ impl Reading {
         requires readable { IsReadableLine line }
         requires none { self.old.fault ≡ None }
         requires read { (lines : List Line) × AreRead (named_by numbers.now devices) lines self.old }
-        ensures read { OnOk result ((lines : List Line) → AreRead (named_by numbers.now devices) lines self.old
-            → IsReading (named_by numbers.now devices) (lines ++ line ∷ []) self.new) }
+        ensures read { OnOk result (ReadsOn (named_by numbers.now devices) self.old self.new (line ∷ [])) }
         ensures fault { IsOkUnless result Fault.Memory }
     {
         self.lines += 1;

@@ -21,7 +21,7 @@ use Rattle.clk_script.specs.declared.reading.Script.{Script}
 use Rattle.clk_script.specs.declared.answer.Answer.{Answer}
 use Rattle.clk_script.specs.declared.past.Past.{Past}
 use Rattle.clk_script.specs.declared.recorder.Recorder.{Recorder}
-use Rattle.clk_script.specs.Script.{Names, command_in, commands_of, closing_moment, most_lines, most_moment}
+use Rattle.clk_script.specs.Script.{Names, command_in, drain_in, most_lines, most_moment}
 use Rattle.clk_router.specs.Events.{Setup, Event, offered, pulled, emitted_in}
 use Rattle.clk_script.specs.Meaning.{has_several, command_of, offer_text, pull_text, closing_text}
 use Rattle.clk_script.specs.inside.Recorder.{IsAt, departure_text, LeadsOnByClosing}
@@ -62,10 +62,10 @@ row_at place (pulled device moment visits) = row.Pull (is_some (result_of (visit
 abbrev pub IsRowOf : Event → Row → Type 0
 IsRowOf e r = (place : ℕ) × (r ≡ row_at place e)
 
--- The script holds what a text says.
-pub record IsReadFrom (text : List ℕ) (script : Script) : Type 0 where
-  pub rows : asked_by script.rows.items ≡ commands_of text
-  pub closing : script.closing ≡ closing_moment text
+-- The script holds what these lines say.
+pub record IsReadFrom (lines : List Line) (script : Script) : Type 0 where
+  pub rows : asked_by script.rows.items ≡ filter_map command_in lines
+  pub closing : script.closing ≡ slice_get (filter_map drain_in lines) 0
 
 -- A script can be run: it names what is there, has few rows, and its drain a moment of a script.
 pub record CanBeRun (names : Names) (script : Script) : Type 0 where

@@ -9,12 +9,13 @@ use Rattle.clk_script.specs.inside.Reading.{IsNotRead}
 use Rattle.clk_script.specs.inside.Rows.{answer_text, CanBeRun}
 use Rattle.clk_packet.proofs.Callers.Written.{wrote-whole, wrote-front, wrote-nothing}
 use Rattle.clk_script.proofs.RefusalLemmas.{not-read-why, same-failures, same-names, meaning-known, meaning-over, few-devices, few-closings}
+use Rattle.clk_script.proofs.SourceLemmas.{source-sound}
 use Rattle.clk_script.proofs.run.run_plan.Goals as goal
 
 pub answer_script-requires-clause-sound : goal.answer_script-requires-clause-sound
 answer_script-requires-clause-sound g c =
     let names = same-names c.in_ok-recorder.recorder _ _ c.senders-senders.ensures.numbers c.devices-devices.ensures.count in
-    subst (λ names. CanBeRun names c.in_ok-script.script) names c.in_ok-script.ensures.read.runs
+    subst (λ names. CanBeRun names c.in_ok-script.script) names c.in_ok-script.ensures.read.to_end.runs
 
 -- a report takes as many devices as there are, and so do closings
 pub write_answer-requires-clause-few : goal.write_answer-requires-clause-few
@@ -67,8 +68,8 @@ returns-clause-wrote g c =
     let opened = c.in_ok-recorder.ensures.opened in
     let starts = c.in_ok-recorder.ensures.starts in
     let names = same-names recorder _ _ c.senders-senders.ensures.numbers c.devices-devices.ensures.count in
-    let sound = subst (λ names. script_fault names bytes ≡ None) names source.sound in
-    let means = rw (source.holds.rows, source.holds.closing) at (c.in_ok-answer.ensures.means setup starts) in
+    let sound = subst (λ names. script_fault names bytes ≡ None) names (source-sound _ _ _ source) in
+    let means = rw (source.to_end.holds.rows, source.to_end.holds.closing) at (c.in_ok-answer.ensures.means setup starts) in
     let text = answer_text c.in_ok-answer.answer in
     wrote-whole _ _ _ _ text (
       means.0,
@@ -87,8 +88,8 @@ returns-in_err-write_answer-clause-wrote g c =
     let opened = c.in_ok-recorder.ensures.opened in
     let starts = c.in_ok-recorder.ensures.starts in
     let names = same-names recorder _ _ c.senders-senders.ensures.numbers c.devices-devices.ensures.count in
-    let sound = subst (λ names. script_fault names bytes ≡ None) names source.sound in
-    let means = rw (source.holds.rows, source.holds.closing) at (c.in_ok-answer.ensures.means setup starts) in
+    let sound = subst (λ names. script_fault names bytes ≡ None) names (source-sound _ _ _ source) in
+    let means = rw (source.to_end.holds.rows, source.to_end.holds.closing) at (c.in_ok-answer.ensures.means setup starts) in
     let text = answer_text c.in_ok-answer.answer in
     rw (p.1, p.2)
     (wrote-front _ _ _ _ text c.in_err-write_answer.ensures.fault
