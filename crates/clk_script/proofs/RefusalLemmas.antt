@@ -20,7 +20,7 @@ use Rattle.clk_packet.specs.Bytes.{read_failures, write_failures, OfBytes}
 use Rattle.clk_router.specs.Events.{Setup, sender_numbers, plan_setup}
 use Rattle.clk_script.specs.Meaning.{names_of, Writes, MeansWith, MeansOver, MeansOverWith, Explains}
 use Rattle.clk_script.specs.declared.recorder.Recorder.{Recorder}
-use Rattle.clk_script.specs.inside.Reading.{IsNotRead}
+use Rattle.clk_script.specs.inside.Reading.{IsTextOf, IsNotRead}
 use Rattle.clk_script.specs.inside.Recorder.{named_by, names_in, Starts}
 use Rattle.clk_script.proofs.AnswerLemmas.{names-its}
 use Rattle.clk_packet.proofs.Callers.Written.{of-weaker}
@@ -47,7 +47,7 @@ whole names all e = by_test (nat_lt most_script_bytes (length all)) refl
     by_test false f = take_all 33554433 all (grind (arith, nat_tests))
 
 -- the meaning over a setup of a script whose first bytes were read
-pub meaning-known : (setup : Setup) (router : Recorder) → Starts setup router → (known : Option (List ℕ)) (bytes text : List ℕ) (logs : List (List Visit)) → IfSome known (λ all. bytes ≡ take (most_script_bytes + 1) all)
+pub meaning-known : (setup : Setup) (router : Recorder) → Starts setup router → (known : Option (List ℕ)) (bytes text : List ℕ) (logs : List (List Visit)) → IsTextOf known bytes
     → script_fault (names_in router) bytes ≡ None → Writes setup (commands_of bytes) (closing_moment bytes) text logs → OfBytes known (λ script. MeansWith setup script text logs)
 meaning-known setup router starts None bytes text logs is e w =
     let here : script_fault (names_of setup) bytes ≡ None = subst (λ names. script_fault names bytes ≡ None) (names-its setup [] router starts.leads) e in
@@ -138,7 +138,7 @@ pub record IsRefusal (setup : Setup) (known : Option (List ℕ)) (fault : Fault)
   pub writes : (n : ℕ) → write_failures {T = Unit {0}} (Err fault) n ≡ n
   pub not_write : fault ≢ Write
 
-named : (names : Names) (known : Option (List ℕ)) (bytes : List ℕ) (fault : Fault) → IfSome known (λ all. bytes ≡ take (most_script_bytes + 1) all) → script_fault names bytes ≡ Some fault
+named : (names : Names) (known : Option (List ℕ)) (bytes : List ℕ) (fault : Fault) → IsTextOf known bytes → script_fault names bytes ≡ Some fault
     → IfSome known (λ all. script_fault names all ≡ Some fault)
 named names None bytes fault is e = tt
 named names (Some all) bytes fault is e = sym (fault-cut names all) ∙ ap (script_fault names) (sym is) ∙ e

@@ -1,9 +1,9 @@
 -- What a script's reading comes to, by what its source gave.
-use Rattle.std.proofs.Common.{◌≡◌, ◌+◌, ◌≤◌, ℕ, nat_lt, true, false, List, [], ◌++◌, length, take, Option, Some, None, Result, Ok, Err, MatchResult, inl, inr, refl, sym, ap, subst, ◌∙◌, append_assoc, append-nil, arith}
+use Rattle.std.proofs.Common.{◌≡◌, ◌+◌, ◌-◌, ◌≤◌, ℕ, min, nat_lt, true, false, List, [], ◌++◌, length, take, drop, Option, Some, None, Result, Ok, Err, MatchResult, inl, inr, refl, sym, ap, subst, ◌∙◌, append_assoc, append-nil, length-append, arith}
 use Rattle.std.specs.Io.KnownBytes.{Consumes, IsAtEnd}
 use Rattle.std.proofs.Math.Seq.{take-append_seam}
 use Rattle.std.proofs.lemmas.Bool.Decides.{nat_tests}
-use Rattle.std.proofs.lemmas.List.{take_all}
+use Rattle.std.proofs.lemmas.List.{take_all, take-append-drop, length-take-le}
 use Rattle.clk_packet.specs.declared.fault.Fault.{Fault}
 use Rattle.clk_packet.specs.declared.fault.Fault.TheVariants.{TooLarge}
 use Rattle.clk_packet.specs.Bytes.{Takes, read_failures}
@@ -13,7 +13,7 @@ use Rattle.clk_script.specs.inside.Reading.{IsTextOf, EndsAs, IsScriptOf, IsNotR
 use Rattle.clk_script.proofs.RefusalLemmas.{not-read}
 
 -- A source gave a text, and then a piece.
-pub consumed-more : (old now new : Option (List ℕ)) (text piece : List ℕ) → Consumes old now text → Consumes now new piece → Consumes old new (text ++ piece)
+consumed-more : (old now new : Option (List ℕ)) (text piece : List ℕ) → Consumes old now text → Consumes now new piece → Consumes old new (text ++ piece)
 consumed-more None now new text piece h k = tt
 consumed-more (Some all) None new text piece h k = absurd h
 consumed-more (Some all) (Some rest) None text piece h k = absurd k
@@ -27,6 +27,26 @@ pub consumed-takes : (old new : Option (List ℕ)) (text : List ℕ) (most : ℕ
 consumed-takes None new text most h l = tt
 consumed-takes (Some all) None text most h l = absurd h
 consumed-takes (Some all) (Some rest) text most h l = (text, h, l)
+
+-- A piece is read into the front of a chunk, for which a script has room.
+pub front-is : (size room : ℕ) (chunk buf : List ℕ) → room ≡ min (most_script_bytes + 1 - size) 65536 → length chunk ≡ 65536 → length buf ≡ length (take room chunk) → length buf ≡ room
+front-is size room chunk buf is chunk_is same = same ∙ length-take-le room chunk (omega (arith, is, chunk_is))
+
+pub front-put : (room : ℕ) (chunk buf : List ℕ) → length buf ≡ length (take room chunk) → length (buf ++ drop room chunk) ≡ length chunk
+front-put room chunk buf same =
+    length-append buf (drop room chunk) ∙ ap (λ n. n + length (drop room chunk)) same ∙ sym (length-append (take room chunk) (drop room chunk)) ∙ ap length (take-append-drop room chunk)
+
+pub piece-fits : (size room count : ℕ) (chunk buf : List ℕ) → size ≤ most_script_bytes + 1 → room ≡ min (most_script_bytes + 1 - size) 65536 → length chunk ≡ 65536 → length buf ≡ length (take room chunk) → count ≤ length buf
+    → size + count ≤ most_script_bytes + 1
+piece-fits size room count chunk buf most is chunk_is same bound = let front = front-is size room chunk buf is chunk_is same in omega (arith, most, is, front, bound)
+
+-- With a piece a text is longer by what was read of it.
+pub consumed-piece : (old now new : Option (List ℕ)) (text buf : List ℕ) (count size : ℕ) → Consumes old now text → length text ≡ size → Consumes now new (take count buf) → count ≤ length buf
+    → Consumes old new (text ++ take count buf) × (length (text ++ take count buf) ≡ size + count)
+consumed-piece old now new text buf count size h size_is k bound =
+    let all = length-append text (take count buf) in
+    let piece = length-take-le count buf bound in
+    (consumed-more old now new text (take count buf) h k, omega (arith, all, piece, size_is))
 
 -- What it gave to its end is all that it had, and what it gave beyond the limit is as much as counts.
 consumed-all : (old new : Option (List ℕ)) (text : List ℕ) → Consumes old new text → IsAtEnd new → length text ≤ most_script_bytes → IsTextOf old text
