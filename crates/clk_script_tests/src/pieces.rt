@@ -1,6 +1,6 @@
 //! A reader that gives a script in pieces: where these end changes nothing.
 
-use crate::row::{AMPLE, run_within};
+use crate::row::{AMPLE, assert_visits, run_within};
 use clk_packet::{Failed, FailingSource, Fault, Source};
 use clk_rows::{PRIO_TWO_QUEUES, SCRIPTS};
 use std::alloc::Global;
@@ -73,6 +73,19 @@ fn rows_are_read_in_pieces(rt: HostRuntime) {
     }
 }
 
+#[test]
+fn a_row_makes_its_visits_in_pieces(rt: HostRuntime) {
+    let row = PRIO_TWO_QUEUES;
+    for most in 1..=row.script.len() {
+        let bytes = row.script.as_bytes().to_vec(rt.alloc());
+        let mut reader = InPieces {
+            script: FailingSource::new(bytes.expect(&rt, "ample memory"), usize::MAX),
+            most,
+        };
+        assert_visits(&rt, rt.alloc(), &row, &mut reader);
+    }
+}
+
 const LINES: &[u8] = b"send 0 40\r\n\r\n\tsend  1 60 \r\npull 3\r\npull 4";
 
 const ANSWER: &[u8] = b"0#0 40 accepted\n1#0 60 accepted\npull 3: 0#0 40\npull 4: 1#0 60\n";
@@ -139,5 +152,49 @@ fn what_is_wrong_with_a_line_waits_for_the_end(rt: HostRuntime) {
                 b"",
             );
         }
+    }
+}
+
+const WRONG_AT_END: &[u8] = b"send 0 40\npull 3\n\npull";
+
+// The last line has something wrong, and no line feed at its end.
+#[test]
+fn a_last_line_may_be_wrong_without_a_line_feed(rt: HostRuntime) {
+    for most in 1..=WRONG_AT_END.len() {
+        assert_ends_in_pieces(
+            &rt,
+            rt.alloc(),
+            PRIO_TWO_QUEUES.tree,
+            WRONG_AT_END,
+            (most, usize::MAX),
+            Err(Fault::BadScript { line: 4 }),
+            b"",
+        );
+    }
+}
+
+// The lines before the wrong one are more than is read at a time, and lines stand across the ends of what is.
+#[test]
+fn the_number_of_a_wrong_line_counts_those_of_all_pieces(rt: HostRuntime) {
+    let alloc = rt.alloc();
+    let mut script = Vec::new(alloc);
+    for _ in 0..20_000 {
+        script
+            .extend_from_slice(b"pull 0\n")
+            .expect(&rt, "ample memory");
+    }
+    script
+        .extend_from_slice(b"pull\npull 0\n")
+        .expect(&rt, "ample memory");
+    for most in [1_000, 65_536, usize::MAX] {
+        assert_ends_in_pieces(
+            &rt,
+            alloc,
+            PRIO_TWO_QUEUES.tree,
+            &script,
+            (most, usize::MAX),
+            Err(Fault::BadScript { line: 20_001 }),
+            b"",
+        );
     }
 }

@@ -70,21 +70,21 @@ fn assert_rows(rt: &impl Abort, alloc: Global, rows: &[Row]) {
         let (script, answer) = (row.script.as_bytes(), row.answer.as_bytes());
         assert_answers(rt, alloc, &[(row.tree, script, Ok(()), answer)]);
         if !row.visits.is_empty() {
-            assert_visits(rt, alloc, row);
+            assert_visits(rt, alloc, row, &mut FromRead::new(script));
         }
     }
 }
 
 const HEADER: &[u8] = b"pull,node,input,fresh,sender,number,length,passed,moment\n";
 
-// Fails unless the visits of a script are those of its row.
-fn assert_visits(rt: &impl Abort, alloc: Global, row: &Row) {
-    let written = csv_of(alloc, row.tree, row.script.as_bytes()).expect(rt, "ample memory");
+/// Fails unless the visits of a row's script, as a reader gives it, are those of the row.
+pub fn assert_visits(rt: &impl Abort, alloc: Global, row: &Row, script: &mut impl Source) {
+    let written = csv_of(alloc, row.tree, script).expect(rt, "ample memory");
     let visits = written.strip_prefix(HEADER);
     assert_eq!(rt; visits, Some(row.visits.as_bytes()), "at {}", row.name);
 }
 
-fn csv_of(alloc: Global, tree: &str, script: &[u8]) -> Result<Vec<u8>, Fault> {
+fn csv_of(alloc: Global, tree: &str, script: &mut impl Source) -> Result<Vec<u8>, Fault> {
     let logs = logs_of(alloc, tree, script)?;
     let mut sink = FailingSink::new(vec![in alloc; 0; AMPLE]?);
     visits_csv(alloc, &logs, &mut sink)?;
@@ -92,10 +92,10 @@ fn csv_of(alloc: Global, tree: &str, script: &[u8]) -> Result<Vec<u8>, Fault> {
 }
 
 /// The visits that a script makes over a tree, of each device.
-fn logs_of(alloc: Global, tree: &str, script: &[u8]) -> Result<Vec<Vec<Visit>>, Fault> {
+fn logs_of(alloc: Global, tree: &str, script: &mut impl Source) -> Result<Vec<Vec<Visit>>, Fault> {
     let plan = Plan::read(alloc, tree.as_bytes())?;
     let mut writer = FailingSink::new(vec![in alloc; 0; AMPLE]?);
-    run_script_logged(alloc, &mut FromRead::new(script), &mut writer, &plan)
+    run_script_logged(alloc, script, &mut writer, &plan)
 }
 
 #[test]
