@@ -3,7 +3,8 @@
 /// What the threads of a run call at each step, so that whoever runs them can follow them or hold them up. `run` promises the same
 /// whatever a gate does, if only it returns.
 pub trait Gate {
-    /// A producer is about to offer this packet of its sender. Packets are numbered from 0.
+    /// A producer is about to offer this packet of its sender. Packets are numbered from 0. Where it is held here, other producers of its
+    /// queue may wait a little before each 1,024 packets, and then go on.
     fn before(&self, sender: u16, number: u32);
 
     /// The consumer of a device has made its n-th pull, counted from 1. The pulls of the closing drain aren't told.

@@ -1,5 +1,6 @@
 //! A run: producers on threads, a consumer for each device, and then the closing.
 
+mod baton;
 mod closing;
 mod consumer;
 mod course;
@@ -10,7 +11,6 @@ mod joining;
 mod opening;
 mod producer;
 mod threads;
-mod turns;
 
 ghost use Rattle.std.specs.Prelude.{◌≡◌, ◌≤◌, ◌<◌, true, false, [], map, length, IfOk, IfErr};
 ghost use Rattle.clk_packet.specs.declared.fault.Fault.TheVariants.{UnknownSender};

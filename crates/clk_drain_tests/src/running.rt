@@ -24,6 +24,9 @@ const FOUR_AT_A_FRONT_DROP_QUEUE: &str =
 const PRIO_OVER_TWO: &str =
     "s0 :: Sender(0); q0 :: Queue; s1 :: Sender(1); q1 :: Queue; x :: PrioSched; d :: ToDevice(link); s0 -> q0 -> [0] x; s1 -> q1 -> [1] x; x -> d;";
 
+const TWO_AT_A_QUEUE: &str =
+    "s0 :: Sender(0); s1 :: Sender(1); q :: Queue(3000); d :: ToDevice(link); s0 -> q; s1 -> q; q -> d;";
+
 const ONE_AT_A_QUEUE: &str = "s :: Sender(0); q :: Queue(1); d :: ToDevice(link); s -> q -> d;";
 
 /// The records of so many packets of 64 bytes from each of these senders, each named by a digit.
@@ -226,6 +229,32 @@ fn threads_really_run(rt: HostRuntime) -> Result<(), Fault> {
     );
     assert_eq!(rt; gate.calls.count(), 3);
     assert_all_accounted(&rt, alloc, &traces, &outcome, 2)
+}
+
+// A producer that is held has its queue's baton, and the other goes on without it.
+#[test]
+fn no_producer_waits_for_one_that_is_held(rt: HostRuntime) -> Result<(), Fault> {
+    let alloc = rt.alloc();
+    let traces = traces(alloc, records(alloc, b"01", 3)?)?;
+    let gate = AllMeet {
+        calls: Calls::none(),
+    };
+    let outcome = run_text(&rt, alloc, TWO_AT_A_QUEUE, &traces, 1000, &gate)?;
+    assert!(rt;
+        gate.calls.came(),
+        "two producers of one queue and the consumer wait for one another"
+    );
+    assert_all_accounted(&rt, alloc, &traces, &outcome, 2)
+}
+
+// Each passes the baton on once before its last packet.
+#[test]
+fn producers_of_one_queue_pass_the_baton_on(rt: HostRuntime) -> Result<(), Fault> {
+    let alloc = rt.alloc();
+    let traces = traces(alloc, records(alloc, b"01", 1_500)?)?;
+    let outcome = run_text(&rt, alloc, TWO_AT_A_QUEUE, &traces, 1000, &Free)?;
+    assert_all_accounted(&rt, alloc, &traces, &outcome, 2)?;
+    assert_all_accepted(&rt, alloc, &traces, &outcome)
 }
 
 // The consumer asks the queue while the producer runs: the queue of one place has room for the second packet.

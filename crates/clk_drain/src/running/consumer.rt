@@ -9,8 +9,8 @@ use std::marker::Model;
 use std::sync::Wait;
 use std::thread;
 
-/// How many turns a consumer that found nothing leaves to other threads before it looks again.
-const TURNS: u32 = 64;
+/// How often a consumer that found nothing yields to other threads before it looks again.
+const YIELDS: u32 = 64;
 
 /// A device's session, with the inlets over which it is pulled.
 #[derive(Drop)]
@@ -74,15 +74,15 @@ impl<'a, W: Wait> Consumer<'a, W> {
         let got = self.inlets.pull(&mut self.session, moment)?;
         course.gate.pulled(self.device, u64::from(number));
         if got.is_none() {
-            leave_turns();
+            yield_to_others();
         }
         Ok(())
     }
 }
 
-// Lets other threads go first, for some turns.
-fn leave_turns() {
-    for _ in 0..TURNS {
+// Lets other threads go first.
+fn yield_to_others() {
+    for _ in 0..YIELDS {
         thread::yield_now();
     }
 }

@@ -131,9 +131,9 @@ fn add_producers_of<'a>(
     ensures added { OnOk result (producers.new.items ≡ producers.old.items ++ seats.items) }
     ensures fault { IsOkUnless result Fault.Memory }
 {
-    let LeafQueue { queue, turns, .. } = at;
+    let LeafQueue { queue, baton, .. } = at;
     for seat in seats {
-        producers.push(Producer { queue, turns, seat })?;
+        producers.push(Producer { queue, baton, seat })?;
     }
     Ok(())
 }

@@ -9,7 +9,7 @@ ghost use Rattle.clk_drain.specs.Opening.{shared_at};
 ghost use Rattle.clk_drain.specs.inside.Opening.{rooms_for, IsAdded};
 
 use crate::device::DeviceSession;
-use crate::running::turns::Turns;
+use crate::running::baton::Baton;
 use clk_packet::{Fault, Traces};
 use clk_ruled::{Opened, RuledQueue, Seat, Tap};
 use clk_tree::QueueSpec;
@@ -22,8 +22,8 @@ pub struct LeafQueue {
     pub leaf: u16,
     pub queue: RuledQueue,
     pub senders: usize,
-    /// Those of its producers.
-    pub turns: Turns,
+    /// The baton of its producers.
+    pub baton: Baton,
 }
 
 /// What the threads of a device are given: its session, and the taps and the seats of its queues, by rising leaf. Contracts see all
@@ -69,7 +69,7 @@ pub fn open_queue(
         leaf,
         queue,
         senders: seats.len(),
-        turns: Turns::new(),
+        baton: Baton::new(),
     })?;
     ends.taps.push(tap)?;
     ends.seats.push(seats)?;

@@ -1,22 +1,22 @@
 //! A producer: what offers all packets of a sender to its queue.
 
 use crate::gate::Gate;
-use crate::running::turns::Turns;
+use crate::running::baton::Baton;
 use clk_packet::Traces;
 use clk_ruled::{ClosedSeat, RuledQueue, Seat};
 use std::marker::Model;
 use std::sync::Wait;
 use std::sync::atomic::{AtomicU64, Ordering};
 
-/// How many packets a producer offers in a turn.
-const IN_A_TURN: u32 = 1_024;
+/// How many packets a producer offers at most before it passes the baton on, and before it looks for it again where it has none.
+const AT_A_TIME: u32 = 1_024;
 
 /// The seat of a sender, beside its queue. Contracts see the seat.
 #[derive(Drop)]
 pub struct Producer<'a> {
     pub queue: &'a RuledQueue,
-    /// Those at the queue.
-    pub turns: &'a Turns,
+    /// The baton of the queue's producers.
+    pub baton: &'a Baton,
     pub seat: Seat,
 }
 
@@ -44,7 +44,7 @@ pub fn send_all<W: Wait, G: Gate>(
     gate: &G,
     through: &AtomicU64,
     queue: &RuledQueue,
-    turns: &Turns,
+    baton: &Baton,
     seat: Seat,
 ) -> ClosedSeat
     requires together { IsSeatOf queue.now seat }
@@ -54,19 +54,19 @@ pub fn send_all<W: Wait, G: Gate>(
     ensures sent { AreOffered (sent_by traces.now seat.sender) result.lists }
 {
     let mut seat = seat;
-    offer_all(wait, traces, gate, queue, turns, &mut seat);
+    offer_all(wait, traces, gate, queue, baton, &mut seat);
     let closed = seat.close();
     through.fetch_add(1, Ordering::SeqCst);
     closed
 }
 
-// Offers all packets of the seat's sender, in order, so many in a turn.
+// Offers all packets of the seat's sender, in order, with the baton where it can be had.
 fn offer_all<W: Wait, G: Gate>(
     wait: &W,
     traces: &Traces,
     gate: &G,
     queue: &RuledQueue,
-    turns: &Turns,
+    baton: &Baton,
     seat: &mut Seat,
 )
     requires together { IsSeatOf queue.now seat.old }
@@ -76,20 +76,20 @@ fn offer_all<W: Wait, G: Gate>(
     ensures sent { AreOffered (sent_by traces.now seat.old.sender) seat.new }
 {
     let mut number = 0;
-    let mut has_turn = false;
+    let mut has_baton = false;
     let count = traces.count(seat.sender());
     while number < count {
-        if number % IN_A_TURN == 0 {
-            if has_turn {
-                turns.give_back();
+        if number % AT_A_TIME == 0 {
+            if has_baton {
+                baton.pass_on();
             }
-            has_turn = turns.take();
+            has_baton = baton.take();
         }
         offer_next(wait, traces, gate, queue, seat, number);
         number += 1;
     }
-    if has_turn {
-        turns.give_back();
+    if has_baton {
+        baton.pass_on();
     }
 }
 

@@ -64,7 +64,7 @@ fn start_sending<'s, E, W: Wait + Sync, G: Gate + Sync>(
     ensures traces { IfOk result (λ handle. handle.promise.traces.value ≡ course.now.traces) }
     ensures seat { IfOk result (λ handle. handle.promise.seat.value ≡ producer.entry) }
 {
-    let Producer { queue, turns, seat } = producer;
+    let Producer { queue, baton, seat } = producer;
     let (wait, traces, gate, through) = (course.wait, course.traces, course.gate, &course.through);
     let promise = Sending {
         traces: Snapshot::of(traces),
@@ -73,7 +73,7 @@ fn start_sending<'s, E, W: Wait + Sync, G: Gate + Sync>(
     let send = move || -> ClosedSeat
         requires { IsSeatOf queue.now seat × AreOffered [] seat × (seat.room ≡ length (sent_by traces.now seat.sender)) }
         ensures { IsClosedOf seat result × AreOffered (sent_by traces.entry.now seat.sender) result.lists }
-    { send_all(wait, traces, gate, through, queue, turns, seat) };
+    { send_all(wait, traces, gate, through, queue, baton, seat) };
     Ok(scope.spawn_with(promise, send)?)
 }
 
