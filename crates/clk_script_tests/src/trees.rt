@@ -49,6 +49,15 @@ s0 -> q0 -> [0] x; s1 -> q1 -> [1] x; s2 -> q2 -> [2] x; s3 -> q3 -> [3] x; s4 -
 s6 -> q6 -> [6] x; s7 -> q7 -> [7] x; s8 -> q8 -> [8] x; s9 -> q9 -> [9] x; s10 -> q10 -> [10] x; s11 -> q11 -> [11] x;
 x -> d;";
 
+/// A DRRSched of quantum 3 over twelve queues.
+pub const DRR_OVER_TWELVE: &str =
+    "s0 :: Sender(0); s1 :: Sender(1); s2 :: Sender(2); s3 :: Sender(3); s4 :: Sender(4); s5 :: Sender(5);
+s6 :: Sender(6); s7 :: Sender(7); s8 :: Sender(8); s9 :: Sender(9); s10 :: Sender(10); s11 :: Sender(11);
+q0, q1, q2, q3, q4, q5, q6, q7, q8, q9, q10, q11 :: Queue; x :: DRRSched(3); d :: ToDevice(link);
+s0 -> q0 -> [0] x; s1 -> q1 -> [1] x; s2 -> q2 -> [2] x; s3 -> q3 -> [3] x; s4 -> q4 -> [4] x; s5 -> q5 -> [5] x;
+s6 -> q6 -> [6] x; s7 -> q7 -> [7] x; s8 -> q8 -> [8] x; s9 -> q9 -> [9] x; s10 -> q10 -> [10] x; s11 -> q11 -> [11] x;
+x -> d;";
+
 /// A DRRSched over two queues, with a quantum of 500 for the first, and of 1 for the second.
 pub const DRR_500_1: &str =
     "s0 :: Sender(0); q0 :: Queue; s1 :: Sender(1); q1 :: Queue; x :: DRRSched(500, 1); d :: ToDevice(link);

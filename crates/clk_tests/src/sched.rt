@@ -4,6 +4,7 @@
 mod closing;
 mod constructors;
 mod growths;
+mod heads;
 mod kinds;
 mod limits;
 mod memory;
