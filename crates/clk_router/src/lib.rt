@@ -15,4 +15,4 @@ pub use accounts::{Account, Total};
 pub use counting::CountingRouter;
 pub use queue_state::QueueState;
 pub use router::Router;
-pub use senders::place_of;
+pub use senders::{numbers_of, place_of};

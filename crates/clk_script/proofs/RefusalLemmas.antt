@@ -1,5 +1,5 @@
 -- How a script's meaning and its faults follow from those of its first bytes.
-use Rattle.std.proofs.Common.{◌+◌, ◌≡◌, ◌≤◌, ◌≢◌, ℕ, ◌==◌, ◌||◌, Bool, true, false, nat_lt, List, [], ◌∷◌, length, take, Option, Some, None, Err, refl, sym, ap, subst, ◌∙◌, inl, inr, IfSome, Vec, arith}
+use Rattle.std.proofs.Common.{◌+◌, ◌≡◌, ◌≤◌, ◌≢◌, ℕ, ◌==◌, ◌||◌, Bool, true, false, nat_lt, List, [], ◌∷◌, length, map, take, Option, Some, None, Err, refl, sym, ap, subst, ◌∙◌, inl, inr, IfSome, Vec, arith}
 use Rattle.std.specs.declared.alloc.Global.{Global}
 use Rattle.std.specs.Bool.{⊤}
 use Rattle.std.specs.List.{list_any}
@@ -7,18 +7,23 @@ use Rattle.std.proofs.lemmas.Bool.Decides.{nat_tests}
 use Rattle.std.proofs.lemmas.List.{take_all, length-take}
 use Rattle.clk_packet.specs.declared.fault.Fault.{Fault}
 use Rattle.clk_packet.specs.declared.fault.Fault.TheVariants.{Memory, Read, UnknownSender, BadScript, TooLarge, Write}
+use Rattle.clk_sched.specs.declared.session.keeps.Keeps.{Keeps}
 use Rattle.clk_sched.specs.declared.visit.Visit.{Visit}
 use Rattle.clk_sched.specs.Tree.{Tree}
 use Rattle.clk_tree.specs.Plan.{Planned}
+use Rattle.clk_tree.specs.PlanParts.{number_of, senders_of}
+use Rattle.clk_tree.specs.PlanTree.{device_count}
 use Rattle.clk_tree.specs.Shares.{AreTreesOf}
+use Rattle.clk_tree.specs.declared.plan.parts.SenderSpec.{SenderSpec}
 use Rattle.clk_script.specs.declared.script.Command.{Command}
 use Rattle.clk_script.specs.declared.script.Command.TheVariants.{Send, Pull}
 use Rattle.clk_script.specs.declared.script.Line.{Line}
 use Rattle.clk_script.specs.declared.script.Line.TheVariants as line
 use Rattle.clk_script.specs.Script.{Names, most_lines, command_fault, line_fault, fault_at, is_drain, first_fault, lines_of, script_fault, commands_of, closing_moment, most_script_bytes}
 use Rattle.clk_packet.specs.Bytes.{read_failures, write_failures, OfBytes}
-use Rattle.clk_router.specs.Events.{Setup, sender_numbers, plan_setup}
-use Rattle.clk_script.specs.Meaning.{names_of, Writes, MeansWith, MeansOver, MeansOverWith, Explains}
+use Rattle.clk_router.specs.Course.{Course, IsOpened}
+use Rattle.clk_router.specs.Events.{Setup, plan_setup}
+use Rattle.clk_script.specs.Meaning.{names_of, names_over, Writes, MeansWith, MeansOver, MeansOverWith, Explains}
 use Rattle.clk_script.specs.declared.recorder.Recorder.{Recorder}
 use Rattle.clk_script.specs.inside.Reading.{IsTextOf, IsNotRead}
 use Rattle.clk_script.specs.inside.Recorder.{named_by, names_in, Starts}
@@ -133,8 +138,8 @@ of_script names script = by_test (nat_lt most_script_bytes (length script)) refl
     by_test false e = rw e (of_first names false 1 (lines_of script))
 
 -- what a refusal of the script's first bytes says
-pub record IsRefusal (setup : Setup) (known : Option (List ℕ)) (fault : Fault) : Type 0 where
-  pub explains : Explains setup known fault
+pub record IsRefusal (names : Names) (known : Option (List ℕ)) (fault : Fault) : Type 0 where
+  pub explains : Explains names known fault
   pub writes : (n : ℕ) → write_failures {T = Unit {0}} (Err fault) n ≡ n
   pub not_write : fault ≢ Write
 
@@ -143,24 +148,23 @@ named : (names : Names) (known : Option (List ℕ)) (bytes : List ℕ) (fault : 
 named names None bytes fault is e = tt
 named names (Some all) bytes fault is e = sym (fault-cut names all) ∙ ap (script_fault names) (sym is) ∙ e
 
-by_kind : (setup : Setup) (known : Option (List ℕ)) (fault : Fault) → IsOfScript fault → IfSome known (λ all. script_fault (names_of setup) all ≡ Some fault) → IsRefusal setup known fault
-by_kind setup known TooLarge kind h = record { explains = h; writes = λ n. refl; not_write = λ e. cc }
-by_kind setup known (BadScript number) kind h = record { explains = h; writes = λ n. refl; not_write = λ e. cc }
-by_kind setup known (UnknownSender sender) kind h = record { explains = h; writes = λ n. refl; not_write = λ e. cc }
-by_kind setup known fault kind h = absurd kind
+by_kind : (names : Names) (known : Option (List ℕ)) (fault : Fault) → IsOfScript fault → IfSome known (λ all. script_fault names all ≡ Some fault) → IsRefusal names known fault
+by_kind names known TooLarge kind h = record { explains = h; writes = λ n. refl; not_write = λ e. cc }
+by_kind names known (BadScript number) kind h = record { explains = h; writes = λ n. refl; not_write = λ e. cc }
+by_kind names known (UnknownSender sender) kind h = record { explains = h; writes = λ n. refl; not_write = λ e. cc }
+by_kind names known fault kind h = absurd kind
 
--- memory may run out at any growth
-of-memory : (setup : Setup) (known : Option (List ℕ)) (fault : Fault) → fault ≡ Memory → IsRefusal setup known fault
-of-memory setup known fault e = subst (λ (f : Fault). IsRefusal setup known f) (sym e) (record { explains = tt; writes = λ n. refl; not_write = λ d. cc })
+-- memory may run out at any growth, and the reader may fail
+refusal-as : (names : Names) (known : Option (List ℕ)) (fault other : Fault) → fault ≡ other → IsRefusal names known other → IsRefusal names known fault
+refusal-as names known fault other e h = subst (IsRefusal names known) (sym e) h
 
 -- why a script isn't read
-pub not-read-why : (setup : Setup) (router : Recorder) → Starts setup router → (known : Option (List ℕ)) (fault : Fault) → IsNotRead (names_in router) known fault → IsRefusal setup known fault
-not-read-why setup router starts known fault (inl memory) = of-memory setup known fault memory
-not-read-why setup router starts known fault (inr (inl read)) = subst (λ (f : Fault). IsRefusal setup known f) (sym read) (record { explains = tt; writes = λ n. refl; not_write = λ d. cc })
-not-read-why setup router starts known fault (inr (inr (bytes, is, e))) =
-    let here : script_fault (names_of setup) bytes ≡ Some fault = subst (λ names. script_fault names bytes ≡ Some fault) (names-its setup [] router starts.leads) e in
-    let kind : IsOfScript fault = rw here at (of_script (names_of setup) bytes) in
-    by_kind setup known fault kind (named (names_of setup) known bytes fault is here)
+pub not-read-why : (names : Names) (known : Option (List ℕ)) (fault : Fault) → IsNotRead names known fault → IsRefusal names known fault
+not-read-why names known fault (inl memory) = refusal-as names known fault Memory memory (record { explains = tt; writes = λ n. refl; not_write = λ e. cc })
+not-read-why names known fault (inr (inl read)) = refusal-as names known fault Read read (record { explains = tt; writes = λ n. refl; not_write = λ e. cc })
+not-read-why names known fault (inr (inr (bytes, is, e))) =
+    let kind : IsOfScript fault = rw e at (of_script names bytes) in
+    by_kind names known fault kind (named names known bytes fault is e)
 
 -- A call that passes a fault on has failed to read as often.
 pub same-failures : (T U : Type 0) (fault : Fault) (n : ℕ) → read_failures {T = T} (Err fault) n ≡ read_failures {T = U} (Err fault) n
@@ -176,6 +180,11 @@ pub few-closings : {X : Type 0} (setup : Setup) (router : Recorder) (closings : 
 few-closings setup router None starts e = tt
 few-closings setup router (Some closings) starts e = few-devices setup router (length closings.items) starts e
 
--- what a script may name by what a recorder's router tells of itself
-pub same-names : (r : Recorder) (numbers : List ℕ) (devices : ℕ) → numbers ≡ sender_numbers r.router.setup → devices ≡ length r.router.setup.trees → named_by numbers devices ≡ names_in r
-same-names r numbers devices senders count = λ i. record { senders = senders i; devices = count i }
+-- what a script may name by what a plan tells of itself
+pub names-told : (plan : List Planned) (specs : List SenderSpec) (numbers lent : List ℕ) (devices count : ℕ) → specs ≡ senders_of plan → numbers ≡ map number_of specs → lent ≡ numbers → devices ≡ count → count ≡ device_count plan
+    → named_by lent devices ≡ names_over plan
+names-told plan specs numbers lent devices count senders made same as_many is = λ i. record { senders = (same ∙ made ∙ ap (map number_of) senders) i; devices = (as_many ∙ is) i }
+
+-- what a script may name over a plan is what it may name over the router that was made of it
+pub names-opened : (plan : List Planned) (keeps : Keeps) (r : Recorder) → IsOpened plan keeps r.router → names_over plan ≡ names_in r
+names-opened plan keeps r opened = (λ i. record { senders = map number_of (senders_of plan); devices = sym opened.are.count i }) ∙ sym (ap (λ (c : Course). names_of c.setup) opened.is)

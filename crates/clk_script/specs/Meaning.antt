@@ -1,5 +1,5 @@
 -- What the answer to a script is.
-use Rattle.std.specs.Prelude.{◌≡◌, ℕ, ◌⊎◌, List, [], ◌++◌, length, map, zero, suc, nat_lt, Bool, if◌then◌else◌, Option, Some, None, IfSome, ⊤, codes, decimal}
+use Rattle.std.specs.Prelude.{◌≡◌, ℕ, List, [], ◌++◌, length, map, zero, suc, nat_lt, Bool, if◌then◌else◌, Option, Some, None, IfSome, ⊤, codes, decimal}
 use Rattle.std.specs.List.{flat_map}
 use Rattle.clk_packet.specs.declared.packet.Packet.{Packet}
 use Rattle.clk_packet.specs.declared.packet.Offered.{Offered}
@@ -13,6 +13,8 @@ use Rattle.clk_sched.specs.Tree.{Tree}
 use Rattle.clk_sched.specs.Log.{visits_of, result_of}
 use Rattle.clk_sched.specs.Results.{emitted}
 use Rattle.clk_tree.specs.Plan.{Planned}
+use Rattle.clk_tree.specs.PlanParts.{number_of, senders_of}
+use Rattle.clk_tree.specs.PlanTree.{device_count}
 use Rattle.clk_tree.specs.Shares.{AreTreesOf}
 use Rattle.clk_script.specs.Script.{Names, script_fault, commands_of, closing_moment}
 use Rattle.clk_report.specs.Report.{report_text}
@@ -108,16 +110,16 @@ pub record MeansWith (setup : Setup) (script text : List ℕ) (logs : List (List
 abbrev pub IsMeaning : Setup → List ℕ → List ℕ → Type 0
 IsMeaning setup script text = (logs : List (List Visit)) × MeansWith setup script text logs
 
--- Why running a script is refused with a fault: memory may run out at any growth, the reader and the writer may fail, and
--- otherwise it is what is wrong with the script, where its bytes are known. Its drain never stops short.
-abbrev pub Explains : Setup → Option (List ℕ) → Fault → Type 0
-Explains setup script Memory = ⊤
-Explains setup script Read = ⊤
-Explains setup script Write = ⊤
-Explains setup script TooLarge = IfSome script (λ bytes. script_fault (names_of setup) bytes ≡ Some TooLarge)
-Explains setup script (BadScript line) = IfSome script (λ bytes. script_fault (names_of setup) bytes ≡ Some (BadScript line))
-Explains setup script (UnknownSender sender) = IfSome script (λ bytes. script_fault (names_of setup) bytes ≡ Some (UnknownSender sender))
-Explains setup script fault = ⊥
+-- Why running a script that may name these is refused with a fault: memory may run out at any growth, the reader and the writer may fail,
+-- and otherwise it is what is wrong with the script, where its bytes are known. Its drain never stops short.
+abbrev pub Explains : Names → Option (List ℕ) → Fault → Type 0
+Explains names script Memory = ⊤
+Explains names script Read = ⊤
+Explains names script Write = ⊤
+Explains names script TooLarge = IfSome script (λ bytes. script_fault names bytes ≡ Some TooLarge)
+Explains names script (BadScript line) = IfSome script (λ bytes. script_fault names bytes ≡ Some (BadScript line))
+Explains names script (UnknownSender sender) = IfSome script (λ bytes. script_fault names bytes ≡ Some (UnknownSender sender))
+Explains names script fault = ⊥
 
 -- The text is the meaning of the script over a plan, with these logs: it is its meaning over the setup that the plan is, with its trees.
 pub record MeansOverWith (plan : List Planned) (script text : List ℕ) (logs : List (List Visit)) : Type 0 where
@@ -129,6 +131,10 @@ pub record MeansOverWith (plan : List Planned) (script text : List ℕ) (logs : 
 abbrev pub MeansOver : List Planned → List ℕ → List ℕ → Type 0
 MeansOver plan script text = (logs : List (List Visit)) × MeansOverWith plan script text logs
 
--- Why running a script over a plan is refused with a fault: memory ran out, or as above over the setup that the plan is.
+-- what a script may name over a plan
+abbrev pub names_over : List Planned → Names
+names_over plan = record { senders = map number_of (senders_of plan); devices = device_count plan }
+
+-- Why running a script over a plan is refused with a fault.
 abbrev pub ExplainsPlan : List Planned → Option (List ℕ) → Fault → Type 0
-ExplainsPlan plan script fault = (fault ≡ Memory) ⊎ ((trees : List Tree) × AreTreesOf plan trees × Explains (plan_setup trees plan) script fault)
+ExplainsPlan plan script fault = Explains (names_over plan) script fault

@@ -8,7 +8,7 @@ ghost use Rattle.clk_sched.specs.Tree.{Tree};
 ghost use Rattle.clk_tree.specs.Shares.{AreTreesOf};
 ghost use Rattle.clk_packet.specs.Written.{WroteWhat};
 ghost use Rattle.clk_router.specs.Events.{CanHappen, Closes, plan_setup};
-ghost use Rattle.clk_script.specs.Meaning.{CloseFirst, IsMeaning, MeansOver, Explains, ExplainsPlan};
+ghost use Rattle.clk_script.specs.Meaning.{CloseFirst, IsMeaning, MeansOver, Explains, ExplainsPlan, names_of};
 ghost use Rattle.clk_router.specs.Setups.{IsWired, IsApart};
 ghost use Rattle.clk_script.specs.OneMeaning.{HasAtMostOneMeaning, DevicesAreApart};
 ghost use Rattle.clk_script.specs.OneDevice.{HasOneDevice, IsMeaningAlone};
@@ -107,6 +107,6 @@ pub fn word_examples()
     ensures not_cut_in_success { ¬ (WroteWhat (λ written. written ≡ text) success (Some []) (Some first_byte)) }
     ensures not_end_alone { ¬ (WroteWhat (λ written. written ≡ text) (failed Write) (Some []) (Some second_byte)) }
     ensures not_at_another_fault { ¬ (WroteWhat (λ written. written ≡ text) (failed Memory) (Some []) (Some first_byte)) }
-    ensures not_too_large { ¬ (Explains two_queues (Some (codes "pull 0\n")) TooLarge) }
+    ensures not_too_large { ¬ (Explains (names_of two_queues) (Some (codes "pull 0\n")) TooLarge) }
     ensures not_too_large_over_a_plan { (plan : _) → ¬ (ExplainsPlan plan (Some (codes "pull 0\n")) TooLarge) }
 {}

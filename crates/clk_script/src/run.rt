@@ -14,6 +14,7 @@ use crate::reading::read_script;
 use crate::recorder::Recorder;
 use crate::writing::write_answer;
 use clk_packet::{Fault, Sink, Source};
+use clk_router::numbers_of;
 use clk_sched::Visit;
 use clk_tree::Plan;
 use std::alloc::Global;
@@ -81,9 +82,10 @@ fn run_plan<R: Source, W: Sink>(
     ensures write_failures { W.Sink.failures writer.new ≡ write_failures result (W.Sink.failures writer.old) }
     ensures limit { Takes (most_script_bytes + 1) (R.Source.remaining reader.old) (R.Source.remaining reader.new) }
 {
+    let senders = numbers_of(alloc, plan.senders())?;
+    let devices = usize::from(plan.devices());
+    let script = read_script(alloc, reader, &senders, devices)?;
     let recorder = Recorder::new(alloc, plan, visits)?;
-    let (senders, devices) = (recorder.router.senders(), recorder.router.devices());
-    let script = read_script(alloc, reader, senders, devices)?;
     let answer = answer_script(alloc, recorder, script)?;
     write_answer(&answer, writer)?;
     Ok(answer.past)

@@ -1,20 +1,18 @@
-use Rattle.std.proofs.Common.{◌≡◌, inr, None, ap, sym, subst, ◌∙◌}
+use Rattle.std.proofs.Common.{◌≡◌, None, ap, sym, subst, ◌∙◌}
 use Rattle.std.proofs.lemmas.Result.{err_from_is_err_and}
-use Rattle.clk_router.specs.Events.{Setup}
 use Rattle.clk_script.specs.Script.{script_fault}
 use Rattle.clk_script.specs.Meaning.{Explains}
 use Rattle.clk_script.specs.declared.past.Past.{Past}
 use Rattle.clk_script.specs.declared.reading.Script.{Script}
-use Rattle.clk_script.specs.inside.Reading.{IsNotRead}
 use Rattle.clk_script.specs.inside.Rows.{answer_text, CanBeRun}
 use Rattle.clk_packet.proofs.Callers.Written.{wrote-whole, wrote-front, wrote-nothing}
-use Rattle.clk_script.proofs.RefusalLemmas.{not-read-why, same-failures, same-names, meaning-known, meaning-over, few-devices, few-closings}
+use Rattle.clk_script.proofs.RefusalLemmas.{not-read-why, same-failures, names-told, names-opened, meaning-known, meaning-over, few-devices, few-closings}
 use Rattle.clk_script.proofs.SourceLemmas.{source-sound}
 use Rattle.clk_script.proofs.run.run_plan.Goals as goal
 
 pub answer_script-requires-clause-sound : goal.answer_script-requires-clause-sound
 answer_script-requires-clause-sound g c =
-    let names = same-names c.in_ok-recorder.recorder _ _ c.senders-senders.ensures.numbers c.devices-devices.ensures.count in
+    let names = names-told c.args.plan.now _ _ _ _ _ c.senders.ensures.senders c.in_ok-senders.ensures.made c.deref.ensures.value c.from-devices.ensures c.devices.ensures.count ∙ names-opened c.args.plan.now _ c.in_ok-recorder.recorder c.in_ok-recorder.ensures.opened in
     subst (λ names. CanBeRun names c.in_ok-script.script) names c.in_ok-script.ensures.read.to_end.runs
 
 -- a report takes as many devices as there are, and so do closings
@@ -28,21 +26,15 @@ write_answer-requires-clause-closings g c = few-closings c.in_ok-recorder.record
 pub returns-in_err-script-clause-wrote : goal.returns-in_err-script-clause-wrote
 returns-in_err-script-clause-wrote g c =
     let p = err_from_is_err_and c.from_residual-in_err-script.result c.from_residual-in_err-script.ensures.1 in
-    let names = same-names c.in_ok-recorder.recorder _ _ c.senders-senders.ensures.numbers c.devices-devices.ensures.count in
-    let fault = c.in_err-script.field-0.0 in
-    let known = g.R.Source.remaining c.args.reader.now in
-    let refusal = not-read-why c.in_ok-recorder.recorder.router.setup c.in_ok-recorder.recorder c.in_ok-recorder.ensures.starts known fault (subst (λ names. IsNotRead names known fault) names c.in_err-script.ensures.read) in
+    let refusal = not-read-why _ (g.R.Source.remaining c.args.reader.now) c.in_err-script.field-0.0 c.in_err-script.ensures.read in
     rw (p.1, p.2) (wrote-nothing _ _ _ refusal.not_write)
 
 pub returns-in_err-script-clause-fault : goal.returns-in_err-script-clause-fault
 returns-in_err-script-clause-fault g c =
     let p = err_from_is_err_and c.from_residual-in_err-script.result c.from_residual-in_err-script.ensures.1 in
-    let names = same-names c.in_ok-recorder.recorder _ _ c.senders-senders.ensures.numbers c.devices-devices.ensures.count in
-    let fault = c.in_err-script.field-0.0 in
-    let known = g.R.Source.remaining c.args.reader.now in
-    let refusal = not-read-why c.in_ok-recorder.recorder.router.setup c.in_ok-recorder.recorder c.in_ok-recorder.ensures.starts known fault (subst (λ names. IsNotRead names known fault) names c.in_err-script.ensures.read) in
-    let opened = c.in_ok-recorder.ensures.opened in
-    rw (p.1, p.2) (inr (opened.trees, opened.are, subst (λ (s : Setup). Explains s known fault) (ap (λ k. k.setup) opened.is) refusal.explains))
+    let names = names-told c.args.plan.now _ _ _ _ _ c.senders.ensures.senders c.in_ok-senders.ensures.made c.deref.ensures.value c.from-devices.ensures c.devices.ensures.count in
+    let refusal = not-read-why _ (g.R.Source.remaining c.args.reader.now) c.in_err-script.field-0.0 c.in_err-script.ensures.read in
+    rw (p.1, p.2) (subst (λ names. Explains names (g.R.Source.remaining c.args.reader.now) c.in_err-script.field-0.0) names refusal.explains)
 
 pub returns-in_err-script-clause-read_failures : goal.returns-in_err-script-clause-read_failures
 returns-in_err-script-clause-read_failures g c =
@@ -52,10 +44,7 @@ returns-in_err-script-clause-read_failures g c =
 pub returns-in_err-script-clause-write_failures : goal.returns-in_err-script-clause-write_failures
 returns-in_err-script-clause-write_failures g c =
     let p = err_from_is_err_and c.from_residual-in_err-script.result c.from_residual-in_err-script.ensures.1 in
-    let names = same-names c.in_ok-recorder.recorder _ _ c.senders-senders.ensures.numbers c.devices-devices.ensures.count in
-    let fault = c.in_err-script.field-0.0 in
-    let known = g.R.Source.remaining c.args.reader.now in
-    let refusal = not-read-why c.in_ok-recorder.recorder.router.setup c.in_ok-recorder.recorder c.in_ok-recorder.ensures.starts known fault (subst (λ names. IsNotRead names known fault) names c.in_err-script.ensures.read) in
+    let refusal = not-read-why _ (g.R.Source.remaining c.args.reader.now) c.in_err-script.field-0.0 c.in_err-script.ensures.read in
     rw (p.1, p.2) (sym (refusal.writes _))
 
 -- What a router's answer means, with what it wrote.
@@ -67,7 +56,7 @@ returns-clause-wrote g c =
     let bytes = source.text in
     let opened = c.in_ok-recorder.ensures.opened in
     let starts = c.in_ok-recorder.ensures.starts in
-    let names = same-names recorder _ _ c.senders-senders.ensures.numbers c.devices-devices.ensures.count in
+    let names = names-told c.args.plan.now _ _ _ _ _ c.senders.ensures.senders c.in_ok-senders.ensures.made c.deref.ensures.value c.from-devices.ensures c.devices.ensures.count ∙ names-opened c.args.plan.now _ recorder opened in
     let sound = subst (λ names. script_fault names bytes ≡ None) names (source-sound _ _ _ source) in
     let means = rw (source.to_end.holds.rows, source.to_end.holds.closing) at (c.in_ok-answer.ensures.means setup starts) in
     let text = answer_text c.in_ok-answer.answer in
@@ -87,7 +76,7 @@ returns-in_err-write_answer-clause-wrote g c =
     let bytes = source.text in
     let opened = c.in_ok-recorder.ensures.opened in
     let starts = c.in_ok-recorder.ensures.starts in
-    let names = same-names recorder _ _ c.senders-senders.ensures.numbers c.devices-devices.ensures.count in
+    let names = names-told c.args.plan.now _ _ _ _ _ c.senders.ensures.senders c.in_ok-senders.ensures.made c.deref.ensures.value c.from-devices.ensures c.devices.ensures.count ∙ names-opened c.args.plan.now _ recorder opened in
     let sound = subst (λ names. script_fault names bytes ≡ None) names (source-sound _ _ _ source) in
     let means = rw (source.to_end.holds.rows, source.to_end.holds.closing) at (c.in_ok-answer.ensures.means setup starts) in
     let text = answer_text c.in_ok-answer.answer in
