@@ -8,7 +8,7 @@ use Rattle.std.proofs.lemmas.List.{drop-drop, drop-map, length-append, length-dr
 use Rattle.std.proofs.lemmas.Option.{slice_get_within, get_or_from_slice_get}
 use Rattle.clk_sched.specs.declared.session.stride.Rank.{Rank}
 use Rattle.clk_sched.specs.declared.session.stride.TheConstants.{FAR}
-use Rattle.clk_sched.specs.inside.Ranks.{greatest_stride, IsRankOf, HasRisingPasses, is_up_to, put_rank, at_pass, after_win, first_pass, taken_from, less, inputs_in}
+use Rattle.clk_sched.specs.inside.Ranks.{greatest_stride, IsRankOf, HasRisingPasses, IsBefore, AreInOrder, is_up_to, put_rank, put_each, at_pass, after_win, first_pass, taken_from, less, inputs_in}
 use Rattle.clk_sched.proofs.Lists.Members.{all-weaker}
 use Rattle.clk_sched.proofs.Lists.Apart.{all-map}
 
@@ -286,3 +286,64 @@ pub win-from : (row now : List Rank) (strides read : List ℕ) (place input : �
 win-from row now strides read place input d new e f g h =
     h ∙ ap (λ i. after_win (get_or now place d).pass (get_or read i 0) place now) g
     ∙ ap₂ (λ (xs : List Rank) (ns : List ℕ). after_win (get_or xs place d).pass (get_or ns (get_or xs place d).input 0) place xs) e f
+
+-- Ranks that are in order rise by their passes.
+pub in_order-rises : (ranks : List Rank) → AreInOrder ranks → HasRisingPasses ranks
+in_order-rises [] h = tt
+in_order-rises (r ∷ ranks) h = (all-weaker (IsBefore r) (λ (o : Rank). r.pass ≤ o.pass) ranks (λ o k. k.0) h.0, in_order-rises ranks h.1)
+
+-- Ranks in order that had one pass, and of which the last stands before another, stay in order in front of it when each gets a pass.
+pub each-stay : (pass : ℕ) (ranks others : List Rank) (next d : Rank) (k : ℕ) → AreInOrder ranks → length ranks ≡ suc k → (get_or ranks 0 d).pass ≡ (get_or ranks k d).pass → is_up_to (at_pass pass (get_or ranks k d)) next ≡ true
+    → put_each pass ranks (next ∷ others) ≡ map (at_pass pass) ranks ++ next ∷ others
+each-stay pass [] others next d k h l e test = absurd (omega (arith, l))
+each-stay pass (r ∷ []) others next d zero h l e test = put-here (at_pass pass r) next others test
+each-stay pass (r ∷ []) others next d (suc k) h l e test = absurd (omega (arith, l))
+each-stay pass (r ∷ s ∷ ranks) others next d zero h l e test = absurd (omega (arith, l))
+each-stay pass (r ∷ s ∷ ranks) others next d (suc k) h l e test =
+    ap (put_rank (at_pass pass r)) (each-stay pass (s ∷ ranks) others next d k h.1 (omega (arith, l)) (same ∙ e) test)
+    ∙ put-here (at_pass pass r) (at_pass pass s) (map (at_pass pass) ranks ++ next ∷ others) before
+  where
+    same : s.pass ≡ r.pass
+    same = let up = h.0.0.0 in let down = first-below (s ∷ ranks) (in_order-rises (s ∷ ranks) h.1) k d (omega (arith, l)) in omega (arith, up, down, e)
+
+    before : is_up_to (at_pass pass r) (at_pass pass s) ≡ true
+    before = let l = h.0.0.1 (sym same) in grind (arith, nat_tests, l)
+
+-- The winner is put in its place, and then each of those before it.
+pub win-each : (pass stride place : ℕ) (row : List Rank) (d : Rank) → place < length row → after_win pass stride place row ≡ put_each pass (take place row) (put_rank (at_pass (pass + stride) (get_or row place d)) (drop (suc place) row))
+win-each pass stride place [] d l = absurd (omega arith)
+win-each pass stride zero (r ∷ row) d l = refl
+win-each pass stride (suc place) (r ∷ row) d l = ap (put_rank (at_pass pass r)) (win-each pass stride place row d (omega arith))
+
+-- what is in order is so in front of a place
+pub in_order-front : (n : ℕ) (row : List Rank) → AreInOrder row → AreInOrder (take n row)
+in_order-front zero row h = tt
+in_order-front (suc n) [] h = tt
+in_order-front (suc n) (r ∷ row) h = (all-front n row h.0, in_order-front n row h.1)
+  where
+    all-front : (n : ℕ) (others : List Rank) → AllByRecursion (IsBefore r) others → AllByRecursion (IsBefore r) (take n others)
+    all-front zero others k = tt
+    all-front (suc n) [] k = tt
+    all-front (suc n) (o ∷ others) k = (k.0, all-front n others k.1)
+
+-- what stands before a place and from it on, where the row was changed from there on
+pub front-kept : (n : ℕ) (row rest : List Rank) → n ≤ length row → (take n (take n row ++ rest) ≡ take n row) × (drop n (take n row ++ rest) ≡ rest)
+front-kept zero row rest l = (refl, refl)
+front-kept (suc n) [] rest l = absurd (omega arith)
+front-kept (suc n) (r ∷ row) rest l = let h = front-kept n row rest (omega arith) in (ap (λ xs. r ∷ xs) h.0, h.1)
+
+-- Those before the winner stay in order in front of what stands in its place then.
+pub win-stays : (pass stride place : ℕ) (row now new : List Rank) (winner next d : Rank) → place < length row → winner ≡ at_pass (pass + stride) (get_or row place d) → now ≡ take place row ++ put_rank winner (drop (place + 1) row)
+    → next ≡ get_or now place d → ((others : List Rank) → put_each pass (take place now) (next ∷ others) ≡ map (at_pass pass) (take place now) ++ next ∷ others) → new ≡ map (at_pass pass) (take place now)
+    → new ++ drop place now ≡ after_win pass stride place row
+win-stays pass stride place row now new winner next d l won is at stay given =
+    ap₂ (λ xs ys. xs ++ ys) given here
+    ∙ sym (stay (drop (suc place) now))
+    ∙ ap₂ (put_each pass) (ap (take place) is ∙ kept.0) (sym here ∙ ap (drop place) is ∙ kept.1 ∙ ap₂ (λ w n. put_rank w (drop n row)) won (let next : place + 1 ≡ suc place = omega arith in next))
+    ∙ sym (win-each pass stride place row d l)
+  where
+    kept : (take place (take place row ++ put_rank winner (drop (place + 1) row)) ≡ take place row) × (drop place (take place row ++ put_rank winner (drop (place + 1) row)) ≡ put_rank winner (drop (place + 1) row))
+    kept = front-kept place row (put_rank winner (drop (place + 1) row)) (omega arith)
+
+    here : drop place now ≡ next ∷ drop (suc place) now
+    here = from-place now place d next (put-there winner row now place l is) at

@@ -1,5 +1,5 @@
 -- What the row of a StrideSched holds: before the first pull, after a pull that an input won, and after one that none won.
-use Rattle.std.proofs.Common.{◌≡◌, ◌≢◌, ℕ, zero, suc, ◌+◌, ◌-◌, ◌<◌, ◌≤◌, ◌==◌, ◌||◌, if◌then◌else◌, inl, inr, Bool, true, false, List, [], ◌∷◌, length, map, take, drop, get_or, Some, None, slice_get, unwrap_or, refl, sym, ap, ap₂, ◌∙◌, subst, arith}
+use Rattle.std.proofs.Common.{◌≡◌, ◌≢◌, ℕ, nat_lt, zero, suc, ◌+◌, ◌-◌, ◌<◌, ◌≤◌, ◌==◌, ◌||◌, if◌then◌else◌, inl, inr, Bool, true, false, List, [], ◌∷◌, length, map, take, drop, get_or, Some, None, slice_get, unwrap_or, refl, sym, ap, ap₂, ◌∙◌, subst, arith}
 use Rattle.std.specs.List.{enumerate_from, range_with_len, list_any, All, AllByRecursion}
 use Rattle.std.proofs.lemmas.List.{length-map}
 use Rattle.std.proofs.lemmas.List.FromFn.{length-enumerate_from}
@@ -10,7 +10,7 @@ use Rattle.clk_sched.specs.declared.session.stride.Rank.{Rank}
 use Rattle.clk_sched.specs.declared.session.stride.Passes.{Passes}
 use Rattle.clk_sched.specs.Turns.{Turn, giver}
 use Rattle.clk_sched.specs.Laws.Stride.{stride_of, stride_at, pass_in, visits_input, passes_after, passes_of, put_in_order, in_rising_order, stride_order}
-use Rattle.clk_sched.specs.inside.Ranks.{with_pass, greatest_stride, IsRankOf, HasRisingPasses, is_up_to, put_rank, at_pass, after_win, first_pass, taken_from, first_rank, less}
+use Rattle.clk_sched.specs.inside.Ranks.{with_pass, greatest_stride, IsRankOf, HasRisingPasses, IsBefore, AreInOrder, is_up_to, put_rank, at_pass, after_win, first_pass, taken_from, first_rank, less}
 use Rattle.clk_sched.specs.inside.Holds.Stride.{HoldsPasses}
 use Rattle.clk_packet.specs.Lists.{In}
 use Rattle.clk_sched.proofs.Lists.Members.{of-all, to-all, any-in, all-weaker, in-slice}
@@ -18,7 +18,7 @@ use Rattle.clk_sched.specs.inside.Pulling.{AreApart}
 use Rattle.clk_sched.proofs.Lists.Apart.{all-map}
 use Rattle.clk_sched.proofs.Classes.Orders.{paired_input, rising-apart, enumerated, passes-length}
 use Rattle.clk_sched.proofs.Classes.Enumerated.{enumerated-at}
-use Rattle.clk_sched.proofs.Lists.Rising.{up_to, put-first, IsInOrder, rising-is, rising-same, rising-length, mapped-rising, ordered-in}
+use Rattle.clk_sched.proofs.Lists.Rising.{up_to, put-first, put-later, IsInOrder, rising-is, rising-same, rising-length, mapped-rising, ordered-in}
 use Rattle.clk_sched.proofs.Classes.RankLemmas.{taken-least, win-least}
 
 -- a rank that is put among others, as a pair among pairs
@@ -144,6 +144,46 @@ apart-ranks taken (r ∷ row) h = (unmapped row h.0, apart-ranks taken row h.1)
     unmapped [] k = tt
     unmapped (o ∷ others) k = (k.0, unmapped others k.1)
 
+-- no input has two ranks
+row-apart : (tickets : List ℕ) (turns : List Turn) (taken : ℕ) (row : List Rank) → map (with_pass taken) row ≡ in_rising_order (enumerate_from 0 (passes_of tickets turns)) → AreApart (λ (r : Rank). r.input) row
+row-apart tickets turns taken row is =
+    let passes = passes_of tickets turns in
+    apart-ranks taken row (subst (AreApart paired_input) (sym is) (rising-apart (enumerate_from 0 passes) (enumerated 0 (length passes) passes (omega arith)).1))
+
+-- A rank whose pair stands before that of another input stands before its rank.
+next-before : (taken : ℕ) (r s : Rank) (others : List (ℕ × ℕ)) → put_in_order (with_pass taken r) (with_pass taken s ∷ others) ≡ with_pass taken r ∷ with_pass taken s ∷ others → s.input ≢ r.input → IsBefore r s
+next-before taken r s others e differs = (grind (arith, nat_tests, before), λ same. by_input same (nat_lt r.input s.input) refl)
+  where
+    by_order : (b : Bool) → up_to (with_pass taken r) (with_pass taken s) ≡ b → b ≡ true
+    by_order true f = refl
+    by_order false f = absurd (differs (ap (λ (xs : List (ℕ × ℕ)). (get_or xs 0 (0, 0)).0) (sym (put-later (with_pass taken r) (with_pass taken s) others f) ∙ e)))
+
+    before : up_to (with_pass taken r) (with_pass taken s) ≡ true
+    before = by_order (up_to (with_pass taken r) (with_pass taken s)) refl
+
+    by_input : r.pass ≡ s.pass → (b : Bool) → nat_lt r.input s.input ≡ b → r.input < s.input
+    by_input same true f = grind (arith, nat_tests, f)
+    by_input same false f = absurd (differs (let equal : s.input ≡ r.input = grind (arith, nat_tests, before, same, f) in equal))
+
+ranks-in_order : (taken : ℕ) (row : List Rank) → IsInOrder (map (with_pass taken) row) → AreApart (λ (r : Rank). r.input) row → AreInOrder row
+ranks-in_order taken [] order apart = tt
+ranks-in_order taken (r ∷ []) order apart = (tt, tt)
+ranks-in_order taken (r ∷ s ∷ row) order apart =
+    let rest = ranks-in_order taken (s ∷ row) order.1 apart.1 in
+    let first = next-before taken r s (map (with_pass taken) row) order.0 apart.0.0 in
+    ((first, all-weaker (IsBefore s) (IsBefore r) row (λ o k. later o first k) rest.0), rest)
+  where
+    later : (o : Rank) → IsBefore r s → IsBefore s o → IsBefore r o
+    later o h k =
+        let a = h.0 in
+        let b = k.0 in
+        (omega (arith, a, b), λ e. let i = h.1 (omega (arith, a, b, e)) in let j = k.1 (omega (arith, a, b, e)) in omega (arith, i, j))
+
+-- The row that is held is in order.
+pub row-in_order : (tickets : List ℕ) (turns : List Turn) (p : Passes) → HoldsPasses tickets turns p → AreInOrder p.row.items
+row-in_order tickets turns p holds =
+    ranks-in_order holds.taken p.row.items (subst IsInOrder (sym holds.row_is) (rising-is (enumerate_from 0 (passes_of tickets turns)))) (row-apart tickets turns holds.taken p.row.items holds.row_is)
+
 -- the rank at a place
 in-pairs : (taken place : ℕ) (row : List Rank) (d : Rank) → place < length row → In (with_pass taken (get_or row place d)) (map (with_pass taken) row)
 in-pairs taken place [] d l = absurd (omega arith)
@@ -222,7 +262,7 @@ won-row tickets turns t taken place row d win =
     change = moved r.input stride (r.pass + taken) (λ i. visits_input i t.visits)
 
     apart : AreApart (λ (o : Rank). o.input) row
-    apart = apart-ranks taken row (subst (AreApart paired_input) (sym win.row_is) (rising-apart pairs (enumerated 0 (length passes) passes (omega arith)).1))
+    apart = row-apart tickets turns taken row win.row_is
 
     inputs : List ℕ
     inputs = take (suc place) (map (λ (o : Rank). o.input) row)

@@ -18,12 +18,12 @@ use Rattle.clk_sched.specs.inside.Holds.OfClass.{FitsPasses}
 use Rattle.clk_sched.specs.inside.Holds.Stride.{HoldsPasses}
 use Rattle.clk_sched.specs.inside.Places.{edges_of, edges_in, input_at}
 use Rattle.clk_sched.specs.inside.Pulling.{Now, CanPull, AsksAll, TakesTurn, now_of, as_turn, with_turn, asked_in_order}
-use Rattle.clk_sched.specs.inside.Ranks.{inputs_in}
+use Rattle.clk_sched.specs.inside.Ranks.{AreInOrder, inputs_in}
 use Rattle.clk_sched.specs.inside.Turning.{HasAskedAll, HadTurn}
 use Rattle.clk_sched.proofs.Classes.Orders.{IsOrderOf, stride-order}
-use Rattle.clk_sched.proofs.Classes.StridePasses.{order-is, passes-none}
+use Rattle.clk_sched.proofs.Classes.StridePasses.{order-is, passes-none, row-in_order}
 use Rattle.clk_sched.proofs.Nodes.InOrder.{IsWithin, packet_of, HasTurnedBy, turned-in-order, in_order-giver, walked-inputs, with_turn-given, after-own}
-use Rattle.clk_sched.proofs.Nodes.Ordered.{IsOrderAt, row-order, can-ask, inputs-asked, had-order}
+use Rattle.clk_sched.proofs.Nodes.Ordered.{item-there, IsOrderAt, row-order, can-ask, inputs-asked, had-order}
 
 -- by what a StrideSched holds, a scheduler of no other class has a turn
 stride-alone : (a b : Nodes) (x : ℕ) (s : Box Passes) (now : State) (got : Option Packet) → ((tickets : List ℕ) → TakesTurn a b x (stride tickets) (Stride s) now got) → (class : Class) → TakesTurn a b x class (Stride s) now got
@@ -39,6 +39,13 @@ pub stride-asks : (table : List Inputs) (x : ℕ) (s : Passes) (order : List ℕ
 stride-asks table x s order fits is p e =
     let here : FitsPasses (length p.each.items) s = subst (λ o. IfSome o (λ (q : Inputs). FitsPasses (length q.each.items) s)) e fits in
     subst (IsOrderOf (length p.each.items)) (sym (is ∙ order-is here.tickets here.turns s here.holds)) (stride-order here.tickets (length p.each.items) here.turns here.inputs_are)
+
+-- The row of such passes is in order.
+pub stride-in_order : (table : List Inputs) (x : ℕ) (s : Passes) → x < length table → FitsAt table x s → AreInOrder s.row.items
+stride-in_order table x s there fits =
+    let place = item-there table x there in
+    let here : FitsPasses (length place.0.each.items) s = subst (λ o. IfSome o (λ (q : Inputs). FitsPasses (length q.each.items) s)) place.1 fits in
+    row-in_order here.tickets here.turns s here.holds
 
 -- what is held after a pull that the input at a place of the row won
 abbrev pub IsWonAt : Passes → Passes → ℕ → Type 0

@@ -1,5 +1,5 @@
 -- The ranks of a StrideSched's inputs, and what a pull does to them.
-use Rattle.std.specs.Prelude.{ℕ, zero, suc, ◌+◌, ◌-◌, ◌<◌, ◌≤◌, ◌==◌, ◌&&◌, ◌||◌, Bool, nat_lt, nat_le, List, [], ◌∷◌, map, ⊤, if◌then◌else◌}
+use Rattle.std.specs.Prelude.{◌≡◌, ℕ, zero, suc, ◌+◌, ◌-◌, ◌<◌, ◌≤◌, ◌==◌, ◌&&◌, ◌||◌, Bool, nat_lt, nat_le, List, [], ◌∷◌, map, ⊤, if◌then◌else◌}
 use Rattle.std.specs.List.{AllByRecursion, AllByRecursion-prop}
 use Rattle.std.specs.Coded.{×_prop, Unit-prop, le_prop}
 use Rattle.clk_sched.specs.declared.session.stride.Rank.{Rank}
@@ -39,9 +39,23 @@ abbrev pub put_rank : Rank → List Rank → List Rank
 put_rank r [] = r ∷ []
 put_rank r (other ∷ others) = if is_up_to r other then r ∷ other ∷ others else other ∷ put_rank r others
 
+-- a rank stands before another by (pass, index), and is another
+abbrev pub IsBefore : Rank → Rank → Type 0
+IsBefore r other = (r.pass ≤ other.pass) × (r.pass ≡ other.pass → r.input < other.input)
+
+-- each rank stands before all after it
+abbrev pub AreInOrder : List Rank → Type 0
+AreInOrder [] = ⊤
+AreInOrder (r ∷ others) = AllByRecursion (IsBefore r) others × AreInOrder others
+
 -- the rank of the same input with another pass
 abbrev pub at_pass : ℕ → Rank → Rank
 at_pass pass r = record { pass = pass; input = r.input }
+
+-- ranks that get this pass, put in their places among others one by one, from the last to the first
+abbrev pub put_each : ℕ → List Rank → List Rank → List Rank
+put_each pass [] others = others
+put_each pass (r ∷ ranks) others = put_rank (at_pass pass r) (put_each pass ranks others)
 
 -- The ranks after a pull that the one at a place won, by the pass that it had and its stride: it and those before it stand
 -- in their new places.

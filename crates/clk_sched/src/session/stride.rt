@@ -1,11 +1,11 @@
 //! The passes of a StrideSched.
 
-ghost use Rattle.std.specs.Prelude.{◌≡◌, ◌≤◌, ◌<◌, ◌+◌, ◌^◌, ◌++◌, ◌∷◌, true, take, drop, length, map, slice_get, Some, IfOk};
+ghost use Rattle.std.specs.Prelude.{◌≡◌, ◌≤◌, ◌<◌, ◌+◌, ◌^◌, ◌++◌, ◌∷◌, List, true, take, drop, length, map, slice_get, Some, IfOk};
 ghost use Rattle.std.specs.List.{All, AllByRecursion, range_with_len};
 ghost use Rattle.clk_packet.specs.Limits.{most_inputs, most_tickets};
 ghost use Rattle.clk_sched.specs.Laws.Stride.{stride_of};
 ghost use Rattle.clk_sched.specs.declared.session.stride.TheConstants.{FAR};
-ghost use Rattle.clk_sched.specs.inside.Ranks.{greatest_stride, IsRankOf, HasRisingPasses, HasRisingPasses-prop, is_up_to, put_rank, after_win, first_pass, taken_from, first_rank, less, inputs_in};
+ghost use Rattle.clk_sched.specs.inside.Ranks.{greatest_stride, IsRankOf, HasRisingPasses, HasRisingPasses-prop, AreInOrder, is_up_to, put_rank, put_each, at_pass, after_win, first_pass, taken_from, first_rank, less, inputs_in};
 
 use crate::ask::Ask;
 use crate::session::nodes::Nodes;
@@ -35,6 +35,16 @@ impl Rank {
     {
         self.pass < other.pass || (self.pass == other.pass && self.input <= other.input)
     }
+
+    /// The same input with another pass.
+    fn at_pass(self, pass: u32) -> Rank
+        ensures { result ≡ at_pass pass self }
+    {
+        Rank {
+            pass,
+            input: self.input,
+        }
+    }
 }
 
 /// The inputs of a StrideSched in rising order of (pass, index), with the stride of each. No pass is more than 65,536 above the least, which
@@ -50,7 +60,7 @@ pub struct Passes {
 }
 
 impl Passes {
-    ghost use Rattle.std.specs.Prelude.{ℕ, [], List, slice_get, IfSome};
+    ghost use Rattle.std.specs.Prelude.{ℕ, [], slice_get, IfSome};
     ghost use Rattle.clk_sched.specs.declared.visit.Visit.{Visit};
     ghost use Rattle.clk_sched.specs.Turns.{Turn, giver};
     ghost use Rattle.clk_sched.specs.inside.Holds.Stride.{HoldsPasses};
@@ -80,8 +90,9 @@ impl Passes {
 
     /// Gives the input at this place of the row, which gave a packet, its stride, and those before it, which had none, the
     /// pass that it had.
-    pub fn won(&mut self, place: usize)
-        requires { place < length self.old.row.items }
+    fn won(&mut self, place: usize)
+        requires place { place < length self.old.row.items }
+        requires order { AreInOrder self.old.row.items }
         ensures holds { (tickets : List ℕ) (turns : List Turn) (t : Turn) → HoldsPasses tickets turns self.old
             → map (λ (v : Visit). v.input) t.visits ≡ take (place + 1) (map (λ (r : Rank). r.input) self.old.row.items)
             → giver t.visits ≡ slice_get (map (λ (r : Rank). r.input) self.old.row.items) place
@@ -186,20 +197,45 @@ fn strides_of(alloc: Global, tickets: &[u32]) -> Result<SmallVec<u32, 4>, AllocE
 fn place_visited(row: &mut [Rank], place: usize, pass: u32, stride: u32)
     requires place { place < length row.old }
     requires fits { pass + stride < 2 ^ 32 }
+    requires order { AreInOrder row.old }
     ensures { row.new ≡ after_win pass stride place row.old }
 {
-    let winner = Rank {
-        pass: pass + stride,
-        input: row[place].input,
-    };
+    let winner = row[place].at_pass(pass + stride);
     put(row, place, winner);
     let mut next = row[place];
+    if stay_in_front(&row[..place], pass, &next) {
+        give_pass(&mut row[..place], pass);
+        return;
+    }
     for idle in (0..place).rev() {
-        let rank = Rank {
-            pass,
-            input: row[idle].input,
-        };
+        let rank = row[idle].at_pass(pass);
         next = put_before(row, idle, rank, next);
+    }
+}
+
+/// Whether these ranks, which are in order, stay in order in front of another when each gets this pass: where all had one pass, the last of
+/// them tells.
+#[inline]
+fn stay_in_front(ranks: &[Rank], pass: u32, next: &Rank) -> bool
+    requires { AreInOrder ranks.now }
+    ensures { result ≡ true → (others : List Rank) → put_each pass ranks.now (next.now ∷ others) ≡ map (at_pass pass) ranks.now ++ next.now ∷ others }
+{
+    match ranks {
+        [] => true,
+        [first, ..] => {
+            let last = ranks[ranks.len() - 1];
+            first.pass == last.pass && last.at_pass(pass).is_up_to(next)
+        }
+    }
+}
+
+/// Gives each of these ranks this pass.
+#[inline]
+fn give_pass(ranks: &mut [Rank], pass: u32)
+    ensures { ranks.new ≡ map (at_pass pass) ranks.old }
+{
+    for rank in ranks.iter_mut() {
+        rank.pass = pass;
     }
 }
 

@@ -25,7 +25,7 @@ use Rattle.clk_sched.proofs.Turns.TurnRoundRobin.{begins, may-first, may-second,
 use Rattle.clk_sched.proofs.Nodes.Logged.{edge-there, queue-answers, keeps-logged, added-logged, asked-logged}
 use Rattle.clk_sched.proofs.Turns.LooksDrr.{answers-held, looks-held, looks-fresh}
 use Rattle.clk_sched.proofs.Turns.TurnDrr.{has-looked, making-first, making-can, making-next, making-passed, making-all, HasEnded, had-ended}
-use Rattle.clk_sched.proofs.Turns.TurnStride.{FitsAt, stride-may, had-won, had-lost}
+use Rattle.clk_sched.proofs.Turns.TurnStride.{FitsAt, stride-in_order, stride-may, had-won, had-lost}
 use Rattle.clk_sched.proofs.Turns.ShaperRow.{below-refused, below-answered, whole-answered, answers-keep, goes-may, goes-room, goes-edges, goes-order, goes-inputs}
 use Rattle.clk_sched.specs.inside.Tokens.{GoesDown}
 use Rattle.clk_sched.specs.inside.Turning.{HasAskedAll, WasPulled}
@@ -369,6 +369,13 @@ stride::Passes::turn-ask_in_order-requires g t c =
     let may = stride-may c.args.nodes.now c.args.node c.args.self.now c.row.result.now c.requires.can_pull c.requires.fits c.row.ensures in
     let less = c.decreases in
     λ κs le. (omega (arith, less), (search, (may.0, may.1)))
+
+pub stride::Passes::turn-won-requires : goal.stride::Passes::turn-won-requires
+stride::Passes::turn-won-requires g t c =
+    record {
+      place = subst (λ row. c.in-Some.place < length row) c.row.ensures (subst (λ o. IfSome o (λ k. k.0 < length c.row.result.now)) c.in-Some.is c.ask_in_order.ensures.place);
+      order = stride-in_order c.args.nodes.now.inputs.items c.args.node c.args.self.now c.requires.can_pull.there c.requires.fits;
+    }
 
 pub stride::Passes::turn-returns-in-Some : goal.stride::Passes::turn-returns-in-Some
 stride::Passes::turn-returns-in-Some g t c =
