@@ -5,6 +5,7 @@ pub(crate) mod departures;
 mod drr;
 mod emitted;
 mod heads;
+mod idle;
 mod inputs;
 pub(crate) mod keeps;
 pub(crate) mod kernel;

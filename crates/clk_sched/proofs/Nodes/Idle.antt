@@ -1,7 +1,8 @@
 -- Inputs of a node that are passed over, since they are queues that have nothing.
-use Rattle.std.proofs.Common.{◌≡◌, ℕ, zero, suc, ◌+◌, ◌-◌, ◌<◌, ◌≤◌, List, [], ◌∷◌, ◌++◌, length, take, drop, get_or, slice_get, Option, Some, None, IsSome, refl, sym, ap, ◌∙◌, subst, arith}
+use Rattle.std.proofs.Common.{ap₂, append-nil, ◌≡◌, ℕ, zero, suc, ◌+◌, ◌-◌, ◌<◌, ◌≤◌, List, [], ◌∷◌, ◌++◌, length, take, drop, get_or, slice_get, Option, Some, None, IsSome, refl, sym, ap, ◌∙◌, subst, arith}
 use Rattle.std.proofs.lemmas.Bool.{false≢true}
 use Rattle.std.proofs.lemmas.List.{take-append-drop}
+use Rattle.std.proofs.lemmas.List.FromFn.{length-range_with_len, get_or-range_with_len}
 use Rattle.clk_packet.specs.Limits.{most_inputs}
 use Rattle.std.specs.List.{AllByRecursion, range_with_len}
 use Rattle.clk_packet.specs.declared.packet.Packet.{Packet}
@@ -12,10 +13,13 @@ use Rattle.clk_sched.specs.declared.session.stride.Rank.{Rank}
 use Rattle.clk_sched.specs.inside.Ranks.{inputs_in}
 use Rattle.clk_sched.specs.inside.Places.{AllFit, AreWired, edges_in, input_at, option_input}
 use Rattle.clk_sched.specs.inside.Pulling.{CanPull, Keeps}
-use Rattle.clk_sched.specs.inside.Turning.{HasAskedAll, IsIdle}
+use Rattle.clk_sched.specs.Log.{asking}
+use Rattle.clk_sched.specs.inside.Looking.{Logs}
+use Rattle.clk_sched.specs.inside.Turning.{with_idle_at, HasAskedAll, IsIdle}
 use Rattle.clk_sched.proofs.Lists.Members.{all-split, some-below}
-use Rattle.clk_sched.proofs.Lists.Ranges.{range-front, range-drop}
-use Rattle.clk_sched.proofs.Nodes.Asking.{IsAsking, asked-vain, can-go_on, edges-append}
+use Rattle.clk_sched.proofs.Lists.Ranges.{range-front, range-drop, range-next}
+use Rattle.clk_sched.proofs.Nodes.Logged.{edge-there, idle-asked}
+use Rattle.clk_sched.proofs.Nodes.Asking.{IsAsking, asking-first, asking-next, asked-vain, can-go_on, edges-append}
 use Rattle.clk_sched.proofs.Nodes.InTwo.{asked-both}
 
 -- an input of so many that are there
@@ -127,3 +131,51 @@ pub asking-front : {S : Type 0} (gives : S → ℕ → Option Packet → S → T
 asking-front gives a b p q x first count k n same l h =
     let front : IsAsking gives a b p q x (range_with_len first n) = subst (IsAsking gives a b p q x) (ap (λ m. take m (range_with_len first count)) same ∙ range-front first count n l) h in
     record { keeps = front.keeps; answers = front.answers; asks = front.asks }
+
+-- each input that is there has an edge
+inputs-edges : (table : List Inputs) (x : ℕ) (order : List ℕ) → AllByRecursion (λ i. IsSome (input_at table x i)) order → length order ≤ edges_in table x order
+inputs-edges table x [] h = omega arith
+inputs-edges table x (i ∷ order) h = let one = edge-there table x i h.0 in let rest = inputs-edges table x order h.1 in omega (arith, one, rest)
+
+-- There is room for a visit of each.
+pub idle-room : (a : Nodes) (x first count : ℕ) → CanPull a x (edges_in a.inputs.items x (range_with_len first count)) → AllByRecursion (λ i. IsSome (input_at a.inputs.items x i)) (range_with_len first count) → count ≤ a.log.spare
+idle-room a x first count can within =
+    let room = can.room in
+    let edges = inputs-edges a.inputs.items x (range_with_len first count) within in
+    let size = length-range_with_len first count in
+    omega (arith, room, edges, size)
+
+-- the visits of no inputs, and of one more
+idle-none : (a : Nodes) (x first : ℕ) → with_idle_at a x first 0 ≡ a
+idle-none a x first =
+    let all : a.log.spare - 0 ≡ a.log.spare = omega arith in
+    ap₂ (λ items spare. record { inputs = a.inputs; states = a.states; log = record { items = items; spare = spare; kind = a.log.kind }; pull = a.pull; moment = a.moment }) (append-nil a.log.items) all
+
+idle-next : (a : Nodes) (x first k : ℕ) → Logs (with_idle_at a x first k) (with_idle_at a x first (k + 1)) (asking a.pull a.moment x (first + k) None)
+idle-next a x first k =
+    let less : a.log.spare - (k + 1) ≡ a.log.spare - k - 1 = omega arith in
+    record {
+      inputs = refl;
+      states = refl;
+      pull = refl;
+      moment = refl;
+      log = ap₂ (λ items spare. record { items = items; spare = spare; kind = a.log.kind }) (sym (range-next (λ i. asking a.pull a.moment x i None) a.log.items first k)) less;
+    }
+
+-- Queues that have nothing needn't be asked: their visits are recorded.
+pub idle-recorded : {S : Type 0} (gives : S → ℕ → Option Packet → S → Type 0) (a : Nodes) (q : S) (x first count : ℕ) → AllFit a.inputs.items a.states.items → ((i : ℕ) → i < count → IsIdle gives a q x (first + i))
+    → HasAskedAll gives a (with_idle_at a x first count) q q x (range_with_len first count) None
+idle-recorded gives a q x first count fit idle = asking-front gives a (with_idle_at a x first count) q q x first count count count refl (omega arith) (so_far count (omega arith))
+  where
+    row : List ℕ
+    row = range_with_len first count
+
+    so_far : (k : ℕ) → k ≤ count → IsAsking gives a (with_idle_at a x first k) q q x (take k row)
+    so_far zero l = subst (λ b. IsAsking gives a b q q x []) (sym (idle-none a x first)) (asking-first gives a q x fit)
+    so_far (suc k) l =
+        let h = so_far k (omega arith) in
+        let here = idle-then gives a (with_idle_at a x first k) q x (first + k) _ h.keeps (idle k (omega arith)) in
+        subst (λ n. IsAsking gives a (with_idle_at a x first n) q q x (take n row)) (let next : k + 1 ≡ suc k = omega arith in next)
+        (asking-next gives a (with_idle_at a x first k) (with_idle_at a x first (k + 1)) q q q x k (first + k) None row (let size = length-range_with_len first count in omega (arith, size)) h
+        (sym (get_or-range_with_len first count k 0 (omega arith))) refl
+        (idle-asked gives (with_idle_at a x first k) (with_idle_at a x first (k + 1)) q x (first + k) here.0 here.1 (idle-next a x first k)))

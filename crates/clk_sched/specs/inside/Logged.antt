@@ -1,6 +1,9 @@
 -- What the log of a session is seen as, whether its visits are kept in memory or not.
-use Rattle.std.specs.Prelude.{ℕ, ◌-◌, Bool, List, [], ◌∷◌, ◌++◌, length}
+use Rattle.std.specs.Prelude.{ℕ, ◌-◌, Bool, List, [], ◌∷◌, ◌++◌, length, map, None}
+use Rattle.std.specs.List.{range_with_len}
 use Rattle.clk_sched.specs.declared.visit.Visit.{Visit}
+use Rattle.clk_sched.specs.declared.session.idle.IdleInputs.{IdleInputs}
+use Rattle.clk_sched.specs.Log.{asking}
 
 -- whether visits are kept, and how many of them were let go of
 pub record Keeping : Type 0 where
@@ -16,6 +19,14 @@ pub record Logged : Type 0 where
 -- a log with one visit more
 abbrev pub with_visit : Logged → Visit → Logged
 with_visit log v = record { items = log.items ++ v ∷ []; spare = log.spare - 1; kind = log.kind }
+
+-- the visits of inputs that gave nothing
+abbrev pub idle_visits : IdleInputs → List Visit
+idle_visits idle = map (λ i. asking idle.pull idle.moment idle.node i None) (range_with_len idle.first idle.count)
+
+-- a log with such visits more
+abbrev pub with_idle : Logged → IdleInputs → Logged
+with_idle log idle = record { items = log.items ++ idle_visits idle; spare = log.spare - idle.count; kind = log.kind }
 
 -- a log that has room for so many visits more
 abbrev pub with_room : Logged → ℕ → Logged

@@ -10,11 +10,17 @@ use Rattle.clk_sched.specs.inside.Holds.OfClass.{Fits}
 use Rattle.clk_sched.specs.Log.{asking}
 use Rattle.clk_sched.specs.Places.{Answers}
 use Rattle.clk_sched.specs.inside.Places.{edges_of, edges_at, edges_in, input_at, queue_asked}
+use Rattle.clk_sched.specs.inside.Logged.{with_idle}
 use Rattle.clk_sched.specs.inside.Pulling.{Keeps, Pulls, AsksAll, TakesTurn, added, now_of, asked_in_order}
 
 -- these nodes, of which one holds this state
 abbrev pub with_state : Nodes → ℕ → State → Nodes
 with_state a x s = record { inputs = a.inputs; states = with_item a.states x s; log = a.log; pull = a.pull; moment = a.moment }
+
+-- these nodes, with the visits of so many inputs of a node from one on, which gave nothing
+abbrev pub with_idle_at : Nodes → ℕ → ℕ → ℕ → Nodes
+with_idle_at a x first count =
+    record { inputs = a.inputs; states = a.states; log = with_idle a.log (record { pull = a.pull; moment = a.moment; node = x; first = first; count = count }); pull = a.pull; moment = a.moment }
 
 -- A node was pulled: what stays, how the queues answered, and what it made of that.
 pub record WasPulled {S : Type 0} (gives : S → ℕ → Option Packet → S → Type 0) (old new : Nodes) (before now : S) (x : ℕ) (got : Option Packet) : Type 0 where

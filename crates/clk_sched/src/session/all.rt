@@ -3,6 +3,7 @@ ghost use Rattle.std.specs.Prelude.{◌≡◌, ℕ, ◌-◌, ◌++◌, List, [],
 ghost use Rattle.std.specs.Borrow.{ftrue};
 ghost use Rattle.clk_sched.specs.declared.visit.Visit.{Visit};
 
+use crate::session::idle::IdleInputs;
 use crate::visit::Visit;
 use std::marker::Model;
 
@@ -22,6 +23,9 @@ impl Model for AllVisits {
 }
 
 impl AllVisits {
+    ghost use Rattle.std.specs.Prelude.{◌<◌, ◌+◌, ◌^◌};
+    ghost use Rattle.clk_sched.specs.inside.Logged.{idle_visits};
+
     /// No visits so far, and room for none.
     pub fn none() -> AllVisits
         ensures { result ≡ record { items = []; spare = 0; gone = 0 } }
@@ -33,6 +37,18 @@ impl AllVisits {
     pub fn push(&mut self, visit: &Visit)
         ensures { self.new ≡ record { items = self.old.items ++ visit.now ∷ []; spare = self.old.spare - 1; gone = self.old.gone } }
     {}
+
+    /// Adds the visits of inputs that gave nothing.
+    // Nothing is left of the loop when it runs.
+    #[inline]
+    pub fn push_idle(&mut self, idle: &IdleInputs)
+        requires { idle.now.first + idle.now.count < 2 ^ 16 }
+        ensures { self.new ≡ record { items = self.old.items ++ idle_visits idle.now; spare = self.old.spare - idle.now.count; gone = self.old.gone } }
+    {
+        for place in 0..idle.count {
+            self.push(&idle.visit(place));
+        }
+    }
 
     /// There is room for so many visits more.
     pub fn make_room(&mut self, visits: &usize)

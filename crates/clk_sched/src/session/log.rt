@@ -1,6 +1,11 @@
 //! The log of a session: every visit so far, kept in memory or not.
 
+ghost use Rattle.std.specs.Prelude.{◌≡◌, ◌+◌, ◌≤◌, ◌<◌, ◌^◌, ◌++◌};
+ghost use Rattle.std.specs.Vec.{vec_len, vec_capacity};
+ghost use Rattle.clk_sched.specs.inside.Logged.{idle_visits};
+
 use crate::session::all::AllVisits;
+use crate::session::idle::IdleInputs;
 use crate::visit::Visit;
 use std::alloc::{AllocError, Global};
 use std::marker::Model;
@@ -28,7 +33,7 @@ impl Model for Log {
 
 impl Log {
     ghost use Rattle.std.specs.Prelude.{◌≡◌, ◌+◌, ◌^◌, ◌<◌, ◌≤◌, true, false, [], drop, length, OnOk, OnErr, IsOk};
-    ghost use Rattle.clk_sched.specs.inside.Logged.{with_visit, with_room, with_none};
+    ghost use Rattle.clk_sched.specs.inside.Logged.{with_visit, with_idle, with_room, with_none};
 
     /// No visits so far, of which each will be kept, or none.
     pub fn new(alloc: Global, keeps: bool) -> Log
@@ -80,6 +85,19 @@ impl Log {
         self.all.push(&visit);
     }
 
+    /// Adds the visits of inputs that gave nothing, for which there is room.
+    #[inline]
+    pub fn push_idle(&mut self, idle: &IdleInputs)
+        requires room { idle.now.count ≤ self.old.spare }
+        requires within { idle.now.first + idle.now.count < 2 ^ 16 }
+        ensures { self.new ≡ with_idle self.old idle.now }
+    {
+        if self.keeps {
+            keep_idle(&mut self.kept, idle);
+        }
+        self.all.push_idle(idle);
+    }
+
     /// Lets go of the visits so far, and keeps the memory that they took for those to come.
     pub fn let_go(&mut self)
         ensures { self.new ≡ with_none self.old }
@@ -101,5 +119,18 @@ impl Log {
     {
         let Log { kept, .. } = self;
         kept
+    }
+}
+
+/// Keeps the visits of inputs that gave nothing, for which there is room.
+fn keep_idle(kept: &mut Vec<Visit>, idle: &IdleInputs)
+    requires room { vec_len kept.old + idle.now.count ≤ vec_capacity kept.old }
+    requires within { idle.now.first + idle.now.count < 2 ^ 16 }
+    ensures items { kept.new.items ≡ kept.old.items ++ idle_visits idle.now }
+    ensures len { vec_len kept.new ≡ vec_len kept.old + idle.now.count }
+    ensures capacity { vec_capacity kept.new ≡ vec_capacity kept.old }
+{
+    for place in 0..idle.count {
+        kept.push_reserved(idle.visit(place));
     }
 }

@@ -2,6 +2,7 @@
 
 use crate::ask::Ask;
 use crate::session::drr::Deficits;
+use crate::session::idle::IdleInputs;
 use crate::session::inputs::{Input, Inputs};
 use crate::session::log::Log;
 use crate::session::prio::pull_prio;
@@ -43,7 +44,7 @@ impl Nodes {
     ghost use Rattle.clk_sched.specs.inside.Looking.{Logs};
     ghost use Rattle.clk_sched.specs.inside.Pulling.{CanPull, Keeps, Asks, added};
     ghost use Rattle.clk_sched.specs.inside.Ranks.{inputs_in};
-    ghost use Rattle.clk_sched.specs.inside.Turning.{with_state, HasAsked, HasAskedAll, IsIdle, WasPulled};
+    ghost use Rattle.clk_sched.specs.inside.Turning.{with_state, with_idle_at, HasAsked, HasAskedAll, IsIdle, WasPulled};
 
     /// Pulls a node, as its class does, and answers its result.
     #[cycle(pull)]
@@ -184,9 +185,7 @@ impl Nodes {
         ensures asked { HasAskedAll Q.gives self.old self.new q.now q.now node (range_with_len first result) None }
     {
         let idle = self.idle_from(q, node, first, count);
-        for place in 0..idle {
-            self.record(node, first + place, None);
-        }
+        self.record_idle(node, first, idle);
         idle
     }
 
@@ -226,6 +225,22 @@ impl Nodes {
     {
         self.log
             .push(Visit::asking(self.pull, self.moment, node, input, got));
+    }
+
+    /// Records that so many inputs of a node from this one on were asked, and gave nothing.
+    #[inline]
+    fn record_idle(&mut self, node: u16, first: u16, count: u16)
+        requires room { count ≤ self.old.log.spare }
+        requires few { first + count ≤ most_inputs }
+        ensures { self.new ≡ with_idle_at self.old node first count }
+    {
+        self.log.push_idle(&IdleInputs {
+            pull: self.pull,
+            moment: self.moment,
+            node,
+            first,
+            count,
+        });
     }
 
     /// Asks what stands at an input of a node.
