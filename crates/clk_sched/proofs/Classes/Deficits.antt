@@ -16,6 +16,7 @@ use Rattle.clk_sched.specs.Heads.{head_at, is_covered}
 use Rattle.clk_sched.specs.Laws.Deficit.{next_input, arrives, arrivals, bytes_of, passed_bytes, quantum_at, deficit_covers}
 use Rattle.clk_sched.specs.inside.Holds.Served.{AreQuantaWithin, AreDeficitsWithin, waiting, with_quantum, covers, settled}
 use Rattle.clk_sched.specs.inside.Holds.Deficit.{HoldsInput, ahead_at, HoldsDeficits}
+use Rattle.clk_sched.specs.inside.Looking.{IsHead}
 use Rattle.clk_sched.proofs.Lists.Numbers.{equal, differs}
 
 -- what is read at a place, as the code reads it
@@ -229,6 +230,10 @@ at-cursor : (quanta : List ℕ) (inputs : ℕ) (before : List Visit) (d : Defici
 at-cursor quanta inputs before d s h e =
     let turn = next_input inputs before in
     subst (λ n. HoldsInput quanta before n turn s) (ap (λ b. if b then arrives before else 0) (equal turn turn refl)) (h.each turn s (subst (λ k. slice_get d.row.items k ≡ Some s) h.cursor_is e))
+
+-- the head held there is that of the visits before
+pub head-held : (quanta : List ℕ) (inputs : ℕ) (before : List Visit) (d : Deficits) (head : Option Packet) → IsHead d head → HoldsDeficits quanta inputs before d → head ≡ head_at (next_input inputs before) before
+head-held quanta inputs before d head is h = let s = read-some d.row.items d.cursor d.cursor_within in sym (is s.0 s.1) ∙ (at-cursor quanta inputs before d s.0 h s.1).head_is
 
 pub deficits-cover : (quanta : List ℕ) (inputs : ℕ) (before : List Visit) (d : Deficits) (s : Served) (got : Option Packet) → HoldsDeficits quanta inputs before d → slice_get d.row.items d.cursor ≡ Some s
     → covers s got ≡ is_covered (deficit_covers quanta before (next_input inputs before)) got

@@ -1,5 +1,5 @@
 -- The turn of a DRRSched, visit by visit.
-use Rattle.std.proofs.Common.{◌≡◌, ◌≢◌, ℕ, zero, suc, ◌+◌, ◌%◌, ◌<◌, Bool, true, false, if◌then◌else◌, List, [], ◌∷◌, ◌++◌, length, map, slice_get, Option, Some, None, IsSome, IfSome, MatchBool, inl, inr, refl, sym, ap, ◌∙◌, subst, arith}
+use Rattle.std.proofs.Common.{◌≡◌, ◌≢◌, ℕ, zero, suc, ◌+◌, ◌-◌, ◌%◌, ◌<◌, ◌≤◌, Bool, true, false, if◌then◌else◌, List, [], ◌∷◌, ◌++◌, length, map, slice_get, Option, Some, None, IsSome, IfSome, MatchBool, inl, inr, refl, sym, ap, ◌∙◌, subst, mod-eq_of_lt, arith}
 use Rattle.std.specs.List.{AllByRecursion}
 use Rattle.std.proofs.lemmas.List.{map-append, length-append}
 use Rattle.std.specs.Global.{Box}
@@ -19,14 +19,15 @@ use Rattle.clk_sched.specs.inside.Holds.Deficit.{HoldsDeficits}
 use Rattle.clk_sched.specs.Places.{Answers}
 use Rattle.clk_sched.specs.inside.Places.{AllFit, edges_of, edges_at, edges_in, input_at, queue_asked}
 use Rattle.clk_sched.specs.inside.Pulling.{AreApart, input_of, CanPull, Keeps, AsksAll, GoesOnBy, IsUnasked, added, now_of, with_turn, TakesTurn}
-use Rattle.clk_sched.specs.inside.Looking.{Looks}
-use Rattle.clk_sched.specs.inside.Turning.{HadTurn}
+use Rattle.clk_sched.specs.inside.Looking.{LooksAt, AreIdleAhead}
+use Rattle.clk_sched.specs.inside.Turning.{HadTurn, IsIdle}
 use Rattle.clk_packet.specs.Lists.{In}
 use Rattle.clk_sched.proofs.Lists.Members.{to-all, all-append, all-weaker}
 use Rattle.clk_sched.proofs.Runs.Allowed.{onto, onto-append, each-join}
 use Rattle.clk_sched.proofs.Lists.Apart.{apart-map}
 use Rattle.clk_sched.proofs.Classes.Orders.{IsPlace, first-place, next-place, beyond-differs}
 use Rattle.clk_sched.proofs.Nodes.Pulling.{pulling-first, pulling-own}
+use Rattle.clk_sched.proofs.Nodes.Idle.{idle-then}
 use Rattle.clk_sched.proofs.Nodes.Asking.{added-none, added-then, keeps-then, keeps-none, can-go_on, answers-then, edges-append, asks-then, asks-none}
 use Rattle.clk_sched.proofs.Nodes.Ordered.{item-there, stands-width, can-order, order-there, keeps-order}
 
@@ -44,16 +45,16 @@ pub record HasLooked {S : Type 0} (gives : S → ℕ → Option Packet → S →
   pub lawful : (quanta : List ℕ) (inputs : ℕ) (earlier : List Visit) → HoldsDeficits quanta inputs earlier mid → LooksAtHeads (next_input inputs) (deficit_covers quanta) earlier v
   pub holds : (quanta : List ℕ) (inputs : ℕ) (earlier : List Visit) → HoldsDeficits quanta inputs earlier mid → HoldsDeficits quanta inputs (v ∷ earlier) last
 
-pub has-looked : {S : Type 0} (gives : S → ℕ → Option Packet → S → Type 0) (b c : Nodes) (q r : S) (x : ℕ) (mid last : Deficits) (got : Option Packet) (passed : Bool) → Keeps b c (edges_at b.inputs.items x mid.cursor)
-    → Answers gives (queue_asked b.inputs.items) q (added b c) r → length last.row.items ≡ length mid.row.items → (l : Looks b c x mid last got passed) → HasLooked gives b c q r x mid last l.visit
-has-looked gives b c q r x mid last got passed keeps answers long l =
+pub has-looked : {S : Type 0} (gives : S → ℕ → Option Packet → S → Type 0) (b c : Nodes) (q r : S) (x : ℕ) (mid last : Deficits) (got : Option Packet) (passed : Bool) (l : LooksAt gives b c q r x mid last got passed)
+    → HasLooked gives b c q r x mid last l.looks.visit
+has-looked gives b c q r x mid last got passed l =
     record {
-      keeps = subst (λ i. Keeps b c (edges_at b.inputs.items x i)) (sym l.input) keeps;
-      answers = answers;
-      asks = subst (λ i. AsksAll b c x (i ∷ []) (l.visit ∷ [])) (sym l.input) l.asks;
-      length_is = long;
-      lawful = l.lawful;
-      holds = l.holds;
+      keeps = subst (λ i. Keeps b c (edges_at b.inputs.items x i)) (sym l.looks.input) l.keeps;
+      answers = l.answers;
+      asks = subst (λ i. AsksAll b c x (i ∷ []) (l.looks.visit ∷ [])) (sym l.looks.input) l.looks.asks;
+      length_is = l.length_is;
+      lawful = l.looks.lawful;
+      holds = l.looks.holds;
     }
 
 -- A DRRSched made these visits of its own, to inputs of which it names none twice.
@@ -200,18 +201,18 @@ pub making-more : {S : Type 0} (gives : S → ℕ → Option Packet → S → Ty
 making-more gives a b c p q r x first mid last count v h l at k =
     made-then gives a b c p q r x first mid last h.own v h.made (subst (λ i. i < length first.row.items) (sym at) h.next.within) (making-new gives a b p q x first mid count h l v.input at) k
 
-pub making-next : {S : Type 0} (gives : S → ℕ → Option Packet → S → Type 0) (a b c : Nodes) (p q r : S) (x : ℕ) (first mid last : Deficits) (count : ℕ) (v : Visit) → IsMaking gives a b p q x first mid count
-    → count < length first.row.items → v.input ≡ mid.cursor → HasLooked gives b c q r x mid last v → v.passed ≡ false → last.cursor ≡ (mid.cursor + 1) % length mid.row.items → IsMaking gives a c p r x first last (count + 1)
-making-next gives a b c p q r x first mid last count v h l at k passed moves =
+pub making-next : {S : Type 0} (gives : S → ℕ → Option Packet → S → Type 0) (a b c : Nodes) (p q r : S) (x : ℕ) (first mid last : Deficits) (count : ℕ) (got : Option Packet) (passed : Bool) → IsMaking gives a b p q x first mid count
+    → count < length first.row.items → LooksAt gives b c q r x mid last got passed → passed ≡ false → IsMaking gives a c p r x first last (count + 1)
+making-next gives a b c p q r x first mid last count got passed h l look vain =
     record {
       own = h.own ++ v ∷ [];
-      made = making-more gives a b c p q r x first mid last count v h l at k;
+      made = making-more gives a b c p q r x first mid last count v h l at (has-looked gives b c q r x mid last got passed look);
       count_is = length-append h.own (v ∷ []) ∙ ap (λ m. m + 1) h.count_is;
-      vain = all-append (λ (u : Visit). u.passed ≡ false) h.own (v ∷ []) h.vain (passed, tt);
+      vain = all-append (λ (u : Visit). u.passed ≡ false) h.own (v ∷ []) h.vain (look.looks.passes ∙ vain, tt);
       around = all-append (IsAround n s (count + 1)) h.own (v ∷ [])
           (all-weaker (IsAround n s count) (IsAround n s (count + 1)) h.own (λ u k. record { places = k.places; below = (let m = k.below in omega arith); place = k.place }) h.around)
           (record { places = count; below = omega arith; place = subst (IsPlace n s count) (sym at) h.next }, tt);
-      next = subst (IsPlace n s (count + 1)) (sym (moves ∙ ap (λ m. (mid.cursor + 1) % m) h.made.length_is)) (next-place n s count mid.cursor first.cursor_within l h.next);
+      next = subst (IsPlace n s (count + 1)) (sym (look.moves vain ∙ ap (λ m. (mid.cursor + 1) % m) h.made.length_is)) (next-place n s count mid.cursor first.cursor_within l h.next);
     }
   where
     n : ℕ
@@ -219,6 +220,39 @@ making-next gives a b c p q r x first mid last count v h l at k passed moves =
 
     s : ℕ
     s = first.cursor
+
+    v : Visit
+    v = look.looks.visit
+
+    at : v.input ≡ mid.cursor
+    at = look.looks.input
+
+-- those that are left once the first of idle inputs was passed over
+pub idle-behind : {S : Type 0} (gives : S → ℕ → Option Packet → S → Type 0) (b c : Nodes) (q : S) (x : ℕ) (mid last : Deficits) (idle : ℕ) → AreIdleAhead gives b q x mid idle → 0 < idle
+    → LooksAt gives b c q q x mid last None false → AreIdleAhead gives c q x last (idle - 1)
+idle-behind gives b c q x mid last idle h some look = by_rest (idle - 1) refl
+  where
+    next_is : 1 < idle → last.cursor ≡ mid.cursor + 1
+    next_is many = look.moves refl ∙ mod-eq_of_lt (let inside = h.within in omega (arith, many, inside))
+
+    by_rest : (n : ℕ) → idle - 1 ≡ n → AreIdleAhead gives c q x last n
+    by_rest zero e = record { within = (let below = last.cursor_within in omega (arith, below)); each = λ i none. absurd (omega (arith, none)) }
+    by_rest (suc n) e =
+        let many : 1 < idle = omega (arith, e) in
+        let next = next_is many in
+        let inside = h.within in
+        let long = look.length_is in
+        record {
+          within = omega (arith, e, next, inside, long);
+          each = λ i l.
+              let same : mid.cursor + (i + 1) ≡ last.cursor + i = omega (arith, next) in
+              subst (λ j. IsIdle gives c q x j) same (idle-then gives b c q x (mid.cursor + (i + 1)) _ look.keeps (h.each (i + 1) (omega (arith, l, e)))).1;
+        }
+
+-- the row of inputs fits as before
+pub row-still : (table more : List Inputs) (x : ℕ) (d later : Deficits) → more ≡ table → length later.row.items ≡ length d.row.items → RowFits table x d → RowFits more x later
+row-still table more x d later same long fits =
+    subst (λ t. IfSome (slice_get t x) (λ (p : Inputs). length later.row.items ≡ length p.each.items)) (sym same) (subst (λ n. IfSome (slice_get table x) (λ (p : Inputs). n ≡ length p.each.items)) (sym long) fits)
 
 -- how the visits end, and their result
 end-passed : (n : ℕ) (own : List Visit) (v : Visit) → AllByRecursion (λ (u : Visit). u.passed ≡ false) own → length own < n → v.passed ≡ true → EndAtPass n (own ++ v ∷ [])
@@ -245,15 +279,28 @@ pub record HasEnded {S : Type 0} (gives : S → ℕ → Option Packet → S → 
   pub end : EndAtPass (length first.row.items) own
   pub result : got ≡ result_of own
 
-pub making-passed : {S : Type 0} (gives : S → ℕ → Option Packet → S → Type 0) (a b c : Nodes) (p q r : S) (x : ℕ) (first mid last : Deficits) (count : ℕ) (v : Visit) → IsMaking gives a b p q x first mid count
-    → count < length first.row.items → v.input ≡ mid.cursor → HasLooked gives b c q r x mid last v → v.passed ≡ true → HasEnded gives a c p r x first last v.got
-making-passed gives a b c p q r x first mid last count v h l at k passed =
+-- an input is left to be looked at, and one to be passed over
+pub looks-below : (d : Deficits) (looks count : ℕ) → looks < count → count ≡ length d.row.items → looks < length d.row.items
+looks-below d looks count below all = omega (arith, below, all)
+
+pub passing-below : (d : Deficits) (looks idle count : ℕ) → count ≡ length d.row.items → looks + idle ≤ count → 0 < idle → looks < length d.row.items
+passing-below d looks idle count all left some = omega (arith, all, left, some)
+
+pub first-idle : {S : Type 0} (gives : S → ℕ → Option Packet → S → Type 0) (n : Nodes) (q : S) (x : ℕ) (d : Deficits) (idle : ℕ) → AreIdleAhead gives n q x d idle → 0 < idle → IsIdle gives n q x d.cursor
+first-idle gives n q x d idle h some = let here : d.cursor + 0 ≡ d.cursor = omega arith in subst (λ i. IsIdle gives n q x i) here (h.each 0 some)
+
+pub making-passed : {S : Type 0} (gives : S → ℕ → Option Packet → S → Type 0) (a b c : Nodes) (p q r : S) (x : ℕ) (first mid last : Deficits) (count : ℕ) (got : Option Packet) (passed : Bool) → IsMaking gives a b p q x first mid count
+    → count < length first.row.items → LooksAt gives b c q r x mid last got passed → passed ≡ true → HasEnded gives a c p r x first last got
+making-passed gives a b c p q r x first mid last count got passed h l look is =
     record {
       own = h.own ++ v ∷ [];
-      made = making-more gives a b c p q r x first mid last count v h l at k;
-      end = end-passed (length first.row.items) h.own v h.vain (let e = h.count_is in omega (arith, e)) passed;
-      result = sym (result-passed h.own v h.vain passed);
+      made = making-more gives a b c p q r x first mid last count v h l look.looks.input (has-looked gives b c q r x mid last got passed look);
+      end = end-passed (length first.row.items) h.own v h.vain (let e = h.count_is in omega (arith, e)) (look.looks.passes ∙ is);
+      result = sym (result-passed h.own v h.vain (look.looks.passes ∙ is) ∙ look.looks.gets);
     }
+  where
+    v : Visit
+    v = look.looks.visit
 
 pub making-all : {S : Type 0} (gives : S → ℕ → Option Packet → S → Type 0) (a b : Nodes) (p q : S) (x : ℕ) (first last : Deficits) (count : ℕ) → IsMaking gives a b p q x first last count
     → count ≡ length first.row.items → HasEnded gives a b p q x first last None

@@ -1,5 +1,5 @@
 -- What a scheduler that holds heads does at one of its inputs.
-use Rattle.std.specs.Prelude.{◌≡◌, ℕ, ◌+◌, ◌%◌, Bool, false, List, [], ◌∷◌, length, Option, Some, slice_get}
+use Rattle.std.specs.Prelude.{◌≡◌, ℕ, ◌+◌, ◌%◌, ◌<◌, ◌≤◌, Bool, false, List, [], ◌∷◌, length, Option, Some, None, slice_get}
 use Rattle.clk_packet.specs.declared.packet.Packet.{Packet}
 use Rattle.clk_sched.specs.declared.visit.Visit.{Visit}
 use Rattle.clk_sched.specs.declared.session.drr.Deficits.{Deficits}
@@ -9,7 +9,10 @@ use Rattle.clk_sched.specs.inside.Logged.{with_visit}
 use Rattle.clk_sched.specs.Heads.{LooksAtHeads, is_covered}
 use Rattle.clk_sched.specs.Laws.Deficit.{next_input, deficit_covers}
 use Rattle.clk_sched.specs.inside.Holds.Deficit.{HoldsDeficits}
-use Rattle.clk_sched.specs.inside.Pulling.{AsksAll}
+use Rattle.clk_sched.specs.Places.{Answers}
+use Rattle.clk_sched.specs.inside.Places.{edges_at, queue_asked}
+use Rattle.clk_sched.specs.inside.Pulling.{AsksAll, Keeps, added}
+use Rattle.clk_sched.specs.inside.Turning.{IsIdle}
 
 -- a visit of a node in the pull that nodes are in
 abbrev pub looking : Nodes → ℕ → ℕ → Option Packet → Bool → Bool → Visit
@@ -31,6 +34,7 @@ IsHead d head = (s : Served) → slice_get d.row.items d.cursor ≡ Some s → s
 pub record Settles (old new : Deficits) (got : Option Packet) (passed : Bool) : Type 0 where
   pub length_is : length new.row.items ≡ length old.row.items
   pub moves : passed ≡ false → new.cursor ≡ (old.cursor + 1) % length old.row.items
+  pub in_vain : got ≡ None → passed ≡ false
   pub covered : (quanta : List ℕ) (inputs : ℕ) (before : List Visit) → HoldsDeficits quanta inputs before old → passed ≡ is_covered (deficit_covers quanta before (next_input inputs before)) got
   pub holds : (quanta : List ℕ) (inputs : ℕ) (before : List Visit) (v : Visit) → HoldsDeficits quanta inputs before old → v.input ≡ next_input inputs before → v.got ≡ got → v.passed ≡ passed
       → HoldsDeficits quanta inputs (v ∷ before) new
@@ -44,3 +48,16 @@ pub record Looks (old new : Nodes) (x : ℕ) (before after : Deficits) (got : Op
   pub asks : AsksAll old new x (before.cursor ∷ []) (visit ∷ [])
   pub lawful : (quanta : List ℕ) (inputs : ℕ) (earlier : List Visit) → HoldsDeficits quanta inputs earlier before → LooksAtHeads (next_input inputs) (deficit_covers quanta) earlier visit
   pub holds : (quanta : List ℕ) (inputs : ℕ) (earlier : List Visit) → HoldsDeficits quanta inputs earlier before → HoldsDeficits quanta inputs (visit ∷ earlier) after
+
+-- A DRRSched at node x looked at the input whose turn it was: what stays, how the queues answered, and what it made of that.
+pub record LooksAt {S : Type 0} (gives : S → ℕ → Option Packet → S → Type 0) (old new : Nodes) (before now : S) (x : ℕ) (held holds : Deficits) (got : Option Packet) (passed : Bool) : Type 0 where
+  pub keeps : Keeps old new (edges_at old.inputs.items x held.cursor)
+  pub answers : Answers gives (queue_asked old.inputs.items) before (added old new) now
+  pub length_is : length holds.row.items ≡ length held.row.items
+  pub moves : passed ≡ false → holds.cursor ≡ (held.cursor + 1) % length held.row.items
+  pub looks : Looks old new x held holds got passed
+
+-- From the one whose turn it is on so many inputs of a DRRSched are idle.
+pub record AreIdleAhead {S : Type 0} (gives : S → ℕ → Option Packet → S → Type 0) (n : Nodes) (q : S) (x : ℕ) (d : Deficits) (idle : ℕ) : Type 0 where
+  pub within : d.cursor + idle ≤ length d.row.items
+  pub each : (i : ℕ) → i < idle → IsIdle gives n q x (d.cursor + i)

@@ -1,13 +1,13 @@
 //! The heads, deficits and cursor of a DRRSched.
 
-ghost use Rattle.std.specs.Prelude.{◌≡◌, ◌+◌, ◌^◌, ◌<◌, ◌≤◌, false, length, map, slice_get, slice_set, Some, IfOk};
+ghost use Rattle.std.specs.Prelude.{◌≡◌, ◌+◌, ◌^◌, ◌<◌, ◌≤◌, false, length, map, slice_get, slice_set, Some, None, IfOk};
 ghost use Rattle.clk_packet.specs.Limits.{most_inputs, most_quantum};
 ghost use Rattle.clk_sched.specs.inside.Holds.Served.{AreQuantaWithin, AreDeficitsWithin, waiting, with_quantum};
 ghost use Rattle.clk_sched.specs.declared.session.drr.Served.{Served};
 
 use crate::ask::Ask;
 use crate::session::inputs::input_after;
-use crate::session::nodes::Nodes;
+use crate::session::nodes::{MANY, Nodes};
 use crate::session::state::State;
 use crate::visit::Visit;
 use clk_packet::Packet;
@@ -91,10 +91,10 @@ impl Deficits {
     ghost use Rattle.clk_sched.specs.declared.session.drr.Deficits.{Deficits};
     ghost use Rattle.clk_sched.specs.Places.{Answers};
     ghost use Rattle.clk_sched.specs.inside.Places.{edges_of, edges_at, input_at, queue_asked};
-    ghost use Rattle.clk_sched.specs.inside.Pulling.{CanPull, Keeps, added};
-    ghost use Rattle.clk_sched.specs.inside.Turning.{WasPulled, HadTurn};
+    ghost use Rattle.clk_sched.specs.inside.Pulling.{CanPull};
+    ghost use Rattle.clk_sched.specs.inside.Turning.{WasPulled, HadTurn, IsIdle};
     ghost use Rattle.clk_sched.specs.inside.Holds.OfClass.{IsDrr};
-    ghost use Rattle.clk_sched.specs.inside.Looking.{looking, IsHead, Logs, Settles, Looks};
+    ghost use Rattle.clk_sched.specs.inside.Looking.{looking, IsHead, Logs, Settles, LooksAt, AreIdleAhead};
     ghost use Rattle.clk_sched.specs.declared.session.state.State.TheVariants.{Drr};
 
     /// What a DRRSched with these quanta, one for each input, holds before its first visit.
@@ -130,6 +130,7 @@ impl Deficits {
 
     /// Takes what was got at the input whose turn it is, by asking (fresh) or as its head, and answers whether it is passed. If not, the
     /// turn moves on.
+    #[inline]
     fn settle(&mut self, got: Option<Packet>, fresh: bool) -> bool
         requires { fresh ≡ false → IsHead self.old got }
         ensures holds { (quanta : List ℕ) (inputs : ℕ) (before : List Visit) (v : Visit) → HoldsDeficits quanta inputs before self.old → v.input ≡ next_input inputs before
@@ -138,6 +139,7 @@ impl Deficits {
             → result ≡ is_covered (deficit_covers quanta before (next_input inputs before)) got }
         ensures length { length self.new.row.items ≡ length self.old.row.items }
         ensures moves { result ≡ false → self.new.cursor ≡ (self.old.cursor + 1) % length self.old.row.items }
+        ensures in_vain { got ≡ None → result ≡ false }
     {
         let row = self.row.as_mut_slice();
         let passed = row[usize::from(self.cursor)].settle(got, fresh);
@@ -170,37 +172,103 @@ impl Deficits {
         requires fits { IfSome (slice_get nodes.old.inputs.items node) (λ p. length self.old.row.items ≡ length p.each.items) }
         ensures { (held holds : Box Deficits) → held.value ≡ self.old → holds.value ≡ self.new → HadTurn Q.gives nodes.old nodes.new q.old q.new node (Drr held) (Drr holds) result }
     {
-        for _ in 0..self.row.len() {
-            let (got, passed) = self.look(nodes, q, node);
-            if passed {
-                return got;
+        let inputs = self.row.len() as u16;
+        let mut looks = 0;
+        while looks < inputs {
+            let head = self.head();
+            match head {
+                Some(_) => {
+                    if self.look_at_head(nodes, q, node, head) {
+                        return head;
+                    }
+                    looks += 1;
+                }
+                None => {
+                    let (got, passed) = self.look_by_asking(nodes, q, node);
+                    if passed {
+                        return got;
+                    }
+                    looks += 1;
+                    if got.is_none() {
+                        let mut idle = self.idle_ahead(nodes, q, node, inputs - looks);
+                        while idle > 0 && self.head().is_none() {
+                            self.pass_over(nodes, q, node);
+                            looks += 1;
+                            idle -= 1;
+                        }
+                    }
+                }
             }
         }
         None
     }
 
-    /// Looks at the input whose turn it is, at its head or by asking, and answers what was got and whether it is passed.
-    #[cycle(pull)]
-    fn look<Q: Ask>(&mut self, nodes: &mut Nodes, q: &mut Q, node: u16) -> (Option<Packet>, bool)
+    /// Looks at the head that is held at the input whose turn it is, and answers whether it is passed.
+    #[inline]
+    fn look_at_head<Q: Ask>(
+        &mut self,
+        nodes: &mut Nodes,
+        q: &Q,
+        node: u16,
+        head: Option<Packet>,
+    ) -> bool
         requires can_pull { CanPull nodes.old node (edges_at nodes.old.inputs.items node self.old.cursor) }
         requires within { IsSome (input_at nodes.old.inputs.items node self.old.cursor) }
-        ensures keeps { Keeps nodes.old nodes.new (edges_at nodes.old.inputs.items node self.old.cursor) }
-        ensures answers { Answers Q.gives (queue_asked nodes.old.inputs.items) q.old (added nodes.old nodes.new) q.new }
-        ensures length { length self.new.row.items ≡ length self.old.row.items }
-        ensures moves { result.1 ≡ false → self.new.cursor ≡ (self.old.cursor + 1) % length self.old.row.items }
-        ensures looks { Looks nodes.old nodes.new node self.old self.new result.0 result.1 }
+        requires held { IsHead self.old head }
+        requires some { IsSome head }
+        ensures { LooksAt Q.gives nodes.old nodes.new q.now q.now node self.old self.new head result }
     {
-        let head = self.head();
-        match head {
-            Some(_) => (head, self.visit(nodes, node, head, false)),
-            None => {
-                let got = nodes.ask(q, node, self.cursor);
-                (got, self.visit(nodes, node, got, true))
-            }
+        self.visit(nodes, node, head, false)
+    }
+
+    /// Looks at the input whose turn it is, where no head is held, by asking. It answers what was got and whether it is passed.
+    #[cycle(pull)]
+    #[inline]
+    fn look_by_asking<Q: Ask>(
+        &mut self,
+        nodes: &mut Nodes,
+        q: &mut Q,
+        node: u16,
+    ) -> (Option<Packet>, bool)
+        requires can_pull { CanPull nodes.old node (edges_at nodes.old.inputs.items node self.old.cursor) }
+        requires within { IsSome (input_at nodes.old.inputs.items node self.old.cursor) }
+        requires none_held { IsHead self.old None }
+        ensures { LooksAt Q.gives nodes.old nodes.new q.old q.new node self.old self.new result.0 result.1 }
+    {
+        let got = nodes.ask(q, node, self.cursor);
+        (got, self.visit(nodes, node, got, true))
+    }
+
+    /// How many inputs from the one whose turn it is on, of so many at most and with none left out, are queues of which it is known that they
+    /// have nothing; and 0 where so few are left that they are sooner asked.
+    #[inline]
+    fn idle_ahead<Q: Ask>(&self, nodes: &Nodes, q: &Q, node: u16, count: u16) -> u16
+        requires there { node < length nodes.now.inputs.items }
+        requires fits { IfSome (slice_get nodes.now.inputs.items node) (λ p. length self.now.row.items ≡ length p.each.items) }
+        ensures few { result ≤ count }
+        ensures ahead { AreIdleAhead Q.gives nodes.now q.now node self.now result }
+    {
+        let left = (self.row.len() as u16 - self.cursor).min(count);
+        if left < MANY {
+            return 0;
         }
+        nodes.idle_from(q, node, self.cursor, left)
+    }
+
+    /// Passes over the input whose turn it is, where no head is held and it is known to be a queue that has nothing: it is visited as if it had
+    /// been asked.
+    #[inline]
+    fn pass_over<Q: Ask>(&mut self, nodes: &mut Nodes, q: &Q, node: u16)
+        requires can_pull { CanPull nodes.old node (edges_at nodes.old.inputs.items node self.old.cursor) }
+        requires none_held { IsHead self.old None }
+        requires idle { IsIdle Q.gives nodes.old q.now node self.old.cursor }
+        ensures { LooksAt Q.gives nodes.old nodes.new q.now q.now node self.old self.new None false }
+    {
+        self.visit(nodes, node, None, true);
     }
 
     // Takes what was got at the input whose turn it is, by asking (fresh) or as its head, records the visit, and answers whether it is passed.
+    #[inline]
     fn visit(&mut self, nodes: &mut Nodes, node: u16, got: Option<Packet>, fresh: bool) -> bool
         requires room { 1 ≤ nodes.old.log.spare }
         requires held { fresh ≡ false → IsHead self.old got }
@@ -222,6 +290,7 @@ impl Deficits {
     }
 
     // Moves on to the next input, wrapping round, and adds its quantum to its deficit.
+    #[inline]
     fn move_on(&mut self)
         requires { (s : Served) → slice_get self.old.row.items self.old.cursor ≡ Some s → s.deficit < most_length }
         ensures length { length self.new.row.items ≡ length self.old.row.items }

@@ -15,7 +15,7 @@ use clk_packet::Packet;
 use std::mem::{forget, replace};
 
 /// From how many inputs on it takes less to look for those that have nothing than to ask each.
-const MANY: u16 = 8;
+pub const MANY: u16 = 8;
 
 /// The nodes of a tree in a pull, with the log.
 #[derive(Drop)]
@@ -192,7 +192,7 @@ impl Nodes {
     /// How many inputs of a node from this one on, of so many at most and with none left out, are queues of which it is known that they
     /// have nothing.
     #[inline]
-    fn idle_from<Q: Ask>(&self, q: &Q, node: u16, first: u16, count: u16) -> u16
+    pub fn idle_from<Q: Ask>(&self, q: &Q, node: u16, first: u16, count: u16) -> u16
         requires there { node < length self.now.inputs.items }
         requires within { (i : ℕ) → i < count → IsSome (input_at self.now.inputs.items node (first + i)) }
         ensures within { result ≤ count }

@@ -10,25 +10,25 @@ use Rattle.clk_sched.specs.declared.session.inputs.Inputs.{Inputs}
 use Rattle.clk_sched.specs.declared.session.nodes.Nodes.{Nodes}
 use Rattle.clk_sched.specs.declared.session.inputs.Input.TheVariants.{Queue, Scheduler}
 use Rattle.clk_sched.specs.declared.session.state.State.TheVariants.{RoundRobin, Drr, Stride}
-use Rattle.clk_sched.specs.Places.{Answers, at_queue}
+use Rattle.clk_sched.specs.Places.{at_queue}
 use Rattle.clk_sched.specs.inside.Places.{edges_in, input_at, queue_asked}
 use Rattle.clk_sched.specs.inside.Pulling.{CanPull, added}
 use Rattle.clk_sched.specs.inside.Ranks.{inputs_in}
-use Rattle.clk_sched.specs.inside.Looking.{looking}
-use Rattle.clk_sched.proofs.Nodes.Asking.{keeps-none, keeps-more, answers-then, asking-first, asking-ready, asking-given, asking-next, asking-all}
+use Rattle.clk_sched.proofs.Nodes.Asking.{keeps-more, answers-then, asking-first, asking-ready, asking-given, asking-next, asking-all}
 use Rattle.clk_sched.proofs.Nodes.Asked.{entry, rank_at, entry-input, input-is, edges-scheduler, queue-visited, asks-queue, asks-child}
 use Rattle.clk_sched.proofs.Classes.RankLemmas.{after-place, inputs-after}
 use Rattle.clk_sched.proofs.Nodes.Idle.{rest-can, asking-past, turn-can, turn-past}
 use Rattle.clk_sched.proofs.Nodes.Placed.{can-turn, kept-there, pulled-back}
 use Rattle.clk_sched.proofs.Turns.TurnPrio.{prio-asks, prio-pulled}
 use Rattle.clk_sched.proofs.Turns.TurnRoundRobin.{begins, may-first, may-second, had-first, had-second, had-none, few-first, few-second}
-use Rattle.clk_sched.proofs.Nodes.Logged.{edge-there, queue-answers, keeps-logged, added-logged, asked-logged}
-use Rattle.clk_sched.proofs.Turns.LooksDrr.{answers-held, looks-held, looks-fresh}
-use Rattle.clk_sched.proofs.Turns.TurnDrr.{has-looked, making-first, making-can, making-next, making-passed, making-all, HasEnded, had-ended}
+use Rattle.clk_sched.proofs.Nodes.Logged.{edge-there, queue-answers, asked-logged}
+use Rattle.clk_sched.proofs.Turns.LooksDrr.{looks-at-asked}
+use Rattle.clk_sched.proofs.Turns.TurnDrr.{looks-below, passing-below, first-idle, idle-behind, making-first, making-can, making-next, making-passed, making-all, had-ended}
 use Rattle.clk_sched.proofs.Turns.TurnStride.{FitsAt, stride-in_order, stride-may, had-won, had-lost}
 use Rattle.clk_sched.proofs.Turns.ShaperRow.{below-refused, below-answered, whole-answered, answers-keep, goes-may, goes-room, goes-edges, goes-order, goes-inputs}
 use Rattle.clk_sched.specs.inside.Tokens.{GoesDown}
 use Rattle.clk_sched.specs.inside.Turning.{HasAskedAll, WasPulled}
+use Rattle.clk_sched.specs.inside.Looking.{IsHead}
 use Rattle.clk_sched.proofs.Nodes.InOrder.{packet_of}
 use Rattle.clk_sched.proofs.session.+pull.Goals as goal
 
@@ -215,106 +215,130 @@ prio::pull_prio-returns-in-None g t c =
     prio-pulled g.Q.Ask.gives c.args.nodes.now c.ask_in_turn.new.self c.args.q.now c.ask_in_turn.new.q c.args.node c.len-inputs.result p None c.requires.can_pull c.requires.holds place count tt
     (subst (HasAskedAll g.Q.Ask.gives c.args.nodes.now c.ask_in_turn.new.self c.args.q.now c.ask_in_turn.new.q c.args.node (range_with_len 0 c.len-inputs.result)) c.in-None.is c.ask_in_turn.ensures.asked)
 
-pub drr::Deficits::look-ask-got-requires : goal.drr::Deficits::look-ask-got-requires
-drr::Deficits::look-ask-got-requires g t c =
+pub drr::Deficits::look_by_asking-ask-got-requires : goal.drr::Deficits::look_by_asking-ask-got-requires
+drr::Deficits::look_by_asking-ask-got-requires g t c =
     let less = c.decreases in
     λ κs le. (omega (arith, less), (search, (c.requires.can_pull, c.requires.within)))
 
-pub drr::Deficits::look-visit-requires : goal.drr::Deficits::look-visit-requires
-drr::Deficits::look-visit-requires g t c =
-    let there = edge-there c.args.nodes.now.inputs.items c.args.node c.args.self.now.cursor c.requires.within in
-    let room = c.requires.can_pull.room in
-    record { room = omega (arith, there, room); held = λ fresh. c.head-head.ensures.held }
-
-pub drr::Deficits::look-visit-requires-in-None : goal.drr::Deficits::look-visit-requires-in-None
-drr::Deficits::look-visit-requires-in-None g t c =
+pub drr::Deficits::look_by_asking-visit-requires : goal.drr::Deficits::look_by_asking-visit-requires
+drr::Deficits::look_by_asking-visit-requires g t c =
     let there = edge-there c.args.nodes.now.inputs.items c.args.node c.args.self.now.cursor c.requires.within in
     let room = c.requires.can_pull.room in
     let at_most = c.ask-got.ensures.keeps.at_most in
     record { room = omega (arith, there, room, at_most); held = λ fresh. absurd (true≢false fresh) }
 
-pub drr::Deficits::look-returns-in-Some : goal.drr::Deficits::look-returns-in-Some
-drr::Deficits::look-returns-in-Some g t c =
-    let a = c.args.nodes.now in
-    let after = c.visit.new.nodes in
-    let d = c.args.self.now in
-    let v = looking a c.args.node d.cursor c.head-head.result false c.visit.result in
-    let logs = c.visit.ensures.logs in
-    let settles = c.visit.ensures.settles in
-    record {
-      keeps = keeps-more a after _ _ (keeps-logged a a after 0 v (keeps-none a c.requires.can_pull.fit) logs) (edge-there a.inputs.items c.args.node d.cursor c.requires.within);
-      answers = answers-held g.Q.Ask.gives a.inputs.items a after c.args.q.now v logs refl;
-      length = settles.length_is;
-      moves = settles.moves;
-      looks = looks-held a after c.args.node d c.visit.new.self c.in-Some.field-0 c.head-head.result c.visit.result c.in-Some.is c.head-head.ensures.law logs settles;
-    }
+pub drr::Deficits::look_by_asking-returns : goal.drr::Deficits::look_by_asking-returns
+drr::Deficits::look_by_asking-returns g t c =
+    looks-at-asked g.Q.Ask.gives c.args.nodes.now c.ask-got.new.self c.visit.new.nodes c.args.q.now c.ask-got.new.q c.args.node c.args.self.now c.visit.new.self c.ask-got.result c.visit.result c.requires.within c.requires.none_held
+    c.ask-got.ensures.keeps c.ask-got.ensures.asks c.ask-got.ensures.answers c.visit.ensures.logs c.visit.ensures.settles
 
-pub drr::Deficits::look-returns-in-None : goal.drr::Deficits::look-returns-in-None
-drr::Deficits::look-returns-in-None g t c =
-    let a = c.args.nodes.now in
-    let b = c.ask-got.new.self in
-    let after = c.visit-in-None.new.nodes in
-    let d = c.args.self.now in
-    let v = looking b c.args.node d.cursor c.ask-got.result true c.visit-in-None.result in
-    let asked = c.ask-got.ensures in
-    let logs = c.visit-in-None.ensures.logs in
-    let settles = c.visit-in-None.ensures.settles in
-    let there = edge-there a.inputs.items c.args.node d.cursor c.requires.within in
-    record {
-      keeps = keeps-more a after _ _ (keeps-logged a b after _ v asked.keeps logs) (omega (arith, there));
-      answers = subst (λ l. Answers g.Q.Ask.gives (queue_asked a.inputs.items) c.args.q.now l c.ask-got.new.q) (sym (added-logged a b after _ v asked.keeps logs)) (asked.answers v refl refl refl refl);
-      length = settles.length_is;
-      moves = settles.moves;
-      looks = looks-fresh a b after _ c.args.node d c.visit-in-None.new.self c.head-head.result c.ask-got.result c.visit-in-None.result c.in-None.is c.head-head.ensures.law asked.keeps asked.asks logs settles;
-    }
+pub drr::Deficits::turn-loop-looks-init : goal.drr::Deficits::turn-loop-looks-init
+drr::Deficits::turn-loop-looks-init g t c =
+    (making-first g.Q.Ask.gives c.args.nodes.now c.args.q.now c.args.node c.args.self.now c.requires.can_pull.fit, omega arith)
 
-pub drr::Deficits::turn-loop-init : goal.drr::Deficits::turn-loop-init
-drr::Deficits::turn-loop-init g t c =
-    making-first g.Q.Ask.gives c.args.nodes.now c.args.q.now c.args.node c.args.self.now c.requires.can_pull.fit
+pub drr::Deficits::turn-look_at_head-requires-clause-can_pull : goal.drr::Deficits::turn-look_at_head-requires-clause-can_pull
+drr::Deficits::turn-look_at_head-requires-clause-can_pull g t c =
+    let below : c.loop-looks.looks < length c.args.self.now.row.items = looks-below c.args.self.now c.loop-looks.looks c.len-inputs.result c.loop-looks-test.true c.len-inputs.ensures.value in
+    (making-can g.Q.Ask.gives c.args.nodes.now c.loop-looks.nodes c.args.q.now c.loop-looks.q c.args.node c.args.self.now c.loop-looks.self c.loop-looks.looks c.requires.can_pull c.requires.fits c.loop-looks.invariant.0 below).0
 
-pub drr::Deficits::turn-look-got-requires : goal.drr::Deficits::turn-look-got-requires
-drr::Deficits::turn-look-got-requires g t c =
-    let a = c.args.nodes.now in
-    let x = c.args.node in
-    let d = c.args.self.now in
-    let count : c.len-end.result ≡ length d.row.items = c.len-end.ensures.value in
-    let below : c.loop.counter < length d.row.items = subst (λ n. c.loop.counter < n) count c.loop-test.true in
-    let can = making-can g.Q.Ask.gives a c.loop.nodes c.args.q.now c.loop.q x d c.loop.self c.loop.counter c.requires.can_pull c.requires.fits c.loop.invariant below in
-    let same = ap length c.loop.invariant.made.keeps.inputs in
+pub drr::Deficits::turn-look_at_head-requires-clause-within : goal.drr::Deficits::turn-look_at_head-requires-clause-within
+drr::Deficits::turn-look_at_head-requires-clause-within g t c =
+    let below : c.loop-looks.looks < length c.args.self.now.row.items = looks-below c.args.self.now c.loop-looks.looks c.len-inputs.result c.loop-looks-test.true c.len-inputs.ensures.value in
+    (making-can g.Q.Ask.gives c.args.nodes.now c.loop-looks.nodes c.args.q.now c.loop-looks.q c.args.node c.args.self.now c.loop-looks.self c.loop-looks.looks c.requires.can_pull c.requires.fits c.loop-looks.invariant.0 below).1
+
+pub drr::Deficits::turn-returns-then-look_at_head : goal.drr::Deficits::turn-returns-then-look_at_head
+drr::Deficits::turn-returns-then-look_at_head g t c =
+    let below : c.loop-looks.looks < length c.args.self.now.row.items = looks-below c.args.self.now c.loop-looks.looks c.len-inputs.result c.loop-looks-test.true c.len-inputs.ensures.value in
+    had-ended g.Q.Ask.gives c.args.nodes.now c.look_at_head.new.nodes c.args.q.now c.loop-looks.q c.args.node c.args.self.now c.look_at_head.new.self c.head-head.result c.requires.can_pull c.requires.fits
+    (making-passed g.Q.Ask.gives c.args.nodes.now c.loop-looks.nodes c.look_at_head.new.nodes c.args.q.now c.loop-looks.q c.loop-looks.q c.args.node c.args.self.now c.loop-looks.self c.look_at_head.new.self c.loop-looks.looks
+    c.head-head.result c.look_at_head.result c.loop-looks.invariant.0 below c.look_at_head.ensures c.if-look_at_head.true)
+
+pub drr::Deficits::turn-loop-looks-preserved-in-Some : goal.drr::Deficits::turn-loop-looks-preserved-in-Some
+drr::Deficits::turn-loop-looks-preserved-in-Some g t c =
+    let below : c.loop-looks.looks < length c.args.self.now.row.items = looks-below c.args.self.now c.loop-looks.looks c.len-inputs.result c.loop-looks-test.true c.len-inputs.ensures.value in
+    let more = c.loop-looks-test.true in (
+      making-next g.Q.Ask.gives c.args.nodes.now c.loop-looks.nodes c.look_at_head.new.nodes c.args.q.now c.loop-looks.q c.loop-looks.q c.args.node c.args.self.now c.loop-looks.self c.look_at_head.new.self c.loop-looks.looks
+          c.head-head.result c.look_at_head.result c.loop-looks.invariant.0 below c.look_at_head.ensures c.if-look_at_head.false,
+      omega (arith, more),
+    )
+
+pub drr::Deficits::turn-look_by_asking-got-requires : goal.drr::Deficits::turn-look_by_asking-got-requires
+drr::Deficits::turn-look_by_asking-got-requires g t c =
+    let below : c.loop-looks.looks < length c.args.self.now.row.items = looks-below c.args.self.now c.loop-looks.looks c.len-inputs.result c.loop-looks-test.true c.len-inputs.ensures.value in
+    let can = making-can g.Q.Ask.gives c.args.nodes.now c.loop-looks.nodes c.args.q.now c.loop-looks.q c.args.node c.args.self.now c.loop-looks.self c.loop-looks.looks c.requires.can_pull c.requires.fits c.loop-looks.invariant.0 below in
+    let same = ap length c.loop-looks.invariant.0.made.keeps.inputs in
     let less = c.decreases in
-    λ κs le. (omega (arith, same, less), (search, (can.0, can.1)))
-
-pub drr::Deficits::turn-loop-preserved : goal.drr::Deficits::turn-loop-preserved
-drr::Deficits::turn-loop-preserved g t c =
-    let a = c.args.nodes.now in
-    let x = c.args.node in
-    let d = c.args.self.now in
-    let count : c.len-end.result ≡ length d.row.items = c.len-end.ensures.value in
-    let below : c.loop.counter < length d.row.items = subst (λ n. c.loop.counter < n) count c.loop-test.true in
-    let look = c.look-got.ensures in
-    let looked = has-looked g.Q.Ask.gives c.loop.nodes c.look-got.new.nodes c.loop.q c.look-got.new.q x c.loop.self c.look-got.new.self c.look-got.result.0 c.look-got.result.1 look.keeps look.answers look.length look.looks in
-    making-next g.Q.Ask.gives a c.loop.nodes c.look-got.new.nodes c.args.q.now c.loop.q c.look-got.new.q x d c.loop.self c.look-got.new.self c.loop.counter look.looks.visit c.loop.invariant below look.looks.input looked (look.looks.passes ∙ c.if-passed.false) (look.moves c.if-passed.false)
+    λ κs le. (omega (arith, same, less), (search, (can.0, (can.1, subst (IsHead c.loop-looks.self) c.in-None.is c.head-head.ensures.held))))
 
 pub drr::Deficits::turn-returns-then-passed : goal.drr::Deficits::turn-returns-then-passed
 drr::Deficits::turn-returns-then-passed g t c =
-    let a = c.args.nodes.now in
-    let x = c.args.node in
-    let d = c.args.self.now in
-    let count : c.len-end.result ≡ length d.row.items = c.len-end.ensures.value in
-    let below : c.loop.counter < length d.row.items = subst (λ n. c.loop.counter < n) count c.loop-test.true in
-    let look = c.look-got.ensures in
-    let looked = has-looked g.Q.Ask.gives c.loop.nodes c.look-got.new.nodes c.loop.q c.look-got.new.q x c.loop.self c.look-got.new.self c.look-got.result.0 c.look-got.result.1 look.keeps look.answers look.length look.looks in
-    let ended = making-passed g.Q.Ask.gives a c.loop.nodes c.look-got.new.nodes c.args.q.now c.loop.q c.look-got.new.q x d c.loop.self c.look-got.new.self c.loop.counter look.looks.visit c.loop.invariant below look.looks.input looked (look.looks.passes ∙ c.if-passed.true) in
-    had-ended g.Q.Ask.gives a c.look-got.new.nodes c.args.q.now c.look-got.new.q x d c.look-got.new.self c.look-got.result.0 c.requires.can_pull c.requires.fits (subst (HasEnded g.Q.Ask.gives a c.look-got.new.nodes c.args.q.now c.look-got.new.q x d c.look-got.new.self) look.looks.gets ended)
+    let below : c.loop-looks.looks < length c.args.self.now.row.items = looks-below c.args.self.now c.loop-looks.looks c.len-inputs.result c.loop-looks-test.true c.len-inputs.ensures.value in
+    had-ended g.Q.Ask.gives c.args.nodes.now c.look_by_asking-got.new.nodes c.args.q.now c.look_by_asking-got.new.q c.args.node c.args.self.now c.look_by_asking-got.new.self c.look_by_asking-got.result.0 c.requires.can_pull c.requires.fits
+    (making-passed g.Q.Ask.gives c.args.nodes.now c.loop-looks.nodes c.look_by_asking-got.new.nodes c.args.q.now c.loop-looks.q c.look_by_asking-got.new.q c.args.node c.args.self.now c.loop-looks.self c.look_by_asking-got.new.self
+    c.loop-looks.looks c.look_by_asking-got.result.0 c.look_by_asking-got.result.1 c.loop-looks.invariant.0 below c.look_by_asking-got.ensures c.if-passed.true)
+
+pub drr::Deficits::turn-loop-looks-smaller-else-is_none-2 : goal.drr::Deficits::turn-loop-looks-smaller-else-is_none-2
+drr::Deficits::turn-loop-looks-smaller-else-is_none-2 g t c = let more = c.loop-looks-test.true in let made = c.loop-idle.invariant.more in omega (arith, more, made)
+
+pub drr::Deficits::turn-loop-looks-smaller-in-loop-idle : goal.drr::Deficits::turn-loop-looks-smaller-in-loop-idle
+drr::Deficits::turn-loop-looks-smaller-in-loop-idle g t c = let more = c.loop-looks-test.true in let made = c.loop-idle.invariant.more in omega (arith, more, made)
+
+pub drr::Deficits::turn-loop-looks-preserved-else-is_none-2 : goal.drr::Deficits::turn-loop-looks-preserved-else-is_none-2
+drr::Deficits::turn-loop-looks-preserved-else-is_none-2 g t c = let left = c.loop-idle.invariant.left in (c.loop-idle.invariant.making, omega (arith, left))
+
+pub drr::Deficits::turn-loop-looks-preserved-in-loop-idle : goal.drr::Deficits::turn-loop-looks-preserved-in-loop-idle
+drr::Deficits::turn-loop-looks-preserved-in-loop-idle g t c = let left = c.loop-idle.invariant.left in (c.loop-idle.invariant.making, omega (arith, left))
+
+pub drr::Deficits::turn-loop-idle-init : goal.drr::Deficits::turn-loop-idle-init
+drr::Deficits::turn-loop-idle-init g t c =
+    let below : c.loop-looks.looks < length c.args.self.now.row.items = looks-below c.args.self.now c.loop-looks.looks c.len-inputs.result c.loop-looks-test.true c.len-inputs.ensures.value in
+    let few = c.idle_ahead-idle.ensures.few in
+    record {
+      making = making-next g.Q.Ask.gives c.args.nodes.now c.loop-looks.nodes c.look_by_asking-got.new.nodes c.args.q.now c.loop-looks.q c.look_by_asking-got.new.q c.args.node c.args.self.now c.loop-looks.self c.look_by_asking-got.new.self
+          c.loop-looks.looks c.look_by_asking-got.result.0 c.look_by_asking-got.result.1 c.loop-looks.invariant.0 below c.look_by_asking-got.ensures c.if-passed.false;
+      ahead = c.idle_ahead-idle.ensures.ahead;
+      more = omega arith;
+      left = omega (arith, few, below);
+    }
+
+pub drr::Deficits::turn-pass_over-requires-clause-can_pull : goal.drr::Deficits::turn-pass_over-requires-clause-can_pull
+drr::Deficits::turn-pass_over-requires-clause-can_pull g t c =
+    let below = passing-below c.args.self.now c.loop-idle.looks c.loop-idle.idle c.len-inputs.result c.len-inputs.ensures.value c.loop-idle.invariant.left c.loop-idle-test.true in
+    (making-can g.Q.Ask.gives c.args.nodes.now c.loop-idle.nodes c.args.q.now c.look_by_asking-got.new.q c.args.node c.args.self.now c.loop-idle.self c.loop-idle.looks c.requires.can_pull c.requires.fits c.loop-idle.invariant.making below).0
+
+pub drr::Deficits::turn-pass_over-requires-clause-idle : goal.drr::Deficits::turn-pass_over-requires-clause-idle
+drr::Deficits::turn-pass_over-requires-clause-idle g t c = first-idle g.Q.Ask.gives c.loop-idle.nodes c.look_by_asking-got.new.q c.args.node c.loop-idle.self c.loop-idle.idle c.loop-idle.invariant.ahead c.loop-idle-test.true
+
+pub drr::Deficits::turn-loop-idle-preserved : goal.drr::Deficits::turn-loop-idle-preserved
+drr::Deficits::turn-loop-idle-preserved g t c =
+    let below = passing-below c.args.self.now c.loop-idle.looks c.loop-idle.idle c.len-inputs.result c.len-inputs.ensures.value c.loop-idle.invariant.left c.loop-idle-test.true in
+    let left = c.loop-idle.invariant.left in
+    let more = c.loop-idle.invariant.more in
+    record {
+      making = making-next g.Q.Ask.gives c.args.nodes.now c.loop-idle.nodes c.pass_over.new.nodes c.args.q.now c.look_by_asking-got.new.q c.look_by_asking-got.new.q c.args.node c.args.self.now c.loop-idle.self c.pass_over.new.self c.loop-idle.looks None false
+          c.loop-idle.invariant.making below c.pass_over.ensures refl;
+      ahead = idle-behind g.Q.Ask.gives c.loop-idle.nodes c.pass_over.new.nodes c.look_by_asking-got.new.q c.args.node c.loop-idle.self c.pass_over.new.self c.loop-idle.idle c.loop-idle.invariant.ahead c.loop-idle-test.true c.pass_over.ensures;
+      more = omega (arith, more);
+      left = omega (arith, left);
+    }
+
+pub drr::Deficits::turn-loop-looks-preserved : goal.drr::Deficits::turn-loop-looks-preserved
+drr::Deficits::turn-loop-looks-preserved g t c =
+    let below : c.loop-looks.looks < length c.args.self.now.row.items = looks-below c.args.self.now c.loop-looks.looks c.len-inputs.result c.loop-looks-test.true c.len-inputs.ensures.value in
+    let more = c.loop-looks-test.true in (
+      making-next g.Q.Ask.gives c.args.nodes.now c.loop-looks.nodes c.look_by_asking-got.new.nodes c.args.q.now c.loop-looks.q c.look_by_asking-got.new.q c.args.node c.args.self.now c.loop-looks.self c.look_by_asking-got.new.self
+          c.loop-looks.looks c.look_by_asking-got.result.0 c.look_by_asking-got.result.1 c.loop-looks.invariant.0 below c.look_by_asking-got.ensures c.if-passed.false,
+      omega (arith, more),
+    )
 
 pub drr::Deficits::turn-returns : goal.drr::Deficits::turn-returns
 drr::Deficits::turn-returns g t c =
     let a = c.args.nodes.now in
     let x = c.args.node in
     let d = c.args.self.now in
-    let count : c.len-end.result ≡ length d.row.items = c.len-end.ensures.value in
-    let all : c.loop.counter ≡ length d.row.items = let f = c.loop-test.false in let m = c.loop.auto.counter-end in omega (arith, count, f, m) in
-    had-ended g.Q.Ask.gives a c.loop.nodes c.args.q.now c.loop.q x d c.loop.self None c.requires.can_pull c.requires.fits (making-all g.Q.Ask.gives a c.loop.nodes c.args.q.now c.loop.q x d c.loop.self c.loop.counter c.loop.invariant all)
+    let count : c.len-inputs.result ≡ length d.row.items = c.len-inputs.ensures.value in
+    let all : c.loop-looks.looks ≡ length d.row.items = let f = c.loop-looks-test.false in let m = c.loop-looks.invariant.1 in omega (arith, count, f, m) in
+    had-ended g.Q.Ask.gives a c.loop-looks.nodes c.args.q.now c.loop-looks.q x d c.loop-looks.self None c.requires.can_pull c.requires.fits (making-all g.Q.Ask.gives a c.loop-looks.nodes c.args.q.now c.loop-looks.q x d c.loop-looks.self c.loop-looks.looks c.loop-looks.invariant.0 all)
 
 pub round_robin::Beginning::turn-ask_in_turn-requires : goal.round_robin::Beginning::turn-ask_in_turn-requires
 round_robin::Beginning::turn-ask_in_turn-requires g t c =

@@ -2,6 +2,7 @@ use Rattle.std.proofs.Common.{ℕ, ◌+◌, ◌*◌, ◌-◌, ◌≤◌, length,
 use Rattle.std.specs.List.{range_with_len}
 use Rattle.clk_sched.specs.inside.Ranks.{inputs_in}
 use Rattle.clk_sched.proofs.Nodes.Asking.{IsAsking}
+use Rattle.clk_sched.specs.inside.Looking.{AreIdleAhead}
 use Rattle.clk_sched.proofs.Turns.TurnDrr.{IsMaking}
 use Rattle.clk_sched.proofs.session.+pull.Given as goal
 
@@ -21,8 +22,8 @@ decreases-nodes::Nodes::ask_in_order g l = rank (length l.self.now.inputs.items)
 abbrev pub decreases-nodes::Nodes::ask_in_turn : goal.decreases-nodes::Nodes::ask_in_turn
 decreases-nodes::Nodes::ask_in_turn g l = rank (length l.self.now.inputs.items) l.node 2
 
-abbrev pub decreases-drr::Deficits::look : goal.decreases-drr::Deficits::look
-decreases-drr::Deficits::look g l = rank (length l.nodes.now.inputs.items) l.node 3
+abbrev pub decreases-drr::Deficits::look_by_asking : goal.decreases-drr::Deficits::look_by_asking
+decreases-drr::Deficits::look_by_asking g l = rank (length l.nodes.now.inputs.items) l.node 3
 
 abbrev pub decreases-round_robin::Beginning::turn : goal.decreases-round_robin::Beginning::turn
 decreases-round_robin::Beginning::turn g l = rank (length l.nodes.now.inputs.items) l.node 4
@@ -63,5 +64,19 @@ decreases-nodes::Nodes::ask_in_turn-loop-place g l = l.count - l.place
 abbrev pub invariant-nodes::Nodes::ask_in_turn-loop-place : goal.invariant-nodes::Nodes::ask_in_turn-loop-place
 invariant-nodes::Nodes::ask_in_turn-loop-place g l = (l.place ≤ l.count) × IsAsking g.Q.Ask.gives l.initial.self l.self l.initial.q l.q l.node (take l.place (range_with_len l.fn.first l.fn.count))
 
-abbrev pub invariant-drr::Deficits::turn-loop : goal.invariant-drr::Deficits::turn-loop
-invariant-drr::Deficits::turn-loop g l = IsMaking g.Q.Ask.gives l.initial.nodes l.nodes l.initial.q l.q l.node l.initial.self l.self l.counter
+abbrev pub decreases-drr::Deficits::turn-loop-looks : goal.decreases-drr::Deficits::turn-loop-looks
+decreases-drr::Deficits::turn-loop-looks g l = l.inputs - l.looks
+
+abbrev pub invariant-drr::Deficits::turn-loop-looks : goal.invariant-drr::Deficits::turn-loop-looks
+invariant-drr::Deficits::turn-loop-looks g l = IsMaking g.Q.Ask.gives l.initial.nodes l.nodes l.initial.q l.q l.node l.initial.self l.self l.looks × (l.looks ≤ l.inputs)
+
+abbrev pub decreases-drr::Deficits::turn-loop-idle : goal.decreases-drr::Deficits::turn-loop-idle
+decreases-drr::Deficits::turn-loop-idle g l = l.idle
+
+abbrev pub invariant-drr::Deficits::turn-loop-idle : goal.invariant-drr::Deficits::turn-loop-idle
+invariant-drr::Deficits::turn-loop-idle g l = record {
+  making : IsMaking g.Q.Ask.gives l.fn.nodes l.nodes l.fn.q l.q l.node l.fn.self l.self l.looks;
+  ahead : AreIdleAhead g.Q.Ask.gives l.nodes l.q l.node l.self l.idle;
+  more : l.initial.looks ≤ l.looks;
+  left : l.looks + l.idle ≤ l.inputs;
+}

@@ -14,4 +14,4 @@ returns-clause-logs c =
 pub returns-clause-settles : goal.returns-clause-settles
 returns-clause-settles c =
     let s = c.settle-passed.ensures in
-    record { length_is = s.length; moves = s.moves; covered = s.covered; holds = s.holds }
+    record { length_is = s.length; moves = s.moves; in_vain = s.in_vain; covered = s.covered; holds = s.holds }
