@@ -75,7 +75,8 @@ impl Ask for Queues {
 
     fn idle_from(&self, leaf: u16, count: u16) -> u16 {
         let number = usize::from(leaf);
-        if number >= self.marks.len() {
+        // Most often the first may hold a packet, which is sooner seen than looked for.
+        if number >= self.marks.len() || self.marks[number] == FILLED {
             return 0;
         }
         count_idle(&self.marks[number..]).min(usize::from(count)) as u16

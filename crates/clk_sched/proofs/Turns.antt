@@ -4,5 +4,6 @@ pub mod TurnRoundRobin
 pub mod TurnStride
 pub mod TurnShaper
 pub mod ShaperRow
+pub mod IdleTurns
 pub mod LooksDrr
 pub mod TurnDrr

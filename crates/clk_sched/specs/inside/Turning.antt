@@ -1,9 +1,10 @@
 -- What it is that a node was pulled, had its turn, and asked its inputs.
-use Rattle.std.specs.Prelude.{◌≡◌, ℕ, List, [], ◌∷◌, length, Option, Some, None, IfSome, slice_get}
+use Rattle.std.specs.Prelude.{◌≡◌, ℕ, ◌<◌, List, [], ◌∷◌, length, Option, Some, None, IfSome, slice_get}
 use Rattle.std.specs.Vec.{with_item}
 use Rattle.clk_packet.specs.declared.packet.Packet.{Packet}
 use Rattle.clk_sched.specs.declared.session.state.State.{State}
 use Rattle.clk_sched.specs.declared.session.inputs.Input.TheVariants.{Queue}
+use Rattle.clk_sched.specs.declared.session.inputs.Inputs.{Inputs}
 use Rattle.clk_sched.specs.declared.session.nodes.Nodes.{Nodes}
 use Rattle.clk_sched.specs.Tree.{Class}
 use Rattle.clk_sched.specs.inside.Holds.OfClass.{Fits}
@@ -40,6 +41,10 @@ pub record IsIdle {S : Type 0} (gives : S → ℕ → Option Packet → S → Ty
   pub leaf : ℕ
   pub stands : input_at n.inputs.items x i ≡ Some (Queue leaf)
   pub gives_none : gives q leaf None q
+
+-- all inputs of a node are such queues
+abbrev pub AreIdle : {S : Type 0} → (S → ℕ → Option Packet → S → Type 0) → Nodes → S → ℕ → Type 0
+AreIdle gives n q x = IfSome (slice_get n.inputs.items x) (λ (p : Inputs). (i : ℕ) → i < length p.each.items → IsIdle gives n q x i)
 
 -- A node asked one of its inputs, and recorded the visit.
 pub record HasAsked {S : Type 0} (gives : S → ℕ → Option Packet → S → Type 0) (old new : Nodes) (before now : S) (x i : ℕ) (got : Option Packet) : Type 0 where

@@ -44,7 +44,7 @@ impl Nodes {
     ghost use Rattle.clk_sched.specs.inside.Looking.{Logs};
     ghost use Rattle.clk_sched.specs.inside.Pulling.{CanPull, Keeps, Asks, added};
     ghost use Rattle.clk_sched.specs.inside.Ranks.{inputs_in};
-    ghost use Rattle.clk_sched.specs.inside.Turning.{with_state, with_idle_at, HasAsked, HasAskedAll, IsIdle, WasPulled};
+    ghost use Rattle.clk_sched.specs.inside.Turning.{with_state, with_idle_at, HasAsked, HasAskedAll, IsIdle, AreIdle, WasPulled};
 
     /// Pulls a node, as its class does, and answers its result.
     #[cycle(pull)]
@@ -204,6 +204,16 @@ impl Nodes {
         }
     }
 
+    /// Whether all inputs of a node are queues of which it is known that they have nothing.
+    #[inline]
+    pub fn are_idle<Q: Ask>(&self, q: &Q, node: u16) -> bool
+        requires { CanPull self.now node (edges_of self.now.inputs.items node) }
+        ensures { result ≡ true → AreIdle Q.gives self.now q.now node }
+    {
+        let count = self.inputs[node as usize].each.len() as u16;
+        self.idle_from(q, node, 0, count) == count
+    }
+
     /// Asks what stands at an input of a node, and records the visit.
     #[cycle(pull)]
     #[inline]
@@ -229,7 +239,7 @@ impl Nodes {
 
     /// Records that so many inputs of a node from this one on were asked, and gave nothing.
     #[inline]
-    fn record_idle(&mut self, node: u16, first: u16, count: u16)
+    pub fn record_idle(&mut self, node: u16, first: u16, count: u16)
         requires room { count ≤ self.old.log.spare }
         requires few { first + count ≤ most_inputs }
         ensures { self.new ≡ with_idle_at self.old node first count }

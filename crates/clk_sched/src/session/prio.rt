@@ -33,6 +33,10 @@ pub fn pull_prio<Q: Ask>(nodes: &mut Nodes, q: &mut Q, node: u16) -> Option<Pack
     ensures { WasPulled Q.gives nodes.old nodes.new q.old q.new node result }
 {
     let inputs = nodes.inputs[node as usize].each.len() as u16;
+    if nodes.are_idle(q, node) {
+        nodes.record_idle(node, 0, inputs);
+        return None;
+    }
     match nodes.ask_in_turn(q, node, 0, inputs) {
         Some((_, packet)) => Some(packet),
         None => None,

@@ -22,6 +22,8 @@ use Rattle.clk_sched.proofs.Nodes.Placed.{can-turn, kept-there, pulled-back}
 use Rattle.clk_sched.proofs.Turns.TurnPrio.{prio-asks, prio-pulled}
 use Rattle.clk_sched.proofs.Turns.TurnRoundRobin.{begins, may-first, may-second, had-first, had-second, had-none, few-first, few-second}
 use Rattle.clk_sched.proofs.Nodes.Logged.{edge-there, queue-answers, asked-logged}
+use Rattle.clk_sched.proofs.Nodes.Idle.{idle-room}
+use Rattle.clk_sched.proofs.Turns.IdleTurns.{prio-passed}
 use Rattle.clk_sched.proofs.Turns.LooksDrr.{looks-at-asked}
 use Rattle.clk_sched.proofs.Turns.TurnDrr.{looks-below, passing-below, first-idle, idle-behind, making-first, making-can, making-next, making-passed, making-all, had-ended}
 use Rattle.clk_sched.proofs.Turns.TurnStride.{FitsAt, stride-in_order, stride-may, had-won, had-lost}
@@ -198,6 +200,23 @@ prio::pull_prio-ask_in_turn-requires g t c =
     let may = prio-asks c.args.nodes.now c.args.node c.len-inputs.result p c.requires.can_pull place count in
     let less = c.decreases in
     λ κs le. (omega (arith, less), (search, (may.0, (may.1, may.2))))
+
+pub prio::pull_prio-record_idle-requires : goal.prio::pull_prio-record_idle-requires
+prio::pull_prio-record_idle-requires g t c =
+    let p = c.index.result.now in
+    let place = entry c.args.nodes.now.inputs.items c.args.node p c.requires.can_pull.there c.index.ensures in
+    let count = c.len-inputs.ensures ∙ p.each.ok.0 in
+    let may = prio-asks c.args.nodes.now c.args.node c.len-inputs.result p c.requires.can_pull place count in
+    let room = idle-room c.args.nodes.now c.args.node 0 c.len-inputs.result may.0 may.1 in
+    record { room = room; few = may.2 }
+
+pub prio::pull_prio-returns-then-are_idle : goal.prio::pull_prio-returns-then-are_idle
+prio::pull_prio-returns-then-are_idle g t c =
+    let p = c.index.result.now in
+    let place = entry c.args.nodes.now.inputs.items c.args.node p c.requires.can_pull.there c.index.ensures in
+    let count = c.len-inputs.ensures ∙ p.each.ok.0 in
+    subst (λ b. WasPulled g.Q.Ask.gives c.args.nodes.now b c.args.q.now c.args.q.now c.args.node None) (sym c.record_idle.ensures)
+    (prio-passed g.Q.Ask.gives c.args.nodes.now c.args.q.now c.args.node c.len-inputs.result p c.requires.can_pull c.requires.holds place count (c.are_idle.ensures c.if-are_idle.true))
 
 pub prio::pull_prio-returns-in-Some : goal.prio::pull_prio-returns-in-Some
 prio::pull_prio-returns-in-Some g t c =
