@@ -8,7 +8,7 @@ use Rattle.std.proofs.lemmas.List.{drop-drop, drop-map, length-append, length-dr
 use Rattle.std.proofs.lemmas.Option.{slice_get_within, get_or_from_slice_get}
 use Rattle.clk_sched.specs.declared.session.stride.Rank.{Rank}
 use Rattle.clk_sched.specs.declared.session.stride.TheConstants.{FAR}
-use Rattle.clk_sched.specs.inside.Ranks.{greatest_stride, IsRankOf, HasRisingPasses, IsBefore, AreInOrder, is_up_to, put_rank, put_each, at_pass, after_win, first_pass, taken_from, less, inputs_in}
+use Rattle.clk_sched.specs.inside.Ranks.{greatest_stride, IsRankOf, FollowOneAnother, HasRisingPasses, IsBefore, AreInOrder, is_up_to, put_rank, put_each, at_pass, after_win, first_pass, taken_from, less, inputs_in}
 use Rattle.clk_sched.proofs.Lists.Members.{all-weaker}
 use Rattle.clk_sched.proofs.Lists.Apart.{all-map}
 
@@ -85,13 +85,6 @@ put-there r row now from l is =
     let front = length-take-le from row (omega arith) in
     let some = put-some r (drop (from + 1) row) in
     omega (arith, all, front, some)
-
--- One more input follows those that follow one another.
-pub follow-next : (row : List Rank) (first k : ℕ) (d : Rank) → k < length row → (get_or row k d).input ≡ first + k → take k (inputs_in row) ≡ range_with_len first k → take (suc k) (inputs_in row) ≡ range_with_len first (suc k)
-follow-next [] first k d l e h = absurd (omega arith)
-follow-next (r ∷ row) first zero d l e h = let same : r.input ≡ first = omega (arith, e) in ap (λ i. i ∷ []) same
-follow-next (r ∷ row) first (suc k) d l e h =
-    ap₂ (λ i l. i ∷ l) (ap (λ l. get_or l 0 r.input) h) (follow-next row (first + 1) k d (omega arith) (let same : (get_or row k d).input ≡ first + 1 + k = omega (arith, e) in same) (ap (drop 1) h))
 
 -- what stands after a place, as a slice has it
 pub after-place : (row : List Rank) (n : ℕ) → take (length row - n) (drop n row) ≡ drop n row
@@ -292,6 +285,10 @@ pub in_order-rises : (ranks : List Rank) → AreInOrder ranks → HasRisingPasse
 in_order-rises [] h = tt
 in_order-rises (r ∷ ranks) h = (all-weaker (IsBefore r) (λ (o : Rank). r.pass ≤ o.pass) ranks (λ o k. k.0) h.0, in_order-rises ranks h.1)
 
+-- The second of ranks in order has the pass of the first where a later one has.
+second-same : (r s : Rank) (ranks : List Rank) (d : Rank) (k : ℕ) → AreInOrder (r ∷ s ∷ ranks) → k < length (s ∷ ranks) → r.pass ≡ (get_or (s ∷ ranks) k d).pass → s.pass ≡ r.pass
+second-same r s ranks d k h l e = let up = h.0.0.0 in let down = first-below (s ∷ ranks) (in_order-rises (s ∷ ranks) h.1) k d l in omega (arith, up, down, e)
+
 -- Ranks in order that had one pass, and of which the last stands before another, stay in order in front of it when each gets a pass.
 pub each-stay : (pass : ℕ) (ranks others : List Rank) (next d : Rank) (k : ℕ) → AreInOrder ranks → length ranks ≡ suc k → (get_or ranks 0 d).pass ≡ (get_or ranks k d).pass → is_up_to (at_pass pass (get_or ranks k d)) next ≡ true
     → put_each pass ranks (next ∷ others) ≡ map (at_pass pass) ranks ++ next ∷ others
@@ -304,7 +301,7 @@ each-stay pass (r ∷ s ∷ ranks) others next d (suc k) h l e test =
     ∙ put-here (at_pass pass r) (at_pass pass s) (map (at_pass pass) ranks ++ next ∷ others) before
   where
     same : s.pass ≡ r.pass
-    same = let up = h.0.0.0 in let down = first-below (s ∷ ranks) (in_order-rises (s ∷ ranks) h.1) k d (omega (arith, l)) in omega (arith, up, down, e)
+    same = second-same r s ranks d k h (omega (arith, l)) e
 
     before : is_up_to (at_pass pass r) (at_pass pass s) ≡ true
     before = let l = h.0.0.1 (sym same) in grind (arith, nat_tests, l)
@@ -347,3 +344,32 @@ win-stays pass stride place row now new winner next d l won is at stay given =
 
     here : drop place now ≡ next ∷ drop (suc place) now
     here = from-place now place d next (put-there winner row now place l is) at
+
+-- Of ranks in order that have one pass the inputs rise by one at least.
+inputs-climb : (ranks : List Rank) (d : Rank) (k : ℕ) → AreInOrder ranks → length ranks ≡ suc k → (get_or ranks 0 d).pass ≡ (get_or ranks k d).pass → (get_or ranks 0 d).input + k ≤ (get_or ranks k d).input
+inputs-climb [] d k h l e = absurd (omega (arith, l))
+inputs-climb (r ∷ ranks) d zero h l e = omega arith
+inputs-climb (r ∷ []) d (suc k) h l e = absurd (omega (arith, l))
+inputs-climb (r ∷ s ∷ ranks) d (suc k) h l e =
+    let same = second-same r s ranks d k h (omega (arith, l)) e in
+    let first = h.0.0.1 (sym same) in
+    let rest = inputs-climb (s ∷ ranks) d k h.1 (omega (arith, l)) (same ∙ e) in
+    omega (arith, first, rest)
+
+-- They follow one another where the last is so far behind the first.
+pub ends-follow : (ranks : List Rank) (d : Rank) (k : ℕ) → AreInOrder ranks → length ranks ≡ suc k → (get_or ranks 0 d).pass ≡ (get_or ranks k d).pass → (get_or ranks k d).input ≡ (get_or ranks 0 d).input + k → FollowOneAnother ranks
+ends-follow [] d k h l e far = tt
+ends-follow (r ∷ []) d k h l e far = refl
+ends-follow (r ∷ s ∷ ranks) d zero h l e far = absurd (omega (arith, l))
+ends-follow (r ∷ s ∷ ranks) d (suc k) h l e far =
+    let same = second-same r s ranks d k h (omega (arith, l)) e in
+    let first = h.0.0.1 (sym same) in
+    let climb = inputs-climb (s ∷ ranks) d k h.1 (omega (arith, l)) (same ∙ e) in
+    let next : s.input ≡ r.input + 1 = omega (arith, first, climb, far) in
+    ap (λ is. r.input ∷ is) (ends-follow (s ∷ ranks) d k h.1 (omega (arith, l)) (same ∙ e) (omega (arith, next, far)) ∙ ap (λ n. range_with_len n (length (s ∷ ranks))) next)
+
+-- what is in order is so from a place on
+pub in_order-after : (n : ℕ) (row : List Rank) → AreInOrder row → AreInOrder (drop n row)
+in_order-after zero row h = h
+in_order-after (suc n) [] h = tt
+in_order-after (suc n) (r ∷ row) h = in_order-after n row h.1

@@ -1,17 +1,15 @@
 -- Inputs of a node that are passed over, since they are queues that have nothing.
 use Rattle.std.proofs.Common.{ap₂, append-nil, ◌≡◌, ℕ, zero, suc, ◌+◌, ◌-◌, ◌<◌, ◌≤◌, List, [], ◌∷◌, ◌++◌, length, take, drop, get_or, slice_get, Option, Some, None, IsSome, refl, sym, ap, ◌∙◌, subst, arith}
-use Rattle.std.proofs.lemmas.Bool.{false≢true}
 use Rattle.std.proofs.lemmas.List.{take-append-drop}
 use Rattle.std.proofs.lemmas.List.FromFn.{length-range_with_len, get_or-range_with_len}
-use Rattle.clk_packet.specs.Limits.{most_inputs}
 use Rattle.std.specs.List.{AllByRecursion, range_with_len}
 use Rattle.clk_packet.specs.declared.packet.Packet.{Packet}
 use Rattle.clk_sched.specs.declared.session.inputs.Input.TheVariants.{Queue}
 use Rattle.clk_sched.specs.declared.session.inputs.Inputs.{Inputs}
 use Rattle.clk_sched.specs.declared.session.nodes.Nodes.{Nodes}
 use Rattle.clk_sched.specs.declared.session.stride.Rank.{Rank}
-use Rattle.clk_sched.specs.inside.Ranks.{inputs_in}
-use Rattle.clk_sched.specs.inside.Places.{AllFit, AreWired, edges_in, input_at, option_input}
+use Rattle.clk_sched.specs.inside.Ranks.{FollowOneAnother, inputs_in}
+use Rattle.clk_sched.specs.inside.Places.{AllFit, edges_in, input_at, option_input}
 use Rattle.clk_sched.specs.inside.Pulling.{CanPull, Keeps}
 use Rattle.clk_sched.specs.Log.{asking}
 use Rattle.clk_sched.specs.inside.Looking.{Logs}
@@ -19,6 +17,7 @@ use Rattle.clk_sched.specs.inside.Turning.{with_idle_at, HasAskedAll, IsIdle}
 use Rattle.clk_sched.proofs.Lists.Members.{all-split, some-below}
 use Rattle.clk_sched.proofs.Lists.Ranges.{range-front, range-drop, range-next}
 use Rattle.clk_sched.proofs.Nodes.Logged.{edge-there, idle-asked}
+use Rattle.clk_sched.proofs.Nodes.Ordered.{order-there}
 use Rattle.clk_sched.proofs.Nodes.Asking.{IsAsking, asking-first, asking-next, asked-vain, can-go_on, edges-append}
 use Rattle.clk_sched.proofs.Nodes.InTwo.{asked-both}
 
@@ -82,48 +81,33 @@ turn-past gives a b c p q x first count k n l h passed =
     let rest = ap (take n) (range-drop first count k (omega arith)) ∙ range-front (first + k) (count - k) n (omega arith) in
     asking-past gives a b c p q x k n (range_with_len first count) h (subst (λ front. HasAskedAll gives b c q q x front None) (sym rest) passed)
 
--- Inputs that are there, whose numbers follow one another, are no more than a node may have.
-there-few : (table : List Inputs) (x first n : ℕ) → AreWired table → AllByRecursion (λ i. IsSome (input_at table x i)) (range_with_len first n) → 0 < n → first + n ≤ most_inputs
-there-few table x first n wired h some =
-    let last = n - 1 in
-    by_place (slice_get table x) refl (there-at table x first n h last (omega arith))
+-- The first input of an order is one of the node's, and each of those is there.
+pub first-below : (table : List Inputs) (x : ℕ) (p : Inputs) (order : List Rank) (d : Rank) → slice_get table x ≡ Some p → 0 < length order → AllByRecursion (λ i. IsSome (input_at table x i)) (inputs_in order)
+    → (get_or order 0 d).input < length p.each.items
+first-below table x p [] d e some h = absurd (omega arith)
+first-below table x p (r ∷ order) d e some h = some-below p.each.items r.input (subst (λ o. IsSome (option_input o r.input)) e h.0)
+
+pub input-there : (table : List Inputs) (x i : ℕ) (p : Inputs) → slice_get table x ≡ Some p → i < length p.each.items → IsSome (input_at table x i)
+input-there table x i p e l = (order-there table x p (i ∷ []) e (l, tt)).0
+
+-- The front of an order, of which ranks follow one another.
+pub row-follows : (order : List Rank) (d : Rank) (n m : ℕ) → n ≤ m → m ≤ length order → FollowOneAnother (take n (take m order)) → take n (inputs_in order) ≡ range_with_len (get_or order 0 d).input n
+row-follows order d zero m l some follow = refl
+row-follows [] d (suc n) m l some follow = absurd (omega arith)
+row-follows (r ∷ order) d (suc n) zero l some follow = absurd (omega arith)
+row-follows (r ∷ order) d (suc n) (suc m) l some follow = ap (λ is. r.input ∷ is) (sym (front n m order (omega arith))) ∙ follow ∙ ap (λ k. range_with_len r.input (suc k)) (size n m order (omega arith) (omega arith))
   where
-    by_place : (o : Option Inputs) → slice_get table x ≡ o → IsSome (option_input o (first + (n - 1))) → first + n ≤ most_inputs
-    by_place None e k = absurd (false≢true k)
-    by_place (Some p) e k = let below = some-below p.each.items (first + (n - 1)) k in let few = (wired x p e).few in omega (arith, below, few)
+    front : (n m : ℕ) (order : List Rank) → n ≤ m → inputs_in (take n (take m order)) ≡ take n (inputs_in order)
+    front zero m order l = refl
+    front (suc n) zero order l = absurd (omega arith)
+    front (suc n) (suc m) [] l = refl
+    front (suc n) (suc m) (s ∷ order) l = ap (λ is. s.input ∷ is) (front n m order (omega arith))
 
--- the first input of an order is there
-pub first-there : (table : List Inputs) (x : ℕ) (order : List Rank) (d : Rank) → 0 < length order → AllByRecursion (λ i. IsSome (input_at table x i)) (inputs_in order) → (i : ℕ) → i < 1 → IsSome (input_at table x ((get_or order 0 d).input + i))
-first-there table x [] d some h i l = absurd (omega arith)
-first-there table x (r ∷ order) d some h i l = let here : r.input ≡ r.input + i = omega (arith, l) in subst (λ j. IsSome (input_at table x j)) here h.0
-
--- What is wanted for passing over the first of an order, as far as these follow one another.
-pub row-can : (a : Nodes) (x first n : ℕ) (order : List ℕ) → CanPull a x (edges_in a.inputs.items x order) → AllByRecursion (λ i. IsSome (input_at a.inputs.items x i)) order → 0 < n → take n order ≡ range_with_len first n
-    → CanPull a x (edges_in a.inputs.items x (range_with_len first n)) × AllByRecursion (λ i. IsSome (input_at a.inputs.items x i)) (range_with_len first n) × (first + n ≤ most_inputs)
-row-can a x first n order can within some follow = (
-  subst (λ row. CanPull a x (edges_in a.inputs.items x row)) follow (record { wired = can.wired; fit = can.fit; there = can.there; room = (let r = can.room in omega (arith, edges, same)); moment = can.moment }),
-  there,
-  there-few a.inputs.items x first n can.wired there some,
-)
-  where
-    edges : edges_in a.inputs.items x (take n order ++ drop n order) ≡ edges_in a.inputs.items x (take n order) + edges_in a.inputs.items x (drop n order)
-    edges = edges-append a.inputs.items x (take n order) (drop n order)
-
-    same : edges_in a.inputs.items x (take n order ++ drop n order) ≡ edges_in a.inputs.items x order
-    same = ap (edges_in a.inputs.items x) (take-append-drop n order)
-
-    there : AllByRecursion (λ i. IsSome (input_at a.inputs.items x i)) (range_with_len first n)
-    there = subst (AllByRecursion (λ i. IsSome (input_at a.inputs.items x i))) follow (all-split (λ i. IsSome (input_at a.inputs.items x i)) (take n order) (drop n order) (subst (AllByRecursion (λ i. IsSome (input_at a.inputs.items x i))) (sym (take-append-drop n order)) within)).0
-
--- Some of these were passed over.
-pub row-past : (first n k : ℕ) (order : List ℕ) → k ≤ n → take n order ≡ range_with_len first n → take k order ≡ range_with_len first k
-row-past first n k order l follow = front n k order l ∙ ap (take k) follow ∙ range-front first n k l
-  where
-    front : (n k : ℕ) (order : List ℕ) → k ≤ n → take k order ≡ take k (take n order)
-    front n zero order l = refl
-    front zero (suc k) order l = absurd (omega arith)
-    front (suc n) (suc k) [] l = refl
-    front (suc n) (suc k) (i ∷ order) l = ap (λ xs. i ∷ xs) (front n k order (omega arith))
+    size : (n m : ℕ) (order : List Rank) → n ≤ m → m ≤ length order → length (take n (take m order)) ≡ n
+    size zero m order l k = refl
+    size (suc n) zero order l k = absurd (omega arith)
+    size (suc n) (suc m) [] l k = absurd (omega arith)
+    size (suc n) (suc m) (s ∷ order) l k = ap suc (size n m order (omega arith) (omega arith))
 
 -- Those at the front were asked, and nothing else is.
 pub asking-front : {S : Type 0} (gives : S → ℕ → Option Packet → S → Type 0) (a b : Nodes) (p q : S) (x first count k n : ℕ) → k ≡ n → n ≤ count → IsAsking gives a b p q x (take k (range_with_len first count))
@@ -138,12 +122,14 @@ inputs-edges table x [] h = omega arith
 inputs-edges table x (i ∷ order) h = let one = edge-there table x i h.0 in let rest = inputs-edges table x order h.1 in omega (arith, one, rest)
 
 -- There is room for a visit of each.
+pub order-room : (a : Nodes) (x : ℕ) (order : List ℕ) → CanPull a x (edges_in a.inputs.items x order) → AllByRecursion (λ i. IsSome (input_at a.inputs.items x i)) order → length order ≤ a.log.spare
+order-room a x order can within = let room = can.room in let edges = inputs-edges a.inputs.items x order within in omega (arith, room, edges)
+
 pub idle-room : (a : Nodes) (x first count : ℕ) → CanPull a x (edges_in a.inputs.items x (range_with_len first count)) → AllByRecursion (λ i. IsSome (input_at a.inputs.items x i)) (range_with_len first count) → count ≤ a.log.spare
 idle-room a x first count can within =
-    let room = can.room in
-    let edges = inputs-edges a.inputs.items x (range_with_len first count) within in
+    let room = order-room a x (range_with_len first count) can within in
     let size = length-range_with_len first count in
-    omega (arith, room, edges, size)
+    omega (arith, room, size)
 
 -- the visits of no inputs, and of one more
 idle-none : (a : Nodes) (x first : ℕ) → with_idle_at a x first 0 ≡ a

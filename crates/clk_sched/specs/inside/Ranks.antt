@@ -1,6 +1,6 @@
 -- The ranks of a StrideSched's inputs, and what a pull does to them.
-use Rattle.std.specs.Prelude.{◌≡◌, ℕ, zero, suc, ◌+◌, ◌-◌, ◌<◌, ◌≤◌, ◌==◌, ◌&&◌, ◌||◌, Bool, nat_lt, nat_le, List, [], ◌∷◌, map, ⊤, if◌then◌else◌}
-use Rattle.std.specs.List.{AllByRecursion, AllByRecursion-prop}
+use Rattle.std.specs.Prelude.{◌≡◌, ℕ, zero, suc, ◌+◌, ◌-◌, ◌<◌, ◌≤◌, ◌==◌, ◌&&◌, ◌||◌, Bool, nat_lt, nat_le, List, [], ◌∷◌, map, length, ⊤, if◌then◌else◌}
+use Rattle.std.specs.List.{AllByRecursion, AllByRecursion-prop, range_with_len}
 use Rattle.std.specs.Coded.{×_prop, Unit-prop, le_prop}
 use Rattle.clk_sched.specs.declared.session.stride.Rank.{Rank}
 use Rattle.clk_sched.specs.declared.session.stride.TheConstants.{FAR}
@@ -20,6 +20,11 @@ IsRankOf inputs least r = (r.input < inputs) × (r.pass ≤ least + greatest_str
 -- the inputs of ranks
 abbrev pub inputs_in : List Rank → List ℕ
 inputs_in ranks = map (λ (r : Rank). r.input) ranks
+
+-- the inputs of these ranks follow one another
+abbrev pub FollowOneAnother : List Rank → Type 0
+FollowOneAnother [] = ⊤
+FollowOneAnother (r ∷ others) = inputs_in (r ∷ others) ≡ range_with_len r.input (length (r ∷ others))
 
 -- no pass is above one after it
 abbrev pub HasRisingPasses : List Rank → Type 0

@@ -43,7 +43,7 @@ impl Nodes {
     ghost use Rattle.clk_sched.specs.Log.{asking};
     ghost use Rattle.clk_sched.specs.inside.Looking.{Logs};
     ghost use Rattle.clk_sched.specs.inside.Pulling.{CanPull, Keeps, Asks, added};
-    ghost use Rattle.clk_sched.specs.inside.Ranks.{inputs_in};
+    ghost use Rattle.clk_sched.specs.inside.Ranks.{AreInOrder, inputs_in};
     ghost use Rattle.clk_sched.specs.inside.Turning.{with_state, with_idle_at, HasAsked, HasAskedAll, IsIdle, AreIdle, WasPulled};
 
     /// Pulls a node, as its class does, and answers its result.
@@ -93,6 +93,7 @@ impl Nodes {
     ) -> Option<(usize, Packet)>
         requires can_pull { CanPull self.old node (edges_in self.old.inputs.items node (inputs_in order.now)) }
         requires within { AllByRecursion (λ i. IsSome (input_at self.old.inputs.items node i)) (inputs_in order.now) }
+        requires order { AreInOrder order.now }
         ensures place { IfSome result (λ r. r.0 < length order.now) }
         ensures asked { HasAskedAll Q.gives self.old self.new q.old q.new node (inputs_in order.now) result }
     {
@@ -113,24 +114,24 @@ impl Nodes {
     fn pass_idle_of<Q: Ask>(&mut self, q: &Q, node: u16, order: &[Rank]) -> usize
         requires can_pull { CanPull self.old node (edges_in self.old.inputs.items node (inputs_in order.now)) }
         requires within { AllByRecursion (λ i. IsSome (input_at self.old.inputs.items node i)) (inputs_in order.now) }
+        requires order { AreInOrder order.now }
         ensures within { result ≤ length order.now }
         ensures asked { HasAskedAll Q.gives self.old self.new q.now q.now node (take result (inputs_in order.now)) None }
     {
         if order.len() < usize::from(MANY) {
             return 0;
         }
-        // Where the last of so many doesn't stand so far behind the first, they don't follow one another; and where the first isn't known
-        // to have nothing, none is passed over.
+        // Where the last of so many doesn't stand so far behind the first, they don't follow one another.
         let first = order[0].input;
         let last = order[usize::from(MANY) - 1].input;
         if usize::from(last) != usize::from(first) + usize::from(MANY) - 1 {
             return 0;
         }
-        if self.idle_from(q, node, first, 1) == 0 {
-            return 0;
-        }
-        let (first, count) = following(order);
-        usize::from(self.pass_idle(q, node, first, count as u16))
+        let behind = self.inputs[node as usize].each.len() - usize::from(first);
+        let idle = self.idle_from(q, node, first, order.len().min(behind) as u16);
+        let count = following(&order[..usize::from(idle)]);
+        self.record_idle(node, first, count as u16);
+        count
     }
 
     /// Asks so many inputs of a node from the first on until one gives a packet, and answers its place and the packet.

@@ -5,7 +5,7 @@ ghost use Rattle.std.specs.List.{All, AllByRecursion, range_with_len};
 ghost use Rattle.clk_packet.specs.Limits.{most_inputs, most_tickets};
 ghost use Rattle.clk_sched.specs.Laws.Stride.{stride_of};
 ghost use Rattle.clk_sched.specs.declared.session.stride.TheConstants.{FAR};
-ghost use Rattle.clk_sched.specs.inside.Ranks.{greatest_stride, IsRankOf, HasRisingPasses, HasRisingPasses-prop, AreInOrder, is_up_to, put_rank, put_each, at_pass, after_win, first_pass, taken_from, first_rank, less, inputs_in};
+ghost use Rattle.clk_sched.specs.inside.Ranks.{greatest_stride, IsRankOf, FollowOneAnother, HasRisingPasses, HasRisingPasses-prop, AreInOrder, is_up_to, put_rank, put_each, at_pass, after_win, first_pass, taken_from, first_rank, less};
 
 use crate::ask::Ask;
 use crate::session::nodes::Nodes;
@@ -151,21 +151,54 @@ impl Passes {
     }
 }
 
-/// The input of the first of these ranks, and how many of them, it and those right after it, have inputs that follow one another.
+/// How many of these ranks, which are in order, have one pass and inputs that follow one another, from the first on.
 #[inline]
-pub fn following(ranks: &[Rank]) -> (u16, usize)
-    requires { 0 < length ranks.now }
-    ensures some { 0 < result.1 }
-    ensures within { result.1 ≤ length ranks.now }
-    ensures follow { take result.1 (inputs_in ranks.now) ≡ range_with_len result.0 result.1 }
+pub fn following(ranks: &[Rank]) -> usize
+    requires { AreInOrder ranks.now }
+    ensures within { result ≤ length ranks.now }
+    ensures follow { FollowOneAnother (take result ranks.now) }
 {
-    let first = ranks[0].input;
-    for place in 1..ranks.len() {
-        if usize::from(ranks[place].input) != usize::from(first) + place {
-            return (first, place);
+    // Mostly all of them.
+    if follow_one_another(ranks) {
+        return ranks.len();
+    }
+    count_following(ranks)
+}
+
+/// The same, by halves.
+#[inline(never)]
+fn count_following(ranks: &[Rank]) -> usize
+    requires { AreInOrder ranks.now }
+    ensures within { result ≤ length ranks.now }
+    ensures follow { FollowOneAnother (take result ranks.now) }
+{
+    let mut count = 0;
+    let mut too_many = ranks.len();
+    while count + 1 < too_many {
+        let middle = count + (too_many - count) / 2;
+        if follow_one_another(&ranks[..middle]) {
+            count = middle;
+        } else {
+            too_many = middle;
         }
     }
-    (first, ranks.len())
+    count
+}
+
+/// Whether these ranks, which are in order, have one pass and inputs that follow one another: the first and the last tell.
+#[inline]
+fn follow_one_another(ranks: &[Rank]) -> bool
+    requires { AreInOrder ranks.now }
+    ensures { result ≡ true → FollowOneAnother ranks.now }
+{
+    match ranks {
+        [] => true,
+        [first, ..] => {
+            let last = ranks[ranks.len() - 1];
+            let between = ranks.len() - 1;
+            first.pass == last.pass && usize::from(last.input) == usize::from(first.input) + between
+        }
+    }
 }
 
 /// So many inputs, with a pass of 0 each.

@@ -13,10 +13,10 @@ use Rattle.clk_sched.specs.declared.session.state.State.TheVariants.{RoundRobin,
 use Rattle.clk_sched.specs.Places.{at_queue}
 use Rattle.clk_sched.specs.inside.Places.{edges_in, input_at, queue_asked}
 use Rattle.clk_sched.specs.inside.Pulling.{CanPull, added}
-use Rattle.clk_sched.specs.inside.Ranks.{inputs_in}
+use Rattle.clk_sched.specs.inside.Ranks.{AreInOrder, inputs_in}
 use Rattle.clk_sched.proofs.Nodes.Asking.{keeps-more, answers-then, asking-first, asking-ready, asking-given, asking-next, asking-all}
 use Rattle.clk_sched.proofs.Nodes.Asked.{entry, rank_at, entry-input, input-is, edges-scheduler, queue-visited, asks-queue, asks-child}
-use Rattle.clk_sched.proofs.Classes.RankLemmas.{after-place, inputs-after}
+use Rattle.clk_sched.proofs.Classes.RankLemmas.{after-place, inputs-after, in_order-after}
 use Rattle.clk_sched.proofs.Nodes.Idle.{rest-can, asking-past, turn-can, turn-past}
 use Rattle.clk_sched.proofs.Nodes.Placed.{can-turn, kept-there, pulled-back}
 use Rattle.clk_sched.proofs.Turns.TurnPrio.{prio-asks, prio-pulled}
@@ -109,6 +109,7 @@ nodes::Nodes::ask_in_order-pass_idle_of-place-requires g t c =
     record {
       can_pull = subst (λ l. CanPull c.look.new.self c.args.node (edges_in c.look.new.self.inputs.items c.args.node l)) after rest.0;
       within = subst (AllByRecursion (λ i. IsSome (input_at c.look.new.self.inputs.items c.args.node i))) after rest.1;
+      order = subst AreInOrder (sym (after-place c.args.order.now (k + 1))) (in_order-after (k + 1) c.args.order.now c.requires.order);
     }
 
 pub nodes::Nodes::ask_in_order-loop-place-preserved : goal.nodes::Nodes::ask_in_order-loop-place-preserved
@@ -410,8 +411,9 @@ round_robin::Beginning::turn-returns-in-None g t c =
 pub stride::Passes::turn-ask_in_order-requires : goal.stride::Passes::turn-ask_in_order-requires
 stride::Passes::turn-ask_in_order-requires g t c =
     let may = stride-may c.args.nodes.now c.args.node c.args.self.now c.row.result.now c.requires.can_pull c.requires.fits c.row.ensures in
+    let order = stride-in_order c.args.nodes.now.inputs.items c.args.node c.args.self.now c.requires.can_pull.there c.requires.fits in
     let less = c.decreases in
-    λ κs le. (omega (arith, less), (search, (may.0, may.1)))
+    λ κs le. (omega (arith, less), (search, (may.0, (may.1, subst AreInOrder (sym c.row.ensures) order))))
 
 pub stride::Passes::turn-won-requires : goal.stride::Passes::turn-won-requires
 stride::Passes::turn-won-requires g t c =

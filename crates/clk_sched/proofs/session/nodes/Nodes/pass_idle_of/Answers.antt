@@ -1,30 +1,82 @@
-use Rattle.std.proofs.Common.{None, ◌∙◌, take, ap, sym, subst, arith}
+use Rattle.std.proofs.Common.{ℕ, List, min, ◌≡◌, ◌≤◌, None, length, take, sym, subst, arith}
+use Rattle.std.specs.List.{range_with_len}
+use Rattle.std.proofs.lemmas.List.{length-map, length-take-le}
+use Rattle.clk_sched.specs.declared.session.stride.Rank.{Rank}
 use Rattle.clk_sched.specs.inside.Ranks.{inputs_in}
 use Rattle.clk_sched.specs.inside.Turning.{HasAskedAll}
-use Rattle.clk_sched.proofs.Nodes.Idle.{first-there, row-can, row-past}
+use Rattle.clk_sched.proofs.Classes.RankLemmas.{in_order-front}
+use Rattle.clk_sched.proofs.Nodes.Asked.{entry, rank_at}
+use Rattle.clk_sched.proofs.Nodes.Idle.{first-below, input-there, row-follows, order-room, idle-recorded}
 use Rattle.clk_sched.proofs.session.nodes.Nodes.pass_idle_of.Goals as goal
 
-pub idle_from-requires-clause-within : goal.idle_from-requires-clause-within
-idle_from-requires-clause-within g c =
+abbrev blank : Rank
+blank = record { pass = 0; input = 0 }
+
+-- how many ranks were looked at, and how many of these follow one another
+few-taken : (order : List Rank) (idle behind looked n : ℕ) {most : ℕ} → idle ≤ most → most ≡ min (length order) behind → looked ≡ idle → n ≤ length (take looked order) → (looked ≤ length order) × (n ≤ looked) × (n ≤ behind)
+few-taken order idle behind looked n l is same within =
+    let size = length-take-le looked order (omega (arith, l, is, same)) in (omega (arith, l, is, same), omega (arith, size, within), omega (arith, l, is, same, size, within))
+
+pub overflow_sub-behind : goal.overflow_sub-behind
+overflow_sub-behind g c =
+    let a = c.args.self.now in
     let some = c.if-order-from.false in
     let many = c.from.ensures in
-    first-there c.args.self.now.inputs.items c.args.node c.args.order.now (record { pass = 0; input = 0 }) (omega (arith, some, many)) c.requires.within
+    let place = entry a.inputs.items c.args.node c.index.result.now c.requires.can_pull.there c.index.ensures in
+    let below = first-below a.inputs.items c.args.node c.index.result.now c.args.order.now blank place (omega (arith, some, many)) c.requires.within in
+    let len = c.len.ensures in
+    let first = c.from-6.ensures in
+    omega (arith, below, len, first)
 
-pub overflow_cast-count : goal.overflow_cast-count
-overflow_cast-count g c =
-    let follow = c.following-first.ensures in
-    let few = (row-can c.args.self.now c.args.node c.following-first.result.0 c.following-first.result.1 (inputs_in c.args.order.now) c.requires.can_pull c.requires.within follow.some follow.follow).2 in
-    omega (arith, few)
+pub overflow_cast-min : goal.overflow_cast-min
+overflow_cast-min g c =
+    let a = c.args.self.now in
+    let place = entry a.inputs.items c.args.node c.index.result.now c.requires.can_pull.there c.index.ensures in
+    let few = (c.requires.can_pull.wired c.args.node c.index.result.now place).few in
+    let len = c.len.ensures in
+    let least = c.min.ensures in
+    omega (arith, few, len, least)
 
-pub pass_idle-requires : goal.pass_idle-requires
-pass_idle-requires g c =
-    let follow = c.following-first.ensures in
-    let row = row-can c.args.self.now c.args.node c.following-first.result.0 c.following-first.result.1 (inputs_in c.args.order.now) c.requires.can_pull c.requires.within follow.some follow.follow in
-    record { can_pull = row.0; within = row.1; few = row.2 }
+pub idle_from-idle-requires-clause-within : goal.idle_from-idle-requires-clause-within
+idle_from-idle-requires-clause-within g c i l =
+    let a = c.args.self.now in
+    let place = entry a.inputs.items c.args.node c.index.result.now c.requires.can_pull.there c.index.ensures in
+    let len = c.len.ensures in
+    let least = c.min.ensures in
+    let first = c.from-6.ensures in
+    input-there a.inputs.items c.args.node _ c.index.result.now place (omega (arith, l, len, least, first))
+
+pub following-count-requires : goal.following-count-requires
+following-count-requires g c = in_order-front _ c.args.order.now c.requires.order
+
+pub record_idle-requires-clause-room : goal.record_idle-requires-clause-room
+record_idle-requires-clause-room g c =
+    let room = order-room c.args.self.now c.args.node (inputs_in c.args.order.now) c.requires.can_pull c.requires.within in
+    let size = length-map c.args.order.now (λ (r : Rank). r.input) in
+    let few = few-taken c.args.order.now _ _ c.from-7.result c.following-count.result c.idle_from-idle.ensures.within c.min.ensures c.from-7.ensures c.following-count.ensures.within in
+    omega (arith, room, size, few)
+
+pub record_idle-requires-clause-few : goal.record_idle-requires-clause-few
+record_idle-requires-clause-few g c =
+    let a = c.args.self.now in
+    let place = entry a.inputs.items c.args.node c.index.result.now c.requires.can_pull.there c.index.ensures in
+    let most = (c.requires.can_pull.wired c.args.node c.index.result.now place).few in
+    let some = c.if-order-from.false in
+    let many = c.from.ensures in
+    let below = first-below a.inputs.items c.args.node c.index.result.now c.args.order.now blank place (omega (arith, some, many)) c.requires.within in
+    let len = c.len.ensures in
+    let first = c.from-6.ensures in
+    let few = few-taken c.args.order.now _ _ c.from-7.result c.following-count.result c.idle_from-idle.ensures.within c.min.ensures c.from-7.ensures c.following-count.ensures.within in
+    omega (arith, most, below, len, first, few)
 
 pub returns-clause-asked : goal.returns-clause-asked
 returns-clause-asked g c =
-    let n = c.pass_idle.result in
-    let taken = row-past c.following-first.result.0 c.following-first.result.1 n (inputs_in c.args.order.now) c.pass_idle.ensures.within c.following-first.ensures.follow in
-    subst (λ front. HasAskedAll g.Q.Ask.gives c.args.self.now c.pass_idle.new.self c.args.q.now c.args.q.now c.args.node front None)
-    (sym taken ∙ ap (λ m. take m (inputs_in c.args.order.now)) (sym c.from-6.ensures)) c.pass_idle.ensures.asked
+    let a = c.args.self.now in
+    let n = c.following-count.result in
+    let first = (rank_at c.args.order.now 0).input in
+    let same = c.from-7.ensures in
+    let few = few-taken c.args.order.now _ _ c.from-7.result n c.idle_from-idle.ensures.within c.min.ensures same c.following-count.ensures.within in
+    let follow = row-follows c.args.order.now blank n c.from-7.result few.1 few.0 c.following-count.ensures.follow in
+    subst (λ front. HasAskedAll g.Q.Ask.gives a c.record_idle.new.self c.args.q.now c.args.q.now c.args.node front None) (sym follow)
+    (subst (λ now. HasAskedAll g.Q.Ask.gives a now c.args.q.now c.args.q.now c.args.node (range_with_len first n) None) (sym c.record_idle.ensures)
+    (idle-recorded g.Q.Ask.gives a c.args.q.now c.args.node first n c.requires.can_pull.fit (λ i l. c.idle_from-idle.ensures.idle i (omega (arith, l, same, few)))))
