@@ -40,6 +40,13 @@ s0 -> q0 -> [0] x; s1 -> q1 -> [1] x; s2 -> q2 -> [2] x; s3 -> q3 -> [3] x; s4 -
 s6 -> q6 -> [6] x; s7 -> q7 -> [7] x; s8 -> q8 -> [8] x; s9 -> q9 -> [9] x; s10 -> q10 -> [10] x; s11 -> q11 -> [11] x;
 x -> d;";
 
+/// A DRRSched of quantum 3 over a RoundRobinSched and a PrioSched of two queues each, and a queue.
+pub const DRR_OVER_TWO_SCHEDULERS: &str =
+    "s0 :: Sender(0); s1 :: Sender(1); s2 :: Sender(2); s3 :: Sender(3); s4 :: Sender(4);
+q0, q1, q2, q3, q4 :: Queue; r :: RoundRobinSched; p :: PrioSched; x :: DRRSched(3); d :: ToDevice(link);
+s0 -> q0 -> [0] r; s1 -> q1 -> [1] r; s2 -> q2 -> [0] p; s3 -> q3 -> [1] p; s4 -> q4 -> [2] x;
+r -> [0] x; p -> [1] x; x -> d;";
+
 /// A StrideSched over twelve queues, the first with two tickets, the last with four and the others with one.
 pub const STRIDE_OVER_TWELVE: &str =
     "s0 :: Sender(0); s1 :: Sender(1); s2 :: Sender(2); s3 :: Sender(3); s4 :: Sender(4); s5 :: Sender(5);
