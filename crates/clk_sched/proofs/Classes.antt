@@ -6,4 +6,5 @@ pub mod Bucket
 pub mod BusyTurns
 pub mod Deficits
 pub mod RankLemmas
+pub mod RankMerge
 pub mod StridePasses

@@ -8,16 +8,16 @@ use Rattle.std.proofs.lemmas.List.{drop-drop, drop-map, length-append, length-dr
 use Rattle.std.proofs.lemmas.Option.{slice_get_within, get_or_from_slice_get}
 use Rattle.clk_sched.specs.declared.session.stride.Rank.{Rank}
 use Rattle.clk_sched.specs.declared.session.stride.TheConstants.{FAR}
-use Rattle.clk_sched.specs.inside.Ranks.{greatest_stride, IsRankOf, FollowOneAnother, HasRisingPasses, IsBefore, AreInOrder, is_up_to, put_rank, put_each, at_pass, after_win, first_pass, taken_from, less, inputs_in}
+use Rattle.clk_sched.specs.inside.Ranks.{greatest_stride, IsRankOf, FollowOneAnother, HasOnePass, HasRisingPasses, IsBefore, AreInOrder, is_up_to, put_rank, put_all, at_pass, after_win, first_pass, taken_from, less, inputs_in}
 use Rattle.clk_sched.proofs.Lists.Members.{all-weaker}
 use Rattle.clk_sched.proofs.Lists.Apart.{all-map}
 
 -- a rank that stands before all others
-put-here : (r other : Rank) (others : List Rank) → is_up_to r other ≡ true → put_rank r (other ∷ others) ≡ r ∷ other ∷ others
+pub put-here : (r other : Rank) (others : List Rank) → is_up_to r other ≡ true → put_rank r (other ∷ others) ≡ r ∷ other ∷ others
 put-here r other others e = ap (λ b. if b then r ∷ other ∷ others else other ∷ put_rank r others) e
 
 -- the row from a place on
-from-place : (row : List Rank) (place : ℕ) (d r : Rank) → place < length row → r ≡ get_or row place d → drop place row ≡ r ∷ drop (suc place) row
+pub from-place : (row : List Rank) (place : ℕ) (d r : Rank) → place < length row → r ≡ get_or row place d → drop place row ≡ r ∷ drop (suc place) row
 from-place row place d r l e = drop-cons row place d l ∙ ap (λ x. x ∷ drop (suc place) row) (sym e)
 
 -- Of ranks in order so many stand before one that is put among them.
@@ -123,7 +123,7 @@ win-next pass stride row now place idle above d r next l m e is =
     ∙ sym (ap (λ k. take idle row ++ after_win pass stride k (drop idle row)) more)
 
 -- what holds of a rank that is put among others that it holds of
-put-all : (P : Rank → Type 0) (r : Rank) (others : List Rank) → P r → AllByRecursion P others → AllByRecursion P (put_rank r others)
+pub put-all : (P : Rank → Type 0) (r : Rank) (others : List Rank) → P r → AllByRecursion P others → AllByRecursion P (put_rank r others)
 put-all P r [] one h = (one, tt)
 put-all P r (other ∷ others) one h = by_test (is_up_to r other) (put-all P r others one h.1)
   where
@@ -289,25 +289,8 @@ in_order-rises (r ∷ ranks) h = (all-weaker (IsBefore r) (λ (o : Rank). r.pass
 second-same : (r s : Rank) (ranks : List Rank) (d : Rank) (k : ℕ) → AreInOrder (r ∷ s ∷ ranks) → k < length (s ∷ ranks) → r.pass ≡ (get_or (s ∷ ranks) k d).pass → s.pass ≡ r.pass
 second-same r s ranks d k h l e = let up = h.0.0.0 in let down = first-below (s ∷ ranks) (in_order-rises (s ∷ ranks) h.1) k d l in omega (arith, up, down, e)
 
--- Ranks in order that had one pass, and of which the last stands before another, stay in order in front of it when each gets a pass.
-pub each-stay : (pass : ℕ) (ranks others : List Rank) (next d : Rank) (k : ℕ) → AreInOrder ranks → length ranks ≡ suc k → (get_or ranks 0 d).pass ≡ (get_or ranks k d).pass → is_up_to (at_pass pass (get_or ranks k d)) next ≡ true
-    → put_each pass ranks (next ∷ others) ≡ map (at_pass pass) ranks ++ next ∷ others
-each-stay pass [] others next d k h l e test = absurd (omega (arith, l))
-each-stay pass (r ∷ []) others next d zero h l e test = put-here (at_pass pass r) next others test
-each-stay pass (r ∷ []) others next d (suc k) h l e test = absurd (omega (arith, l))
-each-stay pass (r ∷ s ∷ ranks) others next d zero h l e test = absurd (omega (arith, l))
-each-stay pass (r ∷ s ∷ ranks) others next d (suc k) h l e test =
-    ap (put_rank (at_pass pass r)) (each-stay pass (s ∷ ranks) others next d k h.1 (omega (arith, l)) (same ∙ e) test)
-    ∙ put-here (at_pass pass r) (at_pass pass s) (map (at_pass pass) ranks ++ next ∷ others) before
-  where
-    same : s.pass ≡ r.pass
-    same = second-same r s ranks d k h (omega (arith, l)) e
-
-    before : is_up_to (at_pass pass r) (at_pass pass s) ≡ true
-    before = let l = h.0.0.1 (sym same) in grind (arith, nat_tests, l)
-
 -- The winner is put in its place, and then each of those before it.
-pub win-each : (pass stride place : ℕ) (row : List Rank) (d : Rank) → place < length row → after_win pass stride place row ≡ put_each pass (take place row) (put_rank (at_pass (pass + stride) (get_or row place d)) (drop (suc place) row))
+pub win-each : (pass stride place : ℕ) (row : List Rank) (d : Rank) → place < length row → after_win pass stride place row ≡ put_all (map (at_pass pass) (take place row)) (put_rank (at_pass (pass + stride) (get_or row place d)) (drop (suc place) row))
 win-each pass stride place [] d l = absurd (omega arith)
 win-each pass stride zero (r ∷ row) d l = refl
 win-each pass stride (suc place) (r ∷ row) d l = ap (put_rank (at_pass pass r)) (win-each pass stride place row d (omega arith))
@@ -328,22 +311,6 @@ pub front-kept : (n : ℕ) (row rest : List Rank) → n ≤ length row → (take
 front-kept zero row rest l = (refl, refl)
 front-kept (suc n) [] rest l = absurd (omega arith)
 front-kept (suc n) (r ∷ row) rest l = let h = front-kept n row rest (omega arith) in (ap (λ xs. r ∷ xs) h.0, h.1)
-
--- Those before the winner stay in order in front of what stands in its place then.
-pub win-stays : (pass stride place : ℕ) (row now new : List Rank) (winner next d : Rank) → place < length row → winner ≡ at_pass (pass + stride) (get_or row place d) → now ≡ take place row ++ put_rank winner (drop (place + 1) row)
-    → next ≡ get_or now place d → ((others : List Rank) → put_each pass (take place now) (next ∷ others) ≡ map (at_pass pass) (take place now) ++ next ∷ others) → new ≡ map (at_pass pass) (take place now)
-    → new ++ drop place now ≡ after_win pass stride place row
-win-stays pass stride place row now new winner next d l won is at stay given =
-    ap₂ (λ xs ys. xs ++ ys) given here
-    ∙ sym (stay (drop (suc place) now))
-    ∙ ap₂ (put_each pass) (ap (take place) is ∙ kept.0) (sym here ∙ ap (drop place) is ∙ kept.1 ∙ ap₂ (λ w n. put_rank w (drop n row)) won (let next : place + 1 ≡ suc place = omega arith in next))
-    ∙ sym (win-each pass stride place row d l)
-  where
-    kept : (take place (take place row ++ put_rank winner (drop (place + 1) row)) ≡ take place row) × (drop place (take place row ++ put_rank winner (drop (place + 1) row)) ≡ put_rank winner (drop (place + 1) row))
-    kept = front-kept place row (put_rank winner (drop (place + 1) row)) (omega arith)
-
-    here : drop place now ≡ next ∷ drop (suc place) now
-    here = from-place now place d next (put-there winner row now place l is) at
 
 -- Of ranks in order that have one pass the inputs rise by one at least.
 inputs-climb : (ranks : List Rank) (d : Rank) (k : ℕ) → AreInOrder ranks → length ranks ≡ suc k → (get_or ranks 0 d).pass ≡ (get_or ranks k d).pass → (get_or ranks 0 d).input + k ≤ (get_or ranks k d).input
@@ -373,3 +340,12 @@ pub in_order-after : (n : ℕ) (row : List Rank) → AreInOrder row → AreInOrd
 in_order-after zero row h = h
 in_order-after (suc n) [] h = tt
 in_order-after (suc n) (r ∷ row) h = in_order-after n row h.1
+
+-- Ranks in order of which the last has the pass of the first have one pass.
+pub ends-one_pass : (ranks : List Rank) (d : Rank) (k : ℕ) → AreInOrder ranks → length ranks ≡ suc k → (get_or ranks 0 d).pass ≡ (get_or ranks k d).pass → HasOnePass ranks
+ends-one_pass [] d k h l e = tt
+ends-one_pass (r ∷ []) d k h l e = tt
+ends-one_pass (r ∷ s ∷ ranks) d zero h l e = absurd (omega (arith, l))
+ends-one_pass (r ∷ s ∷ ranks) d (suc k) h l e =
+    let same = second-same r s ranks d k h (omega (arith, l)) e in
+    (same, all-weaker (λ (o : Rank). o.pass ≡ s.pass) (λ (o : Rank). o.pass ≡ r.pass) ranks (λ o f. f ∙ same) (ends-one_pass (s ∷ ranks) d k h.1 (omega (arith, l)) (same ∙ e)))

@@ -29,7 +29,7 @@ same-order taken r other = by_test (is_up_to r other) refl
     by_test true e = grind (arith, nat_tests)
     by_test false e = grind (arith, nat_tests)
 
-put-pairs : (taken : ℕ) (r : Rank) (others : List Rank) → map (with_pass taken) (put_rank r others) ≡ put_in_order (with_pass taken r) (map (with_pass taken) others)
+pub put-pairs : (taken : ℕ) (r : Rank) (others : List Rank) → map (with_pass taken) (put_rank r others) ≡ put_in_order (with_pass taken r) (map (with_pass taken) others)
 put-pairs taken r [] = refl
 put-pairs taken r (other ∷ others) =
     by_test (is_up_to r other) (put-pairs taken r others)

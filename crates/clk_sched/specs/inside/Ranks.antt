@@ -1,5 +1,5 @@
 -- The ranks of a StrideSched's inputs, and what a pull does to them.
-use Rattle.std.specs.Prelude.{◌≡◌, ℕ, zero, suc, ◌+◌, ◌-◌, ◌<◌, ◌≤◌, ◌==◌, ◌&&◌, ◌||◌, Bool, nat_lt, nat_le, List, [], ◌∷◌, map, length, ⊤, if◌then◌else◌}
+use Rattle.std.specs.Prelude.{◌≡◌, ℕ, zero, suc, ◌+◌, ◌-◌, ◌<◌, ◌≤◌, ◌==◌, ◌&&◌, ◌||◌, Bool, true, nat_lt, nat_le, List, [], ◌∷◌, map, length, ⊤, if◌then◌else◌}
 use Rattle.std.specs.List.{AllByRecursion, AllByRecursion-prop, range_with_len}
 use Rattle.std.specs.Coded.{×_prop, Unit-prop, le_prop}
 use Rattle.clk_sched.specs.declared.session.stride.Rank.{Rank}
@@ -39,6 +39,11 @@ HasRisingPasses-prop (r ∷ others) = ×_prop (AllByRecursion-prop _ (λ other. 
 abbrev pub is_up_to : Rank → Rank → Bool
 is_up_to r other = nat_lt r.pass other.pass || ((r.pass == other.pass) && nat_le r.input other.input)
 
+-- each rank stands before all after it, or is the same
+abbrev pub AreUpTo : List Rank → Type 0
+AreUpTo [] = ⊤
+AreUpTo (r ∷ others) = AllByRecursion (λ (other : Rank). is_up_to r other ≡ true) others × AreUpTo others
+
 -- ranks in rising order, and one more in its place
 abbrev pub put_rank : Rank → List Rank → List Rank
 put_rank r [] = r ∷ []
@@ -53,14 +58,19 @@ abbrev pub AreInOrder : List Rank → Type 0
 AreInOrder [] = ⊤
 AreInOrder (r ∷ others) = AllByRecursion (IsBefore r) others × AreInOrder others
 
+-- ranks of one pass
+abbrev pub HasOnePass : List Rank → Type 0
+HasOnePass [] = ⊤
+HasOnePass (r ∷ others) = AllByRecursion (λ (other : Rank). other.pass ≡ r.pass) others
+
 -- the rank of the same input with another pass
 abbrev pub at_pass : ℕ → Rank → Rank
 at_pass pass r = record { pass = pass; input = r.input }
 
--- ranks that get this pass, put in their places among others one by one, from the last to the first
-abbrev pub put_each : ℕ → List Rank → List Rank → List Rank
-put_each pass [] others = others
-put_each pass (r ∷ ranks) others = put_rank (at_pass pass r) (put_each pass ranks others)
+-- ranks that are put in their places among others, one by one, from the last to the first
+abbrev pub put_all : List Rank → List Rank → List Rank
+put_all [] others = others
+put_all (r ∷ ranks) others = put_rank r (put_all ranks others)
 
 -- The ranks after a pull that the one at a place won, by the pass that it had and its stride: it and those before it stand
 -- in their new places.

@@ -5,7 +5,7 @@ ghost use Rattle.std.specs.List.{All, AllByRecursion, range_with_len};
 ghost use Rattle.clk_packet.specs.Limits.{most_inputs, most_tickets};
 ghost use Rattle.clk_sched.specs.Laws.Stride.{stride_of};
 ghost use Rattle.clk_sched.specs.declared.session.stride.TheConstants.{FAR};
-ghost use Rattle.clk_sched.specs.inside.Ranks.{greatest_stride, IsRankOf, FollowOneAnother, HasRisingPasses, HasRisingPasses-prop, AreInOrder, is_up_to, put_rank, put_each, at_pass, after_win, first_pass, taken_from, first_rank, less};
+ghost use Rattle.clk_sched.specs.inside.Ranks.{greatest_stride, IsRankOf, FollowOneAnother, HasRisingPasses, HasRisingPasses-prop, HasOnePass, AreInOrder, AreUpTo, is_up_to, put_rank, put_all, at_pass, after_win, first_pass, taken_from, first_rank, less};
 
 use crate::ask::Ask;
 use crate::session::nodes::Nodes;
@@ -225,8 +225,7 @@ fn strides_of(alloc: Global, tickets: &[u32]) -> Result<SmallVec<u32, 4>, AllocE
 }
 
 /// Puts the winner, whose pass grows by its stride, in its new place, and then those before it. These had no packet, and get
-/// the pass that the winner had, so that an input that was idle has no claim to what it missed. From the last to the first,
-/// each is put among ranks that are in order.
+/// the pass that the winner had, so that an input that was idle has no claim to what it missed.
 fn place_visited(row: &mut [Rank], place: usize, pass: u32, stride: u32)
     requires place { place < length row.old }
     requires fits { pass + stride < 2 ^ 32 }
@@ -235,30 +234,32 @@ fn place_visited(row: &mut [Rank], place: usize, pass: u32, stride: u32)
 {
     let winner = row[place].at_pass(pass + stride);
     put(row, place, winner);
-    let mut next = row[place];
-    if stay_in_front(&row[..place], pass, &next) {
-        give_pass(&mut row[..place], pass);
+    if place == 0 {
         return;
     }
+    // Where they had one pass, as mostly, they keep their order.
+    if has_one_pass(&row[..place]) {
+        give_pass(&mut row[..place], pass);
+        merge(row, place);
+        return;
+    }
+    // From the last to the first, each is put among ranks that are in order.
+    let mut next = row[place];
     for idle in (0..place).rev() {
         let rank = row[idle].at_pass(pass);
         next = put_before(row, idle, rank, next);
     }
 }
 
-/// Whether these ranks, which are in order, stay in order in front of another when each gets this pass: where all had one pass, the last of
-/// them tells.
+/// Whether these ranks, which are in order, have one pass: the first and the last tell.
 #[inline]
-fn stay_in_front(ranks: &[Rank], pass: u32, next: &Rank) -> bool
+fn has_one_pass(ranks: &[Rank]) -> bool
     requires { AreInOrder ranks.now }
-    ensures { result ≡ true → (others : List Rank) → put_each pass ranks.now (next.now ∷ others) ≡ map (at_pass pass) ranks.now ++ next.now ∷ others }
+    ensures { result ≡ true → HasOnePass ranks.now }
 {
     match ranks {
         [] => true,
-        [first, ..] => {
-            let last = ranks[ranks.len() - 1];
-            first.pass == last.pass && last.at_pass(pass).is_up_to(next)
-        }
+        [first, ..] => first.pass == ranks[ranks.len() - 1].pass,
     }
 }
 
@@ -270,6 +271,36 @@ fn give_pass(ranks: &mut [Rank], pass: u32)
     for rank in ranks.iter_mut() {
         rank.pass = pass;
     }
+}
+
+/// Puts the ranks before a place among those from it on. Both are in order, so that only those that stand before the last of the others
+/// move.
+#[inline]
+fn merge(row: &mut [Rank], place: usize)
+    requires some { 0 < place }
+    requires within { place ≤ length row.old }
+    requires front { AreUpTo (take place row.old) }
+    requires back { AreUpTo (drop place row.old) }
+    ensures { row.new ≡ put_all (take place row.old) (drop place row.old) }
+{
+    for next in place..row.len() {
+        if row[next - 1].is_up_to(&row[next]) {
+            return;
+        }
+        let rank = row[next];
+        put_in_front(row, next, rank);
+    }
+}
+
+/// Takes out this rank, which stands at a place, and puts it among those before it, which are in order.
+#[inline(never)]
+fn put_in_front(row: &mut [Rank], from: usize, rank: Rank)
+    requires { from < length row.old }
+    ensures { row.new ≡ put_rank rank (take from row.old) ++ drop (from + 1) row.old }
+{
+    let before = count_before(rank, &row[..from]);
+    row.copy_within(before..from, before + 1);
+    row[before] = rank;
 }
 
 /// Takes out the rank at a place, and puts this one among those after it, which are in order.

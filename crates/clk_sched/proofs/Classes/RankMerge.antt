@@ -1,0 +1,231 @@
+-- Ranks in order that are put among others in order: it makes no difference which are put first.
+use Rattle.std.proofs.Common.{◌≡◌, ℕ, zero, suc, ◌+◌, ◌-◌, ◌<◌, ◌≤◌, if◌then◌else◌, Bool, true, false, List, [], ◌∷◌, ◌++◌, length, map, take, drop, set, get_or, refl, sym, ap, ap₂, ◌∙◌, subst, append_assoc, arith}
+use Rattle.std.specs.List.{AllByRecursion}
+use Rattle.std.proofs.lemmas.Bool.Decides.{nat_tests}
+use Rattle.std.proofs.Math.Seq.{paste, take-add}
+use Rattle.std.proofs.lemmas.List.{length-append, length-map, length-take-le, drop-take, take-append-drop}
+use Rattle.clk_sched.specs.declared.session.stride.Rank.{Rank}
+use Rattle.clk_sched.specs.inside.Ranks.{with_pass, IsBefore, AreInOrder, AreUpTo, HasOnePass, is_up_to, put_rank, put_all, at_pass, after_win}
+use Rattle.clk_sched.specs.Laws.Stride.{put_in_order}
+use Rattle.clk_sched.proofs.Lists.Members.{all-weaker}
+use Rattle.clk_sched.proofs.Lists.Rising.{put-put}
+use Rattle.clk_sched.proofs.Classes.RankLemmas.{put-here, put-all, front-kept, in_order-front, in_order-after, win-each}
+use Rattle.clk_sched.proofs.Classes.StridePasses.{put-pairs}
+
+-- a rank, of its pair
+abbrev as_rank : ℕ × ℕ → Rank
+as_rank i = record { pass = i.1; input = i.0 }
+
+unpaired : (ranks : List Rank) → map as_rank (map (with_pass 0) ranks) ≡ ranks
+unpaired [] = refl
+unpaired (r ∷ ranks) = ap₂ (λ (pass : ℕ) (xs : List Rank). record { pass = pass; input = r.input } ∷ xs) (let none : r.pass + 0 ≡ r.pass = omega arith in none) (unpaired ranks)
+
+-- Of two ranks it makes no difference which is put first.
+put-two : (r s : Rank) (others : List Rank) → put_rank r (put_rank s others) ≡ put_rank s (put_rank r others)
+put-two r s others = sym (unpaired (put_rank r (put_rank s others))) ∙ ap (map as_rank) pairs ∙ unpaired (put_rank s (put_rank r others))
+  where
+    both : (r s : Rank) → map (with_pass 0) (put_rank r (put_rank s others)) ≡ put_in_order (with_pass 0 r) (put_in_order (with_pass 0 s) (map (with_pass 0) others))
+    both r s = put-pairs 0 r (put_rank s others) ∙ ap (put_in_order (with_pass 0 r)) (put-pairs 0 s others)
+
+    pairs : map (with_pass 0) (put_rank r (put_rank s others)) ≡ map (with_pass 0) (put_rank s (put_rank r others))
+    pairs = both r s ∙ put-put (with_pass 0 r) (with_pass 0 s) (map (with_pass 0) others) ∙ sym (both s r)
+
+put-later : (r : Rank) (ranks others : List Rank) → put_all ranks (put_rank r others) ≡ put_rank r (put_all ranks others)
+put-later r [] others = refl
+put-later r (s ∷ ranks) others = ap (put_rank s) (put-later r ranks others) ∙ put-two s r (put_all ranks others)
+
+-- One that is put among those that are to be put is put itself.
+pub put-among : (r : Rank) (ranks others : List Rank) → put_all (put_rank r ranks) others ≡ put_all ranks (put_rank r others)
+put-among r [] others = refl
+put-among r (s ∷ ranks) others = by_test (is_up_to r s) (put-among r ranks others)
+  where
+    by_test : (b : Bool) → put_all (put_rank r ranks) others ≡ put_all ranks (put_rank r others) → put_all (if b then r ∷ s ∷ ranks else s ∷ put_rank r ranks) others ≡ put_rank s (put_all ranks (put_rank r others))
+    by_test true rest = sym (put-later r (s ∷ ranks) others)
+    by_test false rest = ap (put_rank s) rest
+
+up-then : (r s o : Rank) → is_up_to r s ≡ true → is_up_to s o ≡ true → is_up_to r o ≡ true
+up-then r s o e f = by_test (is_up_to r o) refl
+  where
+    by_test : (b : Bool) → is_up_to r o ≡ b → b ≡ true
+    by_test true g = refl
+    by_test false g = absurd (grind (arith, nat_tests))
+
+up-other : (r s : Rank) → is_up_to r s ≡ false → is_up_to s r ≡ true
+up-other r s e = by_test (is_up_to s r) refl
+  where
+    by_test : (b : Bool) → is_up_to s r ≡ b → b ≡ true
+    by_test true g = refl
+    by_test false g = absurd (grind (arith, nat_tests))
+
+-- Ranks that are in order stay so when one is put among them.
+pub put-up : (r : Rank) (others : List Rank) → AreUpTo others → AreUpTo (put_rank r others)
+put-up r [] h = (tt, tt)
+put-up r (s ∷ others) h = by_test (is_up_to r s) refl (put-up r others h.1)
+  where
+    by_test : (b : Bool) → is_up_to r s ≡ b → AreUpTo (put_rank r others) → AreUpTo (if b then r ∷ s ∷ others else s ∷ put_rank r others)
+    by_test true e rest = ((e, all-weaker (λ o. is_up_to s o ≡ true) (λ o. is_up_to r o ≡ true) others (λ o k. up-then r s o e k) h.0), h)
+    by_test false e rest = (put-all (λ o. is_up_to s o ≡ true) r others (up-other r s e) h.0, rest)
+
+before-up : (r s : Rank) → IsBefore r s → is_up_to r s ≡ true
+before-up r s h = by_test (is_up_to r s) refl
+  where
+    by_test : (b : Bool) → is_up_to r s ≡ b → b ≡ true
+    by_test true g = refl
+    by_test false g = absurd (let l = h.0 in let same : r.pass ≡ s.pass = grind (arith, nat_tests, l, g) in let i = h.1 same in grind (arith, nat_tests, g, i, same))
+
+pub in_order-up : (ranks : List Rank) → AreInOrder ranks → AreUpTo ranks
+in_order-up [] h = tt
+in_order-up (r ∷ ranks) h = (all-weaker (IsBefore r) (λ o. is_up_to r o ≡ true) ranks (λ o k. before-up r o k) h.0, in_order-up ranks h.1)
+
+-- Ranks in order that have one pass stay in order with another.
+pub one_pass-up : (pass : ℕ) (ranks : List Rank) → AreInOrder ranks → HasOnePass ranks → AreUpTo (map (at_pass pass) ranks)
+one_pass-up pass [] h one = tt
+one_pass-up pass (r ∷ ranks) h one = (later ranks h.0 one, one_pass-up pass ranks h.1 (rest ranks one))
+  where
+    later : (others : List Rank) → AllByRecursion (IsBefore r) others → AllByRecursion (λ (o : Rank). o.pass ≡ r.pass) others → AllByRecursion (λ (o : Rank). is_up_to (at_pass pass r) o ≡ true) (map (at_pass pass) others)
+    later [] k e = tt
+    later (o ∷ others) k e = ((let l = k.0.1 (sym e.0) in grind (arith, nat_tests, l)), later others k.1 e.1)
+
+    rest : (others : List Rank) → AllByRecursion (λ (o : Rank). o.pass ≡ r.pass) others → HasOnePass others
+    rest [] e = tt
+    rest (s ∷ others) e = all-weaker (λ (o : Rank). o.pass ≡ r.pass) (λ (o : Rank). o.pass ≡ s.pass) others (λ o f. f ∙ sym e.0) e.1
+
+-- one that stands before others in order stays before them
+first-stays : (r : Rank) (others : List Rank) → AllByRecursion (λ (o : Rank). is_up_to r o ≡ true) others → put_rank r others ≡ r ∷ others
+first-stays r [] h = refl
+first-stays r (o ∷ others) h = put-here r o others h.0
+
+-- Ranks in order stay where they are in front of others where the last of them does.
+pub all-stay : (ranks others : List Rank) (d : Rank) (k : ℕ) → length ranks ≡ suc k → AreUpTo ranks → put_rank (get_or ranks k d) others ≡ get_or ranks k d ∷ others → put_all ranks others ≡ ranks ++ others
+all-stay [] others d k l h last = absurd (omega (arith, l))
+all-stay (r ∷ []) others d zero l h last = last
+all-stay (r ∷ []) others d (suc k) l h last = absurd (omega (arith, l))
+all-stay (r ∷ s ∷ ranks) others d zero l h last = absurd (omega (arith, l))
+all-stay (r ∷ s ∷ ranks) others d (suc k) l h last = ap (put_rank r) (all-stay (s ∷ ranks) others d k (omega (arith, l)) h.1 last) ∙ put-here r s (ranks ++ others) h.0.0
+
+pub put-size : (r : Rank) (others : List Rank) → length (put_rank r others) ≡ suc (length others)
+put-size r [] = refl
+put-size r (o ∷ others) = by_test (is_up_to r o) (put-size r others)
+  where
+    by_test : (b : Bool) → length (put_rank r others) ≡ suc (length others) → length (if b then r ∷ o ∷ others else o ∷ put_rank r others) ≡ suc (suc (length others))
+    by_test true rest = refl
+    by_test false rest = ap suc rest
+
+-- two lists, one after the other
+pub parts : (n : ℕ) (xs ys : List Rank) → length xs ≡ n → (take n (xs ++ ys) ≡ xs) × (drop n (xs ++ ys) ≡ ys)
+parts zero [] ys l = (refl, refl)
+parts zero (x ∷ xs) ys l = absurd (omega (arith, l))
+parts (suc n) [] ys l = absurd (omega (arith, l))
+parts (suc n) (x ∷ xs) ys l = let h = parts n xs ys (omega (arith, l)) in (ap (λ zs. x ∷ zs) h.0, h.1)
+
+-- The ranks before a place and those from it on are in order, and give these when the former are put among the latter.
+pub record AreMerging (target row : List Rank) (place : ℕ) : Type 0 where
+  pub front : AreUpTo (take place row)
+  pub back : AreUpTo (drop place row)
+  pub same : put_all (take place row) (drop place row) ≡ target
+
+-- The rank at the place was put among those before it.
+pub merging-next : (target row now : List Rank) (place next : ℕ) (r : Rank) → next ≡ suc place → place ≤ length row → drop place row ≡ r ∷ drop next row → now ≡ put_rank r (take place row) ++ drop next row → AreMerging target row place
+    → AreMerging target now next
+merging-next target row now place next r after l here is h =
+    record {
+      front = subst AreUpTo (sym (ap (take next) is ∙ split.0)) (put-up r (take place row) h.front);
+      back = subst AreUpTo (sym (ap (drop next) is ∙ split.1)) order.1;
+      same = ap₂ put_all (ap (take next) is ∙ split.0) (ap (drop next) is ∙ split.1) ∙ put-among r (take place row) (drop next row) ∙ ap (put_all (take place row)) (first-stays r (drop next row) order.0 ∙ sym here) ∙ h.same;
+    }
+  where
+    order : AreUpTo (r ∷ drop next row)
+    order = subst AreUpTo here h.back
+
+    split : (take next (put_rank r (take place row) ++ drop next row) ≡ put_rank r (take place row)) × (drop next (put_rank r (take place row) ++ drop next row) ≡ drop next row)
+    split = parts next (put_rank r (take place row)) (drop next row) (put-size r (take place row) ∙ (let size = length-take-le place row l in omega (arith, after, size)))
+
+set-front : (k : ℕ) (row ys zs : List Rank) (r : Rank) → k < length row → set ((take (suc k) row ++ ys) ++ zs) k r ≡ take k row ++ r ∷ (ys ++ zs)
+set-front k [] ys zs r l = absurd (omega arith)
+set-front zero (x ∷ row) ys zs r l = refl
+set-front (suc k) (x ∷ row) ys zs r l = ap (λ xs. x ∷ xs) (set-front k row ys zs r (omega arith))
+
+-- A rank is put among those before it, and those that it stands before move up.
+pub put-fronted : (r : Rank) (row : List Rank) (from before : ℕ) → from < length row → before ≤ length (take from row) → put_rank r (take from row) ≡ take before (take from row) ++ r ∷ drop before (take from row)
+    → set (paste row (before + 1) (drop before row) (from - before)) before r ≡ put_rank r (take from row) ++ drop (from + 1) row
+put-fronted r row from before l m put =
+    ap₂ (λ a b. set ((take a row ++ take moved (drop before row)) ++ drop b row) before r) next end
+    ∙ set-front before row (take moved (drop before row)) (drop (from + 1) row) r (omega (arith, l, m, size))
+    ∙ ap₂ (λ xs ys. xs ++ r ∷ (ys ++ drop (from + 1) row)) (sym front) (sym rest)
+    ∙ sym (append_assoc (take before (take from row)) (r ∷ drop before (take from row)) (drop (from + 1) row))
+    ∙ ap (λ xs. xs ++ drop (from + 1) row) (sym put)
+  where
+    moved : ℕ
+    moved = from - before
+
+    size : length (take from row) ≡ from
+    size = length-take-le from row (omega arith)
+
+    next : before + 1 ≡ suc before
+    next = omega arith
+
+    end : before + 1 + moved ≡ from + 1
+    end = omega (arith, m, size)
+
+    whole : from ≡ before + moved
+    whole = omega (arith, m, size)
+
+    front : take before (take from row) ≡ take before row
+    front = ap (λ n. take before (take n row)) whole ∙ ap (take before) (take-add before moved row) ∙ (front-kept before row (take moved (drop before row)) (omega (arith, l, m, size))).0
+
+    rest : drop before (take from row) ≡ take moved (drop before row)
+    rest = ap (λ n. drop before (take n row)) whole ∙ drop-take before moved row
+
+get-front : (n k : ℕ) (row : List Rank) (d : Rank) → k < n → get_or (take n row) k d ≡ get_or row k d
+get-front zero k row d l = absurd (omega arith)
+get-front (suc n) k [] d l = refl
+get-front (suc n) zero (x ∷ row) d l = refl
+get-front (suc n) (suc k) (x ∷ row) d l = get-front n k row d (omega arith)
+
+-- No rank is left that stands before the last of those before the place.
+pub merging-end : (target row : List Rank) (place k : ℕ) (d : Rank) → place ≡ suc k → place ≤ length row → put_rank (get_or row k d) (drop place row) ≡ get_or row k d ∷ drop place row → AreMerging target row place → row ≡ target
+merging-end target row place k d after l last h =
+    sym (take-append-drop place row)
+    ∙ sym (all-stay (take place row) (drop place row) d k (length-take-le place row l ∙ after) h.front (subst (λ r. put_rank r (drop place row) ≡ r ∷ drop place row) (sym (get-front place k row d (omega (arith, after)))) last))
+    ∙ h.same
+
+-- None stands before the winner.
+pub win-alone : (pass stride place : ℕ) (row : List Rank) (d : Rank) → place < length row → place ≡ 0 → after_win pass stride place row ≡ take place row ++ put_rank (at_pass (pass + stride) (get_or row place d)) (drop (place + 1) row)
+win-alone pass stride place [] d l e = absurd (omega arith)
+win-alone pass stride zero (r ∷ row) d l e = refl
+win-alone pass stride (suc place) (r ∷ row) d l e = absurd (omega (arith, e))
+
+-- The winner of a row was put in its place, and those before it have the pass that it had.
+pub record IsPassed (pass stride place : ℕ) (row now : List Rank) : Type 0 where
+  pub within : place ≤ length now
+  pub front : AreUpTo (take place now)
+  pub back : AreUpTo (drop place now)
+  pub won : put_all (take place now) (drop place now) ≡ after_win pass stride place row
+
+pub passed : (pass stride place : ℕ) (row put given : List Rank) (winner d : Rank) → place < length row → AreInOrder row → winner ≡ at_pass (pass + stride) (get_or row place d) → put ≡ take place row ++ put_rank winner (drop (place + 1) row)
+    → HasOnePass (take place put) → given ≡ map (at_pass pass) (take place put) → IsPassed pass stride place row (given ++ drop place put)
+passed pass stride place row put given winner d l order won is one gave =
+    record {
+      within = let all = length-append given (drop place put) in omega (arith, size, all);
+      front = subst AreUpTo (sym front) (one_pass-up pass (take place row) (in_order-front place row order) (subst HasOnePass front_is one));
+      back = subst AreUpTo (sym back) (put-up winner (drop (place + 1) row) (in_order-up (drop (place + 1) row) (in_order-after (place + 1) row order)));
+      won = ap₂ put_all front (back ∙ ap₂ (λ w n. put_rank w (drop n row)) won (let next : place + 1 ≡ suc place = omega arith in next)) ∙ sym (win-each pass stride place row d l);
+    }
+  where
+    kept : (take place (take place row ++ put_rank winner (drop (place + 1) row)) ≡ take place row) × (drop place (take place row ++ put_rank winner (drop (place + 1) row)) ≡ put_rank winner (drop (place + 1) row))
+    kept = front-kept place row (put_rank winner (drop (place + 1) row)) (omega arith)
+
+    front_is : take place put ≡ take place row
+    front_is = ap (take place) is ∙ kept.0
+
+    size : length given ≡ place
+    size = ap length gave ∙ length-map (take place put) (at_pass pass) ∙ ap length front_is ∙ length-take-le place row (omega arith)
+
+    split : (take place (given ++ drop place put) ≡ given) × (drop place (given ++ drop place put) ≡ drop place put)
+    split = parts place given (drop place put) size
+
+    front : take place (given ++ drop place put) ≡ map (at_pass pass) (take place row)
+    front = split.0 ∙ gave ∙ ap (map (at_pass pass)) front_is
+
+    back : drop place (given ++ drop place put) ≡ put_rank winner (drop (place + 1) row)
+    back = split.1 ∙ ap (drop place) is ∙ kept.1
