@@ -13,6 +13,7 @@ mod queues;
 mod refusals;
 pub mod row;
 mod rows;
+mod strides;
 mod text;
 pub mod trees;
 mod unlogged;

@@ -1,0 +1,133 @@
+//! The turns of a StrideSched over queues of which many have nothing, beside its rule.
+
+use clk_packet::{Fault, Packet};
+use clk_sched::{Ask, Session, Tree};
+use std::alloc::{AllocError, Global};
+use std::process::Abort;
+
+/// How many queues there are.
+const QUEUES: u16 = 20;
+
+/// How many packets each queue has, so that it is known which have none.
+#[derive(Drop)]
+struct Left(Vec<u32>);
+
+impl Ask for Left {
+    ghost use Rattle.std.specs.Prelude.{true};
+
+    ghost has = { λ s leaf. true };
+
+    ghost holds = { λ s leaf. 0 };
+
+    ghost gives = { λ s leaf got t. Unit };
+
+    fn ask(&mut self, leaf: u16) -> Option<Packet> {
+        let left = self.0.get_mut(usize::from(leaf))?;
+        if *left == 0 {
+            return None;
+        }
+        *left -= 1;
+        Some(Packet {
+            number: *left,
+            sender: leaf,
+            length: 1,
+        })
+    }
+
+    fn idle_from(&self, leaf: u16, count: u16) -> u16 {
+        for place in 0..count {
+            if self.0.get(usize::from(leaf) + usize::from(place)) != Some(&0) {
+                return place;
+            }
+        }
+        count
+    }
+}
+
+impl Left {
+    // A queue gets so many packets more.
+    fn add(&mut self, queue: usize, count: u32) {
+        if let Some(left) = self.0.get_mut(queue) {
+            *left = left.saturating_add(count);
+        }
+    }
+}
+
+/// The passes of the queues, and their strides.
+#[derive(Drop)]
+struct Rule {
+    passes: Vec<u32>,
+    strides: Vec<u32>,
+}
+
+impl Rule {
+    // A queue has one to four tickets, by its number.
+    fn new(alloc: Global) -> Result<Rule, AllocError> {
+        let mut passes = Vec::new(alloc);
+        let mut strides = Vec::new(alloc);
+        for queue in 0..u32::from(QUEUES) {
+            passes.push(0)?;
+            strides.push(65_536 / (1 + queue % 4))?;
+        }
+        Ok(Rule { passes, strides })
+    }
+
+    // Takes a turn: it is that of the least pass of those that have packets, of the first where several have it. Those with a lower
+    // pass, which have none, get its pass, and it goes on by its stride.
+    fn next(&mut self, left: &Left) -> Option<usize> {
+        let winner = self.least(left)?;
+        let pass = *self.passes.get(winner)?;
+        for other in self.passes.iter_mut() {
+            *other = pass.max(*other);
+        }
+        let stride = *self.strides.get(winner)?;
+        if let Some(own) = self.passes.get_mut(winner) {
+            *own = pass.saturating_add(stride);
+        }
+        Some(winner)
+    }
+
+    fn least(&self, left: &Left) -> Option<usize> {
+        let mut found: Option<(usize, u32)> = None;
+        for (queue, pass) in self.passes.iter().enumerate() {
+            let has = left.0.get(queue).is_some_and(|left| *left > 0);
+            if has && found.is_none_or(|(_, least)| *pass < least) {
+                found = Some((queue, *pass));
+            }
+        }
+        found.map(|(queue, _)| queue)
+    }
+}
+
+// A StrideSched over the queues, whose tickets are those of the rule.
+fn stride_over_all(rt: &impl Abort, alloc: Global) -> Result<Tree, Fault> {
+    let tickets = vec![in alloc; 1, 2, 3, 4, 1, 2, 3, 4, 1, 2, 3, 4, 1, 2, 3, 4, 1, 2, 3, 4]?;
+    let mut leaves = Vec::new(alloc);
+    for queue in 0..QUEUES {
+        leaves.push(Tree::leaf(queue))?;
+    }
+    assert!(rt; leaves.len() == 20);
+    Tree::stride(tickets, leaves)
+}
+
+// Queues 5 and 13, which have the same tickets, are busy. Of the others one gets two packets now and then.
+#[test]
+fn turns_are_those_of_the_rule(rt: HostRuntime) -> Result<(), Fault> {
+    let tree = stride_over_all(&rt, rt.alloc())?;
+    assert!(rt; tree.leaves_distinct());
+    let mut session = Session::new(rt.alloc(), tree)?;
+    let mut queues = Left(vec![in rt.alloc(); 0; 20]?);
+    queues.add(5, 1000);
+    queues.add(13, 1000);
+    let mut rule = Rule::new(rt.alloc())?;
+    for pull in 0..500 {
+        if pull % 3 == 0 {
+            queues.add(pull * 7 % 20, 2);
+        }
+        let expected = rule.next(&queues);
+        let got = session.pull(&mut queues, 0)?;
+        let sender = got.map(|packet| usize::from(packet.sender));
+        assert_eq!(rt; sender, expected, "at pull {pull}");
+    }
+    Ok(())
+}
