@@ -1,6 +1,8 @@
 //! Inputs that are asked in order.
 
-use crate::trees::{DRR_OVER_TWO_SCHEDULERS, PRIO_OVER_TWELVE, ROUND_ROBIN_OVER_TWELVE, ROUND_ROBIN_OVER_TWO};
+use crate::trees::{
+    DRR_OVER_TWO_SCHEDULERS, PRIO_OVER_TWELVE, ROUND_ROBIN_OVER_TWELVE, ROUND_ROBIN_OVER_TWO,
+};
 use clk_rows::Row;
 
 /// Scripts, and what they write.
