@@ -32,10 +32,11 @@ idle-part : {S : Type 0} (gives : S → ℕ → Option Packet → S → Type 0) 
 idle-part gives a q x first count p e within idle i l = subst (λ o. IfSome o (λ (p : Inputs). (i : ℕ) → i < length p.each.items → IsIdle gives a q x i)) e idle (first + i) (omega (arith, within, l))
 
 -- A PrioSched whose inputs were visited in vain was pulled.
-pub prio-passed : {S : Type 0} (gives : S → ℕ → Option Packet → S → Type 0) (a : Nodes) (q : S) (x n : ℕ) (p : Inputs) → CanPull a x (edges_of a.inputs.items x) → IfSome (slice_get a.states.items x) IsPrio → slice_get a.inputs.items x ≡ Some p
-    → n ≡ length p.each.items → AreIdle gives a q x → WasPulled gives a (with_idle_at a x 0 n) q q x None
-prio-passed gives a q x n p can holds e all idle =
-    prio-pulled gives a (with_idle_at a x 0 n) q q x n p None can holds e all tt (idle-recorded gives a q x 0 n can.fit (idle-part gives a q x 0 n p e (omega (arith, all)) idle))
+pub prio-passed : {S : Type 0} (gives : S → ℕ → Option Packet → S → Type 0) (a b : Nodes) (q : S) (x n : ℕ) (p : Inputs) → CanPull a x (edges_of a.inputs.items x) → IfSome (slice_get a.states.items x) IsPrio
+    → slice_get a.inputs.items x ≡ Some p → n ≡ length p.each.items → AreIdle gives a q x → b ≡ with_idle_at a x 0 n → WasPulled gives a b q q x None
+prio-passed gives a b q x n p can holds e all idle is =
+    subst (λ (m : Nodes). WasPulled gives a m q q x None) (sym is)
+    (prio-pulled gives a (with_idle_at a x 0 n) q q x n p None can holds e all tt (idle-recorded gives a q x 0 n can.fit (idle-part gives a q x 0 n p e (omega (arith, all)) idle)))
 
 -- what a RoundRobinSched holds, as it was read, and its inputs
 pub round_robin-read : (a : Nodes) (x : ℕ) (s : State) (b : Beginning) → CanPull a x (edges_of a.inputs.items x) → s ≡ get_or a.states.items x s → s ≡ RoundRobin b → slice_get a.states.items x ≡ Some (RoundRobin b)

@@ -216,8 +216,7 @@ prio::pull_prio-returns-then-are_idle g t c =
     let p = c.index.result.now in
     let place = entry c.args.nodes.now.inputs.items c.args.node p c.requires.can_pull.there c.index.ensures in
     let count = c.len-inputs.ensures ∙ p.each.ok.0 in
-    subst (λ b. WasPulled g.Q.Ask.gives c.args.nodes.now b c.args.q.now c.args.q.now c.args.node None) (sym c.record_idle.ensures)
-    (prio-passed g.Q.Ask.gives c.args.nodes.now c.args.q.now c.args.node c.len-inputs.result p c.requires.can_pull c.requires.holds place count (c.are_idle.ensures c.if-are_idle.true))
+    prio-passed g.Q.Ask.gives c.args.nodes.now c.record_idle.new.self c.args.q.now c.args.node c.len-inputs.result p c.requires.can_pull c.requires.holds place count (c.are_idle.ensures c.if-are_idle.true) c.record_idle.ensures
 
 pub prio::pull_prio-returns-in-Some : goal.prio::pull_prio-returns-in-Some
 prio::pull_prio-returns-in-Some g t c =
