@@ -108,8 +108,9 @@ impl Nodes {
         None
     }
 
-    /// Passes over the first of these inputs of a node, as far as their numbers follow one another and they are queues of which it is known
-    /// that they have nothing: each visit is recorded. It answers how many these are, and 0 where they are so few that they are sooner asked.
+    /// Passes over the first of these inputs of a node, as far as they have one pass, their numbers follow one another and they are queues
+    /// of which it is known that they have nothing: each visit is recorded. It answers how many these are, and 0 where they are so few that
+    /// they are sooner asked.
     #[inline]
     fn pass_idle_of<Q: Ask>(&mut self, q: &Q, node: u16, order: &[Rank]) -> usize
         requires can_pull { CanPull self.old node (edges_in self.old.inputs.items node (inputs_in order.now)) }
