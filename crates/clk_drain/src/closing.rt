@@ -17,7 +17,6 @@ use crate::drained::Drained;
 use crate::line::Line;
 use crate::lines::GatheredLines;
 use clk_packet::{Fault, Tally};
-use clk_ruled::Settled;
 use clk_sched::{Session, runs_conserve_packets};
 use std::alloc::Global;
 use std::sync::Wait;
@@ -181,7 +180,7 @@ fn settle_each(alloc: Global, lines: Vec<Line>) -> Result<Vec<Tally>, Fault>
 {
     let mut tallies = Vec::new(alloc);
     for line in lines {
-        let Settled { tallies: more, .. } = line.settle(alloc)?;
+        let more = line.settle(alloc)?;
         add(&mut tallies, more)?;
     }
     Ok(tallies)

@@ -4,8 +4,8 @@ ghost use Rattle.std.specs.Prelude.{◌≡◌, true};
 ghost use Rattle.std.specs.List.{AllByRecursion};
 ghost use Rattle.clk_ruled.specs.Settle.{AreOpenedTogether, lists_of};
 
-use clk_packet::{Fault, Packet};
-use clk_ruled::{ClosedSeat, RuledQueue, Settled, Tap, calls_keep_together, settle};
+use clk_packet::{Fault, Packet, Tally};
+use clk_ruled::{BareTap, ClosedSeat, RuledQueue, calls_keep_together, settle_bare};
 use std::alloc::Global;
 use std::marker::Model;
 use std::sync::Wait;
@@ -16,7 +16,7 @@ pub struct Line {
     /// The leaf's number in the tree.
     pub leaf: u16,
     pub queue: RuledQueue,
-    pub tap: Tap,
+    pub tap: BareTap,
     pub closed: Vec<ClosedSeat>,
 }
 
@@ -64,7 +64,7 @@ impl Line {
     {
         gather_seats(&self.queue, &mut self.tap, &mut self.closed);
         // That no more was taken than came is known where it is read.
-        let _ = self.tap.taken();
+        self.tap.stays_within();
     }
 
     // How many packets the queue accepted.
@@ -92,17 +92,17 @@ impl Line {
     }
 
     // Settles the queue.
-    pub(crate) fn settle(self, alloc: Global) -> Result<Settled, Fault>
+    pub(crate) fn settle(self, alloc: Global) -> Result<Vec<Tally>, Fault>
         ensures together { AreTogether self.tap self.closed }
-        ensures settled { IfOk result (IsSettled self.tap self.closed) }
+        ensures settled { IfOk result (λ tallies. IsSettled self.tap self.closed self.tap.taken tallies.items) }
         ensures fault { IfErr result (IsFaultOfSettle self.tap self.closed self.leaf) }
     {
-        settle(alloc, self.queue, self.tap, self.closed, self.leaf)
+        settle_bare(alloc, self.queue, self.tap, self.closed, self.leaf)
     }
 }
 
 // The tap takes over the lists of each seat.
-fn gather_seats(queue: &RuledQueue, tap: &mut Tap, closed: &mut [ClosedSeat])
+fn gather_seats(queue: &RuledQueue, tap: &mut BareTap, closed: &mut [ClosedSeat])
     requires together { AreOpenedTogether queue.now tap.old closed.old }
     ensures together { AreOpenedTogether queue.now tap.new closed.new }
     ensures setup { tap.new.setup ≡ tap.old.setup }

@@ -5,7 +5,7 @@ use Rattle.std.specs.List.{flat_map, AllByRecursion}
 use Rattle.atomic_table.specs.Seated.{TableId}
 use Rattle.crossbeam_queue.specs.Fifo.{Held}
 use Rattle.clk_packet.specs.declared.packet.Packet.{Packet}
-use Rattle.clk_ruled.specs.declared.settling.Settled.{Settled}
+use Rattle.clk_packet.specs.declared.tally.Tally.{Tally}
 use Rattle.clk_ruled.specs.declared.view.Gathered.{Gathered}
 use Rattle.clk_ruled.specs.declared.view.Setup.{Setup}
 use Rattle.clk_ruled.specs.declared.view.View.{View}
@@ -26,14 +26,14 @@ use Rattle.clk_ruled.proofs.TapSteps.{TapKnows, tap-knows, knows-held}
 use Rattle.clk_ruled.proofs.Tally.{times_in_all, senders_named, of-times, named-length, counted, unroomed}
 
 -- what a tap keeps tells that its queue is accounted for
-pub accounted : (id : TableId) (v : View) (taken : List Packet) → TapKeeps v taken → IsAccounted (record { id = id; setup = v.setup; taken = taken; gathered = v.gathered })
-accounted id v taken k = let fits : FitsTap k.knows.1.0 k.knows.1.1 v = k.knows.1.3.1 k.taps in record {
+pub accounted : (id : TableId) (v : View) → TapKeeps v → IsAccounted (record { id = id; setup = v.setup; taken = v.taken; gathered = v.gathered })
+accounted id v k = let fits : FitsTap k.knows.1.0 k.knows.1.1 v = k.knows.1.3.1 k.taps in record {
   held = k.knows.0;
   books = k.knows.1.0;
   given = v.given;
   sound = k.knows.1.2;
   setup = fits.setup;
-  taken = sym k.taken_is ∙ fits.taken;
+  taken = fits.taken;
   gathered = fits.gathered;
 }
 
@@ -129,36 +129,36 @@ each-had : (tap : TapLists) (closed : List ClosedLists) → AreOfTap tap closed 
 each-had tap [] of all = tt
 each-had tap (c ∷ closed) of all = (of.0.had all.0, each-had tap closed of.1 all.1)
 
--- the tap's queue, by what the books say
-abbrev tap_of : TableId → View → List Packet → TapLists
-tap_of id v taken = record { id = id; setup = v.setup; taken = taken; gathered = v.gathered }
+-- the tap's queue, by what it knows
+abbrev tap_of : TableId → View → TapLists
+tap_of id v = record { id = id; setup = v.setup; taken = v.taken; gathered = v.gathered }
 
-all-seats : (id : TableId) (v : View) (taken held : List Packet) (closed : List ClosedLists) → TapKnows v taken held → HasAllSeats (tap_of id v taken) closed
-    → evicted_count (lists_of closed) + length taken + length held ≡ accepted_count (lists_of closed)
-all-seats id v taken held closed known seats =
-    let tap : TapLists = tap_of id v taken in
+all-seats : (id : TableId) (v : View) (held : List Packet) (closed : List ClosedLists) → TapKnows v held → HasAllSeats (tap_of id v) closed
+    → evicted_count (lists_of closed) + length v.taken + length held ≡ accepted_count (lists_of closed)
+all-seats id v held closed known seats =
+    let tap : TapLists = tap_of id v in
     let fit = each-fit known.books v.given tap (lists_of closed) known.gathered (each-had tap closed seats.together.each seats.gathered) in
     seats-balance known.books held tap (lists_of closed) known.sound known.taken_is (booked known.books held v.setup (lists_of closed) known.sound (sym known.setup) seats.together.senders fit)
 
-pub seats-within : (id : TableId) (v : View) (taken : List Packet) → TapKeeps v taken → (closed : List ClosedLists) → HasAllSeats (tap_of id v taken) closed → IsTakenWithin (tap_of id v taken) closed
-seats-within id v taken k closed seats = let all = all-seats id v taken k.knows.0 closed (tap-knows v taken k) seats in omega (arith, all)
+pub seats-within : (id : TableId) (v : View) → TapKeeps v → (closed : List ClosedLists) → HasAllSeats (tap_of id v) closed → IsTakenWithin (tap_of id v) closed
+seats-within id v k closed seats = let all = all-seats id v k.knows.0 closed (tap-knows v k) seats in omega (arith, all)
 
-pub seats-all : (id : TableId) (v : View) (taken : List Packet) → TapKeeps v taken → Held 0 (Knows v) → (closed : List ClosedLists) → HasAllSeats (tap_of id v taken) closed → IsAllTaken (tap_of id v taken) closed
-seats-all id v taken k held closed seats =
-    let all = all-seats id v taken held.0 closed (knows-held v taken held.0 k held.2) seats in let none = held.1 in omega (arith, all, none)
+pub seats-all : (id : TableId) (v : View) → TapKeeps v → Held 0 (Knows v) → (closed : List ClosedLists) → HasAllSeats (tap_of id v) closed → IsAllTaken (tap_of id v) closed
+seats-all id v k held closed seats =
+    let all = all-seats id v held.0 closed (knows-held v held.0 k held.2) seats in let none = held.1 in omega (arith, all, none)
 
 -- The tap has the lists of all seats, and so all is told.
-pub settles : (tap new : TapLists) (closed : List ClosedLists) (settled : Settled) → AreTogether tap closed → (new.setup ≡ tap.setup) × (new.taken ≡ tap.taken) → HasEach new (lists_of closed) → IsAccounted new
-    → settled.taken.items ≡ new.taken → settled.tallies.items ≡ map (tally_of (all_evicted (lists_of closed))) (lists_of closed)
-    → AllByRecursion IsSharedOut (lists_of closed) → (0 < lost_count (lists_of closed) → tap.setup.capacity ≤ accepted_count (lists_of closed)) → IsSettled tap closed settled
-settles tap new closed settled together same has a taken tallies shared reached =
+pub settles : (tap new : TapLists) (closed : List ClosedLists) (told : List Tally) → AreTogether tap closed → (new.setup ≡ tap.setup) × (new.taken ≡ tap.taken) → HasEach new (lists_of closed) → IsAccounted new
+    → told ≡ map (tally_of (all_evicted (lists_of closed))) (lists_of closed)
+    → AllByRecursion IsSharedOut (lists_of closed) → (0 < lost_count (lists_of closed) → tap.setup.capacity ≤ accepted_count (lists_of closed)) → IsSettled tap closed tap.taken told
+settles tap new closed told together same has a tallies shared reached =
     let b : Books = a.books in let seats : List SeatLists = lists_of closed in
     let setup : b.setup ≡ tap.setup = sym a.setup ∙ same.0 in
     let took : taken_in b.gone ≡ tap.taken = sym a.taken ∙ same.1 in
     let is = booked b a.held tap.setup seats a.sound setup together.senders (each-fit b a.given new seats a.gathered has) in
     let gone = evicted-length seats ∙ ap length (sym is.out) in let came = is.came in let mine = ap length took in
     let whole = account b a.held a.sound in record {
-      taken = taken ∙ same.1;
+      taken = refl;
       tallies = tallies;
       held = a.held;
       account = subst (λ (x : Setup × (ℕ → List Packet) × (ℕ → List Packet) × List Packet). IsAccount x.0.kind x.0.capacity (senders_of x.0) x.1 x.2 x.3 a.held)

@@ -1,5 +1,5 @@
 -- What the tap keeps as it pulls and gathers.
-use Rattle.std.proofs.Common.{◌≡◌, ℕ, ◌+◌, ◌<◌, ◌≤◌, ◌==◌, Bool, true, false, List, [], ◌∷◌, ◌++◌, length, refl, sym, ap, ◌∙◌, subst, ⊎_elim, inl, inr, arith}
+use Rattle.std.proofs.Common.{◌≡◌, ℕ, ◌+◌, ◌<◌, ◌≤◌, ◌==◌, Bool, true, false, List, [], ◌∷◌, ◌++◌, length, Option, None, Some, MatchOption, sym, ap, ◌∙◌, subst, refl, ⊎_elim, inl, inr, arith}
 use Rattle.std.proofs.lemmas.List.{length-append}
 use Rattle.crossbeam_queue.specs.Fifo.{Held}
 use Rattle.clk_packet.specs.declared.packet.Packet.{Packet}
@@ -20,61 +20,65 @@ use Rattle.clk_ruled.proofs.Tally.{one_more, times, times_in_all, counted, sende
 use Rattle.clk_ruled.proofs.TapLemmas.{rising-taken, fewer-taken}
 
 -- the tap after a pull
-pub keeps-pulled : (v w : View) (taken new : List Packet) (p : Packet) → TapKeeps v taken → (w ≡ tap_view v.setup (v.taken ++ p ∷ []) v.given v.gathered) × KnowsAfter w → new ≡ taken ++ p ∷ [] → TapKeeps w new
-keeps-pulled v w taken new p k is made =
+keeps-pulled : (v w : View) (p : Packet) → TapKeeps v → (w ≡ tap_view v.setup (v.taken ++ p ∷ []) v.given v.gathered) × KnowsAfter w → TapKeeps w
+keeps-pulled v w p k is =
     let setup : w.setup ≡ v.setup = ap (λ (u : View). u.setup) is.0 in record {
       taps = ap (λ (u : View). u.taps) is.0;
-      taken_is = ap (λ (u : View). u.taken) is.0 ∙ ap (λ l. l ++ p ∷ []) k.taken_is ∙ sym made;
       some = subst (λ (y : Setup). 1 ≤ y.capacity) (sym setup) k.some;
       knows = is.1;
     }
 
 -- the tap once it gathered a seat
-pub keeps-gathered : (v w u : View) (taken : List Packet) (g : Gathered) → TapKeeps v taken → w ≡ tap_view v.setup v.taken v.given (g ∷ v.gathered) → u ≡ w → KnowsAfter w → TapKeeps u taken
-keeps-gathered v w u taken g k is same knows = subst (λ (x : View). TapKeeps x taken) (sym same) record {
+pub keeps-gathered : (v w u : View) (g : Gathered) → TapKeeps v → w ≡ tap_view v.setup v.taken v.given (g ∷ v.gathered) → u ≡ w → KnowsAfter w → TapKeeps u
+keeps-gathered v w u g k is same knows = subst (λ (x : View). TapKeeps x) (sym same) record {
   taps = ap (λ (x : View). x.taps) is;
-  taken_is = ap (λ (x : View). x.taken) is ∙ k.taken_is;
   some = subst (λ (y : Setup). 1 ≤ y.capacity) (sym (ap (λ (x : View). x.setup) is)) k.some;
   knows = knows;
 }
 
 -- the tap where it found the queue empty
-pub keeps-still : (v w : View) (taken : List Packet) → TapKeeps v taken → w ≡ v → TapKeeps w taken
-keeps-still v w taken k is = subst (λ (u : View). TapKeeps u taken) (sym is) k
+keeps-still : (v w : View) → TapKeeps v → w ≡ v → TapKeeps w
+keeps-still v w k is = subst (λ (u : View). TapKeeps u) (sym is) k
+
+-- what a pull tells the tap
+abbrev pub IsAfterPull : View → Option Packet → View → Type 0
+IsAfterPull v got w = MatchOption got ((w ≡ v) × Held 0 (Knows v)) (λ p. (w ≡ tap_view v.setup (v.taken ++ p ∷ []) v.given v.gathered) × KnowsAfter w)
+
+pub keeps-after : (v w : View) (got : Option Packet) → TapKeeps v → IsAfterPull v got w → TapKeeps w
+keeps-after v w None k is = keeps-still v w k is.0
+keeps-after v w (Some p) k is = keeps-pulled v w p k is
+
+pub held-after : (v w : View) (got : Option Packet) → IsAfterPull v got w → got ≡ None → Held 0 (Knows w)
+held-after v w None is e = subst (λ (u : View). Held 0 (Knows u)) (sym is.0) is.1
+held-after v w (Some p) is e = absurd (cc)
 
 -- what the books say that the tap knows of
-pub record TapKnows (v : View) (taken held : List Packet) : Type 0 where
+pub record TapKnows (v : View) (held : List Packet) : Type 0 where
   pub books : Books
   pub sound : IsSound books held
   pub setup : v.setup ≡ books.setup
-  pub taken_is : taken ≡ taken_in books.gone
+  pub taken_is : v.taken ≡ taken_in books.gone
   pub gathered : AreGathered books v.given v.gathered
 
-pub knows-held : (v : View) (taken held : List Packet) → TapKeeps v taken → Knows v held → TapKnows v taken held
-knows-held v taken held k knows = let fits : FitsTap knows.0 knows.1 v = knows.3.1 k.taps in
-    record { books = knows.0; sound = knows.2; setup = fits.setup; taken_is = sym k.taken_is ∙ fits.taken; gathered = fits.gathered }
+pub knows-held : (v : View) (held : List Packet) → TapKeeps v → Knows v held → TapKnows v held
+knows-held v held k knows = let fits : FitsTap knows.0 knows.1 v = knows.3.1 k.taps in
+    record { books = knows.0; sound = knows.2; setup = fits.setup; taken_is = fits.taken; gathered = fits.gathered }
 
-pub tap-knows : (v : View) (taken : List Packet) (k : TapKeeps v taken) → TapKnows v taken k.knows.0
-tap-knows v taken k = knows-held v taken k.knows.0 k k.knows.1
+pub tap-knows : (v : View) (k : TapKeeps v) → TapKnows v k.knows.0
+tap-knows v k = knows-held v k.knows.0 k k.knows.1
 
 -- What was taken is within all that came.
-pub taken-within : (v : View) (taken : List Packet) → TapKeeps v taken → length taken ≤ rooms_in_all v.setup.rooms
-taken-within v taken k =
-    let known = tap-knows v taken k in let b = known.books in
+pub taken-within : (v : View) → TapKeeps v → length v.taken ≤ rooms_in_all v.setup.rooms
+taken-within v k =
+    let known = tap-knows v k in let b = known.books in
     let all = all-within b.setup.rooms b.all known.sound.senders_rise known.sound.room in
     let few = fewer-taken b.gone k.knows.0 in let long = ap length known.sound.order in let mine = ap length known.taken_is in
     let rooms : rooms_in_all v.setup.rooms ≡ rooms_in_all b.setup.rooms = ap (λ (y : Setup). rooms_in_all y.rooms) known.setup in omega (arith, all, few, long, mine, rooms)
 
-pub room-left : (v w : View) (taken : List Packet) (p : Packet) → TapKeeps v taken → (w ≡ tap_view v.setup (v.taken ++ p ∷ []) v.given v.gathered) × KnowsAfter w → length taken < rooms_in_all v.setup.rooms
-room-left v w taken p k is =
-    let within = taken-within w (taken ++ p ∷ []) (keeps-pulled v w taken (taken ++ p ∷ []) p k is refl) in
-    let long = length-append taken (p ∷ []) in
-    let rooms : rooms_in_all w.setup.rooms ≡ rooms_in_all v.setup.rooms = ap (λ (u : View). rooms_in_all u.setup.rooms) is.0 in omega (arith, within, long, rooms)
-
 -- Of each sender the numbers that were taken rise.
-pub taken-rises : (v : View) (taken : List Packet) → TapKeeps v taken → (s : ℕ) → AreRising (packet_numbers (of_sender s taken))
-taken-rises v taken k s =
-    let known = tap-knows v taken k in subst (λ l. AreRising (packet_numbers (of_sender s l))) (sym known.taken_is) (rising-taken s known.books.gone k.knows.0 (subst (λ l. AreRising (packet_numbers (of_sender s l))) known.sound.order (known.sound.rises s)))
+pub taken-rises : (v : View) → TapKeeps v → (s : ℕ) → AreRising (packet_numbers (of_sender s v.taken))
+taken-rises v k s =
+    let known = tap-knows v k in subst (λ l. AreRising (packet_numbers (of_sender s l))) (sym known.taken_is) (rising-taken s known.books.gone k.knows.0 (subst (λ l. AreRising (packet_numbers (of_sender s l))) known.sound.order (known.sound.rises s)))
 
 -- Each packet that was taken is of one of the senders.
 pub in-all : (p : Packet) (gone : List Out) (held : List Packet) → In p (taken_in gone) → In p (went_out gone ++ held)
@@ -93,9 +97,9 @@ in-named p (q ∷ packets) h = ⊎_elim
     (λ (x : In p packets). some-more (q.sender == p.sender) (times p.sender (senders_named packets)) (in-named p packets x))
     h
 
-pub taken-known : (v : View) (taken : List Packet) → TapKeeps v taken → AreOfSenders v.setup taken
-taken-known v taken k p h =
-    let known = tap-knows v taken k in let b = known.books in
+pub taken-known : (v : View) → TapKeeps v → AreOfSenders v.setup v.taken
+taken-known v k p h =
+    let known = tap-knows v k in let b = known.books in
     let came : In p b.all = subst (In p) (sym known.sound.order) (in-all p b.gone k.knows.0 (subst (In p) known.taken_is h)) in
     let some = in-named p b.all came in let count = of-times p.sender b.all in let room = known.sound.room p.sender in
     subst (λ (y : Setup). stands_in p.sender (senders_of y) ≡ true) (sym known.setup) (room-known b.setup.rooms p.sender (omega (arith, some, count, room)))
@@ -125,9 +129,9 @@ unknown v s all e true is = sym (all s is) ∙ e
 unknown v s all e false is = refl
 
 -- Where all seats were gathered, what the queue took was put out, or taken, or is held.
-taken-balances : (v : View) (taken held : List Packet) → TapKnows v taken held → EachGathered v
-    → length taken + evicted_in_all v.gathered + length held ≡ accepted_in_all v.gathered
-taken-balances v taken held known all =
+taken-balances : (v : View) (held : List Packet) → TapKnows v held → EachGathered v
+    → length v.taken + evicted_in_all v.gathered + length held ≡ accepted_in_all v.gathered
+taken-balances v held known all =
     let b = known.books in let sound = known.sound in let senders : List ℕ = gathered_senders v.gathered in
     let no_sender : (s : ℕ) → stands_in s senders ≡ false → stands_in s (senders_of b.setup) ≡ false = λ s e. ap (λ (y : Setup). stands_in s (senders_of y)) (sym known.setup) ∙ unknown v s all e (stands_in s (senders_of v.setup)) refl in
     let apart = gathered-apart b v.given v.gathered known.gathered in
@@ -139,8 +143,8 @@ taken-balances v taken held known all =
     let named = named-length b.all in let gone = gone-length b.gone in
     let mine = ap length known.taken_is in omega (arith, came, out, accepted, evicted, long, named, gone, mine)
 
-pub taken-fewer : (v : View) (taken : List Packet) → TapKeeps v taken → EachGathered v → length taken + evicted_in_all v.gathered ≤ accepted_in_all v.gathered
-taken-fewer v taken k all = let same = taken-balances v taken k.knows.0 (tap-knows v taken k) all in omega (arith, same)
+pub taken-fewer : (v : View) → TapKeeps v → EachGathered v → length v.taken + evicted_in_all v.gathered ≤ accepted_in_all v.gathered
+taken-fewer v k all = let same = taken-balances v k.knows.0 (tap-knows v k) all in omega (arith, same)
 
-pub taken-all : (v : View) (taken : List Packet) → TapKeeps v taken → Held 0 (Knows v) → EachGathered v → length taken + evicted_in_all v.gathered ≡ accepted_in_all v.gathered
-taken-all v taken k held all = let same = taken-balances v taken held.0 (knows-held v taken held.0 k held.2) all in let none = held.1 in omega (arith, same, none)
+pub taken-all : (v : View) → TapKeeps v → Held 0 (Knows v) → EachGathered v → length v.taken + evicted_in_all v.gathered ≡ accepted_in_all v.gathered
+taken-all v k held all = let same = taken-balances v held.0 (knows-held v held.0 k held.2) all in let none = held.1 in omega (arith, same, none)

@@ -6,7 +6,6 @@ use Rattle.clk_packet.specs.declared.tally.Tally.{Tally}
 use Rattle.clk_packet.specs.declared.fault.Fault.{Fault}
 use Rattle.clk_packet.specs.declared.fault.Fault.TheVariants.{Memory, Unsettled}
 use Rattle.clk_ruled.specs.declared.view.Gathered.{Gathered}
-use Rattle.clk_ruled.specs.declared.settling.Settled.{Settled}
 use Rattle.clk_packet.specs.Lists.{In, of_sender}
 use Rattle.clk_ruled.specs.PacketLists.{has_packet, without}
 use Rattle.clk_ruled.specs.Queue.{Queue, SeatLists, TapLists, ClosedLists, IsTapOf, IsSharedOut, accepted_in_all, evicted_in_all}
@@ -92,10 +91,10 @@ tally_by was_put_out l = record { sender = l.sender; accepted = l.accepted; refu
 abbrev pub tally_of : List Packet → SeatLists → Tally
 tally_of out l = tally_by (has_packet out) l
 
--- What settling a queue tells.
-pub record IsSettled (tap : TapLists) (closed : List ClosedLists) (settled : Settled) : Type 0 where
-  pub taken : settled.taken.items ≡ tap.taken
-  pub tallies : settled.tallies.items ≡ map (tally_of (all_evicted (lists_of closed))) (lists_of closed)
+-- What settling a queue tells: what was pulled, and the tallies of its senders.
+pub record IsSettled (tap : TapLists) (closed : List ClosedLists) (pulled : List Packet) (told : List Tally) : Type 0 where
+  pub taken : pulled ≡ tap.taken
+  pub tallies : told ≡ map (tally_of (all_evicted (lists_of closed))) (lists_of closed)
   -- there are packets that were held, with which the account is whole
   pub held : List Packet
   pub account : IsAccount tap.setup.kind tap.setup.capacity (senders_of tap.setup) (accepted_of (lists_of closed)) (evicted_of (lists_of closed)) tap.taken held

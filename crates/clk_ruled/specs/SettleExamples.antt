@@ -1,12 +1,11 @@
 -- What settling worked queues tells, what it never tells, and why one isn't settled.
-use Rattle.std.specs.Prelude.{◌≡◌, ℕ, false, List, [], ◌∷◌, map}
+use Rattle.std.specs.Prelude.{ℕ, false, List, [], ◌∷◌, map}
 use Rattle.atomic_table.specs.Seated.{TableId}
 use Rattle.clk_packet.specs.declared.packet.Packet.{Packet}
 use Rattle.clk_packet.specs.declared.packet.Kind.TheVariants.{TailDrop, FrontDrop}
 use Rattle.clk_packet.specs.declared.tally.Tally.{Tally}
 use Rattle.clk_packet.specs.declared.fault.Fault.{Fault}
 use Rattle.clk_ruled.specs.declared.view.Setup.{Setup}
-use Rattle.clk_ruled.specs.declared.settling.Settled.{Settled}
 use Rattle.clk_ruled.specs.Queue.{TapLists, ClosedLists, setup_of}
 use Rattle.clk_ruled.specs.Settle.{IsSettled, IsFaultOfSettle}
 use Rattle.clk_ruled.specs.Examples.{p0_0, p0_1, p1_0, p1_1, put_out}
@@ -18,12 +17,10 @@ pub record ClosedQueue : Type 0 where
 
 -- Settling the queue may tell that these were taken, and these tallies, or it never does.
 abbrev pub MayTell : (TableId → ClosedQueue) → List Packet → List Tally → Type 0
-MayTell queue taken tallies =
-    (id : TableId) (settled : Settled) → settled.taken.items ≡ taken → settled.tallies.items ≡ tallies → IsSettled (queue id).tap (queue id).seats settled
+MayTell queue taken tallies = (id : TableId) → IsSettled (queue id).tap (queue id).seats taken tallies
 
 abbrev pub NeverTells : (TableId → ClosedQueue) → List Packet → List Tally → Type 0
-NeverTells queue taken tallies =
-    (id : TableId) (settled : Settled) → settled.taken.items ≡ taken → settled.tallies.items ≡ tallies → ¬ (IsSettled (queue id).tap (queue id).seats settled)
+NeverTells queue taken tallies = (id : TableId) → ¬ (IsSettled (queue id).tap (queue id).seats taken tallies)
 
 -- The queue of this number may be refused with this fault, or never is.
 abbrev pub MayRefuse : (TableId → ClosedQueue) → ℕ → Fault → Type 0

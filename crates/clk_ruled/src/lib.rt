@@ -2,6 +2,7 @@
 //! for.
 #![tactic(auto)]
 
+mod bare;
 mod closed;
 mod examples;
 mod laws;
@@ -13,12 +14,13 @@ mod settling;
 mod tap;
 mod view;
 
+pub use bare::BareTap;
 pub use closed::ClosedSeat;
 pub use examples::{account_examples, fault_examples, settled_examples};
 pub use laws::{calls_keep_together, queues_keep_account};
-pub use open::Opened;
+pub use open::{Opened, OpenedBare};
 pub use queue::RuledQueue;
 pub use seat::Seat;
-pub use settling::{Settled, settle};
+pub use settling::{Settled, settle, settle_bare};
 pub use tap::Tap;
 pub use view::{Gathered, Setup, View};

@@ -9,6 +9,7 @@ ghost use Rattle.clk_ruled.specs.Queue.{setup_of, empty_seat};
 ghost use Rattle.clk_ruled.specs.inside.Parts.{IsSeated};
 ghost use Rattle.clk_ruled.specs.inside.Rule.{blank_view, tap_view, seat_view};
 
+use crate::bare::BareTap;
 use crate::protocol::{Open, Opening, Seated, Sending};
 use crate::queue::{Line, RuledQueue};
 use crate::seat::Seat;
@@ -136,6 +137,15 @@ pub struct Opened {
     pub tap: Tap,
 }
 
+/// A shared queue as it was opened, with a seat for each sender and a bare tap.
+#[derive(Drop)]
+pub struct OpenedBare {
+    pub queue: RuledQueue,
+    /// One seat for each sender, in order.
+    pub seats: Vec<Seat>,
+    pub tap: BareTap,
+}
+
 impl RuledQueue {
     ghost use Rattle.clk_ruled.specs.Queue.{IsOpened};
 
@@ -161,15 +171,40 @@ impl RuledQueue {
         ensures fault { IsOkUnless result Fault.Memory }
     {
         let room = room_in_all(senders);
+        let OpenedBare { queue, seats, tap } = RuledQueue::open_bare(
+            alloc, kind, capacity, senders,
+        )?;
+        let tap = Tap::keeping(alloc, tap, room as usize)?;
+        Ok(Opened { queue, seats, tap })
+    }
+
+    /// Opens a queue as `open` does, with a tap that keeps none of the packets that it pulls.
+    ///
+    /// # Errors
+    ///
+    /// Fault 1 where memory is refused.
+    pub fn open_bare(
+        alloc: Global,
+        kind: Kind,
+        capacity: u32,
+        senders: &[(u16, u32)],
+    ) -> Result<OpenedBare, Fault>
+        requires capacity { (1 ≤ capacity) × (capacity ≤ most_capacity) }
+        requires rising { AreRising (named_in senders.now) }
+        requires room { rooms_in_all senders.now ≤ most_capacity }
+        ensures opened { IfOk result (λ opened. IsOpened (setup_of kind capacity senders.now) opened.queue opened.seats.items opened.tap) }
+        ensures fault { IsOkUnless result Fault.Memory }
+    {
+        let room = room_in_all(senders);
         let (line, mut pass) = Line::ruled(alloc, places(capacity, room) as usize)?;
         set_up::<Brand>(&line, &mut pass, kind, capacity, senders);
         let seats = seats_for(alloc, &line, &mut pass, senders)?;
-        let tap = Tap::fresh(alloc, &line, pass, room as usize)?;
+        let tap = BareTap::fresh(&line, pass);
         let queue = RuledQueue {
             line,
             kind,
             capacity,
         };
-        Ok(Opened { queue, seats, tap })
+        Ok(OpenedBare { queue, seats, tap })
     }
 }

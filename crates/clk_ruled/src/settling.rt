@@ -7,8 +7,9 @@ ghost use Rattle.std.specs.Prelude.{◌≡◌, map, IfOk, IfErr, IsOkUnless};
 ghost use Rattle.std.specs.List.{AllByRecursion};
 ghost use Rattle.clk_ruled.specs.inside.Keys.{AreSorted, has_key};
 ghost use Rattle.clk_ruled.specs.Queue.{IsTapOf, IsSharedOut};
-ghost use Rattle.clk_ruled.specs.Settle.{AreOpenedTogether, AreOfTap, HasEach, IsAccounted, IsSettled, IsFaultOfSettle, lists_of, tally_by};
+ghost use Rattle.clk_ruled.specs.Settle.{AreOpenedTogether, AreOfTap, HasEach, IsSettled, IsFaultOfSettle, lists_of, tally_by};
 
+use crate::bare::BareTap;
 use crate::closed::ClosedSeat;
 use crate::queue::RuledQueue;
 use crate::tap::Tap;
@@ -41,21 +42,43 @@ pub fn settle(
     index: u16,
 ) -> Result<Settled, Fault>
     requires together { AreOpenedTogether queue tap closed.items }
-    ensures settled { IfOk result (IsSettled tap closed.items) }
+    ensures settled { IfOk result (λ settled. IsSettled tap closed.items settled.taken.items settled.tallies.items) }
+    ensures fault { IfErr result (IsFaultOfSettle tap closed.items index) }
+{
+    let (bare, taken) = tap.into_parts();
+    let tallies = settle_bare(alloc, queue, bare, closed, index)?;
+    Ok(Settled { tallies, taken })
+}
+
+/// Settles a queue with a bare tap as `settle` does: a tally for each sender, in order. What was pulled is known to contracts alone.
+///
+/// # Errors
+///
+/// Those of `settle`.
+pub fn settle_bare(
+    alloc: Global,
+    queue: RuledQueue,
+    tap: BareTap,
+    closed: Vec<ClosedSeat>,
+    index: u16,
+) -> Result<Vec<Tally>, Fault>
+    requires together { AreOpenedTogether queue tap closed.items }
+    ensures settled { IfOk result (λ tallies. IsSettled tap closed.items tap.taken tallies.items) }
     ensures fault { IfErr result (IsFaultOfSettle tap closed.items index) }
 {
     let mut tap = tap;
     let mut closed = closed;
     gather_all(&queue, &mut tap, &mut closed);
+    // That the queue is accounted for is known where it is read.
+    tap.stays_within();
     check_reached(&closed, queue.capacity, index)?;
     let keys = evicted_keys(alloc, &closed)?;
     let tallies = tallies(alloc, closed, &keys)?;
-    let taken = into_taken(tap);
-    Ok(Settled { tallies, taken })
+    Ok(tallies)
 }
 
 // The tap gathers all these seats.
-fn gather_all(queue: &RuledQueue, tap: &mut Tap, closed: &mut Vec<ClosedSeat>)
+fn gather_all(queue: &RuledQueue, tap: &mut BareTap, closed: &mut Vec<ClosedSeat>)
     requires queue { IsTapOf queue.now tap.old }
     requires together { AreOfTap tap.old closed.old.items }
     ensures lists { lists_of closed.new.items ≡ lists_of closed.old.items }
@@ -65,14 +88,6 @@ fn gather_all(queue: &RuledQueue, tap: &mut Tap, closed: &mut Vec<ClosedSeat>)
     for seat in closed.iter_mut() {
         tap.gather(queue, seat);
     }
-}
-
-// What the tap pulled, without taking memory.
-fn into_taken(tap: Tap) -> Vec<Packet>
-    ensures taken { result.items ≡ tap.taken }
-    ensures accounted { IsAccounted tap }
-{
-    tap.taken
 }
 
 // A tally for each seat, where the packets of these keys were put out.

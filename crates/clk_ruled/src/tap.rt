@@ -1,14 +1,12 @@
-//! What pulls packets from a shared queue.
+//! What pulls packets from a shared queue, and keeps them.
 
-ghost use Rattle.std.specs.Prelude.{◌≡◌, ◌≤◌, [], vec_capacity};
+ghost use Rattle.std.specs.Prelude.{◌≡◌, ◌≤◌, vec_capacity};
 
+use crate::bare::BareTap;
 use crate::closed::ClosedSeat;
-use crate::protocol::{Gather, Pull};
-use crate::queue::{Line, RuledQueue};
+use crate::queue::RuledQueue;
 use crate::seat::note;
-use crate::view::View;
 use clk_packet::{Fault, Packet};
-use crossbeam_queue::Pass;
 use std::alloc::Global;
 use std::marker::Model;
 use std::sync::Wait;
@@ -16,50 +14,39 @@ use std::sync::Wait;
 /// The tap of a shared queue. It keeps the packets that it pulled, in a list whose room was reserved when the queue was opened.
 #[derive(Drop)]
 pub struct Tap {
-    pass: Pass<Packet, View>,
-    pub(crate) taken: Vec<Packet>,
+    bare: BareTap,
+    taken: Vec<Packet>,
 }
 
 impl Model for Tap {
-    ghost use Rattle.std.specs.Prelude.{◌≡◌, ◌≤◌, [], vec_capacity};
-    ghost use Rattle.crossbeam_queue.specs.Passes.{view as known};
+    ghost use Rattle.std.specs.Prelude.{◌≡◌, ◌≤◌, vec_capacity};
     ghost use Rattle.clk_ruled.specs.Rooms.{rooms_in_all};
     ghost use Rattle.clk_ruled.specs.Queue.{TapLists};
-    ghost use Rattle.clk_ruled.specs.inside.Parts.{TapKeeps};
 
     ghost Value = { TapLists };
 
-    ghost view = { λ t. record { id = t.pass.table_id; setup = (known t.pass).setup; taken = t.taken.items; gathered = (known t.pass).gathered } };
+    ghost view = { λ t. t.bare };
 
-    ghost invariant = { λ t. TapKeeps (known t.pass) t.taken.items × (t.pass.me.1 ≡ []) × (rooms_in_all (known t.pass).setup.rooms ≤ vec_capacity t.taken) };
+    ghost invariant = { λ t. (t.bare.taken ≡ t.taken.items) × (rooms_in_all t.bare.setup.rooms ≤ vec_capacity t.taken) };
 }
 
 impl Tap {
     ghost use Rattle.std.specs.Prelude.{◌≡◌, ℕ, ◌≤◌, ◌+◌, true, false, List, [], length, None, IfOk, IsOkUnless};
-    ghost use Rattle.crossbeam_queue.specs.Passes.{view as known, IsPassOf};
     ghost use Rattle.clk_packet.specs.Lists.{of_sender, AreRising};
     ghost use Rattle.clk_ruled.specs.PacketLists.{packet_numbers};
     ghost use Rattle.clk_ruled.specs.Rooms.{rooms_in_all};
-    ghost use Rattle.clk_ruled.specs.Queue.{ClosedLists, IsTapOf, IsPulled, AreOfSenders, AreAllGathered, accepted_in_all, evicted_in_all, gathering, empty_tap};
+    ghost use Rattle.clk_ruled.specs.Queue.{ClosedLists, IsTapOf, IsPulled, AreOfSenders, AreAllGathered, accepted_in_all, evicted_in_all, gathering};
     ghost use Rattle.clk_ruled.specs.Settle.{HasAllSeats, IsTakenWithin, IsAllTaken};
 
-    // The tap of a queue that is open, with room for so many packets.
-    pub(crate) fn fresh(
-        alloc: Global,
-        line: &Line,
-        pass: Pass<Packet, View>,
-        room: usize,
-    ) -> Result<Tap, Fault>
-        requires queue { IsPassOf line.now pass }
-        requires taps { ((known pass).taps ≡ true) × ((known pass).taken ≡ []) × ((known pass).gathered ≡ []) × (1 ≤ (known pass).setup.capacity) }
-        requires room { rooms_in_all (known pass).setup.rooms ≤ room }
-        ensures fresh { IfOk result (λ tap. tap ≡ empty_tap pass.table_id (known pass).setup) }
+    // Keeps what a bare tap will pull, which pulled nothing so far and may pull so many packets.
+    pub(crate) fn keeping(alloc: Global, bare: BareTap, room: usize) -> Result<Tap, Fault>
+        requires none { bare.taken ≡ [] }
+        requires room { rooms_in_all bare.setup.rooms ≤ room }
+        ensures same { IfOk result (λ tap. tap ≡ bare) }
         ensures fault { IsOkUnless result Fault.Memory }
     {
-        let mut pass = pass;
-        line.learn_as::<Pull>(&mut pass);
         Ok(Tap {
-            pass,
+            bare,
             taken: Vec::with_capacity(alloc, room)?,
         })
     }
@@ -79,7 +66,7 @@ impl Tap {
         ensures seats_within { (closed : List ClosedLists) → HasAllSeats self.new closed → IsTakenWithin self.new closed }
         ensures seats_none { result ≡ None → (closed : List ClosedLists) → HasAllSeats self.new closed → IsAllTaken self.new closed }
     {
-        let pulled = queue.line.pop_as::<Pull, _>(wait, &mut self.pass);
+        let pulled = self.bare.pull(queue, wait);
         if let Some(packet) = pulled {
             note(&mut self.taken, packet);
         }
@@ -97,14 +84,7 @@ impl Tap {
         // As after a pull.
         ensures within { AreAllGathered self.new → length self.new.taken + evicted_in_all self.new.gathered ≤ accepted_in_all self.new.gathered }
     {
-        // What it pulled is within what came, also where nothing changes.
-        let _taken = self.taken.len();
-        if seat.gathered {
-            return;
-        }
-        let theirs = seat.give_up(&queue.line);
-        queue.line.absorb::<Gather>(&mut self.pass, theirs);
-        queue.line.learn_as::<Pull>(&mut self.pass);
+        self.bare.gather(queue, seat);
     }
 
     /// The packets that it pulled, in order.
@@ -113,6 +93,15 @@ impl Tap {
         // As after a pull.
         ensures seats_within { (closed : List ClosedLists) → HasAllSeats self.now closed → IsTakenWithin self.now closed }
     {
+        self.bare.stays_within();
         self.taken.as_slice()
+    }
+
+    // The bare tap, and the packets that it pulled, without taking memory.
+    pub(crate) fn into_parts(self) -> (BareTap, Vec<Packet>)
+        ensures tap { result.0 ≡ self }
+        ensures taken { result.1.items ≡ self.taken }
+    {
+        (self.bare, self.taken)
     }
 }

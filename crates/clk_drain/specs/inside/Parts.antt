@@ -4,7 +4,6 @@ use Rattle.std.specs.List.{flat_map, AllByRecursion}
 use Rattle.std.specs.List.Sorted.{IsPermutation, IsNonDecreasingBy}
 use Rattle.clk_packet.specs.declared.packet.Packet.{Packet}
 use Rattle.clk_packet.specs.declared.tally.Tally.{Tally}
-use Rattle.clk_ruled.specs.declared.settling.Settled.{Settled}
 use Rattle.clk_ruled.specs.Settle.{AreTogether, IsSettled, tally_of, all_evicted, accepted_count, evicted_count}
 use Rattle.clk_sched.specs.Session.{Progress, counted_moment, GivesAll}
 use Rattle.clk_drain.specs.Line.{LineLists, seats_of, lasting_of, AreStill, AreLinesOf}
@@ -48,8 +47,8 @@ pub record IsDrainOf (session : Progress) (lines : List LineLists) (moment left 
 -- The queue of a line is settled.
 pub record IsSettledLine (l : LineLists) : Type 0 where
   pub together : AreTogether l.tap l.closed
-  pub settled : Settled
-  pub is : IsSettled l.tap l.closed settled
+  pub tallies : List Tally
+  pub is : IsSettled l.tap l.closed l.tap.taken tallies
 
 -- the tallies of a line, and of all lines
 abbrev pub tallies_of : LineLists → List Tally

@@ -11,7 +11,7 @@ use crate::running::inlets::{Inlet, Inlets};
 use crate::running::opening::{Ends, LeafQueue};
 use crate::running::producer::Producer;
 use clk_packet::Fault;
-use clk_ruled::{Seat, Tap};
+use clk_ruled::{BareTap, Seat};
 use std::alloc::Global;
 use std::sync::Wait;
 
@@ -83,7 +83,7 @@ fn hand_out_device<'a, W: Wait>(
 fn inlets_for<'a>(
     alloc: Global,
     queues: &'a [LeafQueue],
-    taps: Vec<Tap>,
+    taps: Vec<BareTap>,
 ) -> Result<Vec<Inlet<'a>>, Fault>
     requires taps { AreTapsOf queues.now taps.items }
     ensures inlets { IfOk result (λ inlets. inlets.items ≡ lines_from queues.now taps.items) }

@@ -2,7 +2,7 @@
 
 use crate::device::DeviceSession;
 use clk_packet::{Fault, Packet};
-use clk_ruled::{RuledQueue, Tap};
+use clk_ruled::{BareTap, RuledQueue};
 use clk_sched::Ask;
 use std::alloc::Global;
 use std::marker::Model;
@@ -13,7 +13,7 @@ use std::sync::Wait;
 pub struct Inlet<'a> {
     pub leaf: u16,
     pub queue: &'a RuledQueue,
-    pub tap: Tap,
+    pub tap: BareTap,
 }
 
 impl<'a> Model for Inlet<'a> {
@@ -48,7 +48,7 @@ impl<'a> Inlet<'a> {
     }
 
     /// The tap.
-    pub fn into_tap(self) -> Tap
+    pub fn into_tap(self) -> BareTap
         ensures { result ≡ self.entry.tap }
     {
         self.tap
@@ -119,7 +119,7 @@ impl<'a, W: Wait> Inlets<'a, W> {
     /// # Errors
     ///
     /// Fault 1 where memory is refused.
-    pub fn into_taps(self, alloc: Global) -> Result<Vec<Tap>, Fault>
+    pub fn into_taps(self, alloc: Global) -> Result<Vec<BareTap>, Fault>
         ensures taps { IfOk result (λ taps. taps.items ≡ map (λ (l : LineLists). l.tap) self.entry) }
         ensures fault { IsOkUnless result Fault.Memory }
     {

@@ -1,4 +1,4 @@
--- What a seat and the tap keep: their lists are those of their view, and there is room for all that may come.
+-- What a seat and the tap keep: the lists of a seat are those of its view, and there is room for all that may come.
 use Rattle.std.specs.Prelude.{◌≡◌, ℕ, ◌≤◌, true, false, List, [], ◌∷◌, ◌++◌, length, map, ⊤}
 use Rattle.clk_packet.specs.declared.packet.Packet.{Packet}
 use Rattle.clk_packet.specs.declared.packet.Kind.TheVariants.{TailDrop, FrontDrop}
@@ -23,10 +23,9 @@ pub record SeatFits (v : View) (sender room next : ℕ) (accepted refused evicte
   pub tail_drop : v.setup.kind ≡ TailDrop → evicted ≡ []
   pub front_drop : v.setup.kind ≡ FrontDrop → refused ≡ []
 
--- what was taken is what the view says, and the books know of it
-pub record TapKeeps (v : View) (taken : List Packet) : Type 0 where
+-- the books know of what was taken
+pub record TapKeeps (v : View) : Type 0 where
   pub taps : v.taps ≡ true
-  pub taken_is : v.taken ≡ taken
   pub some : 1 ≤ v.setup.capacity
   pub knows : KnowsAfter v
 

@@ -4,7 +4,7 @@ use Rattle.clk_ruled.specs.inside.Keys.{AreKeysOf, has_key}
 use Rattle.clk_ruled.specs.Queue.{Queue, SeatLists, IsSharedOut}
 use Rattle.clk_ruled.specs.Settle.{lists_of, all_evicted, accepted_count, lost_count, tally_by}
 use Rattle.clk_ruled.proofs.Settlement.{settles, tallies-same}
-use Rattle.clk_ruled.proofs.settling.settle.Goals as goal
+use Rattle.clk_ruled.proofs.settling.settle_bare.Goals as goal
 
 pub returns-clause-settled : goal.returns-clause-settled
 returns-clause-settled c =
@@ -15,7 +15,7 @@ returns-clause-settled c =
     let capacity : c.queue.inside.capacity ≡ c.args.tap.setup.capacity = ap (λ (q : Queue). q.capacity) (c.queue.view_is ∙ c.requires.together.0) in
     let keys : AreKeysOf (all_evicted seats) c.deref-3.result.now =
     subst (λ (k : List (ℕ × ℕ)). AreKeysOf (all_evicted seats) k) (sym c.deref-3.ensures.value) (subst (λ (l : List SeatLists). AreKeysOf (all_evicted l) c.in_ok-keys.keys.items) seen_again c.in_ok-keys.ensures.keys) in
-    settles c.args.tap c.gather_all.new.tap c.args.closed.items _ c.requires.together.1 gathered.tap gathered.gathered c.into_taken-taken.ensures.accounted c.into_taken-taken.ensures.taken
+    settles c.args.tap c.gather_all.new.tap c.args.closed.items _ c.requires.together.1 gathered.tap gathered.gathered c.stays_within.ensures.accounted
     (c.in_ok-tallies.ensures.tallies ∙ ap (map (tally_by (has_key c.deref-3.result.now))) gathered.lists ∙ tallies-same (all_evicted seats) c.deref-3.result.now keys seats)
     (subst (AllByRecursion IsSharedOut) gathered.lists c.in_ok-tallies.ensures.shared)
     (subst (λ (x : List SeatLists × ℕ). 0 < lost_count x.0 → x.1 ≤ accepted_count x.0) (λ i. (seen i, capacity i)) c.in_ok-check_reached.ensures.reached)

@@ -1,8 +1,0 @@
-use Rattle.std.proofs.Common.{List, subst}
-use Rattle.clk_ruled.specs.Queue.{TapLists, ClosedLists}
-use Rattle.clk_ruled.specs.Settle.{HasAllSeats, IsTakenWithin}
-use Rattle.clk_ruled.proofs.Settlement.{seats-within}
-use Rattle.clk_ruled.proofs.tap.Tap.taken.Goals as goal
-
-pub returns-clause-seats_within : goal.returns-clause-seats_within
-returns-clause-seats_within c = subst (λ (t : TapLists). (closed : List ClosedLists) → HasAllSeats t closed → IsTakenWithin t closed) c.self.view_is (seats-within _ _ _ c.self.invariant.0)

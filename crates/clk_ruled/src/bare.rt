@@ -1,0 +1,99 @@
+//! What pulls packets from a shared queue, and keeps none of them.
+
+use crate::closed::ClosedSeat;
+use crate::protocol::{Gather, Pull};
+use crate::queue::{Line, RuledQueue};
+use crate::view::View;
+use clk_packet::Packet;
+use crossbeam_queue::Pass;
+use std::marker::Model;
+use std::sync::Wait;
+
+/// The bare tap of a shared queue. What it pulled stands in contracts alone: it takes no memory.
+#[derive(Drop)]
+pub struct BareTap {
+    pass: Pass<Packet, View>,
+}
+
+impl Model for BareTap {
+    ghost use Rattle.std.specs.Prelude.{◌≡◌, []};
+    ghost use Rattle.crossbeam_queue.specs.Passes.{view as known};
+    ghost use Rattle.clk_ruled.specs.Queue.{TapLists};
+    ghost use Rattle.clk_ruled.specs.inside.Parts.{TapKeeps};
+
+    ghost Value = { TapLists };
+
+    ghost view = { λ t. record { id = t.pass.table_id; setup = (known t.pass).setup; taken = (known t.pass).taken; gathered = (known t.pass).gathered } };
+
+    ghost invariant = { λ t. TapKeeps (known t.pass) × (t.pass.me.1 ≡ []) };
+}
+
+impl BareTap {
+    ghost use Rattle.std.specs.Prelude.{◌≡◌, ℕ, ◌≤◌, ◌+◌, true, false, List, [], length, None};
+    ghost use Rattle.crossbeam_queue.specs.Passes.{view as known, IsPassOf};
+    ghost use Rattle.clk_packet.specs.Lists.{of_sender, AreRising};
+    ghost use Rattle.clk_ruled.specs.PacketLists.{packet_numbers};
+    ghost use Rattle.clk_ruled.specs.Rooms.{rooms_in_all};
+    ghost use Rattle.clk_ruled.specs.Queue.{ClosedLists, IsTapOf, IsPulled, AreOfSenders, AreAllGathered, accepted_in_all, evicted_in_all, gathering, empty_tap};
+    ghost use Rattle.clk_ruled.specs.Settle.{HasAllSeats, IsAccounted, IsTakenWithin, IsAllTaken};
+
+    // The tap of a queue that is open.
+    pub(crate) fn fresh(line: &Line, pass: Pass<Packet, View>) -> BareTap
+        requires queue { IsPassOf line.now pass }
+        requires taps { ((known pass).taps ≡ true) × ((known pass).taken ≡ []) × ((known pass).gathered ≡ []) × (1 ≤ (known pass).setup.capacity) }
+        ensures { result ≡ empty_tap pass.table_id (known pass).setup }
+    {
+        let mut pass = pass;
+        line.learn_as::<Pull>(&mut pass);
+        BareTap { pass }
+    }
+
+    /// Pulls the packet at the front of the queue that the tap was opened with, or answers none where it found it empty. Takes
+    /// no memory.
+    pub fn pull(&mut self, queue: &RuledQueue, wait: &impl Wait) -> Option<Packet>
+        requires together { IsTapOf queue.now self.old }
+        ensures pulled { IsPulled self.old result self.new }
+        ensures rises { (s : ℕ) → AreRising (packet_numbers (of_sender s self.new.taken)) }
+        ensures known { AreOfSenders self.new.setup self.new.taken }
+        // No more is taken than may be offered.
+        ensures room { length self.new.taken ≤ rooms_in_all self.new.setup.rooms }
+        // With every seat gathered, the packets taken are never more than those accepted, less those evicted, and none comes only
+        // where they are as many.
+        ensures within { AreAllGathered self.new → length self.new.taken + evicted_in_all self.new.gathered ≤ accepted_in_all self.new.gathered }
+        ensures none { result ≡ None → AreAllGathered self.new → length self.new.taken + evicted_in_all self.new.gathered ≡ accepted_in_all self.new.gathered }
+        // The same by the closed seats.
+        ensures seats_within { (closed : List ClosedLists) → HasAllSeats self.new closed → IsTakenWithin self.new closed }
+        ensures seats_none { result ≡ None → (closed : List ClosedLists) → HasAllSeats self.new closed → IsAllTaken self.new closed }
+    {
+        queue.line.pop_as::<Pull, _>(wait, &mut self.pass)
+    }
+
+    /// Takes over the lists of a closed seat that was opened together with the tap. The seat's readers answer as before. A
+    /// second time changes nothing. Takes no memory.
+    pub fn gather(&mut self, queue: &RuledQueue, seat: &mut ClosedSeat)
+        requires together { IsTapOf queue.now self.old }
+        requires seat { (seat.old.lists.id ≡ self.old.id) × (seat.old.lists.setup ≡ self.old.setup) }
+        ensures seat { seat.new ≡ record { lists = seat.old.lists; is_gathered = true } }
+        ensures gathers { seat.old.is_gathered ≡ false → self.new ≡ gathering self.old seat.old.lists }
+        ensures again { seat.old.is_gathered ≡ true → self.new ≡ self.old }
+        // As after a pull.
+        ensures within { AreAllGathered self.new → length self.new.taken + evicted_in_all self.new.gathered ≤ accepted_in_all self.new.gathered }
+    {
+        // What it pulled is within what came, also where nothing changes.
+        let _pass = &self.pass;
+        if seat.gathered {
+            return;
+        }
+        let theirs = seat.give_up(&queue.line);
+        queue.line.absorb::<Gather>(&mut self.pass, theirs);
+        queue.line.learn_as::<Pull>(&mut self.pass);
+    }
+
+    /// Does nothing. What it says is so at any time, as after a pull.
+    pub fn stays_within(&self)
+        ensures accounted { IsAccounted self.now }
+        ensures seats_within { (closed : List ClosedLists) → HasAllSeats self.now closed → IsTakenWithin self.now closed }
+    {
+        let _pass = &self.pass;
+    }
+}
