@@ -1,6 +1,6 @@
 //! The queues of a router.
 
-ghost use Rattle.std.specs.Prelude.{◌≡◌, ◌≢◌, ℕ, ◌<◌, length, map, nat_lt, slice_index, IfOk, IsOkUnless};
+ghost use Rattle.std.specs.Prelude.{◌≡◌, ◌≢◌, ℕ, ◌<◌, ◌≤◌, length, map, nat_lt, slice_index, IfOk, IsOkUnless};
 ghost use Rattle.std.specs.List.{AllByRecursion};
 ghost use Rattle.clk_tree.specs.PlanParts.{queued, HasCapacity};
 ghost use Rattle.clk_router.specs.declared.queues.TheConstants.{FILLED};
@@ -79,13 +79,15 @@ impl Ask for Queues {
         if number >= self.marks.len() || self.marks[number] == FILLED {
             return 0;
         }
-        count_idle(&self.marks[number..]).min(usize::from(count)) as u16
+        let end = self.marks.len().min(number + usize::from(count));
+        count_idle(&self.marks[number..end]) as u16
     }
 }
 
 /// How many of these marks stand before the first of a queue that may hold a packet.
 fn count_idle(marks: &[u8]) -> usize
-    ensures { (k : ℕ) → k < result → slice_index marks.now k ≢ FILLED }
+    ensures within { result ≤ length marks.now }
+    ensures idle { (k : ℕ) → k < result → slice_index marks.now k ≢ FILLED }
 {
     match memchr(FILLED, marks) {
         Some(place) => place,
