@@ -63,7 +63,7 @@ impl Line {
         ensures gathered { IsGatheredFrom self.old self.new }
     {
         gather_seats(&self.queue, &mut self.tap, &mut self.closed);
-        // That no more was taken than came is known where it is read.
+        // It tells that no more was taken than came.
         self.tap.stays_within();
     }
 

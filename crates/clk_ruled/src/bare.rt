@@ -94,6 +94,7 @@ impl BareTap {
         ensures accounted { IsAccounted self.now }
         ensures seats_within { (closed : List ClosedLists) → HasAllSeats self.now closed → IsTakenWithin self.now closed }
     {
+        // The invariant is known where a field is read.
         let _pass = &self.pass;
     }
 }

@@ -69,7 +69,7 @@ pub fn settle_bare(
     let mut tap = tap;
     let mut closed = closed;
     gather_all(&queue, &mut tap, &mut closed);
-    // That the queue is accounted for is known where it is read.
+    // It tells that the queue is accounted for.
     tap.stays_within();
     check_reached(&closed, queue.capacity, index)?;
     let keys = evicted_keys(alloc, &closed)?;

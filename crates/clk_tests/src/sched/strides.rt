@@ -110,15 +110,16 @@ fn stride_over_all(rt: &impl Abort, alloc: Global) -> Result<Tree, Fault> {
     Tree::stride(tickets, leaves)
 }
 
-// Queues 5 and 13, which have the same tickets, are busy. Of the others one gets two packets now and then.
+// Queues 3 and 19, which have the same tickets, are busy. At every third pull the next of all queues gets two packets more. So there are
+// eight idle ones and more in a row, of one pass and of several, and fewer.
 #[test]
 fn turns_are_those_of_the_rule(rt: HostRuntime) -> Result<(), Fault> {
     let tree = stride_over_all(&rt, rt.alloc())?;
     assert!(rt; tree.leaves_distinct());
     let mut session = Session::new(rt.alloc(), tree)?;
     let mut queues = Left(vec![in rt.alloc(); 0; 20]?);
-    queues.add(5, 1000);
-    queues.add(13, 1000);
+    queues.add(3, 1000);
+    queues.add(19, 1000);
     let mut rule = Rule::new(rt.alloc())?;
     for pull in 0..500 {
         if pull % 3 == 0 {
