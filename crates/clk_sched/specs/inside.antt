@@ -6,6 +6,7 @@ pub mod Kept
 pub mod LaidOut
 pub mod Logged
 pub mod Looking
+pub mod Making
 pub mod Marks
 pub mod Places
 pub mod Pulling

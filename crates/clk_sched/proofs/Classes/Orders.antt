@@ -6,6 +6,7 @@ use Rattle.std.proofs.lemmas.Nat.{mod-mul-add}
 use Rattle.std.proofs.lemmas.List.{length-map}
 use Rattle.std.proofs.lemmas.List.FromFn.{length-enumerate_from}
 use Rattle.clk_sched.specs.Turns.{Turn, giver}
+pub use Rattle.clk_sched.specs.inside.Making.{IsPlace}
 use Rattle.clk_sched.specs.Laws.Priority.{priority_order}
 use Rattle.clk_sched.specs.Laws.RoundRobin.{beginning, round_robin_order}
 use Rattle.clk_sched.specs.Laws.Stride.{passes_after, passes_of, put_in_order, in_rising_order, stride_order}
@@ -56,11 +57,7 @@ wrap n m l = by_order (nat_lt m n) refl
         let rest : m % n ≡ m - n = ap (λ k. k % n) is ∙ mod-mul-add 1 n (m - n) (omega arith) in
         subst (Wraps n m) (sym rest) (record { within = omega arith; place = inr (omega arith) })
 
--- Input i is so many places after input s, around n inputs, and the place is one from a lowest on.
-pub record IsPlace (n s j i : ℕ) : Type 0 where
-  pub within : i < n
-  pub place : (s + j ≡ i) ⊎ (s + j ≡ i + n)
-
+-- an input beyond a number of places
 pub record IsBeyond (n s low i : ℕ) : Type 0 where
   pub places : ℕ
   pub above : low ≤ places

@@ -123,9 +123,9 @@ win-next pass stride row now place idle above d r next l m e is =
     ∙ sym (ap (λ k. take idle row ++ after_win pass stride k (drop idle row)) more)
 
 -- what holds of a rank that is put among others that it holds of
-pub put-all : (P : Rank → Type 0) (r : Rank) (others : List Rank) → P r → AllByRecursion P others → AllByRecursion P (put_rank r others)
-put-all P r [] one h = (one, tt)
-put-all P r (other ∷ others) one h = by_test (is_up_to r other) (put-all P r others one h.1)
+pub put-holds : (P : Rank → Type 0) (r : Rank) (others : List Rank) → P r → AllByRecursion P others → AllByRecursion P (put_rank r others)
+put-holds P r [] one h = (one, tt)
+put-holds P r (other ∷ others) one h = by_test (is_up_to r other) (put-holds P r others one h.1)
   where
     by_test : (b : Bool) → AllByRecursion P (put_rank r others) → AllByRecursion P (if b then r ∷ other ∷ others else other ∷ put_rank r others)
     by_test true rest = (one, h)
@@ -135,8 +135,8 @@ win-all : (P Q : Rank → Type 0) (pass stride place : ℕ) (row : List Rank) �
     → AllByRecursion Q row → AllByRecursion P (drop (suc place) row) → AllByRecursion P (after_win pass stride place row)
 win-all P Q pass stride zero [] f h k = tt
 win-all P Q pass stride (suc place) [] f h k = tt
-win-all P Q pass stride zero (r ∷ others) f h k = put-all P (at_pass (pass + stride) r) others (f r h.0).1 k
-win-all P Q pass stride (suc place) (r ∷ others) f h k = put-all P (at_pass pass r) (after_win pass stride place others) (f r h.0).0 (win-all P Q pass stride place others f h.1 k)
+win-all P Q pass stride zero (r ∷ others) f h k = put-holds P (at_pass (pass + stride) r) others (f r h.0).1 k
+win-all P Q pass stride (suc place) (r ∷ others) f h k = put-holds P (at_pass pass r) (after_win pass stride place others) (f r h.0).0 (win-all P Q pass stride place others f h.1 k)
 
 -- passes rise
 lower : (least pass : ℕ) (ranks : List Rank) → least ≤ pass → AllByRecursion (λ (r : Rank). pass ≤ r.pass) ranks → AllByRecursion (λ (r : Rank). least ≤ r.pass) ranks
@@ -148,7 +148,7 @@ put-rises r (other ∷ others) h = by_test (is_up_to r other) refl (put-rises r 
   where
     by_test : (b : Bool) → is_up_to r other ≡ b → HasRisingPasses (put_rank r others) → HasRisingPasses (if b then r ∷ other ∷ others else other ∷ put_rank r others)
     by_test true e rest = let l : r.pass ≤ other.pass = grind (arith, nat_tests) in ((l, lower r.pass other.pass others l h.0), h)
-    by_test false e rest = (put-all (λ (o : Rank). other.pass ≤ o.pass) r others (grind (arith, nat_tests)) h.0, rest)
+    by_test false e rest = (put-holds (λ (o : Rank). other.pass ≤ o.pass) r others (grind (arith, nat_tests)) h.0, rest)
 
 win-rises : (pass stride place : ℕ) (row : List Rank) → HasRisingPasses row → HasRisingPasses (after_win pass stride place row)
 win-rises pass stride zero [] h = tt

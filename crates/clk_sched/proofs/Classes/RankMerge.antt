@@ -9,7 +9,7 @@ use Rattle.clk_sched.specs.inside.Ranks.{with_pass, IsBefore, AreInOrder, AreUpT
 use Rattle.clk_sched.specs.Laws.Stride.{put_in_order}
 use Rattle.clk_sched.proofs.Lists.Members.{all-weaker}
 use Rattle.clk_sched.proofs.Lists.Rising.{put-put}
-use Rattle.clk_sched.proofs.Classes.RankLemmas.{put-here, put-all, front-kept, in_order-front, in_order-after, win-each}
+use Rattle.clk_sched.proofs.Classes.RankLemmas.{put-here, put-holds, front-kept, in_order-front, in_order-after, win-each}
 use Rattle.clk_sched.proofs.Classes.StridePasses.{put-pairs}
 
 -- a rank, of its pair
@@ -64,7 +64,7 @@ put-up r (s ∷ others) h = by_test (is_up_to r s) refl (put-up r others h.1)
   where
     by_test : (b : Bool) → is_up_to r s ≡ b → AreUpTo (put_rank r others) → AreUpTo (if b then r ∷ s ∷ others else s ∷ put_rank r others)
     by_test true e rest = ((e, all-weaker (λ o. is_up_to s o ≡ true) (λ o. is_up_to r o ≡ true) others (λ o k. up-then r s o e k) h.0), h)
-    by_test false e rest = (put-all (λ o. is_up_to s o ≡ true) r others (up-other r s e) h.0, rest)
+    by_test false e rest = (put-holds (λ o. is_up_to s o ≡ true) r others (up-other r s e) h.0, rest)
 
 before-up : (r s : Rank) → IsBefore r s → is_up_to r s ≡ true
 before-up r s h = by_test (is_up_to r s) refl

@@ -12,12 +12,8 @@ use Rattle.clk_sched.specs.Log.{visits_of, turn, asks, pulls_below}
 use Rattle.clk_sched.specs.Laws.{with_heads, manner, Follows, AllowsTurn, Obeys}
 use Rattle.clk_sched.specs.Run.{GetsResult, EachObeys}
 use Rattle.clk_sched.specs.Step.{EachAllows}
+pub use Rattle.clk_sched.specs.inside.Making.{onto}
 use Rattle.clk_sched.proofs.Lists.Members.{all-append, each-from_all, each-weaker, each-both, each-mapped, each-filtered}
-
--- what follows put onto what came before, which has the latest first
-abbrev pub onto : {X : Type 0} → List X → List X → List X
-onto [] earlier = earlier
-onto (x ∷ xs) earlier = onto xs (x ∷ earlier)
 
 pub onto-append : {X : Type 0} (xs earlier : List X) → onto xs earlier ≡ reverse xs ++ earlier
 onto-append [] earlier = refl

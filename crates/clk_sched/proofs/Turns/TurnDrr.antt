@@ -1,5 +1,5 @@
 -- The turn of a DRRSched, visit by visit.
-use Rattle.std.proofs.Common.{◌≡◌, ◌≢◌, ℕ, zero, suc, ◌+◌, ◌-◌, ◌%◌, ◌<◌, ◌≤◌, Bool, true, false, if◌then◌else◌, List, [], ◌∷◌, ◌++◌, length, map, slice_get, Option, Some, None, IsSome, IfSome, MatchBool, inl, inr, refl, sym, ap, ◌∙◌, subst, mod-eq_of_lt, arith}
+use Rattle.std.proofs.Common.{◌≡◌, ◌≢◌, ℕ, zero, suc, ◌+◌, ◌-◌, ◌%◌, ◌<◌, Bool, true, false, if◌then◌else◌, List, [], ◌∷◌, ◌++◌, length, map, slice_get, Option, Some, None, IsSome, IfSome, MatchBool, inl, inr, refl, sym, ap, ◌∙◌, subst, mod-eq_of_lt, arith}
 use Rattle.std.specs.List.{AllByRecursion}
 use Rattle.std.proofs.lemmas.List.{map-append, length-append}
 use Rattle.std.specs.Global.{Box}
@@ -20,6 +20,7 @@ use Rattle.clk_sched.specs.Places.{Answers}
 use Rattle.clk_sched.specs.inside.Places.{AllFit, edges_of, edges_at, edges_in, input_at, queue_asked}
 use Rattle.clk_sched.specs.inside.Pulling.{AreApart, input_of, CanPull, Keeps, AsksAll, GoesOnBy, IsUnasked, added, now_of, with_turn, TakesTurn}
 use Rattle.clk_sched.specs.inside.Looking.{LooksAt, AreIdleAhead}
+use Rattle.clk_sched.specs.inside.Making.{HasMade, IsAround, IsMaking, RowFits, MayGoOn, GoesOnInVain}
 use Rattle.clk_sched.specs.inside.Turning.{HadTurn, IsIdle}
 use Rattle.clk_packet.specs.Lists.{In}
 use Rattle.clk_sched.proofs.Lists.Members.{to-all, all-append, all-weaker}
@@ -56,17 +57,6 @@ has-looked gives b c q r x mid last got passed l =
       lawful = l.looks.lawful;
       holds = l.looks.holds;
     }
-
--- A DRRSched made these visits of its own, to inputs of which it names none twice.
-pub record HasMade {S : Type 0} (gives : S → ℕ → Option Packet → S → Type 0) (old new : Nodes) (before now : S) (x : ℕ) (first last : Deficits) (own : List Visit) : Type 0 where
-  pub keeps : Keeps old new (edges_in old.inputs.items x (map input_of own))
-  pub answers : Answers gives (queue_asked old.inputs.items) before (added old new) now
-  pub asks : AsksAll old new x (map input_of own) own
-  pub length_is : length last.row.items ≡ length first.row.items
-  pub within : AllByRecursion (λ (v : Visit). v.input < length first.row.items) own
-  pub apart : AreApart input_of own
-  pub lawful : (quanta : List ℕ) (inputs : ℕ) (earlier : List Visit) → HoldsDeficits quanta inputs earlier first
-      → EachAfter (LooksAtHeads (next_input inputs) (deficit_covers quanta)) earlier own × HoldsDeficits quanta inputs (onto own earlier) last
 
 in-map : (v : Visit) (own : List Visit) → In v own → In v.input (map input_of own)
 in-map v [] m = absurd m
@@ -117,20 +107,6 @@ made-then gives a b c p q r x first mid last own v h within new k =
     second : Keeps b c (edges_at a.inputs.items x v.input)
     second = subst (λ t. Keeps b c (edges_at t x v.input)) h.keeps.inputs k.keeps
 
--- So many visits were made of which none passed, to one input after another, around.
-pub record IsAround (n s count : ℕ) (v : Visit) : Type 0 where
-  pub places : ℕ
-  pub below : places < count
-  pub place : IsPlace n s places v.input
-
-pub record IsMaking {S : Type 0} (gives : S → ℕ → Option Packet → S → Type 0) (old new : Nodes) (before now : S) (x : ℕ) (first last : Deficits) (count : ℕ) : Type 0 where
-  pub own : List Visit
-  pub made : HasMade gives old new before now x first last own
-  pub count_is : length own ≡ count
-  pub vain : AllByRecursion (λ (v : Visit). v.passed ≡ false) own
-  pub around : AllByRecursion (IsAround (length first.row.items) first.cursor count) own
-  pub next : IsPlace (length first.row.items) first.cursor count last.cursor
-
 pub making-first : {S : Type 0} (gives : S → ℕ → Option Packet → S → Type 0) (a : Nodes) (q : S) (x : ℕ) (d : Deficits) → AllFit a.inputs.items a.states.items → IsMaking gives a a q q x d d 0
 making-first gives a q x d fit =
     record {
@@ -162,10 +138,6 @@ making-new gives a b p q x first mid count h l i e =
 
     s : ℕ
     s = first.cursor
-
--- a row of the inputs of a node
-abbrev pub RowFits : List Inputs → ℕ → Deficits → Type 0
-RowFits table x d = IfSome (slice_get table x) (λ (p : Inputs). length d.row.items ≡ length p.each.items)
 
 record HasRow (table : List Inputs) (x : ℕ) (d : Deficits) : Type 0 where
   inputs : Inputs
@@ -279,15 +251,36 @@ pub record HasEnded {S : Type 0} (gives : S → ℕ → Option Packet → S → 
   pub end : EndAtPass (length first.row.items) own
   pub result : got ≡ result_of own
 
--- an input is left to be looked at, and one to be passed over
+-- an input is left to be looked at
 pub looks-below : (d : Deficits) (looks count : ℕ) → looks < count → count ≡ length d.row.items → looks < length d.row.items
 looks-below d looks count below all = omega (arith, below, all)
 
-pub passing-below : (d : Deficits) (looks idle count : ℕ) → count ≡ length d.row.items → looks + idle ≤ count → 0 < idle → looks < length d.row.items
-passing-below d looks idle count all left some = omega (arith, all, left, some)
-
 pub first-idle : {S : Type 0} (gives : S → ℕ → Option Packet → S → Type 0) (n : Nodes) (q : S) (x : ℕ) (d : Deficits) (idle : ℕ) → AreIdleAhead gives n q x d idle → 0 < idle → IsIdle gives n q x d.cursor
 first-idle gives n q x d idle h some = let here : d.cursor + 0 ≡ d.cursor = omega arith in subst (λ i. IsIdle gives n q x i) here (h.each 0 some)
+
+-- A DRRSched that may go on stands over its inputs, and can ask the next.
+pub going-fits : {S : Type 0} (gives : S → ℕ → Option Packet → S → Type 0) (a : Nodes) (q : S) (x : ℕ) (d : Deficits) (more : ℕ) → MayGoOn gives a q x d more → (x < length a.inputs.items) × RowFits a.inputs.items x d
+going-fits gives a q x d more h =
+    let same = h.making.made.keeps.inputs in (
+      subst (λ (table : List Inputs). x < length table) (sym same) h.can.there,
+      row-still h.first.inputs.items a.inputs.items x h.begun d same h.making.made.length_is h.fits,
+    )
+
+pub going-can : {S : Type 0} (gives : S → ℕ → Option Packet → S → Type 0) (a b : Nodes) (q : S) (x : ℕ) (d mid : Deficits) (more k : ℕ) → MayGoOn gives a q x d more → GoesOnInVain gives a b q x d mid k → k < more
+    → CanPull b x (edges_at b.inputs.items x mid.cursor)
+going-can gives a b q x d mid more k h goes l =
+    let within = h.within in
+    (making-can gives h.first b h.before q x h.begun mid (h.looks + k) h.can h.fits (goes h.first h.before h.begun h.looks h.making (omega (arith, within, l))) (omega (arith, within, l))).0
+
+-- the visits in vain, none so far and one more
+pub goes-none : {S : Type 0} (gives : S → ℕ → Option Packet → S → Type 0) (a : Nodes) (q : S) (x : ℕ) (d : Deficits) → GoesOnInVain gives a a q x d d 0
+goes-none gives a q x d first before begun looks h l = let same : looks ≡ looks + 0 = omega arith in subst (IsMaking gives first a before q x begun d) same h
+
+pub goes-next : {S : Type 0} (gives : S → ℕ → Option Packet → S → Type 0) (a b c : Nodes) (q : S) (x : ℕ) (d mid last : Deficits) (k : ℕ) → GoesOnInVain gives a b q x d mid k → LooksAt gives b c q q x mid last None false
+    → GoesOnInVain gives a c q x d last (k + 1)
+goes-next gives a b c q x d mid last k goes look first before begun looks h l =
+    let same : looks + k + 1 ≡ looks + (k + 1) = omega arith in
+    subst (IsMaking gives first c before q x begun last) same (making-next gives first b c before q q x begun mid last (looks + k) None false (goes first before begun looks h (omega (arith, l))) (omega (arith, l)) look refl)
 
 pub making-passed : {S : Type 0} (gives : S → ℕ → Option Packet → S → Type 0) (a b c : Nodes) (p q r : S) (x : ℕ) (first mid last : Deficits) (count : ℕ) (got : Option Packet) (passed : Bool) → IsMaking gives a b p q x first mid count
     → count < length first.row.items → LooksAt gives b c q r x mid last got passed → passed ≡ true → HasEnded gives a c p r x first last got

@@ -89,12 +89,12 @@ impl Deficits {
     ghost use Rattle.clk_sched.specs.inside.Held.{heads_in};
     ghost use Rattle.std.specs.Global.{Box};
     ghost use Rattle.clk_sched.specs.declared.session.drr.Deficits.{Deficits};
-    ghost use Rattle.clk_sched.specs.Places.{Answers};
-    ghost use Rattle.clk_sched.specs.inside.Places.{edges_of, edges_at, input_at, queue_asked};
+    ghost use Rattle.clk_sched.specs.inside.Places.{edges_of, edges_at, input_at};
     ghost use Rattle.clk_sched.specs.inside.Pulling.{CanPull};
     ghost use Rattle.clk_sched.specs.inside.Turning.{WasPulled, HadTurn, IsIdle};
     ghost use Rattle.clk_sched.specs.inside.Holds.OfClass.{IsDrr};
     ghost use Rattle.clk_sched.specs.inside.Looking.{looking, IsHead, Logs, Settles, LooksAt, AreIdleAhead};
+    ghost use Rattle.clk_sched.specs.inside.Making.{MayGoOn, GoesOnInVain};
     ghost use Rattle.clk_sched.specs.declared.session.state.State.TheVariants.{Drr};
 
     /// What a DRRSched with these quanta, one for each input, holds before its first visit.
@@ -190,12 +190,7 @@ impl Deficits {
                     }
                     looks += 1;
                     if got.is_none() {
-                        let mut idle = self.idle_ahead(nodes, q, node, inputs - looks);
-                        while idle > 0 && self.head().is_none() {
-                            self.pass_over(nodes, q, node);
-                            looks += 1;
-                            idle -= 1;
-                        }
+                        looks += self.pass_over_idle(nodes, q, node, inputs - looks);
                     }
                 }
             }
@@ -237,6 +232,23 @@ impl Deficits {
     {
         let got = nodes.ask(q, node, self.cursor);
         (got, self.visit(nodes, node, got, true))
+    }
+
+    /// Passes over inputs from the one whose turn it is on, of so many at most, that are queues of which it is known that they have nothing, up
+    /// to one at which a head is held. It answers how many these are.
+    #[inline]
+    fn pass_over_idle<Q: Ask>(&mut self, nodes: &mut Nodes, q: &Q, node: u16, most: u16) -> u16
+        requires { MayGoOn Q.gives nodes.old q.now node self.old most }
+        ensures few { result ≤ most }
+        ensures goes_on { GoesOnInVain Q.gives nodes.old nodes.new q.now node self.old self.new result }
+    {
+        let idle = self.idle_ahead(nodes, q, node, most);
+        let mut passed = 0;
+        while passed < idle && self.head().is_none() {
+            self.pass_over(nodes, q, node);
+            passed += 1;
+        }
+        passed
     }
 
     /// How many inputs from the one whose turn it is on, of so many at most and with none left out, are queues of which it is known that they

@@ -14,7 +14,8 @@ use crate::visit::Visit;
 use clk_packet::Packet;
 use std::mem::{forget, replace};
 
-/// From how many inputs on it takes less to look for those that have nothing than to ask each.
+/// From how many inputs on it takes less to look for those that have nothing than to ask each. Whether all have nothing is looked for at any
+/// number.
 pub const MANY: u16 = 8;
 
 /// The nodes of a tree in a pull, with the log.
@@ -128,8 +129,8 @@ impl Nodes {
         if usize::from(last) != usize::from(first) + usize::from(MANY) - 1 {
             return 0;
         }
-        let behind = self.inputs[node as usize].each.len() - usize::from(first);
-        let idle = self.idle_from(q, node, first, order.len().min(behind) as u16);
+        let left = self.inputs[node as usize].each.len() - usize::from(first);
+        let idle = self.idle_from(q, node, first, order.len().min(left) as u16);
         let count = following(&order[..usize::from(idle)]);
         self.record_idle(node, first, count as u16);
         count

@@ -1,4 +1,4 @@
-use Rattle.std.proofs.Common.{IfSome, slice_get, ◌≡◌, ◌+◌, ◌<◌, ◌≤◌, true, false, true≢false, ◌∷◌, [], length, take, Some, None, IsSome, refl, sym, ap, ap₂, ◌∙◌, subst, arith}
+use Rattle.std.proofs.Common.{IfSome, slice_get, ◌≡◌, ◌+◌, ◌<◌, ◌≤◌, true, true≢false, ◌∷◌, [], length, take, Some, None, IsSome, refl, sym, ap, ap₂, ◌∙◌, subst, arith}
 use Rattle.std.specs.Global.{Box}
 use Rattle.std.specs.List.{AllByRecursion, range_with_len}
 use Rattle.std.proofs.lemmas.List.{length-drop, length-map}
@@ -25,7 +25,7 @@ use Rattle.clk_sched.proofs.Nodes.Logged.{edge-there, queue-answers, asked-logge
 use Rattle.clk_sched.proofs.Nodes.Idle.{idle-room}
 use Rattle.clk_sched.proofs.Turns.IdleTurns.{prio-passed}
 use Rattle.clk_sched.proofs.Turns.LooksDrr.{looks-at-asked}
-use Rattle.clk_sched.proofs.Turns.TurnDrr.{looks-below, passing-below, first-idle, idle-behind, making-first, making-can, making-next, making-passed, making-all, had-ended}
+use Rattle.clk_sched.proofs.Turns.TurnDrr.{looks-below, making-first, making-can, making-next, making-passed, making-all, had-ended}
 use Rattle.clk_sched.proofs.Turns.TurnStride.{FitsAt, stride-in_order, stride-may, had-won, had-lost}
 use Rattle.clk_sched.proofs.Turns.ShaperRow.{below-refused, below-answered, whole-answered, answers-keep, goes-may, goes-room, goes-edges, goes-order, goes-inputs}
 use Rattle.clk_sched.specs.inside.Tokens.{GoesDown}
@@ -296,50 +296,34 @@ drr::Deficits::turn-returns-then-passed g t c =
     (making-passed g.Q.Ask.gives c.args.nodes.now c.loop-looks.nodes c.look_by_asking-got.new.nodes c.args.q.now c.loop-looks.q c.look_by_asking-got.new.q c.args.node c.args.self.now c.loop-looks.self c.look_by_asking-got.new.self
     c.loop-looks.looks c.look_by_asking-got.result.0 c.look_by_asking-got.result.1 c.loop-looks.invariant.0 below c.look_by_asking-got.ensures c.if-passed.true)
 
-pub drr::Deficits::turn-loop-looks-smaller-else-is_none-2 : goal.drr::Deficits::turn-loop-looks-smaller-else-is_none-2
-drr::Deficits::turn-loop-looks-smaller-else-is_none-2 g t c = let more = c.loop-looks-test.true in let made = c.loop-idle.invariant.more in omega (arith, more, made)
-
-pub drr::Deficits::turn-loop-looks-smaller-in-loop-idle : goal.drr::Deficits::turn-loop-looks-smaller-in-loop-idle
-drr::Deficits::turn-loop-looks-smaller-in-loop-idle g t c = let more = c.loop-looks-test.true in let made = c.loop-idle.invariant.more in omega (arith, more, made)
-
-pub drr::Deficits::turn-loop-looks-preserved-else-is_none-2 : goal.drr::Deficits::turn-loop-looks-preserved-else-is_none-2
-drr::Deficits::turn-loop-looks-preserved-else-is_none-2 g t c = let left = c.loop-idle.invariant.left in (c.loop-idle.invariant.making, omega (arith, left))
-
-pub drr::Deficits::turn-loop-looks-preserved-in-loop-idle : goal.drr::Deficits::turn-loop-looks-preserved-in-loop-idle
-drr::Deficits::turn-loop-looks-preserved-in-loop-idle g t c = let left = c.loop-idle.invariant.left in (c.loop-idle.invariant.making, omega (arith, left))
-
-pub drr::Deficits::turn-loop-idle-init : goal.drr::Deficits::turn-loop-idle-init
-drr::Deficits::turn-loop-idle-init g t c =
+-- what the visits have come to once one that asked got nothing
+pub drr::Deficits::turn-pass_over_idle-looks-requires : goal.drr::Deficits::turn-pass_over_idle-looks-requires
+drr::Deficits::turn-pass_over_idle-looks-requires g t c =
     let below : c.loop-looks.looks < length c.args.self.now.row.items = looks-below c.args.self.now c.loop-looks.looks c.len-inputs.result c.loop-looks-test.true c.len-inputs.ensures.value in
-    let few = c.idle_ahead-idle.ensures.few in
+    let count = c.len-inputs.ensures.value in
     record {
+      first = c.args.nodes.now;
+      before = c.args.q.now;
+      begun = c.args.self.now;
+      looks = c.loop-looks.looks + 1;
+      can = c.requires.can_pull;
+      fits = c.requires.fits;
       making = making-next g.Q.Ask.gives c.args.nodes.now c.loop-looks.nodes c.look_by_asking-got.new.nodes c.args.q.now c.loop-looks.q c.look_by_asking-got.new.q c.args.node c.args.self.now c.loop-looks.self c.look_by_asking-got.new.self
           c.loop-looks.looks c.look_by_asking-got.result.0 c.look_by_asking-got.result.1 c.loop-looks.invariant.0 below c.look_by_asking-got.ensures c.if-passed.false;
-      ahead = c.idle_ahead-idle.ensures.ahead;
-      more = omega arith;
-      left = omega (arith, few, below);
+      within = omega (arith, below, count);
     }
 
-pub drr::Deficits::turn-pass_over-requires-clause-can_pull : goal.drr::Deficits::turn-pass_over-requires-clause-can_pull
-drr::Deficits::turn-pass_over-requires-clause-can_pull g t c =
-    let below = passing-below c.args.self.now c.loop-idle.looks c.loop-idle.idle c.len-inputs.result c.len-inputs.ensures.value c.loop-idle.invariant.left c.loop-idle-test.true in
-    (making-can g.Q.Ask.gives c.args.nodes.now c.loop-idle.nodes c.args.q.now c.look_by_asking-got.new.q c.args.node c.args.self.now c.loop-idle.self c.loop-idle.looks c.requires.can_pull c.requires.fits c.loop-idle.invariant.making below).0
-
-pub drr::Deficits::turn-pass_over-requires-clause-idle : goal.drr::Deficits::turn-pass_over-requires-clause-idle
-drr::Deficits::turn-pass_over-requires-clause-idle g t c = first-idle g.Q.Ask.gives c.loop-idle.nodes c.look_by_asking-got.new.q c.args.node c.loop-idle.self c.loop-idle.idle c.loop-idle.invariant.ahead c.loop-idle-test.true
-
-pub drr::Deficits::turn-loop-idle-preserved : goal.drr::Deficits::turn-loop-idle-preserved
-drr::Deficits::turn-loop-idle-preserved g t c =
-    let below = passing-below c.args.self.now c.loop-idle.looks c.loop-idle.idle c.len-inputs.result c.len-inputs.ensures.value c.loop-idle.invariant.left c.loop-idle-test.true in
-    let left = c.loop-idle.invariant.left in
-    let more = c.loop-idle.invariant.more in
-    record {
-      making = making-next g.Q.Ask.gives c.args.nodes.now c.loop-idle.nodes c.pass_over.new.nodes c.args.q.now c.look_by_asking-got.new.q c.look_by_asking-got.new.q c.args.node c.args.self.now c.loop-idle.self c.pass_over.new.self c.loop-idle.looks None false
-          c.loop-idle.invariant.making below c.pass_over.ensures refl;
-      ahead = idle-behind g.Q.Ask.gives c.loop-idle.nodes c.pass_over.new.nodes c.look_by_asking-got.new.q c.args.node c.loop-idle.self c.pass_over.new.self c.loop-idle.idle c.loop-idle.invariant.ahead c.loop-idle-test.true c.pass_over.ensures;
-      more = omega (arith, more);
-      left = omega (arith, left);
-    }
+pub drr::Deficits::turn-loop-looks-preserved-then-is_none : goal.drr::Deficits::turn-loop-looks-preserved-then-is_none
+drr::Deficits::turn-loop-looks-preserved-then-is_none g t c =
+    let below : c.loop-looks.looks < length c.args.self.now.row.items = looks-below c.args.self.now c.loop-looks.looks c.len-inputs.result c.loop-looks-test.true c.len-inputs.ensures.value in
+    let count = c.len-inputs.ensures.value in
+    let few = c.pass_over_idle-looks.ensures.few in (
+      c.pass_over_idle-looks.ensures.goes_on c.args.nodes.now c.args.q.now c.args.self.now (c.loop-looks.looks + 1)
+          (making-next g.Q.Ask.gives c.args.nodes.now c.loop-looks.nodes c.look_by_asking-got.new.nodes c.args.q.now c.loop-looks.q c.look_by_asking-got.new.q c.args.node c.args.self.now c.loop-looks.self c.look_by_asking-got.new.self
+          c.loop-looks.looks c.look_by_asking-got.result.0 c.look_by_asking-got.result.1 c.loop-looks.invariant.0 below c.look_by_asking-got.ensures c.if-passed.false)
+          (omega (arith, below, count, few)),
+      omega (arith, below, count, few),
+    )
 
 pub drr::Deficits::turn-loop-looks-preserved : goal.drr::Deficits::turn-loop-looks-preserved
 drr::Deficits::turn-loop-looks-preserved g t c =

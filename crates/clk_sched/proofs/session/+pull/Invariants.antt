@@ -2,8 +2,7 @@ use Rattle.std.proofs.Common.{ℕ, ◌+◌, ◌*◌, ◌-◌, ◌≤◌, length,
 use Rattle.std.specs.List.{range_with_len}
 use Rattle.clk_sched.specs.inside.Ranks.{inputs_in}
 use Rattle.clk_sched.proofs.Nodes.Asking.{IsAsking}
-use Rattle.clk_sched.specs.inside.Looking.{AreIdleAhead}
-use Rattle.clk_sched.proofs.Turns.TurnDrr.{IsMaking}
+use Rattle.clk_sched.specs.inside.Making.{IsMaking}
 use Rattle.clk_sched.proofs.session.+pull.Given as goal
 
 -- a node is pulled before those below it, and each step of its pull before the next
@@ -69,14 +68,3 @@ decreases-drr::Deficits::turn-loop-looks g l = l.inputs - l.looks
 
 abbrev pub invariant-drr::Deficits::turn-loop-looks : goal.invariant-drr::Deficits::turn-loop-looks
 invariant-drr::Deficits::turn-loop-looks g l = IsMaking g.Q.Ask.gives l.initial.nodes l.nodes l.initial.q l.q l.node l.initial.self l.self l.looks × (l.looks ≤ l.inputs)
-
-abbrev pub decreases-drr::Deficits::turn-loop-idle : goal.decreases-drr::Deficits::turn-loop-idle
-decreases-drr::Deficits::turn-loop-idle g l = l.idle
-
-abbrev pub invariant-drr::Deficits::turn-loop-idle : goal.invariant-drr::Deficits::turn-loop-idle
-invariant-drr::Deficits::turn-loop-idle g l = record {
-  making : IsMaking g.Q.Ask.gives l.fn.nodes l.nodes l.fn.q l.q l.node l.fn.self l.self l.looks;
-  ahead : AreIdleAhead g.Q.Ask.gives l.nodes l.q l.node l.self l.idle;
-  more : l.initial.looks ≤ l.looks;
-  left : l.looks + l.idle ≤ l.inputs;
-}

@@ -17,8 +17,8 @@ few-taken : (order : List Rank) (idle behind looked n : ℕ) {most : ℕ} → id
 few-taken order idle behind looked n l is same within =
     let size = length-take-le looked order (omega (arith, l, is, same)) in (omega (arith, l, is, same), omega (arith, size, within), omega (arith, l, is, same, size, within))
 
-pub overflow_sub-behind : goal.overflow_sub-behind
-overflow_sub-behind g c =
+pub overflow_sub-left : goal.overflow_sub-left
+overflow_sub-left g c =
     let a = c.args.self.now in
     let some = c.if-order-from.false in
     let many = c.from.ensures in
