@@ -189,7 +189,7 @@ impl Deficits {
                         return got;
                     }
                     looks += 1;
-                    if got.is_none() {
+                    if got.is_none() && inputs - looks >= MANY {
                         looks += self.pass_over_idle(nodes, q, node, inputs - looks);
                     }
                 }
@@ -236,7 +236,8 @@ impl Deficits {
 
     /// Passes over inputs from the one whose turn it is on, of so many at most, that are queues of which it is known that they have nothing, up
     /// to one at which a head is held. It answers how many these are.
-    #[inline]
+    // It stands outside of the turn, so that heads which are held pay nothing for it.
+    #[inline(never)]
     fn pass_over_idle<Q: Ask>(&mut self, nodes: &mut Nodes, q: &Q, node: u16, most: u16) -> u16
         requires { MayGoOn Q.gives nodes.old q.now node self.old most }
         ensures few { result ≤ most }

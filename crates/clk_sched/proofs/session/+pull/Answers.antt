@@ -313,8 +313,8 @@ drr::Deficits::turn-pass_over_idle-looks-requires g t c =
       within = omega (arith, below, count);
     }
 
-pub drr::Deficits::turn-loop-looks-preserved-then-is_none : goal.drr::Deficits::turn-loop-looks-preserved-then-is_none
-drr::Deficits::turn-loop-looks-preserved-then-is_none g t c =
+pub drr::Deficits::turn-loop-looks-preserved-then-inputs-looks-ge-MANY : goal.drr::Deficits::turn-loop-looks-preserved-then-inputs-looks-ge-MANY
+drr::Deficits::turn-loop-looks-preserved-then-inputs-looks-ge-MANY g t c =
     let below : c.loop-looks.looks < length c.args.self.now.row.items = looks-below c.args.self.now c.loop-looks.looks c.len-inputs.result c.loop-looks-test.true c.len-inputs.ensures.value in
     let count = c.len-inputs.ensures.value in
     let few = c.pass_over_idle-looks.ensures.few in (
