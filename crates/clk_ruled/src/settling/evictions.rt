@@ -47,6 +47,9 @@ pub fn evicted_among(
     ensures fault { IsOkUnless result Fault.Memory }
 {
     let mut evicted = Vec::new(alloc);
+    if keys.is_empty() {
+        return Ok(evicted);
+    }
     // Packets rise by number, and so do the keys of a sender: the next stands right after the one before, or would.
     let mut place = 0;
     for packet in packets {
