@@ -6,10 +6,12 @@ use Rattle.std.proofs.Math.Seq.{map-set_same}
 use Rattle.std.proofs.lemmas.Bool.{or_left, or_right}
 use Rattle.std.proofs.lemmas.Bool.Decides.{nat_tests}
 use Rattle.std.proofs.lemmas.Cmp.{ranked}
+use Rattle.std.proofs.lemmas.List.{get_or_default}
 use Rattle.std.specs.List.{AllByRecursion}
 use Rattle.clk_packet.specs.declared.packet.Packet.{Packet}
 use Rattle.clk_packet.specs.Lists.{AreRising}
 use Rattle.clk_drain.specs.Line.{LineLists, leaves_of, pulling, pulling_all, packets_of, answered, PullsAt, has_line}
+use Rattle.clk_drain.specs.inside.Parts.{IsPlaceOf}
 use Rattle.clk_drain.proofs.Growing.{pulling-none, all-none}
 
 pub other-are : (m n : ℕ) → m < n → ((m == n) ≡ false) × ((n == m) ≡ false)
@@ -69,10 +71,18 @@ asked-there lines leaf got place d rise lt e = record {
   has = has-at lines leaf place d lt e;
 }
 
--- `seen` is what the search looks at, and `line` what was read at the place.
-pub asked-at : (lines seen old : List LineLists) (leaf : ℕ) (got : Option Packet) (place : ℕ) (line new : LineLists) → seen ≡ lines → lines ≡ old → AreRising (leaves_of lines)
-    → ((d : LineLists) → nat_cmp (get_or seen place d).leaf leaf ≡ Equal) → place < length seen → line ≡ get_or lines place line → new ≡ pulling line (packets_of got) → IsAsked old leaf got (set lines place new)
-asked-at lines seen old leaf got place line new same is rise found lt read pulled =
-    let found_here : (get_or lines place line).leaf ≡ leaf = ranked (get_or lines place line).leaf leaf _ (sym (subst (λ ls. nat_cmp (get_or ls place line).leaf leaf ≡ Equal) same (found line))) in
-    let here = asked-there lines leaf got place line rise (subst (λ ls. place < length ls) same lt) found_here in
+-- `line` is what was read at the place.
+pub asked-at : (lines old : List LineLists) (leaf : ℕ) (got : Option Packet) (place : ℕ) (line new : LineLists) → lines ≡ old → AreRising (leaves_of lines) → IsPlaceOf lines leaf place
+    → line ≡ get_or lines place line → new ≡ pulling line (packets_of got) → IsAsked old leaf got (set lines place new)
+asked-at lines old leaf got place line new is rise found read pulled =
+    let here = asked-there lines leaf got place line rise found.within (found.leaf_is line) in
     subst (λ (x : List LineLists × LineLists). IsAsked x.0 leaf got (set lines place x.1)) (λ i. (is i, sym (pulled ∙ ap (λ l. pulling l (packets_of got)) read) i)) here
+
+-- a line that was read where its leaf stands is there
+pub place-read : (lines : List LineLists) (leaf place : ℕ) (line : LineLists) → place < length lines → line ≡ get_or lines place line → line.leaf ≡ leaf → IsPlaceOf lines leaf place
+place-read lines leaf place line within read its =
+    record { within = within; leaf_is = λ d. ap (λ (l : LineLists). l.leaf) (get_or_default lines place d line within ∙ sym read) ∙ its }
+
+-- so is one that a search finds
+pub place-found : (lines : List LineLists) (leaf place : ℕ) → place < length lines → ((d : LineLists) → nat_cmp (get_or lines place d).leaf leaf ≡ Equal) → IsPlaceOf lines leaf place
+place-found lines leaf place within found = record { within = within; leaf_is = λ d. ranked (get_or lines place d).leaf leaf _ (sym (found d)) }

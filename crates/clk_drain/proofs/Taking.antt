@@ -14,7 +14,7 @@ use Rattle.clk_sched.specs.Closing.{GivesOut, TakesOne}
 use Rattle.clk_packet.specs.Lists.{AreRising}
 use Rattle.clk_drain.specs.Line.{LineLists, leaves_of, pulling, pulling_all, packets_of, answered, PullsAt, has_line}
 use Rattle.clk_drain.specs.Parts.{HasGathered, IsWithin, HasAllTaken}
-use Rattle.clk_drain.specs.inside.Parts.{IsGathered, held_of, held_at}
+use Rattle.clk_drain.specs.inside.Parts.{IsGathered, IsPlaceOf, held_of, held_at}
 use Rattle.clk_drain.proofs.Placing.{below-at, other-are, stays}
 
 -- One answer of a line, where no more was taken than came, and none came only where all was.
@@ -72,19 +72,17 @@ pub record AreTaken (old : List LineLists) (leaf : ℕ) (got : Option Packet) (n
   pub gathered : AllByRecursion IsGathered new
   pub takes : TakesOne (held_at old) (held_at new) leaf got
 
--- `seen` is what the search looks at, and `line` what was read at the place and pulled.
-pub taken-at : (lines seen : List LineLists) (leaf : ℕ) (got : Option Packet) (place : ℕ) (line new : LineLists) → seen ≡ lines → AreRising (leaves_of lines) → ((d : LineLists) → nat_cmp (get_or seen place d).leaf leaf ≡ Equal) → place < length seen
+-- `line` is what was read at the place and pulled.
+pub taken-at : (lines : List LineLists) (leaf : ℕ) (got : Option Packet) (place : ℕ) (line new : LineLists) → AreRising (leaves_of lines) → IsPlaceOf lines leaf place
     → line ≡ get_or lines place line → new ≡ pulling line (packets_of got) → (HasGathered new → IsWithin new) → (got ≡ None → HasGathered new → HasAllTaken new) → PullsAt lines leaf got (set lines place new) → AllByRecursion IsGathered lines
     → AreTaken lines leaf got (set lines place new)
-taken-at lines seen leaf got place line new same rise found bound read pulled within none pulls all =
-    let lt : place < length lines = subst (λ ls. place < length ls) same bound in
-    let at : (get_or lines place line).leaf ≡ leaf = ranked (get_or lines place line).leaf leaf _ (sym (subst (λ ls. nat_cmp (get_or ls place line).leaf leaf ≡ Equal) same (found line))) in
+taken-at lines leaf got place line new rise found read pulled within none pulls all =
     let is : new ≡ pulling (get_or lines place line) (packets_of got) = pulled ∙ ap (λ l. pulling l (packets_of got)) read in
-    let had : HasGathered new = subst HasGathered (sym is) (gathered-at lines place line lt all).all in
+    let had : HasGathered new = subst HasGathered (sym is) (gathered-at lines place line found.within all).all in
     let gives = line-gives (get_or lines place line) got (subst IsWithin is (within had)) (λ e. subst HasAllTaken is (none e had)) in record {
       gathered = gathered-set lines place new (record { all = had; within = within had }) all;
       takes = record {
-        here = subst (λ after. GivesOut (held_at lines leaf) (got ∷ []) (held_at after leaf)) (sym pulls) (leaf-gives lines leaf got place line lt rise at gives);
+        here = subst (λ after. GivesOut (held_at lines leaf) (got ∷ []) (held_at after leaf)) (sym pulls) (leaf-gives lines leaf got place line found.within rise (found.leaf_is line) gives);
         others = λ q other. ap (λ after. held_at after q) pulls ∙ held-elsewhere lines leaf got q other;
       };
     }
@@ -128,11 +126,11 @@ apart-none (l ∷ lines) leaf h = by_test (l.leaf == leaf) refl (apart-none line
     by_test true e rest = absurd (h 0 l (omega arith) (eqb-true l.leaf leaf e))
     by_test false e rest = rest
 
-pub not-found : (lines seen : List LineLists) (leaf place : ℕ) → seen ≡ lines → AreRising (leaves_of lines) → IsBinarySearchResult (λ (l : LineLists). nat_cmp l.leaf leaf) seen (Err place) → has_line lines leaf ≡ false
-not-found lines seen leaf place same rise search = apart-none lines leaf (λ k d lt same. apart k d lt same (nat_lt k place) refl)
+pub not-found : (lines : List LineLists) (leaf place : ℕ) → AreRising (leaves_of lines) → IsBinarySearchResult (λ (l : LineLists). nat_cmp l.leaf leaf) lines (Err place) → has_line lines leaf ≡ false
+not-found lines leaf place rise search = apart-none lines leaf (λ k d lt same. apart k d lt same (nat_lt k place) refl)
   where
     parted : IsPartitionPoint (λ (l : LineLists). nat_cmp l.leaf leaf ≡ Less) (λ (l : LineLists). nat_cmp l.leaf leaf ≡ Greater) lines place
-    parted = (subst (λ ls. IsBinarySearchResult (λ (l : LineLists). nat_cmp l.leaf leaf) ls (Err place)) same search) (λ i j d le lt. index-rises (get_or lines i d).leaf (get_or lines j d).leaf leaf (rises-at lines i j d rise le lt))
+    parted = search (λ i j d le lt. index-rises (get_or lines i d).leaf (get_or lines j d).leaf leaf (rises-at lines i j d rise le lt))
 
     ordered : (n : ℕ) (o : Ordering) → nat_cmp n leaf ≡ o → MatchOrdering o (n < leaf) (n ≡ leaf) (leaf < n)
     ordered n o e = subst (λ o. MatchOrdering o (n < leaf) (n ≡ leaf) (leaf < n)) e (ranks n leaf)

@@ -1,11 +1,11 @@
 //! The lines of a session, as what it pulls from.
 
-ghost use Rattle.std.specs.Prelude.{◌≡◌, false, None};
+ghost use Rattle.std.specs.Prelude.{◌≡◌, false, None, MatchOption};
 ghost use Rattle.std.specs.List.{AllByRecursion};
 ghost use Rattle.clk_sched.specs.Closing.{TakesOne};
 ghost use Rattle.clk_packet.specs.Lists.{AreRising};
 ghost use Rattle.clk_drain.specs.Line.{PullsAt, has_line, leaves_of};
-ghost use Rattle.clk_drain.specs.inside.Parts.{IsGathered, held_at};
+ghost use Rattle.clk_drain.specs.inside.Parts.{IsGathered, IsPlaceOf, held_at};
 
 use crate::line::Line;
 use clk_packet::{Fault, Packet};
@@ -160,11 +160,29 @@ fn pull_at<W: Wait>(lines: &mut Vec<Line>, wait: &W, leaf: u16) -> Option<Packet
     ensures gathered { AllByRecursion IsGathered lines.old.items → AllByRecursion IsGathered lines.new.items }
     ensures takes { AllByRecursion IsGathered lines.old.items → TakesOne (held_at lines.old.items) (held_at lines.new.items) leaf result }
 {
-    match lines.binary_search_by_key(&leaf, |line| line.leaf()) {
-        Ok(place) => {
+    match place_of(lines.as_slice(), leaf) {
+        Some(place) => {
             let line = &mut lines[place];
             line.pull(wait)
         }
+        None => None,
+    }
+}
+
+// Where the line of a leaf stands, if there is one. Where one device has all queues, its leaf's number is its place, which is looked at
+// first.
+fn place_of(lines: &[Line], leaf: u16) -> Option<usize>
+    requires { AreRising (leaves_of lines.now) }
+    ensures { MatchOption result (has_line lines.now leaf ≡ false) (IsPlaceOf lines.now leaf) }
+{
+    let place = usize::from(leaf);
+    if let Some(line) = lines.get(place) {
+        if line.leaf() == leaf {
+            return Some(place);
+        }
+    }
+    match lines.binary_search_by_key(&leaf, |line| line.leaf()) {
+        Ok(place) => Some(place),
         Err(_) => None,
     }
 }

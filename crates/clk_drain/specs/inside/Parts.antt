@@ -1,6 +1,6 @@
 -- What the parts of a closing say to one another.
-use Rattle.std.specs.Prelude.{◌≡◌, ℕ, ◌+◌, ◌-◌, ◌==◌, List, [], ◌∷◌, length, map, max, if◌then◌else◌}
-use Rattle.std.specs.List.{flat_map, AllByRecursion}
+use Rattle.std.specs.Prelude.{◌≡◌, ℕ, ◌+◌, ◌-◌, ◌<◌, ◌==◌, List, [], ◌∷◌, length, map, max, if◌then◌else◌}
+use Rattle.std.specs.List.{flat_map, slice_index_or, AllByRecursion}
 use Rattle.std.specs.List.Sorted.{IsPermutation, IsNonDecreasingBy}
 use Rattle.clk_packet.specs.declared.packet.Packet.{Packet}
 use Rattle.clk_packet.specs.declared.tally.Tally.{Tally}
@@ -8,6 +8,11 @@ use Rattle.clk_ruled.specs.Settle.{AreTogether, IsSettled, tally_of, all_evicted
 use Rattle.clk_sched.specs.Session.{Progress, counted_moment, GivesAll}
 use Rattle.clk_drain.specs.Line.{LineLists, seats_of, lasting_of, AreStill, AreLinesOf}
 use Rattle.clk_drain.specs.Parts.{HasGathered, IsWithin}
+
+-- the line of a leaf stands at this place
+pub record IsPlaceOf (lines : List LineLists) (leaf place : ℕ) : Type 0 where
+  pub within : place < length lines
+  pub leaf_is : (d : LineLists) → (slice_index_or lines place d).leaf ≡ leaf
 
 -- what was taken at a leaf
 abbrev pub taken_at : LineLists → ℕ × List Packet

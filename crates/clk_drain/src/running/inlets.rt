@@ -1,5 +1,10 @@
 //! The shared queues of a tree while their seats are out, as what a session is pulled over.
 
+ghost use Rattle.std.specs.Prelude.{◌≡◌, false, MatchOption};
+ghost use Rattle.clk_packet.specs.Lists.{AreRising};
+ghost use Rattle.clk_drain.specs.Line.{has_line, leaves_of};
+ghost use Rattle.clk_drain.specs.inside.Parts.{IsPlaceOf};
+
 use crate::device::DeviceSession;
 use clk_packet::{Fault, Packet};
 use clk_ruled::{BareTap, RuledQueue};
@@ -142,13 +147,30 @@ impl<'a, W: Wait> Ask for Inlets<'a, W> {
     ghost gives = { PullsAt };
 
     fn ask(&mut self, leaf: u16) -> Option<Packet> {
-        match self.each.binary_search_by_key(&leaf, |inlet| inlet.leaf()) {
-            Ok(place) => {
+        match place_of(self.each.as_slice(), leaf) {
+            Some(place) => {
                 let wait = self.wait;
                 let inlet = &mut self.each[place];
                 inlet.pull(wait)
             }
-            Err(_) => None,
+            None => None,
         }
+    }
+}
+
+// Where the inlet of a leaf stands, if there is one, as for lines: its leaf's number is looked at first.
+fn place_of(inlets: &[Inlet], leaf: u16) -> Option<usize>
+    requires { AreRising (leaves_of inlets.now) }
+    ensures { MatchOption result (has_line inlets.now leaf ≡ false) (IsPlaceOf inlets.now leaf) }
+{
+    let place = usize::from(leaf);
+    if let Some(inlet) = inlets.get(place) {
+        if inlet.leaf() == leaf {
+            return Some(place);
+        }
+    }
+    match inlets.binary_search_by_key(&leaf, |inlet| inlet.leaf()) {
+        Ok(place) => Some(place),
+        Err(_) => None,
     }
 }
