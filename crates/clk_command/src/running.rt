@@ -9,7 +9,7 @@ ghost use Rattle.clk_command.specs.Running.{ExplainsRun, RunWrites};
 
 use crate::pace::Pace;
 use clk_drain::{Free, Outcome, run_with};
-use clk_packet::{Fault, Sink, Source, Traces};
+use clk_packet::{Fault, Sink, Source, Traces, keep_freed};
 use clk_report::report;
 use clk_sched::Visit;
 use clk_tree::Plan;
@@ -49,6 +49,9 @@ pub fn run_trace<H: Threads + Wait, P: Wait + Sync, R: Source, W: Sink>(
     // The reader is read to one byte past the limit at most.
     ensures limit { Takes (most_trace_bytes + 1) (R.Source.remaining trace.old) (R.Source.remaining trace.new) }
 {
+    if !visits {
+        keep_freed(alloc)?;
+    }
     let traces = Traces::read_csv(alloc, trace)?;
     let outcome = run_with(
         rt, alloc, wait, plan, &traces, pace.step, pace.limit, &Free, visits,

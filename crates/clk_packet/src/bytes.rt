@@ -1,6 +1,6 @@
 //! Whole texts from a source and to a sink.
 
-ghost use Rattle.std.specs.Prelude.{◌≡◌, take, IfSome, IfOk};
+ghost use Rattle.std.specs.Prelude.{◌≡◌, take, IfSome, IfOk, IsOkUnless};
 ghost use Rattle.clk_packet.specs.Bytes.{Takes, FailsToRead, Wrote};
 
 use crate::fault::Fault;
@@ -8,7 +8,10 @@ use crate::io::{Sink, Source};
 use std::alloc::Global;
 
 /// How many bytes are read at a time.
-const CHUNK: usize = 4096;
+const CHUNK: usize = 16384;
+
+/// How large a block is after which the C library keeps those that are freed: larger than any but a log that a run takes.
+const KEPT: usize = 16 << 20;
 
 /// Reads a source to its end, but no more than `most` bytes. Faults 1, and 19 where the source fails.
 pub fn read_up_to<R: Source>(alloc: Global, reader: &mut R, most: usize) -> Result<Vec<u8>, Fault>
@@ -43,6 +46,20 @@ pub fn write_all<W: Sink>(writer: &mut W, text: &[u8]) -> Result<(), Fault>
         };
         (_, rest) = rest.split_at(count);
     }
+    Ok(())
+}
+
+/// Has the C library keep blocks that are freed from here on, for those that are taken later: one of this size that is freed is a sign to
+/// it that such blocks come and go. The system gives a block that is taken anew page by page, as it is first written, and what takes and
+/// frees many large blocks spends much of its time on that. Where one grows long after the others, as a log does, it is better left.
+///
+/// # Errors
+///
+/// Fault 1 where memory is refused.
+pub fn keep_freed(alloc: Global) -> Result<(), Fault>
+    ensures { IsOkUnless result Fault.Memory }
+{
+    let _block: Vec<u8> = Vec::with_capacity(alloc, KEPT)?;
     Ok(())
 }
 

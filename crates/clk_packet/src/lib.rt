@@ -16,7 +16,7 @@ mod packets;
 mod tally;
 mod traces;
 
-pub use bytes::{let_go, read_up_to, write_all};
+pub use bytes::{keep_freed, let_go, read_up_to, write_all};
 pub use examples::writing_examples;
 pub use failing::{FailingSink, FailingSource};
 pub use failures::Failures;

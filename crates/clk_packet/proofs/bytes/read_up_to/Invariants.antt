@@ -7,7 +7,7 @@ invariant-loop-chunk g l = record {
   consumed : Consumes (g.R.Source.remaining l.fn.reader) (g.R.Source.remaining l.reader) l.bytes.items;
   failures : g.R.Source.failures l.reader ≡ g.R.Source.failures l.fn.reader;
   bound : length l.bytes.items ≤ l.most;
-  size : length l.chunk ≡ 4096;
+  size : length l.chunk ≡ 16384;
 }
 
 abbrev pub decreases-loop-chunk : goal.decreases-loop-chunk
