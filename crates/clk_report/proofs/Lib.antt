@@ -2,5 +2,6 @@
 pub mod Callers
 mod CountLemmas
 mod ReportLemmas
+mod RowLemmas
 mod TotalLemmas
 mod VisitLemmas

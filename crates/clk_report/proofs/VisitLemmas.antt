@@ -1,10 +1,9 @@
--- The rows of visits, as the crate csv writes them into memory, and as they are written.
-use Rattle.std.proofs.Common.{◌≡◌, ℕ, ◌+◌, ◌<◌, ◌≤◌, List, [], ◌∷◌, ◌++◌, Vec, length, drop, get_or, append_assoc, codes, Option, Some, None, Result, Ok, Err, inl, inr, refl, sym, ap, ◌∙◌, subst, arith}
+-- The rows of visits, as they are written.
+use Rattle.std.proofs.Common.{◌≡◌, ℕ, ◌+◌, ◌<◌, ◌≤◌, List, [], ◌∷◌, ◌++◌, Vec, length, drop, get_or, append_assoc, codes, Option, Some, None, Result, Ok, Err, inr, refl, sym, ap, ◌∙◌, subst, arith}
 use Rattle.std.proofs.lemmas.List.{drop_all, drop_more, append-nil}
 use Rattle.std.specs.Io.KnownBytes.{Appends}
 use Rattle.std.specs.declared.alloc.Global.{Global}
 use Rattle.clk_packet.specs.declared.fault.Fault.{Fault}
-use Rattle.clk_packet.specs.declared.fault.Fault.TheVariants.{Memory}
 use Rattle.clk_packet.specs.Bytes.{Wrote, write_failures}
 use Rattle.clk_packet.proofs.Callers.Bytes.{HasWritten, Appends-append}
 use Rattle.clk_sched.specs.declared.visit.Visit.{Visit}
@@ -47,16 +46,6 @@ WroteOrStopped-part a b c f g h fault text rest part after so_far same is w =
       front = HasWritten-cut a b c text rest part after so_far is w.front;
       fault = w.fault;
       failures = w.failures ∙ ap (write_failures {T = Unit {0}} (Err fault)) same;
-    }
-
--- memory is refused between two parts
-pub WroteOrStopped-refused : (a b : Option (List ℕ)) (f g : ℕ) (fault : Fault) (text rest : List ℕ) → HasWritten a b text rest → g ≡ f → fault ≡ Memory → WroteOrStopped a b f g (Err fault) text
-WroteOrStopped-refused a b f g fault text rest so_far same refused =
-    record {
-      whole = tt;
-      front = (so_far.front, rest, so_far.split, so_far.appends);
-      fault = inl refused;
-      failures = same ∙ ap (λ (e : Fault). write_failures {T = Unit {0}} (Err e) f) (sym refused);
     }
 
 -- the log of one device more

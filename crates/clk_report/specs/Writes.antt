@@ -1,4 +1,4 @@
--- What a writing comes to that takes memory.
+-- What a writing comes to that may take memory.
 use Rattle.std.specs.Prelude.{◌≡◌, ℕ, ◌⊎◌, List, Option, Result, OnOk, OnErr, IfErr}
 use Rattle.std.specs.Io.KnownBytes.{Appends}
 use Rattle.clk_packet.specs.declared.fault.Fault.{Fault}

@@ -5,6 +5,7 @@ mod counts;
 mod laws;
 mod line;
 mod pieces;
+mod row;
 mod senders;
 mod total;
 mod visits;

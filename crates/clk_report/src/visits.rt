@@ -1,18 +1,16 @@
 //! The visit CSV.
 
-ghost use Rattle.std.specs.Prelude.{◌≡◌, ◌++◌, ◌⊎◌, Some, false, decimal, map, IfOk, IfErr, OnOk, OnErr, IsOkUnless};
+ghost use Rattle.std.specs.Prelude.{◌≡◌, ◌*◌, ◌≤◌, ◌++◌, ◌⊎◌, drop, length, IfErr, OnOk, OnErr};
 ghost use Rattle.std.specs.Io.KnownBytes.{Appends};
-ghost use Rattle.csv.specs.Writing.{default_writer, fields_written, has_written, row_text, text_written, writer_setup};
 ghost use Rattle.clk_packet.specs.Bytes.{AppendsFront, Wrote, write_failures};
 ghost use Rattle.clk_packet.specs.declared.fault.Fault.TheVariants.{Memory, Write};
 ghost use Rattle.clk_report.specs.Devices.{lists_of};
-ghost use Rattle.clk_report.specs.VisitCsv.{columns, device_column, devices_text, flag_text, header_of, number_or_none, rows_text, visits_text};
+ghost use Rattle.clk_report.specs.VisitCsv.{devices_text, header_of, rows_text, visits_text};
 ghost use Rattle.clk_report.specs.Writes.{WroteOrStopped};
 
+use crate::row::{ROW, put_row};
 use clk_packet::{Fault, Sink, write_all};
 use clk_sched::Visit;
-use csv::{Writer, WriterBuilder};
-use itoa::Buffer;
 use std::alloc::Global;
 
 /// The names of the columns.
@@ -21,16 +19,26 @@ const HEADER: &[u8] = b"pull,node,input,fresh,sender,number,length,passed,moment
 /// The same, where rows tell the device.
 const DEVICES_HEADER: &[u8] = b"device,pull,node,input,fresh,sender,number,length,passed,moment\n";
 
-/// How many rows are written at a time.
-const ROWS: usize = 4096;
+/// How many rows are put together at a time.
+const ROWS: usize = 512;
+
+/// How many bytes they have at most.
+const ROOM: usize = ROWS * ROW;
+
+/// How many rows a short log has at most, for which less room has to be cleared.
+const SHORT: usize = 32;
+
+/// How many bytes these have at most.
+const SHORT_ROOM: usize = SHORT * ROW;
 
 /// Writes the log of each device as CSV: a header line, and a row for each visit, log after log. `fresh` and `passed` are 0 or 1; where
 /// nothing was got, the sender, the number and the length are empty. Of several devices each line has a first column, `device`, with the
-/// place of the log among these, from 0; of one there is no such column.
+/// place of the log among these, from 0; of one there is no such column. Takes no memory, and time in proportion to the visits.
 ///
 /// # Errors
 ///
-/// Fault 1 where memory is refused, and 20 where the sink fails. It has taken a front of the text then.
+/// Fault 20 where the sink fails, and no other: that the contract has room for fault 1 is left from rows that took memory. The sink has
+/// taken a front of the text then.
 pub fn visits_csv<W: Sink>(alloc: Global, logs: &[Vec<Visit>], writer: &mut W) -> Result<(), Fault>
     ensures whole { OnOk result (Appends (W.Sink.taken writer.old) (W.Sink.taken writer.new) (visits_text (lists_of logs.now))) }
     ensures front { OnErr result (AppendsFront (W.Sink.taken writer.old) (W.Sink.taken writer.new) (visits_text (lists_of logs.now))) }
@@ -75,11 +83,11 @@ fn write_devices<W: Sink>(alloc: Global, logs: &[Vec<Visit>], writer: &mut W) ->
     Ok(())
 }
 
-/// Writes the rows of some visits, with the number of their device where there are several.
+/// Writes the rows of some visits, with the number of their device where there are several. Takes no memory.
 ///
 /// # Errors
 ///
-/// Fault 1 where memory is refused, and 20 where the sink fails. It has taken a front of the rows then.
+/// Fault 20 where the sink fails, and no other, as of `visits_csv`. It has taken a front of the rows then.
 pub fn visit_rows<W: Sink>(
     alloc: Global,
     device: Option<u64>,
@@ -89,110 +97,51 @@ pub fn visit_rows<W: Sink>(
     ensures { WroteOrStopped (W.Sink.taken writer.old) (W.Sink.taken writer.new)
         (W.Sink.failures writer.old) (W.Sink.failures writer.new) result (rows_text device log.now) }
 {
+    let _ = alloc;
+    if log.len() <= SHORT {
+        write_rows::<SHORT_ROOM, W>(device, log, writer)
+    } else {
+        write_rows::<ROOM, W>(device, log, writer)
+    }
+}
+
+/// Writes the rows of some visits, as many at a time as N bytes surely hold. It isn't inlined: the larger room shall not stand in the
+/// frame of a call for a short log.
+#[inline(never)]
+fn write_rows<const N: usize, W: Sink>(
+    device: Option<u64>,
+    log: &[Visit],
+    writer: &mut W,
+) -> Result<(), Fault>
+    requires some { ROW ≤ N }
+    requires limit { N ≤ ROOM }
+    ensures { Wrote (W.Sink.taken writer.old) (W.Sink.taken writer.new)
+        (W.Sink.failures writer.old) (W.Sink.failures writer.new) result (rows_text device log.now) }
+{
+    let mut rows = [0; N];
     let mut rest = log;
     while !rest.is_empty() {
-        let (part, after) = rest.split_at(rest.len().min(ROWS));
-        let rows = rows_text(alloc, device, part)?;
-        write_all(writer, &rows)?;
+        let (part, after) = rest.split_at(rest.len().min(N / ROW));
+        let start = put_rows(&mut rows, device, part, N);
+        let (_, text) = rows.split_at(start);
+        write_all(writer, text)?;
         rest = after;
     }
     Ok(())
 }
 
-/// The rows of some visits. Fault 1 where memory is refused.
-fn rows_text(alloc: Global, device: Option<u64>, log: &[Visit]) -> Result<Vec<u8>, Fault>
-    ensures rows { IfOk result (λ rows. rows.items ≡ rows_text device log.now) }
-    ensures fault { IsOkUnless result Fault.Memory }
+/// Puts the rows of some visits before this place, the last of them first, and gives where they start.
+fn put_rows(rows: &mut [u8], device: Option<u64>, log: &[Visit], end: usize) -> usize
+    requires room { ROW * length log.now ≤ end }
+    requires within { end ≤ length rows.old }
+    ensures piece { drop result rows.new ≡ rows_text device log.now ++ drop end rows.old }
+    ensures before { result ≤ end }
 {
-    let mut rows = WriterBuilder::new().from_writer(Vec::new(alloc));
-    for visit in log {
-        write_visit(&mut rows, device, visit)?;
+    let mut start = end;
+    let mut left = log;
+    while let [before @ .., last] = left {
+        start = put_row(rows, device, last, start);
+        left = before;
     }
-    // Over bytes in memory, a write fails for want of memory alone.
-    match rows.into_inner() {
-        Ok(text) => Ok(text),
-        Err(_) => Err(Fault::Memory),
-    }
-}
-
-/// Writes the row of a visit. Fault 1 where memory is refused.
-fn write_visit(rows: &mut Writer<Vec<u8>>, device: Option<u64>, visit: &Visit) -> Result<(), Fault>
-    requires setup { writer_setup rows.old ≡ default_writer }
-    requires fields { fields_written rows.old ≡ 0 }
-    requires wrote { has_written rows.old ≡ false }
-    ensures row { OnOk result (Appends (text_written (λ v. Some v.items) rows.old) (text_written (λ v. Some v.items) rows.new) (row_text default_writer (device_column device ++ columns visit.now))) }
-    ensures setup { OnOk result (writer_setup rows.new ≡ default_writer) }
-    ensures fields { OnOk result (fields_written rows.new ≡ 0) }
-    ensures wrote { OnOk result (has_written rows.new ≡ false) }
-    ensures fault { IsOkUnless result Fault.Memory }
-{
-    let (mut from, mut pull, mut node) = (Buffer::new(), Buffer::new(), Buffer::new());
-    let (mut input, mut sender, mut number) = (Buffer::new(), Buffer::new(), Buffer::new());
-    let (mut length, mut moment) = (Buffer::new(), Buffer::new());
-    let row = [
-        optional_text(&mut from, device),
-        number_text(&mut pull, visit.pull),
-        number_text(&mut node, u64::from(visit.node)),
-        number_text(&mut input, u64::from(visit.input)),
-        flag_text(visit.fresh),
-        optional_text(
-            &mut sender,
-            visit.got.map(|packet| u64::from(packet.sender)),
-        ),
-        optional_text(
-            &mut number,
-            visit.got.map(|packet| u64::from(packet.number)),
-        ),
-        optional_text(
-            &mut length,
-            visit.got.map(|packet| u64::from(packet.length)),
-        ),
-        flag_text(visit.passed),
-        number_text(&mut moment, visit.moment),
-    ];
-    match device {
-        Some(_) => write_row(rows, &row),
-        None => write_row(rows, &row[1..]),
-    }
-}
-
-/// Writes a row of these fields. Fault 1 where memory is refused.
-fn write_row(rows: &mut Writer<Vec<u8>>, row: &[&[u8]]) -> Result<(), Fault>
-    requires setup { writer_setup rows.old ≡ default_writer }
-    requires fields { fields_written rows.old ≡ 0 }
-    requires wrote { has_written rows.old ≡ false }
-    ensures row { OnOk result (Appends (text_written (λ v. Some v.items) rows.old) (text_written (λ v. Some v.items) rows.new) (row_text default_writer (map (λ f. f.now) row.now))) }
-    ensures setup { OnOk result (writer_setup rows.new ≡ default_writer) }
-    ensures fields { OnOk result (fields_written rows.new ≡ 0) }
-    ensures wrote { OnOk result (has_written rows.new ≡ false) }
-    ensures fault { IsOkUnless result Fault.Memory }
-{
-    match rows.write_fields(row) {
-        Ok(()) => Ok(()),
-        Err(_) => Err(Fault::Memory),
-    }
-}
-
-/// A number, in a buffer of its own.
-fn number_text(buffer: &mut Buffer, number: u64) -> &[u8]
-    ensures { result.now ≡ decimal number }
-{
-    buffer.format(number).as_bytes()
-}
-
-/// A number, if there is one, and nothing else.
-fn optional_text(buffer: &mut Buffer, number: Option<u64>) -> &[u8]
-    ensures { result.now ≡ number_or_none number }
-{
-    match number {
-        Some(number) => number_text(buffer, number),
-        None => b"",
-    }
-}
-
-/// Whether, as 0 or 1.
-fn flag_text(flag: bool) -> &'static [u8]
-    ensures { result.now ≡ flag_text flag }
-{
-    if flag { b"1" } else { b"0" }
+    start
 }

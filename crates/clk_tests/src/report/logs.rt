@@ -3,11 +3,10 @@
 use super::rows::{HEADER, assert_row, assert_writes_all};
 use super::{packet, sink_of};
 use crate::sched::trees::{drr_over_two, prio_over_two};
-use clk_packet::Fault;
 use clk_report::visits_csv;
 use clk_rows::{DEFICIT_TWO_QUEUES, PRIO_TWO_QUEUES};
 use clk_sched::Visit;
-use std::alloc::Global;
+use std::alloc::{AllocError, Global};
 use std::test::Fail;
 
 #[test]
@@ -42,17 +41,36 @@ fn without_a_log_there_is_the_header_alone(rt: HostRuntime) {
     assert_writes_all(&rt, rt.alloc(), &[], HEADER);
 }
 
-// A log of more rows than are written at a time, and of more bytes than a writer of CSV holds.
-fn write_many(alloc: Global) -> Result<(), Fault> {
-    let mut sink = sink_of(alloc, 200_000)?;
-    let none = Visit::asking(0, 0, 0, 0, None);
-    let logs = [vec![in alloc; none; 5000]?];
-    visits_csv(alloc, &logs, &mut sink)
+// A visit whose row is long.
+fn long_visit(pull: u64) -> Visit {
+    let packet = packet(65_535, u32::MAX, 65_535);
+    Visit::asking(pull, u64::MAX, 65_535, 65_535, Some(packet))
 }
 
-// Each allocation is refused in turn by tests/refuse-memory.
+// The log of this many long visits, and its rows.
+fn long_log(alloc: Global, visits: u64) -> Result<(Vec<Visit>, String), AllocError> {
+    let mut log = Vec::new(alloc);
+    let mut rows = String::new(alloc);
+    for pull in 0..visits {
+        log.push(long_visit(pull))?;
+        writeln!(
+            rows,
+            "{pull},65535,65535,1,65535,4294967295,65535,1,18446744073709551615"
+        )?;
+    }
+    Ok((log, rows))
+}
+
+// Rows that are put together at once, and one more, where a log is short and where it is long.
 #[test]
-fn writing_takes_memory(rt: HostRuntime) {
-    let refused = write_many(rt.alloc()).err();
-    assert_eq!(rt; refused, None);
+fn long_logs_are_written_in_parts(rt: HostRuntime) -> Result<(), Fail> {
+    let alloc = rt.alloc();
+    for visits in [32, 33, 512, 513, 1025] {
+        let (log, rows) = long_log(alloc, visits)?;
+        let expected = format!(in alloc; "{HEADER}{rows}")?;
+        let mut sink = sink_of(alloc, expected.len())?;
+        visits_csv(alloc, &[log], &mut sink)?;
+        assert_eq!(rt; sink.taken(), expected.as_bytes());
+    }
+    Ok(())
 }

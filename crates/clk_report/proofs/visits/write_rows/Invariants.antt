@@ -1,7 +1,7 @@
 use Rattle.std.proofs.Common.{◌≡◌, length}
 use Rattle.clk_packet.proofs.Callers.Bytes.{HasWritten}
 use Rattle.clk_report.specs.VisitCsv.{rows_text}
-use Rattle.clk_report.proofs.visits.visit_rows.Given as goal
+use Rattle.clk_report.proofs.visits.write_rows.Given as goal
 
 abbrev pub invariant-loop-rest : goal.invariant-loop-rest
 invariant-loop-rest g l = record {

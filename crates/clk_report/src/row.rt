@@ -1,0 +1,105 @@
+//! The row of a visit in a visit CSV, put together from its end to its front as the line of a report is. What a row says is defined by
+//! the crate csv, and its fields are told in csv's words (`field_text`): none of them calls for quotes.
+
+ghost use Rattle.std.specs.Prelude.{◌≡◌, ◌+◌, ◌≤◌, ◌++◌, codes, decimal, drop, length};
+ghost use Rattle.std.specs.List.{flat_map};
+ghost use Rattle.csv.specs.Writing.{default_writer, field_text, row_text};
+ghost use Rattle.clk_report.specs.VisitCsv.{columns, device_column, flag_text, got_text};
+
+use crate::pieces::{put, put_number};
+use clk_packet::Packet;
+use clk_sched::Visit;
+
+/// How many bytes a row has at most.
+pub const ROW: usize = 128;
+
+/// Puts the row of a visit, with the number of its device where there are several, before this place of some rows, and gives where it
+/// starts.
+pub fn put_row(rows: &mut [u8], device: Option<u64>, visit: &Visit, end: usize) -> usize
+    requires room { ROW ≤ end }
+    requires within { end ≤ length rows.old }
+    ensures piece { drop result rows.new ≡ row_text default_writer (device_column device ++ columns visit.now) ++ drop end rows.old }
+    ensures near { end ≤ result + ROW }
+    ensures before { result ≤ end }
+{
+    let end = put(rows, b"\n", end);
+    let end = put_field(rows, visit.moment, end);
+    let end = put_flag(rows, visit.passed, end);
+    let end = put_got(rows, visit.got, end);
+    let end = put_flag(rows, visit.fresh, end);
+    let end = put_short_field(rows, visit.input, end);
+    let end = put(rows, b",", end);
+    let end = put_short_field(rows, visit.node, end);
+    let end = put(rows, b",", end);
+    let end = put_field(rows, visit.pull, end);
+    put_device(rows, device, end)
+}
+
+/// Puts the field of a device and a comma, where rows tell it.
+fn put_device(rows: &mut [u8], device: Option<u64>, end: usize) -> usize
+    requires room { 21 ≤ end }
+    requires within { end ≤ length rows.old }
+    ensures piece { drop result rows.new ≡ flat_map (λ column. field_text default_writer column ++ codes ",") (device_column device) ++ drop end rows.old }
+    ensures near { end ≤ result + 21 }
+    ensures before { result ≤ end }
+{
+    let Some(device) = device else {
+        return end;
+    };
+    let end = put(rows, b",", end);
+    put_field(rows, device, end)
+}
+
+/// Puts the fields of what was got: its sender, its number and its length, or nothing in each.
+fn put_got(rows: &mut [u8], got: Option<Packet>, end: usize) -> usize
+    requires room { 32 ≤ end }
+    requires within { end ≤ length rows.old }
+    ensures piece { drop result rows.new ≡ field_text default_writer (got_text (λ p. p.sender) got) ++ (codes "," ++ (field_text default_writer (got_text (λ p. p.number) got)
+        ++ (codes "," ++ (field_text default_writer (got_text (λ p. p.length) got) ++ drop end rows.old)))) }
+    ensures near { end ≤ result + 32 }
+    ensures before { result ≤ end }
+{
+    let Some(packet) = got else {
+        return put(rows, b",,", end);
+    };
+    let end = put_short_field(rows, packet.length, end);
+    let end = put(rows, b",", end);
+    let end = put_field(rows, u64::from(packet.number), end);
+    let end = put(rows, b",", end);
+    put_short_field(rows, packet.sender, end)
+}
+
+/// Puts the field of a flag, with the commas around it.
+#[inline]
+fn put_flag(rows: &mut [u8], flag: bool, end: usize) -> usize
+    requires room { 3 ≤ end }
+    requires within { end ≤ length rows.old }
+    ensures piece { drop result rows.new ≡ codes "," ++ (field_text default_writer (flag_text flag) ++ (codes "," ++ drop end rows.old)) }
+    ensures start { result + 3 ≡ end }
+{
+    put(rows, if flag { b",1," } else { b",0," }, end)
+}
+
+/// Puts a number as a field.
+#[inline]
+fn put_field(rows: &mut [u8], number: u64, end: usize) -> usize
+    requires room { 20 ≤ end }
+    requires within { end ≤ length rows.old }
+    ensures piece { drop result rows.new ≡ field_text default_writer (decimal number) ++ drop end rows.old }
+    ensures near { end ≤ result + 20 }
+    ensures before { result ≤ end }
+{
+    put_number(rows, number, end)
+}
+
+/// Puts a number that has 5 digits at most as a field.
+#[inline]
+fn put_short_field(rows: &mut [u8], number: u16, end: usize) -> usize
+    requires room { 5 ≤ end }
+    requires within { end ≤ length rows.old }
+    ensures piece { drop result rows.new ≡ field_text default_writer (decimal number) ++ drop end rows.old }
+    ensures near { end ≤ result + 5 }
+    ensures before { result ≤ end }
+{
+    itoa::write_digits(u64::from(number), rows, end)
+}
