@@ -58,7 +58,7 @@ pub record ReportsWithVisits (tree trace : Option (List ℕ)) (pace : Pace) (tex
   pub reports : ReportsOver tree trace pace text
   pub csv : visits ≡ visits_text reports.logs
 
--- What a call has written that writes a text and, after all of it, a visit file to a sink of its own, for which it takes memory: both where it
+-- What a call has written that writes a text and, after all of it, a visit file to a sink of its own, for which it may take memory: both where it
 -- succeeded. Where a sink failed, a front of the text and no visits, or the text and a front of the visits; where memory ran out nothing,
 -- or the text and a front of the visits; and at any other fault nothing.
 pub record WroteBoth {T : Type 0} (Means : List ℕ → List ℕ → Type 0) (old new : Option (List ℕ)) (result : Result T Fault) (visits_old visits_new : Option (List ℕ)) : Type 0 where

@@ -43,9 +43,9 @@ use std::thread::Threads;
 ///
 /// # Errors
 ///
-/// 1 where memory or a thread is refused, of the visits after the whole answer; 19 where a file can't be opened, or it or `reader`
-/// can't be read; 20 where `writer` or `errors` fails or, after the whole answer, FILE can't be made or written; else those of the
-/// tree, and then those of the script, or of the trace and its run.
+/// 1 where memory or a thread is refused; 19 where a file can't be opened, or it or `reader` can't be read; 20 where `writer` or
+/// `errors` fails or, after the whole answer, FILE can't be made or written; else those of the tree, and then those of the script, or of
+/// the trace and its run.
 pub fn command<
     H: Files + AllocGlobal + Threads + Wait,
     P: Wait + Sync,
@@ -71,7 +71,7 @@ pub fn command<
     ensures silent { result ≡ Ok 0 → errors.new ≡ errors.old }
     // Where the words are wrong, nothing is read or written but why.
     ensures refused { result ≡ Ok 2 → (reader.new ≡ reader.old) × (writer.new ≡ writer.old) }
-    // At a fault nothing is written, but where a write failed, or there was no memory for the visits.
+    // At a fault nothing is written, but where a write failed. Fault 1 is left out: contracts of the visits allow it after the answer.
     ensures nothing { IfErr result (λ fault. fault ≢ Write → fault ≢ Memory → Keeps (W.Sink.taken writer.old) (W.Sink.taken writer.new)) }
     // At such a fault the words are right, and what they ask for has it.
     ensures fault { IfErr result (λ fault. fault ≢ Write → fault ≢ Memory → (fault_of program_words (map string_bytes words.items) ≡ [])

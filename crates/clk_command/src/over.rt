@@ -77,7 +77,7 @@ pub fn script_over<T: Source, S: Source, W: Sink>(
 ///
 /// # Errors
 ///
-/// Those of `script_over`; of the visits 1 where memory is refused and 20 where their sink fails, after the whole answer.
+/// Those of `script_over`; of the visits 20 where their sink fails, after the whole answer, and no other, as `visits_csv` says.
 pub fn script_with_visits<T: Source, S: Source, W: Sink, V: Sink>(
     alloc: Global,
     tree: &mut T,
@@ -124,7 +124,7 @@ pub fn run_over<H: Threads + Wait, P: Wait + Sync, T: Source, S: Source, W: Sink
 ///
 /// # Errors
 ///
-/// Those of `run_over`; of the visits 1 where memory is refused and 20 where their sink fails, after the whole report.
+/// Those of `run_over`; of the visits 20 where their sink fails, after the whole report, and no other, as `visits_csv` says.
 pub fn run_with_visits<H: Threads + Wait, P: Wait + Sync, T: Source, S: Source, W: Sink, V: Sink>(
     rt: &H,
     alloc: Global,
