@@ -1,6 +1,6 @@
 //! Whole texts, and numbers in them.
 
-use clk_packet::{FailingSink, FailingSource, Fault, number_in, read_up_to, write_all};
+use clk_packet::{FailingSink, FailingSource, Fault, keep_freed, number_in, read_up_to, write_all};
 use std::test::Fail;
 
 #[test]
@@ -43,4 +43,9 @@ fn a_number_is_digits_in_its_range(rt: HostRuntime) {
     for (text, expected) in texts {
         assert_eq!(rt; number_in(text, 64, 64), expected);
     }
+}
+
+#[test]
+fn freed_blocks_may_be_kept(rt: HostRuntime) {
+    assert_eq!(rt; keep_freed(rt.alloc()), Ok(()));
 }
