@@ -1,10 +1,10 @@
 -- The digits with which a text begins, and the numbers that they are.
-use Rattle.std.proofs.Common.{◌≡◌, ℕ, ◌<◌, ◌≤◌, ◌&&◌, Bool, true, false, nat_le, if◌then◌else◌, drop, slice_index_or, List, [], ◌∷◌, ◌++◌, length, length-append, Some, None, refl, sym, ap, ap₂, ◌∙◌, arith}
+use Rattle.std.proofs.Common.{◌≡◌, ℕ, ◌-◌, ◌<◌, ◌≤◌, ◌&&◌, Bool, true, false, nat_le, if◌then◌else◌, take, drop, slice_index_or, List, [], ◌∷◌, ◌++◌, length, length-append, append_assoc, Some, None, refl, sym, ap, ap₂, ◌∙◌, arith}
 use Rattle.std.specs.Char.{is_ascii_digit}
 use Rattle.std.specs.Str.{all_ascii_digits}
 use Rattle.std.specs.Str.Parse.{digits_value}
 use Rattle.std.proofs.lemmas.Bool.Decides.{nat_tests}
-use Rattle.std.proofs.lemmas.List.{append-nil}
+use Rattle.std.proofs.lemmas.List.{append-nil, drop_at, length-take-le, take-append-drop}
 use Rattle.clk_packet.specs.Numbers.{BeginsWithNumber, has_bytes, leading_digits, number_in}
 use Rattle.clk_packet.proofs.NumberLemmas.{front-large}
 
@@ -164,6 +164,21 @@ number-there text end least most number rest e k =
       inside = omega (arith, many, long, joined);
       byte_is = ap₂ (λ t n. slice_index_or t n 0) k.text_is many ∙ byte-after k.digits end rest;
     }
+
+-- the number that the first bytes of a text begin with is the one that the text begins with
+pub number-front : (text : List ℕ) (n end least most number : ℕ) (left : List ℕ) → n ≤ length text → BeginsWithNumber (take n text) end least most number left
+    → BeginsWithNumber text end least most number (drop (n - length left) text)
+number-front text n end least most number left within h =
+    let back = drop n text in
+    let text_is : text ≡ h.digits ++ end ∷ (left ++ back) = sym (take-append-drop n text) ∙ ap (λ l. l ++ back) h.text_is ∙ append_assoc h.digits (end ∷ left) back in
+    let full = length-take-le n text within in
+    let long = ap length h.text_is in
+    let joined = length-append h.digits (end ∷ left) in
+    let begun = length-append h.digits (end ∷ []) in
+    let place : length (h.digits ++ end ∷ []) ≡ n - length left = omega (arith, full, long, joined, begun) in
+    let split : text ≡ (h.digits ++ end ∷ []) ++ (left ++ back) = text_is ∙ sym (append_assoc h.digits (end ∷ []) (left ++ back)) in
+    let rest_is : drop (n - length left) text ≡ left ++ back = ap (drop (n - length left)) split ∙ drop_at (h.digits ++ end ∷ []) (left ++ back) (n - length left) place in
+    record { digits = h.digits; text_is = text_is ∙ ap (λ r. h.digits ++ end ∷ r) (sym rest_is); number_is = h.number_is }
 
 -- what follows a number is shorter
 pub number-shorter : (text : List ℕ) (end least most number : ℕ) (rest : List ℕ) → BeginsWithNumber text end least most number rest → length rest < length text

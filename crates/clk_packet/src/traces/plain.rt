@@ -2,6 +2,8 @@
 
 ghost use Rattle.std.specs.Prelude.{◌≡◌, ◌≤◌, None, IfSome, MatchResult};
 ghost use Rattle.clk_packet.specs.declared.fault.Fault.TheVariants.{Memory};
+ghost use Rattle.clk_packet.specs.Limits.{most_sender};
+ghost use Rattle.clk_packet.specs.Numbers.{BeginsWithNumber};
 ghost use Rattle.clk_packet.specs.inside.Plain.{IsPlainLine};
 ghost use Rattle.clk_packet.specs.Trace.{first_fault, most_records, packets_in, pairs_of, records_of, sent, sent_by, shown};
 
@@ -40,10 +42,21 @@ pub fn read_plain(alloc: Global, text: &[u8]) -> Result<Option<Traces>, Fault>
 fn plain_record(text: &[u8]) -> Option<(u16, Length, &[u8])>
     ensures { IfSome result (λ r. IsPlainLine text.now r.0 r.1.bytes r.2.now) }
 {
-    let (sender, text) = number_before(text, b',', 0, MAX_SENDER)?;
+    let (sender, text) = sender_before(text)?;
     let (length, rest) = number_before(text, b'\n', 1, MAX_LENGTH)?;
     let length = Length {
         bytes: length as u16,
     };
     Some((sender as u16, length, rest))
+}
+
+/// The number of a sender that a text begins with, before a comma, and what follows the comma. None where the text doesn't begin so.
+fn sender_before(text: &[u8]) -> Option<(u64, &[u8])>
+    ensures { IfSome result (λ r. BeginsWithNumber text.now 44 0 most_sender r.0 r.1.now) }
+{
+    match text {
+        // A trace of few senders has a digit and a comma at the front of each line.
+        [digit @ b'0'..=b'9', b',', rest @ ..] => Some((u64::from(*digit - b'0'), rest)),
+        _ => number_before(text, b',', 0, MAX_SENDER),
+    }
 }
