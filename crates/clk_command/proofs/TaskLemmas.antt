@@ -1,16 +1,15 @@
 -- What is read of a tree's text, and what follows for what is done over it.
-use Rattle.std.proofs.Common.{◌+◌, ◌≡◌, ◌≢◌, ◌⊎◌, ℕ, Bool, true, false, nat_lt, List, length, take, Option, Some, None, Result, Ok, Err, IfSome, IfErr, OnOk, OnErr, refl, sym, subst, ◌∙◌, inl, inr, arith}
-use Rattle.std.specs.Io.KnownBytes.{Appends}
+use Rattle.std.proofs.Common.{◌+◌, ◌≡◌, ℕ, Bool, true, false, nat_lt, List, length, take, Option, Some, None, Result, Ok, Err, IfSome, refl, sym, subst, ◌∙◌, inl, inr, arith}
 use Rattle.std.proofs.KnownBytes.{Keeps-refl}
 use Rattle.std.proofs.lemmas.Bool.Decides.{nat_tests}
 use Rattle.std.proofs.lemmas.List.{take_all, length-take}
 use Rattle.clk_packet.specs.declared.fault.Fault.{Fault}
-use Rattle.clk_packet.specs.declared.fault.Fault.TheVariants.{Memory, TooLarge, Write}
+use Rattle.clk_packet.specs.declared.fault.Fault.TheVariants.{TooLarge}
 use Rattle.clk_syntax.specs.Faults.{text_fault}
 use Rattle.clk_syntax.specs.Limits.{most_tree_bytes}
 use Rattle.clk_tree.specs.Plan.{Planned, Denotes}
 use Rattle.clk_syntax.specs.Reading.{HasFault}
-use Rattle.clk_packet.specs.Bytes.{AppendsFront, OfBytes}
+use Rattle.clk_packet.specs.Bytes.{OfBytes, Wrote}
 use Rattle.clk_packet.specs.Written.{WroteWhat}
 use Rattle.clk_command.specs.Tasks.{Does, IsPlanIn, ReportsOver, WroteBoth}
 use Rattle.clk_command.specs.Words.{task}
@@ -72,32 +71,20 @@ both-first P Q fault old new visits_old means w =
     record {
       whole = tt;
       front = λ failed. let front = w.front (cc) in let both = means front.0 front.1 in (front.0, both.0, both.1, inl (front.2, Keeps-refl visits_old));
-      memory = λ failed. inl (w.nothing (λ write. cc), Keeps-refl visits_old);
-      nothing = λ other _. (w.nothing other, Keeps-refl visits_old);
+      nothing = λ other. (w.nothing other, Keeps-refl visits_old);
     }
 
--- the text was written, and then the visits as far as they went
-pub both-second : {T : Type 0} (P : List ℕ → Type 0) (Q : List ℕ → List ℕ → Type 0) (x : T) (result : Result (Unit {0}) Fault) (old new visits_old visits_new : Option (List ℕ)) (visits : List ℕ) → ((text : List ℕ) → P text → Q text visits)
-    → WroteWhat P (Ok x) old new → OnOk result (Appends visits_old visits_new visits) → OnErr result (AppendsFront visits_old visits_new visits) → IfErr result (λ fault. (fault ≡ Memory) ⊎ (fault ≡ Write))
-    → WroteBoth Q old new result visits_old visits_new
-both-second P Q x (Ok y) old new visits_old visits_new visits means w whole front fault =
-    record {
-      whole = (w.whole.0, visits, means w.whole.0 w.whole.1, w.whole.2, whole);
-      front = λ failed. absurd (cc);
-      memory = λ failed. absurd (cc);
-      nothing = tt;
-    }
-both-second P Q x (Err e) old new visits_old visits_new visits means w whole front fault =
+-- the text was written, and then the visits as far as their sink took them
+pub both-second : {T : Type 0} (P : List ℕ → Type 0) (Q : List ℕ → List ℕ → Type 0) (x : T) (result : Result (Unit {0}) Fault) (old new visits_old visits_new : Option (List ℕ)) (before after : ℕ) (visits : List ℕ)
+    → ((text : List ℕ) → P text → Q text visits) → WroteWhat P (Ok x) old new → Wrote visits_old visits_new before after result visits → WroteBoth Q old new result visits_old visits_new
+both-second P Q x (Ok y) old new visits_old visits_new before after visits means w wrote =
+    record { whole = (w.whole.0, visits, means w.whole.0 w.whole.1, w.whole.2, wrote.whole); front = λ failed. absurd (cc); nothing = tt }
+both-second P Q x (Err fault) old new visits_old visits_new before after visits means w wrote =
     record {
       whole = tt;
-      front = λ _. (w.whole.0, visits, means w.whole.0 w.whole.1, inr (w.whole.2, front));
-      memory = λ _. inr (w.whole.0, visits, means w.whole.0 w.whole.1, w.whole.2, front);
-      nothing = λ write memory. absurd (neither fault write memory);
+      front = λ _. (w.whole.0, visits, means w.whole.0 w.whole.1, inr (w.whole.2, wrote.front));
+      nothing = λ other. absurd (other wrote.fault);
     }
-  where
-    neither : (e ≡ Memory) ⊎ (e ≡ Write) → e ≢ Write → e ≢ Memory → ⊥
-    neither (inl is) write memory = memory is
-    neither (inr is) write memory = write is
 
 -- a run was done, as it was asked for
 pub does-run : (asked : Asked) (tree trace : Bor (List ℕ)) (pace : Pace) (visits : Option (Bor (List ℕ))) (input : Option (List ℕ)) (P : List ℕ → Type 0) → asked ≡ Run tree trace pace visits

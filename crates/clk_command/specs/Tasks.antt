@@ -58,16 +58,13 @@ pub record ReportsWithVisits (tree trace : Option (List ℕ)) (pace : Pace) (tex
   pub reports : ReportsOver tree trace pace text
   pub csv : visits ≡ visits_text reports.logs
 
--- What a call has written that writes a text and, after all of it, a visit file to a sink of its own, for which it may take memory: both where it
--- succeeded. Where a sink failed, a front of the text and no visits, or the text and a front of the visits; where memory ran out nothing,
--- or the text and a front of the visits; and at any other fault nothing.
+-- What a call has written that writes a text and, after all of it, a visit file to a sink of its own: both where it succeeded. Where a sink
+-- failed, a front of the text and no visits, or the text and a front of the visits; and at any other fault nothing.
 pub record WroteBoth {T : Type 0} (Means : List ℕ → List ℕ → Type 0) (old new : Option (List ℕ)) (result : Result T Fault) (visits_old visits_new : Option (List ℕ)) : Type 0 where
   pub whole : OnOk result ((text : List ℕ) × (visits : List ℕ) × Means text visits × Appends old new text × Appends visits_old visits_new visits)
   pub front : IsErrOf result Write → (text : List ℕ) × (visits : List ℕ) × Means text visits
       × ((AppendsFront old new text × Keeps visits_old visits_new) ⊎ (Appends old new text × AppendsFront visits_old visits_new visits))
-  pub memory : IsErrOf result Memory → (Keeps old new × Keeps visits_old visits_new)
-      ⊎ ((text : List ℕ) × (visits : List ℕ) × Means text visits × Appends old new text × AppendsFront visits_old visits_new visits)
-  pub nothing : IfErr result (λ fault. fault ≢ Write → fault ≢ Memory → Keeps old new × Keeps visits_old visits_new)
+  pub nothing : IfErr result (λ fault. fault ≢ Write → Keeps old new × Keeps visits_old visits_new)
 
 -- The text of the built-in tree.
 abbrev pub builtin_text : List ℕ

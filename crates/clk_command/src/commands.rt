@@ -71,9 +71,9 @@ pub fn command<
     ensures silent { result ≡ Ok 0 → errors.new ≡ errors.old }
     // Where the words are wrong, nothing is read or written but why.
     ensures refused { result ≡ Ok 2 → (reader.new ≡ reader.old) × (writer.new ≡ writer.old) }
-    // At a fault nothing is written, but where a write failed. Fault 1 is left out: contracts of the visits allow it after the answer.
-    ensures nothing { IfErr result (λ fault. fault ≢ Write → fault ≢ Memory → Keeps (W.Sink.taken writer.old) (W.Sink.taken writer.new)) }
-    // At such a fault the words are right, and what they ask for has it.
+    // At a fault nothing is written, but where a write failed.
+    ensures nothing { IfErr result (λ fault. fault ≢ Write → Keeps (W.Sink.taken writer.old) (W.Sink.taken writer.new)) }
+    // At such a fault, but for 1, the words are right, and what they ask for has it.
     ensures fault { IfErr result (λ fault. fault ≢ Write → fault ≢ Memory → (fault_of program_words (map string_bytes words.items) ≡ [])
         × ExplainsTask (task_in (map string_bytes words.items)) (R.Source.remaining reader.old) fault) }
     // Where `writer` or `errors` failed the fault is 20, and 19 where `reader` failed.
@@ -100,7 +100,7 @@ fn perform<H: Files + AllocGlobal + Threads + Wait, P: Wait + Sync, R: Source, W
     writer: &mut W,
 ) -> Result<(), Fault>
     ensures done { OnOk result (Does (task asked.entry) (R.Source.remaining reader.old) (λ text. Appends (W.Sink.taken writer.old) (W.Sink.taken writer.new) text)) }
-    ensures nothing { IfErr result (λ fault. fault ≢ Write → fault ≢ Memory → Keeps (W.Sink.taken writer.old) (W.Sink.taken writer.new)) }
+    ensures nothing { IfErr result (λ fault. fault ≢ Write → Keeps (W.Sink.taken writer.old) (W.Sink.taken writer.new)) }
     ensures fault { IfErr result (ExplainsTask (task asked.entry) (R.Source.remaining reader.old)) }
     ensures write_failures { (W.Sink.failures writer.new ≡ W.Sink.failures writer.old)
         ⊎ (W.Sink.failures writer.new ≡ write_failures result (W.Sink.failures writer.old)) }
@@ -150,7 +150,7 @@ fn script_files<H: Files + AllocGlobal, W: Sink>(
 ) -> Result<(), Fault>
     ensures written { OnOk result ((text : _) × WritesOver None None text × Appends (W.Sink.taken writer.old) (W.Sink.taken writer.new) text) }
     ensures fault { IfErr result (ExplainsScriptOver None None) }
-    ensures nothing { IfErr result (λ fault. fault ≢ Write → fault ≢ Memory → Keeps (W.Sink.taken writer.old) (W.Sink.taken writer.new)) }
+    ensures nothing { IfErr result (λ fault. fault ≢ Write → Keeps (W.Sink.taken writer.old) (W.Sink.taken writer.new)) }
     ensures write_failures { (W.Sink.failures writer.new ≡ W.Sink.failures writer.old)
         ⊎ (W.Sink.failures writer.new ≡ write_failures result (W.Sink.failures writer.old)) }
 {
@@ -176,7 +176,7 @@ fn run_files<H: Files + AllocGlobal + Threads + Wait, P: Wait + Sync, W: Sink>(
 ) -> Result<(), Fault>
     ensures written { OnOk result ((text : _) × ReportsOver None None pace text × Appends (W.Sink.taken writer.old) (W.Sink.taken writer.new) text) }
     ensures fault { IfErr result (ExplainsRunOver None None) }
-    ensures nothing { IfErr result (λ fault. fault ≢ Write → fault ≢ Memory → Keeps (W.Sink.taken writer.old) (W.Sink.taken writer.new)) }
+    ensures nothing { IfErr result (λ fault. fault ≢ Write → Keeps (W.Sink.taken writer.old) (W.Sink.taken writer.new)) }
     ensures write_failures { (W.Sink.failures writer.new ≡ W.Sink.failures writer.old)
         ⊎ (W.Sink.failures writer.new ≡ write_failures result (W.Sink.failures writer.old)) }
 {

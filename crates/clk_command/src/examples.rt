@@ -27,10 +27,11 @@ pub fn word_examples()
 {}
 
 /// How no task with visits ends, whose text and visit file have a byte each: it succeeds without its visits, these are written without the
-/// text where a sink failed or memory ran out, or the text is written at another fault.
+/// text where a sink failed or memory ran out, or the text is written without them where memory ran out or at another fault.
 pub fn visits_examples()
     ensures not_without_visits { ¬ (WroteBoth IsOneByteEach (Some []) (Some (65 ∷ [])) success (Some []) (Some [])) }
     ensures not_visits_alone { ¬ (WroteBoth IsOneByteEach (Some []) (Some []) (failed Write) (Some []) (Some (66 ∷ []))) }
     ensures not_visits_alone_without_memory { ¬ (WroteBoth IsOneByteEach (Some []) (Some []) (failed Memory) (Some []) (Some (66 ∷ []))) }
+    ensures not_text_without_memory { ¬ (WroteBoth IsOneByteEach (Some []) (Some (65 ∷ [])) (failed Memory) (Some []) (Some [])) }
     ensures not_at_another_fault { ¬ (WroteBoth IsOneByteEach (Some []) (Some (65 ∷ [])) (failed Read) (Some []) (Some [])) }
 {}

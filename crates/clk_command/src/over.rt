@@ -77,7 +77,7 @@ pub fn script_over<T: Source, S: Source, W: Sink>(
 ///
 /// # Errors
 ///
-/// Those of `script_over`; of the visits 20 where their sink fails, after the whole answer, and no other, as `visits_csv` says.
+/// Those of `script_over`; of the visits 20 where their sink fails, after the whole answer. At any but 20 nothing is written.
 pub fn script_with_visits<T: Source, S: Source, W: Sink, V: Sink>(
     alloc: Global,
     tree: &mut T,
@@ -93,7 +93,7 @@ pub fn script_with_visits<T: Source, S: Source, W: Sink, V: Sink>(
 {
     let plan = read_plan(alloc, tree)?;
     let logs = run_script_logged(alloc, script, writer, &plan)?;
-    visits_csv(alloc, &logs, visits)
+    visits_csv(&logs, visits)
 }
 
 /// Runs a trace over a tree, which is read and checked before any byte of the trace is read, and writes the report.
@@ -124,7 +124,7 @@ pub fn run_over<H: Threads + Wait, P: Wait + Sync, T: Source, S: Source, W: Sink
 ///
 /// # Errors
 ///
-/// Those of `run_over`; of the visits 20 where their sink fails, after the whole report, and no other, as `visits_csv` says.
+/// Those of `run_over`; of the visits 20 where their sink fails, after the whole report. At any but 20 nothing is written.
 pub fn run_with_visits<H: Threads + Wait, P: Wait + Sync, T: Source, S: Source, W: Sink, V: Sink>(
     rt: &H,
     alloc: Global,
@@ -143,5 +143,5 @@ pub fn run_with_visits<H: Threads + Wait, P: Wait + Sync, T: Source, S: Source, 
 {
     let plan = read_plan(alloc, tree)?;
     let logs = run_trace(rt, alloc, wait, &plan, trace, writer, pace, true)?;
-    visits_csv(alloc, &logs, visits)
+    visits_csv(&logs, visits)
 }

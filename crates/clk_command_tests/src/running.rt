@@ -192,7 +192,7 @@ fn a_failing_trace_is_told(rt: HostRuntime) {
 // The visit file of these logs.
 fn visits_text(alloc: Global, logs: &[Vec<Visit>]) -> Result<Vec<u8>, Fault> {
     let mut csv = FailingSink::new(vec![in alloc; 0; AMPLE]?);
-    visits_csv(alloc, logs, &mut csv)?;
+    visits_csv(logs, &mut csv)?;
     Ok(csv.taken().to_vec(alloc)?)
 }
 

@@ -3,5 +3,4 @@ pub mod Counts
 pub mod Devices
 pub mod Report
 pub mod VisitCsv
-pub mod Writes
 pub mod inside

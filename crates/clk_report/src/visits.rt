@@ -1,17 +1,13 @@
 //! The visit CSV.
 
-ghost use Rattle.std.specs.Prelude.{◌≡◌, ◌*◌, ◌≤◌, ◌++◌, ◌⊎◌, drop, length, IfErr, OnOk, OnErr};
-ghost use Rattle.std.specs.Io.KnownBytes.{Appends};
-ghost use Rattle.clk_packet.specs.Bytes.{AppendsFront, Wrote, write_failures};
-ghost use Rattle.clk_packet.specs.declared.fault.Fault.TheVariants.{Memory, Write};
+ghost use Rattle.std.specs.Prelude.{◌≡◌, ◌*◌, ◌≤◌, ◌++◌, drop, length};
+ghost use Rattle.clk_packet.specs.Bytes.{Wrote};
 ghost use Rattle.clk_report.specs.Devices.{lists_of};
 ghost use Rattle.clk_report.specs.VisitCsv.{devices_text, header_of, rows_text, visits_text};
-ghost use Rattle.clk_report.specs.Writes.{WroteOrStopped};
 
 use crate::row::{ROW, put_row};
 use clk_packet::{Fault, Sink, write_all};
 use clk_sched::Visit;
-use std::alloc::Global;
 
 /// The names of the columns.
 const HEADER: &[u8] = b"pull,node,input,fresh,sender,number,length,passed,moment\n";
@@ -37,23 +33,20 @@ const SHORT_ROOM: usize = SHORT * ROW;
 ///
 /// # Errors
 ///
-/// Fault 20 where the sink fails, and no other: that the contract has room for fault 1 is left from rows that took memory. The sink has
-/// taken a front of the text then.
-pub fn visits_csv<W: Sink>(alloc: Global, logs: &[Vec<Visit>], writer: &mut W) -> Result<(), Fault>
-    ensures whole { OnOk result (Appends (W.Sink.taken writer.old) (W.Sink.taken writer.new) (visits_text (lists_of logs.now))) }
-    ensures front { OnErr result (AppendsFront (W.Sink.taken writer.old) (W.Sink.taken writer.new) (visits_text (lists_of logs.now))) }
-    ensures fault { IfErr result (λ e. (e ≡ Memory) ⊎ (e ≡ Write)) }
-    ensures failures { W.Sink.failures writer.new ≡ write_failures result (W.Sink.failures writer.old) }
+/// Fault 20 where the sink fails. It has taken a front of the text then.
+pub fn visits_csv<W: Sink>(logs: &[Vec<Visit>], writer: &mut W) -> Result<(), Fault>
+    ensures { Wrote (W.Sink.taken writer.old) (W.Sink.taken writer.new)
+        (W.Sink.failures writer.old) (W.Sink.failures writer.new) result (visits_text (lists_of logs.now)) }
 {
     match logs {
         [] => visits_header(false, writer),
         [log] => {
             visits_header(false, writer)?;
-            visit_rows(alloc, None, log, writer)
+            visit_rows(None, log, writer)
         }
         _ => {
             visits_header(true, writer)?;
-            write_devices(alloc, logs, writer)
+            write_devices(logs, writer)
         }
     }
 }
@@ -73,12 +66,12 @@ pub fn visits_header<W: Sink>(several: bool, writer: &mut W) -> Result<(), Fault
 }
 
 /// Writes the rows of several devices, each with its device.
-fn write_devices<W: Sink>(alloc: Global, logs: &[Vec<Visit>], writer: &mut W) -> Result<(), Fault>
-    ensures { WroteOrStopped (W.Sink.taken writer.old) (W.Sink.taken writer.new)
+fn write_devices<W: Sink>(logs: &[Vec<Visit>], writer: &mut W) -> Result<(), Fault>
+    ensures { Wrote (W.Sink.taken writer.old) (W.Sink.taken writer.new)
         (W.Sink.failures writer.old) (W.Sink.failures writer.new) result (devices_text 0 (lists_of logs.now)) }
 {
     for (device, log) in logs.iter().enumerate() {
-        visit_rows(alloc, Some(device as u64), log, writer)?;
+        visit_rows(Some(device as u64), log, writer)?;
     }
     Ok(())
 }
@@ -87,17 +80,11 @@ fn write_devices<W: Sink>(alloc: Global, logs: &[Vec<Visit>], writer: &mut W) ->
 ///
 /// # Errors
 ///
-/// Fault 20 where the sink fails, and no other, as of `visits_csv`. It has taken a front of the rows then.
-pub fn visit_rows<W: Sink>(
-    alloc: Global,
-    device: Option<u64>,
-    log: &[Visit],
-    writer: &mut W,
-) -> Result<(), Fault>
-    ensures { WroteOrStopped (W.Sink.taken writer.old) (W.Sink.taken writer.new)
+/// Fault 20 where the sink fails. It has taken a front of the rows then.
+pub fn visit_rows<W: Sink>(device: Option<u64>, log: &[Visit], writer: &mut W) -> Result<(), Fault>
+    ensures { Wrote (W.Sink.taken writer.old) (W.Sink.taken writer.new)
         (W.Sink.failures writer.old) (W.Sink.failures writer.new) result (rows_text device log.now) }
 {
-    let _ = alloc;
     if log.len() <= SHORT {
         write_rows::<SHORT_ROOM, W>(device, log, writer)
     } else {

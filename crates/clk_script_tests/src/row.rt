@@ -87,7 +87,7 @@ pub fn assert_visits(rt: &impl Abort, alloc: Global, row: &Row, script: &mut imp
 fn csv_of(alloc: Global, tree: &str, script: &mut impl Source) -> Result<Vec<u8>, Fault> {
     let logs = logs_of(alloc, tree, script)?;
     let mut sink = FailingSink::new(vec![in alloc; 0; AMPLE]?);
-    visits_csv(alloc, &logs, &mut sink)?;
+    visits_csv(&logs, &mut sink)?;
     Ok(sink.taken().to_vec(alloc)?)
 }
 

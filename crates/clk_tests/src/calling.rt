@@ -90,7 +90,7 @@ fn a_report_and_its_visits_are_written(rt: HostRuntime) -> Result<(), Fault> {
     let emitted = [vec![in rt.alloc(); from_one(0, 10)]?];
     let logs = [vec![in rt.alloc(); Visit::asking(0, 7, 0, 0, Some(from_one(0, 10)))]?];
     let mut sink = FailingSink::new(vec![in rt.alloc(); 0; 1024]?);
-    report::write_run(rt.alloc(), &[tally], &emitted, &logs, &mut sink)?;
+    report::write_run(&[tally], &emitted, &logs, &mut sink)?;
     let expected = "sender 1: sent 1 10, accepted 1 10, refused 0 0, evicted 0 0, emitted 1 10\n\
         pull,node,input,fresh,sender,number,length,passed,moment\n0,0,0,1,1,0,10,1,7\n";
     assert_eq!(rt; sink.taken(), expected.as_bytes());

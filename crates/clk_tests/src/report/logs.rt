@@ -69,7 +69,7 @@ fn long_logs_are_written_in_parts(rt: HostRuntime) -> Result<(), Fail> {
         let (log, rows) = long_log(alloc, visits)?;
         let expected = format!(in alloc; "{HEADER}{rows}")?;
         let mut sink = sink_of(alloc, expected.len())?;
-        visits_csv(alloc, &[log], &mut sink)?;
+        visits_csv(&[log], &mut sink)?;
         assert_eq!(rt; sink.taken(), expected.as_bytes());
     }
     Ok(())

@@ -21,15 +21,15 @@ fn in_pieces(alloc: Global, logs: &[Vec<Visit>], cut: usize) -> Result<Vec<u8>, 
     for (device, log) in logs.iter().enumerate() {
         let device = several.then_some(device as u64);
         let (before, after) = log.split_at(cut.min(log.len()));
-        visit_rows(alloc, device, before, &mut sink)?;
-        visit_rows(alloc, device, after, &mut sink)?;
+        visit_rows(device, before, &mut sink)?;
+        visit_rows(device, after, &mut sink)?;
     }
     Ok(sink.taken().to_vec(alloc)?)
 }
 
 fn whole(alloc: Global, logs: &[Vec<Visit>]) -> Result<Vec<u8>, Fault> {
     let mut sink = sink_of(alloc, AMPLE)?;
-    visits_csv(alloc, logs, &mut sink)?;
+    visits_csv(logs, &mut sink)?;
     Ok(sink.taken().to_vec(alloc)?)
 }
 

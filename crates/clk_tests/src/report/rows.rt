@@ -38,6 +38,6 @@ fn assert_takes(
     expected: Result<(), Fault>,
 ) {
     let mut sink = sink_of(alloc, bytes.len()).expect(rt, "ample memory");
-    assert_eq!(rt; visits_csv(alloc, logs, &mut sink), expected);
+    assert_eq!(rt; visits_csv(logs, &mut sink), expected);
     assert_eq!(rt; sink.taken(), bytes);
 }

@@ -13,11 +13,10 @@ returns-clause-not_visits_alone c = λ w.
     ]
 
 pub returns-clause-not_visits_alone_without_memory : goal.returns-clause-not_visits_alone_without_memory
-returns-clause-not_visits_alone_without_memory c = λ w.
-    elim (w.memory refl) [
-      | inl kept ↦ absurd (cc)
-      | inr cut ↦ absurd (cc)
-    ]
+returns-clause-not_visits_alone_without_memory c = λ w. let kept = w.nothing (λ e. cc) in absurd (cc)
+
+pub returns-clause-not_text_without_memory : goal.returns-clause-not_text_without_memory
+returns-clause-not_text_without_memory c = λ w. let kept = w.nothing (λ e. cc) in absurd (cc)
 
 pub returns-clause-not_at_another_fault : goal.returns-clause-not_at_another_fault
-returns-clause-not_at_another_fault c = λ w. let kept = w.nothing (λ e. cc) (λ e. cc) in absurd (cc)
+returns-clause-not_at_another_fault c = λ w. let kept = w.nothing (λ e. cc) in absurd (cc)

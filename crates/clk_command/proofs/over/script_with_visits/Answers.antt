@@ -12,5 +12,5 @@ returns-in_err-logs-clause-wrote g c =
 
 pub returns-clause-wrote : goal.returns-clause-wrote
 returns-clause-wrote g c =
-    both-second _ _ _ _ _ _ _ _ _ (λ text m. record { plan = _; is_plan = c.in_ok-plan.ensures.plan; logs = m.0; means = m.2; csv = ap visits_text m.1 }) c.in_ok-logs.ensures.wrote
-    (rw c.deref.ensures.value at c.visits_csv.ensures.whole) (rw c.deref.ensures.value at c.visits_csv.ensures.front) c.visits_csv.ensures.fault
+    both-second _ _ _ _ _ _ _ _ _ _ _ (λ text m. record { plan = _; is_plan = c.in_ok-plan.ensures.plan; logs = m.0; means = m.2; csv = ap visits_text m.1 }) c.in_ok-logs.ensures.wrote
+    (rw c.deref.ensures.value at c.visits_csv.ensures)
