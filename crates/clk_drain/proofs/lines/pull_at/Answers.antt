@@ -1,4 +1,4 @@
-use Rattle.std.proofs.Common.{◌≡◌, set, true≢false, sym, refl, ◌∙◌}
+use Rattle.std.proofs.Common.{set, true≢false, sym, refl, ◌∙◌}
 use Rattle.std.specs.List.{AllByRecursion}
 use Rattle.clk_drain.specs.inside.Parts.{IsGathered, IsPlaceOf}
 use Rattle.clk_drain.proofs.Placing.{IsAsked, unanswered, asked-at}
