@@ -19,7 +19,7 @@ use std::thread::Threads;
 
 /// Reads a trace to its end, runs it over a plan, and writes the report. A producer for each sender, on a thread of its own, offers
 /// what the sender sends, while each device is pulled at this pace; then what is left is drained. Answers the log of each device, where
-/// visits are kept.
+/// visits are kept; where they aren't, the process keeps freed blocks from then on (`keep_freed`).
 ///
 /// # Errors
 ///
@@ -50,7 +50,7 @@ pub fn run_trace<H: Threads + Wait, P: Wait + Sync, R: Source, W: Sink>(
     ensures limit { Takes (most_trace_bytes + 1) (R.Source.remaining trace.old) (R.Source.remaining trace.new) }
 {
     if !visits {
-        keep_freed(alloc)?;
+        keep_freed(alloc);
     }
     let traces = Traces::read_csv(alloc, trace)?;
     let outcome = run_with(

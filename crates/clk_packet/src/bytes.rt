@@ -1,16 +1,17 @@
 //! Whole texts from a source and to a sink.
 
-ghost use Rattle.std.specs.Prelude.{◌≡◌, take, IfSome, IfOk, IsOkUnless};
+ghost use Rattle.std.specs.Prelude.{◌≡◌, take, IfSome, IfOk};
 ghost use Rattle.clk_packet.specs.Bytes.{Takes, FailsToRead, Wrote};
 
 use crate::fault::Fault;
 use crate::io::{Sink, Source};
-use std::alloc::Global;
+use std::alloc::{AllocError, Global};
 
 /// How many bytes are read at a time.
-const CHUNK: usize = 16384;
+const CHUNK: usize = 16_384;
 
-/// How large a block is after which the C library keeps those that are freed: larger than any but a log that a run takes.
+/// The size of a block after whose freeing the C library keeps freed blocks that are smaller. Of those that a run takes a log alone is
+/// larger, and the text of a trace of more than 16 MiB.
 const KEPT: usize = 16 << 20;
 
 /// Reads a source to its end, but no more than `most` bytes. Faults 1, and 19 where the source fails.
@@ -53,18 +54,14 @@ pub fn write_all<W: Sink>(writer: &mut W, text: &[u8]) -> Result<(), Fault>
 /// it that such blocks come and go. The system gives a block that is taken anew page by page, as it is first written, and what takes and
 /// frees many large blocks spends much of its time on that. Where one grows long after the others, as a log does, it is better left.
 ///
-/// # Errors
-///
-/// Fault 1 where memory is refused.
-pub fn keep_freed(alloc: Global) -> Result<(), Fault>
-    ensures { IsOkUnless result Fault.Memory }
-{
-    let _block: Vec<u8> = Vec::with_capacity(alloc, KEPT)?;
-    Ok(())
+/// It changes nothing but speed, for the whole process until it ends, and does nothing where memory is refused.
+pub fn keep_freed(alloc: Global) {
+    let _block: Result<Vec<u8>, AllocError> = Vec::with_capacity(alloc, KEPT);
 }
 
 /// Gives the memory of a text back. The block is made small before it is freed: the C library takes a large block that is freed as a
-/// sign that such blocks come and go, and from then on grows a log of up to that size by copies.
+/// sign that such blocks come and go, and from then on grows a log of up to that size by copies. What keeps no log gives it that sign on
+/// purpose (`keep_freed`).
 pub fn let_go(text: Vec<u8>) {
     let mut text = text;
     text.clear();
