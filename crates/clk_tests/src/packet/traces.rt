@@ -55,7 +55,7 @@ fn assert_sends(rt: &impl Abort, traces: &Traces, sender: u16, lengths: &[u16]) 
 }
 
 /// Traces with a bad record, and which it is.
-const BAD: [(&[u8], u32); 14] = [
+const BAD: [(&[u8], u32); 16] = [
     (b"1,2\n3", 2),
     (b"1,2,3", 1),
     (b"1,2\n\n3,4\n5,\n", 3),
@@ -70,6 +70,8 @@ const BAD: [(&[u8], u32); 14] = [
     (b"1,2\n,5\n", 2),
     (b"1,2\n3,4x\n", 2),
     (b"0,1\n70000,1\n", 2),
+    (b"0,0065536\n", 1),
+    (b"0,0000000\n", 1),
 ];
 
 #[test]
@@ -117,7 +119,7 @@ fn records_are_as_csv_reads_them(rt: HostRuntime) -> Result<(), Fail> {
 
 /// Traces that say the same: the lines of the first are two numbers in digits alone, and a line feed, and the second has more to be
 /// read past.
-const ALIKE: [(&[u8], &[u8]); 9] = [
+const ALIKE: [(&[u8], &[u8]); 10] = [
     (b"1,2\n3,4\n1,5\n", b"\"1\",2\n3,\"4\"\n\"1\",\"5\"\n"),
     (b"1,2\n3,4\n1,5\n", b"1,2\r\n3,4\r\n1,5\r\n"),
     (b"1,2\n3,4\n1,5\n", b"1,2\n3,4\r1,5\n"),
@@ -127,6 +129,10 @@ const ALIKE: [(&[u8], &[u8]); 9] = [
     (b"001,0002\n03,4\n1,00005\n", b"1,2\n3,4\n1,5"),
     (b"1,2\n3,4\n1,5\n", b"01,2\n003,\"04\"\n1,000005"),
     (b"2,65535\n0,1\n3,65535\n", b"2,\"65535\"\n0,1\n3,65535\n"),
+    (
+        b"1,0000002\n3,00000004\n0000001,5\n00000001,6\n",
+        b"\"1\",2\n3,4\n1,5\n1,6\n",
+    ),
 ];
 
 // Fails unless two traces send the same, of senders below 4, and sender 3 sends something.

@@ -3,6 +3,7 @@
 use super::rows::{HEADER, assert_row, assert_writes_all};
 use super::{packet, sink_of};
 use crate::sched::trees::{drr_over_two, prio_over_two};
+use clk_packet::Fault;
 use clk_report::visits_csv;
 use clk_rows::{DEFICIT_TWO_QUEUES, PRIO_TWO_QUEUES};
 use clk_sched::Visit;
@@ -47,15 +48,15 @@ fn long_visit(pull: u64) -> Visit {
     Visit::asking(pull, u64::MAX, 65_535, 65_535, Some(packet))
 }
 
-// The log of this many long visits, and its rows.
-fn long_log(alloc: Global, visits: u64) -> Result<(Vec<Visit>, String), AllocError> {
+// The log of this many long visits, and its rows, each with this before it.
+fn long_log(alloc: Global, before: &str, visits: u64) -> Result<(Vec<Visit>, String), AllocError> {
     let mut log = Vec::new(alloc);
     let mut rows = String::new(alloc);
     for pull in 0..visits {
         log.push(long_visit(pull))?;
         writeln!(
             rows,
-            "{pull},65535,65535,1,65535,4294967295,65535,1,18446744073709551615"
+            "{before}{pull},65535,65535,1,65535,4294967295,65535,1,18446744073709551615"
         )?;
     }
     Ok((log, rows))
@@ -66,11 +67,36 @@ fn long_log(alloc: Global, visits: u64) -> Result<(Vec<Visit>, String), AllocErr
 fn long_logs_are_written_in_parts(rt: HostRuntime) -> Result<(), Fail> {
     let alloc = rt.alloc();
     for visits in [32, 33, 512, 513, 1025] {
-        let (log, rows) = long_log(alloc, visits)?;
+        let (log, rows) = long_log(alloc, "", visits)?;
         let expected = format!(in alloc; "{HEADER}{rows}")?;
         let mut sink = sink_of(alloc, expected.len())?;
         visits_csv(&[log], &mut sink)?;
         assert_eq!(rt; sink.taken(), expected.as_bytes());
     }
+    Ok(())
+}
+
+#[test]
+fn long_logs_of_devices_are_written_in_parts(rt: HostRuntime) -> Result<(), Fail> {
+    let alloc = rt.alloc();
+    let (first, rows) = long_log(alloc, "0,", 33)?;
+    let (second, more) = long_log(alloc, "1,", 513)?;
+    let expected = format!(in alloc; "device,{HEADER}{rows}{more}")?;
+    let mut sink = sink_of(alloc, expected.len())?;
+    visits_csv(&[first, second], &mut sink)?;
+    assert_eq!(rt; sink.taken(), expected.as_bytes());
+    Ok(())
+}
+
+// The sink fails in the last of two parts.
+#[test]
+fn a_long_log_is_cut_off_where_the_sink_fails(rt: HostRuntime) -> Result<(), Fail> {
+    let alloc = rt.alloc();
+    let (log, rows) = long_log(alloc, "", 513)?;
+    let text = format!(in alloc; "{HEADER}{rows}")?;
+    let (front, _) = text.as_bytes().split_at(text.len().saturating_sub(1));
+    let mut sink = sink_of(alloc, front.len())?;
+    assert_eq!(rt; visits_csv(&[log], &mut sink), Err(Fault::Write));
+    assert_eq!(rt; sink.taken(), front);
     Ok(())
 }
