@@ -32,6 +32,6 @@ pub fn visits_examples()
     ensures not_without_visits { ¬ (WroteBoth IsOneByteEach (Some []) (Some (65 ∷ [])) success (Some []) (Some [])) }
     ensures not_visits_alone { ¬ (WroteBoth IsOneByteEach (Some []) (Some []) (failed Write) (Some []) (Some (66 ∷ []))) }
     ensures not_visits_alone_without_memory { ¬ (WroteBoth IsOneByteEach (Some []) (Some []) (failed Memory) (Some []) (Some (66 ∷ []))) }
-    ensures not_text_without_memory { ¬ (WroteBoth IsOneByteEach (Some []) (Some (65 ∷ [])) (failed Memory) (Some []) (Some [])) }
+    ensures not_text_alone_without_memory { ¬ (WroteBoth IsOneByteEach (Some []) (Some (65 ∷ [])) (failed Memory) (Some []) (Some [])) }
     ensures not_at_another_fault { ¬ (WroteBoth IsOneByteEach (Some []) (Some (65 ∷ [])) (failed Read) (Some []) (Some [])) }
 {}

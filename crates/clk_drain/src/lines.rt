@@ -169,8 +169,8 @@ fn pull_at<W: Wait>(lines: &mut Vec<Line>, wait: &W, leaf: u16) -> Option<Packet
     }
 }
 
-// Where the line of a leaf stands, if there is one. Where one device has all queues, its leaf's number is its place, which is looked at
-// first.
+// Where the line of a leaf stands, if there is one. Where one device has all queues, a line stands at the place of its leaf's number, so
+// that place is looked at first.
 fn place_of(lines: &[Line], leaf: u16) -> Option<usize>
     requires { AreRising (leaves_of lines.now) }
     ensures { MatchOption result (has_line lines.now leaf ≡ false) (IsPlaceOf lines.now leaf) }

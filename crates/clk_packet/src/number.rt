@@ -9,7 +9,7 @@ ghost use Rattle.clk_packet.specs.Numbers.{BeginsWithNumber, leading_digits, num
 const ZERO: u64 = 48;
 
 /// How many bytes at the front of a text are looked at first: enough for any number of seven digits and the byte after it.
-const FRONT: usize = 8;
+const FIRST_BYTES: usize = 8;
 
 /// The number that these digits are, where it is from `least` to `most`. Any number of zeros may lead it. None where a byte is no
 /// digit, where there is no byte, or where the number isn't in the range.
@@ -33,29 +33,29 @@ pub fn number_before(text: &[u8], end: u8, least: u64, most: u64) -> Option<(u64
     ensures found { IfSome result (λ r. BeginsWithNumber text.now end least most r.0 r.1.now) }
     ensures none { IfNone result ((number : _) → (rest : _) → BeginsWithNumber text.now end least most number rest → ⊥) }
 {
-    match short_number_before(text, end, least, most) {
+    match number_in_front(text, end, least, most) {
         Some(found) => Some(found),
-        None => any_number_before(text, end, least, most),
+        None => number_anywhere(text, end, least, most),
     }
 }
 
-/// The same where the number and the byte are within the first `FRONT` bytes. These are known to be there, so that none is tested for
+/// The same where the number and the byte are within the first `FIRST_BYTES` bytes. These are known to be there, so that none is tested for
 /// the end of the text. None also where the text is shorter, or the number longer.
 #[inline(always)]
-fn short_number_before(text: &[u8], end: u8, least: u64, most: u64) -> Option<(u64, &[u8])>
+fn number_in_front(text: &[u8], end: u8, least: u64, most: u64) -> Option<(u64, &[u8])>
     requires limit { most < 2 ^ 60 }
     requires end { is_ascii_digit end ≡ false }
     ensures { IfSome result (λ r. BeginsWithNumber text.now end least most r.0 r.1.now) }
 {
-    let (front, _) = text.split_first_chunk::<FRONT>()?;
-    let (number, left) = any_number_before(front, end, least, most)?;
-    let (_, rest) = text.split_at(FRONT - left.len());
+    let (front, _) = text.split_first_chunk::<FIRST_BYTES>()?;
+    let (number, left) = number_anywhere(front, end, least, most)?;
+    let (_, rest) = text.split_at(FIRST_BYTES - left.len());
     Some((number, rest))
 }
 
-/// The same wherever the text ends.
+/// The same of a text of any length, byte by byte.
 #[inline(always)]
-fn any_number_before(text: &[u8], end: u8, least: u64, most: u64) -> Option<(u64, &[u8])>
+fn number_anywhere(text: &[u8], end: u8, least: u64, most: u64) -> Option<(u64, &[u8])>
     requires limit { most < 2 ^ 60 }
     requires end { is_ascii_digit end ≡ false }
     ensures found { IfSome result (λ r. BeginsWithNumber text.now end least most r.0 r.1.now) }

@@ -1,10 +1,11 @@
 -- Texts that are written part by part, and the lines of a report.
-use Rattle.std.proofs.Common.{◌≡◌, ℕ, ◌-◌, ◌≤◌, List, [], ◌∷◌, ◌++◌, length, take, drop, append_assoc, codes, decimal, get_or, Option, refl, sym, ap, ap₂, ◌∙◌, subst, arith}
+use Rattle.std.proofs.Common.{◌≡◌, ℕ, ◌+◌, ◌-◌, ◌≤◌, List, [], ◌∷◌, ◌++◌, length, take, drop, append_assoc, codes, decimal, get_or, Option, Err, refl, sym, ap, ap₂, ◌∙◌, subst, arith}
 use Rattle.std.proofs.lemmas.List.{append-nil, drop_all, take_all, take-append-drop}
 use Rattle.std.proofs.lemmas.List.Concat.{flat_map-append}
 use Rattle.std.specs.List.{flat_map}
 use Rattle.std.specs.Io.KnownBytes.{Appends}
-use Rattle.clk_packet.specs.Bytes.{AppendsFront}
+use Rattle.clk_packet.specs.Bytes.{AppendsFront, Wrote}
+use Rattle.clk_packet.specs.declared.fault.Fault.{Fault}
 use Rattle.clk_packet.specs.declared.packet.Packet.{Packet}
 use Rattle.clk_packet.specs.declared.tally.Tally.{Tally}
 use Rattle.clk_packet.proofs.Callers.Bytes.{HasWritten, Appends-append}
@@ -22,13 +23,25 @@ HasWritten-part old mid new text rest part after h is more =
     }
 
 -- a front of the next part is written, and nothing after it
-pub HasWritten-cut : (old mid new : Option (List ℕ)) (text rest part after : List ℕ) → HasWritten old mid text rest → rest ≡ part ++ after → AppendsFront mid new part → AppendsFront old new text
+HasWritten-cut : (old mid new : Option (List ℕ)) (text rest part after : List ℕ) → HasWritten old mid text rest → rest ≡ part ++ after → AppendsFront mid new part → AppendsFront old new text
 HasWritten-cut old mid new text rest part after h is cut = (
   h.front ++ cut.0,
   cut.1 ++ after,
   h.split ∙ ap (λ l. h.front ++ l) (is ∙ ap (λ l. l ++ after) cut.2 ∙ append_assoc cut.0 cut.1 after) ∙ sym (append_assoc h.front cut.0 (cut.1 ++ after)),
   Appends-append old mid new h.front cut.0 h.appends cut.3,
 )
+
+-- where the sink fails in the next part, so much of the whole is written
+pub Wrote-part : (old mid new : Option (List ℕ)) (before now after : ℕ) (fault : Fault) (text rest part left : List ℕ) → HasWritten old mid text rest → now ≡ before → rest ≡ part ++ left
+    → Wrote mid new now after (Err fault) part → Wrote old new before after (Err fault) text
+Wrote-part old mid new before now after fault text rest part left so_far same is failed =
+    record {
+      whole = tt;
+      front = HasWritten-cut old mid new text rest part left so_far is failed.front;
+      fault = failed.fault;
+      succeeds = tt;
+      fails = failed.fails ∙ ap (λ n. n + 1) same;
+    }
 
 -- no part is left
 pub HasWritten-all : {X : Type 0} (f : X → List ℕ) (xs : List X) (old new : Option (List ℕ)) (text : List ℕ) → length xs ≡ 0 → HasWritten old new text (flat_map f xs) → Appends old new text

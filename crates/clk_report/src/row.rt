@@ -1,5 +1,5 @@
-//! The row of a visit in a visit CSV, put together from its end to its front as the line of a report is. What a row says is defined by
-//! the crate csv, and its fields are told in csv's words (`field_text`): none of them calls for quotes.
+//! The row of a visit in a visit CSV, put together from its end to its front as the line of a report is. It is what the crate csv writes of
+//! the same columns (`row_text`). csv isn't called: no field calls for quotes, so that a number or a flag stands for itself.
 
 ghost use Rattle.std.specs.Prelude.{◌≡◌, ◌+◌, ◌≤◌, ◌++◌, codes, decimal, drop, length};
 ghost use Rattle.std.specs.List.{flat_map};

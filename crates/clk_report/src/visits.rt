@@ -21,15 +21,15 @@ const ROWS: usize = 512;
 /// How many bytes they have at most.
 const ROOM: usize = ROWS * ROW;
 
-/// How many rows a short log has at most, for which less room has to be cleared.
-const SHORT: usize = 32;
+/// How many rows a log has at most for which less room is cleared.
+const FEW: usize = 32;
 
 /// How many bytes these have at most.
-const SHORT_ROOM: usize = SHORT * ROW;
+const FEW_ROOM: usize = FEW * ROW;
 
 /// Writes the log of each device as CSV: a header line, and a row for each visit, log after log. `fresh` and `passed` are 0 or 1; where
 /// nothing was got, the sender, the number and the length are empty. Of several devices each line has a first column, `device`, with the
-/// place of the log among these, from 0; of one there is no such column. Takes no memory, and time in proportion to the visits.
+/// place of the log among these, from 0; of one there is no such column. Takes no memory, and time in proportion to the visits and the logs.
 ///
 /// # Errors
 ///
@@ -85,8 +85,8 @@ pub fn visit_rows<W: Sink>(device: Option<u64>, log: &[Visit], writer: &mut W) -
     ensures { Wrote (W.Sink.taken writer.old) (W.Sink.taken writer.new)
         (W.Sink.failures writer.old) (W.Sink.failures writer.new) result (rows_text device log.now) }
 {
-    if log.len() <= SHORT {
-        write_rows::<SHORT_ROOM, W>(device, log, writer)
+    if log.len() <= FEW {
+        write_rows::<FEW_ROOM, W>(device, log, writer)
     } else {
         write_rows::<ROOM, W>(device, log, writer)
     }

@@ -36,7 +36,7 @@ impl Line {
         ensures line { lines_of text.now ≡ result.0 ∷ lines_of result.1.now }
         ensures rest { length result.1.now < length text.now }
     {
-        // Most lines are plain: one space between fields, and a line feed right after the last. These are read in one pass.
+        // Most lines are plain: one space between fields, and a line feed right after the last. These are read by their numbers.
         if let [b'p', b'u', b'l', b'l', b' ', rest @ ..] = text {
             if let Some((line, rest)) = Line::plain_pull(rest) {
                 return (line, rest);

@@ -158,7 +158,7 @@ impl<'a, W: Wait> Ask for Inlets<'a, W> {
     }
 }
 
-// Where the inlet of a leaf stands, if there is one, as for lines: its leaf's number is looked at first.
+// Where the inlet of a leaf stands, if there is one. The place of its leaf's number is looked at first, as for lines.
 fn place_of(inlets: &[Inlet], leaf: u16) -> Option<usize>
     requires { AreRising (leaves_of inlets.now) }
     ensures { MatchOption result (has_line inlets.now leaf ≡ false) (IsPlaceOf inlets.now leaf) }

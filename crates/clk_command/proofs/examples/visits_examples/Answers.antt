@@ -15,8 +15,8 @@ returns-clause-not_visits_alone c = λ w.
 pub returns-clause-not_visits_alone_without_memory : goal.returns-clause-not_visits_alone_without_memory
 returns-clause-not_visits_alone_without_memory c = λ w. let kept = w.nothing (λ e. cc) in absurd (cc)
 
-pub returns-clause-not_text_without_memory : goal.returns-clause-not_text_without_memory
-returns-clause-not_text_without_memory c = λ w. let kept = w.nothing (λ e. cc) in absurd (cc)
+pub returns-clause-not_text_alone_without_memory : goal.returns-clause-not_text_alone_without_memory
+returns-clause-not_text_alone_without_memory c = λ w. let kept = w.nothing (λ e. cc) in absurd (cc)
 
 pub returns-clause-not_at_another_fault : goal.returns-clause-not_at_another_fault
 returns-clause-not_at_another_fault c = λ w. let kept = w.nothing (λ e. cc) in absurd (cc)

@@ -7,7 +7,7 @@ use Rattle.std.specs.List.{flat_map}
 use Rattle.clk_report.specs.Counts.{counts_line}
 use Rattle.clk_report.specs.Devices.{all_emitted}
 use Rattle.clk_report.proofs.TotalLemmas.{AreTotals-zero}
-use Rattle.clk_report.proofs.ReportLemmas.{HasWritten-part, HasWritten-cut, flat_map-split, text-alone}
+use Rattle.clk_report.proofs.ReportLemmas.{HasWritten-part, Wrote-part, flat_map-split, text-alone}
 use Rattle.clk_report.proofs.senders.write_lines.Goals as goal
 
 pub count_by_sender-requires-clause-none : goal.count_by_sender-requires-clause-none
@@ -30,13 +30,7 @@ returns-in_err-write_all g c =
     let is = c.split_at-in-loop-rest.ensures.back ∙ text-alone (flat_map line part) _ c.loop-rest.lines 32768 (omega arith) (c.put_lines-start.ensures.piece emitted c.count_by_sender.ensures.totals) in
     let split = flat_map-split line c.loop-rest.rest.now part after c.min.result c.split_at.ensures.front c.split_at.ensures.back in
     let failed = rw is at c.in_err-write_all.ensures in
-    rw (p.1, p.2) (record {
-      whole = tt;
-      front = HasWritten-cut _ _ _ _ (flat_map line c.loop-rest.rest.now) (flat_map line part) (flat_map line after) c.loop-rest.invariant.front split failed.front;
-      fault = failed.fault;
-      succeeds = tt;
-      fails = failed.fails ∙ ap (λ n. n + 1) c.loop-rest.invariant.failures;
-    })
+    rw (p.1, p.2) (Wrote-part _ _ _ _ _ _ _ _ (flat_map line c.loop-rest.rest.now) (flat_map line part) (flat_map line after) c.loop-rest.invariant.front c.loop-rest.invariant.failures split failed)
 
 pub loop-rest-preserved : goal.loop-rest-preserved
 loop-rest-preserved g c =

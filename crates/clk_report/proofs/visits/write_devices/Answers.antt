@@ -3,7 +3,7 @@ use Rattle.std.proofs.lemmas.Result.{err_from_is_err_and}
 use Rattle.clk_packet.proofs.Callers.Bytes.{HasWritten-none}
 use Rattle.clk_report.specs.Devices.{lists_of}
 use Rattle.clk_report.specs.VisitCsv.{devices_text, rows_text}
-use Rattle.clk_report.proofs.ReportLemmas.{HasWritten-part, HasWritten-cut}
+use Rattle.clk_report.proofs.ReportLemmas.{HasWritten-part, Wrote-part}
 use Rattle.clk_report.proofs.VisitLemmas.{all-devices, devices-more}
 use Rattle.clk_report.proofs.visits.write_devices.Goals as goal
 
@@ -17,14 +17,8 @@ returns-in_err-visit_rows g c =
     let i = c.loop-device.device in
     let v = c.index-logs-device.result in
     let failed = rw c.deref.ensures.value at c.in_err-visit_rows.ensures in
-    rw (p.1, p.2) (record {
-      whole = tt;
-      front = HasWritten-cut _ _ _ _ (devices_text i (lists_of (drop i logs))) (rows_text (Some i) v.items) (devices_text (i + 1) (lists_of (drop (i + 1) logs))) c.loop-device.invariant.front
-          (devices-more logs i v (omega arith) c.index-logs-device.is) failed.front;
-      fault = failed.fault;
-      succeeds = tt;
-      fails = failed.fails ∙ ap (λ n. n + 1) c.loop-device.invariant.failures;
-    })
+    rw (p.1, p.2) (Wrote-part _ _ _ _ _ _ _ _ (devices_text i (lists_of (drop i logs))) (rows_text (Some i) v.items) (devices_text (i + 1) (lists_of (drop (i + 1) logs))) c.loop-device.invariant.front c.loop-device.invariant.failures
+    (devices-more logs i v (omega arith) c.index-logs-device.is) failed)
 
 pub loop-device-preserved : goal.loop-device-preserved
 loop-device-preserved g c =

@@ -3,8 +3,8 @@ use Rattle.std.proofs.lemmas.Bool.Decides.{nat_tests}
 use Rattle.std.proofs.lemmas.List.{drop_more}
 use Rattle.clk_packet.specs.Numbers.{leading_digits}
 use Rattle.clk_packet.proofs.DigitLemmas.{leading-front, leading-all, number_in-digits, number-there}
-use Rattle.clk_packet.proofs.number.any_number_before.Goals.{then-len-eq0-via-then-len-eq0, then-len-eq0-via-else-len-eq0+then-len-text, then-len-eq0-via-else-len-eq0+else-len-text+then-number-least}
-use Rattle.clk_packet.proofs.number.any_number_before.Goals as goal
+use Rattle.clk_packet.proofs.number.number_anywhere.Goals.{then-len-eq0-via-then-len-eq0, then-len-eq0-via-else-len-eq0+then-len-text, then-len-eq0-via-else-len-eq0+else-len-text+then-number-least}
+use Rattle.clk_packet.proofs.number.number_anywhere.Goals as goal
 
 pub returns-in_err-number-clause-none : goal.returns-in_err-number-clause-none
 returns-in_err-number-clause-none c = rw c.from_residual.ensures (λ number rest begins.

@@ -1,7 +1,7 @@
 use Rattle.std.proofs.Common.{arith, ◌≤◌, List, ℕ, length, subst, sym}
 use Rattle.clk_packet.specs.Numbers.{BeginsWithNumber}
 use Rattle.clk_packet.proofs.DigitLemmas.{number-front}
-use Rattle.clk_packet.proofs.number.short_number_before.Goals as goal
+use Rattle.clk_packet.proofs.number.number_in_front.Goals as goal
 
 pub returns : goal.returns
 returns c =
