@@ -12,7 +12,7 @@ mod TapLemmas
 mod Counts
 mod Members
 mod Account
-mod KeyLemmas
+mod MarkLemmas
 mod Gathering
 mod InUse
 mod Settlement

@@ -10,10 +10,10 @@ use Rattle.clk_ruled.specs.declared.view.Gathered.{Gathered}
 use Rattle.clk_ruled.specs.declared.view.Setup.{Setup}
 use Rattle.clk_ruled.specs.declared.view.View.{View}
 use Rattle.clk_ruled.specs.Account.{IsAccount}
-use Rattle.clk_ruled.specs.inside.Keys.{AreKeysOf, has_key}
+use Rattle.clk_ruled.specs.inside.Marks.{untold, telling}
 use Rattle.clk_packet.specs.Lists.{of_sender, In, stands_in}
 use Rattle.clk_packet.proofs.Callers.Lists.{rising-distinct}
-use Rattle.clk_ruled.specs.PacketLists.{without}
+use Rattle.clk_ruled.specs.PacketLists.{has_packet, without}
 use Rattle.clk_ruled.specs.inside.Parts.{TapKeeps}
 use Rattle.clk_ruled.specs.Queue.{SeatLists, TapLists, ClosedLists, IsSharedOut}
 use Rattle.clk_ruled.specs.Rule.{Books, FitsTap, IsSound, AreGathered, evicted_by, taken_in, senders_of}
@@ -21,7 +21,6 @@ use Rattle.clk_ruled.specs.inside.Rule.{Knows}
 use Rattle.clk_ruled.specs.Settle.{lists_of, as_gathered, accepted_of, evicted_of, all_evicted, accepted_count, evicted_count, lost_count, AreOfTap, AreTogether, HasEach, HasAllSeats, IsTakenWithin, IsAllTaken, tally_by, tally_of, IsSettled, IsAccounted}
 use Rattle.clk_ruled.proofs.Account.{account, all-counted, as-many, left-held, evicted_in}
 use Rattle.clk_ruled.proofs.Counts.{true-eq}
-use Rattle.clk_ruled.proofs.KeyLemmas.{key-packet}
 use Rattle.clk_ruled.proofs.TapSteps.{TapKnows, tap-knows, knows-held}
 use Rattle.clk_ruled.proofs.Tally.{times_in_all, senders_named, of-times, named-length, counted, unroomed}
 
@@ -93,9 +92,10 @@ same-senders : (seats : List SeatLists) → map (λ (r : ℕ × ℕ). r.0) (map 
 same-senders [] = refl
 same-senders (l ∷ seats) = ap (λ k. l.sender ∷ k) (same-senders seats)
 
--- the tallies by the keys are those by the packets
-pub tallies-same : (packets : List Packet) (keys : List (ℕ × ℕ)) → AreKeysOf packets keys → (seats : List SeatLists) → map (tally_by (has_key keys)) seats ≡ map (tally_of packets) seats
-tallies-same packets keys same seats = ap (λ (f : Packet → Bool). map (tally_by f) seats) (λ i p. key-packet packets keys same p i)
+-- tallies that are told of what is marked tell of the packets, where just these are marked
+pub tallies-told : (packets : List Packet) (marked : Packet → Bool) → ((p : Packet) → marked p ≡ has_packet packets p) → (seats : List SeatLists) → map (telling marked) (map untold seats) ≡ map (tally_of packets) seats
+tallies-told packets marked same [] = refl
+tallies-told packets marked same (l ∷ seats) = λ i. tally_by (λ p. same p i) l ∷ tallies-told packets marked same seats i
 
 -- What the books say of seats that are all of their queue's: what each sender's seat had, and how many packets came and were put out in all.
 record AreBooked (b : Books) (seats : List SeatLists) : Type 0 where

@@ -1,4 +1,4 @@
 -- What the code's own parts say to one another: no contract of a public call stands on it.
-pub mod Keys
+pub mod Marks
 pub mod Parts
 pub mod Rule

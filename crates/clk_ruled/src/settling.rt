@@ -1,20 +1,22 @@
 //! How a shared queue is settled, once all its seats are closed.
 
-mod evictions;
+mod marks;
 mod reach;
 
-ghost use Rattle.std.specs.Prelude.{◌≡◌, map, IfOk, IfErr, IsOkUnless};
+ghost use Rattle.std.specs.Prelude.{◌≡◌, ◌||◌, map, filter, IfOk, IfErr, OnOk, IsOkUnless};
 ghost use Rattle.std.specs.List.{AllByRecursion};
-ghost use Rattle.clk_ruled.specs.inside.Keys.{AreSorted, has_key};
+ghost use Rattle.clk_packet.specs.declared.packet.Packet.{Packet};
+ghost use Rattle.clk_ruled.specs.PacketLists.{has_packet};
+ghost use Rattle.clk_ruled.specs.inside.Marks.{is_marked, untold, telling};
 ghost use Rattle.clk_ruled.specs.Queue.{IsTapOf, IsSharedOut};
-ghost use Rattle.clk_ruled.specs.Settle.{AreOpenedTogether, AreOfTap, HasEach, IsSettled, IsFaultOfSettle, lists_of, tally_by};
+ghost use Rattle.clk_ruled.specs.Settle.{AreOpenedTogether, AreOfTap, HasEach, IsSettled, IsFaultOfSettle, all_evicted, lists_of};
 
 use crate::bare::BareTap;
 use crate::closed::ClosedSeat;
 use crate::queue::RuledQueue;
 use crate::tap::Tap;
 use clk_packet::{Fault, Packet, Packets, Tally};
-use evictions::{evicted_among, evicted_keys};
+use marks::Marks;
 use reach::check_reached;
 use std::alloc::Global;
 
@@ -72,8 +74,9 @@ pub fn settle_bare(
     // It tells that the queue is accounted for.
     tap.stays_within();
     check_reached(&closed, queue.capacity, index)?;
-    let keys = evicted_keys(alloc, &closed)?;
-    let tallies = tallies(alloc, closed, &keys)?;
+    let mut marks = Marks::none(alloc);
+    let mut tallies = take_apart(alloc, closed, &mut marks)?;
+    tell_evicted(alloc, &mut tallies, &marks)?;
     Ok(tallies)
 }
 
@@ -90,32 +93,70 @@ fn gather_all(queue: &RuledQueue, tap: &mut BareTap, closed: &mut Vec<ClosedSeat
     }
 }
 
-// A tally for each seat, where the packets of these keys were put out.
-fn tallies(alloc: Global, closed: Vec<ClosedSeat>, keys: &[(u16, u32)]) -> Result<Vec<Tally>, Fault>
-    requires sorted { AreSorted keys.now }
-    ensures tallies { IfOk result (λ tallies. tallies.items ≡ map (tally_by (has_key keys.now)) (lists_of closed.items)) }
-    ensures shared { IfOk result (λ _. AllByRecursion IsSharedOut (lists_of closed.items)) }
+// A tally for each seat, which doesn't tell yet what was put out. What was put out is marked, and the lists of it are let go.
+fn take_apart(
+    alloc: Global,
+    closed: Vec<ClosedSeat>,
+    marks: &mut Marks,
+) -> Result<Vec<Tally>, Fault>
+    ensures tallies { IfOk result (λ tallies. tallies.items ≡ map untold (lists_of closed.items)) }
+    ensures marked { OnOk result ((p : Packet) → is_marked marks.new p ≡ (has_packet (all_evicted (lists_of closed.items)) p || is_marked marks.old p)) }
+    ensures shared { OnOk result (AllByRecursion IsSharedOut (lists_of closed.items)) }
     ensures fault { IsOkUnless result Fault.Memory }
 {
     let mut tallies = Vec::new(alloc);
     for seat in closed {
-        tallies.push(tally(alloc, seat, keys)?)?;
+        tallies.push(take_seat(alloc, seat, marks)?)?;
     }
     Ok(tallies)
 }
 
-// The tally of a seat. Its lists are moved.
-fn tally(alloc: Global, seat: ClosedSeat, keys: &[(u16, u32)]) -> Result<Tally, Fault>
-    requires sorted { AreSorted keys.now }
-    ensures tally { IfOk result (λ tally. tally ≡ tally_by (has_key keys.now) seat.lists) }
+// The tally of a seat, which doesn't tell yet what was put out. What was put out for the seat is marked, and the list of it is let go.
+fn take_seat(alloc: Global, seat: ClosedSeat, marks: &mut Marks) -> Result<Tally, Fault>
+    ensures tally { IfOk result (λ tally. tally ≡ untold seat.lists) }
+    ensures marked { OnOk result ((p : Packet) → is_marked marks.new p ≡ (has_packet seat.lists.evicted p || is_marked marks.old p)) }
     ensures shared { IsSharedOut seat.lists }
     ensures fault { IsOkUnless result Fault.Memory }
 {
-    let evicted = evicted_among(alloc, seat.accepted(), keys)?;
+    marks.mark_all(alloc, seat.evicted())?;
     Ok(Tally {
         sender: seat.sender,
         accepted: Packets::from(seat.accepted),
         refused: Packets::from(seat.refused),
-        evicted: Packets::from(evicted),
+        evicted: Packets::new(alloc),
     })
+}
+
+// Lets the tallies tell which of their packets were put out: those that are marked.
+fn tell_evicted(alloc: Global, tallies: &mut Vec<Tally>, marks: &Marks) -> Result<(), Fault>
+    ensures told { OnOk result (tallies.new.items ≡ map (telling (is_marked marks.now)) tallies.old.items) }
+    ensures fault { IsOkUnless result Fault.Memory }
+{
+    for tally in tallies.iter_mut() {
+        let evicted = marked_among(alloc, tally.sender, tally.accepted.as_slice(), marks)?;
+        tally.evicted = Packets::from(evicted);
+    }
+    Ok(())
+}
+
+// Those of a sender's packets that are marked. The sender tells only for how many to make room.
+fn marked_among(
+    alloc: Global,
+    sender: u16,
+    packets: &[Packet],
+    marks: &Marks,
+) -> Result<Vec<Packet>, Fault>
+    ensures marked { IfOk result (λ marked. marked.items ≡ filter (is_marked marks.now) packets.now) }
+    ensures fault { IsOkUnless result Fault.Memory }
+{
+    if marks.is_empty() {
+        return Ok(Vec::new(alloc));
+    }
+    let mut marked = Vec::with_capacity(alloc, marks.count_of(sender))?;
+    for packet in packets {
+        if marks.has(*packet) {
+            marked.push(*packet)?;
+        }
+    }
+    Ok(marked)
 }
