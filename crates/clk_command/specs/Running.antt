@@ -1,14 +1,14 @@
 -- What running a trace over a plan writes, and why it is refused (this project's own definition).
 use Rattle.std.specs.Prelude.{◌≡◌, ◌⊎◌, ℕ, List, Option, None, IfSome}
+use Rattle.std.specs.List.{flat_map}
 use Rattle.clk_packet.specs.declared.packet.Packet.{Packet}
+use Rattle.clk_packet.specs.declared.tally.Tally.{Tally}
 use Rattle.clk_packet.specs.declared.fault.Fault.{Fault}
 use Rattle.clk_packet.specs.declared.fault.Fault.TheVariants.{Write}
 use Rattle.clk_packet.specs.Trace.{ExplainsTrace, pairs_of, sent, sent_by, shown, trace_fault}
 use Rattle.clk_sched.specs.declared.visit.Visit.{Visit}
 use Rattle.clk_tree.specs.Plan.{Planned}
-use Rattle.clk_drain.specs.declared.outcome.Outcome.{Outcome}
 use Rattle.clk_drain.specs.Run.{IsFaultOfRun, IsRunWith}
-use Rattle.clk_report.specs.Devices.{all_emitted}
 use Rattle.clk_report.specs.Report.{report_text}
 use Rattle.clk_command.specs.declared.pace.Pace.{Pace}
 
@@ -22,9 +22,10 @@ pub record Tells (trace : List ℕ) (traces : List (List Packet)) : Type 0 where
 pub record RunWrites (plan : List Planned) (pace : Pace) (trace : Option (List ℕ)) (text : List ℕ) (logs : List (List Visit)) : Type 0 where
   pub traces : List (List Packet)
   pub tells : IfSome trace (λ bytes. Tells bytes traces)
-  pub outcome : Outcome
-  pub came_to : IsRunWith plan traces pace.step pace.limit logs outcome
-  pub reported : text ≡ report_text (all_emitted outcome.emitted.items) outcome.tallies.items
+  pub emitted : List (List Packet)
+  pub tallies : List Tally
+  pub came_to : IsRunWith plan traces pace.step pace.limit logs emitted tallies
+  pub reported : text ≡ report_text (flat_map (λ packets. packets) emitted) tallies
 
 -- A run of the plan over what the trace tells is refused with this fault.
 pub record RefusesRun (plan : List Planned) (trace : Option (List ℕ)) (fault : Fault) : Type 0 where

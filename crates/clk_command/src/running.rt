@@ -1,25 +1,25 @@
 //! One trace, over a plan, with producers on threads.
 
-ghost use Rattle.std.specs.Prelude.{◌≡◌, ◌+◌, true, IfOk, IfErr};
+ghost use Rattle.std.specs.Prelude.{◌≡◌, ◌+◌, true, map, IfOk, IfErr};
 ghost use Rattle.clk_packet.specs.Bytes.{Takes, read_failures, write_failures};
 ghost use Rattle.clk_packet.specs.Trace.{most_trace_bytes};
-ghost use Rattle.clk_report.specs.Devices.{lists_of};
+ghost use Rattle.clk_sched.specs.Packed.{logged};
 ghost use Rattle.clk_packet.specs.Written.{WroteWhat};
 ghost use Rattle.clk_command.specs.Running.{ExplainsRun, RunWrites};
 
 use crate::pace::Pace;
-use clk_drain::{Free, Outcome, run_with};
+use clk_drain::{Free, PackedOutcome, run_with};
 use clk_packet::{Fault, Sink, Source, Traces, keep_freed};
 use clk_report::report;
-use clk_sched::Visit;
+use clk_sched::PackedLog;
 use clk_tree::Plan;
 use std::alloc::Global;
 use std::sync::Wait;
 use std::thread::Threads;
 
 /// Reads a trace to its end, runs it over a plan, and writes the report. A producer for each sender, on a thread of its own, offers
-/// what the sender sends, while each device is pulled at this pace; then what is left is drained. Answers the log of each device, where
-/// visits are kept; where they aren't, the process keeps freed blocks from then on (`keep_freed`).
+/// what the sender sends, while each device is pulled at this pace; then what is left is drained. Answers the log of each device, packed,
+/// where visits are kept; where they aren't, the process keeps freed blocks from then on (`keep_freed`).
 ///
 /// # Errors
 ///
@@ -36,8 +36,8 @@ pub fn run_trace<H: Threads + Wait, P: Wait + Sync, R: Source, W: Sink>(
     writer: &mut W,
     pace: Pace,
     visits: bool,
-) -> Result<Vec<Vec<Visit>>, Fault>
-    ensures wrote { WroteWhat (λ text. (logs : _) × IfOk result (λ answer. visits ≡ true → lists_of answer.items ≡ logs)
+) -> Result<Vec<PackedLog>, Fault>
+    ensures wrote { WroteWhat (λ text. (logs : _) × IfOk result (λ answer. visits ≡ true → map logged answer.items ≡ logs)
         × RunWrites plan.now pace (R.Source.remaining trace.old) text logs)
         result (W.Sink.taken writer.old) (W.Sink.taken writer.new) }
 
@@ -58,7 +58,7 @@ pub fn run_trace<H: Threads + Wait, P: Wait + Sync, R: Source, W: Sink>(
     )?;
     // How many devices there are at most is known where they are counted.
     let _ = plan.devices();
-    let Outcome {
+    let PackedOutcome {
         emitted,
         logs,
         tallies,

@@ -6,7 +6,7 @@ use crate::visits::{Numbers, assert_shown, read_back};
 use clk_command::{Pace, run_trace};
 use clk_packet::{FailingSink, FailingSource, Fault};
 use clk_report::visits_csv;
-use clk_sched::Visit;
+use clk_sched::PackedLog;
 use clk_tree::Plan;
 use std::alloc::{AllocError, Global};
 use std::process::Abort;
@@ -135,7 +135,7 @@ fn run_within<H: Threads + Wait + Sync + AllocGlobal>(
     rt: &H,
     limit: usize,
     room: usize,
-) -> Result<(Result<Vec<Vec<Visit>>, Fault>, Vec<u8>), Fault> {
+) -> Result<(Result<Vec<PackedLog>, Fault>, Vec<u8>), Fault> {
     let alloc = rt.alloc();
     let plan = Plan::read(alloc, ALONE.as_bytes())?;
     let mut trace = FailingSource::new(TRACE.as_bytes().to_vec(alloc)?, limit);
@@ -190,7 +190,7 @@ fn a_failing_trace_is_told(rt: HostRuntime) {
 }
 
 // The visit file of these logs.
-fn visits_text(alloc: Global, logs: &[Vec<Visit>]) -> Result<Vec<u8>, Fault> {
+fn visits_text(alloc: Global, logs: &[PackedLog]) -> Result<Vec<u8>, Fault> {
     let mut csv = FailingSink::new(vec![in alloc; 0; AMPLE]?);
     visits_csv(logs, &mut csv)?;
     Ok(csv.taken().to_vec(alloc)?)
@@ -203,7 +203,10 @@ fn the_logs_of_a_run_are_read_back(rt: HostRuntime) {
     let csv = visits_text(rt.alloc(), &logs).expect(&rt, "ample memory");
     write(&rt, "out/logs.csv", csv).expect(&rt, "a file");
     assert_eq!(rt; logs.len(), 1);
-    assert_shown(&rt, "out/logs.csv", logs.first().expect(&rt, "a log"));
+    for log in logs {
+        let visits = log.into_vec(rt.alloc()).expect(&rt, "ample memory");
+        assert_shown(&rt, "out/logs.csv", &visits);
+    }
 }
 
 // A device over a queue makes a visit a pull.

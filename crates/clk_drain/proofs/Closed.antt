@@ -2,12 +2,12 @@
 use Rattle.std.proofs.Common.{◌≡◌, ℕ, ◌+◌, ◌-◌, true, List, [], ◌∷◌, length, map, max, refl, sym, ◌∙◌, subst}
 use Rattle.std.specs.List.{AllByRecursion}
 use Rattle.clk_packet.specs.declared.packet.Packet.{Packet}
+use Rattle.clk_packet.specs.declared.tally.Tally.{Tally}
 use Rattle.clk_packet.specs.Lists.{are_distinct}
 use Rattle.clk_sched.specs.Tree.{Tree, leaves_distinct}
 use Rattle.clk_sched.specs.Conservation.{ConservesPackets, ConservesCounts, MakesNothing}
 use Rattle.clk_sched.specs.Results.{emitted}
 use Rattle.clk_sched.specs.Session.{Progress, counted_moment, IsDrained, GivesAll}
-use Rattle.clk_drain.specs.declared.drained.Drained.{Drained}
 use Rattle.clk_drain.specs.Line.{LineLists, seats_in, senders_at, HaveOwnSenders}
 use Rattle.clk_drain.specs.Closing.{left_over, queue_of_line, device_of, HasSent, IsDrainedTo}
 use Rattle.clk_drain.specs.Outcome.{Device, IsSettledOutcome}
@@ -31,9 +31,9 @@ pub record IsClosed (session new : Progress) (lines gathered after : List LineLi
   pub distinct : leaves_distinct new.tree ≡ true
   pub settled : AllByRecursion IsSettledLine after
 
-pub drained-over : (session new : Progress) (lines gathered after : List LineLists) (moment left : ℕ) (drained : Drained) → ((tree : Tree) → leaves_distinct tree ≡ true → ConservesPackets tree) → ((tree : Tree) → leaves_distinct tree ≡ true → ConservesCounts tree) → ((tree : Tree) → MakesNothing tree)
-    → IsClosed session new lines gathered after moment left → AreInOrder (tallies_in after) drained.tallies.items → drained.emitted.items ≡ emitted new.log → IsDrainedTo session lines moment new.log drained
-drained-over session new lines gathered after moment left drained conserves counts nothing h tallies out =
+pub drained-over : (session new : Progress) (lines gathered after : List LineLists) (moment left : ℕ) (out : List Packet) (tallies : List Tally) → ((tree : Tree) → leaves_distinct tree ≡ true → ConservesPackets tree) → ((tree : Tree) → leaves_distinct tree ≡ true → ConservesCounts tree) → ((tree : Tree) → MakesNothing tree)
+    → IsClosed session new lines gathered after moment left → AreInOrder (tallies_in after) tallies → out ≡ emitted new.log → IsDrainedTo session lines moment new.log out tallies
+drained-over session new lines gathered after moment left out tallies conserves counts nothing h in_order comes_out =
     let still = h.drained.still ∙ h.leaves_some.gathers.still in
     let run = h.drained.gives.drained.run in
     let apart : HaveOwnSenders after = subst (λ seats. are_distinct (senders_at seats) ≡ true) (sym (still-seats lines after still)) h.own in
@@ -43,13 +43,13 @@ drained-over session new lines gathered after moment left drained conserves coun
     let known = emitted-own new after (conserves new.tree h.distinct) (nothing new.tree) run given.0 h.drained.own apart h.settled in
     let some = some-sent after apart h.settled in
     let seats : seats_in after ≡ seats_in lines = still-seats lines after still in
-    let settled : (packets : ℕ → List Packet) → AllByRecursion (HasSent packets) (seats_in lines) → IsSettledOutcome packets (record { tree = new.tree; queues = map queue_of_line after; log = new.log; emitted = emitted new.log } ∷ []) drained.tallies.items =
-    λ packets offered. settled-outcome packets new after drained.tallies.items (emitted new.log) run refl given.0 h.drained.own apart (subst (AllByRecursion (HasSent packets)) (sym seats) offered) h.settled given.1 emits known tallies in
-    let is_device : record { tree = new.tree; queues = map queue_of_line after; log = new.log; emitted = emitted new.log } ≡ device_of session lines new.log drained =
-    λ i. record { tree = h.drained.gives.drained.tree i; queues = still-queues lines after still i; log = new.log; emitted = sym out i } in record {
+    let settled : (packets : ℕ → List Packet) → AllByRecursion (HasSent packets) (seats_in lines) → IsSettledOutcome packets (record { tree = new.tree; queues = map queue_of_line after; log = new.log; emitted = emitted new.log } ∷ []) tallies =
+    λ packets offered. settled-outcome packets new after tallies (emitted new.log) run refl given.0 h.drained.own apart (subst (AllByRecursion (HasSent packets)) (sym seats) offered) h.settled given.1 emits known in_order in
+    let is_device : record { tree = new.tree; queues = map queue_of_line after; log = new.log; emitted = emitted new.log } ≡ device_of session lines new.log out =
+    λ i. record { tree = h.drained.gives.drained.tree i; queues = still-queues lines after still i; log = new.log; emitted = sym comes_out i } in record {
       sent = some.0;
       offered = subst (AllByRecursion (HasSent some.0)) seats some.1;
-      outcome = λ packets offered. subst (λ (d : Device). IsSettledOutcome packets (d ∷ []) drained.tallies.items) is_device (settled packets offered);
+      outcome = λ packets offered. subst (λ (d : Device). IsSettledOutcome packets (d ∷ []) tallies) is_device (settled packets offered);
       made = h.drained.made;
       goes_on = subst (λ (x : Progress × ℕ). GivesAll session x.0 (max (counted_moment session) moment) h.drained.made x.1) (λ i. (record { tree = h.drained.gives.drained.tree i; log = new.log }, left-is session lines gathered left h.leaves_some i)) h.drained.gives;
     }

@@ -4,6 +4,8 @@ use Rattle.std.specs.List.{flat_map, range_with_len, AllByRecursion}
 use Rattle.std.proofs.Math.Nat.{mul-le-mul}
 use Rattle.std.proofs.lemmas.Grind.{flat_map-append}
 use Rattle.std.proofs.lemmas.List.{map-append}
+use Rattle.clk_packet.specs.declared.packet.Packet.{Packet}
+use Rattle.clk_packet.specs.declared.tally.Tally.{Tally}
 use Rattle.clk_packet.specs.declared.fault.Fault.{Fault}
 use Rattle.clk_packet.specs.declared.fault.Fault.TheVariants.{Memory}
 use Rattle.clk_packet.specs.Trace.{sent_by}
@@ -12,8 +14,9 @@ use Rattle.clk_sched.specs.declared.visit.Visit.{Visit}
 use Rattle.clk_sched.specs.Limits.{end_of_drains}
 use Rattle.clk_sched.specs.Log.{pulls, moment_of}
 use Rattle.clk_sched.specs.Session.{counted_moment}
-use Rattle.clk_drain.specs.declared.drained.Drained.{Drained}
-use Rattle.clk_drain.specs.declared.outcome.Outcome.{Outcome}
+use Rattle.clk_sched.specs.Packed.{logged}
+use Rattle.clk_drain.specs.declared.drained.PackedDrained.{PackedDrained}
+use Rattle.clk_drain.specs.declared.outcome.PackedOutcome.{PackedOutcome}
 use Rattle.clk_drain.specs.Line.{seats_in, senders_at}
 use Rattle.clk_drain.specs.Outcome.{SharedQueue, Device, senders_to}
 use Rattle.clk_drain.specs.Closing.{device_of, IsDrainedTo, IsFaultOfDrain}
@@ -27,18 +30,18 @@ use Rattle.clk_drain.proofs.ManyDevices.{Part, devices_of, tallies_in_all, AreSe
 use Rattle.clk_drain.proofs.Settling.{all-join, senders-same}
 
 -- Some of the devices are closed, this is what they came to, and the others are to come.
-pub record AreClosing (terms : Terms) (all done left : List Feed) (outcome : Outcome) : Type 0 where
+pub record AreClosing (terms : Terms) (all done left : List Feed) (outcome : PackedOutcome) : Type 0 where
   pub parts : List Part
   pub closed : AreClosedDevices terms done (devices_of parts)
   pub settled : AreSettled (sent_by terms.traces) parts
-  pub logs : AreKeptLogs done (map (λ log. log.items) outcome.logs.items) (devices_of parts)
+  pub logs : AreKeptLogs done (map logged outcome.logs.items) (devices_of parts)
   pub emitted : map (λ packets. packets.items) outcome.emitted.items ≡ map (λ (d : Device). d.emitted) (devices_of parts)
   pub tallies : outcome.tallies.items ≡ tallies_in_all parts
   pub all_are : done ++ left ≡ all
 
 -- A drained device is closed: it was pulled once each step, and then one tick apart.
-closed-device : (terms : Terms) (f : Feed) (log : List Visit) (drained : Drained) → IsReadyToClose terms f → IsDrainedTo f.session f.lines 0 log drained → IsClosedDevice terms f (device_of f.session f.lines log drained)
-closed-device terms f log drained ready over =
+closed-device : (terms : Terms) (f : Feed) (log : List Visit) (emitted : List Packet) (tallies : List Tally) → IsReadyToClose terms f → IsDrainedTo f.session f.lines 0 log emitted tallies → IsClosedDevice terms f (device_of f.session f.lines log emitted)
+closed-device terms f log emitted tallies ready over =
     let drain = over.goes_on.drained in
     let counted = ready.counted in
     let from : max (counted_moment f.session) 0 ≡ ready.made * terms.step = omega (arith, counted) in record {
@@ -73,21 +76,21 @@ devices-more f [] p = refl
 devices-more f (q ∷ parts) p = ap (λ rest. f q.device ∷ rest) (devices-more f parts p)
 
 -- What a device came to is added.
-pub record IsNoted (drained : Drained) (old new : Outcome) : Type 0 where
+pub record IsNoted (drained : PackedDrained) (old new : PackedOutcome) : Type 0 where
   pub logs : new.logs.items ≡ old.logs.items ++ drained.log ∷ []
   pub emitted : new.emitted.items ≡ old.emitted.items ++ drained.emitted ∷ []
   pub tallies : new.tallies.items ≡ old.tallies.items ++ drained.tallies.items
 
-pub closing-more : (terms : Terms) (all done left before : List Feed) (f : Feed) (drained : Drained) (old new : Outcome) → before ≡ f ∷ left → IsReadyToClose terms f → IsDrainedAs (record { session = f.session; visits = f.visits }) f.lines 0 drained → IsNoted drained old new
+pub closing-more : (terms : Terms) (all done left before : List Feed) (f : Feed) (drained : PackedDrained) (old new : PackedOutcome) → before ≡ f ∷ left → IsReadyToClose terms f → IsDrainedAs (record { session = f.session; visits = f.visits }) f.lines 0 drained → IsNoted drained old new
     → AreClosing terms all done before old → AreClosing terms all (done ++ f ∷ []) left new
 closing-more terms all done left before f drained old new next ready over noted h =
-    let p : Part = record { device = device_of f.session f.lines over.log drained; tallies = drained.tallies.items } in record {
+    let p : Part = record { device = device_of f.session f.lines over.log drained.emitted.items; tallies = drained.tallies.items } in record {
       parts = h.parts ++ p ∷ [];
-      closed = closed-more terms done h.parts f p h.closed (closed-device terms f over.log drained ready over.is);
+      closed = closed-more terms done h.parts f p h.closed (closed-device terms f over.log drained.emitted.items drained.tallies.items ready over.is);
       settled = all-join _ h.parts (p ∷ []) h.settled (over.is.outcome (sent_by terms.traces) ready.sent, tt);
       logs =
-          let are : map (λ log. log.items) new.logs.items ≡ map (λ log. log.items) old.logs.items ++ drained.log.items ∷ [] = ap (map (λ log. log.items)) noted.logs ∙ map-append (λ log. log.items) old.logs.items (drained.log ∷ []) in
-          subst (λ (logs : List (List Visit)). AreKeptLogs (done ++ f ∷ []) logs (devices_of (h.parts ++ p ∷ []))) (sym are) (kept-more done (map (λ log. log.items) old.logs.items) h.parts f drained.log.items p h.logs over.kept);
+          let are : map logged new.logs.items ≡ map logged old.logs.items ++ logged drained.log ∷ [] = ap (map logged) noted.logs ∙ map-append logged old.logs.items (drained.log ∷ []) in
+          subst (λ (logs : List (List Visit)). AreKeptLogs (done ++ f ∷ []) logs (devices_of (h.parts ++ p ∷ []))) (sym are) (kept-more done (map logged old.logs.items) h.parts f (logged drained.log) p h.logs over.kept);
       emitted = ap (map (λ packets. packets.items)) noted.emitted ∙ map-append (λ packets. packets.items) old.emitted.items (drained.emitted ∷ []) ∙ ap (λ lists. lists ++ drained.emitted.items ∷ []) h.emitted ∙ devices-more (λ (d : Device). d.emitted) h.parts p;
       tallies = noted.tallies ∙ (λ i. h.tallies i ++ sym (append-nil drained.tallies.items) i) ∙ sym (flat_map-append (λ (q : Part). q.tallies) h.parts (p ∷ []));
       all_are = append_assoc done (f ∷ []) left ∙ ap (λ rest. done ++ rest) (sym next) ∙ h.all_are;
@@ -108,7 +111,7 @@ moment-within terms f step limit ready =
     let counted = ready.counted in
     omega (arith, counted, product, most)
 
-pub next-ready : (terms : Terms) (all done left before : List Feed) (f : Feed) (outcome : Outcome) → before ≡ f ∷ left → AreClosing terms all done before outcome → AllByRecursion (IsReadyToClose terms) all → IsReadyToClose terms f
+pub next-ready : (terms : Terms) (all done left before : List Feed) (f : Feed) (outcome : PackedOutcome) → before ≡ f ∷ left → AreClosing terms all done before outcome → AllByRecursion (IsReadyToClose terms) all → IsReadyToClose terms f
 next-ready terms all done left before f outcome next h ready =
     ready-behind terms done left f (subst (AllByRecursion (IsReadyToClose terms)) (sym h.all_are ∙ ap (λ rest. done ++ rest) next) ready)
 
@@ -117,7 +120,7 @@ fault-behind : (done left : List Feed) (f : Feed) (fault : Fault) → IsFaultOfD
 fault-behind [] left f fault is = inl is
 fault-behind (g ∷ done) left f fault is = inr (fault-behind done left f fault is)
 
-pub next-fault : (terms : Terms) (all done left before : List Feed) (f : Feed) (outcome : Outcome) (fault : Fault) → before ≡ f ∷ left → AreClosing terms all done before outcome → IsFaultOfDrain f.lines fault → IsFaultOfClosing all fault
+pub next-fault : (terms : Terms) (all done left before : List Feed) (f : Feed) (outcome : PackedOutcome) (fault : Fault) → before ≡ f ∷ left → AreClosing terms all done before outcome → IsFaultOfDrain f.lines fault → IsFaultOfClosing all fault
 next-fault terms all done left before f outcome fault next h is =
     subst (λ feeds. IsFaultOfClosing feeds fault) (ap (λ rest. done ++ rest) (sym next) ∙ h.all_are) (fault-behind done left f fault is)
 
@@ -134,14 +137,14 @@ closed-senders terms (f ∷ feeds) (d ∷ devices) h =
     let here : senders_to d ≡ senders_at (seats_in f.lines) = ap (flat_map (λ (q : SharedQueue). q.senders)) h.0.queues ∙ senders-same f.lines in
     λ i. here i ++ closed-senders terms feeds devices h.1 i
 
-pub all-closed : (terms : Terms) (all done left : List Feed) (old new : Outcome) → left ≡ [] → new.logs.items ≡ old.logs.items → new.emitted.items ≡ old.emitted.items → AreInOrder old.tallies.items new.tallies.items → AreApartDevices all
+pub all-closed : (terms : Terms) (all done left : List Feed) (old new : PackedOutcome) → left ≡ [] → new.logs.items ≡ old.logs.items → new.emitted.items ≡ old.emitted.items → AreInOrder old.tallies.items new.tallies.items → AreApartDevices all
     → AreClosing terms all done left old → AreSettledTogether terms all new
 all-closed terms all done left old new none logs emitted order apart h =
     let done_are : done ≡ all = sym (append-nil done) ∙ ap (λ rest. done ++ rest) (sym none) ∙ h.all_are in
     let closed : AreClosedDevices terms all (devices_of h.parts) = subst (λ feeds. AreClosedDevices terms feeds (devices_of h.parts)) done_are h.closed in record {
       devices = devices_of h.parts;
       closed = closed;
-      logs = subst (λ (x : List Feed × List (List Visit)). AreKeptLogs x.0 x.1 (devices_of h.parts)) (λ i. (done_are i, sym (ap (map (λ log. log.items)) logs) i)) h.logs;
+      logs = subst (λ (x : List Feed × List (List Visit)). AreKeptLogs x.0 x.1 (devices_of h.parts)) (λ i. (done_are i, sym (ap (map logged) logs) i)) h.logs;
       emitted = ap (map (λ packets. packets.items)) emitted ∙ h.emitted;
       settled = devices-settled (sent_by terms.traces) h.parts new.tallies.items h.settled (subst (λ ns. are_distinct ns ≡ true) (sym (closed-senders terms all (devices_of h.parts) closed)) apart)
           (subst (λ tallies. AreInOrder tallies new.tallies.items) h.tallies order);

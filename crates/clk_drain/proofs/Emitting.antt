@@ -1,22 +1,18 @@
 -- What a drain gives is what is emitted in it.
-use Rattle.std.proofs.Common.{◌≡◌, ℕ, ◌+◌, ◌==◌, List, [], ◌∷◌, ◌++◌, length, map, Option, Some, None, MatchOption, refl, ap, ◌∙◌, subst, arith, if◌then◌else◌}
+use Rattle.std.proofs.Common.{◌≡◌, ℕ, ◌+◌, List, [], ◌∷◌, ◌++◌, length, map, Option, Some, None, MatchOption, refl, ap, ◌∙◌, subst, arith, if◌then◌else◌}
 use Rattle.std.specs.List.{AllByRecursion, filter_map, flat_map, cons_option}
 use Rattle.std.proofs.lemmas.List.{length-append}
-use Rattle.std.proofs.lemmas.List.Elements.{filter-append, filter_map-append}
 use Rattle.clk_packet.specs.declared.packet.Packet.{Packet}
 use Rattle.clk_sched.specs.declared.visit.Visit.{Visit}
 use Rattle.clk_sched.specs.Log.{visits_of, pulls, turn, result_of}
 use Rattle.clk_sched.specs.Turns.{UpToFirst}
 use Rattle.clk_sched.specs.Laws.Device.{IsDeviceTurn}
 use Rattle.clk_sched.specs.Results.{emitted}
+use Rattle.clk_sched.proofs.Callers.Emitted.{emitted-append}
 use Rattle.clk_sched.specs.Session.{Progress, IsDrained, given_in}
 
 abbrev passed : Visit → Option Packet
 passed v = if v.passed then v.got else None
-
-emitted-append : (some more : List Visit) → emitted (some ++ more) ≡ emitted some ++ emitted more
-emitted-append some more =
-    ap (filter_map passed) (filter-append (λ (v : Visit). v.node == 0) some more) ∙ filter_map-append passed (visits_of 0 some) (visits_of 0 more)
 
 -- One visit at most passes something, and it is the result.
 result-passed : (visits : List Visit) → UpToFirst (0 ∷ []) visits → filter_map passed visits ≡ cons_option (result_of visits) []

@@ -2,13 +2,14 @@
 use Rattle.std.specs.Prelude.{◌≡◌, ◌⊎◌, ℕ, ◌+◌, ◌-◌, ◌<◌, ◌≤◌, List, [], ◌∷◌, length, map, max}
 use Rattle.std.specs.List.{AllByRecursion}
 use Rattle.clk_packet.specs.declared.packet.Packet.{Packet}
+use Rattle.clk_packet.specs.declared.tally.Tally.{Tally}
 use Rattle.clk_packet.specs.declared.fault.Fault.{Fault}
 use Rattle.clk_packet.specs.declared.fault.Fault.TheVariants.{Memory}
 use Rattle.clk_ruled.specs.Queue.{SeatLists, AreNumbered, IsDealt}
 use Rattle.clk_ruled.specs.Settle.{accepted_count, evicted_count, lost_count, IsFaultOfSettle}
 use Rattle.clk_sched.specs.declared.visit.Visit.{Visit}
 use Rattle.clk_sched.specs.Session.{Progress, counted_moment, GivesAll}
-use Rattle.clk_sched.specs.Results.{emitted}
+use Rattle.clk_sched.specs.Results.{emitted as emitted_in}
 use Rattle.clk_drain.specs.declared.drained.Drained.{Drained}
 use Rattle.clk_drain.specs.Line.{LineLists, seats_of, seats_in, senders_at}
 use Rattle.clk_drain.specs.Outcome.{SharedQueue, Device, IsSettledOutcome}
@@ -24,15 +25,15 @@ evicted_over (l ∷ lines) = evicted_count (seats_of l) + evicted_over lines
 
 -- how many are left: those accepted, less those evicted, less those emitted
 abbrev pub left_over : Progress → List LineLists → ℕ
-left_over session lines = accepted_over lines - (evicted_over lines + length (emitted session.log))
+left_over session lines = accepted_over lines - (evicted_over lines + length (emitted_in session.log))
 
 -- the queue of a line
 abbrev pub queue_of_line : LineLists → SharedQueue
 queue_of_line l = record { leaf = l.leaf; kind = l.tap.setup.kind; capacity = l.tap.setup.capacity; senders = senders_at (seats_of l) }
 
--- a session's device over lines, with every visit of its tree and what else it came to
-abbrev pub device_of : Progress → List LineLists → List Visit → Drained → Device
-device_of session lines log drained = record { tree = session.tree; queues = map queue_of_line lines; log = log; emitted = drained.emitted.items }
+-- a session's device over lines, with every visit of its tree and what came out
+abbrev pub device_of : Progress → List LineLists → List Visit → List Packet → Device
+device_of session lines log emitted = record { tree = session.tree; queues = map queue_of_line lines; log = log; emitted = emitted }
 
 -- The packets are those that a seat offered: so many of its sender, numbered from 0 on, each accepted or refused, in order.
 abbrev pub AreOffered : List Packet → SeatLists → Type 0
@@ -42,21 +43,21 @@ AreOffered packets l = (length packets ≡ l.next) × AreNumbered l.sender 0 pac
 abbrev pub HasSent : (ℕ → List Packet) → SeatLists → Type 0
 HasSent sent l = AreOffered (sent l.sender) l
 
--- A session was drained over its lines, from a moment on, to this log, and all is settled.
-pub record IsDrainedTo (session : Progress) (lines : List LineLists) (moment : ℕ) (log : List Visit) (drained : Drained) : Type 0 where
+-- A session was drained over its lines, from a moment on, to this log, this came out, and all is settled.
+pub record IsDrainedTo (session : Progress) (lines : List LineLists) (moment : ℕ) (log : List Visit) (emitted : List Packet) (tallies : List Tally) : Type 0 where
   -- the seats offered some packets
   pub sent : ℕ → List Packet
   pub offered : AllByRecursion (HasSent sent) (seats_in lines)
   -- whatever it is that they offered, this is its settled outcome
   pub outcome : (packets : ℕ → List Packet) → AllByRecursion (HasSent packets) (seats_in lines)
-      → IsSettledOutcome packets (device_of session lines log drained ∷ []) drained.tallies.items
+      → IsSettledOutcome packets (device_of session lines log emitted ∷ []) tallies
   -- the log goes on from the session's by the pulls of one drain of all that was left
   pub made : ℕ
   pub goes_on : GivesAll session (record { tree = session.tree; log = log }) (max (counted_moment session) moment) made (left_over session lines)
 
--- The same, where the log is kept.
+-- The same, of what a drain answers.
 abbrev pub IsDrainedOver : Progress → List LineLists → ℕ → Drained → Type 0
-IsDrainedOver session lines moment drained = IsDrainedTo session lines moment drained.log.items drained
+IsDrainedOver session lines moment drained = IsDrainedTo session lines moment drained.log.items drained.emitted.items drained.tallies.items
 
 -- A queue refused or evicted packets only where it accepted as many as it may hold.
 abbrev pub HasReached : LineLists → Type 0

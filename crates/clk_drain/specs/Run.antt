@@ -2,6 +2,7 @@
 use Rattle.std.specs.Prelude.{◌≡◌, ℕ, ◌==◌, ◌<◌, Bool, false, true, List, [], ◌∷◌, length, map, suc, ⊤, if◌then◌else◌}
 use Rattle.std.specs.List.{AllByRecursion}
 use Rattle.clk_packet.specs.declared.packet.Packet.{Packet}
+use Rattle.clk_packet.specs.declared.tally.Tally.{Tally}
 use Rattle.clk_packet.specs.declared.fault.Fault.{Fault}
 use Rattle.clk_packet.specs.declared.fault.Fault.TheVariants.{Memory, UnknownSender, Unsettled}
 use Rattle.clk_packet.specs.Limits.{most_sender}
@@ -10,10 +11,12 @@ use Rattle.clk_packet.specs.Lists.{stands_in}
 use Rattle.clk_ruled.specs.Queue.{SeatLists}
 use Rattle.clk_ruled.specs.Settle.{accepted_count, lost_count}
 use Rattle.clk_sched.specs.declared.visit.Visit.{Visit}
+use Rattle.clk_sched.specs.Packed.{logged}
 use Rattle.clk_tree.specs.Plan.{Planned}
 use Rattle.clk_tree.specs.PlanTree.{IsTreeOf, device_count}
 use Rattle.clk_tree.specs.PlanParts.{Queued, queues_of, senders_of, number_of}
 use Rattle.clk_drain.specs.declared.outcome.Outcome.{Outcome}
+use Rattle.clk_drain.specs.declared.outcome.PackedOutcome.{PackedOutcome}
 use Rattle.clk_drain.specs.Closing.{HasSent}
 use Rattle.clk_drain.specs.Moments.{HasMoments}
 use Rattle.clk_drain.specs.Outcome.{SharedQueue, Device, IsSettledOutcome}
@@ -35,26 +38,26 @@ abbrev pub AreDevicesFrom : List Planned → ℕ → List Device → Type 0
 AreDevicesFrom plan number [] = number ≡ device_count plan
 AreDevicesFrom plan number (d ∷ devices) = IsDeviceOf plan number d × AreDevicesFrom plan (suc number) devices
 
--- What a run of a plan over a trace came to, where these are the logs of its devices: what each device emitted, and one tally a
--- sender.
-pub record IsRunWith (plan : List Planned) (traces : List (List Packet)) (step limit : ℕ) (logs : List (List Visit)) (outcome : Outcome) : Type 0 where
+-- What a run of a plan over a trace came to: the logs of its devices, what each device emitted, and one tally a sender.
+pub record IsRunWith (plan : List Planned) (traces : List (List Packet)) (step limit : ℕ) (logs : List (List Visit)) (packets : List (List Packet)) (tallies : List Tally) : Type 0 where
   pub devices : List Device
   pub each : AreDevicesFrom plan 0 devices
-  pub logged : logs ≡ map (λ (d : Device). d.log) devices
-  pub emitted : map (λ packets. packets.items) outcome.emitted.items ≡ map (λ (d : Device). d.emitted) devices
+  pub logs_are : logs ≡ map (λ (d : Device). d.log) devices
+  pub emitted : packets ≡ map (λ (d : Device). d.emitted) devices
   -- all that each sender sends is accounted for
-  pub settled : IsSettledOutcome (sent_by traces) devices outcome.tallies.items
+  pub settled : IsSettledOutcome (sent_by traces) devices tallies
   pub moments : AllByRecursion (λ (d : Device). HasMoments step limit d.log) devices
 
--- The same, where it has the logs too.
+-- The same, of what a run answers.
 abbrev pub IsRunOutcome : List Planned → List (List Packet) → ℕ → ℕ → Outcome → Type 0
-IsRunOutcome plan traces step limit outcome = IsRunWith plan traces step limit (map (λ log. log.items) outcome.logs.items) outcome
+IsRunOutcome plan traces step limit outcome =
+    IsRunWith plan traces step limit (map (λ log. log.items) outcome.logs.items) (map (λ packets. packets.items) outcome.emitted.items) outcome.tallies.items
 
--- The same, where it has the logs if visits are kept.
-pub record IsKeptRun (visits : Bool) (plan : List Planned) (traces : List (List Packet)) (step limit : ℕ) (outcome : Outcome) : Type 0 where
+-- The same, of a packed outcome: it has the logs where visits are kept.
+pub record IsKeptRun (visits : Bool) (plan : List Planned) (traces : List (List Packet)) (step limit : ℕ) (outcome : PackedOutcome) : Type 0 where
   pub logs : List (List Visit)
-  pub kept : visits ≡ true → map (λ log. log.items) outcome.logs.items ≡ logs
-  pub is : IsRunWith plan traces step limit logs outcome
+  pub kept : visits ≡ true → map logged outcome.logs.items ≡ logs
+  pub is : IsRunWith plan traces step limit logs (map (λ packets. packets.items) outcome.emitted.items) outcome.tallies.items
 
 -- the numbers of a plan's senders
 abbrev pub senders_in : List Planned → List ℕ

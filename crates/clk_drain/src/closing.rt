@@ -13,7 +13,7 @@ ghost use Rattle.clk_drain.specs.inside.Closing.{IsDrainedAs};
 ghost use Rattle.clk_drain.specs.inside.Parts.{IsGathered, held_at, AreGatheredFrom, IsDrainOf, IsSettledLine, AreInOrder, tallies_in};
 
 use crate::device::DeviceSession;
-use crate::drained::Drained;
+use crate::drained::{Drained, PackedDrained};
 use crate::line::Line;
 use crate::lines::GatheredLines;
 use clk_packet::{Fault, Tally};
@@ -46,10 +46,11 @@ pub fn close_and_drain<W: Wait>(
     ensures drained { IfOk result (IsDrainedOver session lines.items moment) }
     ensures fault { IfErr result (IsFaultOfDrain lines.items) }
 {
-    close(alloc, wait, DeviceSession::of(session), lines, moment)
+    close(alloc, wait, DeviceSession::of(session), lines, moment)?.unpack(alloc)
 }
 
-/// The same, of a session that may keep no visits: what is said of its log is then said of one that isn't handed back.
+/// The same, of a session that may keep its visits packed, or none. Where it keeps none, what is said of its log is said of one that isn't
+/// handed back.
 ///
 /// # Errors
 ///
@@ -60,7 +61,7 @@ pub(crate) fn close<W: Wait>(
     session: DeviceSession,
     lines: Vec<Line>,
     moment: u64,
-) -> Result<Drained, Fault>
+) -> Result<PackedDrained, Fault>
     requires lines { AreLinesOf session.session lines.items }
     requires senders { HaveOwnSenders lines.items }
     requires few { accepted_over lines.items ≤ most_left }
@@ -74,8 +75,8 @@ pub(crate) fn close<W: Wait>(
     let left = left(&session, &lines);
     let (session, lines) = drain(wait, session, lines, left, moment)?;
     let tallies = settle_all(alloc, lines)?;
-    let (log, emitted) = session.into_parts();
-    Ok(Drained {
+    let (log, emitted) = session.into_parts(alloc)?;
+    Ok(PackedDrained {
         emitted,
         log,
         tallies,

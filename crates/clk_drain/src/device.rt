@@ -1,11 +1,11 @@
-//! The session of a device: what came out is kept, and its visits where they are wanted.
+//! The session of a device: its visits are kept where they are wanted, and what came out is kept or told from them.
 
 use clk_packet::{Fault, Packet};
-use clk_sched::{Ask, Keeps, Kernel, Session, Tree, Visit};
+use clk_sched::{Ask, Keeps, Kernel, PackedLog, Session, Tree};
 use std::alloc::Global;
 use std::marker::Model;
 
-/// A session that keeps what came out at its device, and all of its visits or none. What is said of it is said of every visit.
+/// A session that keeps all of its visits, what came out at its device, or both. What is said of it is said of every visit.
 #[derive(Drop)]
 pub struct DeviceSession {
     kernel: Kernel,
@@ -13,7 +13,7 @@ pub struct DeviceSession {
 
 impl Model for DeviceSession {
     ghost use Rattle.std.specs.Prelude.{◌≡◌, true};
-    ghost use Rattle.clk_sched.specs.Kinds.{progress_of};
+    ghost use Rattle.clk_sched.specs.Kinds.{progress_of, keeps_visits, keeps_emitted};
     ghost use Rattle.clk_drain.specs.inside.DeviceSession.{DeviceLists};
     ghost use Rattle.std.specs.Coded.{codes};
     ghost use Rattle.clk_sched.specs.Stored.{tree_code};
@@ -22,37 +22,36 @@ impl Model for DeviceSession {
 
     ghost coded = { Prim.hlevel (codes, tree_code) };
 
-    ghost view = { λ s. record { session = progress_of s.kernel; visits = s.kernel.keeps.visits } };
+    ghost view = { λ s. record { session = progress_of s.kernel; visits = keeps_visits s.kernel.keeps } };
 
-    ghost invariant = { λ s. (s.kernel.keeps.packets ≡ true) × (s.kernel.gone ≡ 0) };
+    ghost invariant = { λ s. (keeps_emitted s.kernel.keeps ≡ true) × (s.kernel.gone ≡ 0) };
 }
 
 impl DeviceSession {
     ghost use Rattle.std.specs.Prelude.{◌≡◌, ◌<◌, ◌≤◌, true, false, [], length, max, IfOk, IfErr, OnOk, OnErr, IsOkUnless};
     ghost use Rattle.clk_sched.specs.Closing.{LosesNothing, left_in};
-    ghost use Rattle.clk_sched.specs.Kinds.{pulls_made};
+    ghost use Rattle.clk_sched.specs.Kinds.{pulls_made, keeps_visits, keeps_emitted};
     ghost use Rattle.clk_sched.specs.LaidOut.{IsRefused};
     ghost use Rattle.clk_sched.specs.Limits.{most_left, end_of_moments, end_of_drains, end_of_pulls, end_of_drained_pulls};
+    ghost use Rattle.clk_sched.specs.Packed.{logged};
     ghost use Rattle.clk_sched.specs.Places.{Answers, tree_queue};
     ghost use Rattle.clk_sched.specs.Results.{emitted};
     ghost use Rattle.clk_sched.specs.Run.{IsRun};
     ghost use Rattle.clk_sched.specs.Session.{IsPulledOnce, GivesAll, counted_moment, newly};
     ghost use Rattle.clk_sched.specs.Tree.{leaves_distinct};
 
-    /// A session of this tree, in which no queue stands twice, before its first pull.
+    /// A session of this tree, in which no queue stands twice, before its first pull. It keeps what it is told to, of
+    /// which what came out has to be known at the end.
     ///
     /// # Errors
     ///
     /// Fault 18 for a tree of more than 256 nodes and queues, the device counted; else fault 1 where memory is refused.
-    pub fn new(alloc: Global, tree: Tree, visits: bool) -> Result<DeviceSession, Fault>
+    pub fn new(alloc: Global, tree: Tree, keeps: Keeps) -> Result<DeviceSession, Fault>
         requires distinct { leaves_distinct tree ≡ true }
-        ensures made { IfOk result (λ s. s ≡ record { session = record { tree = tree; log = [] }; visits = visits }) }
+        requires emitted { keeps_emitted keeps ≡ true }
+        ensures made { IfOk result (λ s. s ≡ record { session = record { tree = tree; log = [] }; visits = keeps_visits keeps }) }
         ensures refused { IfErr result (λ fault. IsRefused tree fault) }
     {
-        let keeps = Keeps {
-            visits,
-            packets: true,
-        };
         let kernel = Kernel::new(alloc, tree, keeps)?;
         Ok(DeviceSession { kernel })
     }
@@ -64,6 +63,18 @@ impl DeviceSession {
         DeviceSession {
             kernel: session.into_kernel(),
         }
+    }
+
+    /// Makes room for so many packets more, where packets are kept, and for as many visits, where these are kept packed.
+    ///
+    /// # Errors
+    ///
+    /// Fault 1 where memory is refused.
+    pub fn reserve(&mut self, packets: usize) -> Result<(), Fault>
+        ensures unchanged { self.new ≡ self.old }
+        ensures fault { IsOkUnless result Fault.Memory }
+    {
+        self.kernel.reserve(packets)
     }
 
     /// Pulls the device once, as `Session::pull` does.
@@ -113,15 +124,20 @@ impl DeviceSession {
         self.kernel.count_emitted()
     }
 
-    /// Every visit, where these are kept, and the packets that came out at the device, in order, without taking memory.
-    pub fn into_parts(self) -> (Vec<Visit>, Vec<Packet>)
-        ensures log { self.visits ≡ true → result.0.items ≡ self.session.log }
-        ensures emitted { result.1.items ≡ emitted self.session.log }
+    /// Every visit, where these are kept, and the packets that came out at the device, in order.
+    ///
+    /// # Errors
+    ///
+    /// Fault 1 where memory is refused, for which none asks that keeps those packets.
+    pub fn into_parts(self, alloc: Global) -> Result<(PackedLog, Vec<Packet>), Fault>
+        ensures log { IfOk result (λ parts. self.visits ≡ true → logged parts.0 ≡ self.session.log) }
+        ensures emitted { IfOk result (λ parts. parts.1.items ≡ emitted self.session.log) }
         ensures distinct { leaves_distinct self.session.tree ≡ true }
+        ensures fault { IsOkUnless result Fault.Memory }
     {
         // That no queue stands twice in its tree is known where the log is read.
         let _ = self.kernel.log();
         let DeviceSession { kernel } = self;
-        kernel.into_parts()
+        kernel.into_packed(alloc)
     }
 }

@@ -1,7 +1,11 @@
 //! What a session came to, once it is drained.
 
-use clk_packet::{Packet, Tally};
-use clk_sched::Visit;
+ghost use Rattle.std.specs.Prelude.{◌≡◌, IfOk, IsOkUnless};
+ghost use Rattle.clk_sched.specs.Packed.{logged};
+
+use clk_packet::{Fault, Packet, Tally};
+use clk_sched::{PackedLog, Visit};
+use std::alloc::Global;
 
 /// What a device came to, once all who sent to its queues had closed their seats and it was drained.
 #[derive(Drop)]
@@ -12,4 +16,36 @@ pub struct Drained {
     pub log: Vec<Visit>,
     /// What became of each sender's packets: one tally a sender, by rising number.
     pub tallies: Vec<Tally>,
+}
+
+/// The same, with a log that may be packed.
+#[derive(Drop)]
+pub(crate) struct PackedDrained {
+    /// The packets that came out at the device, in order.
+    pub emitted: Vec<Packet>,
+    /// Every visit of its tree, in order, where visits are kept.
+    pub log: PackedLog,
+    /// What became of each sender's packets: one tally a sender, by rising number.
+    pub tallies: Vec<Tally>,
+}
+
+impl PackedDrained {
+    /// The same, with its log as a list. Fault 1 where memory is refused.
+    pub fn unpack(self, alloc: Global) -> Result<Drained, Fault>
+        ensures emitted { IfOk result (λ drained. drained.emitted.items ≡ self.emitted.items) }
+        ensures log { IfOk result (λ drained. drained.log.items ≡ logged self.log) }
+        ensures tallies { IfOk result (λ drained. drained.tallies.items ≡ self.tallies.items) }
+        ensures fault { IsOkUnless result Fault.Memory }
+    {
+        let PackedDrained {
+            emitted,
+            log,
+            tallies,
+        } = self;
+        Ok(Drained {
+            emitted,
+            log: log.into_vec(alloc)?,
+            tallies,
+        })
+    }
 }

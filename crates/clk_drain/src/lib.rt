@@ -22,5 +22,5 @@ pub use laws::taps_take_what_leaves_give;
 pub use limits::{MAX_LIMIT, MAX_STEP};
 pub use line::Line;
 pub use lines::Lines;
-pub use outcome::Outcome;
+pub use outcome::{Outcome, PackedOutcome};
 pub use running::{run, run_with};

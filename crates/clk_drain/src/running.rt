@@ -16,12 +16,13 @@ ghost use Rattle.std.specs.Prelude.{◌≡◌, ◌≤◌, ◌<◌, true, false, 
 ghost use Rattle.clk_packet.specs.declared.fault.Fault.TheVariants.{UnknownSender};
 ghost use Rattle.clk_packet.specs.Trace.{sent_by};
 ghost use Rattle.clk_packet.specs.Lists.{stands_in};
+ghost use Rattle.clk_sched.specs.Kinds.{keeps_visits, keeps_emitted};
 ghost use Rattle.clk_tree.specs.PlanParts.{number_of};
 ghost use Rattle.clk_drain.specs.Limits.{most_step, most_limit};
 ghost use Rattle.clk_drain.specs.Run.{IsRunOutcome, IsKeptRun, senders_in, AreKnown, IsFaultOfRun, IsUnknownSender};
 
 use crate::gate::Gate;
-use crate::outcome::Outcome;
+use crate::outcome::{Outcome, PackedOutcome};
 use crate::running::closing::close_devices;
 use crate::running::course::Course;
 use crate::running::devices::{OpenPlan, open_devices};
@@ -29,6 +30,7 @@ use crate::running::handing::hand_out;
 use crate::running::joining::join_devices;
 use crate::running::threads::run_threads;
 use clk_packet::{Fault, Traces};
+use clk_sched::Keeps;
 use clk_tree::{Plan, SenderSpec};
 use std::alloc::Global;
 use std::sync::Wait;
@@ -66,11 +68,17 @@ pub fn run<R: Threads + Wait, W: Wait + Sync, G: Gate + Sync>(
     ensures known { IfOk result (λ _. AreKnown (senders_in plan.now) traces.now) }
     ensures fault { IfErr result (IsFaultOfRun plan.now traces.now) }
 {
-    run_with(rt, alloc, wait, plan, traces, step, limit, gate, true)
+    let keeps = Keeps {
+        visits: true,
+        packed: false,
+        packets: true,
+    };
+    run_keeping(rt, alloc, wait, plan, traces, step, limit, gate, keeps)?.unpack(alloc)
 }
 
-/// Runs a plan over a trace as `run` does, and keeps visits or not. That each device made a run of its tree, by which what came out is
-/// told, is said of the outcome's logs where visits are kept, and else of visits that contracts alone know: then the outcome has no log.
+/// Runs a plan over a trace as `run` does, and keeps visits packed, in seven tenths of the memory, or not at all. That each device made a
+/// run of its tree, by which what came out is told, is said of the outcome's logs where visits are kept, and else of visits that contracts
+/// alone know: then the outcome has no log.
 ///
 /// # Errors
 ///
@@ -85,7 +93,7 @@ pub fn run_with<R: Threads + Wait, W: Wait + Sync, G: Gate + Sync>(
     limit: u32,
     gate: &G,
     visits: bool,
-) -> Result<Outcome, Fault>
+) -> Result<PackedOutcome, Fault>
     requires step { (1 ≤ step) × (step ≤ most_step) }
     requires limit { (1 ≤ limit) × (limit ≤ most_limit) }
     ensures outcome { IfOk result (IsKeptRun visits plan.now traces.now step limit) }
@@ -93,20 +101,51 @@ pub fn run_with<R: Threads + Wait, W: Wait + Sync, G: Gate + Sync>(
     ensures known { IfOk result (λ _. AreKnown (senders_in plan.now) traces.now) }
     ensures fault { IfErr result (IsFaultOfRun plan.now traces.now) }
 {
+    let keeps = Keeps {
+        visits: false,
+        packed: visits,
+        packets: !visits,
+    };
+    let outcome = run_keeping(rt, alloc, wait, plan, traces, step, limit, gate, keeps)?;
+    Ok(kept(alloc, outcome, visits))
+}
+
+/// Runs a plan over a trace as `run` does, and keeps what it is told to, of which what came out has to be known at the end.
+///
+/// # Errors
+///
+/// Those of `run`.
+fn run_keeping<R: Threads + Wait, W: Wait + Sync, G: Gate + Sync>(
+    rt: &R,
+    alloc: Global,
+    wait: &W,
+    plan: &Plan,
+    traces: &Traces,
+    step: u32,
+    limit: u32,
+    gate: &G,
+    keeps: Keeps,
+) -> Result<PackedOutcome, Fault>
+    requires step { (1 ≤ step) × (step ≤ most_step) }
+    requires limit { (1 ≤ limit) × (limit ≤ most_limit) }
+    requires emitted { keeps_emitted keeps ≡ true }
+    ensures outcome { IfOk result (IsKeptRun (keeps_visits keeps) plan.now traces.now step limit) }
+    ensures known { IfOk result (λ _. AreKnown (senders_in plan.now) traces.now) }
+    ensures fault { IfErr result (IsFaultOfRun plan.now traces.now) }
+{
     check_senders(plan.senders(), traces)?;
     // How many packets are sent in all is known where they are counted.
     let _ = traces.count(0);
-    let OpenPlan { queues, ends } = open_devices(alloc, plan, traces, visits)?;
+    let OpenPlan { queues, ends } = open_devices(alloc, plan, traces, keeps)?;
     let handed = hand_out(alloc, wait, &queues, ends)?;
     let course = Course::new(wait, traces, gate, step, limit, handed.producers.len());
     let ended = run_threads(rt, alloc, &course, handed)?;
     let closings = join_devices(alloc, queues, ended.pulled, ended.closed)?;
-    let outcome = close_devices(alloc, &course, closings)?;
-    Ok(kept(alloc, outcome, visits))
+    close_devices(alloc, &course, closings)
 }
 
 // The same outcome, without its logs where no visits are kept.
-fn kept(alloc: Global, outcome: Outcome, visits: bool) -> Outcome
+fn kept(alloc: Global, outcome: PackedOutcome, visits: bool) -> PackedOutcome
     ensures emitted { result.emitted.items ≡ outcome.emitted.items }
     ensures tallies { result.tallies.items ≡ outcome.tallies.items }
     ensures logs { visits ≡ true → result.logs.items ≡ outcome.logs.items }
@@ -115,12 +154,12 @@ fn kept(alloc: Global, outcome: Outcome, visits: bool) -> Outcome
     if visits {
         return outcome;
     }
-    let Outcome {
+    let PackedOutcome {
         emitted,
         tallies,
         ..
     } = outcome;
-    Outcome {
+    PackedOutcome {
         emitted,
         logs: Vec::new(alloc),
         tallies,

@@ -90,7 +90,7 @@ fn run_once<R: Threads + Wait + Abort + Sync>(
     gate: &Counted,
     visits: bool,
 ) -> Result<(), Fault> {
-    let outcome = run_with(rt, alloc, rt, plan, traces, 1, 1, gate, visits)?;
+    let outcome = run_with(rt, alloc, rt, plan, traces, 1, 1, gate, visits)?.unpack(alloc)?;
     assert_all_emitted(rt, &outcome);
     assert_eq!(rt; outcome.logs.len(), if visits { 2 } else { 0 });
     Ok(())

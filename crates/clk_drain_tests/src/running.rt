@@ -184,7 +184,8 @@ fn a_run_may_keep_no_visits(rt: HostRuntime) -> Result<(), Fault> {
     let alloc = rt.alloc();
     let traces = traces(alloc, records(alloc, b"01", 50)?)?;
     let plan = Plan::read(alloc, DRR_500_OVER_TWO.as_bytes())?;
-    let outcome = run_with(&rt, alloc, &rt, &plan, &traces, 1, 1000, &Free, false)?;
+    let packed = run_with(&rt, alloc, &rt, &plan, &traces, 1, 1000, &Free, false)?;
+    let outcome = packed.unpack(alloc)?;
     assert_all_accounted(&rt, alloc, &traces, &outcome, 2)?;
     assert!(rt; outcome.logs.is_empty());
     assert_all_accepted(&rt, alloc, &traces, &outcome)

@@ -15,4 +15,4 @@ pub use laws::{counts_tell_tallies, one_device_is_not_told, visits_come_in_piece
 pub use pieces::{put, put_number};
 pub use senders::{MAX_DEVICES, report, report_counts};
 pub use total::Total;
-pub use visits::{visit_rows, visits_csv, visits_header};
+pub use visits::{VisitLog, visit_rows, visits_csv, visits_header};

@@ -1,13 +1,13 @@
 //! The visit CSV.
 
-ghost use Rattle.std.specs.Prelude.{◌≡◌, ◌*◌, ◌≤◌, ◌++◌, drop, length};
+ghost use Rattle.std.specs.Prelude.{◌≡◌, ◌*◌, ◌≤◌, ◌++◌, drop, length, map};
 ghost use Rattle.clk_packet.specs.Bytes.{Wrote};
-ghost use Rattle.clk_report.specs.Devices.{lists_of};
 ghost use Rattle.clk_report.specs.VisitCsv.{devices_text, header_of, rows_text, visits_text};
 
 use crate::row::{ROW, put_row};
 use clk_packet::{Fault, Sink, write_all};
-use clk_sched::Visit;
+use clk_sched::{PackedLog, PackedVisit, Visit};
+use std::alloc::Global;
 
 /// The names of the columns.
 const HEADER: &[u8] = b"pull,node,input,fresh,sender,number,length,passed,moment\n";
@@ -27,6 +27,79 @@ const FEW: usize = 32;
 /// How many bytes these have at most.
 const FEW_ROOM: usize = FEW * ROW;
 
+/// A log of visits, as a list or packed.
+pub trait VisitLog {
+    ghost use Rattle.std.specs.Prelude.{List};
+    ghost use Rattle.clk_packet.specs.Bytes.{Wrote};
+    ghost use Rattle.clk_sched.specs.declared.visit.Visit.{Visit};
+    ghost use Rattle.clk_report.specs.VisitCsv.{rows_text};
+
+    // Its visits, in order.
+    ghost visits: { Self → List Visit };
+
+    /// Writes their rows, with the number of their device where there are several. Takes no memory.
+    ///
+    /// # Errors
+    ///
+    /// Fault 20 where the sink fails. It has taken a front of the rows then.
+    fn rows<W: Sink>(&self, device: Option<u64>, writer: &mut W) -> Result<(), Fault>
+        ensures { Wrote (W.Sink.taken writer.old) (W.Sink.taken writer.new)
+            (W.Sink.failures writer.old) (W.Sink.failures writer.new) result (rows_text device (visits self.now)) };
+}
+
+impl VisitLog for Vec<Visit> {
+    ghost visits = { λ log. log.items };
+
+    fn rows<W: Sink>(&self, device: Option<u64>, writer: &mut W) -> Result<(), Fault> {
+        visit_rows(device, self, writer)
+    }
+}
+
+impl VisitLog for PackedLog {
+    ghost use Rattle.clk_sched.specs.Packed.{logged};
+
+    ghost visits = { logged };
+
+    fn rows<W: Sink>(&self, device: Option<u64>, writer: &mut W) -> Result<(), Fault> {
+        let (packed, rest) = self.parts();
+        rows_of(device, packed, writer)?;
+        rows_of(device, rest, writer)
+    }
+}
+
+/// A visit, as it is or packed.
+trait Shown {
+    ghost use Rattle.std.specs.Prelude.{◌≡◌};
+    ghost use Rattle.clk_sched.specs.declared.visit.Visit.{Visit};
+
+    // The visit itself.
+    ghost shown: { Self → Visit };
+
+    /// The visit itself.
+    fn show(&self) -> Visit
+        ensures { result ≡ shown self.now };
+}
+
+impl Shown for Visit {
+    ghost shown = { λ visit. visit };
+
+    #[inline]
+    fn show(&self) -> Visit {
+        *self
+    }
+}
+
+impl Shown for PackedVisit {
+    ghost use Rattle.clk_sched.specs.Packed.{unpacked};
+
+    ghost shown = { unpacked };
+
+    #[inline]
+    fn show(&self) -> Visit {
+        self.unpack()
+    }
+}
+
 /// Writes the log of each device as CSV: a header line, and a row for each visit, log after log. `fresh` and `passed` are 0 or 1; where
 /// nothing was got, the sender, the number and the length are empty. Of several devices each line has a first column, `device`, with the
 /// place of the log among these, from 0; of one there is no such column. Takes no memory, and time in proportion to the visits and the logs.
@@ -34,15 +107,15 @@ const FEW_ROOM: usize = FEW * ROW;
 /// # Errors
 ///
 /// Fault 20 where the sink fails. It has taken a front of the text then.
-pub fn visits_csv<W: Sink>(logs: &[Vec<Visit>], writer: &mut W) -> Result<(), Fault>
+pub fn visits_csv<L: VisitLog, W: Sink>(logs: &[L], writer: &mut W) -> Result<(), Fault>
     ensures { Wrote (W.Sink.taken writer.old) (W.Sink.taken writer.new)
-        (W.Sink.failures writer.old) (W.Sink.failures writer.new) result (visits_text (lists_of logs.now)) }
+        (W.Sink.failures writer.old) (W.Sink.failures writer.new) result (visits_text (map L.visits logs.now)) }
 {
     match logs {
         [] => visits_header(false, writer),
         [log] => {
             visits_header(false, writer)?;
-            visit_rows(None, log, writer)
+            log.rows(None, writer)
         }
         _ => {
             visits_header(true, writer)?;
@@ -66,12 +139,12 @@ pub fn visits_header<W: Sink>(several: bool, writer: &mut W) -> Result<(), Fault
 }
 
 /// Writes the rows of several devices, each with its device.
-fn write_devices<W: Sink>(logs: &[Vec<Visit>], writer: &mut W) -> Result<(), Fault>
+fn write_devices<L: VisitLog, W: Sink>(logs: &[L], writer: &mut W) -> Result<(), Fault>
     ensures { Wrote (W.Sink.taken writer.old) (W.Sink.taken writer.new)
-        (W.Sink.failures writer.old) (W.Sink.failures writer.new) result (devices_text 0 (lists_of logs.now)) }
+        (W.Sink.failures writer.old) (W.Sink.failures writer.new) result (devices_text 0 (map L.visits logs.now)) }
 {
     for (device, log) in logs.iter().enumerate() {
-        visit_rows(Some(device as u64), log, writer)?;
+        log.rows(Some(device as u64), writer)?;
     }
     Ok(())
 }
@@ -85,25 +158,33 @@ pub fn visit_rows<W: Sink>(device: Option<u64>, log: &[Visit], writer: &mut W) -
     ensures { Wrote (W.Sink.taken writer.old) (W.Sink.taken writer.new)
         (W.Sink.failures writer.old) (W.Sink.failures writer.new) result (rows_text device log.now) }
 {
+    rows_of(device, log, writer)
+}
+
+/// The same, of visits that may be packed.
+fn rows_of<V: Shown, W: Sink>(device: Option<u64>, log: &[V], writer: &mut W) -> Result<(), Fault>
+    ensures { Wrote (W.Sink.taken writer.old) (W.Sink.taken writer.new)
+        (W.Sink.failures writer.old) (W.Sink.failures writer.new) result (rows_text device (map V.shown log.now)) }
+{
     if log.len() <= FEW {
-        write_rows::<FEW_ROOM, W>(device, log, writer)
+        write_rows::<FEW_ROOM, V, W>(device, log, writer)
     } else {
-        write_rows::<ROOM, W>(device, log, writer)
+        write_rows::<ROOM, V, W>(device, log, writer)
     }
 }
 
 /// Writes the rows of some visits, as many at a time as N bytes surely hold. It isn't inlined: the larger room shall not stand in the
 /// frame of a call for a short log.
 #[inline(never)]
-fn write_rows<const N: usize, W: Sink>(
+fn write_rows<const N: usize, V: Shown, W: Sink>(
     device: Option<u64>,
-    log: &[Visit],
+    log: &[V],
     writer: &mut W,
 ) -> Result<(), Fault>
     requires some { ROW ≤ N }
     requires limit { N ≤ ROOM }
     ensures { Wrote (W.Sink.taken writer.old) (W.Sink.taken writer.new)
-        (W.Sink.failures writer.old) (W.Sink.failures writer.new) result (rows_text device log.now) }
+        (W.Sink.failures writer.old) (W.Sink.failures writer.new) result (rows_text device (map V.shown log.now)) }
 {
     let mut rows = [0; N];
     let mut rest = log;
@@ -118,16 +199,16 @@ fn write_rows<const N: usize, W: Sink>(
 }
 
 /// Puts the rows of some visits before this place, the last of them first, and gives where they start.
-fn put_rows(rows: &mut [u8], device: Option<u64>, log: &[Visit], end: usize) -> usize
+fn put_rows<V: Shown>(rows: &mut [u8], device: Option<u64>, log: &[V], end: usize) -> usize
     requires room { ROW * length log.now ≤ end }
     requires within { end ≤ length rows.old }
-    ensures piece { drop result rows.new ≡ rows_text device log.now ++ drop end rows.old }
+    ensures piece { drop result rows.new ≡ rows_text device (map V.shown log.now) ++ drop end rows.old }
     ensures before { result ≤ end }
 {
     let mut start = end;
     let mut left = log;
     while let [before @ .., last] = left {
-        start = put_row(rows, device, last, start);
+        start = put_row(rows, device, &last.show(), start);
         left = before;
     }
     start

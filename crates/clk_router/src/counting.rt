@@ -57,6 +57,7 @@ impl CountingRouter {
     {
         let keeps = Keeps {
             visits: false,
+            packed: false,
             packets: false,
         };
         Ok(CountingRouter {

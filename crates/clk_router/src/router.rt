@@ -58,7 +58,8 @@ impl Router {
     ghost use Rattle.clk_router.specs.Course.{after, events_of, sender_at, accepted_at, evicted_at, emitted_at, moment_at, CanOffer, CanPull, CanClose, IsOpened, IsPulled, IsClosed, IsQueueState};
     ghost use Rattle.clk_router.specs.Events.{offered, sender_numbers, CanHappen, closing_pulls, logs_of};
 
-    /// The router of a plan, before anything has happened, whose devices keep this of the past.
+    /// The router of a plan, before anything has happened, whose devices keep this of the past. Visits that they keep packed can't be had
+    /// from it.
     ///
     /// # Errors
     ///

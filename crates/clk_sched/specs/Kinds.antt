@@ -1,5 +1,5 @@
 -- All kinds of sessions: of some the visits are kept in memory, and of others contracts alone know them.
-use Rattle.std.specs.Prelude.{◌≡◌, ℕ, true, false, List, length}
+use Rattle.std.specs.Prelude.{◌≡◌, ℕ, ◌||◌, Bool, true, false, List, length}
 use Rattle.clk_sched.specs.declared.visit.Visit.{Visit}
 use Rattle.clk_sched.specs.declared.session.keeps.Keeps.{Keeps}
 use Rattle.clk_sched.specs.Tree.{Tree}
@@ -14,10 +14,18 @@ pub record AnySession : Type 0 where
   pub gone : ℕ
 
 abbrev pub keeps_all : Keeps
-keeps_all = record { visits = true; packets = true }
+keeps_all = record { visits = true; packed = false; packets = true }
 
 abbrev pub keeps_nothing : Keeps
-keeps_nothing = record { visits = false; packets = false }
+keeps_nothing = record { visits = false; packed = false; packets = false }
+
+-- whether visits are kept, as a list or packed
+abbrev pub keeps_visits : Keeps → Bool
+keeps_visits keeps = keeps.visits || keeps.packed
+
+-- whether what came out is kept, or can be told from the visits
+abbrev pub keeps_emitted : Keeps → Bool
+keeps_emitted keeps = keeps.packets || keeps_visits keeps
 
 -- what a session of any kind came to
 abbrev pub progress_of : AnySession → Progress
@@ -29,4 +37,4 @@ pulls_made s = length (pulls s.log)
 
 -- No memory bounds how many pulls a session can have: it keeps no visits, or let go of some.
 abbrev pub IsEndless : AnySession → Type 0
-IsEndless s = (s.keeps.visits ≡ true → s.gone ≡ 0 → ⊥)
+IsEndless s = (keeps_visits s.keeps ≡ true → s.gone ≡ 0 → ⊥)

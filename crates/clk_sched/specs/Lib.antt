@@ -11,6 +11,7 @@ pub mod Places
 pub mod Session
 pub mod Departures
 pub mod Kinds
+pub mod Packed
 pub mod LaidOut
 pub mod Run
 pub mod Step

@@ -23,6 +23,7 @@ pub use session::Session;
 pub use session::departures::Departure;
 pub use session::keeps::Keeps;
 pub use session::kernel::Kernel;
+pub use session::packed::{PackedLog, PackedVisit};
 pub use tree::Tree;
 pub use unlogged::Unlogged;
 pub use visit::Visit;

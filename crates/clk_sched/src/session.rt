@@ -12,6 +12,7 @@ pub(crate) mod kernel;
 mod layout;
 mod log;
 mod nodes;
+pub(crate) mod packed;
 mod prio;
 mod round_robin;
 mod shaper;
@@ -77,6 +78,7 @@ impl Session {
     {
         let keeps = Keeps {
             visits: true,
+            packed: false,
             packets: true,
         };
         let kernel = Kernel::new(alloc, tree, keeps)?;

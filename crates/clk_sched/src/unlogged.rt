@@ -61,6 +61,7 @@ impl Unlogged {
     {
         let keeps = Keeps {
             visits: false,
+            packed: false,
             packets: false,
         };
         let kernel = Kernel::new(alloc, tree, keeps)?;

@@ -22,7 +22,7 @@ pub struct Recorder {
 }
 
 impl Recorder {
-    ghost use Rattle.std.specs.Prelude.{◌≡◌, ◌++◌, ◌∷◌, ◌≤◌, [], Some, true, IfOk, OnOk, IsOkUnless};
+    ghost use Rattle.std.specs.Prelude.{◌≡◌, ◌++◌, ◌∷◌, ◌≤◌, [], Some, true, false, IfOk, OnOk, IsOkUnless};
     ghost use Rattle.clk_packet.specs.declared.fault.Fault.TheVariants.{Memory};
     ghost use Rattle.clk_router.specs.Course.{sender_at, CanPull, CanClose, IsOpened};
     ghost use Rattle.clk_router.specs.Events.{Setup, offered};
@@ -31,12 +31,13 @@ impl Recorder {
     /// A recorder of the router of a plan, before anything has happened, whose devices will keep their visits or won't. Fault 1 where
     /// memory is refused.
     pub fn new(alloc: Global, plan: &Plan, visits: bool) -> Result<Recorder, Fault>
-        ensures opened { IfOk result (λ r. IsOpened plan.now (record { visits = visits; packets = true }) r.router) }
+        ensures opened { IfOk result (λ r. IsOpened plan.now (record { visits = visits; packed = false; packets = true }) r.router) }
         ensures starts { IfOk result (λ r. Starts r.router.setup r) }
         ensures fault { IsOkUnless result Fault.Memory }
     {
         let keeps = Keeps {
             visits,
+            packed: false,
             packets: true,
         };
         let router = Router::open(alloc, plan, keeps)?;

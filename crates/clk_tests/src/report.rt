@@ -1,6 +1,7 @@
 //! The texts of worked rows, and writers that fail.
 
 mod logs;
+mod packed;
 mod pieces;
 mod reports;
 mod rows;

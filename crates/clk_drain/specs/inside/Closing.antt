@@ -1,13 +1,14 @@
 -- What closing a device of a run comes to.
 use Rattle.std.specs.Prelude.{◌≡◌, ℕ, true, List}
 use Rattle.clk_sched.specs.declared.visit.Visit.{Visit}
-use Rattle.clk_drain.specs.declared.drained.Drained.{Drained}
+use Rattle.clk_sched.specs.Packed.{logged}
+use Rattle.clk_drain.specs.declared.drained.PackedDrained.{PackedDrained}
 use Rattle.clk_drain.specs.Line.{LineLists}
 use Rattle.clk_drain.specs.inside.DeviceSession.{DeviceLists}
 use Rattle.clk_drain.specs.Closing.{IsDrainedTo}
 
 -- A device's session was drained over its lines, from a moment on, and all is settled. It has the log, where its visits are kept.
-pub record IsDrainedAs (s : DeviceLists) (lines : List LineLists) (moment : ℕ) (drained : Drained) : Type 0 where
+pub record IsDrainedAs (s : DeviceLists) (lines : List LineLists) (moment : ℕ) (drained : PackedDrained) : Type 0 where
   pub log : List Visit
-  pub kept : s.visits ≡ true → drained.log.items ≡ log
-  pub is : IsDrainedTo s.session lines moment log drained
+  pub kept : s.visits ≡ true → logged drained.log ≡ log
+  pub is : IsDrainedTo s.session lines moment log drained.emitted.items drained.tallies.items

@@ -12,7 +12,8 @@ use Rattle.clk_sched.specs.declared.visit.Visit.{Visit}
 use Rattle.clk_sched.specs.Limits.{most_left}
 use Rattle.clk_sched.specs.Log.{pulls, moment_of}
 use Rattle.clk_sched.specs.Session.{Progress, counted_moment}
-use Rattle.clk_drain.specs.declared.outcome.Outcome.{Outcome}
+use Rattle.clk_sched.specs.Packed.{logged}
+use Rattle.clk_drain.specs.declared.outcome.PackedOutcome.{PackedOutcome}
 use Rattle.clk_drain.specs.declared.running.opening.LeafQueue.{LeafQueue}
 use Rattle.clk_drain.specs.Line.{LineLists, leaves_of, seats_in, senders_at, AreLinesOf, HaveOwnSenders}
 use Rattle.clk_drain.specs.Outcome.{Device, IsSettledOutcome}
@@ -150,10 +151,10 @@ AreKeptLogs (f ∷ feeds) (log ∷ logs) (d ∷ devices) = (f.visits ≡ true �
 AreKeptLogs feeds logs devices = ⊥
 
 -- All devices were closed, and what was sent is settled.
-pub record AreSettledTogether (terms : Terms) (feeds : List Feed) (outcome : Outcome) : Type 0 where
+pub record AreSettledTogether (terms : Terms) (feeds : List Feed) (outcome : PackedOutcome) : Type 0 where
   pub devices : List Device
   pub closed : AreClosedDevices terms feeds devices
-  pub logs : AreKeptLogs feeds (map (λ log. log.items) outcome.logs.items) devices
+  pub logs : AreKeptLogs feeds (map logged outcome.logs.items) devices
   pub emitted : map (λ packets. packets.items) outcome.emitted.items ≡ map (λ (d : Device). d.emitted) devices
   pub settled : IsSettledOutcome (sent_by terms.traces) devices outcome.tallies.items
 

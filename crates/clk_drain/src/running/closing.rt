@@ -6,9 +6,9 @@ ghost use Rattle.clk_packet.specs.declared.fault.Fault.TheVariants.{Memory};
 ghost use Rattle.clk_drain.specs.inside.Handed.{IsReadyToClose, AreApartDevices, AreSettledTogether, IsFaultOfClosing};
 
 use crate::closing::{add, close};
-use crate::drained::Drained;
+use crate::drained::PackedDrained;
 use crate::gate::Gate;
-use crate::outcome::Outcome;
+use crate::outcome::PackedOutcome;
 use crate::running::course::Course;
 use crate::running::joining::Closing;
 use clk_packet::Fault;
@@ -24,13 +24,13 @@ pub fn close_devices<W: Wait, G: Gate>(
     alloc: Global,
     course: &Course<W, G>,
     closings: Vec<Closing>,
-) -> Result<Outcome, Fault>
+) -> Result<PackedOutcome, Fault>
     requires ready { AllByRecursion (IsReadyToClose course.now) closings.items }
     requires apart { AreApartDevices closings.items }
     ensures settled { IfOk result (AreSettledTogether course.now closings.items) }
     ensures fault { IfErr result (IsFaultOfClosing closings.items) }
 {
-    let mut outcome = Outcome {
+    let mut outcome = PackedOutcome {
         emitted: Vec::with_capacity(alloc, closings.len())?,
         logs: Vec::with_capacity(alloc, closings.len())?,
         tallies: Vec::new(alloc),
@@ -44,13 +44,13 @@ pub fn close_devices<W: Wait, G: Gate>(
 }
 
 // Adds what a device came to, after the devices before it.
-fn note(outcome: &mut Outcome, drained: Drained) -> Result<(), Fault>
+fn note(outcome: &mut PackedOutcome, drained: PackedDrained) -> Result<(), Fault>
     ensures emitted { OnOk result (outcome.new.emitted.items ≡ outcome.old.emitted.items ++ drained.emitted ∷ []) }
     ensures logs { OnOk result (outcome.new.logs.items ≡ outcome.old.logs.items ++ drained.log ∷ []) }
     ensures tallies { OnOk result (outcome.new.tallies.items ≡ outcome.old.tallies.items ++ drained.tallies.items) }
     ensures fault { IsOkUnless result Fault.Memory }
 {
-    let Drained {
+    let PackedDrained {
         emitted,
         log,
         tallies,

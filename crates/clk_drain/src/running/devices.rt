@@ -1,8 +1,9 @@
 //! What a run opens of a plan before its threads start: for each device a session of its tree, and its queues.
 
-ghost use Rattle.std.specs.Prelude.{◌≡◌, ◌<◌, [], map, IfOk, OnOk, IsOkUnless};
+ghost use Rattle.std.specs.Prelude.{◌≡◌, ◌<◌, true, [], map, IfOk, OnOk, IsOkUnless};
 ghost use Rattle.std.specs.List.{AllByRecursion};
 ghost use Rattle.clk_packet.specs.declared.fault.Fault.TheVariants.{Memory};
+ghost use Rattle.clk_sched.specs.Kinds.{keeps_visits, keeps_emitted};
 ghost use Rattle.clk_tree.specs.PlanTree.{device_count};
 ghost use Rattle.clk_tree.specs.PlanParts.{queues_of};
 ghost use Rattle.clk_drain.specs.Run.{queues_at};
@@ -12,6 +13,8 @@ ghost use Rattle.clk_drain.specs.inside.Devices.{IsOpenOf, AreOpenFrom, KeepVisi
 use crate::device::DeviceSession;
 use crate::running::opening::{Ends, LeafQueue, open_queue};
 use clk_packet::{Fault, Traces};
+use clk_ruled::Seat;
+use clk_sched::Keeps;
 use clk_tree::Plan;
 use std::alloc::Global;
 
@@ -22,7 +25,7 @@ pub struct OpenPlan {
     pub ends: Vec<Ends>,
 }
 
-/// Opens each device of a plan, with room for all that is sent. Its visits are kept, or not.
+/// Opens each device of a plan, with room for all that is sent. Of its past so much is kept.
 ///
 /// # Errors
 ///
@@ -31,17 +34,18 @@ pub fn open_devices(
     alloc: Global,
     plan: &Plan,
     traces: &Traces,
-    visits: bool,
+    keeps: Keeps,
 ) -> Result<OpenPlan, Fault>
+    requires emitted { keeps_emitted keeps ≡ true }
     ensures opened { IfOk result (λ opened. AreOpenFrom plan.now traces.now 0 (map (λ queues. queues.items) opened.queues.items) opened.ends.items) }
-    ensures kept { IfOk result (λ opened. AllByRecursion (KeepVisits visits) opened.ends.items) }
+    ensures kept { IfOk result (λ opened. AllByRecursion (KeepVisits (keeps_visits keeps)) opened.ends.items) }
     ensures fault { IsOkUnless result Fault.Memory }
 {
     let devices = plan.devices();
     let mut queues = Vec::with_capacity(alloc, usize::from(devices))?;
     let mut ends = Vec::with_capacity(alloc, usize::from(devices))?;
     for device in 0..devices {
-        let (its_queues, its_ends) = open_device(alloc, plan, traces, device, visits)?;
+        let (its_queues, its_ends) = open_device(alloc, plan, traces, device, keeps)?;
         queues.push(its_queues)?;
         ends.push(its_ends)?;
     }
@@ -54,22 +58,35 @@ fn open_device(
     plan: &Plan,
     traces: &Traces,
     device: u16,
-    visits: bool,
+    keeps: Keeps,
 ) -> Result<(Vec<LeafQueue>, Ends), Fault>
     requires device { device < device_count plan.now }
+    requires emitted { keeps_emitted keeps ≡ true }
     ensures opened { IfOk result (λ opened. IsOpenOf plan.now traces.now device opened.0.items opened.1) }
-    ensures kept { IfOk result (λ opened. opened.1.visits ≡ visits) }
+    ensures kept { IfOk result (λ opened. opened.1.visits ≡ keeps_visits keeps) }
     ensures fault { IsOkUnless result Fault.Memory }
 {
     let tree = plan.tree(alloc, device)?;
     let mut ends = Ends {
         device,
-        session: DeviceSession::new(alloc, tree, visits)?,
+        session: DeviceSession::new(alloc, tree, keeps)?,
         taps: Vec::new(alloc),
         seats: Vec::new(alloc),
     };
     let queues = open_queues(alloc, plan, traces, device, &mut ends)?;
+    ends.session.reserve(rooms_of(&ends.seats))?;
     Ok((queues, ends))
+}
+
+// How many packets seats may offer in all, of which no more come out. Memory alone depends on it.
+fn rooms_of(seats: &[Vec<Seat>]) -> usize {
+    let mut rooms: usize = 0;
+    for at_queue in seats {
+        for seat in at_queue {
+            rooms = rooms.saturating_add(seat.room() as usize);
+        }
+    }
+    rooms
 }
 
 // Opens the queues of a device, each at the leaf of its number.

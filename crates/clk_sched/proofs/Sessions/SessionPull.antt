@@ -3,7 +3,6 @@ use Rattle.std.proofs.Common.{◌≡◌, ℕ, zero, suc, ◌+◌, ◌<◌, ◌�
 use Rattle.std.proofs.lemmas.Bool.{false≢true}
 use Rattle.std.specs.List.{AllByRecursion, filter_map, cons_option}
 use Rattle.std.proofs.lemmas.List.{map-append, reverse-append, length-append}
-use Rattle.std.proofs.lemmas.List.Elements.{filter-append, filter_map-append}
 use Rattle.std.proofs.lemmas.List.FromFn.{length-map-range_with_len}
 use Rattle.clk_packet.specs.declared.packet.Packet.{Packet}
 use Rattle.clk_sched.specs.declared.visit.Visit.{Visit}
@@ -21,6 +20,7 @@ use Rattle.clk_sched.specs.inside.Places.{StandsIn, AreWired, AllFit}
 use Rattle.clk_sched.specs.inside.Pulling.{NodeHolds, Keeps, Pulls, HasPulled, added, now_of, after, with_turn}
 use Rattle.clk_sched.specs.Session.{Progress, IsPulledOnce, latest_moment, newly}
 use Rattle.clk_sched.specs.inside.Session.{IsLaidOut, IsAfterRun, history_of}
+use Rattle.clk_sched.proofs.Callers.Emitted.{emitted-append}
 use Rattle.clk_sched.proofs.Lists.Members.{all-weaker, all-split}
 use Rattle.clk_sched.proofs.Lists.Apart.{all-reverse}
 use Rattle.clk_sched.proofs.Runs.GoesOn.{goes-on}
@@ -218,14 +218,10 @@ one-at-most (Some p) = omega arith
 -- One pull more adds what it gave to what came out.
 pub emitted-once : (old new : Progress) (moment : ℕ) (got : Option Packet) → IsPulledOnce old new moment got → emitted new.log ≡ emitted old.log ++ cons_option got []
 emitted-once old new moment got once =
-    ap emitted once.log ∙ ap (filter_map gives) (filter-append (λ (v : Visit). v.node == 0) old.log pull) ∙ filter_map-append gives (visits_of 0 old.log) (visits_of 0 pull)
-    ∙ ap (λ l. emitted old.log ++ l) (device-gives (visits_of 0 pull) its.0 ∙ ap (λ o. cons_option o []) (sym once.result))
+    ap emitted once.log ∙ emitted-append old.log pull ∙ ap (λ l. emitted old.log ++ l) (device-gives (visits_of 0 pull) its.0 ∙ ap (λ o. cons_option o []) (sym once.result))
   where
     pull : List Visit
     pull = newly old new
-
-    gives : Visit → Option Packet
-    gives v = if v.passed then v.got else None
 
     its : AllByRecursion IsDeviceTurn (turn 0 pull ∷ [])
     its = (all-split IsDeviceTurn (map (turn 0) (pulls old.log)) (turn 0 pull ∷ []) (subst (AllByRecursion IsDeviceTurn) (ap (map (turn 0)) once.last ∙ map-append (turn 0) (pulls old.log) (pull ∷ [])) once.run.device)).1

@@ -5,9 +5,10 @@ use Rattle.clk_sched.specs.declared.visit.Visit.{Visit}
 use Rattle.clk_sched.specs.declared.session.idle.IdleInputs.{IdleInputs}
 use Rattle.clk_sched.specs.Log.{asking}
 
--- whether visits are kept, and how many of them were let go of
+-- whether visits are kept as a list, whether they are kept packed, and how many of them were let go of
 pub record Keeping : Type 0 where
   pub keeps : Bool
+  pub packs : Bool
   pub gone : ℕ
 
 -- every visit so far, for how many more there is room, and what is kept of them
@@ -34,4 +35,4 @@ with_room log n = record { items = log.items; spare = n; kind = log.kind }
 
 -- a log whose visits so far were let go of
 abbrev pub with_none : Logged → Logged
-with_none log = record { items = log.items; spare = log.spare; kind = record { keeps = log.kind.keeps; gone = length log.items } }
+with_none log = record { items = log.items; spare = log.spare; kind = record { keeps = log.kind.keeps; packs = log.kind.packs; gone = length log.items } }

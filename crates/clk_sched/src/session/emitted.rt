@@ -1,6 +1,6 @@
 //! What came out of a session at the device.
 
-ghost use Rattle.std.specs.Prelude.{◌≡◌, ◌+◌, ◌<◌, ◌^◌, ◌++◌, true, false, [], length, OnOk, IsOk};
+ghost use Rattle.std.specs.Prelude.{◌≡◌, ◌+◌, ◌<◌, ◌≤◌, ◌^◌, ◌++◌, true, false, [], length, OnOk, IsOk};
 ghost use Rattle.std.specs.List.{cons_option};
 ghost use Rattle.std.specs.Vec.{vec_len, vec_capacity};
 
@@ -29,21 +29,21 @@ impl Emitted {
         }
     }
 
-    /// Makes room for a packet.
+    /// Makes room for so many packets more.
     ///
     /// # Errors
     ///
     /// Where memory is refused, which isn't asked for where packets are only counted.
     #[inline]
-    pub fn reserve(&mut self) -> Result<(), AllocError>
-        ensures room { OnOk result (self.new.keeps ≡ true → vec_len self.new.packets < vec_capacity self.new.packets) }
+    pub fn reserve(&mut self, packets: usize) -> Result<(), AllocError>
+        ensures room { OnOk result (self.new.keeps ≡ true → vec_len self.new.packets + packets ≤ vec_capacity self.new.packets) }
         ensures unkept { self.old.keeps ≡ false → IsOk result }
         ensures packets { self.new.packets.items ≡ self.old.packets.items }
         ensures keeps { self.new.keeps ≡ self.old.keeps }
         ensures count { self.new.count ≡ self.old.count }
     {
         if self.keeps {
-            self.packets.reserve(1)?;
+            self.packets.reserve(packets)?;
         }
         Ok(())
     }

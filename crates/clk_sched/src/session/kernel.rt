@@ -7,6 +7,7 @@ use crate::session::heads::held_heads;
 use crate::session::keeps::Keeps;
 use crate::session::layout::lay_out;
 use crate::session::nodes::Nodes;
+use crate::session::packed::PackedLog;
 use crate::session::prio::{DEVICE, pull_device};
 use crate::tree::Tree;
 use crate::visit::Visit;
@@ -20,7 +21,7 @@ use std::marker::Model;
 pub struct Kernel {
     tree: Tree,
     nodes: Nodes,
-    // The packets that came out at the device, so that nobody has to look for them in the log.
+    // The packets that came out at the device: where they are kept nobody has to look for them in the log.
     emitted: Emitted,
 }
 
@@ -41,7 +42,7 @@ impl Model for Kernel {
     ghost view = { λ s. record {
       tree = s.tree;
       log = s.nodes.log.items;
-      keeps = record { visits = s.nodes.log.kind.keeps; packets = s.emitted.keeps };
+      keeps = record { visits = s.nodes.log.kind.keeps; packed = s.nodes.log.kind.packs; packets = s.emitted.keeps };
       gone = s.nodes.log.kind.gone;
     } };
 
@@ -56,6 +57,7 @@ impl Kernel {
     ghost use Rattle.clk_sched.specs.Tree.{root, leaves_distinct, IsSound};
     ghost use Rattle.clk_sched.specs.Limits.{most_left, end_of_moments, end_of_drains, end_of_pulls, end_of_drained_pulls};
     ghost use Rattle.clk_sched.specs.LaidOut.{IsRefused};
+    ghost use Rattle.clk_sched.specs.Packed.{logged};
     ghost use Rattle.clk_sched.specs.Run.{IsRun};
     ghost use Rattle.clk_sched.specs.Bound.{closing_bound};
     ghost use Rattle.clk_sched.specs.Results.{emitted, heads};
@@ -65,7 +67,7 @@ impl Kernel {
     ghost use Rattle.clk_sched.specs.Session.{IsPulledOnce, GivesAll, StopsAt, counted_moment, elements, newly};
     ghost use Rattle.clk_sched.specs.Departures.{departures_in, pulls_since, IsAddedTo};
     ghost use Rattle.clk_sched.specs.declared.session.departures.Departures.TheVariants.{Dropped};
-    ghost use Rattle.clk_sched.specs.Kinds.{progress_of, pulls_made, keeps_nothing, IsEndless};
+    ghost use Rattle.clk_sched.specs.Kinds.{progress_of, pulls_made, keeps_nothing, keeps_visits, IsEndless};
 
     /// A session of this tree, in which no queue stands twice, before its first pull.
     ///
@@ -78,7 +80,7 @@ impl Kernel {
         ensures fits { IfOk result (λ s. 1 + elements (root tree) ≤ most_elements) }
         ensures refused { IfErr result (λ fault. IsRefused tree fault) }
     {
-        let nodes = lay_out(alloc, &tree, keeps.visits)?;
+        let nodes = lay_out(alloc, &tree, keeps)?;
         Ok(Kernel {
             tree,
             nodes,
@@ -105,12 +107,27 @@ impl Kernel {
     {
         let edges = usize::from(self.nodes.inputs[DEVICE as usize].edges);
         self.nodes.log.reserve(edges)?;
-        self.emitted.reserve()?;
+        self.emitted.reserve(1)?;
         self.nodes.moment = self.nodes.moment.max(moment);
         let got = pull_device(&mut self.nodes, q);
         self.nodes.pull += 1;
         self.emitted.add(got);
         Ok(got)
+    }
+
+    /// Makes room for so many packets more, where packets are kept, and for as many visits, where these are kept packed: pulls that give
+    /// no more take no memory for packets.
+    ///
+    /// # Errors
+    ///
+    /// Fault 1 where memory is refused.
+    pub fn reserve(&mut self, packets: usize) -> Result<(), Fault>
+        ensures unchanged { self.new ≡ self.old }
+        ensures fault { IsOkUnless result Fault.Memory }
+    {
+        self.nodes.log.reserve_packed(packets)?;
+        self.emitted.reserve(packets)?;
+        Ok(())
     }
 
     /// Pulls the device, one tick apart and the first time one tick after the later of this moment and the greatest so far, until
@@ -231,7 +248,7 @@ impl Kernel {
         self.nodes.log.let_go();
     }
 
-    /// The visits that are kept, in order: all but those that were let go of.
+    /// The visits that are kept as a list, in order: all but those that were let go of.
     pub fn log(&self) -> &[Visit]
         ensures visits { self.now.keeps.visits ≡ true → result.now ≡ drop self.now.gone self.now.log }
         ensures run { IsRun self.now.tree self.now.log }
@@ -273,13 +290,35 @@ impl Kernel {
         self.emitted.count
     }
 
-    /// What is kept of the visits and of the packets that came out at the device, in order, without taking memory.
+    /// What is kept of the visits, as a list, and of the packets that came out at the device, in order, without taking memory.
     pub fn into_parts(self) -> (Vec<Visit>, Vec<Packet>)
         ensures log { self.keeps.visits ≡ true → result.0.items ≡ drop self.gone self.log }
         ensures emitted { self.keeps.packets ≡ true → result.1.items ≡ emitted self.log }
     {
         let Kernel { nodes, emitted, .. } = self;
         (nodes.log.into_kept(), emitted.packets)
+    }
+
+    /// The visits, where they are kept as a list or packed, and the packets that came out at the device, in order. Those that aren't kept
+    /// are told from the visits, where none of these was let go of.
+    ///
+    /// # Errors
+    ///
+    /// Fault 1 where memory is refused, for which no session asks that keeps the packets.
+    pub fn into_packed(self, alloc: Global) -> Result<(PackedLog, Vec<Packet>), Fault>
+        ensures log { IfOk result (λ parts. keeps_visits self.keeps ≡ true → logged parts.0 ≡ drop self.gone self.log) }
+        ensures emitted { IfOk result (λ parts. self.keeps.packets ≡ true → parts.1.items ≡ emitted self.log) }
+        ensures told { IfOk result (λ parts. keeps_visits self.keeps ≡ true → self.gone ≡ 0 → parts.1.items ≡ emitted self.log) }
+        ensures fault { IsOkUnless result Fault.Memory }
+        ensures takes_none { self.keeps.packets ≡ true → IsOk result }
+    {
+        let Kernel { nodes, emitted, .. } = self;
+        let log = nodes.log.into_packed(alloc);
+        if emitted.keeps {
+            return Ok((log, emitted.packets));
+        }
+        let packets = log.emitted(alloc)?;
+        Ok((log, packets))
     }
 
     /// The packets held as heads, by node and then by input.

@@ -14,6 +14,7 @@ ghost use Rattle.clk_sched.specs.inside.Session.{IsLaidOut};
 
 use crate::session::drr::Deficits;
 use crate::session::inputs::{Input, Inputs};
+use crate::session::keeps::Keeps;
 use crate::session::log::Log;
 use crate::session::nodes::Nodes;
 use crate::session::round_robin::Beginning;
@@ -32,14 +33,14 @@ struct Tables {
     states: Vec<State>,
 }
 
-/// The tables of a tree, before its first pull, with a log that is kept or not.
+/// The tables of a tree, before its first pull, with a log that keeps so much.
 ///
 /// # Errors
 ///
 /// Fault 18 where the tree has more than 256 queues and schedulers, the device counted, and fault 1.
-pub fn lay_out(alloc: Global, tree: &Tree, keeps: bool) -> Result<Nodes, Fault>
+pub fn lay_out(alloc: Global, tree: &Tree, keeps: Keeps) -> Result<Nodes, Fault>
     ensures laid_out { IfOk result (λ n. IsLaidOut tree.now n) }
-    ensures kind { IfOk result (λ n. n.log.kind ≡ record { keeps = keeps; gone = 0 }) }
+    ensures kind { IfOk result (λ n. n.log.kind ≡ record { keeps = keeps.visits; packs = keeps.packed; gone = 0 }) }
     ensures fits { IfOk result (λ n. 1 + elements (root tree.now) ≤ most_elements) }
     ensures refused { IfErr result (λ fault. IsRefused tree.now fault) }
 {

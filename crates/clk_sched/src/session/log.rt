@@ -1,11 +1,14 @@
 //! The log of a session: every visit so far, kept in memory or not.
 
-ghost use Rattle.std.specs.Prelude.{◌≡◌, ◌+◌, ◌≤◌, ◌<◌, ◌^◌, ◌++◌};
+ghost use Rattle.std.specs.Prelude.{◌≡◌, ℕ, ◌+◌, ◌-◌, ◌≤◌, ◌<◌, ◌^◌, ◌++◌, ◌∷◌, true, false, [], length, OnOk, IsOk};
 ghost use Rattle.std.specs.Vec.{vec_len, vec_capacity};
+ghost use Rattle.clk_sched.specs.Packed.{logged, HasRoomFor};
 ghost use Rattle.clk_sched.specs.inside.Logged.{idle_visits};
 
 use crate::session::all::AllVisits;
 use crate::session::idle::IdleInputs;
+use crate::session::keeps::Keeps;
+use crate::session::packed::PackedLog;
 use crate::visit::Visit;
 use std::alloc::{AllocError, Global};
 use std::marker::Model;
@@ -15,43 +18,42 @@ use std::marker::Model;
 pub struct Log {
     kept: Vec<Visit>,
     keeps: bool,
+    packed: PackedLog,
+    packs: bool,
     all: AllVisits,
 }
 
 impl Model for Log {
     ghost use Rattle.std.specs.Prelude.{◌≡◌, ◌+◌, ◌≤◌, true, drop, length};
     ghost use Rattle.std.specs.Vec.{vec_len, vec_capacity};
+    ghost use Rattle.clk_sched.specs.Packed.{logged, HasRoomFor};
     ghost use Rattle.clk_sched.specs.inside.Logged.{Logged};
 
     ghost Value = { Logged };
 
-    ghost view = { λ l. record { items = l.all.items; spare = l.all.spare; kind = record { keeps = l.keeps; gone = l.all.gone } } };
+    ghost view = { λ l. record { items = l.all.items; spare = l.all.spare; kind = record { keeps = l.keeps; packs = l.packs; gone = l.all.gone } } };
 
     ghost invariant = { λ l. (l.all.gone ≤ length l.all.items)
-        × (l.keeps ≡ true → (l.kept.items ≡ drop l.all.gone l.all.items) × (vec_len l.kept + l.all.spare ≤ vec_capacity l.kept)) };
+        × (l.keeps ≡ true → (l.kept.items ≡ drop l.all.gone l.all.items) × (vec_len l.kept + l.all.spare ≤ vec_capacity l.kept))
+        × (l.packs ≡ true → (logged l.packed ≡ drop l.all.gone l.all.items) × HasRoomFor l.all.spare l.packed) };
 }
 
 impl Log {
-    ghost use Rattle.std.specs.Prelude.{◌≡◌, ◌+◌, ◌^◌, ◌<◌, ◌≤◌, true, false, [], drop, length, OnOk, OnErr, IsOk};
+    ghost use Rattle.std.specs.Prelude.{◌≡◌, ◌+◌, ◌^◌, ◌<◌, ◌≤◌, ◌||◌, true, false, [], drop, length, OnOk, OnErr, IsOk};
+    ghost use Rattle.clk_sched.specs.Packed.{logged};
     ghost use Rattle.clk_sched.specs.inside.Logged.{with_visit, with_idle, with_room, with_none};
 
-    /// No visits so far, of which each will be kept, or none.
-    pub fn new(alloc: Global, keeps: bool) -> Log
-        ensures { result ≡ record { items = []; spare = 0; kind = record { keeps = keeps; gone = 0 } } }
+    /// No visits so far, of which each will be kept, as a list or packed, or none.
+    pub fn new(alloc: Global, keeps: Keeps) -> Log
+        ensures { result ≡ record { items = []; spare = 0; kind = record { keeps = keeps.visits; packs = keeps.packed; gone = 0 } } }
     {
         Log {
             kept: Vec::new(alloc),
-            keeps,
+            keeps: keeps.visits,
+            packed: PackedLog::new(alloc),
+            packs: keeps.packed,
             all: AllVisits::none(),
         }
-    }
-
-    /// Whether it keeps visits.
-    #[inline]
-    pub fn keeps(&self) -> bool
-        ensures { result ≡ self.now.kind.keeps }
-    {
-        self.keeps
     }
 
     /// Makes room for so many visits more.
@@ -62,15 +64,28 @@ impl Log {
     #[inline]
     pub fn reserve(&mut self, visits: usize) -> Result<(), AllocError>
         ensures ready { OnOk result (self.new ≡ with_room self.old visits) }
-        ensures few { OnOk result (self.old.kind.keeps ≡ true → self.old.kind.gone ≡ 0 → length self.old.items + visits < 2 ^ 63) }
-        ensures unkept { self.old.kind.keeps ≡ false → IsOk result }
+        ensures few { OnOk result (self.old.kind.keeps || self.old.kind.packs ≡ true → self.old.kind.gone ≡ 0 → length self.old.items + visits < 2 ^ 63) }
+        ensures unkept { self.old.kind.keeps || self.old.kind.packs ≡ false → IsOk result }
         ensures refused { OnErr result (self.new ≡ self.old) }
     {
-        if self.keeps {
-            self.kept.reserve(visits)?;
-        }
+        reserve_kept(&mut self.kept, self.keeps, visits)?;
+        reserve_packed(&mut self.packed, self.packs, visits)?;
         self.all.make_room(&visits);
         Ok(())
+    }
+
+    /// Takes memory for so many visits more, where they are kept packed. Else nothing changes: room for the next is made by `reserve`.
+    ///
+    /// # Errors
+    ///
+    /// Where memory is refused.
+    pub fn reserve_packed(&mut self, visits: usize) -> Result<(), AllocError>
+        ensures { self.new ≡ self.old }
+    {
+        if !self.packs {
+            return Ok(());
+        }
+        self.packed.reserve_packed(visits)
     }
 
     /// Adds a visit, for which there is room.
@@ -79,9 +94,8 @@ impl Log {
         requires { 1 ≤ self.old.spare }
         ensures { self.new ≡ with_visit self.old visit }
     {
-        if self.keeps {
-            self.kept.push_reserved(visit);
-        }
+        keep(&mut self.kept, self.keeps, visit);
+        pack(&mut self.packed, self.packs, visit);
         self.all.push(&visit);
     }
 
@@ -95,6 +109,9 @@ impl Log {
         if self.keeps {
             keep_idle(&mut self.kept, idle);
         }
+        if self.packs {
+            self.packed.push_idle(idle);
+        }
         self.all.push_idle(idle);
     }
 
@@ -103,22 +120,94 @@ impl Log {
         ensures { self.new ≡ with_none self.old }
     {
         self.kept.clear();
+        self.packed.clear();
         self.all.let_go();
     }
 
-    /// The visits that are kept.
+    /// The visits that are kept as a list.
     pub fn kept(&self) -> &[Visit]
         ensures { self.now.kind.keeps ≡ true → result.now ≡ drop self.now.kind.gone self.now.items }
     {
         self.kept.as_slice()
     }
 
-    /// The visits that are kept, without taking memory.
+    /// The same, without taking memory.
     pub fn into_kept(self) -> Vec<Visit>
         ensures { self.kind.keeps ≡ true → result.items ≡ drop self.kind.gone self.items }
     {
         let Log { kept, .. } = self;
         kept
+    }
+
+    /// The visits that are kept, packed where they are kept so, without taking memory.
+    pub fn into_packed(self, alloc: Global) -> PackedLog
+        ensures { self.kind.keeps || self.kind.packs ≡ true → logged result ≡ drop self.kind.gone self.items }
+    {
+        let Log {
+            kept,
+            packed,
+            packs,
+            ..
+        } = self;
+        if packs {
+            return packed;
+        }
+        PackedLog::of(alloc, kept)
+    }
+}
+
+/// Makes room for so many visits more in a list, where visits are kept so.
+#[inline]
+fn reserve_kept(kept: &mut Vec<Visit>, keeps: bool, visits: usize) -> Result<(), AllocError>
+    ensures room { OnOk result (keeps ≡ true → vec_len kept.new + visits ≤ vec_capacity kept.new) }
+    ensures items { kept.new.items ≡ kept.old.items }
+    ensures len { vec_len kept.new ≡ vec_len kept.old }
+    ensures capacity { vec_capacity kept.old ≤ vec_capacity kept.new }
+    ensures unkept { keeps ≡ false → IsOk result }
+{
+    if !keeps {
+        return Ok(());
+    }
+    kept.reserve(visits)
+}
+
+/// The same, where visits are kept packed.
+#[inline]
+fn reserve_packed(packed: &mut PackedLog, packs: bool, visits: usize) -> Result<(), AllocError>
+    ensures room { OnOk result (packs ≡ true → HasRoomFor visits packed.new) }
+    ensures few { OnOk result (packs ≡ true → length (logged packed.new) + visits < 2 ^ 63) }
+    ensures visits { logged packed.new ≡ logged packed.old }
+    ensures no_less { (n : ℕ) → HasRoomFor n packed.old → HasRoomFor n packed.new }
+    ensures unpacked { packs ≡ false → IsOk result }
+{
+    if !packs {
+        return Ok(());
+    }
+    packed.reserve(visits)
+}
+
+/// Adds a visit to a list, where visits are kept so.
+#[inline]
+fn keep(kept: &mut Vec<Visit>, keeps: bool, visit: Visit)
+    requires { keeps ≡ true → vec_len kept.old < vec_capacity kept.old }
+    ensures items { keeps ≡ true → kept.new.items ≡ kept.old.items ++ visit ∷ [] }
+    ensures len { keeps ≡ true → vec_len kept.new ≡ vec_len kept.old + 1 }
+    ensures capacity { vec_capacity kept.new ≡ vec_capacity kept.old }
+{
+    if keeps {
+        kept.push_reserved(visit);
+    }
+}
+
+/// The same, where visits are kept packed.
+#[inline]
+fn pack(packed: &mut PackedLog, packs: bool, visit: Visit)
+    requires { packs ≡ true → HasRoomFor 1 packed.old }
+    ensures visits { packs ≡ true → logged packed.new ≡ logged packed.old ++ visit ∷ [] }
+    ensures room { packs ≡ true → (n : ℕ) → HasRoomFor n packed.old → HasRoomFor (n - 1) packed.new }
+{
+    if packs {
+        packed.push(visit);
     }
 }
 

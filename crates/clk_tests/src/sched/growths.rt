@@ -46,6 +46,16 @@ const LAST: Packet = Packet {
     length: 200,
 };
 
+/// What sessions keep: visits as a list, visits packed, and packets.
+const KINDS: [(bool, bool, bool); 6] = [
+    (false, false, false),
+    (false, false, true),
+    (true, false, false),
+    (true, false, true),
+    (false, true, false),
+    (true, true, true),
+];
+
 /// When it is closed. Three pulls do it.
 const CLOSED: u64 = 20;
 
@@ -108,7 +118,7 @@ impl Kept {
         let before = self.state();
         let mut got = self.pull_once(rt, moment);
         if let Err(fault) = got {
-            assert!(rt; keeps.visits || keeps.packets);
+            assert!(rt; keeps.visits || keeps.packed || keeps.packets);
             self.note(rt, Call::Pull, fault);
             assert_eq!(rt; self.state(), before);
             got = self.pull_once(rt, moment);
@@ -181,8 +191,13 @@ fn met_refusal(rt: &impl Abort, alloc: Global, keeps: Keeps) -> Option<Call> {
 #[test]
 fn a_refused_call_is_made_again(rt: HostRuntime) {
     let mut refused = None;
-    for (visits, packets) in [(false, false), (false, true), (true, false), (true, true)] {
-        let met = met_refusal(&rt, rt.alloc(), Keeps { visits, packets });
+    for (visits, packed, packets) in KINDS {
+        let keeps = Keeps {
+            visits,
+            packed,
+            packets,
+        };
+        let met = met_refusal(&rt, rt.alloc(), keeps);
         assert!(rt; refused.is_none() || met.is_none());
         refused = refused.or(met);
     }

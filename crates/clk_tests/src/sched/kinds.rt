@@ -88,13 +88,31 @@ fn assert_kept(rt: &impl Abort, alloc: Global, keeps: Keeps) {
         if keeps.packets { 3 } else { 0 }
     );
     assert_eq!(rt; session.count_emitted(), 3);
+    assert_handed_out(rt, alloc, session, keeps);
+}
+
+// What is kept is handed out, and where visits are kept but no packets, these are told from them.
+fn assert_handed_out(rt: &impl Abort, alloc: Global, session: Kernel, keeps: Keeps) {
+    let visits = keeps.visits || keeps.packed;
+    let (log, emitted) = session.into_packed(alloc).expect(rt, "ample memory");
+    assert_eq!(rt; emitted.len(), if visits || keeps.packets { 3 } else { 0 });
+    let (packed, rest) = log.parts();
+    assert_eq!(rt; packed.len(), if keeps.packed { 7 } else { 0 });
+    assert_eq!(rt; rest.len(), if visits && !keeps.packed { 7 } else { 0 });
 }
 
 #[test]
 fn sessions_keep_what_they_are_told_to(rt: HostRuntime) {
     for visits in [false, true] {
-        for packets in [false, true] {
-            assert_kept(&rt, rt.alloc(), Keeps { visits, packets });
+        for packed in [false, true] {
+            for packets in [false, true] {
+                let keeps = Keeps {
+                    visits,
+                    packed,
+                    packets,
+                };
+                assert_kept(&rt, rt.alloc(), keeps);
+            }
         }
     }
 }
@@ -110,6 +128,7 @@ fn assert_kept_of_pulls(rt: &impl Abort, session: &Kernel, visits: usize, pulls:
 fn visits_that_were_let_go_of_leave_the_log(rt: HostRuntime) {
     let keeps = Keeps {
         visits: true,
+        packed: false,
         packets: false,
     };
     let mut session = closed(&rt, rt.alloc(), keeps);

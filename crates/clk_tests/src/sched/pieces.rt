@@ -10,7 +10,7 @@ use std::alloc::Global;
 use std::process::Abort;
 
 /// The lengths of the packets that each of three senders sends.
-const LENGTHS: [u16; 3] = [100, 600, 200];
+pub const LENGTHS: [u16; 3] = [100, 600, 200];
 
 const MOMENTS: [u64; 4] = [0, 0, 3, 9];
 
@@ -18,7 +18,7 @@ const MOMENTS: [u64; 4] = [0, 0, 3, 9];
 const CLOSED: u64 = 20;
 
 #[derive(Clone, Copy, Debug)]
-enum Shape {
+pub enum Shape {
     Priorities,
     Turns,
     Shares,
@@ -27,14 +27,14 @@ enum Shape {
 
 /// The trees, and how many packets are left in each after four pulls, worked out by hand. Of the shares one is then held as a head, and
 /// under the Shaper, which lets two pulls through, another.
-const SHAPES: [(Shape, u64); 4] = [
+pub const SHAPES: [(Shape, u64); 4] = [
     (Shape::Priorities, 2),
     (Shape::Turns, 5),
     (Shape::Shares, 2),
     (Shape::Pace, 2),
 ];
 
-fn tree_of(alloc: Global, shape: Shape) -> Result<Tree, Fault> {
+pub fn tree_of(alloc: Global, shape: Shape) -> Result<Tree, Fault> {
     match shape {
         Shape::Priorities => prio_over_two(alloc),
         Shape::Turns => round_robin_over_three(alloc),
@@ -70,6 +70,7 @@ impl LettingGo {
         assert!(rt; tree.leaves_distinct());
         let keeps = Keeps {
             visits: true,
+            packed: false,
             packets: false,
         };
         let mut queues = Queues::new(alloc, 3)?;

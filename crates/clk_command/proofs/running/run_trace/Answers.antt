@@ -6,7 +6,7 @@ use Rattle.clk_command.proofs.running.run_trace.Goals as goal
 
 pub report-requires : goal.report-requires
 report-requires g c =
-    let counted = emitted-counted _ _ _ _ _ c.in_ok-outcome.outcome c.in_ok-outcome.ensures.outcome.is in
+    let counted = emitted-counted _ _ _ _ _ c.in_ok-outcome.outcome.emitted.items _ c.in_ok-outcome.ensures.outcome.is in
     let count = c.devices.ensures.count in
     let few : c.devices.result ≤ 256 = c.devices.ensures.within in
     rw c.deref-2.ensures.value (omega arith)

@@ -39,9 +39,9 @@ returns-in_err-tallies-clause-fault g c =
 pub returns-clause-drained : goal.returns-clause-drained
 returns-clause-drained g c = record {
   log = c.in_ok-session.session.session.log;
-  kept = λ visits. c.into_parts-log.ensures.log (c.in_ok-session.ensures.kind ∙ visits);
+  kept = λ visits. c.in_ok-log.ensures.log (c.in_ok-session.ensures.kind ∙ visits);
   is =
-      drained-over c.args.session.session c.in_ok-session.session.session c.args.lines.items c.gathered-lines.result.items c.in_ok-session.lines.items c.args.moment c.left-left.result _ c.runs_conserve_packets.ensures.loses_nothing c.runs_conserve_packets.ensures.counts c.runs_conserve_packets.ensures.makes_nothing
-      record { own = c.requires.senders; leaves_some = record { gathers = c.gathered-lines.ensures; left_is = c.left-left.ensures.over ∙ ap (left_over c.args.session.session) c.deref.ensures.value }; drained = c.in_ok-session.ensures.drained; distinct = c.into_parts-log.ensures.distinct; settled = c.in_ok-tallies.ensures.settled }
-      c.in_ok-tallies.ensures.tallies c.into_parts-log.ensures.emitted;
+      drained-over c.args.session.session c.in_ok-session.session.session c.args.lines.items c.gathered-lines.result.items c.in_ok-session.lines.items c.args.moment c.left-left.result _ _ c.runs_conserve_packets.ensures.loses_nothing c.runs_conserve_packets.ensures.counts c.runs_conserve_packets.ensures.makes_nothing
+      record { own = c.requires.senders; leaves_some = record { gathers = c.gathered-lines.ensures; left_is = c.left-left.ensures.over ∙ ap (left_over c.args.session.session) c.deref.ensures.value }; drained = c.in_ok-session.ensures.drained; distinct = c.into_parts.ensures.distinct; settled = c.in_ok-tallies.ensures.settled }
+      c.in_ok-tallies.ensures.tallies c.in_ok-log.ensures.emitted;
 }

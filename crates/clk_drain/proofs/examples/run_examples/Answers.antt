@@ -47,7 +47,7 @@ of-devices planned lists (a ∷ b ∷ c ∷ devices) two each logs emitted settl
 
 of-two : (planned : List Planned) (lists : Lists) (outcome : Outcome) → device_count planned ≡ 2 → HasLists lists outcome → IsRunOutcome planned traces 3 2 outcome → OfTwo planned lists
 of-two planned lists outcome two h o =
-    of-devices planned lists o.devices two o.each (sym h.logs ∙ o.logged) (sym h.emitted ∙ o.emitted)
+    of-devices planned lists o.devices two o.each (sym h.logs ∙ o.logs_are) (sym h.emitted ∙ o.emitted)
     (subst (IsSettledOutcome (sent_by traces) o.devices) h.tallies o.settled) o.moments
 
 first-log : (planned : List Planned) (lists : Lists) (t : OfTwo planned lists) → get_or lists.logs 0 [] ≡ t.a.log
@@ -137,7 +137,7 @@ returns-clause-is_run c =
     λ outcome h. record {
       devices = device_a ∷ device_b ∷ [];
       each = (record { tree = (refl, tt); queues = refl }, (record { tree = (refl, tt); queues = refl }, refl));
-      logged = h.logs;
+      logs_are = h.logs;
       emitted = h.emitted;
       settled = subst (IsSettledOutcome (sent_by traces) (device_a ∷ device_b ∷ [])) (sym h.tallies) run-settled;
       moments = (record { made = 2; within = lit≤ tt; closing = 0; moments = refl }, (record { made = 1; within = lit≤ tt; closing = 1; moments = refl }, tt));

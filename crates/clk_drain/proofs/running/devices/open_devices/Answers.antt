@@ -1,5 +1,6 @@
 use Rattle.std.proofs.Common.{◌≡◌, [], ◌∷◌, map, sym, subst, arith, vec_items}
 use Rattle.std.specs.List.{AllByRecursion}
+use Rattle.clk_sched.specs.Kinds.{keeps_visits}
 use Rattle.clk_tree.specs.PlanTree.{device_count}
 use Rattle.clk_drain.specs.inside.Devices.{KeepVisits}
 use Rattle.clk_drain.proofs.DeviceSteps.{AreOpenBelow, opened-below, all-open}
@@ -10,8 +11,8 @@ pub loop-device-preserved : goal.loop-device-preserved
 loop-device-preserved c = (
   opened-below vec_items c.args.plan.now c.args.traces.now c.loop-device.device c.loop-device.queues.items c.push.new.self.items c.loop-device.ends.items c.push-in-loop-device.new.self.items c.in_ok-its_queues.its_queues c.in_ok-its_queues.its_ends
       c.in_ok-push.ensures.items c.in_ok-push-2.ensures.items c.loop-device.invariant.0 c.in_ok-its_queues.ensures.opened,
-  subst (AllByRecursion (KeepVisits c.args.visits)) (sym c.in_ok-push-2.ensures.items)
-      (all-join (KeepVisits c.args.visits) c.loop-device.ends.items (c.in_ok-its_queues.its_ends ∷ []) c.loop-device.invariant.1 (c.in_ok-its_queues.ensures.kept, tt)),
+  subst (AllByRecursion (KeepVisits (keeps_visits c.args.keeps))) (sym c.in_ok-push-2.ensures.items)
+      (all-join (KeepVisits (keeps_visits c.args.keeps)) c.loop-device.ends.items (c.in_ok-its_queues.its_ends ∷ []) c.loop-device.invariant.1 (c.in_ok-its_queues.ensures.kept, tt)),
 )
 
 pub returns-clause-opened : goal.returns-clause-opened

@@ -1,4 +1,4 @@
-use Rattle.std.proofs.Common.{◌<◌, [], ◌++◌, length, refl, sym, ap, ◌∙◌, subst, arith}
+use Rattle.std.proofs.Common.{◌<◌, ◌||◌, [], ◌++◌, length, refl, sym, ap, ◌∙◌, subst, arith}
 use Rattle.std.specs.List.{cons_option}
 use Rattle.std.proofs.lemmas.List.{length-append}
 use Rattle.clk_sched.specs.Limits.{end_of_pulls}
@@ -13,7 +13,7 @@ use Rattle.clk_sched.proofs.session.kernel.Kernel.pull.Goals as goal
 pub overflow_add-self : goal.overflow_add-self
 overflow_add-self g c =
     let a = c.self.inside.nodes in
-    let fit = pulls-fit a.log.items _ a.log.kind.keeps a.log.kind.gone c.in_ok-reserve.ensures.few (subst (λ s. IsEndless s → pulls_made (progress_of s) < end_of_pulls) (sym c.self.view_is) c.requires.pulls) in
+    let fit = pulls-fit a.log.items _ (a.log.kind.keeps || a.log.kind.packs) a.log.kind.gone c.in_ok-reserve.ensures.few (subst (λ s. IsEndless s → pulls_made (progress_of s) < end_of_pulls) (sym c.self.view_is) c.requires.pulls) in
     let same = c.pull_device-got.ensures.keeps.pull in
     let counted = c.self.invariant.0.pull in
     omega (arith, fit, same, counted)
@@ -21,11 +21,11 @@ overflow_add-self g c =
 pub add-requires : goal.add-requires
 add-requires g c =
     let a = c.self.inside.nodes in
-    let fit = pulls-fit a.log.items _ a.log.kind.keeps a.log.kind.gone c.in_ok-reserve.ensures.few (subst (λ s. IsEndless s → pulls_made (progress_of s) < end_of_pulls) (sym c.self.view_is) c.requires.pulls) in
+    let fit = pulls-fit a.log.items _ (a.log.kind.keeps || a.log.kind.packs) a.log.kind.gone c.in_ok-reserve.ensures.few (subst (λ s. IsEndless s → pulls_made (progress_of s) < end_of_pulls) (sym c.self.view_is) c.requires.pulls) in
     let counted = c.self.invariant.0.pull in
     let few = c.self.invariant.5 in
     let same = c.reserve-2.ensures.count in
-    record { room = c.in_ok-reserve-2.ensures.room; few = omega (arith, fit, counted, few, same) }
+    record { room = λ keeps. let room = c.in_ok-reserve-2.ensures.room keeps in omega (arith, room); few = omega (arith, fit, counted, few, same) }
 
 pub invariant_of-self-2 : goal.invariant_of-self-2
 invariant_of-self-2 g c =

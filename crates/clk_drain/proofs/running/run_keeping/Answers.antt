@@ -1,17 +1,17 @@
-use Rattle.std.proofs.Common.{ℕ, List, map, Ok, Err, ap, sym, ◌∙◌, subst}
-use Rattle.std.proofs.lemmas.Result.{err_from_is_err_and}
+use Rattle.std.proofs.Common.{ℕ, List, map, ap, sym, ◌∙◌, subst}
 use Rattle.std.specs.List.{AllByRecursion}
 use Rattle.clk_packet.specs.declared.packet.Packet.{Packet}
 use Rattle.clk_ruled.specs.Queue.{SeatLists}
+use Rattle.clk_sched.specs.Kinds.{keeps_visits}
 use Rattle.clk_tree.specs.declared.plan.parts.SenderSpec.{SenderSpec}
 use Rattle.clk_tree.specs.PlanParts.{number_of}
 use Rattle.clk_drain.specs.Run.{AreKnown}
 use Rattle.clk_drain.specs.inside.Threads.{Terms, Feed, IsUnused, IsUnpulled}
 use Rattle.clk_drain.specs.inside.Handed.{FitQueues, IsReadyToClose, AreApartDevices, feeds_from}
 use Rattle.clk_drain.proofs.Opened.{fit-opened, unused-opened, unpulled-opened}
-use Rattle.clk_drain.proofs.WholeRun.{HasEnded, has-ended, run-joined, answered-ok, answered-err, kept-same}
-use Rattle.clk_drain.proofs.running.run_with.Given as given
-use Rattle.clk_drain.proofs.running.run_with.Goals as goal
+use Rattle.clk_drain.proofs.WholeRun.{HasEnded, has-ended, run-joined, answered-ok, answered-err}
+use Rattle.clk_drain.proofs.running.run_keeping.Given as given
+use Rattle.clk_drain.proofs.running.run_keeping.Goals as goal
 
 pub hand_out-requires : goal.hand_out-requires
 hand_out-requires g c =
@@ -38,10 +38,10 @@ run_threads-requires-clause-unpulled g c κs within =
 
 -- what the threads gave back
 ended : (g : given.Over) (c : goal.In_ok-ended g)
-    → HasEnded c.args.visits c.args.plan.now (terms_of c.args.traces.now c.args.step c.args.limit) (map (λ qs. qs.items) c.in_ok-queues.field-0.queues.items) c.in_ok-queues.field-0.ends.items c.in_ok-ended.ended.closed.items c.in_ok-ended.ended.pulled.items
+    → HasEnded (keeps_visits c.args.keeps) c.args.plan.now (terms_of c.args.traces.now c.args.step c.args.limit) (map (λ qs. qs.items) c.in_ok-queues.field-0.queues.items) c.in_ok-queues.field-0.ends.items c.in_ok-ended.ended.closed.items c.in_ok-ended.ended.pulled.items
 ended g c =
     let open_plan = c.in_ok-queues.field-0 in
-    has-ended c.args.visits c.args.plan.now (terms_of c.args.traces.now c.args.step c.args.limit) c.new-course.result c.senders.result.now (map (λ qs. qs.items) open_plan.queues.items) open_plan.ends.items c.in_ok-handed.handed.producers.items c.in_ok-handed.handed.consumers.items c.in_ok-ended.ended.closed.items c.in_ok-ended.ended.pulled.items
+    has-ended (keeps_visits c.args.keeps) c.args.plan.now (terms_of c.args.traces.now c.args.step c.args.limit) c.new-course.result c.senders.result.now (map (λ qs. qs.items) open_plan.queues.items) open_plan.ends.items c.in_ok-handed.handed.producers.items c.in_ok-handed.handed.consumers.items c.in_ok-ended.ended.closed.items c.in_ok-ended.ended.pulled.items
     c.new-course.ensures c.senders.ensures.senders c.senders.ensures.rising c.count.ensures.within c.in_ok-queues.ensures.opened c.in_ok-queues.ensures.kept c.in_ok-handed.ensures.producers
     (c.in_ok-handed.ensures.consumers ∙ ap (λ queues. feeds_from (map (λ qs. qs.items) queues) open_plan.ends.items) c.deref.ensures.value) c.in_ok-ended.ensures.sent c.in_ok-ended.ensures.pulled
 
@@ -57,11 +57,9 @@ close_devices-requires-clause-apart g c = subst AreApartDevices (sym c.in_ok-clo
 
 pub returns-clause-outcome : goal.returns-clause-outcome
 returns-clause-outcome g c =
-    kept-same _ _ _ _ _ c.in_ok-outcome.outcome c.kept.result c.kept.ensures.emitted c.kept.ensures.tallies c.kept.ensures.logs
-    (answered-ok _ _ _ c.new-course.result _ _ _ _ c.in_ok-closings.closings.items (Ok c.in_ok-outcome.outcome) c.new-course.ensures c.in_ok-closings.ensures.joined (ended g c.before.before.before.before.before.before.before.before.before) c.in_ok-outcome.ensures.settled)
+    answered-ok _ _ _ c.new-course.result _ _ _ _ c.in_ok-closings.closings.items c.close_devices.result c.new-course.ensures c.in_ok-closings.ensures.joined (ended g c.before.before.before.before.before.before) c.close_devices.ensures.settled
 
-pub returns-in_err-outcome-clause-fault : goal.returns-in_err-outcome-clause-fault
-returns-in_err-outcome-clause-fault g c =
+pub returns-clause-fault : goal.returns-clause-fault
+returns-clause-fault g c =
     let known = subst (λ (senders : List SenderSpec). AreKnown (map number_of senders) c.args.traces.now) c.senders.ensures.senders c.in_ok-check_senders.ensures.known in
-    let p = err_from_is_err_and c.from_residual-in_err-outcome.result c.from_residual-in_err-outcome.ensures.1 in
-    rw (p.1, p.2) (answered-err _ _ _ _ _ _ _ c.in_ok-closings.closings.items (Err c.in_err-outcome.field-0.0) c.in_ok-closings.ensures.joined (ended g c.before.before.before.before.before.before.before.before.before) known c.in_err-outcome.ensures.fault)
+    answered-err _ _ _ _ _ _ _ c.in_ok-closings.closings.items c.close_devices.result c.in_ok-closings.ensures.joined (ended g c.before.before.before.before.before.before) known c.close_devices.ensures.fault
