@@ -74,7 +74,7 @@ impl Log {
         Ok(())
     }
 
-    /// Takes memory for so many visits more, where they are kept packed. Else nothing changes: room for the next is made by `reserve`.
+    /// Takes memory for so many visits more, where they are kept packed. Nothing that is seen changes: room for a pull is made by `reserve`.
     ///
     /// # Errors
     ///

@@ -61,7 +61,8 @@ impl PackedVisit {
     }
 }
 
-/// A log of visits, in order. They are packed up to the first whose pull or moment is 2^32 or more; that one and those behind it aren't.
+/// A log of visits, in order: those that are packed, and then the others. One that a session keeps packed has all packed up to the first
+/// whose pull or moment is 2^32 or more; that one and those behind it aren't.
 #[derive(Drop)]
 pub struct PackedLog {
     packed: Vec<PackedVisit>,
