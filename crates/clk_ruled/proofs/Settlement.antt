@@ -18,7 +18,7 @@ use Rattle.clk_ruled.specs.inside.Parts.{TapKeeps}
 use Rattle.clk_ruled.specs.Queue.{SeatLists, TapLists, ClosedLists, IsSharedOut}
 use Rattle.clk_ruled.specs.Rule.{Books, FitsTap, IsSound, AreGathered, evicted_by, taken_in, senders_of}
 use Rattle.clk_ruled.specs.inside.Rule.{Knows}
-use Rattle.clk_ruled.specs.Settle.{lists_of, as_gathered, accepted_of, evicted_of, all_evicted, accepted_count, evicted_count, lost_count, AreOfTap, AreTogether, HasEach, HasAllSeats, IsTakenWithin, IsAllTaken, tally_by, tally_of, IsSettled, IsAccounted}
+use Rattle.clk_ruled.specs.Settle.{lists_of, as_gathered, accepted_of, evicted_of, all_evicted, accepted_count, evicted_count, lost_count, AreOfTap, AreTogether, HasEach, HasAllSeats, IsTakenWithin, IsAllTaken, tally_by, tally_of, IsSettled, HasLostBelow, IsAccounted}
 use Rattle.clk_ruled.proofs.Account.{account, all-counted, as-many, left-held, evicted_in}
 use Rattle.clk_ruled.proofs.Counts.{true-eq}
 use Rattle.clk_ruled.proofs.TapSteps.{TapKnows, tap-knows, knows-held}
@@ -147,22 +147,43 @@ pub seats-all : (id : TableId) (v : View) → TapKeeps v → Held 0 (Knows v) �
 seats-all id v k held closed seats =
     let all = all-seats id v held.0 closed (knows-held v held.0 k held.2) seats in let none = held.1 in omega (arith, all, none)
 
--- The tap has the lists of all seats, and so all is told.
+-- The tap has the lists of all seats, which are an account of its queue then.
+has-booked : (tap new : TapLists) (closed : List ClosedLists) → AreTogether tap closed → (new.setup ≡ tap.setup) × (new.taken ≡ tap.taken) → HasEach new (lists_of closed) → (a : IsAccounted new) → AreBooked a.books (lists_of closed)
+has-booked tap new closed together same has a =
+    booked a.books a.held tap.setup (lists_of closed) a.sound (sym a.setup ∙ same.0) together.senders (each-fit a.books a.given new (lists_of closed) a.gathered has)
+
+whole-account : (tap new : TapLists) (closed : List ClosedLists) → AreTogether tap closed → (new.setup ≡ tap.setup) × (new.taken ≡ tap.taken) → HasEach new (lists_of closed) → (a : IsAccounted new)
+    → IsAccount tap.setup.kind tap.setup.capacity (senders_of tap.setup) (accepted_of (lists_of closed)) (evicted_of (lists_of closed)) tap.taken a.held
+whole-account tap new closed together same has a =
+    let is = has-booked tap new closed together same has a in
+    subst (λ (x : Setup × (ℕ → List Packet) × (ℕ → List Packet) × List Packet). IsAccount x.0.kind x.0.capacity (senders_of x.0) x.1 x.2 x.3 a.held)
+    (λ i. ((sym a.setup ∙ same.0) i, (λ s. is.accepted s i), (λ s. is.evicted s i), (sym a.taken ∙ same.1) i)) (account a.books a.held a.sound)
+
+-- It lost packets below its capacity.
+pub lost-below : (tap new : TapLists) (closed : List ClosedLists) → AreTogether tap closed → (new.setup ≡ tap.setup) × (new.taken ≡ tap.taken) → HasEach new (lists_of closed) → IsAccounted new
+    → AllByRecursion IsSharedOut (lists_of closed) → 0 < lost_count (lists_of closed) → accepted_count (lists_of closed) < tap.setup.capacity → HasLostBelow tap closed
+lost-below tap new closed together same has a shared lost below = record {
+  held = a.held;
+  account = whole-account tap new closed together same has a;
+  shared = shared;
+  lost = lost;
+  below = below;
+}
+
+-- All is told.
 pub settles : (tap new : TapLists) (closed : List ClosedLists) (told : List Tally) → AreTogether tap closed → (new.setup ≡ tap.setup) × (new.taken ≡ tap.taken) → HasEach new (lists_of closed) → IsAccounted new
     → told ≡ map (tally_of (all_evicted (lists_of closed))) (lists_of closed)
     → AllByRecursion IsSharedOut (lists_of closed) → (0 < lost_count (lists_of closed) → tap.setup.capacity ≤ accepted_count (lists_of closed)) → IsSettled tap closed tap.taken told
 settles tap new closed told together same has a tallies shared reached =
     let b : Books = a.books in let seats : List SeatLists = lists_of closed in
-    let setup : b.setup ≡ tap.setup = sym a.setup ∙ same.0 in
     let took : taken_in b.gone ≡ tap.taken = sym a.taken ∙ same.1 in
-    let is = booked b a.held tap.setup seats a.sound setup together.senders (each-fit b a.given new seats a.gathered has) in
+    let is = has-booked tap new closed together same has a in
     let gone = evicted-length seats ∙ ap length (sym is.out) in let came = is.came in let mine = ap length took in
     let whole = account b a.held a.sound in record {
       taken = refl;
       tallies = tallies;
       held = a.held;
-      account = subst (λ (x : Setup × (ℕ → List Packet) × (ℕ → List Packet) × List Packet). IsAccount x.0.kind x.0.capacity (senders_of x.0) x.1 x.2 x.3 a.held)
-          (λ i. (setup i, (λ s. is.accepted s i), (λ s. is.evicted s i), took i)) whole;
+      account = whole-account tap new closed together same has a;
       left = λ s. ((whole.is_last s).0, sym (is.accepted s) ∙ (whole.is_last s).1 ∙ ap (λ l. (whole.is_last s).0 ++ l) (sym (left-held b a.held a.sound s) ∙ (λ i. without (without (is.accepted s i) (is.out i)) (took i))));
       all_taken = λ many s.
           let held : a.held ≡ [] = as-many b a.held a.sound (omega (arith, many, came, gone, mine)) in

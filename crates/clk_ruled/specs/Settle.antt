@@ -109,10 +109,19 @@ pub record IsSettled (tap : TapLists) (closed : List ClosedLists) (pulled : List
   -- something was refused or put out only where the queue took so many packets as it may hold
   pub reached : 0 < lost_count (lists_of closed) → tap.setup.capacity ≤ accepted_count (lists_of closed)
 
--- Why a queue isn't settled.
+-- A queue lost packets though it accepted fewer than it may hold, by lists that are an account of it.
+pub record HasLostBelow (tap : TapLists) (closed : List ClosedLists) : Type 0 where
+  pub held : List Packet
+  pub account : IsAccount tap.setup.kind tap.setup.capacity (senders_of tap.setup) (accepted_of (lists_of closed)) (evicted_of (lists_of closed)) tap.taken held
+  pub shared : AllByRecursion IsSharedOut (lists_of closed)
+  pub lost : 0 < lost_count (lists_of closed)
+  pub below : accepted_count (lists_of closed) < tap.setup.capacity
+
+-- Why a queue isn't settled: memory was refused, or the queue lost packets below its capacity. Fault 21 has the queue's number, how many
+-- packets it accepted, and how many it may hold.
 abbrev pub IsFaultOfSettle : TapLists → List ClosedLists → ℕ → Fault → Type 0
 IsFaultOfSettle tap closed index fault =
-    (fault ≡ Memory) ⊎ ((fault ≡ Unsettled index (accepted_count (lists_of closed)) tap.setup.capacity) × (0 < lost_count (lists_of closed)) × (accepted_count (lists_of closed) < tap.setup.capacity))
+    (fault ≡ Memory) ⊎ ((fault ≡ Unsettled index (accepted_count (lists_of closed)) tap.setup.capacity) × HasLostBelow tap closed)
 
 -- What the tap knows of its queue at one moment.
 pub record IsAccounted (tap : TapLists) : Type 0 where

@@ -4,6 +4,7 @@
 mod ask;
 mod examples;
 mod laws;
+mod limits;
 mod session;
 mod tree;
 mod unlogged;
@@ -18,6 +19,9 @@ pub use examples::{
 pub use laws::{
     closing_bound_is_enough, runs_can_go_on, runs_conserve_packets, runs_go_on,
     runs_leave_no_choice, runs_share_out,
+};
+pub use limits::{
+    END_OF_DRAINED_PULLS, END_OF_DRAINS, END_OF_MOMENTS, END_OF_PULLS, MAX_LEFT,
 };
 pub use session::Session;
 pub use session::departures::Departure;

@@ -17,7 +17,8 @@ pub struct Visit {
     pub node: u16,
     /// The input of the node, from 0.
     pub input: u16,
-    /// Whether what stands at the input was asked.
+    /// Whether this looks at what stands at the input: it was asked, or it is a queue that is known to be empty and was not asked. If
+    /// not, a DRRSched looks at the packet that it holds for the input.
     pub fresh: bool,
     /// Whether the packet is the node's result in this pull.
     pub passed: bool,

@@ -6,6 +6,7 @@ use Rattle.clk_packet.specs.Limits.{most_sender, most_capacity, most_quantum, mo
 use Rattle.clk_packet.specs.Numbers.{number_in}
 use Rattle.clk_packet.specs.declared.packet.Kind.{Kind}
 use Rattle.clk_packet.specs.declared.packet.Kind.TheVariants.{TailDrop, FrontDrop}
+use Rattle.clk_syntax.specs.Limits.{default_capacity, default_quantum}
 use Rattle.clk_syntax.specs.declared.naming.class.ClassName.{ClassName}
 use Rattle.clk_syntax.specs.declared.naming.class.ClassName.TheVariants as named
 use Rattle.clk_syntax.specs.declared.naming.class.Class as declared
@@ -37,13 +38,6 @@ class_named word =
     else if bytes_eq word (codes "Shaper") then Some named.Shaper
     else if bytes_eq word (codes "ToDevice") then Some named.ToDevice
     else None
-
--- what is left out of a text
-abbrev pub default_capacity : ℕ
-default_capacity = 1000
-
-abbrev pub default_quantum : ℕ
-default_quantum = 500
 
 -- the numbers that words are, where each is one from 1 to a greatest
 abbrev pub and_then : Option ℕ → Option (List ℕ) → Option (List ℕ)

@@ -1,6 +1,6 @@
 -- The limits of a tree text (this project's own choice).
 use Rattle.std.specs.Prelude.{ℕ}
-use Rattle.clk_syntax.specs.declared.limits.TheConstants.{MAX_TREE_BYTES, MAX_PORT}
+use Rattle.clk_syntax.specs.declared.limits.TheConstants.{MAX_TREE_BYTES, MAX_PORT, DEFAULT_CAPACITY, DEFAULT_QUANTUM}
 
 -- in bytes
 abbrev pub most_tree_bytes : ℕ
@@ -9,3 +9,10 @@ most_tree_bytes = MAX_TREE_BYTES
 -- the greatest port
 abbrev pub most_port : ℕ
 most_port = MAX_PORT
+
+-- the capacity of a queue, and the quantum of a DRRSched, where a text leaves them out
+abbrev pub default_capacity : ℕ
+default_capacity = DEFAULT_CAPACITY
+
+abbrev pub default_quantum : ℕ
+default_quantum = DEFAULT_QUANTUM

@@ -1,16 +1,19 @@
 //! Whether a queue took so many packets as it may hold, before it refused one or put one out.
 
-ghost use Rattle.std.specs.Prelude.{◌≡◌, ◌+◌, ◌-◌, ◌<◌, ◌≤◌, length, OnOk, IfErr, true, false};
+ghost use Rattle.std.specs.Prelude.{◌≡◌, ◌+◌, ◌-◌, ◌<◌, ◌≤◌, length, OnOk, IfErr, OnErr, true, false};
+ghost use Rattle.std.specs.List.{AllByRecursion};
 ghost use Rattle.clk_packet.specs.declared.fault.Fault.TheVariants.{Unsettled};
+ghost use Rattle.clk_ruled.specs.Queue.{IsSharedOut};
 ghost use Rattle.clk_ruled.specs.Settle.{accepted_count, lost_count, lists_of};
 
 use crate::closed::ClosedSeat;
 use clk_packet::Fault;
 
-// Fault 21 where something was refused or put out, and fewer packets were taken.
+// Fault 21 where something was refused or evicted, and fewer packets were accepted.
 pub fn check_reached(closed: &[ClosedSeat], capacity: u32, index: u16) -> Result<(), Fault>
     ensures reached { OnOk result (0 < lost_count (lists_of closed.now) → capacity ≤ accepted_count (lists_of closed.now)) }
     ensures fault { IfErr result (λ fault. (fault ≡ Unsettled index (accepted_count (lists_of closed.now)) capacity) × (0 < lost_count (lists_of closed.now)) × (accepted_count (lists_of closed.now) < capacity)) }
+    ensures shared { OnErr result (AllByRecursion IsSharedOut (lists_of closed.now)) }
 {
     if !lost_some(closed) {
         return Ok(());
@@ -50,9 +53,10 @@ fn lost_one(seat: &ClosedSeat) -> bool
     }
 }
 
-// How many packets the queue took less than so many, and 0 where it took as many.
+// How many packets the queue accepted less than so many, and 0 where it accepted as many.
 fn missing(closed: &[ClosedSeat], capacity: u32) -> u32
-    ensures { result ≡ capacity - accepted_count (lists_of closed.now) }
+    ensures missing { result ≡ capacity - accepted_count (lists_of closed.now) }
+    ensures shared { AllByRecursion IsSharedOut (lists_of closed.now) }
 {
     let mut missing = capacity;
     for seat in closed {

@@ -7,7 +7,8 @@ use Rattle.clk_packet.specs.Numbers.{number_in}
 use Rattle.clk_packet.specs.declared.packet.Kind.TheVariants.{TailDrop, FrontDrop}
 use Rattle.clk_syntax.specs.declared.naming.class.ClassName.{ClassName}
 use Rattle.clk_syntax.specs.declared.naming.class.ClassName.TheVariants as named
-use Rattle.clk_syntax.specs.Classes.{Class, sender, queue, prio, round_robin, shaper, drr, stride, device, default_capacity, default_quantum, and_then, class_named, class_with, numbers_in, numbers_to, shaper_of}
+use Rattle.clk_syntax.specs.Limits.{default_capacity, default_quantum}
+use Rattle.clk_syntax.specs.Classes.{Class, sender, queue, prio, round_robin, shaper, drr, stride, device, and_then, class_named, class_with, numbers_in, numbers_to, shaper_of}
 use Rattle.clk_syntax.specs.Source.{Declared, letters}
 use Rattle.clk_syntax.specs.Declarations.{class_if, class_in}
 

@@ -7,6 +7,7 @@ ghost use Rattle.clk_syntax.specs.Classes.{class_named, class_with, class_view, 
 ghost use Rattle.clk_syntax.specs.Source.{letters};
 ghost use Rattle.clk_syntax.specs.Within.{IsWithin, AreWithin};
 
+use crate::limits::{DEFAULT_CAPACITY, DEFAULT_QUANTUM};
 use crate::texts::token::Token;
 use clk_packet::{
     Fault, Kind, MAX_BURST, MAX_CAPACITY, MAX_QUANTUM, MAX_RATE, MAX_SENDER, MAX_TICKETS, number_in,
@@ -197,7 +198,7 @@ impl Class {
         ensures { option_map class_view result ≡ class_with (queue_name kind) (map (letters text.now) arguments.now) }
     {
         match arguments {
-            [] => Some(Class::Queue(kind, 1000)),
+            [] => Some(Class::Queue(kind, DEFAULT_CAPACITY)),
             [capacity] => {
                 let capacity = number_at(text, capacity, 1, MAX_CAPACITY)?;
                 Some(Class::Queue(kind, capacity))
@@ -231,7 +232,7 @@ impl Class {
     {
         if arguments.is_empty() {
             let mut quanta = Vec::new(alloc);
-            quanta.push(500)?;
+            quanta.push(DEFAULT_QUANTUM)?;
             return Ok(Some(Class::DrrSched(quanta)));
         }
         match numbers_at(alloc, text, arguments, MAX_QUANTUM)? {

@@ -12,7 +12,8 @@ use Rattle.clk_packet.specs.declared.packet.Kind.TheVariants.{TailDrop, FrontDro
 use Rattle.clk_syntax.specs.declared.naming.class.ClassName.{ClassName}
 use Rattle.clk_syntax.specs.declared.naming.class.ClassName.TheVariants as named
 use Rattle.clk_syntax.specs.declared.node.Link.{Link}
-use Rattle.clk_syntax.specs.Classes.{Class, sender, queue, prio, round_robin, drr, stride, shaper, device, default_capacity, default_quantum, and_then, class_named, class_with, numbers_to, shaper_of, role_of}
+use Rattle.clk_syntax.specs.Limits.{default_capacity, default_quantum}
+use Rattle.clk_syntax.specs.Classes.{Class, sender, queue, prio, round_robin, drr, stride, shaper, device, and_then, class_named, class_with, numbers_to, shaper_of, role_of}
 use Rattle.clk_syntax.specs.Source.{Element}
 use Rattle.clk_syntax.specs.Declarations.{class_if, class_of}
 use Rattle.clk_syntax.specs.Ports.{is_scheduler, inputs_of, inputs_used}

@@ -22,3 +22,6 @@ returns-clause-settled c =
     (c.in_ok-tell_evicted.ensures.told ∙ ap (map (telling (is_marked marks))) (c.in_ok-tallies.ensures.tallies ∙ ap (map untold) gathered.lists) ∙ tallies-told (all_evicted seats) (is_marked marks) marked seats)
     (subst (AllByRecursion IsSharedOut) gathered.lists c.in_ok-tallies.ensures.shared)
     (subst (λ (x : List SeatLists × ℕ). 0 < lost_count x.0 → x.1 ≤ accepted_count x.0) (λ i. (seen i, capacity i)) c.in_ok-check_reached.ensures.reached)
+
+pub returns-in_err-clause-fault : goal.returns-in_err-clause-fault
+returns-in_err-clause-fault c = ?
