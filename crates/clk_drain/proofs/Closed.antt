@@ -9,12 +9,12 @@ use Rattle.clk_sched.specs.Conservation.{ConservesPackets, ConservesCounts, Make
 use Rattle.clk_sched.specs.Results.{emitted}
 use Rattle.clk_sched.specs.Session.{Progress, counted_moment, IsDrained, GivesAll}
 use Rattle.clk_drain.specs.Line.{LineLists, seats_in, senders_at, HaveOwnSenders}
-use Rattle.clk_drain.specs.Closing.{left_over, queue_of_line, device_of, HasSent, IsDrainedTo}
+use Rattle.clk_drain.specs.Closing.{left_over, queue_of_line, device_of, tallies_in, AreInOrder, HasSent, IsDrainedTo}
 use Rattle.clk_drain.specs.Outcome.{Device, IsSettledOutcome}
 use Rattle.clk_drain.specs.Parts.{IsWithin}
-use Rattle.clk_drain.specs.inside.Parts.{IsDrainOf, IsSettledLine, AreInOrder, tallies_in}
+use Rattle.clk_drain.specs.inside.Parts.{IsDrainOf, IsSettledLine}
 use Rattle.clk_drain.proofs.Left.{IsLeft, left-is}
-use Rattle.clk_drain.proofs.Still.{still-accepted, still-evicted, still-seats, still-queues}
+use Rattle.clk_drain.proofs.Still.{still-accepted, still-evicted, still-seats, still-queues, still-tallies}
 use Rattle.clk_drain.proofs.AllGiven.{all-given}
 use Rattle.clk_drain.proofs.FromSenders.{emitted-of, emitted-own}
 use Rattle.clk_drain.proofs.Settling.{some-sent, settled-outcome}
@@ -49,6 +49,7 @@ drained-over session new lines gathered after moment left out tallies conserves 
     λ i. record { tree = h.drained.gives.drained.tree i; queues = still-queues lines after still i; log = new.log; emitted = sym comes_out i } in record {
       sent = some.0;
       offered = subst (AllByRecursion (HasSent some.0)) seats some.1;
+      told = subst (λ (told : List Tally). AreInOrder told tallies) (still-tallies lines after still) in_order;
       outcome = λ packets offered. subst (λ (d : Device). IsSettledOutcome packets (d ∷ []) tallies) is_device (settled packets offered);
       made = h.drained.made;
       goes_on = subst (λ (x : Progress × ℕ). GivesAll session x.0 (max (counted_moment session) moment) h.drained.made x.1) (λ i. (record { tree = h.drained.gives.drained.tree i; log = new.log }, left-is session lines gathered left h.leaves_some i)) h.drained.gives;

@@ -19,9 +19,9 @@ use Rattle.clk_drain.specs.declared.drained.PackedDrained.{PackedDrained}
 use Rattle.clk_drain.specs.declared.outcome.PackedOutcome.{PackedOutcome}
 use Rattle.clk_drain.specs.Line.{seats_in, senders_at}
 use Rattle.clk_drain.specs.Outcome.{SharedQueue, Device, senders_to}
-use Rattle.clk_drain.specs.Closing.{device_of, IsDrainedTo, IsFaultOfDrain}
+use Rattle.clk_drain.specs.Closing.{device_of, seated, AreInOrder, IsDrainedTo, IsFaultOfDrain}
+use Rattle.clk_drain.specs.Lost.{SeatedQueue, HasReached, NamesFirstLost}
 use Rattle.clk_drain.specs.inside.Closing.{IsDrainedAs}
-use Rattle.clk_drain.specs.inside.Parts.{AreInOrder}
 use Rattle.clk_drain.specs.Limits.{most_step, most_limit}
 use Rattle.clk_drain.specs.Moments.{steps}
 use Rattle.clk_drain.specs.inside.Threads.{Terms, Feed}

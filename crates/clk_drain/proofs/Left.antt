@@ -1,5 +1,5 @@
 -- What is left to a drain, and why it isn't given.
-use Rattle.std.proofs.Common.{◌≡◌, ◌⊎◌, ℕ, ◌+◌, ◌-◌, ◌≤◌, ◌<◌, ◌==◌, true, false, List, [], ◌∷◌, length, refl, sym, ap, ◌∙◌, inl, inr, arith, if◌then◌else◌}
+use Rattle.std.proofs.Common.{◌≡◌, ◌⊎◌, ℕ, ◌+◌, ◌-◌, ◌≤◌, ◌<◌, ◌==◌, true, false, List, [], ◌∷◌, length, map, refl, sym, ap, ◌∙◌, subst, inl, inr, arith, if◌then◌else◌}
 use Rattle.std.proofs.lemmas.Bool.Decides.{nat_tests}
 use Rattle.std.specs.List.{AllByRecursion}
 use Rattle.clk_packet.specs.declared.fault.Fault.{Fault}
@@ -12,10 +12,12 @@ use Rattle.clk_sched.specs.Run.{IsRun}
 use Rattle.clk_sched.specs.Session.{Progress}
 use Rattle.clk_packet.specs.Lists.{AreRising}
 use Rattle.clk_drain.specs.Line.{LineLists, leaves_of, AreLinesOf}
-use Rattle.clk_drain.specs.Closing.{accepted_over, evicted_over, left_over, HasUnsettled, IsFaultOfDrain}
+use Rattle.clk_drain.specs.Closing.{accepted_over, evicted_over, left_over, seated, IsFaultOfDrain}
+use Rattle.clk_drain.specs.Lost.{HasReached, NamesFirstLost}
 use Rattle.clk_drain.specs.Parts.{IsWithin}
-use Rattle.clk_drain.specs.inside.Parts.{AreGatheredFrom, IsDrainOf, IsGathered, held_of, held_at}
-use Rattle.clk_drain.proofs.Still.{still-accepted, still-evicted, still-unsettled}
+use Rattle.clk_drain.specs.inside.Parts.{AreGatheredFrom, IsDrainOf, IsGathered, IsSettledLine, held_of, held_at}
+use Rattle.clk_drain.proofs.Still.{still-accepted, still-evicted, still-seated}
+use Rattle.clk_drain.proofs.SettleSteps.{each-reached}
 use Rattle.clk_packet.proofs.Callers.Lists.{rising-distinct}
 use Rattle.clk_drain.proofs.AllGiven.{taken_over, taken-counts, sum-same}
 
@@ -71,6 +73,12 @@ left-is session lines gathered left h =
     h.left_is ∙ (λ i. still-accepted lines gathered h.gathers.still i - (still-evicted lines gathered h.gathers.still i + length (emitted session.log)))
 
 -- why it isn't settled
-pub fault-unsettled : (session new : Progress) (lines gathered after : List LineLists) (moment left : ℕ) (fault : Fault) → AreGatheredFrom lines gathered → IsDrainOf session gathered moment left new after → (fault ≡ Memory) ⊎ HasUnsettled after fault → IsFaultOfDrain lines fault
+pub fault-unsettled : (session new : Progress) (lines gathered after : List LineLists) (moment left : ℕ) (fault : Fault) → AreGatheredFrom lines gathered → IsDrainOf session gathered moment left new after → (fault ≡ Memory) ⊎ NamesFirstLost (map seated after) fault → IsFaultOfDrain lines fault
 fault-unsettled session new lines gathered after moment left fault gathers drained (inl memory) = inl memory
-fault-unsettled session new lines gathered after moment left fault gathers drained (inr unsettled) = inr (still-unsettled lines after fault (drained.still ∙ gathers.still) unsettled)
+fault-unsettled session new lines gathered after moment left fault gathers drained (inr names) =
+    inr (subst (λ queues. NamesFirstLost queues fault) (still-seated lines after (drained.still ∙ gathers.still)) names)
+
+-- Each queue that was settled reached its capacity where it lost packets.
+pub drained-reached : (session new : Progress) (lines gathered after : List LineLists) (moment left : ℕ) → AreGatheredFrom lines gathered → IsDrainOf session gathered moment left new after → AllByRecursion IsSettledLine after → AllByRecursion HasReached (map seated lines)
+drained-reached session new lines gathered after moment left gathers drained settled =
+    subst (AllByRecursion HasReached) (still-seated lines after (drained.still ∙ gathers.still)) (each-reached after settled)

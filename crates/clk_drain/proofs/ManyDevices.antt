@@ -7,7 +7,7 @@ use Rattle.clk_packet.specs.declared.packet.Packet.{Packet}
 use Rattle.clk_packet.specs.declared.tally.Tally.{Tally}
 use Rattle.clk_packet.specs.Lists.{stands_in, are_distinct}
 use Rattle.clk_drain.specs.Outcome.{SharedQueue, Device, senders_to, IsTallied, tally_for, accepted_by, lost_by, in_all, IsQueueSettled, IsDeviceSettled, IsSettledOutcome}
-use Rattle.clk_drain.specs.inside.Parts.{AreInOrder}
+use Rattle.clk_drain.specs.Closing.{AreInOrder}
 use Rattle.clk_packet.proofs.Callers.Lists.{stands-left, stands-right, rising-distinct}
 use Rattle.clk_drain.proofs.Apart.{not-both, apart-parts, apart-joined}
 use Rattle.clk_drain.proofs.Tallies.{tellers, in-order-rise, in-order-found, in-order-all, all-split, all-weaker}

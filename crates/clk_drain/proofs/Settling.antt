@@ -15,9 +15,9 @@ use Rattle.clk_sched.specs.Run.{IsRun}
 use Rattle.clk_sched.specs.Session.{Progress}
 use Rattle.clk_drain.specs.Line.{LineLists, seats_of, seats_in, senders_at, AreLinesOf, HaveOwnSenders}
 use Rattle.clk_drain.specs.Outcome.{SharedQueue, Device, senders_to, IsTallied, tally_for, IsQueueSettled, IsSettledOutcome}
-use Rattle.clk_drain.specs.Closing.{queue_of_line, AreOffered, HasSent}
+use Rattle.clk_drain.specs.Closing.{queue_of_line, tallies_in, AreInOrder, AreOffered, HasSent}
 use Rattle.clk_drain.specs.Parts.{HasAllTaken}
-use Rattle.clk_drain.specs.inside.Parts.{IsSettledLine, tallies_in, AreInOrder}
+use Rattle.clk_drain.specs.inside.Parts.{IsSettledLine}
 use Rattle.clk_drain.proofs.Apart.{has-here, apart-parts}
 use Rattle.clk_drain.proofs.Seated.{joined}
 use Rattle.clk_drain.proofs.Tallies.{tellers, in-order-rise, in-order-found, in-order-all, all-split, all-weaker, tellers-in, AreFound, each-found, none-filtered, no-evicted, accepted-same, lost-some}

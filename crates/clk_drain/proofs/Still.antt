@@ -1,18 +1,16 @@
 -- What stays of lines, whatever their taps gather and pull.
-use Rattle.std.proofs.Common.{◌≡◌, ◌⊎◌, ℕ, ◌+◌, ◌<◌, ◌≤◌, List, [], ◌∷◌, ◌++◌, map, refl, sym, ap, ◌∙◌, subst}
+use Rattle.std.proofs.Common.{◌≡◌, ℕ, ◌+◌, List, [], ◌∷◌, ◌++◌, map, refl, sym, ap, ◌∙◌, subst}
 use Rattle.std.specs.List.{flat_map, AllByRecursion}
 use Rattle.clk_packet.specs.declared.packet.Packet.{Packet}
-use Rattle.clk_packet.specs.declared.fault.Fault.{Fault}
-use Rattle.clk_packet.specs.declared.fault.Fault.TheVariants.{Memory, Unsettled}
 use Rattle.clk_ruled.specs.Queue.{SeatLists}
-use Rattle.clk_ruled.specs.Settle.{accepted_count, evicted_count, lost_count, IsFaultOfSettle}
+use Rattle.clk_ruled.specs.Settle.{accepted_count, evicted_count, all_evicted, tally_of}
 use Rattle.clk_sched.specs.declared.visit.Visit.{Visit}
 use Rattle.clk_packet.specs.Lists.{stands_in, AreRising}
 use Rattle.clk_sched.specs.Tree.{Tree}
 use Rattle.clk_sched.specs.Results.{leaf_packets}
 use Rattle.clk_sched.specs.Session.{Progress}
 use Rattle.clk_drain.specs.Line.{LineLists, leaves_of, seats_of, seats_in, senders_at, pulling_all, AreLinesOf, Lasting, lasting_of, AreStill}
-use Rattle.clk_drain.specs.Closing.{accepted_over, evicted_over, queue_of_line, HasReached, HasUnsettled}
+use Rattle.clk_drain.specs.Closing.{accepted_over, evicted_over, queue_of_line, seated, tallies_of, tallies_in}
 use Rattle.clk_drain.specs.inside.Parts.{taken_at, AreGatheredFrom}
 
 through : {X : Type 0} (f : Lasting → X) (lines : List LineLists) → map (λ l. f (lasting_of l)) lines ≡ map f (map lasting_of lines)
@@ -52,19 +50,15 @@ seats-through (l ∷ lines) = ap (λ rest. seats_of l ++ rest) (seats-through li
 pub still-seats : (old new : List LineLists) → AreStill old new → seats_in new ≡ seats_in old
 still-seats old new still = seats-through new ∙ ap (flat_map (λ (k : Lasting). k.seats)) still ∙ sym (seats-through old)
 
--- why a line isn't settled, by what stays of it
-abbrev IsUnsettled : List Lasting → Fault → Type 0
-IsUnsettled [] fault = ⊥
-IsUnsettled (k ∷ kept) fault =
-    ((fault ≡ Memory) ⊎ ((fault ≡ Unsettled k.leaf (accepted_count k.seats) k.setup.capacity) × (0 < lost_count k.seats) × (accepted_count k.seats < k.setup.capacity)))
-    ⊎ ((0 < lost_count k.seats → k.setup.capacity ≤ accepted_count k.seats) × IsUnsettled kept fault)
+pub still-seated : (old new : List LineLists) → AreStill old new → map seated new ≡ map seated old
+still-seated = still-map (λ (k : Lasting). record { queue = record { leaf = k.leaf; kind = k.setup.kind; capacity = k.setup.capacity; senders = senders_at k.seats }; seats = k.seats })
 
-unsettled-through : (lines : List LineLists) (fault : Fault) → HasUnsettled lines fault ≡ IsUnsettled (map lasting_of lines) fault
-unsettled-through [] fault = refl
-unsettled-through (l ∷ lines) fault = ap (λ (rest : Type 0). IsFaultOfSettle l.tap l.closed l.leaf fault ⊎ (HasReached l × rest)) (unsettled-through lines fault)
+tallies-through : (lines : List LineLists) → tallies_in lines ≡ flat_map (λ (k : Lasting). map (tally_of (all_evicted k.seats)) k.seats) (map lasting_of lines)
+tallies-through [] = refl
+tallies-through (l ∷ lines) = ap (λ rest. tallies_of l ++ rest) (tallies-through lines)
 
-pub still-unsettled : (old new : List LineLists) (fault : Fault) → AreStill old new → HasUnsettled new fault → HasUnsettled old fault
-still-unsettled old new fault still h = subst (λ (t : Type 0). t) (unsettled-through new fault ∙ ap (λ k. IsUnsettled k fault) still ∙ sym (unsettled-through old fault)) h
+pub still-tallies : (old new : List LineLists) → AreStill old new → tallies_in new ≡ tallies_in old
+still-tallies old new still = tallies-through new ∙ ap (flat_map (λ (k : Lasting). map (tally_of (all_evicted k.seats)) k.seats)) still ∙ sym (tallies-through old)
 
 -- Pulls let it stay.
 pub pulled-still : (f : ℕ → List Packet) (lines : List LineLists) → AreStill lines (pulling_all f lines)

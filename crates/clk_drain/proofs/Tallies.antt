@@ -16,7 +16,7 @@ use Rattle.clk_ruled.specs.Queue.{SeatLists}
 use Rattle.clk_ruled.specs.Settle.{all_evicted, accepted_count, lost_count, tally_of}
 use Rattle.clk_drain.specs.Line.{LineLists, seats_of, seats_in, senders_at}
 use Rattle.clk_drain.specs.Outcome.{tally_for, accepted_by, lost_by, in_all}
-use Rattle.clk_drain.specs.inside.Parts.{tallies_of, tallies_in, AreInOrder}
+use Rattle.clk_drain.specs.Closing.{tallies_of, tallies_in, AreInOrder}
 use Rattle.clk_drain.proofs.Seated.{joined}
 
 -- the senders of tallies

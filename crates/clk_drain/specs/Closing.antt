@@ -1,18 +1,20 @@
 -- What closing a session over its lines comes to.
-use Rattle.std.specs.Prelude.{◌≡◌, ◌⊎◌, ℕ, ◌+◌, ◌-◌, ◌<◌, ◌≤◌, List, [], ◌∷◌, length, map, max}
-use Rattle.std.specs.List.{AllByRecursion}
+use Rattle.std.specs.Prelude.{◌≡◌, ◌⊎◌, ℕ, ◌+◌, ◌-◌, List, [], ◌∷◌, length, map, max}
+use Rattle.std.specs.List.{flat_map, AllByRecursion}
+use Rattle.std.specs.List.Sorted.{IsPermutation, IsNonDecreasingBy}
 use Rattle.clk_packet.specs.declared.packet.Packet.{Packet}
 use Rattle.clk_packet.specs.declared.tally.Tally.{Tally}
 use Rattle.clk_packet.specs.declared.fault.Fault.{Fault}
 use Rattle.clk_packet.specs.declared.fault.Fault.TheVariants.{Memory}
 use Rattle.clk_ruled.specs.Queue.{SeatLists, AreNumbered, IsDealt}
-use Rattle.clk_ruled.specs.Settle.{accepted_count, evicted_count, lost_count, IsFaultOfSettle}
+use Rattle.clk_ruled.specs.Settle.{accepted_count, evicted_count, all_evicted, tally_of}
 use Rattle.clk_sched.specs.declared.visit.Visit.{Visit}
 use Rattle.clk_sched.specs.Session.{Progress, counted_moment, GivesAll}
 use Rattle.clk_sched.specs.Results.{emitted as emitted_in}
 use Rattle.clk_drain.specs.declared.drained.Drained.{Drained}
 use Rattle.clk_drain.specs.Line.{LineLists, seats_of, seats_in, senders_at}
 use Rattle.clk_drain.specs.Outcome.{SharedQueue, Device, IsSettledOutcome}
+use Rattle.clk_drain.specs.Lost.{SeatedQueue, NamesFirstLost}
 
 -- how many packets the queues of lines accepted and evicted in all
 abbrev pub accepted_over : List LineLists → ℕ
@@ -43,6 +45,18 @@ AreOffered packets l = (length packets ≡ l.next) × AreNumbered l.sender 0 pac
 abbrev pub HasSent : (ℕ → List Packet) → SeatLists → Type 0
 HasSent sent l = AreOffered (sent l.sender) l
 
+-- the tallies of a line's senders by their seats, and those of all lines
+abbrev pub tallies_of : LineLists → List Tally
+tallies_of l = map (tally_of (all_evicted (seats_of l))) (seats_of l)
+
+abbrev pub tallies_in : List LineLists → List Tally
+tallies_in lines = flat_map tallies_of lines
+
+-- The same tallies by rising sender.
+pub record AreInOrder (tallies sorted : List Tally) : Type 0 where
+  pub same : IsPermutation tallies sorted
+  pub order : IsNonDecreasingBy (λ (t : Tally). t.sender) sorted
+
 -- A session was drained over its lines, from a moment on, to this log, this came out, and all is settled.
 pub record IsDrainedTo (session : Progress) (lines : List LineLists) (moment : ℕ) (log : List Visit) (emitted : List Packet) (tallies : List Tally) : Type 0 where
   -- the seats offered some packets
@@ -51,6 +65,8 @@ pub record IsDrainedTo (session : Progress) (lines : List LineLists) (moment : �
   -- whatever it is that they offered, this is its settled outcome
   pub outcome : (packets : ℕ → List Packet) → AllByRecursion (HasSent packets) (seats_in lines)
       → IsSettledOutcome packets (device_of session lines log emitted ∷ []) tallies
+  -- the tallies tell what the seats say
+  pub told : AreInOrder (tallies_in lines) tallies
   -- the log goes on from the session's by the pulls of one drain of all that was left
   pub made : ℕ
   pub goes_on : GivesAll session (record { tree = session.tree; log = log }) (max (counted_moment session) moment) made (left_over session lines)
@@ -59,15 +75,10 @@ pub record IsDrainedTo (session : Progress) (lines : List LineLists) (moment : �
 abbrev pub IsDrainedOver : Progress → List LineLists → ℕ → Drained → Type 0
 IsDrainedOver session lines moment drained = IsDrainedTo session lines moment drained.log.items drained.emitted.items drained.tallies.items
 
--- A queue refused or evicted packets only where it accepted as many as it may hold.
-abbrev pub HasReached : LineLists → Type 0
-HasReached l = 0 < lost_count (seats_of l) → l.tap.setup.capacity ≤ accepted_count (seats_of l)
+-- the queue of a line, with its seats
+abbrev pub seated : LineLists → SeatedQueue
+seated l = record { queue = queue_of_line l; seats = seats_of l }
 
--- Why a line isn't settled, after others that could be.
-abbrev pub HasUnsettled : List LineLists → Fault → Type 0
-HasUnsettled [] fault = ⊥
-HasUnsettled (l ∷ lines) fault = IsFaultOfSettle l.tap l.closed l.leaf fault ⊎ (HasReached l × HasUnsettled lines fault)
-
--- Why a session isn't drained over its lines: memory was refused, or the queue of a line isn't settled.
+-- Why a session isn't drained over its lines: an allocation failed, or the queue of a line lost packets below its capacity.
 abbrev pub IsFaultOfDrain : List LineLists → Fault → Type 0
-IsFaultOfDrain lines fault = (fault ≡ Memory) ⊎ HasUnsettled lines fault
+IsFaultOfDrain lines fault = (fault ≡ Memory) ⊎ NamesFirstLost (map seated lines) fault

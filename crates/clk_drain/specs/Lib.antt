@@ -1,6 +1,7 @@
 -- What closing a session and its shared queues comes to.
 pub mod Line
 pub mod Outcome
+pub mod Lost
 pub mod Closing
 pub mod Parts
 pub mod Limits

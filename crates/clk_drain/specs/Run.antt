@@ -1,6 +1,6 @@
 -- What a run of producers on threads comes to (this project's own definition).
 use Rattle.std.specs.Prelude.{◌≡◌, ℕ, ◌==◌, ◌<◌, Bool, false, true, List, [], ◌∷◌, length, map, suc, ⊤, if◌then◌else◌}
-use Rattle.std.specs.List.{AllByRecursion}
+use Rattle.std.specs.List.{flat_map, range_with_len, AllByRecursion}
 use Rattle.clk_packet.specs.declared.packet.Packet.{Packet}
 use Rattle.clk_packet.specs.declared.tally.Tally.{Tally}
 use Rattle.clk_packet.specs.declared.fault.Fault.{Fault}
@@ -8,8 +8,6 @@ use Rattle.clk_packet.specs.declared.fault.Fault.TheVariants.{Memory, UnknownSen
 use Rattle.clk_packet.specs.Limits.{most_sender}
 use Rattle.clk_packet.specs.Trace.{sent_by}
 use Rattle.clk_packet.specs.Lists.{stands_in}
-use Rattle.clk_ruled.specs.Queue.{SeatLists}
-use Rattle.clk_ruled.specs.Settle.{accepted_count, lost_count}
 use Rattle.clk_sched.specs.declared.visit.Visit.{Visit}
 use Rattle.clk_sched.specs.Packed.{logged}
 use Rattle.clk_tree.specs.Plan.{Planned}
@@ -18,6 +16,8 @@ use Rattle.clk_tree.specs.PlanParts.{Queued, queues_of, senders_of, number_of}
 use Rattle.clk_drain.specs.declared.outcome.Outcome.{Outcome}
 use Rattle.clk_drain.specs.declared.outcome.PackedOutcome.{PackedOutcome}
 use Rattle.clk_drain.specs.Closing.{HasSent}
+use Rattle.clk_drain.specs.Line.{senders_at}
+use Rattle.clk_drain.specs.Lost.{SeatedQueue, NamesFirstLost}
 use Rattle.clk_drain.specs.Moments.{HasMoments}
 use Rattle.clk_drain.specs.Outcome.{SharedQueue, Device, IsSettledOutcome}
 use Rattle.clk_drain.specs.Opening.{shared_at}
@@ -46,7 +46,7 @@ pub record IsRunWith (plan : List Planned) (traces : List (List Packet)) (step l
   pub emitted : packets ≡ map (λ (d : Device). d.emitted) devices
   -- all that each sender sends is accounted for
   pub settled : IsSettledOutcome (sent_by traces) devices tallies
-  pub moments : AllByRecursion (λ (d : Device). HasMoments step limit d.log) devices
+  pub moments : AllByRecursion (λ (d : Device). HasMoments step limit d.tree d.log) devices
 
 -- The same, of what a run answers.
 abbrev pub IsRunOutcome : List Planned → List (List Packet) → ℕ → ℕ → Outcome → Type 0
@@ -82,18 +82,27 @@ abbrev pub IsUnknownSender : List ℕ → List (List Packet) → Fault → Type 
 IsUnknownSender senders traces (UnknownSender s) = IsFirstUnknown senders traces s
 IsUnknownSender senders traces fault = ⊥
 
--- The senders of some queue sent what they send, and it lost packets though it accepted fewer than it may hold.
-pub record HasLostBelow (traces : List (List Packet)) (accepted capacity : ℕ) : Type 0 where
-  pub seats : List SeatLists
-  pub sent : AllByRecursion (HasSent (sent_by traces)) seats
-  pub accepted_are : accepted ≡ accepted_count seats
-  pub lost : 0 < lost_count seats
-  pub below : accepted < capacity
+-- the queues of a plan, by device and then by leaf
+abbrev pub queues_in_order : List Planned → List SharedQueue
+queues_in_order plan = flat_map (λ device. queues_at device 0 (queues_of plan)) (range_with_len 0 (device_count plan))
 
--- Why a run of a plan over a trace is refused: memory or a thread, the least sender that the plan doesn't have, or, with senders that
--- it all has, a queue that lost packets below its capacity.
+-- Each sender of a queue has a seat there, in order, and offered all that it sends.
+pub record HasOffered (traces : List (List Packet)) (s : SeatedQueue) : Type 0 where
+  pub senders : senders_at s.seats ≡ s.queue.senders
+  pub sent : AllByRecursion (HasSent (sent_by traces)) s.seats
+
+-- All that is sent was offered to the queues of a plan, and the fault names the first of these, by device and then by leaf, that lost packets
+-- below its capacity.
+pub record IsUnsettledRun (plan : List Planned) (traces : List (List Packet)) (fault : Fault) : Type 0 where
+  pub queues : List SeatedQueue
+  pub are : map (λ (s : SeatedQueue). s.queue) queues ≡ queues_in_order plan
+  pub offered : AllByRecursion (HasOffered traces) queues
+  pub names : NamesFirstLost queues fault
+
+-- Why a run of a plan over a trace fails: an allocation or the start of a thread failed; a sender of the trace is none of the plan's, and
+-- the fault names the least; or, with senders that the plan all has, a queue lost packets below its capacity.
 abbrev pub IsFaultOfRun : List Planned → List (List Packet) → Fault → Type 0
 IsFaultOfRun plan traces Memory = ⊤
 IsFaultOfRun plan traces (UnknownSender s) = IsFirstUnknown (senders_in plan) traces s
-IsFaultOfRun plan traces (Unsettled leaf accepted capacity) = AreKnown (senders_in plan) traces × HasLostBelow traces accepted capacity
+IsFaultOfRun plan traces (Unsettled leaf accepted capacity) = AreKnown (senders_in plan) traces × IsUnsettledRun plan traces (Unsettled leaf accepted capacity)
 IsFaultOfRun plan traces fault = ⊥

@@ -1,6 +1,6 @@
 //! The closing of a session: its lines are drained to the device, and settled.
 
-ghost use Rattle.std.specs.Prelude.{◌≡◌, ◌⊎◌, ◌<◌, ◌≤◌, ◌++◌, false, max, IfOk, IfErr, OnOk, IsOkUnless};
+ghost use Rattle.std.specs.Prelude.{◌≡◌, ◌⊎◌, ◌<◌, ◌≤◌, ◌++◌, false, map, max, IfOk, IfErr, OnOk, IsOkUnless};
 ghost use Rattle.std.specs.List.{AllByRecursion};
 ghost use Rattle.clk_packet.specs.declared.fault.Fault.TheVariants.{Memory};
 ghost use Rattle.clk_sched.specs.Closing.{left_in};
@@ -8,9 +8,10 @@ ghost use Rattle.clk_sched.specs.Kinds.{pulls_made};
 ghost use Rattle.clk_sched.specs.Limits.{most_left, end_of_drains, end_of_drained_pulls};
 ghost use Rattle.clk_sched.specs.Session.{counted_moment};
 ghost use Rattle.clk_drain.specs.Line.{AreLinesOf, HaveOwnSenders};
-ghost use Rattle.clk_drain.specs.Closing.{accepted_over, evicted_over, left_over, IsDrainedOver, IsFaultOfDrain, HasUnsettled};
+ghost use Rattle.clk_drain.specs.Closing.{accepted_over, evicted_over, left_over, seated, AreInOrder, tallies_in, IsDrainedOver, IsFaultOfDrain};
+ghost use Rattle.clk_drain.specs.Lost.{HasReached, NamesFirstLost};
 ghost use Rattle.clk_drain.specs.inside.Closing.{IsDrainedAs};
-ghost use Rattle.clk_drain.specs.inside.Parts.{IsGathered, held_at, AreGatheredFrom, IsDrainOf, IsSettledLine, AreInOrder, tallies_in};
+ghost use Rattle.clk_drain.specs.inside.Parts.{IsGathered, held_at, AreGatheredFrom, IsDrainOf, IsSettledLine};
 
 use crate::device::DeviceSession;
 use crate::drained::{Drained, PackedDrained};
@@ -68,6 +69,7 @@ pub(crate) fn close<W: Wait>(
     requires moment { max (counted_moment session.session) moment < end_of_drains }
     requires pulls { session.visits ≡ false → pulls_made session.session < end_of_drained_pulls }
     ensures drained { IfOk result (IsDrainedAs session lines.items moment) }
+    ensures reached { OnOk result (AllByRecursion HasReached (map seated lines.items)) }
     ensures fault { IfErr result (IsFaultOfDrain lines.items) }
 {
     runs_conserve_packets();
@@ -166,7 +168,7 @@ fn evicted(lines: &[Line]) -> u64
 fn settle_all(alloc: Global, lines: Vec<Line>) -> Result<Vec<Tally>, Fault>
     ensures settled { IfOk result (λ _. AllByRecursion IsSettledLine lines.items) }
     ensures tallies { IfOk result (λ tallies. AreInOrder (tallies_in lines.items) tallies.items) }
-    ensures fault { IfErr result (λ fault. (fault ≡ Memory) ⊎ HasUnsettled lines.items fault) }
+    ensures fault { IfErr result (λ fault. (fault ≡ Memory) ⊎ NamesFirstLost (map seated lines.items) fault) }
 {
     let mut tallies = settle_each(alloc, lines)?;
     tallies.sort_unstable_by_key(|tally| tally.sender);
@@ -177,7 +179,7 @@ fn settle_all(alloc: Global, lines: Vec<Line>) -> Result<Vec<Tally>, Fault>
 fn settle_each(alloc: Global, lines: Vec<Line>) -> Result<Vec<Tally>, Fault>
     ensures settled { IfOk result (λ _. AllByRecursion IsSettledLine lines.items) }
     ensures tallies { IfOk result (λ tallies. tallies.items ≡ tallies_in lines.items) }
-    ensures fault { IfErr result (λ fault. (fault ≡ Memory) ⊎ HasUnsettled lines.items fault) }
+    ensures fault { IfErr result (λ fault. (fault ≡ Memory) ⊎ NamesFirstLost (map seated lines.items) fault) }
 {
     let mut tallies = Vec::new(alloc);
     for line in lines {

@@ -159,12 +159,18 @@ whole-account tap new closed together same has a =
     subst (λ (x : Setup × (ℕ → List Packet) × (ℕ → List Packet) × List Packet). IsAccount x.0.kind x.0.capacity (senders_of x.0) x.1 x.2 x.3 a.held)
     (λ i. ((sym a.setup ∙ same.0) i, (λ s. is.accepted s i), (λ s. is.evicted s i), (sym a.taken ∙ same.1) i)) (account a.books a.held a.sound)
 
--- It lost packets below its capacity.
+-- A seat that was opened with the tap is of a queue of its kind.
+each-kind : (tap : TapLists) (closed : List ClosedLists) → AreOfTap tap closed → AllByRecursion (λ (l : SeatLists). l.setup.kind ≡ tap.setup.kind) (lists_of closed)
+each-kind tap [] of = tt
+each-kind tap (c ∷ closed) of = (ap (λ (s : Setup). s.kind) of.0.setup, each-kind tap closed of.1)
+
+-- The queue lost packets below its capacity.
 pub lost-below : (tap new : TapLists) (closed : List ClosedLists) → AreTogether tap closed → (new.setup ≡ tap.setup) × (new.taken ≡ tap.taken) → HasEach new (lists_of closed) → IsAccounted new
-    → AllByRecursion IsSharedOut (lists_of closed) → 0 < lost_count (lists_of closed) → accepted_count (lists_of closed) < tap.setup.capacity → HasLostBelow tap closed
+    → AllByRecursion IsSharedOut (lists_of closed) → 0 < lost_count (lists_of closed) → accepted_count (lists_of closed) < tap.setup.capacity → HasLostBelow tap.setup.kind tap.setup.capacity (senders_of tap.setup) (lists_of closed) tap.taken
 lost-below tap new closed together same has a shared lost below = record {
   held = a.held;
   account = whole-account tap new closed together same has a;
+  kinds = each-kind tap closed together.each;
   shared = shared;
   lost = lost;
   below = below;

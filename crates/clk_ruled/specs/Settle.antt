@@ -2,6 +2,7 @@
 use Rattle.std.specs.Prelude.{◌≡◌, ℕ, ◌+◌, ◌<◌, ◌≤◌, ◌==◌, ◌⊎◌, Bool, true, false, List, [], ◌∷◌, ◌++◌, length, map, filter, ⊤, if◌then◌else◌}
 use Rattle.std.specs.List.{flat_map, AllByRecursion}
 use Rattle.clk_packet.specs.declared.packet.Packet.{Packet}
+use Rattle.clk_packet.specs.declared.packet.Kind.{Kind}
 use Rattle.clk_packet.specs.declared.tally.Tally.{Tally}
 use Rattle.clk_packet.specs.declared.fault.Fault.{Fault}
 use Rattle.clk_packet.specs.declared.fault.Fault.TheVariants.{Memory, Unsettled}
@@ -109,19 +110,23 @@ pub record IsSettled (tap : TapLists) (closed : List ClosedLists) (pulled : List
   -- something was refused or put out only where the queue took so many packets as it may hold
   pub reached : 0 < lost_count (lists_of closed) → tap.setup.capacity ≤ accepted_count (lists_of closed)
 
--- A queue lost packets though it accepted fewer than it may hold, by lists that are an account of it.
-pub record HasLostBelow (tap : TapLists) (closed : List ClosedLists) : Type 0 where
+-- A queue of this kind and capacity, shared by these senders, lost packets though it accepted fewer than it may hold. The lists of its seats,
+-- the packets that were taken and packets that are held are an account of it.
+pub record HasLostBelow (kind : Kind) (capacity : ℕ) (senders : List ℕ) (seats : List SeatLists) (taken : List Packet) : Type 0 where
   pub held : List Packet
-  pub account : IsAccount tap.setup.kind tap.setup.capacity (senders_of tap.setup) (accepted_of (lists_of closed)) (evicted_of (lists_of closed)) tap.taken held
-  pub shared : AllByRecursion IsSharedOut (lists_of closed)
-  pub lost : 0 < lost_count (lists_of closed)
-  pub below : accepted_count (lists_of closed) < tap.setup.capacity
+  pub account : IsAccount kind capacity senders (accepted_of seats) (evicted_of seats) taken held
+  pub kinds : AllByRecursion (λ (l : SeatLists). l.setup.kind ≡ kind) seats
+  pub shared : AllByRecursion IsSharedOut seats
+  pub lost : 0 < lost_count seats
+  pub below : accepted_count seats < capacity
 
--- Why a queue isn't settled: memory was refused, or the queue lost packets below its capacity. Fault 21 has the queue's number, how many
+-- Why a queue isn't settled: an allocation failed, or the queue lost packets below its capacity. Fault 21 has the queue's number, how many
 -- packets it accepted, and how many it may hold.
 abbrev pub IsFaultOfSettle : TapLists → List ClosedLists → ℕ → Fault → Type 0
 IsFaultOfSettle tap closed index fault =
-    (fault ≡ Memory) ⊎ ((fault ≡ Unsettled index (accepted_count (lists_of closed)) tap.setup.capacity) × HasLostBelow tap closed)
+    (fault ≡ Memory)
+    ⊎ ((fault ≡ Unsettled index (accepted_count (lists_of closed)) tap.setup.capacity)
+    × HasLostBelow tap.setup.kind tap.setup.capacity (senders_of tap.setup) (lists_of closed) tap.taken)
 
 -- What the tap knows of its queue at one moment.
 pub record IsAccounted (tap : TapLists) : Type 0 where

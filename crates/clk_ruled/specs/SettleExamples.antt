@@ -30,7 +30,7 @@ abbrev pub NeverRefuses : (TableId → ClosedQueue) → ℕ → Fault → Type 0
 NeverRefuses queue index fault = (id : TableId) → ¬ (IsFaultOfSettle (queue id).tap (queue id).seats index fault)
 
 -- a closed seat: its sender, how many packets it offered, which are all that it may, and its lists
-abbrev seat : (sender offered : ℕ) → (accepted refused evicted : List Packet) → TableId → Setup → ClosedLists
+abbrev pub seat : (sender offered : ℕ) → (accepted refused evicted : List Packet) → TableId → Setup → ClosedLists
 seat sender offered accepted refused evicted id setup =
     record {
       lists = record { id = id; setup = setup; sender = sender; room = offered; next = offered; accepted = accepted; refused = refused; evicted = evicted };
@@ -62,10 +62,10 @@ told_at_seat = tally 0 (p0_0 ∷ p0_1 ∷ []) [] [] ∷ tally 1 (p1_0 ∷ p1_1 �
 abbrev pub newer_first : List Packet
 newer_first = p1_1 ∷ p1_0 ∷ []
 
--- The queue took one packet of sender 1 and refused the other, though it is a FrontDropQueue.
-abbrev pub front_refused : TableId → ClosedQueue
-front_refused =
-    closed_queue (setup_of FrontDrop 2 ((0, 2) ∷ (1, 2) ∷ [])) (p0_1 ∷ [])
+-- The queue, of some capacity, took one packet of sender 1 and refused the other, though it is a FrontDropQueue.
+abbrev pub front_refused : ℕ → TableId → ClosedQueue
+front_refused capacity =
+    closed_queue (setup_of FrontDrop capacity ((0, 2) ∷ (1, 2) ∷ [])) (p0_1 ∷ [])
     (seat 0 2 (p0_0 ∷ p0_1 ∷ []) [] [] ∷ seat 1 2 (p1_0 ∷ []) (p1_1 ∷ []) put_out ∷ [])
 
 abbrev pub with_refused : List Tally
@@ -77,6 +77,14 @@ tail_dropped capacity taken = closed_queue (setup_of TailDrop capacity ((0, 2) �
 
 abbrev pub tail_tallies : List Tally
 tail_tallies = tally 0 (p0_0 ∷ []) (p0_1 ∷ []) [] ∷ []
+
+-- a FrontDropQueue of two packets with the seat of a Queue, which refused a packet
+abbrev pub seat_of_a_queue : TableId → ClosedQueue
+seat_of_a_queue id =
+    record {
+      tap = record { id = id; setup = setup_of FrontDrop 2 ((0, 2) ∷ []); taken = []; gathered = [] };
+      seats = seat 0 2 (p0_0 ∷ []) (p0_1 ∷ []) [] id (setup_of TailDrop 2 ((0, 2) ∷ [])) ∷ [];
+    }
 
 -- a Queue that took all that was offered
 abbrev pub none_lost : ℕ → TableId → ClosedQueue

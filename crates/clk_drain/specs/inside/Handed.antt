@@ -17,7 +17,8 @@ use Rattle.clk_drain.specs.declared.outcome.PackedOutcome.{PackedOutcome}
 use Rattle.clk_drain.specs.declared.running.opening.LeafQueue.{LeafQueue}
 use Rattle.clk_drain.specs.Line.{LineLists, leaves_of, seats_in, senders_at, AreLinesOf, HaveOwnSenders}
 use Rattle.clk_drain.specs.Outcome.{Device, IsSettledOutcome}
-use Rattle.clk_drain.specs.Closing.{accepted_over, HasSent, queue_of_line, IsFaultOfDrain}
+use Rattle.clk_drain.specs.Closing.{accepted_over, HasSent, queue_of_line, seated}
+use Rattle.clk_drain.specs.Lost.{SeatedQueue, NamesFirstLost}
 use Rattle.clk_drain.specs.Moments.{steps, HasMoments}
 use Rattle.clk_drain.specs.inside.Threads.{Terms, Feed, ArePulled}
 
@@ -137,7 +138,7 @@ AreApartDevices feeds = are_distinct (flat_map (λ (f : Feed). senders_at (seats
 pub record IsClosedDevice (terms : Terms) (f : Feed) (d : Device) : Type 0 where
   pub tree : d.tree ≡ f.session.tree
   pub queues : d.queues ≡ map queue_of_line f.lines
-  pub moments : HasMoments terms.step terms.limit d.log
+  pub moments : HasMoments terms.step terms.limit d.tree d.log
 
 abbrev pub AreClosedDevices : Terms → List Feed → List Device → Type 0
 AreClosedDevices terms [] [] = ⊤
@@ -158,7 +159,10 @@ pub record AreSettledTogether (terms : Terms) (feeds : List Feed) (outcome : Pac
   pub emitted : map (λ packets. packets.items) outcome.emitted.items ≡ map (λ (d : Device). d.emitted) devices
   pub settled : IsSettledOutcome (sent_by terms.traces) devices outcome.tallies.items
 
--- Why some device isn't closed: memory was refused, or its session isn't drained over its lines.
+-- the queues of all devices, in order, with their seats
+abbrev pub seated_in : List Feed → List SeatedQueue
+seated_in feeds = flat_map (λ (f : Feed). map seated f.lines) feeds
+
+-- Why some device isn't closed: an allocation failed, or a queue lost packets below its capacity.
 abbrev pub IsFaultOfClosing : List Feed → Fault → Type 0
-IsFaultOfClosing [] fault = fault ≡ Memory
-IsFaultOfClosing (f ∷ feeds) fault = IsFaultOfDrain f.lines fault ⊎ IsFaultOfClosing feeds fault
+IsFaultOfClosing feeds fault = (fault ≡ Memory) ⊎ NamesFirstLost (seated_in feeds) fault

@@ -1,10 +1,9 @@
 -- What the parts of a closing say to one another.
 use Rattle.std.specs.Prelude.{◌≡◌, ℕ, ◌+◌, ◌-◌, ◌<◌, ◌==◌, List, [], ◌∷◌, length, map, max, if◌then◌else◌}
-use Rattle.std.specs.List.{flat_map, slice_index_or, AllByRecursion}
-use Rattle.std.specs.List.Sorted.{IsPermutation, IsNonDecreasingBy}
+use Rattle.std.specs.List.{slice_index_or, AllByRecursion}
 use Rattle.clk_packet.specs.declared.packet.Packet.{Packet}
 use Rattle.clk_packet.specs.declared.tally.Tally.{Tally}
-use Rattle.clk_ruled.specs.Settle.{AreTogether, IsSettled, tally_of, all_evicted, accepted_count, evicted_count}
+use Rattle.clk_ruled.specs.Settle.{AreTogether, IsSettled, accepted_count, evicted_count}
 use Rattle.clk_sched.specs.Session.{Progress, counted_moment, GivesAll}
 use Rattle.clk_drain.specs.Line.{LineLists, seats_of, lasting_of, AreStill, AreLinesOf}
 use Rattle.clk_drain.specs.Parts.{HasGathered, IsWithin}
@@ -54,15 +53,3 @@ pub record IsSettledLine (l : LineLists) : Type 0 where
   pub together : AreTogether l.tap l.closed
   pub tallies : List Tally
   pub is : IsSettled l.tap l.closed l.tap.taken tallies
-
--- the tallies of a line, and of all lines
-abbrev pub tallies_of : LineLists → List Tally
-tallies_of l = map (tally_of (all_evicted (seats_of l))) (seats_of l)
-
-abbrev pub tallies_in : List LineLists → List Tally
-tallies_in lines = flat_map tallies_of lines
-
--- the same tallies by rising sender
-pub record AreInOrder (tallies sorted : List Tally) : Type 0 where
-  pub same : IsPermutation tallies sorted
-  pub order : IsNonDecreasingBy (λ (t : Tally). t.sender) sorted

@@ -6,7 +6,7 @@ use Rattle.clk_drain.specs.Line.{AreLinesOf}
 use Rattle.clk_drain.specs.Closing.{accepted_over, left_over}
 use Rattle.clk_drain.specs.inside.Parts.{IsGathered, held_at}
 use Rattle.clk_drain.proofs.Still.{still-accepted, gathered-lines}
-use Rattle.clk_drain.proofs.Left.{fault-unsettled}
+use Rattle.clk_drain.proofs.Left.{fault-unsettled, drained-reached}
 use Rattle.clk_drain.proofs.Closed.{drained-over}
 use Rattle.clk_drain.proofs.closing.close.Goals as goal
 
@@ -45,3 +45,7 @@ returns-clause-drained g c = record {
       record { own = c.requires.senders; leaves_some = record { gathers = c.gathered-lines.ensures; left_is = c.left-left.ensures.over ∙ ap (left_over c.args.session.session) c.deref.ensures.value }; drained = c.in_ok-session.ensures.drained; distinct = c.into_parts.ensures.distinct; settled = c.in_ok-tallies.ensures.settled }
       c.in_ok-tallies.ensures.tallies c.in_ok-log.ensures.emitted;
 }
+
+pub returns-clause-reached : goal.returns-clause-reached
+returns-clause-reached g c =
+    drained-reached c.args.session.session c.in_ok-session.session.session c.args.lines.items c.gathered-lines.result.items c.in_ok-session.lines.items c.args.moment c.left-left.result c.gathered-lines.ensures c.in_ok-session.ensures.drained c.in_ok-tallies.ensures.settled

@@ -1,4 +1,4 @@
-use Rattle.std.proofs.Common.{refl, inl, inr, ⊎_elim, ap, arith, length}
+use Rattle.std.proofs.Common.{refl, lit≤, inl, inr, ⊎_elim, ap, arith, length}
 use Rattle.std.proofs.lemmas.Bool.{false≢true}
 use Rattle.clk_packet.specs.declared.packet.Packet.{Packet}
 use Rattle.clk_ruled.specs.Examples.{p0_0, p0_1, p1_0, p1_1, p2_0}
@@ -6,7 +6,7 @@ use Rattle.clk_ruled.proofs.Worked.{front-account, not-last}
 use Rattle.clk_ruled.proofs.examples.account_examples.Goals as goal
 
 pub returns-clause-is_account : goal.returns-clause-is_account
-returns-clause-is_account c = front-account
+returns-clause-is_account c = front-account 2 (lit≤ tt)
 
 pub returns-clause-not_one_lost : goal.returns-clause-not_one_lost
 returns-clause-not_one_lost c = λ a. let counts = ap length (a.balances 1) in absurd (omega (arith, counts))

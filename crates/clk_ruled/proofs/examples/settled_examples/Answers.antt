@@ -1,9 +1,9 @@
 use Rattle.std.proofs.Common.{◌≡◌, false, List, [], ◌∷◌, ◌++◌, get_or, refl, lit≤, inl, inr, ap, Bool, arith, length}
 use Rattle.clk_packet.specs.declared.packet.Packet.{Packet}
 use Rattle.clk_ruled.specs.PacketLists.{without}
-use Rattle.clk_ruled.specs.SettleExamples.{front_tallies, tail_tallies}
+use Rattle.clk_ruled.specs.SettleExamples.{front_dropped, front_tallies, tail_tallies}
 use Rattle.clk_ruled.specs.Examples.{p0_0, p0_1, p1_0, p1_1, put_out, pulled, held}
-use Rattle.clk_ruled.proofs.Worked.{by-senders, of_these, of_seats, front-account-by-seats, tail-account, not-last}
+use Rattle.clk_ruled.proofs.Worked.{by-senders, of_these, of_seats, front-account-by-seats, front-shared, tail-shared, tail-account, not-last}
 use Rattle.clk_ruled.proofs.examples.settled_examples.Goals as goal
 
 -- what the queue took from a sender
@@ -16,25 +16,11 @@ returns-clause-is_front_dropped c =
       taken = refl;
       tallies = λ i. front_tallies;
       held = held;
-      account = front-account-by-seats;
+      account = front-account-by-seats 2 (lit≤ tt);
       left = by-senders (λ a b. (before : List Packet) × (accepted a b ≡ before ++ without (without (accepted a b) put_out) pulled)) (p0_0 ∷ p0_1 ∷ [], refl) ([], refl) ([], refl);
       all_taken = λ many. absurd (omega (arith, many));
       within = lit≤ tt;
-      shared = (
-        record {
-          within = lit≤ tt;
-          shared = record { offered = p0_0 ∷ p0_1 ∷ []; count = refl; numbers = (refl, refl, (refl, refl, tt)); dealt = inl (p0_1 ∷ [], refl, inl ([], refl, (refl, refl))) };
-          front_drop = λ _. refl;
-        },
-        (
-          record {
-            within = lit≤ tt;
-            shared = record { offered = p1_0 ∷ p1_1 ∷ []; count = refl; numbers = (refl, refl, (refl, refl, tt)); dealt = inl (p1_1 ∷ [], refl, inl ([], refl, (refl, refl))) };
-            front_drop = λ _. refl;
-          },
-          tt,
-        ),
-      );
+      shared = front-shared id (front_dropped 2 pulled id).tap.setup;
       reached = λ lost. lit≤ tt;
     }
 
@@ -52,14 +38,7 @@ returns-clause-is_tail_dropped c =
       left = by-senders (λ a b. (before : List Packet) × (accepted_alone a b ≡ before ++ without (without (accepted_alone a b) []) (p0_0 ∷ []))) (p0_0 ∷ [], refl) ([], refl) ([], refl);
       all_taken = λ many. by-senders (λ a b. without (accepted_alone a b) [] ≡ of_these a b (p0_0 ∷ [])) refl refl refl;
       within = lit≤ tt;
-      shared = (
-        record {
-          within = lit≤ tt;
-          shared = record { offered = p0_0 ∷ p0_1 ∷ []; count = refl; numbers = (refl, refl, (refl, refl, tt)); dealt = inl ([], refl, inr ([], refl, (refl, refl))) };
-          front_drop = λ e. absurd (cc);
-        },
-        tt,
-      );
+      shared = tail-shared id 1;
       reached = λ _. lit≤ tt;
     }
 

@@ -1,0 +1,31 @@
+-- Which of some queues is told to have lost packets below its capacity.
+use Rattle.std.specs.Prelude.{◌≡◌, ◌<◌, ◌≤◌, List, ◌∷◌, ◌++◌}
+use Rattle.std.specs.List.{AllByRecursion}
+use Rattle.clk_packet.specs.declared.packet.Packet.{Packet}
+use Rattle.clk_packet.specs.declared.fault.Fault.{Fault}
+use Rattle.clk_packet.specs.declared.fault.Fault.TheVariants.{Unsettled}
+use Rattle.clk_ruled.specs.Queue.{SeatLists}
+use Rattle.clk_ruled.specs.Settle.{accepted_count, lost_count, HasLostBelow}
+use Rattle.clk_drain.specs.Outcome.{SharedQueue}
+
+-- a queue with the lists of its seats, one for each of its senders, in order
+pub record SeatedQueue : Type 0 where
+  pub queue : SharedQueue
+  pub seats : List SeatLists
+
+-- A queue lost packets only where it accepted as many as it may hold.
+abbrev pub HasReached : SeatedQueue → Type 0
+HasReached s = 0 < lost_count s.seats → s.queue.capacity ≤ accepted_count s.seats
+
+-- Fault 21 names the first of some queues that lost packets though it accepted fewer than it may hold. It has the queue's leaf, how many
+-- packets the queue accepted, and how many it may hold.
+pub record NamesFirstLost (queues : List SeatedQueue) (fault : Fault) : Type 0 where
+  pub earlier : List SeatedQueue
+  pub first : SeatedQueue
+  pub later : List SeatedQueue
+  pub all : queues ≡ earlier ++ first ∷ later
+  pub reached : AllByRecursion HasReached earlier
+  -- its lists, and some packets that were taken, are an account of it
+  pub taken : List Packet
+  pub below : HasLostBelow first.queue.kind first.queue.capacity first.queue.senders first.seats taken
+  pub fault_is : fault ≡ Unsettled first.queue.leaf (accepted_count first.seats) first.queue.capacity
