@@ -37,3 +37,4 @@ mod Refused
 mod WholeRun
 mod Known
 mod WorkedMoments
+mod WorkedLost

@@ -58,7 +58,7 @@ devices-from plan terms device (qs ∷ queues) (e ∷ ends) (f ∷ feeds) (d ∷
 devices-from plan terms device queues ends feeds devices h joined closed = absurd h
 
 -- Each device was pulled when it was to be pulled.
-pub moments-closed : (terms : Terms) (feeds : List Feed) (devices : List Device) → AreClosedDevices terms feeds devices → AllByRecursion (λ (d : Device). HasMoments terms.step terms.limit d.log) devices
+pub moments-closed : (terms : Terms) (feeds : List Feed) (devices : List Device) → AreClosedDevices terms feeds devices → AllByRecursion (λ (d : Device). HasMoments terms.step terms.limit d.tree d.log) devices
 moments-closed terms [] [] closed = tt
 moments-closed terms [] (d ∷ devices) closed = absurd closed
 moments-closed terms (f ∷ feeds) [] closed = absurd closed

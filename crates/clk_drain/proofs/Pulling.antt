@@ -68,7 +68,7 @@ pulled-at moment old new visits kept before after got once kind own took =
     }
 
 -- A session that was pulled once each step was pulled so often: far less often than any session may be.
-steps-count : (step made : ℕ) → length (steps step made) ≡ made
+pub steps-count : (step made : ℕ) → length (steps step made) ≡ made
 steps-count step zero = refl
 steps-count step (suc made) = let more = length-append (steps step made) (suc made * step ∷ []) in let rest = steps-count step made in omega (arith, more, rest)
 

@@ -1,40 +1,83 @@
--- Why a run is refused.
-use Rattle.std.proofs.Common.{◌≡◌, ◌<◌, List, [], ◌∷◌, refl, sym, subst, ⊎_elim}
-use Rattle.std.specs.List.{AllByRecursion}
+-- Why a run fails.
+use Rattle.std.proofs.Common.{◌≡◌, ℕ, ◌+◌, List, [], ◌∷◌, ◌++◌, length, map, suc, refl, sym, ap, ◌∙◌, inl, inr, subst, arith, zero}
+use Rattle.std.specs.List.{flat_map, range_with_len, AllByRecursion}
+use Rattle.std.proofs.lemmas.List.{map-append}
 use Rattle.clk_packet.specs.declared.packet.Packet.{Packet}
 use Rattle.clk_packet.specs.declared.fault.Fault.{Fault}
-use Rattle.clk_packet.specs.declared.fault.Fault.TheVariants.{Memory, Unsettled}
 use Rattle.clk_packet.specs.Trace.{sent_by}
-use Rattle.clk_ruled.specs.Settle.{accepted_count, lost_count, IsFaultOfSettle}
 use Rattle.clk_tree.specs.Plan.{Planned}
+use Rattle.clk_tree.specs.PlanTree.{device_count}
+use Rattle.clk_tree.specs.PlanParts.{queues_of}
+use Rattle.clk_drain.specs.declared.running.opening.LeafQueue.{LeafQueue}
 use Rattle.clk_drain.specs.Line.{LineLists, seats_of, seats_in}
-use Rattle.clk_drain.specs.Closing.{HasSent, HasUnsettled, IsFaultOfDrain}
+use Rattle.clk_drain.specs.Outcome.{SharedQueue}
+use Rattle.clk_drain.specs.Closing.{HasSent, queue_of_line, seated}
+use Rattle.clk_drain.specs.Lost.{SeatedQueue, NamesFirstLost}
 use Rattle.clk_drain.specs.inside.Threads.{Terms, Feed}
-use Rattle.clk_drain.specs.inside.Handed.{IsReadyToClose, IsFaultOfClosing}
-use Rattle.clk_drain.specs.Run.{senders_in, AreKnown, IsFaultOfRun}
+use Rattle.clk_drain.specs.inside.Handed.{EndLists, seated_in, IsFaultOfClosing}
+use Rattle.clk_drain.specs.inside.Devices.{AreOpenFrom}
+use Rattle.clk_drain.specs.Run.{queues_at, queues_in_order, senders_in, AreKnown, HasOffered, IsUnsettledRun, IsFaultOfRun}
+use Rattle.clk_drain.proofs.Joining.{AreJoinedFeeds}
+use Rattle.clk_drain.proofs.PlanDevices.{queues_by_device}
+use Rattle.clk_drain.proofs.Settling.{all-join}
 use Rattle.clk_drain.proofs.Tallies.{all-split}
 
--- A queue that isn't settled.
-unsettled-line : (plan : List Planned) (traces : List (List Packet)) → AreKnown (senders_in plan) traces → (l : LineLists) (fault : Fault) → AllByRecursion (HasSent (sent_by traces)) (seats_of l) → IsFaultOfSettle l.tap l.closed l.leaf fault → IsFaultOfRun plan traces fault
-unsettled-line plan traces known l fault sent h = ⊎_elim
-    (λ (e : fault ≡ Memory). subst (IsFaultOfRun plan traces) (sym e) tt)
-    (λ (x : (fault ≡ Unsettled l.leaf (accepted_count (seats_of l)) l.tap.setup.capacity) × (0 < lost_count (seats_of l)) × (accepted_count (seats_of l) < l.tap.setup.capacity)).
-    subst (IsFaultOfRun plan traces) (sym x.0) (known, record { seats = seats_of l; sent = sent; accepted_are = refl; lost = x.1; below = x.2 }))
-    h
+abbrev queue_in : SeatedQueue → SharedQueue
+queue_in s = s.queue
 
-unsettled : (plan : List Planned) (traces : List (List Packet)) → AreKnown (senders_in plan) traces → (lines : List LineLists) (fault : Fault) → AllByRecursion (HasSent (sent_by traces)) (seats_in lines) → HasUnsettled lines fault → IsFaultOfRun plan traces fault
-unsettled plan traces known [] fault sent h = absurd h
-unsettled plan traces known (l ∷ lines) fault sent h =
+abbrev all_in : List (List SharedQueue) → List SharedQueue
+all_in lists = flat_map (λ (queues : List SharedQueue). queues) lists
+
+-- The queues of the lines of joined devices are those of the plan's devices.
+lines-queues : (lines : List LineLists) → map queue_in (map seated lines) ≡ map queue_of_line lines
+lines-queues [] = refl
+lines-queues (l ∷ lines) = ap (λ rest. queue_of_line l ∷ rest) (lines-queues lines)
+
+feeds-queues : (terms : Terms) (all : List (List SharedQueue)) (ends : List EndLists) (feeds : List Feed) → AreJoinedFeeds terms all ends feeds → map queue_in (seated_in feeds) ≡ all_in all
+feeds-queues terms [] [] [] h = refl
+feeds-queues terms (shared ∷ all) (e ∷ ends) (f ∷ feeds) h =
+    map-append queue_in (map seated f.lines) (seated_in feeds) ∙ (λ i. (lines-queues f.lines ∙ h.0.queues_are) i ++ feeds-queues terms all ends feeds h.1 i)
+feeds-queues terms all ends feeds h = absurd h
+
+each-of : {X : Type 0} (f : X → List SharedQueue) (xs : List X) → all_in (map f xs) ≡ flat_map f xs
+each-of f [] = refl
+each-of f (x ∷ xs) = ap (λ rest. f x ++ rest) (each-of f xs)
+
+ends-count : (plan : List Planned) (traces : List (List Packet)) (device : ℕ) (queues : List (List LeafQueue)) (ends : List EndLists) → AreOpenFrom plan traces device queues ends → device + length ends ≡ device_count plan
+ends-count plan traces device [] [] h = omega (arith, h)
+ends-count plan traces device (qs ∷ queues) (e ∷ ends) h = let rest = ends-count plan traces (suc device) queues ends h.1 in omega (arith, rest)
+ends-count plan traces device queues ends h = absurd h
+
+plan-queues : (plan : List Planned) (traces : List (List Packet)) (queues : List (List LeafQueue)) (ends : List EndLists) → AreOpenFrom plan traces 0 queues ends → all_in (queues_by_device (queues_of plan) 0 (length ends)) ≡ queues_in_order plan
+plan-queues plan traces queues ends opened =
+    let count : length ends ≡ device_count plan = (let all = ends-count plan traces 0 queues ends opened in omega (arith, all)) in
+    each-of (λ device. queues_at device 0 (queues_of plan)) (range_with_len 0 (length ends)) ∙ ap (λ n. flat_map (λ device. queues_at device 0 (queues_of plan)) (range_with_len 0 n)) count
+
+-- The seats of each line offered all that is sent.
+lines-offered : (traces : List (List Packet)) (lines : List LineLists) → AllByRecursion (HasSent (sent_by traces)) (seats_in lines) → AllByRecursion (HasOffered traces) (map seated lines)
+lines-offered traces [] sent = tt
+lines-offered traces (l ∷ lines) sent =
     let both = all-split (HasSent (sent_by traces)) (seats_of l) (seats_in lines) sent in
-    ⊎_elim (unsettled-line plan traces known l fault both.0) (λ x. unsettled plan traces known lines fault both.1 x.1) h
+    (record { senders = refl; sent = both.0 }, lines-offered traces lines both.1)
 
-undrained : (plan : List Planned) (traces : List (List Packet)) → AreKnown (senders_in plan) traces → (f : Feed) (fault : Fault) → AllByRecursion (HasSent (sent_by traces)) (seats_in f.lines) → IsFaultOfDrain f.lines fault → IsFaultOfRun plan traces fault
-undrained plan traces known f fault sent h = ⊎_elim
-    (λ (e : fault ≡ Memory). subst (IsFaultOfRun plan traces) (sym e) tt)
-    (unsettled plan traces known f.lines fault sent)
-    h
+feeds-offered : (terms : Terms) (all : List (List SharedQueue)) (ends : List EndLists) (feeds : List Feed) → AreJoinedFeeds terms all ends feeds → AllByRecursion (HasOffered terms.traces) (seated_in feeds)
+feeds-offered terms [] [] [] h = tt
+feeds-offered terms (shared ∷ all) (e ∷ ends) (f ∷ feeds) h =
+    all-join (HasOffered terms.traces) (map seated f.lines) (seated_in feeds) (lines-offered terms.traces f.lines h.0.sent) (feeds-offered terms all ends feeds h.1)
+feeds-offered terms all ends feeds h = absurd h
 
 -- A device that isn't closed.
-pub unclosed : (plan : List Planned) (terms : Terms) → AreKnown (senders_in plan) terms.traces → (feeds : List Feed) (fault : Fault) → AllByRecursion (IsReadyToClose terms) feeds → IsFaultOfClosing feeds fault → IsFaultOfRun plan terms.traces fault
-unclosed plan terms known [] fault ready h = subst (IsFaultOfRun plan terms.traces) (sym h) tt
-unclosed plan terms known (f ∷ feeds) fault ready h = ⊎_elim (undrained plan terms.traces known f fault ready.0.sent) (unclosed plan terms known feeds fault ready.1) h
+pub unclosed : (plan : List Planned) (terms : Terms) (queues : List (List LeafQueue)) (ends : List EndLists) (feeds : List Feed) (fault : Fault) → AreKnown (senders_in plan) terms.traces → AreOpenFrom plan terms.traces 0 queues ends
+    → AreJoinedFeeds terms (queues_by_device (queues_of plan) 0 (length ends)) ends feeds → IsFaultOfClosing feeds fault → IsFaultOfRun plan terms.traces fault
+unclosed plan terms queues ends feeds fault known opened joined (inl memory) = subst (IsFaultOfRun plan terms.traces) (sym memory) tt
+unclosed plan terms queues ends feeds fault known opened joined (inr names) =
+    let shared = queues_by_device (queues_of plan) 0 (length ends) in
+    subst (IsFaultOfRun plan terms.traces) (sym names.fault_is) (
+      known,
+      record {
+        queues = seated_in feeds;
+        are = feeds-queues terms shared ends feeds joined ∙ plan-queues plan terms.traces queues ends opened;
+        offered = feeds-offered terms shared ends feeds joined;
+        names = subst (NamesFirstLost (seated_in feeds)) names.fault_is names;
+      },
+    )

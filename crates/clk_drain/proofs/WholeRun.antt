@@ -107,7 +107,7 @@ pub answered-err : (visits : Bool) (plan : List Planned) (terms : Terms) (queues
     → HasEnded visits plan terms queues ends closed pulled → AreKnown (senders_in plan) terms.traces → IfErr result (IsFaultOfClosing feeds) → IfErr result (IsFaultOfRun plan terms.traces)
 answered-err visits plan terms queues ends closed pulled feeds (Ok outcome) are h known fault = tt
 answered-err visits plan terms queues ends closed pulled feeds (Err fault) are h known refused =
-    unclosed plan terms known (joined_feeds queues pulled closed) fault (run-joined visits plan terms queues ends closed pulled h).ready (subst (λ (fs : List Feed). IsFaultOfClosing fs fault) are refused)
+    unclosed plan terms queues ends (joined_feeds queues pulled closed) fault known h.opened (run-joined visits plan terms queues ends closed pulled h).joined (subst (λ (fs : List Feed). IsFaultOfClosing fs fault) are refused)
 
 -- What a run came to depends on these lists alone.
 run-same : (plan : List Planned) (traces : List (List Packet)) (step limit : ℕ) (logs other_logs : List (List Visit)) (emitted other_emitted : List (List Packet)) (tallies other_tallies : List Tally) → logs ≡ other_logs → emitted ≡ other_emitted → tallies ≡ other_tallies

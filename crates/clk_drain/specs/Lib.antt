@@ -11,4 +11,6 @@ pub mod Run
 pub mod Laws
 pub mod Examples
 pub mod RunExamples
+pub mod LostExamples
+pub mod DrainExamples
 pub mod inside

@@ -2,6 +2,8 @@
 use Rattle.std.specs.Prelude.{◌≡◌, ℕ, List, [], ◌∷◌, map, Some, None, codes}
 use Rattle.clk_packet.specs.declared.packet.Packet.{Packet}
 use Rattle.clk_packet.specs.declared.packet.Kind.TheVariants.{TailDrop}
+use Rattle.atomic_table.specs.Seated.{TableId}
+use Rattle.clk_packet.specs.declared.fault.Fault.{Fault}
 use Rattle.clk_packet.specs.declared.tally.Tally.{Tally}
 use Rattle.clk_sched.specs.declared.visit.Visit.{Visit}
 use Rattle.clk_sched.specs.Log.{asking}
@@ -10,7 +12,7 @@ use Rattle.clk_syntax.specs.Classes.{Class, sender, queue, prio, device}
 use Rattle.clk_tree.specs.Plan.{Planned}
 use Rattle.clk_drain.specs.declared.outcome.Outcome.{Outcome}
 use Rattle.clk_drain.specs.Examples.{p0_1, tally}
-use Rattle.clk_drain.specs.Run.{IsRunOutcome}
+use Rattle.clk_drain.specs.Run.{IsRunOutcome, IsFaultOfRun}
 
 -- an element by its parts
 abbrev planned : List ℕ → Class → List ℕ → Planned
@@ -89,6 +91,14 @@ closing_late = asking 0 3 0 0 None ∷ asking 1 5 0 0 (Some p1_0) ∷ []
 abbrev pub closing_pauses : List Visit
 closing_pauses = asking 0 3 0 0 None ∷ asking 1 4 0 0 (Some p1_0) ∷ asking 2 6 0 0 None ∷ []
 
+-- the closing made a pull after its last packet came out
+abbrev pub closing_goes_on : List Visit
+closing_goes_on = asking 0 3 0 0 None ∷ asking 1 4 0 0 (Some p1_0) ∷ asking 2 5 0 0 None ∷ []
+
+-- the closing made two pulls for one packet of a queue at the device
+abbrev pub closing_waits : List Visit
+closing_waits = asking 0 3 0 0 None ∷ asking 1 4 0 0 None ∷ asking 2 5 0 0 (Some p1_0) ∷ []
+
 abbrev tally_0 : Tally
 tally_0 = tally 0 (p0_0 ∷ []) (p0_1 ∷ []) []
 
@@ -138,3 +148,14 @@ with_pull_too_many = came_to ((p0_0 ∷ []) ∷ (p1_0 ∷ []) ∷ []) (pull_too_
 -- the closing of the second device began late
 abbrev pub with_closing_late : Lists
 with_closing_late = came_to ((p0_0 ∷ []) ∷ (p1_0 ∷ []) ∷ []) (log_a ∷ closing_late ∷ []) (tally_0 ∷ tally_1 ∷ [])
+
+-- the second device was pulled once more in its closing, after its last packet
+abbrev pub with_closing_goes_on : Lists
+with_closing_goes_on = came_to ((p0_0 ∷ []) ∷ (p1_0 ∷ []) ∷ []) (log_a ∷ closing_goes_on ∷ []) (tally_0 ∷ tally_1 ∷ [])
+
+-- Runs of a plan over the trace may fail with a fault, or never do. (A seat is told by the queue that it belongs to.)
+abbrev pub MayFailWith : List Planned → Fault → Type 0
+MayFailWith plan fault = TableId → IsFaultOfRun plan traces fault
+
+abbrev pub NeverFailsWith : List Planned → Fault → Type 0
+NeverFailsWith plan fault = ¬ (IsFaultOfRun plan traces fault)

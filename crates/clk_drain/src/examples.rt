@@ -1,11 +1,16 @@
-//! What the definitions of a settled outcome, and of what a run comes to, say of worked examples: which outcomes are settled, which
-//! lists a run may come to, and which aren't and never. The functions do nothing.
+//! What the definitions of a settled outcome, of what a run comes to and of why it fails say of worked examples: which of them meet each
+//! definition, and which don't. The functions do nothing.
 
 ghost use Rattle.std.specs.Prelude.{[], ◌∷◌};
 ghost use Rattle.clk_drain.specs.Outcome.{IsSettledOutcome};
-ghost use Rattle.clk_drain.specs.Examples.{sent, device_a, device_b, tallies, emitted_twice, given_twice, refused_emitted, emitted_none, asks_beside, moment_falls, below_capacity, head_held, other_held, other_emitted, packet_lost, other_evicted, packet_forgotten, tally_missing, tallies_turned, tally_twice, sender_unknown, never_sent, with_never_sent, queue_evicts, with_first_evicted, front_drop_refuses, with_last_refused, both_out, with_both, swapped_by_device, swapped_by_queue, senders_swapped, with_none_evicted, device_ab, other_gave};
+ghost use Rattle.clk_drain.specs.Examples.{p0_1, sent, device_a, device_b, tallies, emitted_twice, given_twice, refused_emitted, emitted_none, asks_beside, moment_falls, below_capacity, head_held, other_held, other_emitted, packet_lost, other_evicted, packet_forgotten, tally_missing, tallies_turned, tally_twice, sender_unknown, never_sent, with_never_sent, queue_evicts, with_first_evicted, front_drop_refuses, with_last_refused, both_out, with_both, swapped_by_device, swapped_by_queue, senders_swapped, with_none_evicted, device_ab, other_gave};
+ghost use Rattle.clk_packet.specs.declared.fault.Fault.TheVariants.{Memory, TooManyPulls, Unsettled};
+ghost use Rattle.clk_sched.specs.Tree.{queue};
+ghost use Rattle.clk_sched.specs.Examples.Priority.{p0_0};
+ghost use Rattle.clk_drain.specs.DrainExamples.{MayDrainTo, NeverDrainsTo};
+ghost use Rattle.clk_drain.specs.LostExamples.{MayName, NeverNames, refusing, evicting, none_lost, evicting_another};
 ghost use Rattle.clk_drain.specs.Moments.{HasMoments};
-ghost use Rattle.clk_drain.specs.RunExamples.{plan, wider_plan, scheduled_plan, MayComeTo, NeverComesTo, log_a, log_b, only_closing, pull_too_many, step_skipped, closing_late, closing_pauses, run_lists, device_missing, device_too_many, log_missing, emitted_missing, logs_swapped, devices_swapped, in_other_list, tally_left_out, with_pull_too_many, with_closing_late};
+ghost use Rattle.clk_drain.specs.RunExamples.{plan, wider_plan, scheduled_plan, MayComeTo, NeverComesTo, log_a, log_b, only_closing, pull_too_many, step_skipped, closing_late, closing_pauses, closing_goes_on, closing_waits, run_lists, device_missing, device_too_many, log_missing, emitted_missing, logs_swapped, devices_swapped, in_other_list, tally_left_out, with_pull_too_many, with_closing_late, with_closing_goes_on, MayFailWith, NeverFailsWith};
 
 /// Which outcomes of worked examples are settled.
 pub fn outcome_examples()
@@ -38,15 +43,37 @@ pub fn outcome_examples()
     ensures not_other_gave { ¬ (IsSettledOutcome sent (other_gave ∷ []) tallies) }
 {}
 
-/// Which logs have the moments of a run with a pull each three ticks and two at most.
+/// What draining a queue may tell, which accepted the first packet of its sender and refused the second: these two, and not the other way
+/// round.
+pub fn drain_examples()
+    ensures is_drained { MayDrainTo p0_0 p0_1 }
+    ensures not_other_accepted { NeverDrainsTo p0_1 p0_0 }
+{}
+
+/// Which logs of a device with one queue have the moments of a run with a pull each three ticks and two at most.
 pub fn moment_examples()
-    ensures is_two_steps { HasMoments 3 2 log_a }
-    ensures is_step_and_closing { HasMoments 3 2 log_b }
-    ensures is_only_closing { HasMoments 3 2 only_closing }
-    ensures not_pull_too_many { ¬ (HasMoments 3 2 pull_too_many) }
-    ensures not_step_skipped { ¬ (HasMoments 3 2 step_skipped) }
-    ensures not_closing_late { ¬ (HasMoments 3 2 closing_late) }
-    ensures not_closing_pauses { ¬ (HasMoments 3 2 closing_pauses) }
+    ensures is_two_steps { HasMoments 3 2 (queue 0) log_a }
+    ensures is_step_and_closing { HasMoments 3 2 (queue 0) log_b }
+    ensures is_only_closing { HasMoments 3 2 (queue 0) only_closing }
+    ensures not_pull_too_many { ¬ (HasMoments 3 2 (queue 0) pull_too_many) }
+    ensures not_step_skipped { ¬ (HasMoments 3 2 (queue 0) step_skipped) }
+    ensures not_closing_late { ¬ (HasMoments 3 2 (queue 0) closing_late) }
+    ensures not_closing_pauses { ¬ (HasMoments 3 2 (queue 0) closing_pauses) }
+    ensures not_closing_goes_on { ¬ (HasMoments 3 2 (queue 0) closing_goes_on) }
+    ensures not_closing_waits { ¬ (HasMoments 3 2 (queue 0) closing_waits) }
+{}
+
+/// Which of worked queues fault 21 may name, with how many packets it accepted and its capacity.
+pub fn lost_examples()
+    ensures is_alone { MayName (refusing 3 ∷ []) (Unsettled 0 1 3) }
+    ensures is_behind_a_full_one { MayName (refusing 1 ∷ evicting 3 ∷ []) (Unsettled 1 2 3) }
+    ensures not_behind_another { NeverNames (refusing 3 ∷ evicting 3 ∷ []) (Unsettled 1 2 3) }
+    ensures not_full { NeverNames (refusing 1 ∷ []) (Unsettled 0 1 1) }
+    ensures not_none_lost { NeverNames (none_lost ∷ []) (Unsettled 0 2 3) }
+    ensures not_evicting_another { NeverNames (evicting_another ∷ []) (Unsettled 1 2 3) }
+    ensures not_other_leaf { NeverNames (refusing 3 ∷ []) (Unsettled 1 1 3) }
+    ensures not_other_count { NeverNames (refusing 3 ∷ []) (Unsettled 0 0 3) }
+    ensures not_other_capacity { NeverNames (refusing 3 ∷ []) (Unsettled 0 1 4) }
 {}
 
 /// Which lists a run of a worked plan with two devices may come to.
@@ -64,4 +91,16 @@ pub fn run_examples()
     ensures not_tally_missing { NeverComesTo plan tally_left_out }
     ensures not_pull_too_many { NeverComesTo plan with_pull_too_many }
     ensures not_closing_late { NeverComesTo plan with_closing_late }
+    ensures not_closing_goes_on { NeverComesTo plan with_closing_goes_on }
+{}
+
+/// With which faults a run of worked plans may fail. The first Queue of `plan` holds one packet, and that of `wider_plan` three.
+pub fn fault_examples()
+    ensures is_memory { MayFailWith plan Memory }
+    ensures is_refused_early { MayFailWith wider_plan (Unsettled 0 1 3) }
+    ensures not_full { NeverFailsWith plan (Unsettled 0 1 1) }
+    ensures not_none_lost { NeverFailsWith wider_plan (Unsettled 0 2 3) }
+    ensures not_other_leaf { NeverFailsWith wider_plan (Unsettled 9 1 3) }
+    ensures not_other_capacity { NeverFailsWith wider_plan (Unsettled 0 1 4) }
+    ensures not_stopped_short { NeverFailsWith plan (TooManyPulls 1) }
 {}

@@ -1,10 +1,12 @@
-use Rattle.std.proofs.Common.{◌≡◌, ℕ, ◌+◌, false, true, List, [], ◌∷◌, length, map, get_or, suc, refl, sym, ap, ◌∙◌, subst, lit≤, arith, inl, inr}
+use Rattle.std.proofs.Common.{◌≡◌, ℕ, ◌+◌, false, true, List, [], ◌∷◌, length, map, take, drop, get_or, suc, refl, sym, ap, ◌∙◌, subst, lit≤, arith, inl, inr}
 use Rattle.std.proofs.lemmas.Bool.{false≢true}
 use Rattle.std.specs.List.{flat_map, AllByRecursion}
 use Rattle.clk_packet.specs.declared.packet.Packet.{Packet}
 use Rattle.clk_packet.specs.declared.packet.Kind.TheVariants.{TailDrop}
 use Rattle.clk_packet.specs.Trace.{sent_by}
 use Rattle.clk_packet.specs.Lists.{stands_in}
+use Rattle.clk_sched.specs.Log.{pulls}
+use Rattle.clk_sched.specs.Session.{LastGives}
 use Rattle.clk_sched.specs.Tree.{Tree, queue, scheduler}
 use Rattle.clk_sched.specs.Run.{IsRun}
 use Rattle.clk_sched.specs.Results.{emitted}
@@ -15,8 +17,8 @@ use Rattle.clk_drain.specs.declared.outcome.Outcome.{Outcome}
 use Rattle.clk_drain.specs.Moments.{HasMoments}
 use Rattle.clk_drain.specs.Outcome.{SharedQueue, Device, senders_to, IsSettledOutcome, IsQueueSettled}
 use Rattle.clk_drain.specs.Run.{IsDeviceOf, AreDevicesFrom, IsRunOutcome}
-use Rattle.clk_drain.specs.RunExamples.{plan, wider_plan, scheduled_plan, traces, Lists, HasLists, log_a, log_b, pull_too_many, closing_late, run_lists, device_missing, device_too_many, log_missing, emitted_missing, logs_swapped, devices_swapped, in_other_list, tally_left_out, with_pull_too_many, with_closing_late}
-use Rattle.clk_drain.proofs.WorkedMoments.{too-many, late}
+use Rattle.clk_drain.specs.RunExamples.{plan, wider_plan, scheduled_plan, traces, Lists, HasLists, log_a, log_b, pull_too_many, closing_late, closing_goes_on, run_lists, device_missing, device_too_many, log_missing, emitted_missing, logs_swapped, devices_swapped, in_other_list, tally_left_out, with_pull_too_many, with_closing_late, with_closing_goes_on}
+use Rattle.clk_drain.proofs.WorkedMoments.{moments-are, too-many, late, one-running, closing-is}
 use Rattle.clk_drain.proofs.examples.run_examples.Goals as goal
 
 -- What a run of a plan with two devices came to, device by device.
@@ -28,8 +30,8 @@ record OfTwo (planned : List Planned) (lists : Lists) : Type 0 where
   logged : lists.logs ≡ a.log ∷ b.log ∷ []
   came : lists.emitted ≡ a.emitted ∷ b.emitted ∷ []
   settled : IsSettledOutcome (sent_by traces) (a ∷ b ∷ []) lists.tallies
-  moments_a : HasMoments 3 2 a.log
-  moments_b : HasMoments 3 2 b.log
+  moments_a : HasMoments 3 2 a.tree a.log
+  moments_b : HasMoments 3 2 b.tree b.log
 
 count : (planned : List Planned) (n : ℕ) (devices : List Device) → AreDevicesFrom planned n devices → n + length devices ≡ device_count planned
 count planned n [] each = omega (arith, each)
@@ -37,7 +39,7 @@ count planned n (d ∷ devices) each = let rest = count planned (suc n) devices 
 
 of-devices : (planned : List Planned) (lists : Lists) (devices : List Device) → device_count planned ≡ 2 → AreDevicesFrom planned 0 devices
     → lists.logs ≡ map (λ (d : Device). d.log) devices → lists.emitted ≡ map (λ (d : Device). d.emitted) devices
-    → IsSettledOutcome (sent_by traces) devices lists.tallies → AllByRecursion (λ (d : Device). HasMoments 3 2 d.log) devices → OfTwo planned lists
+    → IsSettledOutcome (sent_by traces) devices lists.tallies → AllByRecursion (λ (d : Device). HasMoments 3 2 d.tree d.log) devices → OfTwo planned lists
 of-devices planned lists [] two each logs emitted settled moments = absurd (omega (arith, two, each))
 of-devices planned lists (a ∷ []) two each logs emitted settled moments = absurd (omega (arith, two, each.1))
 of-devices planned lists (a ∷ b ∷ []) two each logs emitted settled moments =
@@ -140,7 +142,10 @@ returns-clause-is_run c =
       logs_are = h.logs;
       emitted = h.emitted;
       settled = subst (IsSettledOutcome (sent_by traces) (device_a ∷ device_b ∷ [])) (sym h.tallies) run-settled;
-      moments = (record { made = 2; within = lit≤ tt; closing = 0; moments = refl }, (record { made = 1; within = lit≤ tt; closing = 1; moments = refl }, tt));
+      moments = (
+        record { running = pulls log_a; closing = []; pulls_are = refl; within = lit≤ tt; each_step = refl; each_tick = refl; stops = tt; few = lit≤ tt },
+        (record { running = take 1 (pulls log_b); closing = drop 1 (pulls log_b); pulls_are = refl; within = lit≤ tt; each_step = refl; each_tick = refl; stops = refl; few = lit≤ tt }, tt),
+      );
     }
 
 -- The first queue may hold three packets, and took one.
@@ -206,12 +211,20 @@ pub returns-clause-not_pull_too_many : goal.returns-clause-not_pull_too_many
 returns-clause-not_pull_too_many c =
     λ outcome h o.
     let t = of-two plan with_pull_too_many outcome refl h o in
-    let m : HasMoments 3 2 pull_too_many = subst (HasMoments 3 2) (sym (first-log plan with_pull_too_many t)) t.moments_a in
-    too-many m.made m.closing m.within m.moments
+    let m : HasMoments 3 2 t.a.tree pull_too_many = subst (HasMoments 3 2 t.a.tree) (sym (first-log plan with_pull_too_many t)) t.moments_a in
+    too-many (length m.running) (length m.closing) m.within (moments-are t.a.tree pull_too_many m)
 
 pub returns-clause-not_closing_late : goal.returns-clause-not_closing_late
 returns-clause-not_closing_late c =
     λ outcome h o.
     let t = of-two plan with_closing_late outcome refl h o in
-    let m : HasMoments 3 2 closing_late = subst (HasMoments 3 2) (sym (second-log plan with_closing_late t)) t.moments_b in
-    late m.made m.closing m.within m.moments
+    let m : HasMoments 3 2 t.b.tree closing_late = subst (HasMoments 3 2 t.b.tree) (sym (second-log plan with_closing_late t)) t.moments_b in
+    late (length m.running) (length m.closing) m.within (moments-are t.b.tree closing_late m)
+
+pub returns-clause-not_closing_goes_on : goal.returns-clause-not_closing_goes_on
+returns-clause-not_closing_goes_on c =
+    λ outcome h o.
+    let t = of-two plan with_closing_goes_on outcome refl h o in
+    let m : HasMoments 3 2 t.b.tree closing_goes_on = subst (HasMoments 3 2 t.b.tree) (sym (second-log plan with_closing_goes_on t)) t.moments_b in
+    let one = one-running (length m.running) (length m.closing) m.within (moments-are t.b.tree closing_goes_on m) in
+    absurd (false≢true (subst LastGives (closing-is t.b.tree closing_goes_on 1 m one) m.stops))

@@ -1,4 +1,4 @@
-use Rattle.std.proofs.Common.{◌≤◌, [], ◌∷◌, ◌++◌, rules, refl, sym, ap, ◌∙◌, subst}
+use Rattle.std.proofs.Common.{◌≤◌, [], ◌∷◌, ◌++◌, rules, refl, inl, sym, ap, ◌∙◌, subst}
 use Rattle.std.specs.Vec.Iter.{into_iter_items}
 use Rattle.std.proofs.lemmas.List.{nil_from_length}
 use Rattle.std.proofs.lemmas.List.Sorted.{IsNonDecreasingBy-from_sort_by_key}
@@ -6,19 +6,19 @@ use Rattle.std.proofs.lemmas.Result.{err_from_is_err_and}
 use Rattle.clk_packet.specs.declared.tally.Tally.{Tally}
 use Rattle.clk_drain.specs.Limits.{most_step, most_limit}
 use Rattle.clk_drain.specs.inside.Threads.{Terms, Feed}
-use Rattle.clk_drain.proofs.ClosingSteps.{AreClosing, moment-within, closing-more, next-ready, next-fault, memory-fault, all-closed}
+use Rattle.clk_drain.proofs.ClosingSteps.{AreClosing, moment-within, closing-more, next-ready, next-fault, all-closed}
 use Rattle.clk_drain.proofs.Pulling.{pulls-few}
 use Rattle.clk_drain.proofs.running.closing.close_devices.Goals as goal
 
 pub returns-in_err-with_capacity-clause-fault : goal.returns-in_err-with_capacity-clause-fault
 returns-in_err-with_capacity-clause-fault g c =
     let p = err_from_is_err_and c.from_residual.result c.from_residual.ensures.1 in
-    rw p.1 (memory-fault c.args.closings.items p.0 p.2)
+    rw p.1 (inl p.2)
 
 pub returns-in_err-with_capacity-2-clause-fault : goal.returns-in_err-with_capacity-2-clause-fault
 returns-in_err-with_capacity-2-clause-fault g c =
     let p = err_from_is_err_and c.from_residual-in_err-with_capacity-2.result c.from_residual-in_err-with_capacity-2.ensures.1 in
-    rw p.1 (memory-fault c.args.closings.items p.0 p.2)
+    rw p.1 (inl p.2)
 
 pub close-requires-clause-lines : goal.close-requires-clause-lines
 close-requires-clause-lines g c =
@@ -59,13 +59,13 @@ loop-session-preserved g c =
     let next = c.in-Some.ensures.steps.0 ∙ ap (λ x. x ∷ rest) (sym c.session.view_is) in
     let ready = next-ready terms all done rest before f c.loop-session.outcome next c.loop-session.invariant c.requires.ready in
     subst (λ (d : Feed). AreClosing terms all (done ++ d ∷ []) rest c.note.new.outcome) c.session.view_is
-    (closing-more terms all done rest before f c.in_ok-drained.drained c.loop-session.outcome c.note.new.outcome next ready c.in_ok-drained.ensures.drained
+    (closing-more terms all done rest before f c.in_ok-drained.drained c.loop-session.outcome c.note.new.outcome next ready c.in_ok-drained.ensures.drained c.in_ok-drained.ensures.reached
     (record { logs = c.in_ok-note.ensures.logs; emitted = c.in_ok-note.ensures.emitted; tallies = c.in_ok-note.ensures.tallies }) c.loop-session.invariant)
 
 pub returns-in_err-note-clause-fault : goal.returns-in_err-note-clause-fault
 returns-in_err-note-clause-fault g c =
     let p = err_from_is_err_and c.from_residual-in_err-note.result c.from_residual-in_err-note.ensures.1 in
-    rw (p.1, p.2) (memory-fault c.args.closings.items c.in_err-note.field-0.0 c.in_err-note.ensures.fault)
+    rw (p.1, p.2) (inl c.in_err-note.ensures.fault)
 
 pub returns-clause-settled : goal.returns-clause-settled
 returns-clause-settled g c =

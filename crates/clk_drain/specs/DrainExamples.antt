@@ -1,0 +1,47 @@
+-- What draining a worked session may come to.
+use Rattle.std.specs.Prelude.{ℕ, List, [], ◌∷◌, Some, false}
+use Rattle.atomic_table.specs.Seated.{TableId}
+use Rattle.clk_packet.specs.declared.packet.Packet.{Packet}
+use Rattle.clk_packet.specs.declared.packet.Kind.TheVariants.{TailDrop}
+use Rattle.clk_packet.specs.declared.tally.Tally.{Tally}
+use Rattle.clk_ruled.specs.declared.view.Setup.{Setup}
+use Rattle.clk_ruled.specs.Queue.{setup_of}
+use Rattle.clk_sched.specs.declared.visit.Visit.{Visit}
+use Rattle.clk_sched.specs.Examples.Priority.{p0_0}
+use Rattle.clk_sched.specs.Log.{asking}
+use Rattle.clk_sched.specs.Session.{Progress}
+use Rattle.clk_sched.specs.Tree.{queue}
+use Rattle.clk_drain.specs.Examples.{p0_1, tally}
+use Rattle.clk_drain.specs.Line.{LineLists}
+use Rattle.clk_drain.specs.Closing.{IsDrainedTo}
+
+-- a device with one queue, before its first pull
+abbrev pub unpulled : Progress
+unpulled = record { tree = queue 0; log = [] }
+
+-- The line of a Queue of one packet, which accepted the first packet of its sender and refused the second.
+abbrev one_room : Setup
+one_room = setup_of TailDrop 1 ((0, 2) ∷ [])
+
+abbrev pub line : TableId → LineLists
+line id =
+    record {
+      leaf = 0;
+      tap = record { id = id; setup = one_room; taken = []; gathered = [] };
+      closed =
+          record {
+            lists = record { id = id; setup = one_room; sender = 0; room = 2; next = 2; accepted = p0_0 ∷ []; refused = p0_1 ∷ []; evicted = [] };
+            is_gathered = false;
+          } ∷ [];
+    }
+
+-- a drain with one pull, which gave this packet
+abbrev pub gave : Packet → List Visit
+gave p = asking 0 1 0 0 (Some p) ∷ []
+
+-- Draining the session over the line may give this packet, and tell that its queue accepted it and refused another, or it never does.
+abbrev pub MayDrainTo : Packet → Packet → Type 0
+MayDrainTo accepted refused = (id : TableId) → IsDrainedTo unpulled (line id ∷ []) 0 (gave accepted) (accepted ∷ []) (tally 0 (accepted ∷ []) (refused ∷ []) [] ∷ [])
+
+abbrev pub NeverDrainsTo : Packet → Packet → Type 0
+NeverDrainsTo accepted refused = (id : TableId) → ¬ (IsDrainedTo unpulled (line id ∷ []) 0 (gave accepted) (accepted ∷ []) (tally 0 (accepted ∷ []) (refused ∷ []) [] ∷ []))
