@@ -25,8 +25,8 @@ use std::thread::Threads;
 ///
 /// In this order: 1 at any refused growth of memory, or where a thread is refused; 19 where the reader fails; 18 for a trace of more
 /// than 33,554,432 bytes; then by records 18 at record 1,000,001 and 14 for one that isn't a sender and a length; 15 with the least
-/// sender that the plan hasn't; 17 where a drain stops short, and 21 where a queue lost packets though it accepted fewer than its
-/// capacity; 20 where the writer fails, which has then taken a front of the report. At any other nothing is written.
+/// sender that the plan hasn't; 21 where a queue lost packets though it accepted fewer than its capacity; 20 where the writer fails,
+/// which has then taken a front of the report. At any other nothing is written.
 pub fn run_trace<H: Threads + Wait, P: Wait + Sync, R: Source, W: Sink>(
     rt: &H,
     alloc: Global,
