@@ -127,6 +127,25 @@ impl Gate for InTurns {
     }
 }
 
+/// The second offer comes only after two pulls, and once it was seen for some turns whether more are made.
+#[derive(Drop)]
+pub struct HeldForTwoPulls {
+    pub pulls: Calls,
+}
+
+impl Gate for HeldForTwoPulls {
+    fn before(&self, _sender: u16, number: u32) {
+        if number == 1 {
+            self.pulls.wait_for(2);
+            self.pulls.have_ended();
+        }
+    }
+
+    fn pulled(&self, _device: u16, _n: u64) {
+        self.pulls.add();
+    }
+}
+
 /// The first pull of device 0 and the first of device 1 wait for each other, and the first offer of sender 0 waits for both.
 #[derive(Drop)]
 pub struct DevicesMeet {

@@ -3,7 +3,7 @@
 ghost use Rattle.std.specs.Prelude.{◌≤◌};
 ghost use Rattle.clk_drain.specs.Limits.{most_limit};
 
-use crate::gates::{AllMeet, Calls, Counted, InTurns};
+use crate::gates::{AllMeet, Calls, Counted, HeldForTwoPulls, InTurns};
 use clk_drain::{Free, Gate, Outcome, run, run_with};
 use clk_packet::{FailingSource, Fault, Packet, Tally, Traces};
 use clk_rows::trees::{DRR_500_OVER_TWO, EIGHT_SENDERS};
@@ -197,6 +197,9 @@ fn contended_capacity_one(rt: HostRuntime) -> Result<(), Fault> {
     let traces = traces(alloc, records(alloc, b"0123", 50)?)?;
     let outcome = run_text(&rt, alloc, FOUR_AT_A_QUEUE, &traces, 1000, &Free)?;
     assert_all_accounted(&rt, alloc, &traces, &outcome, 4)?;
+    for tally in &outcome.tallies {
+        assert!(rt; tally.evicted.as_slice().is_empty());
+    }
     let outcome = run_text(&rt, alloc, FOUR_AT_A_FRONT_DROP_QUEUE, &traces, 1000, &Free)?;
     assert_all_accounted(&rt, alloc, &traces, &outcome, 4)?;
     for tally in &outcome.tallies {
@@ -281,6 +284,20 @@ fn queues_are_asked_while_producers_run(rt: HostRuntime) -> Result<(), Fault> {
         assert!(rt; tally.refused.as_slice().is_empty());
     }
     Ok(())
+}
+
+// While its producer is held a device is pulled as often as the limit says, and no more.
+#[test]
+fn no_device_is_pulled_beyond_the_limit(rt: HostRuntime) -> Result<(), Fault> {
+    let alloc = rt.alloc();
+    let traces = traces(alloc, records(alloc, b"0", 2)?)?;
+    let gate = HeldForTwoPulls {
+        pulls: Calls::none(),
+    };
+    let outcome = run_text(&rt, alloc, ONE_AT_A_QUEUE, &traces, 2, &gate)?;
+    assert!(rt; gate.pulls.came(), "two pulls are made while the producer is held");
+    assert_eq!(rt; gate.pulls.count(), 2);
+    assert_all_accounted(&rt, alloc, &traces, &outcome, 1)
 }
 
 #[test]

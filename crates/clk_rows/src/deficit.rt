@@ -22,6 +22,18 @@ pub const DEFICIT_TWO_QUEUES: Row = Row {
     4,1,0,0,0,1,401,1,0\n4,0,0,1,0,1,401,1,0\n",
 };
 
+/// The first three pulls of `deficit-two-queues`, whose visits the row of the visit CSV shows.
+pub const VISIT_CSV: Row = Row {
+    name: "visit-csv",
+    tree: DRR_500_OVER_TWO,
+    script: "send 0 600\nsend 1 200\nsend 1 200\npull 0\npull 0\npull 0\n",
+    answer: "0#0 600 accepted\n1#0 200 accepted\n1#1 200 accepted\n\
+    pull 0: 1#0 200\npull 0: 1#1 200\npull 0: 0#0 600\n",
+    visits: "0,1,0,1,0,0,600,0,0\n0,1,1,1,1,0,200,1,0\n0,0,0,1,1,0,200,1,0\n\
+    1,1,1,1,1,1,200,1,0\n1,0,0,1,1,1,200,1,0\n\
+    2,1,1,1,,,,0,0\n2,1,0,0,0,0,600,1,0\n2,0,0,1,0,0,600,1,0\n",
+};
+
 /// A second pull covers a head.
 pub const DEFICIT_HELD: Row = Row {
     name: "deficit-held",

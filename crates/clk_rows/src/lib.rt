@@ -17,7 +17,7 @@ pub mod trees;
 
 pub use deficit::{
     DEFICIT_HELD, DEFICIT_HELD_AT_CLOSE, DEFICIT_TWO_QUEUES, LONG_DRAIN, NESTED_DEFICIT,
-    QUANTUM_EACH,
+    QUANTUM_EACH, VISIT_CSV,
 };
 pub use devices::{TWO_DEVICES, TWO_DEVICES_DRAINED};
 pub use in_order::{PRIO_TWO_QUEUES, ROUND_ROBIN_THREE};
@@ -43,13 +43,14 @@ pub struct Row {
 }
 
 /// All scripts.
-pub const SCRIPTS: [Row; 17] = [
+pub const SCRIPTS: [Row; 18] = [
     PRIO_TWO_QUEUES,
     ROUND_ROBIN_THREE,
     TAIL_DROP_FULL,
     FRONT_DROP_FULL,
     EVICTS_OTHER_SENDER,
     DEFICIT_TWO_QUEUES,
+    VISIT_CSV,
     DEFICIT_HELD,
     DEFICIT_HELD_AT_CLOSE,
     NESTED_DEFICIT,

@@ -167,11 +167,11 @@ each-kind tap (c ∷ closed) of = (ap (λ (s : Setup). s.kind) of.0.setup, each-
 -- The queue lost packets below its capacity.
 pub lost-below : (tap new : TapLists) (closed : List ClosedLists) → AreTogether tap closed → (new.setup ≡ tap.setup) × (new.taken ≡ tap.taken) → HasEach new (lists_of closed) → IsAccounted new
     → AllByRecursion IsSharedOut (lists_of closed) → 0 < lost_count (lists_of closed) → accepted_count (lists_of closed) < tap.setup.capacity → HasLostBelow tap.setup.kind tap.setup.capacity (senders_of tap.setup) (lists_of closed) tap.taken
-lost-below tap new closed together same has a shared lost below = record {
+lost-below tap new closed together same has a dealt lost below = record {
   held = a.held;
   account = whole-account tap new closed together same has a;
   kinds = each-kind tap closed together.each;
-  shared = shared;
+  shared = dealt;
   lost = lost;
   below = below;
 }
@@ -185,11 +185,12 @@ settles tap new closed told together same has a tallies shared reached =
     let took : taken_in b.gone ≡ tap.taken = sym a.taken ∙ same.1 in
     let is = has-booked tap new closed together same has a in
     let gone = evicted-length seats ∙ ap length (sym is.out) in let came = is.came in let mine = ap length took in
-    let whole = account b a.held a.sound in record {
+    let whole = account b a.held a.sound in
+    let its-account = whole-account tap new closed together same has a in record {
       taken = refl;
       tallies = tallies;
       held = a.held;
-      account = whole-account tap new closed together same has a;
+      account = its-account;
       left = λ s. ((whole.is_last s).0, sym (is.accepted s) ∙ (whole.is_last s).1 ∙ ap (λ l. (whole.is_last s).0 ++ l) (sym (left-held b a.held a.sound s) ∙ (λ i. without (without (is.accepted s i) (is.out i)) (took i))));
       all_taken = λ many s.
           let held : a.held ≡ [] = as-many b a.held a.sound (omega (arith, many, came, gone, mine)) in

@@ -94,24 +94,9 @@ tail-shared id capacity = (
   tt,
 )
 
--- the account of a Queue of one sender, whose packet is held
-pub held-account : IsAccount TailDrop 2 (0 ∷ []) (by_sender (p0_0 ∷ [])) (λ s. of_seats (0 == s) false [] []) [] (p0_0 ∷ [])
-held-account =
-    record {
-      balances = by-senders (λ a b. without (of_these a b (p0_0 ∷ [])) [] ≡ [] ++ of_these a b (p0_0 ∷ [])) refl refl refl;
-      is_last = λ s. ([], refl);
-      rises = by-senders (λ a b. AreRising (packet_numbers (of_these a b (p0_0 ∷ [])))) (tt, tt) tt tt;
-      was_taken = λ p none. absurd none;
-      once = tt;
-      gives_known = λ p none. absurd none;
-      holds_known = of-all (λ p. stands_in p.sender (0 ∷ []) ≡ true) (p0_0 ∷ []) (refl, tt);
-      fits = lit≤ tt;
-      tail_drop = λ e. by-senders (λ a b. of_seats a false [] [] ≡ []) refl refl refl;
-    }
-
 -- the account of a Queue of one sender, whose packet was pulled
-pub tail-account : IsAccount TailDrop 1 (0 ∷ []) (by_sender (p0_0 ∷ [])) (λ s. of_seats (0 == s) false [] []) (p0_0 ∷ []) []
-tail-account =
+pub tail-account : (capacity : ℕ) → IsAccount TailDrop capacity (0 ∷ []) (by_sender (p0_0 ∷ [])) (λ s. of_seats (0 == s) false [] []) (p0_0 ∷ []) []
+tail-account capacity =
     record {
       balances = by-senders (λ a b. without (of_these a b (p0_0 ∷ [])) [] ≡ of_these a b (p0_0 ∷ []) ++ []) refl refl refl;
       is_last = λ s. (by_sender (p0_0 ∷ []) s, sym (append-nil (by_sender (p0_0 ∷ []) s)));

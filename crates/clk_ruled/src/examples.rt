@@ -40,14 +40,14 @@ pub fn settled_examples()
 /// than it may hold. Fault 21 names the queue, how many packets it accepted, and how many it may hold.
 pub fn fault_examples()
     ensures is_memory { MayRefuse (none_lost 2) 3 Memory }
-    ensures is_refused_early { MayRefuse (tail_dropped 2 []) 3 (Unsettled 3 1 2) }
+    ensures is_refused_early { MayRefuse (tail_dropped 2 (p0_0 ∷ [])) 3 (Unsettled 3 1 2) }
     ensures is_evicted_early { MayRefuse (front_dropped 5 pulled) 3 (Unsettled 3 4 5) }
     ensures not_reached { NeverRefuses (tail_dropped 1 []) 3 (Unsettled 3 1 1) }
     ensures not_none_lost { NeverRefuses (none_lost 2) 3 (Unsettled 3 1 2) }
-    ensures not_other_queue { NeverRefuses (tail_dropped 2 []) 3 (Unsettled 4 1 2) }
-    ensures not_other_count { NeverRefuses (tail_dropped 2 []) 3 (Unsettled 3 0 2) }
-    ensures not_other_capacity { NeverRefuses (tail_dropped 2 []) 3 (Unsettled 3 1 3) }
-    ensures not_other_fault { NeverRefuses (tail_dropped 2 []) 3 Read }
+    ensures not_other_queue { NeverRefuses (tail_dropped 2 (p0_0 ∷ [])) 3 (Unsettled 4 1 2) }
+    ensures not_other_count { NeverRefuses (tail_dropped 2 (p0_0 ∷ [])) 3 (Unsettled 3 0 2) }
+    ensures not_other_capacity { NeverRefuses (tail_dropped 2 (p0_0 ∷ [])) 3 (Unsettled 3 1 3) }
+    ensures not_other_fault { NeverRefuses (tail_dropped 2 (p0_0 ∷ [])) 3 Read }
     ensures not_refused_one_pulled { NeverRefuses (tail_dropped 2 (p0_1 ∷ [])) 3 (Unsettled 3 1 2) }
     ensures not_front_refused { NeverRefuses (front_refused 5) 3 (Unsettled 3 3 5) }
     ensures not_seat_of_a_queue { NeverRefuses seat_of_a_queue 3 (Unsettled 3 1 2) }
