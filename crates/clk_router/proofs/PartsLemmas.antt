@@ -1,5 +1,5 @@
 -- How the parts of a router go on by one event.
-use Rattle.std.proofs.Common.{◌≡◌, ℕ, ◌+◌, ◌<◌, ◌==◌, ◌&&◌, zero, suc, Bool, true, false, List, [], ◌∷◌, ◌++◌, length, map, drop, reverse, max, set, if◌then◌else◌, Option, Some, None, Result, Ok, Err, IfOk, OnOk, OnErr, MatchOption, Vec, slice_get, slice_set, get_or, refl, sym, ap, ap₂, ◌∙◌, subst, arith}
+use Rattle.std.proofs.Common.{◌≡◌, ℕ, ◌+◌, ◌<◌, ◌==◌, ◌&&◌, ◌||◌, zero, suc, Bool, true, false, List, [], ◌∷◌, ◌++◌, length, map, drop, reverse, max, set, if◌then◌else◌, Option, Some, None, Result, Ok, Err, IfOk, OnOk, OnErr, MatchOption, Vec, slice_get, slice_set, get_or, refl, sym, ap, ap₂, ◌∙◌, subst, arith}
 use Rattle.std.specs.Bool.{⊤}
 use Rattle.std.specs.Option.{option_map}
 use Rattle.std.specs.declared.alloc.Global.{Global}
@@ -34,7 +34,7 @@ use Rattle.clk_router.specs.declared.senders.Sender.{Sender}
 use Rattle.clk_router.specs.declared.queues.Queues.{Queues}
 use Rattle.clk_router.specs.declared.devices.Device.{Device}
 use Rattle.clk_router.specs.declared.parts.Parts.{Parts}
-use Rattle.clk_router.specs.Events.{Room, Setup, room_of, setup_of, is_at, is_of_device, Event, offered, pulled, happens_at, events_at, numbers_of, accepted_in, evicted_in, visits_in, log_of, sends_to, answers_in, at_queue, history, RunsTree}
+use Rattle.clk_router.specs.Events.{Room, Setup, room_of, setup_of, sender_numbers, is_at, is_of_device, Event, offered, pulled, happens_at, events_at, numbers_of, accepted_in, evicted_in, visits_in, log_of, sends_to, answers_in, at_queue, history, RunsTree}
 use Rattle.clk_router.specs.Course.{room_device}
 use Rattle.clk_router.specs.inside.Parts.{path_made, device_made, sender_made, sent_one_more, AreQueuesAt, IsDeviceAt, AreDevicesAt, IsAt, CanSendOn, CanCount, ChangesDevice, kept_by, CountsHere, CountsAt, Counts, KeepsAs, KeepsAsAt, LeadsOnByPull}
 use Rattle.clk_router.specs.inside.Queues.{packets_at, queue_made, OffersTo, PullsFrom, OffersAt, GivesAt}
@@ -314,6 +314,19 @@ pub kinds-set : (keeps : Keeps) (old : List Device) (d : ℕ) (before after : De
 kinds-set keeps old d before after new was is changes kind =
     kinds-changed keeps old d new changes (λ h. let first : KeepsAs keeps before = subst (KeepsAsAt keeps) was h in let next : KeepsAs keeps after = (kind.0 ∙ first.0, kind.1 ∙ first.1) in subst (KeepsAsAt keeps) (sym is) next)
 
+-- the number of the sender at a place is among those of all
+number-there : (senders : List SenderSpec) (place : ℕ) (s : SenderSpec) → slice_get senders place ≡ Some s → list_any (λ n. n == s.number) (map number_of senders) ≡ true
+number-there [] place s at = absurd (cc)
+number-there (x ∷ senders) zero s at =
+    let same : x ≡ s = cc in
+    let here : (s.number == s.number) ≡ true = grind (arith, nat_tests) in
+    ap (λ (y : SenderSpec). (y.number == s.number) || list_any (λ n. n == s.number) (map number_of senders)) same ∙ ap (λ b. b || list_any (λ n. n == s.number) (map number_of senders)) here
+number-there (x ∷ senders) (suc place) s at = ap (λ b. (x.number == s.number) || b) (number-there senders place s at) ∙ or_true (x.number == s.number)
+  where
+    or_true : (b : Bool) → (b || true) ≡ true
+    or_true true = refl
+    or_true false = refl
+
 -- An offer of the sender at a place leads on.
 pub IsAt-sent : CallsAreHistory → (setup : Setup) (events : List Event) (old mid new : Parts) (place device : ℕ) (s : Sender) (p : Packet) (outcome : Offered) → Counts mid s.queue outcome new → IsAt setup events old
     → AreRising old.numbers.items → slice_get old.paths.items s.queue ≡ Some device → slice_get old.senders.items place ≡ Some s → p.number ≡ s.sent → p.sender ≡ s.number → OffersAt old.queues.rings.items s.queue p outcome mid.queues.rings.items
@@ -321,7 +334,8 @@ pub IsAt-sent : CallsAreHistory → (setup : Setup) (events : List Event) (old m
 IsAt-sent calls setup events old mid new place device s p outcome counts at rising path here number sender offered_at senders numbers devices paths keeps =
     record {
       can_happen =
-          CanHappen-offer setup events p outcome at.can_happen (number ∙ ap (λ (t : Sender). t.sent) theirs.is ∙ ap (λ n. length (numbers_of n events)) (sym its_number))
+          CanHappen-offer setup events p outcome at.can_happen (ap (λ k. list_any (λ n. n == k) (sender_numbers setup)) its_number ∙ number-there setup.senders place theirs.spec theirs.here)
+          (number ∙ ap (λ (t : Sender). t.sent) theirs.is ∙ ap (λ n. length (numbers_of n events)) (sym its_number))
           (names-at (slice_get old.queues.rings.items s.queue) (slice_get new.queues.rings.items s.queue) p outcome offer.here)
           (λ q. its-history (history setup q more) (slice_get setup.queues q) (slice_get new.queues.rings.items q) (queues q));
       senders =
@@ -496,6 +510,7 @@ pub IsAt-made : CallsAreHistory → (trees : List Tree) (queues : List Queued) (
 IsAt-made calls trees queues senders parts run devices_are queues_are paths_are senders_are numbers_are =
     record {
       can_happen = record {
+        senders = tt;
         numbered = λ s. refl;
         devices = tt;
         runs = λ d. starts (slice_get trees d);

@@ -15,6 +15,7 @@ use Rattle.clk_tree.specs.declared.plan.parts.SenderSpec.{SenderSpec}
 use Rattle.clk_tree.specs.Plan.{Planned}
 use Rattle.clk_tree.specs.Shares.{AreTreesOf}
 use Rattle.clk_ring.specs.QueueHistory.{held}
+use Rattle.clk_router.specs.declared.limits.TheConstants.{END_OF_PACKETS}
 use Rattle.clk_router.specs.declared.queue_state.QueueState.{QueueState}
 use Rattle.clk_router.specs.Events.{Room, Setup, plan_setup, sender_numbers, Event, pulled, events_at, numbers_of, pull_in, moment_in, log_of, accepted_in, evicted_in, history, Closes}
 
@@ -65,7 +66,7 @@ device_at setup place = its_device setup.queues (slice_get setup.senders place)
 
 -- below which number of packets that were accepted at a device, and not evicted, it takes one more
 abbrev pub end_of_packets : ℕ
-end_of_packets = 2 ^ 63
+end_of_packets = END_OF_PACKETS
 
 -- The sender at a place can offer a packet: it is there, has offered fewer than 2^32 - 1 packets, and its device takes one more.
 pub record CanOffer (c : Course) (place : ℕ) : Type 0 where

@@ -1,5 +1,5 @@
 -- What happens to a router, and which events can happen one after another.
-use Rattle.std.specs.Prelude.{◌≡◌, ℕ, ◌+◌, ◌<◌, List, [], ◌∷◌, length, map, filter, fold, max, ◌==◌, ◌&&◌, Bool, false, if◌then◌else◌, Option, Some, None, MatchOption, ⊤, slice_get}
+use Rattle.std.specs.Prelude.{◌≡◌, ℕ, ◌+◌, ◌<◌, List, [], ◌∷◌, length, map, filter, fold, max, ◌==◌, ◌&&◌, Bool, true, false, if◌then◌else◌, Option, Some, None, MatchOption, ⊤, slice_get}
 use Rattle.std.specs.List.{flat_map, filter_map, range_with_len, list_any, AllByRecursion}
 use Rattle.clk_packet.specs.declared.packet.Packet.{Packet}
 use Rattle.clk_packet.specs.declared.packet.Kind.{Kind}
@@ -144,6 +144,11 @@ abbrev pub IsOfDevice : ℕ → Event → Type 0
 IsOfDevice count (offered p outcome) = ⊤
 IsOfDevice count (pulled device moment visits) = device < count
 
+-- an offer is of a sender of the setup
+abbrev pub IsOfSender : Setup → Event → Type 0
+IsOfSender setup (offered p outcome) = list_any (λ n. n == p.sender) (sender_numbers setup) ≡ true
+IsOfSender setup (pulled device moment visits) = ⊤
+
 -- a refusal names the packet that was offered
 abbrev pub NamesItsOffer : Event → Type 0
 NamesItsOffer (offered p outcome) = NamesOffer p outcome
@@ -155,9 +160,11 @@ pub record RunsTree (tree : Tree) (events : List Event) : Type 0 where
   pub pull_by_pull : pulls (log_of events) ≡ filter_map pull_in events
   pub moments : map moment_of (filter_map pull_in events) ≡ counted 0 (filter_map moment_in events)
 
--- These events can happen one after another: each sender numbers its packets from 0 on, the pulls are of devices that are there, those of
--- each are a run of its tree, refusals name the packets that were offered, and what happened to each queue is a history of it.
+-- These events can happen one after another: each offer is of a sender of the setup, each sender numbers its packets from 0 on, the pulls
+-- are of devices that are there, those of each are a run of its tree, refusals name the packets that were offered, and what happened to
+-- each queue is a history of it.
 pub record CanHappen (setup : Setup) (events : List Event) : Type 0 where
+  pub senders : AllByRecursion (IsOfSender setup) events
   pub numbered : (s : ℕ) → numbers_of s events ≡ range_with_len 0 (length (numbers_of s events))
   pub devices : AllByRecursion (IsOfDevice (length setup.trees)) events
   pub runs : (d : ℕ) → MatchOption (slice_get setup.trees d) ⊤ (λ tree. RunsTree tree (events_at setup d events))

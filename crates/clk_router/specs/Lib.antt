@@ -4,4 +4,5 @@ pub mod Accounts
 pub mod Setups
 pub mod Stored
 pub mod Course
+pub mod Examples
 pub mod inside

@@ -4,6 +4,8 @@
 mod accounts;
 mod counting;
 mod devices;
+mod examples;
+mod limits;
 mod parts;
 mod past;
 mod queue_state;
@@ -13,6 +15,8 @@ mod senders;
 
 pub use accounts::{Account, Total};
 pub use counting::CountingRouter;
+pub use examples::event_examples;
+pub use limits::END_OF_PACKETS;
 pub use queue_state::QueueState;
 pub use router::Router;
 pub use senders::{numbers_of, place_of};

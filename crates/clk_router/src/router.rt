@@ -7,23 +7,17 @@ ghost use Rattle.clk_packet.specs.declared.fault.Fault.TheVariants.{Memory};
 ghost use Rattle.clk_tree.specs.Shares.{AreTreesOf};
 ghost use Rattle.clk_router.specs.inside.Parts.{CanStand};
 
+use crate::limits::END_OF_PACKETS;
 use crate::parts::Parts;
 use crate::past::Past;
 use crate::queue_state::QueueState;
 use clk_packet::{Fault, Offered, Packet};
-use clk_sched::{Departure, Keeps, Tree, Visit, runs_conserve_packets, runs_go_on};
+use clk_sched::{
+    Departure, END_OF_MOMENTS, END_OF_PULLS, Keeps, Tree, Visit, runs_conserve_packets, runs_go_on,
+};
 use clk_tree::Plan;
 use std::alloc::Global;
 use std::marker::Model;
-
-/// From which moment on, in ticks, none is taken.
-const END_OF_MOMENTS: u64 = 1 << 44;
-
-/// From which number of its pulls on a device isn't pulled.
-const END_OF_PULLS: u64 = 1 << 63;
-
-/// From which number of packets on, that a device kept, it takes no more.
-const END_OF_PACKETS: u64 = 1 << 63;
 
 /// The senders, the queues and the devices of a plan, and what they hold. What is said of it is said of all events so far: packets that
 /// were offered, and pulls of devices.

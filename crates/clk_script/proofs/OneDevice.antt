@@ -14,7 +14,7 @@ use Rattle.clk_tree.specs.declared.plan.parts.SenderSpec.{SenderSpec}
 use Rattle.clk_tree.specs.PlanParts.{number_of}
 use Rattle.clk_report.specs.Report.{report_text}
 use Rattle.clk_script.specs.Script.{closing_moment}
-use Rattle.clk_router.specs.Events.{Room, Setup, sender_numbers, is_of_device, Event, offered, pulled, happens_at, events_at, log_of, logs_of, tally_after, answers_in, at_queue, history, IsOfDevice, RunsTree, CanHappen, pulls_from, Closes}
+use Rattle.clk_router.specs.Events.{Room, Setup, sender_numbers, is_of_device, Event, offered, pulled, happens_at, events_at, log_of, logs_of, tally_after, answers_in, at_queue, history, IsOfDevice, IsOfSender, RunsTree, CanHappen, pulls_from, Closes}
 use Rattle.clk_script.specs.Meaning.{names_of, has_several, command_of, event_text, given_text, closing_text, CloseFirst, IsClosed, ending_text, IsMeaning}
 use Rattle.clk_script.specs.inside.Recorder.{IsSound}
 use Rattle.clk_script.specs.OneDevice.{HasOneDevice, its_history, CanHappenAlone, event_line, given_line, closing_line, IsClosedAlone, ending_alone, IsMeaningAlone}
@@ -75,9 +75,15 @@ module _ (setup : Setup) (tree : Tree) (one : HasOneDevice setup tree) where
   of-device (offered p outcome ∷ events) all = (tt, of-device events all.1)
   of-device (pulled device moment visits ∷ events) all = (let its = all.0 in grind (arith, nat_tests), of-device events all.1)
 
+  of-sender : (events : List Event) → AllHere setup events → AllByRecursion (IsOfSender setup) events
+  of-sender [] all = tt
+  of-sender (offered p outcome ∷ events) all = (sym (known-here setup.queues p.sender setup.senders one.senders) ∙ all.0, of-sender events all.1)
+  of-sender (pulled device moment visits ∷ events) all = (tt, of-sender events all.1)
+
   can-several : (events : List Event) → AllHere setup events → CanHappenAlone setup tree events → CanHappen setup events
   can-several events all can =
       record {
+        senders = of-sender events all;
         numbered = can.numbered;
         devices = subst (λ ts. AllByRecursion (IsOfDevice (length ts)) events) (sym one.trees) (of-device events all);
         runs = subst (λ ts. (d : ℕ) → MatchOption (slice_get ts d) ⊤ (λ t. RunsTree t (events_at setup d events))) (sym one.trees) runs;

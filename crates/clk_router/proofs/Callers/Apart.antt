@@ -11,7 +11,7 @@ use Rattle.clk_sched.specs.Run.{IsRun}
 use Rattle.clk_tree.specs.declared.plan.parts.SenderSpec.{SenderSpec}
 use Rattle.clk_packet.specs.Lists.{AreRising}
 use Rattle.clk_tree.specs.PlanParts.{number_of}
-use Rattle.clk_router.specs.Events.{Room, Setup, Event, offered, pulled, is_at, is_of_device, happens_at, events_at, number_from, numbers_of, sends_to, answers_in, at_queue, history, IsOfDevice, NamesItsOffer, RunsTree, CanHappen}
+use Rattle.clk_router.specs.Events.{Room, Setup, Event, offered, pulled, is_at, is_of_device, happens_at, events_at, number_from, numbers_of, sends_to, answers_in, at_queue, history, IsOfDevice, IsOfSender, NamesItsOffer, RunsTree, CanHappen}
 use Rattle.clk_router.specs.Setups.{IsApart}
 
 -- tests joined by or
@@ -224,6 +224,7 @@ history-alone setup apart d q room is e events = flat-all (happens_at setup d) (
 -- what happens at a device can happen alone
 pub alone : (setup : Setup) → IsApart setup → ((tree : Tree) → IsRun tree []) → (d : ℕ) (events : List Event) → CanHappen setup events → CanHappen setup (events_at setup d events)
 alone setup apart start d events can = record {
+  senders = all-kept (IsOfSender setup) (happens_at setup d) events can.senders;
   numbered = numbered;
   devices = all-kept (IsOfDevice (length setup.trees)) (happens_at setup d) events can.devices;
   runs = runs;

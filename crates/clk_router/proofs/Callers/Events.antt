@@ -1,7 +1,7 @@
 -- How events go on by one.
 use Rattle.std.proofs.Common.{◌≡◌, ℕ, ◌+◌, ◌<◌, ◌≤◌, ◌==◌, zero, suc, Bool, true, false, List, [], ◌∷◌, ◌++◌, length, drop, map, reverse, max, fold, if◌then◌else◌, Option, Some, None, MatchOption, slice_get, subst, refl, sym, ap, ap₂, ◌∙◌, arith}
 use Rattle.std.specs.Bool.{⊤}
-use Rattle.std.specs.List.{filter_map, flat_map, range_with_len, AllByRecursion}
+use Rattle.std.specs.List.{filter_map, flat_map, range_with_len, list_any, AllByRecursion}
 use Rattle.std.proofs.lemmas.List.{append_assoc, append-nil, map-append, length-append, map-id, reverse-append}
 use Rattle.std.proofs.lemmas.List.Concat.{flat_map-append}
 use Rattle.std.proofs.lemmas.List.Elements.{filter-append, filter_map-append}
@@ -16,7 +16,7 @@ use Rattle.clk_sched.specs.Tree.{Tree}
 use Rattle.clk_sched.specs.Run.{IsRun}
 use Rattle.clk_sched.specs.Results.{asks_queue}
 use Rattle.clk_sched.specs.Session.{latest_moment}
-use Rattle.clk_router.specs.Events.{Room, Setup, Event, offered, pulled, happens_at, events_at, number_from, numbers_of, visits_in, pull_in, moment_in, log_of, answers_in, at_queue, history, IsOfDevice, NamesItsOffer, RunsTree, CanHappen, pulls_from}
+use Rattle.clk_router.specs.Events.{Room, Setup, sender_numbers, Event, offered, pulled, happens_at, events_at, number_from, numbers_of, visits_in, pull_in, moment_in, log_of, answers_in, at_queue, history, IsOfDevice, IsOfSender, NamesItsOffer, RunsTree, CanHappen, pulls_from}
 
 -- the numbers from 0 on, and the next
 range-more : (n : ℕ) → range_with_len 0 (n + 1) ≡ range_with_len 0 n ++ n ∷ []
@@ -78,11 +78,13 @@ runs-offered setup d events p outcome runs = by_test (happens_at setup d (offere
     by_test false e = subst (RunAt setup d) (sym (events-elsewhere setup d events (offered p outcome) e)) runs
 
 -- an offer leads on
-pub CanHappen-offer : (setup : Setup) (events : List Event) (p : Packet) (outcome : Offered) → CanHappen setup events → p.number ≡ length (numbers_of p.sender events) → NamesOffer p outcome
+pub CanHappen-offer : (setup : Setup) (events : List Event) (p : Packet) (outcome : Offered) → CanHappen setup events → list_any (λ n. n == p.sender) (sender_numbers setup) ≡ true → p.number ≡ length (numbers_of p.sender events)
+    → NamesOffer p outcome
     → ((q : ℕ) → MatchOption (slice_get setup.queues q) ⊤ (λ (room : Room). IsQueueHistory room.kind room.capacity (history setup q (events ++ offered p outcome ∷ []))))
     → CanHappen setup (events ++ offered p outcome ∷ [])
-CanHappen-offer setup events p outcome can number names histories =
+CanHappen-offer setup events p outcome can known number names histories =
     record {
+      senders = all-join (IsOfSender setup) events (offered p outcome ∷ []) can.senders (known, tt);
       numbered = λ s. numbers-more s events p outcome number (can.numbered s);
       devices = all-join (IsOfDevice (length setup.trees)) events (offered p outcome ∷ []) can.devices (tt, tt);
       runs = λ d. runs-offered setup d events p outcome (can.runs d);
@@ -153,6 +155,7 @@ pub CanHappen-pull : (setup : Setup) (events : List Event) (device moment : ℕ)
     → CanHappen setup (events ++ pulled device moment visits ∷ [])
 CanHappen-pull setup events device moment visits can within run histories =
     record {
+      senders = all-join (IsOfSender setup) events (pulled device moment visits ∷ []) can.senders (tt, tt);
       numbered = λ s. rw (filter_map-append (number_from s) events (pulled device moment visits ∷ []), append-nil) (can.numbered s);
       devices = all-join (IsOfDevice (length setup.trees)) events (pulled device moment visits ∷ []) can.devices (within, tt);
       runs = runs;
@@ -257,6 +260,7 @@ pub CanHappen-pulls : (setup : Setup) (events : List Event) (device t : ℕ) (mo
     → CanHappen setup (events ++ pulls_from device t more)
 CanHappen-pulls setup events device t more can within run histories =
     record {
+      senders = all-join (IsOfSender setup) events (pulls_from device t more) can.senders (no-offers t more);
       numbered = λ s. rw (pulls-add_none (number_from s) (λ d n visits. refl) events device t more) (can.numbered s);
       devices = all-join (IsOfDevice (length setup.trees)) events (pulls_from device t more) can.devices (there t more);
       runs = runs;
@@ -267,6 +271,10 @@ CanHappen-pulls setup events device t more can within run histories =
     there : (n : ℕ) (ps : List (List Visit)) → AllByRecursion (IsOfDevice (length setup.trees)) (pulls_from device n ps)
     there n [] = tt
     there n (visits ∷ ps) = (within, there (n + 1) ps)
+
+    no-offers : (n : ℕ) (ps : List (List Visit)) → AllByRecursion (IsOfSender setup) (pulls_from device n ps)
+    no-offers n [] = tt
+    no-offers n (visits ∷ ps) = (tt, no-offers (n + 1) ps)
 
     named : (n : ℕ) (ps : List (List Visit)) → AllByRecursion NamesItsOffer (pulls_from device n ps)
     named n [] = tt
