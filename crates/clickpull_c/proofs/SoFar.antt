@@ -1,8 +1,9 @@
 -- One more offer, one more packet that a pull gave, and one more pull of a drain.
-use Rattle.std.proofs.Common.{◌≡◌, ℕ, ◌+◌, ◌<◌, ◌≤◌, suc, List, [], ◌∷◌, ◌++◌, length, take, drop, get_or, slice_set, Option, Some, None, refl, sym, ap, ap₂, ◌∙◌, subst, arith, length-append, append-nil}
-use Rattle.std.proofs.lemmas.List.{drop-set-lt, length-take-le, take_more_set}
+use Rattle.std.proofs.Common.{◌≡◌, ℕ, ◌+◌, ◌<◌, ◌≤◌, ◌==◌, suc, Bool, true, false, List, [], ◌∷◌, ◌++◌, length, take, drop, get_or, slice_set, Option, Some, None, refl, sym, ap, ap₂, ◌∙◌, subst, arith, length-append, append-nil}
+use Rattle.std.proofs.lemmas.List.{drop-set-lt, length-take-le, take_more_set, take-append-le, take_all}
 use Rattle.std.proofs.Math.Seq.{take-suc}
 use Rattle.std.proofs.lemmas.Grind.{drop_more_same}
+use Rattle.std.proofs.lemmas.Bool.Decides.{nat_tests}
 use Rattle.std.specs.List.{zip}
 use Rattle.clk_packet.specs.declared.packet.Packet.{Packet}
 use Rattle.clk_router.specs.Course.{Course}
@@ -12,7 +13,7 @@ use Rattle.clickpull_c.specs.declared.values.COffered.{COffered}
 use Rattle.clickpull_c.specs.declared.values.CDeparture.{CDeparture}
 use Rattle.clickpull_c.specs.Values.{packet_in_c}
 use Rattle.clickpull_c.specs.Chains.{IsChain}
-use Rattle.clickpull_c.specs.Calls.{IsOffered, OffersOne, IsOfferedSoFar, GivesOne, DrainPull, PullsNext, with_departure, departures_of}
+use Rattle.clickpull_c.specs.Calls.{IsOffered, OffersOne, IsOfferedSoFar, GivesOne, DrainPull, PullsNext, HasRoom, with_departure, departures_of}
 use Rattle.clickpull_c.specs.inside.SoFar.{GaveSoFar, DrainedSoFar}
 use Rattle.clickpull_c.proofs.Chains.{chain-more, zip-more}
 
@@ -60,29 +61,48 @@ departures-more : (pulls : List DrainPull) (pull : DrainPull) → departures_of 
 departures-more [] pull = refl
 departures-more (p ∷ ps) pull = on-top p.moment p.got pull (departures_of (ps ++ pull ∷ [])) (departures_of ps) (departures-more ps pull)
 
-drained-more : (old mid new : Course) (device : ℕ) (before filled filled' : List CDeparture) (made given given' : ℕ) (pull : DrainPull) → DrainedSoFar old mid device before filled made given
-    → PullsNext device mid pull new → given' ≤ length before → take given' filled' ≡ take given filled ++ with_departure pull.moment pull.got [] → drop given' filled' ≡ drop given' before
+-- one more pull has room where fewer packets came out so far than there are places
+room-more : (places : ℕ) (pulls : List DrainPull) (pull : DrainPull) → HasRoom places pulls → length (departures_of pulls) < places → HasRoom places (pulls ++ pull ∷ [])
+room-more places pulls pull room low made within =
+    let longer = length-append pulls (pull ∷ []) in
+    let up_to : made ≤ length pulls = omega (arith, longer) in
+    subst (λ l. length (departures_of l) < places) (sym (take-append-le made pulls (pull ∷ []) up_to)) (by_test (made == length pulls) refl)
+  where
+    by_test : (b : Bool) → (made == length pulls) ≡ b → length (departures_of (take made pulls)) < places
+    by_test true e =
+        let all : length pulls ≤ made = grind (arith, nat_tests) in
+        subst (λ l. length (departures_of l) < places) (sym (take_all made pulls all)) low
+    by_test false e =
+        let longer = length-append pulls (pull ∷ []) in
+        let other : made < length pulls = grind (arith, nat_tests, longer) in
+        room made other
+
+drained-more : (old mid new : Course) (device : ℕ) (before filled filled' : List CDeparture) (made given given' : ℕ) (pull : DrainPull) → length filled ≡ length before → given < length filled
+    → DrainedSoFar old mid device before filled made given → PullsNext device mid pull new → given' ≤ length before → take given' filled' ≡ take given filled ++ with_departure pull.moment pull.got [] → drop given' filled' ≡ drop given' before
     → DrainedSoFar old new device before filled' (made + 1) given'
-drained-more old mid new device before filled filled' made given given' pull so_far one within gave others =
+drained-more old mid new device before filled filled' made given given' pull same low so_far one within gave others =
     let longer : length (so_far.pulls ++ pull ∷ []) ≡ made + 1 = length-append so_far.pulls (pull ∷ []) ∙ ap (λ n. n + 1) so_far.count in
+    let came : length (take given filled) ≡ given = length-take-le given filled (omega arith) in
+    let few : length (departures_of so_far.pulls) ≡ given = ap length (sym so_far.gave) ∙ came in
     record {
       pulls = so_far.pulls ++ pull ∷ [];
       chain = chain-more (PullsNext device) old mid new so_far.pulls pull so_far.chain one;
       count = longer;
+      room = room-more (length before) so_far.pulls pull so_far.room (omega (arith, few));
       within = within;
       gave = gave ∙ ap (λ l. l ++ with_departure pull.moment pull.got []) so_far.gave ∙ sym (departures-more so_far.pulls pull);
       others = others;
     }
 
-pub drained-none : (old mid new : Course) (device : ℕ) (before filled : List CDeparture) (made given moment : ℕ) → DrainedSoFar old mid device before filled made given
-    → PullsNext device mid (record { moment = moment; got = None }) new → DrainedSoFar old new device before filled (made + 1) given
-drained-none old mid new device before filled made given moment so_far one =
-    drained-more old mid new device before filled filled made given given (record { moment = moment; got = None }) so_far one so_far.within (sym (append-nil (take given filled))) so_far.others
+pub drained-none : (old mid new : Course) (device : ℕ) (before filled : List CDeparture) (made given moment : ℕ) → length filled ≡ length before → given < length filled
+    → DrainedSoFar old mid device before filled made given → PullsNext device mid (record { moment = moment; got = None }) new → DrainedSoFar old new device before filled (made + 1) given
+drained-none old mid new device before filled made given moment same low so_far one =
+    drained-more old mid new device before filled filled made given given (record { moment = moment; got = None }) same low so_far one so_far.within (sym (append-nil (take given filled))) so_far.others
 
 pub drained-some : (old mid new : Course) (device : ℕ) (before filled : List CDeparture) (made given moment : ℕ) (p : Packet) → length filled ≡ length before → given < length filled
     → DrainedSoFar old mid device before filled made given → PullsNext device mid (record { moment = moment; got = Some p }) new
     → DrainedSoFar old new device before (slice_set filled given (record { moment = moment; packet = packet_in_c p })) (made + 1) (given + 1)
 drained-some old mid new device before filled made given moment p same low so_far one =
     let y : CDeparture = record { moment = moment; packet = packet_in_c p } in
-    drained-more old mid new device before filled (slice_set filled given y) made given (given + 1) (record { moment = moment; got = Some p }) so_far one (omega arith) (take_more_set filled given y low)
+    drained-more old mid new device before filled (slice_set filled given y) made given (given + 1) (record { moment = moment; got = Some p }) same low so_far one (omega arith) (take_more_set filled given y low)
     (others-more before filled given y so_far.others)

@@ -60,10 +60,11 @@ pub record GivesOne (device moment : ℕ) (c : Course) (filled : CPacket) (next 
   pub pulled : IsPulled c next device moment (Some packet)
   pub filled_is : filled ≡ packet_in_c packet
 
--- Pulls at a moment ended: as many as wanted came out; or the last gave none; or one came out at least, and no more can be made.
+-- Pulls at a moment ended: as many as wanted came out; or fewer did, and the last gave none; or one came out at least, and no more can be
+-- made.
 pub data EndsPulls (device moment count : ℕ) (last new : Course) (given : ℕ) : Type 0 where
   full : given ≡ count → new ≡ last → EndsPulls device moment count last new given
-  gave_none : IsPulled last new device moment None → EndsPulls device moment count last new given
+  gave_none : given < count → IsPulled last new device moment None → EndsPulls device moment count last new given
   at_end : 1 ≤ given → (CanPull new device moment → ⊥) → new ≡ last → EndsPulls device moment count last new given
 
 -- A device was pulled again and again at a moment. So many packets came out, and were filled in, and the others' places are as they were.
@@ -83,8 +84,16 @@ pub record DrainPull : Type 0 where
   pub moment : ℕ
   pub got : Option Packet
 
--- a device was pulled one tick after its counted moment
+-- all packets that were accepted at a device were evicted or came out, and some were not
+abbrev pub IsEmptied : Course → ℕ → Type 0
+IsEmptied c device = accepted_at c device ≡ evicted_at c device + emitted_at c device
+
+abbrev pub HasLeft : Course → ℕ → Type 0
+HasLeft c device = evicted_at c device + emitted_at c device < accepted_at c device
+
+-- a device for which something was left was pulled one tick after its counted moment
 pub record PullsNext (device : ℕ) (c : Course) (pull : DrainPull) (next : Course) : Type 0 where
+  pub left : HasLeft c device
   pub moment : pull.moment ≡ moment_at c device + 1
   pub pulled : IsPulled c next device pull.moment pull.got
 
@@ -97,12 +106,9 @@ abbrev pub departures_of : List DrainPull → List CDeparture
 departures_of [] = []
 departures_of (pull ∷ pulls) = with_departure pull.moment pull.got (departures_of pulls)
 
--- all packets that were accepted at a device were evicted or came out, and some were not
-abbrev pub IsEmptied : Course → ℕ → Type 0
-IsEmptied c device = accepted_at c device ≡ evicted_at c device + emitted_at c device
-
-abbrev pub HasLeft : Course → ℕ → Type 0
-HasLeft c device = evicted_at c device + emitted_at c device < accepted_at c device
+-- before each of these pulls, fewer packets had come out than there are places
+abbrev pub HasRoom : ℕ → List DrainPull → Type 0
+HasRoom places pulls = (made : ℕ) → made < length pulls → length (departures_of (take made pulls)) < places
 
 -- A drain ended: nothing is left; or as many pulls were made or packets came out as were wanted; or the next moment is at its end.
 pub data EndsDrain (new : Course) (device count most made given status : ℕ) : Type 0 where
@@ -110,12 +116,13 @@ pub data EndsDrain (new : Course) (device count most made given status : ℕ) : 
   full : status ≡ NONE → HasLeft new device → (given ≡ count) ⊎ (made ≡ most) → EndsDrain new device count most made given status
   at_end : status ≡ AT_END → HasLeft new device → (CanPull new device (moment_at new device + 1) → ⊥) → EndsDrain new device count most made given status
 
--- A device was pulled one tick apart, at most so often. So many packets came out, and were filled in with their moments, and the others'
--- places are as they were.
+-- A device was pulled one tick apart, at most so often, each time with something left and a place free. So many packets came out, and were
+-- filled in with their moments, and the others' places are as they were.
 pub record IsDrained (old new : Course) (device most : ℕ) (before filled : List CDeparture) (given status : ℕ) : Type 0 where
   pub pulls : List DrainPull
   pub made : IsChain (PullsNext device) old pulls new
   pub few : length pulls ≤ most
+  pub room : HasRoom (length before) pulls
   pub within : given ≤ length before
   pub gave : take given filled ≡ departures_of pulls
   pub others : drop given filled ≡ drop given before

@@ -2,6 +2,7 @@ pub mod Answers
 pub mod Calls
 pub mod Chains
 pub mod Counts
+pub mod Examples
 pub mod Opens
 pub mod Tells
 pub mod Values

@@ -3,6 +3,7 @@
 #![tactic(auto)]
 
 mod draining;
+mod examples;
 mod handle;
 mod offering;
 mod opening;
@@ -11,5 +12,6 @@ mod statuses;
 mod telling;
 mod values;
 
+pub use examples::call_examples;
 pub use handle::{Handle, Place};
 pub use values::{CAccount, CDeparture, CFault, COffer, COffered, CPacket, CQueue, CTotal};

@@ -4,7 +4,7 @@ use Rattle.clk_router.specs.Course.{Course}
 use Rattle.clickpull_c.specs.declared.values.CPacket.{CPacket}
 use Rattle.clickpull_c.specs.declared.values.CDeparture.{CDeparture}
 use Rattle.clickpull_c.specs.Chains.{IsChain}
-use Rattle.clickpull_c.specs.Calls.{GivesOne, DrainPull, PullsNext, departures_of}
+use Rattle.clickpull_c.specs.Calls.{GivesOne, DrainPull, PullsNext, HasRoom, departures_of}
 
 -- so many pulls at a moment gave a packet each
 pub record GaveSoFar (old new : Course) (device moment : ℕ) (before filled : List CPacket) (given : ℕ) : Type 0 where
@@ -17,6 +17,7 @@ pub record DrainedSoFar (old new : Course) (device : ℕ) (before filled : List 
   pub pulls : List DrainPull
   pub chain : IsChain (PullsNext device) old pulls new
   pub count : length pulls ≡ made
+  pub room : HasRoom (length before) pulls
   pub within : given ≤ length before
   pub gave : take given filled ≡ departures_of pulls
   pub others : drop given filled ≡ drop given before

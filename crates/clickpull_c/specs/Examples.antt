@@ -1,0 +1,74 @@
+-- What pulls and drains do to a router, and what they do not: each of the latter makes one pull too many.
+use Rattle.std.specs.Prelude.{List, [], ◌∷◌, Some, None, true, false}
+use Rattle.std.proofs.Common.{lit≤}
+use Rattle.clk_packet.specs.Packets.{packet}
+use Rattle.clk_packet.specs.declared.packet.Packet.{Packet}
+use Rattle.clk_packet.specs.declared.packet.Kind.TheVariants.{TailDrop}
+use Rattle.clk_packet.specs.declared.packet.Offered.TheVariants.{Accepted}
+use Rattle.clk_sched.specs.Examples.{look}
+use Rattle.clk_sched.specs.Kinds.{keeps_nothing}
+use Rattle.clk_sched.specs.Log.{asking}
+use Rattle.clk_sched.specs.Tree.{queue, scheduler, drr, leaf, end}
+use Rattle.clk_router.specs.Events.{Setup, offered, pulled}
+use Rattle.clk_router.specs.Course.{Course, after}
+use Rattle.clickpull_c.specs.declared.values.CPacket.{CPacket}
+use Rattle.clickpull_c.specs.declared.values.CDeparture.{CDeparture}
+use Rattle.clickpull_c.specs.Values.{no_packet, packet_in_c}
+
+abbrev pub p0_0 : Packet
+p0_0 = packet 0 0 100 (lit≤ tt) (lit≤ tt)
+
+abbrev p0_1 : Packet
+p0_1 = packet 0 1 200 (lit≤ tt) (lit≤ tt)
+
+-- a queue of two packets with one sender, alone and below a DRRSched of quantum 100
+abbrev pub alone : Setup
+alone = record {
+  trees = queue 0 ∷ [];
+  queues = record { kind = TailDrop; capacity = 2; device = 0 } ∷ [];
+  senders = record { number = 0; queue = 0 } ∷ [];
+}
+
+abbrev pub scheduled : Setup
+scheduled = record { trees = scheduler (drr (100 ∷ [])) (leaf 0 end) ∷ []; queues = alone.queues; senders = alone.senders }
+
+-- a router to which nothing has happened
+abbrev pub fresh : Course
+fresh = record { setup = alone; events = []; keeps = keeps_nothing }
+
+-- the router after one pull of the queue, in which none came out
+abbrev pub fresh_pulled : Course
+fresh_pulled = after fresh (pulled 0 1 (asking 0 1 0 0 None ∷ []) ∷ [])
+
+-- one packet waits in the queue; it comes out; and a further pull gives none
+abbrev pub one_waits : Course
+one_waits = record { setup = alone; events = offered p0_0 Accepted ∷ []; keeps = keeps_nothing }
+
+abbrev pub one_out : Course
+one_out = after one_waits (pulled 0 1 (asking 0 1 0 0 (Some p0_0) ∷ []) ∷ [])
+
+abbrev pub one_out_pulled : Course
+one_out_pulled = after one_out (pulled 0 1 (asking 1 1 0 0 None ∷ []) ∷ [])
+
+-- two packets wait below the DRRSched; the first comes out; and a further pull gives none, since the second is longer than its deficit
+abbrev pub two_wait : Course
+two_wait = record { setup = scheduled; events = offered p0_0 Accepted ∷ offered p0_1 Accepted ∷ []; keeps = keeps_nothing }
+
+abbrev pub first_out : Course
+first_out = after two_wait (pulled 0 1 (look 0 1 1 0 true (Some p0_0) true ∷ asking 0 1 0 0 (Some p0_0) ∷ []) ∷ [])
+
+abbrev pub first_out_pulled : Course
+first_out_pulled = after first_out (pulled 0 2 (look 1 2 1 0 true (Some p0_1) false ∷ asking 1 2 0 0 None ∷ []) ∷ [])
+
+-- one place, before and after the first packet is filled in
+abbrev pub packet_before : List CPacket
+packet_before = no_packet ∷ []
+
+abbrev pub packet_filled : List CPacket
+packet_filled = packet_in_c p0_0 ∷ []
+
+abbrev pub departure_before : List CDeparture
+departure_before = record { moment = 0; packet = no_packet } ∷ []
+
+abbrev pub departure_filled : List CDeparture
+departure_filled = record { moment = 1; packet = packet_in_c p0_0 } ∷ []
