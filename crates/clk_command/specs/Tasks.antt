@@ -28,6 +28,13 @@ pub record IsCanonicalOf (tree : Option (List ℕ)) (text : List ℕ) : Type 0 w
   pub is_plan : IsPlanIn tree plan
   pub canonical : text ≡ canonical_text plan
 
+-- A tree was read: its source, whose failures are counted before and after, did not fail, and its text denotes this plan. Where its bytes
+-- aren't known, some text does.
+pub record WasTreeRead (tree : Option (List ℕ)) (before after : ℕ) : Type 0 where
+  pub plan : List Planned
+  pub is_plan : IsPlanIn tree plan
+  pub not_failed : after ≡ before
+
 -- Why reading a plan is refused with a fault: memory ran out, the source failed, or its text has the fault.
 abbrev pub ExplainsTree : Option (List ℕ) → Fault → Type 0
 ExplainsTree tree fault = ((fault ≡ Memory) ⊎ (fault ≡ Read)) ⊎ OfBytes tree (λ text. HasFault text fault)

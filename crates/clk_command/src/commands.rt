@@ -6,12 +6,13 @@ ghost use Rattle.std.specs.Io.KnownBytes.{Appends, Keeps};
 ghost use Rattle.clap.specs.Faults.{fault_of};
 ghost use Rattle.clap.specs.Values.{kind_of};
 ghost use Rattle.clap.specs.declared.error.kind.ErrorKind.TheVariants.{OutOfMemory, DisplayHelp, DisplayVersion};
-ghost use Rattle.clk_packet.specs.declared.fault.Fault.TheVariants.{Memory, Write};
-ghost use Rattle.clk_packet.specs.Bytes.{read_failures, write_failures};
+ghost use Rattle.clk_packet.specs.declared.fault.Fault.TheVariants.{Memory, Read, Write};
+ghost use Rattle.clk_packet.specs.Bytes.{Takes, read_failures, write_failures};
+ghost use Rattle.clk_script.specs.Script.{most_script_bytes};
 ghost use Rattle.clk_tree.specs.Plan.{Denotes};
 ghost use Rattle.clk_packet.specs.Written.{WroteWhat};
 ghost use Rattle.clk_command.specs.Tasks.{Does, ExplainsRunOver, ExplainsScriptOver, ExplainsTask, ExplainsTree, IsQuestion, IsMistake, WritesOver, ReportsOver, builtin_text};
-ghost use Rattle.clk_command.specs.Words.{program_words, task, task_in};
+ghost use Rattle.clk_command.specs.Words.{builtin, program_words, task, task_in};
 
 use crate::builtin;
 use crate::files::{FileToRead, FileToWrite};
@@ -76,11 +77,14 @@ pub fn command<
     // At such a fault, but for 1, the words are right, and what they ask for has it.
     ensures fault { IfErr result (λ fault. fault ≢ Write → fault ≢ Memory → (fault_of program_words (map string_bytes words.items) ≡ [])
         × ExplainsTask (task_in (map string_bytes words.items)) (R.Source.remaining reader.old) fault) }
-    // Where `writer` or `errors` failed the fault is 20, and 19 where `reader` failed.
+    // Where `writer` or `errors` failed the fault is 20.
     ensures write_failures { (W.Sink.failures writer.new + E.Sink.failures errors.new ≡ W.Sink.failures writer.old + E.Sink.failures errors.old)
         ⊎ (W.Sink.failures writer.new + E.Sink.failures errors.new ≡ write_failures result (W.Sink.failures writer.old + E.Sink.failures errors.old)) }
-    ensures read_failures { (R.Source.failures reader.new ≡ R.Source.failures reader.old)
-        ⊎ (R.Source.failures reader.new ≡ read_failures result (R.Source.failures reader.old)) }
+    // Where the words name no file, a read of `reader` failed exactly where the fault is 19. Else `reader` is as it was.
+    ensures read_failures { task_in (map string_bytes words.items) ≡ builtin → R.Source.failures reader.new ≡ read_failures result (R.Source.failures reader.old) }
+    ensures unread { (task_in (map string_bytes words.items) ≡ builtin) ⊎ (reader.new ≡ reader.old) }
+    // `reader` is read to one byte past the limit of scripts at most.
+    ensures limit { Takes (most_script_bytes + 1) (R.Source.remaining reader.old) (R.Source.remaining reader.new) }
 {
     match asked_by(rt.alloc(), &words) {
         Ok(asked) => {
@@ -104,8 +108,9 @@ fn perform<H: Files + AllocGlobal + Threads + Wait, P: Wait + Sync, R: Source, W
     ensures fault { IfErr result (ExplainsTask (task asked.entry) (R.Source.remaining reader.old)) }
     ensures write_failures { (W.Sink.failures writer.new ≡ W.Sink.failures writer.old)
         ⊎ (W.Sink.failures writer.new ≡ write_failures result (W.Sink.failures writer.old)) }
-    ensures read_failures { (R.Source.failures reader.new ≡ R.Source.failures reader.old)
-        ⊎ (R.Source.failures reader.new ≡ read_failures result (R.Source.failures reader.old)) }
+    ensures read_failures { task asked.entry ≡ builtin → R.Source.failures reader.new ≡ read_failures result (R.Source.failures reader.old) }
+    ensures unread { (task asked.entry ≡ builtin) ⊎ (reader.new ≡ reader.old) }
+    ensures limit { Takes (most_script_bytes + 1) (R.Source.remaining reader.old) (R.Source.remaining reader.new) }
 {
     match asked {
         Asked::Builtin => script_builtin(rt.alloc(), reader, writer),
@@ -133,8 +138,8 @@ fn script_builtin<R: Source, W: Sink>(
     ensures wrote { WroteWhat (WritesOver (Some builtin_text) (R.Source.remaining reader.old)) result (W.Sink.taken writer.old) (W.Sink.taken writer.new) }
     ensures fault { IfErr result (ExplainsScriptOver (Some builtin_text) (R.Source.remaining reader.old)) }
     ensures write_failures { W.Sink.failures writer.new ≡ write_failures result (W.Sink.failures writer.old) }
-    ensures read_failures { (R.Source.failures reader.new ≡ R.Source.failures reader.old)
-        ⊎ (R.Source.failures reader.new ≡ read_failures result (R.Source.failures reader.old)) }
+    ensures read_failures { R.Source.failures reader.new ≡ read_failures result (R.Source.failures reader.old) }
+    ensures limit { Takes (most_script_bytes + 1) (R.Source.remaining reader.old) (R.Source.remaining reader.new) }
 {
     let plan = builtin_plan(alloc)?;
     run_script(alloc, reader, writer, &plan)
@@ -214,6 +219,7 @@ fn builtin_plan(alloc: Global) -> Result<Plan, Fault>
     ensures denotes { IfOk result (Denotes builtin_text) }
     ensures fault { IfErr result (ExplainsTree (Some builtin_text)) }
     ensures not_write { IfErr result (λ fault. fault ≢ Write) }
+    ensures not_read { IfErr result (λ fault. fault ≢ Read) }
 {
     Plan::read(alloc, builtin::TEXT.as_bytes())
 }

@@ -1,4 +1,4 @@
-//! What words ask for, and what is written with visits, on examples: functions that do nothing and whose contracts tell it.
+//! Examples of what words ask for, of trees that were read, and of what is written with visits: functions whose contracts tell it.
 
 ghost use Rattle.std.specs.Prelude.{◌≡◌, ◌∷◌, [], None, Some, codes};
 ghost use Rattle.clap.specs.Faults.{fault_of};
@@ -7,7 +7,7 @@ ghost use Rattle.clk_packet.specs.declared.fault.Fault.TheVariants.{Memory, Read
 ghost use Rattle.clk_packet.specs.Examples.{success};
 ghost use Rattle.clk_script.specs.Examples.{failed};
 ghost use Rattle.clk_command.specs.Examples.{IsOneByteEach};
-ghost use Rattle.clk_command.specs.Tasks.{WroteBoth};
+ghost use Rattle.clk_command.specs.Tasks.{WasTreeRead, WroteBoth, builtin_text};
 ghost use Rattle.clk_command.specs.Words.{program_words, task_in, builtin, check, script, run};
 
 /// What some words ask for, and which kinds of error come where they are wrong.
@@ -24,6 +24,12 @@ pub fn word_examples()
     ensures no_command { fault_of program_words (codes "frob" ∷ []) ≡ UnknownArgument ∷ InvalidSubcommand ∷ [] }
     ensures help { fault_of program_words (codes "--help" ∷ []) ≡ DisplayHelp ∷ [] }
     ensures version { fault_of program_words (codes "--version" ∷ []) ≡ DisplayVersion ∷ [] }
+{}
+
+/// Trees that were not read: the source of a sound text failed, and a text breaks the grammar.
+pub fn tree_examples()
+    ensures not_after_a_failure { ¬ (WasTreeRead (Some builtin_text) 0 1) }
+    ensures not_with_a_fault { ¬ (WasTreeRead (Some (codes "s")) 0 0) }
 {}
 
 /// How no task with visits ends, whose text and visit file have a byte each: it succeeds without its visits, these are written without the

@@ -13,7 +13,7 @@ mod words;
 
 pub use clk_script::run_script;
 pub use commands::command;
-pub use examples::{visits_examples, word_examples};
+pub use examples::{tree_examples, visits_examples, word_examples};
 pub use faults::fault_line;
 pub use over::{check_tree, read_plan, run_over, run_with_visits, script_over, script_with_visits};
 pub use pace::Pace;

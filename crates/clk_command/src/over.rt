@@ -2,10 +2,12 @@
 
 ghost use Rattle.std.specs.Prelude.{◌≡◌, ◌≢◌, ◌+◌, ◌⊎◌, IfOk, IfErr};
 ghost use Rattle.clk_packet.specs.Bytes.{Takes, read_failures, write_failures};
+ghost use Rattle.clk_packet.specs.Trace.{most_trace_bytes};
 ghost use Rattle.clk_packet.specs.declared.fault.Fault.TheVariants.{Write};
+ghost use Rattle.clk_script.specs.Script.{most_script_bytes};
 ghost use Rattle.clk_syntax.specs.Limits.{most_tree_bytes};
 ghost use Rattle.clk_packet.specs.Written.{WroteWhat};
-ghost use Rattle.clk_command.specs.Tasks.{IsPlanIn, IsCanonicalOf, ExplainsTree, ExplainsScriptOver, ExplainsRunOver, WritesOver, WritesWithVisits, ReportsOver, ReportsWithVisits, WroteBoth};
+ghost use Rattle.clk_command.specs.Tasks.{IsPlanIn, IsCanonicalOf, ExplainsTree, ExplainsScriptOver, ExplainsRunOver, WritesOver, WritesWithVisits, ReportsOver, ReportsWithVisits, WasTreeRead, WroteBoth};
 
 use crate::pace::Pace;
 use crate::running::run_trace;
@@ -48,6 +50,7 @@ pub fn check_tree<T: Source, W: Sink>(
     ensures fault { IfErr result (λ fault. (fault ≡ Write) ⊎ ExplainsTree (T.Source.remaining tree.old) fault) }
     ensures read_failures { T.Source.failures tree.new ≡ read_failures result (T.Source.failures tree.old) }
     ensures write_failures { W.Sink.failures writer.new ≡ write_failures result (W.Sink.failures writer.old) }
+    ensures limit { Takes (most_tree_bytes + 1) (T.Source.remaining tree.old) (T.Source.remaining tree.new) }
 {
     let text = read_plan(alloc, tree)?.write(alloc)?;
     write_all(writer, &text)
@@ -67,7 +70,15 @@ pub fn script_over<T: Source, S: Source, W: Sink>(
     ensures wrote { WroteWhat (WritesOver (T.Source.remaining tree.old) (S.Source.remaining script.old))
         result (W.Sink.taken writer.old) (W.Sink.taken writer.new) }
     ensures fault { IfErr result (ExplainsScriptOver (T.Source.remaining tree.old) (S.Source.remaining script.old)) }
+    // A read of one of the two failed exactly where the fault is 19.
+    ensures read_failures { T.Source.failures tree.new + S.Source.failures script.new
+        ≡ read_failures result (T.Source.failures tree.old + S.Source.failures script.old) }
     ensures write_failures { W.Sink.failures writer.new ≡ write_failures result (W.Sink.failures writer.old) }
+    // Each source is read to one byte past its limit at most.
+    ensures tree_limit { Takes (most_tree_bytes + 1) (T.Source.remaining tree.old) (T.Source.remaining tree.new) }
+    ensures script_limit { Takes (most_script_bytes + 1) (S.Source.remaining script.old) (S.Source.remaining script.new) }
+    // The script is as it was, unless the tree was read.
+    ensures script_unread { (script.new ≡ script.old) ⊎ WasTreeRead (T.Source.remaining tree.old) (T.Source.failures tree.old) (T.Source.failures tree.new) }
 {
     let plan = read_plan(alloc, tree)?;
     run_script(alloc, script, writer, &plan)
@@ -88,8 +99,16 @@ pub fn script_with_visits<T: Source, S: Source, W: Sink, V: Sink>(
     ensures wrote { WroteBoth (WritesWithVisits (T.Source.remaining tree.old) (S.Source.remaining script.old))
         (W.Sink.taken writer.old) (W.Sink.taken writer.new) result (V.Sink.taken visits.old) (V.Sink.taken visits.new) }
     ensures fault { IfErr result (ExplainsScriptOver (T.Source.remaining tree.old) (S.Source.remaining script.old)) }
+    // A read of one of the two failed exactly where the fault is 19.
+    ensures read_failures { T.Source.failures tree.new + S.Source.failures script.new
+        ≡ read_failures result (T.Source.failures tree.old + S.Source.failures script.old) }
     ensures write_failures { ((W.Sink.failures writer.new ≡ write_failures result (W.Sink.failures writer.old)) × (V.Sink.failures visits.new ≡ V.Sink.failures visits.old))
         ⊎ ((W.Sink.failures writer.new ≡ W.Sink.failures writer.old) × (V.Sink.failures visits.new ≡ write_failures result (V.Sink.failures visits.old))) }
+    // Each source is read to one byte past its limit at most.
+    ensures tree_limit { Takes (most_tree_bytes + 1) (T.Source.remaining tree.old) (T.Source.remaining tree.new) }
+    ensures script_limit { Takes (most_script_bytes + 1) (S.Source.remaining script.old) (S.Source.remaining script.new) }
+    // The script is as it was, unless the tree was read.
+    ensures script_unread { (script.new ≡ script.old) ⊎ WasTreeRead (T.Source.remaining tree.old) (T.Source.failures tree.old) (T.Source.failures tree.new) }
 {
     let plan = read_plan(alloc, tree)?;
     let logs = run_script_logged(alloc, script, writer, &plan)?;
@@ -113,7 +132,15 @@ pub fn run_over<H: Threads + Wait, P: Wait + Sync, T: Source, S: Source, W: Sink
     ensures wrote { WroteWhat (ReportsOver (T.Source.remaining tree.old) (S.Source.remaining trace.old) pace)
         result (W.Sink.taken writer.old) (W.Sink.taken writer.new) }
     ensures fault { IfErr result (ExplainsRunOver (T.Source.remaining tree.old) (S.Source.remaining trace.old)) }
+    // A read of one of the two failed exactly where the fault is 19.
+    ensures read_failures { T.Source.failures tree.new + S.Source.failures trace.new
+        ≡ read_failures result (T.Source.failures tree.old + S.Source.failures trace.old) }
     ensures write_failures { W.Sink.failures writer.new ≡ write_failures result (W.Sink.failures writer.old) }
+    // Each source is read to one byte past its limit at most.
+    ensures tree_limit { Takes (most_tree_bytes + 1) (T.Source.remaining tree.old) (T.Source.remaining tree.new) }
+    ensures trace_limit { Takes (most_trace_bytes + 1) (S.Source.remaining trace.old) (S.Source.remaining trace.new) }
+    // The trace is as it was, unless the tree was read.
+    ensures trace_unread { (trace.new ≡ trace.old) ⊎ WasTreeRead (T.Source.remaining tree.old) (T.Source.failures tree.old) (T.Source.failures tree.new) }
 {
     let plan = read_plan(alloc, tree)?;
     let _ = run_trace(rt, alloc, wait, &plan, trace, writer, pace, false)?;
@@ -138,8 +165,16 @@ pub fn run_with_visits<H: Threads + Wait, P: Wait + Sync, T: Source, S: Source, 
     ensures wrote { WroteBoth (ReportsWithVisits (T.Source.remaining tree.old) (S.Source.remaining trace.old) pace)
         (W.Sink.taken writer.old) (W.Sink.taken writer.new) result (V.Sink.taken visits.old) (V.Sink.taken visits.new) }
     ensures fault { IfErr result (ExplainsRunOver (T.Source.remaining tree.old) (S.Source.remaining trace.old)) }
+    // A read of one of the two failed exactly where the fault is 19.
+    ensures read_failures { T.Source.failures tree.new + S.Source.failures trace.new
+        ≡ read_failures result (T.Source.failures tree.old + S.Source.failures trace.old) }
     ensures write_failures { ((W.Sink.failures writer.new ≡ write_failures result (W.Sink.failures writer.old)) × (V.Sink.failures visits.new ≡ V.Sink.failures visits.old))
         ⊎ ((W.Sink.failures writer.new ≡ W.Sink.failures writer.old) × (V.Sink.failures visits.new ≡ write_failures result (V.Sink.failures visits.old))) }
+    // Each source is read to one byte past its limit at most.
+    ensures tree_limit { Takes (most_tree_bytes + 1) (T.Source.remaining tree.old) (T.Source.remaining tree.new) }
+    ensures trace_limit { Takes (most_trace_bytes + 1) (S.Source.remaining trace.old) (S.Source.remaining trace.new) }
+    // The trace is as it was, unless the tree was read.
+    ensures trace_unread { (trace.new ≡ trace.old) ⊎ WasTreeRead (T.Source.remaining tree.old) (T.Source.failures tree.old) (T.Source.failures tree.new) }
 {
     let plan = read_plan(alloc, tree)?;
     let logs = run_trace(rt, alloc, wait, &plan, trace, writer, pace, true)?;

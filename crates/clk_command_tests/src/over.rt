@@ -1,11 +1,21 @@
 //! Tasks over sources and sinks that fail in mid-stream: what was written then, and what wasn't.
 
 use crate::answer::AMPLE;
-use clk_command::{check_tree, script_with_visits};
-use clk_packet::{FailingSink, FailingSource, Fault};
+use clk_command::{Pace, check_tree, run_over, run_with_visits, script_over, script_with_visits};
+use clk_packet::{FailingSink, FailingSource, Fault, read_up_to};
 use clk_rows::PRIO_TWO_QUEUES;
 use std::alloc::{AllocError, Global};
+use std::process::Abort;
+use std::sync::Wait;
 use std::test::Fail;
+use std::thread::Threads;
+
+const TRACE: &str = "0,10\n1,20\n";
+
+const PACE: Pace = Pace {
+    step: 1,
+    limit: 1000,
+};
 
 /// A source of this text, which fails once it has given so many bytes.
 fn source(alloc: Global, text: &str, limit: usize) -> Result<FailingSource, AllocError> {
@@ -33,17 +43,131 @@ fn a_tree_may_fail_after_any_byte(rt: HostRuntime) -> Result<(), Fail> {
     Ok(())
 }
 
-/// How the script over the tree ends, what it wrote, and what its visits wrote, where a script and a visit file may fail.
-fn visited(
-    alloc: Global,
+/// The tasks that read a script or a trace after a tree.
+#[derive(Clone, Copy, Debug)]
+enum Task {
+    Script,
+    ScriptWithVisits,
+    Run,
+    RunWithVisits,
+}
+
+impl Task {
+    /// What it reads after the tree.
+    fn input(self) -> &'static str {
+        match self {
+            Task::Script | Task::ScriptWithVisits => PRIO_TWO_QUEUES.script,
+            Task::Run | Task::RunWithVisits => TRACE,
+        }
+    }
+}
+
+/// The sources and sinks of a task. A task without visits leaves the last alone.
+#[derive(Drop)]
+struct Files {
+    tree: FailingSource,
+    input: FailingSource,
+    writer: FailingSink,
+    visits: FailingSink,
+}
+
+impl Files {
+    /// Files of a task that fail once the tree has given `tree_limit` bytes, the input `limit`, and the visits have taken `room`.
+    fn new(
+        alloc: Global,
+        task: Task,
+        tree_limit: usize,
+        limit: usize,
+        room: usize,
+    ) -> Result<Files, AllocError> {
+        Ok(Files {
+            tree: source(alloc, PRIO_TWO_QUEUES.tree, tree_limit)?,
+            input: source(alloc, task.input(), limit)?,
+            writer: sink(alloc, AMPLE)?,
+            visits: sink(alloc, room)?,
+        })
+    }
+
+    /// Does the task.
+    fn perform<H: Threads + Wait + Sync + AllocGlobal>(
+        &mut self,
+        rt: &H,
+        task: Task,
+    ) -> Result<(), Fault> {
+        let alloc = rt.alloc();
+        let Files {
+            tree,
+            input,
+            writer,
+            visits,
+        } = self;
+        match task {
+            Task::Script => script_over(alloc, tree, input, writer),
+            Task::ScriptWithVisits => script_with_visits(alloc, tree, input, writer, visits),
+            Task::Run => run_over(rt, alloc, rt, tree, input, writer, PACE),
+            Task::RunWithVisits => {
+                run_with_visits(rt, alloc, rt, tree, input, writer, PACE, visits)
+            }
+        }
+    }
+}
+
+/// Fails unless the task ends by fault 19, and writes nothing. Returns the rest of its input.
+fn assert_not_read<H: Threads + Wait + Sync + AllocGlobal + Abort>(
+    rt: &H,
+    task: Task,
+    tree_limit: usize,
     limit: usize,
+) -> FailingSource {
+    let alloc = rt.alloc();
+    let mut files = Files::new(alloc, task, tree_limit, limit, AMPLE).expect(rt, "ample memory");
+    let outcome = files.perform(rt, task);
+    assert_eq!(rt;
+        outcome,
+        Err(Fault::Read),
+        "{task:?} of {tree_limit} and {limit} bytes"
+    );
+    let Files {
+        input,
+        writer,
+        visits,
+        ..
+    } = files;
+    assert!(rt;
+        writer.taken().is_empty() && visits.taken().is_empty(),
+        "{task:?}"
+    );
+    input
+}
+
+#[test]
+fn either_source_may_fail_after_any_byte(rt: HostRuntime) {
+    for task in [
+        Task::Script,
+        Task::ScriptWithVisits,
+        Task::Run,
+        Task::RunWithVisits,
+    ] {
+        for limit in 0..=task.input().len() {
+            assert_not_read(&rt, task, usize::MAX, limit);
+        }
+        for limit in 0..=PRIO_TWO_QUEUES.tree.len() {
+            // The input is not read then.
+            let mut input = assert_not_read(&rt, task, limit, usize::MAX);
+            let rest = read_up_to(rt.alloc(), &mut input, AMPLE).expect(&rt, "ample memory");
+            assert_eq!(rt; rest.as_slice(), task.input().as_bytes(), "{task:?}");
+        }
+    }
+}
+
+/// How the script with visits ends where the visits' sink takes `room` bytes, and its files.
+fn visited<H: Threads + Wait + Sync + AllocGlobal>(
+    rt: &H,
     room: usize,
-) -> Result<(Result<(), Fault>, FailingSink, FailingSink), AllocError> {
-    let mut tree = source(alloc, PRIO_TWO_QUEUES.tree, usize::MAX)?;
-    let mut script = source(alloc, PRIO_TWO_QUEUES.script, limit)?;
-    let (mut writer, mut visits) = (sink(alloc, AMPLE)?, sink(alloc, room)?);
-    let outcome = script_with_visits(alloc, &mut tree, &mut script, &mut writer, &mut visits);
-    Ok((outcome, writer, visits))
+) -> Result<(Result<(), Fault>, Files), AllocError> {
+    let task = Task::ScriptWithVisits;
+    let mut files = Files::new(rt.alloc(), task, usize::MAX, usize::MAX, room)?;
+    Ok((files.perform(rt, task), files))
 }
 
 #[test]
@@ -54,23 +178,16 @@ fn visits_come_after_the_whole_answer(rt: HostRuntime) -> Result<(), Fail> {
         PRIO_TWO_QUEUES.visits
     )?;
     for room in 0..text.len() {
-        let (outcome, writer, visits) = visited(rt.alloc(), usize::MAX, room)?;
+        let (outcome, files) = visited(&rt, room)?;
         assert_eq!(rt; outcome, Err(Fault::Write), "{room} bytes");
-        assert_eq!(rt; writer.taken(), answer);
-        assert_eq!(rt; visits.taken(), &text.as_bytes()[..room]);
+        assert_eq!(rt; files.writer.taken(), answer);
+        assert_eq!(rt; files.visits.taken(), &text.as_bytes()[..room]);
     }
-    let (outcome, writer, visits) = visited(rt.alloc(), usize::MAX, text.len())?;
+    let (outcome, files) = visited(&rt, text.len())?;
     assert_eq!(rt; outcome, Ok(()));
-    assert_eq!(rt; (writer.taken(), visits.taken()), (answer, text.as_bytes()));
-    Ok(())
-}
-
-#[test]
-fn a_script_that_fails_writes_neither_answer_nor_visits(rt: HostRuntime) -> Result<(), Fail> {
-    for limit in 0..=PRIO_TWO_QUEUES.script.len() {
-        let (outcome, writer, visits) = visited(rt.alloc(), limit, AMPLE)?;
-        assert_eq!(rt; outcome, Err(Fault::Read), "{limit} bytes");
-        assert!(rt; writer.taken().is_empty() && visits.taken().is_empty());
-    }
+    assert_eq!(rt;
+        (files.writer.taken(), files.visits.taken()),
+        (answer, text.as_bytes())
+    );
     Ok(())
 }
