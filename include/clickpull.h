@@ -3,7 +3,7 @@
  * This header stands outside what is proved. Proved are the calls of the library that it declares (clk_router_open and so on); the
  * functions that callers use (clk_open and so on) test pointers and hand on, and are tested by tests/library.
  *
- * A router is made of a text in Click's language (README and docs/FORMATS.md have all elements):
+ * A router is made of a text in Click's language (docs/LIBRARY.md and docs/FORMATS.md have all elements):
  *
  *     lan :: Sender(0); waiting :: Queue(4); pace :: Shaper(1, 3); uplink :: ToDevice(ppp0);
  *     lan -> waiting -> pace -> uplink;

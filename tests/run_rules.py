@@ -1,4 +1,4 @@
-"""The rules of trees, queues and reports once more, for tests/soak: they are told here by themselves, from what README and
+"""The rules of trees, queues and reports once more, for tests/soak: they are told here by themselves, from what docs/PROGRAM.md and
 docs/FORMATS.md say, and nothing of the crates is read.
 
 A run is judged by its tree, the trace, the report and the visit file alone. The log has one thing in it that the rules leave

@@ -1,24 +1,48 @@
-"""The lines of C that README shows, built and run. It stands outside what is proved."""
+"""The programs that docs/LIBRARY.md shows, built and run. It stands outside what is proved."""
 import re
+import sys
+from collections.abc import Callable
 
-from of_library.checks import Check, Failed, LeftOut, Setting, compare, need, run
+from of_library.checks import Check, Failed, Setting, compare, need, run
 from of_library.compiled import WARNINGS, heap
+from of_library.module import environment
 
 
-def readme_is_right(setting: Setting) -> str:
-    """README's program is built without a warning, and prints what README says."""
-    need("cc")
-    part = (setting.root / "README.md").read_text().partition("\n## In C, C++ and Python\n")[2].partition("\n## ")[0]
-    if not part:
-        raise LeftOut("README shows no C")
-    found = re.search(r"```c\n(.*?)```\n.*?```\n(.*?)```", part, re.DOTALL)
+def shown(setting: Setting, part: str, language: str) -> tuple[str, str]:
+    """The first program of a part of the page, and what the page says that it prints."""
+    text = (setting.root / "docs" / "LIBRARY.md").read_text().partition(f"\n## {part}\n")[2].partition("\n## ")[0]
+    found = re.search(rf"```{language}\n(.*?)```\n.*?```\n(.*?)```", text, re.DOTALL)
     if found is None:
-        raise Failed("README's part on C has no program with its answer")
-    source, program = setting.made / "first.c", setting.made / "first"
-    source.write_text(found[1])
-    run(["cc", "-std=c11", *WARNINGS, "-I", setting.include, source, "-o", program, setting.archive, heap()])
-    compare("what README's program prints", run([program]), found[2])
-    return f"{len(found[1].splitlines())} lines"
+        raise Failed(f"docs/LIBRARY.md, {part}: has no program with its answer")
+    return found[1], found[2]
 
 
-CHECKS = [Check("README's lines of C", readme_is_right)]
+def compiled(part: str, language: str, compiler: str, standard: str) -> Callable[[Setting], str]:
+    """A program is built without a warning, and prints what the page says."""
+
+    def check(setting: Setting) -> str:
+        need(compiler)
+        program, answer = shown(setting, part, language)
+        source, made = setting.made / f"shown.{language}", setting.made / f"shown_{language}"
+        source.write_text(program)
+        run([compiler, standard, *WARNINGS, "-I", setting.include, source, "-o", made, setting.archive, heap()])
+        compare(f"what the program in {language} prints", run([made]), answer)
+        return f"{len(program.splitlines())} lines"
+
+    return check
+
+
+def python_is_right(setting: Setting) -> str:
+    """The program in Python prints what the page says."""
+    program, answer = shown(setting, "In Python", "python")
+    source = setting.made / "shown.py"
+    source.write_text(program)
+    compare("what the program in Python prints", run([sys.executable, source], environment(setting)), answer)
+    return f"{len(program.splitlines())} lines"
+
+
+CHECKS = [
+    Check("C in docs/LIBRARY.md", compiled("In C", "c", "cc", "-std=c11")),
+    Check("C++ in docs/LIBRARY.md", compiled("In C++", "cpp", "c++", "-std=c++17")),
+    Check("Python in docs/LIBRARY.md", python_is_right),
+]

@@ -1,4 +1,4 @@
-//! The library in a few lines, which README shows.
+//! The library in a few lines, which docs/LIBRARY.md shows.
 
 use clk_drain::{Free, run};
 use clk_packet::{Fault, FromRead, Traces};

@@ -295,7 +295,10 @@ fn no_device_is_pulled_beyond_the_limit(rt: HostRuntime) -> Result<(), Fault> {
         pulls: Calls::none(),
     };
     let outcome = run_text(&rt, alloc, ONE_AT_A_QUEUE, &traces, 2, &gate)?;
-    assert!(rt; gate.pulls.came(), "two pulls are made while the producer is held");
+    assert!(rt;
+        gate.pulls.came(),
+        "two pulls are made while the producer is held"
+    );
     assert_eq!(rt; gate.pulls.count(), 2);
     assert_all_accounted(&rt, alloc, &traces, &outcome, 1)
 }

@@ -20,9 +20,7 @@ pub use laws::{
     closing_bound_is_enough, runs_can_go_on, runs_conserve_packets, runs_go_on,
     runs_leave_no_choice, runs_share_out,
 };
-pub use limits::{
-    END_OF_DRAINED_PULLS, END_OF_DRAINS, END_OF_MOMENTS, END_OF_PULLS, MAX_LEFT,
-};
+pub use limits::{END_OF_DRAINED_PULLS, END_OF_DRAINS, END_OF_MOMENTS, END_OF_PULLS, MAX_LEFT};
 pub use session::Session;
 pub use session::departures::Departure;
 pub use session::keeps::Keeps;
