@@ -133,11 +133,13 @@ tallied sent d tallies l ready c shared own =
     let out : List Packet = all_evicted (seats_of l) in
     let came = ready.emitted c.sender own.named in
     let left : without c.accepted out ≡ of_sender c.sender d.emitted = ap (λ accepted. without accepted out) (sym own.accepted) ∙ ready.settled.is.all_taken ready.taken c.sender ∙ sym came in record {
-      shared = shared.2;
-      emitted = subst (IsDealt c.accepted (filter (has_packet out) c.accepted)) left (dealt (has_packet out) c.accepted);
+      tally = record {
+        offered_are = shared.2;
+        accepted_are = subst (IsDealt c.accepted (filter (has_packet out) c.accepted)) left (dealt (has_packet out) c.accepted);
+        tail_drop = λ k. none-filtered out c.accepted (none-put_out l ready.settled ready.apart k);
+        front_drop = own.front_drop;
+      };
       given = ap (of_sender c.sender) (sym ready.given) ∙ sym came;
-      tail_drop = λ k. none-filtered out c.accepted (none-put_out l ready.settled ready.apart k);
-      front_drop = own.front_drop;
     }
 
 each-tallied : (sent : ℕ → List Packet) (d : Device) (tallies : List Tally) (l : LineLists) → IsReady sent d tallies l → (seats : List SeatLists) → AreFound tallies (all_evicted (seats_of l)) seats

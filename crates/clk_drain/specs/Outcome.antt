@@ -3,10 +3,9 @@ use Rattle.std.specs.Prelude.{◌≡◌, ℕ, ◌+◌, ◌<◌, ◌≤◌, ◌==
 use Rattle.std.specs.List.{flat_map, AllByRecursion}
 use Rattle.clk_packet.specs.declared.packet.Packet.{Packet}
 use Rattle.clk_packet.specs.declared.packet.Kind.{Kind}
-use Rattle.clk_packet.specs.declared.packet.Kind.TheVariants.{TailDrop, FrontDrop}
 use Rattle.clk_packet.specs.declared.tally.Tally.{Tally}
 use Rattle.clk_packet.specs.Lists.{of_sender, stands_in, AreRising}
-use Rattle.clk_ruled.specs.Queue.{IsDealt}
+use Rattle.clk_packet.specs.Dealt.{IsTallyOf}
 use Rattle.clk_sched.specs.declared.visit.Visit.{Visit}
 use Rattle.clk_sched.specs.Tree.{Tree}
 use Rattle.clk_sched.specs.Run.{IsRun}
@@ -32,15 +31,10 @@ senders_to d = flat_map (λ (q : SharedQueue). q.senders) d.queues
 
 -- What became of all that a sender sent to a queue of a device.
 pub record IsTallied (sent : ℕ → List Packet) (d : Device) (q : SharedQueue) (t : Tally) : Type 0 where
-  -- each packet sent is in one of accepted and refused, both in order
-  pub shared : IsDealt (sent t.sender) t.accepted t.refused
-  -- each packet accepted is in one of evicted and emitted, both in order
-  pub emitted : IsDealt t.accepted t.evicted (of_sender t.sender d.emitted)
+  -- each packet sent was accepted or refused, and each one accepted was evicted or emitted
+  pub tally : IsTallyOf (sent t.sender) (of_sender t.sender d.emitted) q.kind t
   -- the queue gave what was emitted
   pub given : of_sender t.sender (leaf_packets d.tree q.leaf d.log) ≡ of_sender t.sender d.emitted
-  -- only a FrontDropQueue evicts, and only a Queue refuses
-  pub tail_drop : q.kind ≡ TailDrop → t.evicted ≡ []
-  pub front_drop : q.kind ≡ FrontDrop → t.refused ≡ []
 
 -- the tally of a sender, if there is one
 abbrev pub tally_for : List Tally → ℕ → Option Tally

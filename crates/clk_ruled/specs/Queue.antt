@@ -1,11 +1,12 @@
 -- A shared queue, its seats and its tap, as their callers see them.
-use Rattle.std.specs.Prelude.{◌≡◌, ℕ, ◌+◌, ◌≤◌, Bool, true, List, [], ◌∷◌, ◌++◌, length, min, max, map, ⊤, suc, ◌⊎◌, Option, Some, None}
+use Rattle.std.specs.Prelude.{◌≡◌, ℕ, ◌+◌, ◌≤◌, Bool, true, List, [], ◌∷◌, ◌++◌, length, min, max, map, ⊤, suc, Option, Some, None}
 use Rattle.atomic_table.specs.Seated.{TableId}
 use Rattle.clk_packet.specs.declared.packet.Packet.{Packet}
 use Rattle.clk_packet.specs.declared.packet.Kind.{Kind}
 use Rattle.clk_packet.specs.declared.packet.Kind.TheVariants.{TailDrop, FrontDrop}
 use Rattle.clk_packet.specs.declared.packet.Offered.{Offered}
 use Rattle.clk_packet.specs.declared.packet.Offered.TheVariants.{Accepted, Refused, Evicted}
+pub use Rattle.clk_packet.specs.Dealt.{IsDealt}
 use Rattle.clk_ruled.specs.declared.view.Setup.{Setup}
 use Rattle.clk_ruled.specs.declared.view.Gathered.{Gathered}
 use Rattle.clk_packet.specs.Lists.{In, stands_in}
@@ -48,12 +49,6 @@ pub record TapLists : Type 0 where
 abbrev pub AreNumbered : ℕ → ℕ → List Packet → Type 0
 AreNumbered s n [] = ⊤
 AreNumbered s n (p ∷ offered) = (p.sender ≡ s) × (p.number ≡ n) × AreNumbered s (suc n) offered
-
--- Each of the packets stands in one of the two lists, in their order.
-abbrev pub IsDealt : List Packet → List Packet → List Packet → Type 0
-IsDealt [] accepted refused = (accepted ≡ []) × (refused ≡ [])
-IsDealt (p ∷ offered) accepted refused =
-    ((rest : List Packet) × (accepted ≡ p ∷ rest) × IsDealt offered rest refused) ⊎ ((rest : List Packet) × (refused ≡ p ∷ rest) × IsDealt offered accepted rest)
 
 -- Every packet that was offered, from number 0 on, is in one of accepted and refused, both in rising number.
 pub record IsShared (sender next : ℕ) (accepted refused : List Packet) : Type 0 where

@@ -26,7 +26,7 @@ returns-clause-is_drained c =
             heads = refl;
             queues = (
               record {
-                each = (record { shared = offered.0.2; emitted = inr ([], refl, (refl, refl)); given = refl; tail_drop = λ _. refl; front_drop = λ e. absurd (cc) }, tt);
+                each = (record { tally = record { offered_are = offered.0.2; accepted_are = inr ([], refl, (refl, refl)); tail_drop = λ _. refl; front_drop = λ e. absurd (cc) }; given = refl }, tt);
                 reached = λ _. lit≤ tt;
               },
               tt,

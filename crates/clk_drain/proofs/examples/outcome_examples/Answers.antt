@@ -39,9 +39,9 @@ b-settled accepted refused evicted =
       queues = (
         record {
           each = (
-            record { shared = inl ([], refl, (refl, refl)); emitted = inl ([], refl, (refl, refl)); given = refl; tail_drop = λ e. absurd (cc); front_drop = λ _. refl },
+            record { tally = record { offered_are = inl ([], refl, (refl, refl)); accepted_are = inl ([], refl, (refl, refl)); tail_drop = λ e. absurd (cc); front_drop = λ _. refl }; given = refl },
             (
-              record { shared = inl ([], refl, (refl, refl)); emitted = inr ([], refl, (refl, refl)); given = refl; tail_drop = λ _. refl; front_drop = λ _. refl },
+              record { tally = record { offered_are = inl ([], refl, (refl, refl)); accepted_are = inr ([], refl, (refl, refl)); tail_drop = λ _. refl; front_drop = λ _. refl }; given = refl },
               tt,
             ),
           );
@@ -68,7 +68,7 @@ returns-clause-is_settled c =
           heads = refl;
           queues = (
             record {
-              each = (record { shared = inl ([], refl, inr ([], refl, (refl, refl))); emitted = inr ([], refl, (refl, refl)); given = refl; tail_drop = λ _. refl; front_drop = λ e. absurd (cc) }, tt);
+              each = (record { tally = record { offered_are = inl ([], refl, inr ([], refl, (refl, refl))); accepted_are = inr ([], refl, (refl, refl)); tail_drop = λ _. refl; front_drop = λ e. absurd (cc) }; given = refl }, tt);
               reached = λ _. lit≤ tt;
             },
             tt,
@@ -95,7 +95,7 @@ returns-clause-is_both_out c =
           heads = refl;
           queues = (
             record {
-              each = (record { shared = inl (p0_1 ∷ [], refl, inl ([], refl, (refl, refl))); emitted = inr (p0_1 ∷ [], refl, inr ([], refl, (refl, refl))); given = refl; tail_drop = λ _. refl; front_drop = λ _. refl }, tt);
+              each = (record { tally = record { offered_are = inl (p0_1 ∷ [], refl, inl ([], refl, (refl, refl))); accepted_are = inr (p0_1 ∷ [], refl, inr ([], refl, (refl, refl))); tail_drop = λ _. refl; front_drop = λ _. refl }; given = refl }, tt);
               reached = λ _. lit≤ tt;
             },
             tt,
@@ -122,15 +122,15 @@ returns-clause-is_one_device c =
           heads = refl;
           queues = (
             record {
-              each = (record { shared = inl ([], refl, inr ([], refl, (refl, refl))); emitted = inr ([], refl, (refl, refl)); given = refl; tail_drop = λ _. refl; front_drop = λ e. absurd (cc) }, tt);
+              each = (record { tally = record { offered_are = inl ([], refl, inr ([], refl, (refl, refl))); accepted_are = inr ([], refl, (refl, refl)); tail_drop = λ _. refl; front_drop = λ e. absurd (cc) }; given = refl }, tt);
               reached = λ _. lit≤ tt;
             },
             (
               record {
                 each = (
-                  record { shared = inl ([], refl, (refl, refl)); emitted = inl ([], refl, (refl, refl)); given = refl; tail_drop = λ e. absurd (cc); front_drop = λ _. refl },
+                  record { tally = record { offered_are = inl ([], refl, (refl, refl)); accepted_are = inl ([], refl, (refl, refl)); tail_drop = λ e. absurd (cc); front_drop = λ _. refl }; given = refl },
                   (
-                    record { shared = inl ([], refl, (refl, refl)); emitted = inr ([], refl, (refl, refl)); given = refl; tail_drop = λ _. refl; front_drop = λ _. refl },
+                    record { tally = record { offered_are = inl ([], refl, (refl, refl)); accepted_are = inr ([], refl, (refl, refl)); tail_drop = λ _. refl; front_drop = λ _. refl }; given = refl },
                     tt,
                   ),
                 );
@@ -149,10 +149,10 @@ pub returns-clause-not_emitted_twice : goal.returns-clause-not_emitted_twice
 returns-clause-not_emitted_twice c = λ o. let counts = ap length o.settled.0.emitted in absurd (omega (arith, counts))
 
 pub returns-clause-not_given_twice : goal.returns-clause-not_given_twice
-returns-clause-not_given_twice c = λ o. absurd (omega (arith, dealt-count (p0_0 ∷ []) [] (p0_0 ∷ p0_0 ∷ []) o.settled.0.queues.0.each.0.emitted))
+returns-clause-not_given_twice c = λ o. absurd (omega (arith, dealt-count (p0_0 ∷ []) [] (p0_0 ∷ p0_0 ∷ []) o.settled.0.queues.0.each.0.tally.accepted_are))
 
 pub returns-clause-not_refused_emitted : goal.returns-clause-not_refused_emitted
-returns-clause-not_refused_emitted c = λ o. absurd (omega (arith, dealt-count (p0_0 ∷ []) [] (p0_0 ∷ p0_1 ∷ []) o.settled.0.queues.0.each.0.emitted))
+returns-clause-not_refused_emitted c = λ o. absurd (omega (arith, dealt-count (p0_0 ∷ []) [] (p0_0 ∷ p0_1 ∷ []) o.settled.0.queues.0.each.0.tally.accepted_are))
 
 pub returns-clause-not_emitted_none : goal.returns-clause-not_emitted_none
 returns-clause-not_emitted_none c = λ o. let counts = ap length o.settled.0.emitted in absurd (omega (arith, counts))
@@ -176,13 +176,13 @@ pub returns-clause-not_other_emitted : goal.returns-clause-not_other_emitted
 returns-clause-not_other_emitted c = λ o. absurd (false≢true o.settled.1.0.own.1.0)
 
 pub returns-clause-not_packet_lost : goal.returns-clause-not_packet_lost
-returns-clause-not_packet_lost c = λ o. absurd (omega (arith, dealt-count (p2_0 ∷ []) [] [] o.settled.1.0.queues.0.each.1.0.emitted))
+returns-clause-not_packet_lost c = λ o. absurd (omega (arith, dealt-count (p2_0 ∷ []) [] [] o.settled.1.0.queues.0.each.1.0.tally.accepted_are))
 
 pub returns-clause-not_other_evicted : goal.returns-clause-not_other_evicted
-returns-clause-not_other_evicted c = λ o. absurd (omega (arith, dealt-count (p1_0 ∷ []) [] [] o.settled.1.0.queues.0.each.0.emitted))
+returns-clause-not_other_evicted c = λ o. absurd (omega (arith, dealt-count (p1_0 ∷ []) [] [] o.settled.1.0.queues.0.each.0.tally.accepted_are))
 
 pub returns-clause-not_packet_forgotten : goal.returns-clause-not_packet_forgotten
-returns-clause-not_packet_forgotten c = λ o. absurd (omega (arith, dealt-count (p0_0 ∷ p0_1 ∷ []) (p0_0 ∷ []) [] o.settled.0.queues.0.each.0.shared))
+returns-clause-not_packet_forgotten c = λ o. absurd (omega (arith, dealt-count (p0_0 ∷ p0_1 ∷ []) (p0_0 ∷ []) [] o.settled.0.queues.0.each.0.tally.offered_are))
 
 pub returns-clause-not_tally_missing : goal.returns-clause-not_tally_missing
 returns-clause-not_tally_missing c = λ o. absurd o.settled.1.0.queues.0.each.0
@@ -197,20 +197,20 @@ pub returns-clause-not_sender_unknown : goal.returns-clause-not_sender_unknown
 returns-clause-not_sender_unknown c = λ o. absurd (false≢true o.known.1.1.1.0)
 
 pub returns-clause-not_never_sent : goal.returns-clause-not_never_sent
-returns-clause-not_never_sent c = λ o. absurd (omega (arith, dealt-count (p0_0 ∷ p0_1 ∷ []) (p0_0 ∷ p0_2 ∷ []) (p0_1 ∷ []) o.settled.0.queues.0.each.0.shared))
+returns-clause-not_never_sent c = λ o. absurd (omega (arith, dealt-count (p0_0 ∷ p0_1 ∷ []) (p0_0 ∷ p0_2 ∷ []) (p0_1 ∷ []) o.settled.0.queues.0.each.0.tally.offered_are))
 
 pub returns-clause-not_queue_evicts : goal.returns-clause-not_queue_evicts
-returns-clause-not_queue_evicts c = λ o. let counts = ap length (o.settled.0.queues.0.each.0.tail_drop refl) in absurd (omega (arith, counts))
+returns-clause-not_queue_evicts c = λ o. let counts = ap length (o.settled.0.queues.0.each.0.tally.tail_drop refl) in absurd (omega (arith, counts))
 
 pub returns-clause-not_front_drop_refuses : goal.returns-clause-not_front_drop_refuses
-returns-clause-not_front_drop_refuses c = λ o. let counts = ap length (o.settled.1.0.queues.0.each.1.0.front_drop refl) in absurd (omega (arith, counts))
+returns-clause-not_front_drop_refuses c = λ o. let counts = ap length (o.settled.1.0.queues.0.each.1.0.tally.front_drop refl) in absurd (omega (arith, counts))
 
 pub returns-clause-not_swapped_by_device : goal.returns-clause-not_swapped_by_device
 returns-clause-not_swapped_by_device c = λ o. let numbers = ap (map (λ (p : Packet). p.number)) o.settled.0.emitted in absurd (cc)
 
 pub returns-clause-not_swapped_by_queue : goal.returns-clause-not_swapped_by_queue
 returns-clause-not_swapped_by_queue c =
-    λ o. let numbers = ap (map (λ (p : Packet). p.number)) (all-dealt (p0_0 ∷ p0_1 ∷ []) (p0_1 ∷ p0_0 ∷ []) o.settled.0.queues.0.each.0.emitted) in absurd (cc)
+    λ o. let numbers = ap (map (λ (p : Packet). p.number)) (all-dealt (p0_0 ∷ p0_1 ∷ []) (p0_1 ∷ p0_0 ∷ []) o.settled.0.queues.0.each.0.tally.accepted_are) in absurd (cc)
 
 pub returns-clause-not_senders_swapped : goal.returns-clause-not_senders_swapped
 returns-clause-not_senders_swapped c = λ o. let senders = ap (map (λ (p : Packet). p.sender)) o.settled.1.0.emitted in absurd (cc)

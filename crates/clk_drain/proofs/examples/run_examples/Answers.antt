@@ -104,7 +104,7 @@ run-settled =
           heads = refl;
           queues = (
             record {
-              each = (record { shared = inl ([], refl, inr ([], refl, (refl, refl))); emitted = inr ([], refl, (refl, refl)); given = refl; tail_drop = λ _. refl; front_drop = λ e. absurd (cc) }, tt);
+              each = (record { tally = record { offered_are = inl ([], refl, inr ([], refl, (refl, refl))); accepted_are = inr ([], refl, (refl, refl)); tail_drop = λ _. refl; front_drop = λ e. absurd (cc) }; given = refl }, tt);
               reached = λ _. lit≤ tt;
             },
             tt,
@@ -122,7 +122,7 @@ run-settled =
             heads = refl;
             queues = (
               record {
-                each = (record { shared = inl ([], refl, (refl, refl)); emitted = inr ([], refl, (refl, refl)); given = refl; tail_drop = λ _. refl; front_drop = λ e. absurd (cc) }, tt);
+                each = (record { tally = record { offered_are = inl ([], refl, (refl, refl)); accepted_are = inr ([], refl, (refl, refl)); tail_drop = λ _. refl; front_drop = λ e. absurd (cc) }; given = refl }, tt);
                 reached = λ lost. absurd (omega (arith, lost));
               },
               tt,

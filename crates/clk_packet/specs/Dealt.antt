@@ -1,0 +1,22 @@
+-- Packets that are dealt to two lists, and what became of a sender's packets.
+use Rattle.std.specs.Prelude.{◌≡◌, ◌⊎◌, List, [], ◌∷◌}
+use Rattle.clk_packet.specs.declared.packet.Packet.{Packet}
+use Rattle.clk_packet.specs.declared.packet.Kind.{Kind}
+use Rattle.clk_packet.specs.declared.packet.Kind.TheVariants.{TailDrop, FrontDrop}
+use Rattle.clk_packet.specs.declared.tally.Tally.{Tally}
+
+-- Each of the packets stands in one of the two lists, in their order.
+abbrev pub IsDealt : List Packet → List Packet → List Packet → Type 0
+IsDealt [] accepted refused = (accepted ≡ []) × (refused ≡ [])
+IsDealt (p ∷ offered) accepted refused =
+    ((rest : List Packet) × (accepted ≡ p ∷ rest) × IsDealt offered rest refused) ⊎ ((rest : List Packet) × (refused ≡ p ∷ rest) × IsDealt offered accepted rest)
+
+-- What became of all that a sender offered to a queue of this kind, where its device emitted these packets of the sender.
+pub record IsTallyOf (offered emitted : List Packet) (kind : Kind) (t : Tally) : Type 0 where
+  -- each packet offered was accepted or refused, both in order
+  pub offered_are : IsDealt offered t.accepted t.refused
+  -- each packet accepted was evicted or emitted, both in order
+  pub accepted_are : IsDealt t.accepted t.evicted emitted
+  -- only a FrontDropQueue evicts, and only a Queue refuses
+  pub tail_drop : kind ≡ TailDrop → t.evicted ≡ []
+  pub front_drop : kind ≡ FrontDrop → t.refused ≡ []
