@@ -3,3 +3,4 @@ pub mod Origins
 pub mod Conserved
 pub mod CameFrom
 pub mod Counted
+pub mod FewHeads

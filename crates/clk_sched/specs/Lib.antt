@@ -21,5 +21,6 @@ pub mod Bound
 pub mod Service
 pub mod Choice
 pub mod Conservation
+pub mod FewHeads
 pub mod Closing
 pub mod inside

@@ -5,6 +5,7 @@ ghost use Rattle.clk_sched.specs.Tree.{root, leaves_distinct, IsSound};
 ghost use Rattle.clk_sched.specs.Step.{GoesOn, CanGoOn};
 ghost use Rattle.clk_sched.specs.Choice.{LeavesNoChoice, PullsLeaveNoChoice};
 ghost use Rattle.clk_sched.specs.Conservation.{ConservesPackets, ConservesCounts, MakesNothing};
+ghost use Rattle.clk_sched.specs.FewHeads.{HoldsFewHeads};
 ghost use Rattle.clk_sched.specs.Service.{SharesOut};
 ghost use Rattle.clk_sched.specs.Closing.{BoundIsEnough};
 
@@ -26,11 +27,13 @@ pub fn runs_leave_no_choice()
 
 /// Each run of a tree conserves the packets of each queue, where no queue stands twice in the tree: what the queue gave is what
 /// was emitted of it, in order, and then what is held of it. So as many came out and are held as all queues gave. In any tree, each
-/// packet that is emitted or held is among those that one of its queues gave.
+/// packet that is emitted or held is among those that one of its queues gave. Of the packets of one queue, each DRRSched above the queue
+/// holds one at most, and no other scheduler holds any.
 pub fn runs_conserve_packets()
     ensures loses_nothing { (tree : _) → leaves_distinct tree ≡ true → ConservesPackets tree }
     ensures counts { (tree : _) → leaves_distinct tree ≡ true → ConservesCounts tree }
     ensures makes_nothing { (tree : _) → MakesNothing tree }
+    ensures few_heads { (tree : _) → leaves_distinct tree ≡ true → HoldsFewHeads tree }
 {}
 
 /// In each run of a tree each DRRSched and each StrideSched gives the shares that its quanta or its tickets say, within bounds.
