@@ -10,3 +10,4 @@ mod PlanLemmas
 mod RouterLemmas
 mod AskLemmas
 mod AccountLemmas
+mod Settled

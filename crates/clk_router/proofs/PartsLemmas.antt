@@ -58,7 +58,7 @@ all-there P (y ∷ xs) zero x all e = let same : y ≡ x = cc in subst P same al
 all-there P (y ∷ xs) (suc i) x all e = all-there P xs i x all.1 e
 
 -- what happened to a queue, and one event more
-history-with : (setup : Setup) (q : ℕ) (events : List Event) (e : Event) → history setup q (events ++ e ∷ []) ≡ history setup q events ++ at_queue setup q e
+pub history-with : (setup : Setup) (q : ℕ) (events : List Event) (e : Event) → history setup q (events ++ e ∷ []) ≡ history setup q events ++ at_queue setup q e
 history-with setup q events e = flat_map-append (at_queue setup q) events (e ∷ []) ∙ ap (λ l. history setup q events ++ l) (append-nil (at_queue setup q e))
 
 -- a call keeps the kind and the capacity

@@ -4,5 +4,8 @@ pub mod Accounts
 pub mod Setups
 pub mod Stored
 pub mod Course
+pub mod Settled
+pub mod InsideQueues
 pub mod Examples
+pub mod SettledExamples
 pub mod inside

@@ -45,6 +45,8 @@ impl CountingRouter {
     ghost use Rattle.clk_router.specs.Accounts.{account_after};
     ghost use Rattle.clk_router.specs.Course.{after, sender_at, accepted_at, evicted_at, emitted_at, moment_at, CanOffer, CanPull, IsOpened, IsPulled, IsQueueState};
     ghost use Rattle.clk_router.specs.Events.{offered, sender_numbers, CanHappen};
+    ghost use Rattle.clk_router.specs.InsideQueues.{QueuesGoOn, AreOutOrInside};
+    ghost use Rattle.clk_router.specs.Settled.{IsCourseAccounted, IsCourseSettled, AreOutOnce, AreAllOut, IsDrained};
 
     /// The router of a plan, before anything has happened.
     ///
@@ -87,6 +89,25 @@ impl CountingRouter {
         ensures { CanHappen self.now.setup self.now.events }
     {
         self.router.has_happened();
+    }
+
+    /// Where each offered packet is: refused, evicted, emitted, held as a head in its device's tree, or held in its queue. It is in one of
+    /// these places, once. If no packet is left for any device, all are settled. A law, which does nothing.
+    pub fn has_account(&self)
+        ensures accounted { IsCourseAccounted self.now.setup self.now.events }
+        ensures once { AreOutOnce self.now.setup self.now.events }
+        ensures out_or_inside { AreOutOrInside self.now.setup self.now.events }
+        ensures settled { IsDrained self.now → IsCourseSettled self.now.setup self.now.events }
+        ensures all_out { IsDrained self.now → AreAllOut self.now.setup self.now.events }
+    {
+        self.router.has_account();
+    }
+
+    /// How the packets inside each queue change by each event, and how many they are. A law, which does nothing.
+    pub fn queues_go_on(&self)
+        ensures { QueuesGoOn self.now.setup }
+    {
+        self.router.queues_go_on();
     }
 
     /// Whether the sender at this place can offer a packet: it is there, has offered fewer than 4,294,967,295 packets, and its device takes
@@ -155,6 +176,16 @@ impl CountingRouter {
         ensures { accepted_at self.now device ≡ evicted_at self.now device + emitted_at self.now device + result }
     {
         self.router.left(device)
+    }
+
+    /// Whether no packet is left for any device. Then all that was offered is settled.
+    pub fn is_drained(&self) -> bool
+        ensures yes { result ≡ true → IsDrained self.now }
+        ensures no { result ≡ false → IsDrained self.now → ⊥ }
+        ensures settled { result ≡ true → IsCourseSettled self.now.setup self.now.events }
+        ensures all_out { result ≡ true → AreAllOut self.now.setup self.now.events }
+    {
+        self.router.is_drained()
     }
 
     /// How many queues it has.

@@ -15,7 +15,7 @@ mod senders;
 
 pub use accounts::{Account, Total};
 pub use counting::CountingRouter;
-pub use examples::event_examples;
+pub use examples::{accounted_examples, event_examples, out_examples, settled_examples};
 pub use limits::END_OF_PACKETS;
 pub use queue_state::QueueState;
 pub use router::Router;

@@ -51,6 +51,8 @@ impl Router {
     ghost use Rattle.clk_packet.specs.Lists.{AreRising};
     ghost use Rattle.clk_router.specs.Course.{after, events_of, sender_at, accepted_at, evicted_at, emitted_at, moment_at, CanOffer, CanPull, CanClose, IsOpened, IsPulled, IsClosed, IsQueueState};
     ghost use Rattle.clk_router.specs.Events.{offered, sender_numbers, CanHappen, closing_pulls, logs_of};
+    ghost use Rattle.clk_router.specs.InsideQueues.{QueuesGoOn, AreOutOrInside};
+    ghost use Rattle.clk_router.specs.Settled.{IsCourseAccounted, IsCourseSettled, AreOutOnce, AreAllOut, IsDrained};
 
     /// The router of a plan, before anything has happened, whose devices keep this of the past. Visits that they keep packed can't be had
     /// from it.
@@ -93,6 +95,30 @@ impl Router {
     pub fn has_happened(&self)
         ensures { CanHappen self.now.setup self.now.events }
     {
+        let _ = &self.parts;
+    }
+
+    /// Where each offered packet is: refused, evicted, emitted, held as a head in its device's tree, or held in its queue. It is in one of
+    /// these places, once. If no packet is left for any device, all are settled. A law, which does nothing.
+    pub fn has_account(&self)
+        ensures accounted { IsCourseAccounted self.now.setup self.now.events }
+        ensures once { AreOutOnce self.now.setup self.now.events }
+        ensures out_or_inside { AreOutOrInside self.now.setup self.now.events }
+        ensures settled { IsDrained self.now → IsCourseSettled self.now.setup self.now.events }
+        ensures all_out { IsDrained self.now → AreAllOut self.now.setup self.now.events }
+    {
+        // The empty log is a run, and trees conserve packets, by these laws, which do nothing.
+        runs_go_on();
+        runs_conserve_packets();
+        let _ = &self.parts;
+    }
+
+    /// How the packets inside each queue change by each event, and how many they are. A law, which does nothing.
+    pub fn queues_go_on(&self)
+        ensures { QueuesGoOn self.now.setup }
+    {
+        // Trees conserve packets, by this law, which does nothing.
+        runs_conserve_packets();
         let _ = &self.parts;
     }
 
@@ -226,6 +252,23 @@ impl Router {
         runs_go_on();
         runs_conserve_packets();
         self.parts.left(device)
+    }
+
+    /// Whether no packet is left for any device. Then all that was offered is settled.
+    pub fn is_drained(&self) -> bool
+        ensures yes { result ≡ true → IsDrained self.now }
+        ensures no { result ≡ false → IsDrained self.now → ⊥ }
+        ensures settled { result ≡ true → IsCourseSettled self.now.setup self.now.events }
+        ensures all_out { result ≡ true → AreAllOut self.now.setup self.now.events }
+    {
+        // Where nothing is left all is settled, by this law, which does nothing.
+        self.has_account();
+        for device in 0..self.devices() {
+            if self.left(device as u16) > 0 {
+                return false;
+            }
+        }
+        true
     }
 
     /// What its devices kept: the visits of each, and the packets that came out of it, in order. Takes memory for two lists of as many

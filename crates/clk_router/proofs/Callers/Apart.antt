@@ -32,7 +32,7 @@ none-later (x ∷ senders) s n P e h =
     rw not_it (none-later senders s n P e h.1)
 
 -- where senders rise, one alone is of a number
-one-sender : (senders : List SenderSpec) (s : ℕ) (P Q : SenderSpec → Bool) → AreRising (map number_of senders) → list_any (λ (x : SenderSpec). (x.number == s) && P x) senders ≡ true
+pub one-sender : (senders : List SenderSpec) (s : ℕ) (P Q : SenderSpec → Bool) → AreRising (map number_of senders) → list_any (λ (x : SenderSpec). (x.number == s) && P x) senders ≡ true
     → list_any (λ (x : SenderSpec). (x.number == s) && Q x) senders ≡ true → (x : SenderSpec) × (P x ≡ true) × (Q x ≡ true)
 one-sender [] s P Q rising a b = absurd (false≢true a)
 one-sender (x ∷ senders) s P Q rising a b = by_number (x.number == s) refl a b (one-sender senders s P Q rising.1)
@@ -47,7 +47,7 @@ one-sender (x ∷ senders) s P Q rising a b = by_number (x.number == s) refl a b
     by_number false e a b rest = rest a b
 
 -- who sends to a queue of a device is of that device
-sent-here : (queues : List Room) (senders : List SenderSpec) (s q d : ℕ) → is_at d (slice_get queues q) ≡ true → sends_to senders s q ≡ true
+pub sent-here : (queues : List Room) (senders : List SenderSpec) (s q d : ℕ) → is_at d (slice_get queues q) ≡ true → sends_to senders s q ≡ true
     → list_any (λ (x : SenderSpec). (x.number == s) && is_of_device queues d x) senders ≡ true
 sent-here queues [] s q d at e = absurd (false≢true e)
 sent-here queues (x ∷ senders) s q d at e = by_entry (x.number == s) (x.queue == q) refl e (sent-here queues senders s q d at)

@@ -1,0 +1,111 @@
+-- What is inside of a queue was offered: the number of each packet is below how many its sender offered.
+use Rattle.std.proofs.Common.{◌≡◌, ℕ, zero, suc, ◌+◌, ◌<◌, ◌==◌, ◌||◌, Bool, true, false, if◌then◌else◌, List, [], ◌∷◌, ◌++◌, length, drop, Option, Some, None, MatchOption, slice_get, refl, sym, ap, ◌∙◌, subst, arith}
+use Rattle.std.specs.Bool.{⊤}
+use Rattle.std.specs.List.{filter_map, cons_option, range_with_len, AllByRecursion}
+use Rattle.std.proofs.lemmas.Bool.{false≢true}
+use Rattle.std.proofs.lemmas.Bool.Decides.{nat_tests}
+use Rattle.std.proofs.lemmas.List.Elements.{filter_map-append}
+use Rattle.clk_packet.specs.declared.packet.Packet.{Packet}
+use Rattle.clk_packet.specs.declared.packet.Offered.{Offered}
+use Rattle.clk_packet.specs.declared.packet.Offered.TheVariants.{Accepted, Refused, Evicted}
+use Rattle.clk_packet.specs.Lists.{stands_in}
+use Rattle.clk_ring.specs.QueueHistory.{accepted, gone, held, IsQueueHistory, offer_events, pull_event}
+use Rattle.clk_router.specs.Events.{Room, Setup, Event, offered, pulled, number_from, numbers_of, sends_to, at_queue, history, CanHappen}
+use Rattle.clk_router.specs.InsideQueues.{given_by, given_of, emitted_of, heads_of, inside_of}
+use Rattle.clk_router.proofs.Callers.Events.{all-join}
+use Rattle.clk_router.proofs.Settled.Dealt.{all-left, all-right, all-implied}
+use Rattle.clk_router.proofs.Settled.QueuePackets.{accepted_by, accepted-is, all-given, history-in_order, none-answered}
+
+-- what holds of the packet of an offer
+abbrev pub OfOffer : (Packet → Type 0) → Event → Type 0
+OfOffer P (offered p outcome) = P p
+OfOffer P (pulled device moment visits) = ⊤
+
+-- the number of each packet that was offered is among those of its sender
+abbrev IsNumbered : List Event → Packet → Type 0
+IsNumbered events p = stands_in p.number (numbers_of p.sender events) ≡ true
+
+wider : (n : ℕ) (o : Option ℕ) (ns : List ℕ) → stands_in n ns ≡ true → stands_in n (cons_option o ns) ≡ true
+wider n None ns e = e
+wider n (Some m) ns e = or-later (m == n) e
+  where
+    or-later : {c : Bool} (b : Bool) → c ≡ true → (b || c) ≡ true
+    or-later true e = refl
+    or-later false e = e
+
+all-numbered : (events : List Event) → AllByRecursion (OfOffer (IsNumbered events)) events
+all-numbered [] = tt
+all-numbered (e ∷ events) = (first e, all-implied (OfOffer (IsNumbered events)) (OfOffer (IsNumbered (e ∷ events))) events later (all-numbered events))
+  where
+    first : (e : Event) → OfOffer (IsNumbered (e ∷ events)) e
+    first (offered p outcome) =
+        let its : (p.sender == p.sender) ≡ true = grind (arith, nat_tests) in
+        let here : (p.number == p.number) ≡ true = grind (arith, nat_tests) in
+        ap (λ (b : Bool). stands_in p.number (cons_option (if b then Some p.number else None) (numbers_of p.sender events))) its ∙ ap (λ b. b || stands_in p.number (numbers_of p.sender events)) here
+    first (pulled d m visits) = tt
+
+    later : (x : Event) → OfOffer (IsNumbered events) x → OfOffer (IsNumbered (e ∷ events)) x
+    later (offered p outcome) h = wider p.number (number_from p.sender e) (numbers_of p.sender events) h
+    later (pulled d m visits) h = tt
+
+range-below : (n a k : ℕ) → stands_in n (range_with_len a k) ≡ true → n < a + k
+range-below n a zero e = absurd (false≢true e)
+range-below n a (suc k) e = by_test (a == n) refl e (range-below n (a + 1) k)
+  where
+    by_test : (b : Bool) → (a == n) ≡ b → (b || stands_in n (range_with_len (a + 1) k)) ≡ true → (stands_in n (range_with_len (a + 1) k) ≡ true → n < a + 1 + k) → n < a + suc k
+    by_test true f e rest = let same : a ≡ n = grind (arith, nat_tests) in omega (arith, same)
+    by_test false f e rest = let below = rest e in omega (arith, below)
+
+abbrev pub WasOffered : List Event → Packet → Type 0
+WasOffered events p = p.number < length (numbers_of p.sender events)
+
+pub all-offered : (setup : Setup) (events : List Event) → CanHappen setup events → AllByRecursion (OfOffer (WasOffered events)) events
+all-offered setup events can = all-implied (OfOffer (IsNumbered events)) (OfOffer (WasOffered events)) events step (all-numbered events)
+  where
+    step : (x : Event) → OfOffer (IsNumbered events) x → OfOffer (WasOffered events) x
+    step (offered p outcome) h = let below = range-below p.number 0 (length (numbers_of p.sender events)) (subst (λ l. stands_in p.number l ≡ true) (can.numbered p.sender) h) in omega (arith, below)
+    step (pulled d m visits) h = tt
+
+-- What holds of all packets that were offered holds of those that a queue took in, and of all that are inside of it.
+pub all-accepted : (P : Packet → Type 0) (setup : Setup) (q : ℕ) (events : List Event) → AllByRecursion (OfOffer P) events → AllByRecursion P (filter_map accepted_by (history setup q events))
+all-accepted P setup q [] h = tt
+all-accepted P setup q (e ∷ events) h =
+    subst (AllByRecursion P) (sym (filter_map-append accepted_by (at_queue setup q e) (history setup q events)))
+    (all-join P (filter_map accepted_by (at_queue setup q e)) (filter_map accepted_by (history setup q events)) (by_event e h.0) (all-accepted P setup q events h.1))
+  where
+    by_event : (e : Event) → OfOffer P e → AllByRecursion P (filter_map accepted_by (at_queue setup q e))
+    by_event (offered p outcome) h = by_test (sends_to setup.senders p.sender q) outcome
+      where
+        by_test : (b : Bool) (o : Offered) → AllByRecursion P (filter_map accepted_by (if b then offer_events p o else []))
+        by_test false o = tt
+        by_test true Accepted = (h, tt)
+        by_test true (Refused r) = tt
+        by_test true (Evicted front) = (h, tt)
+    by_event (pulled c m visits) h = subst (AllByRecursion P) (sym (none-answered accepted_by pull_none (slice_get setup.trees c) q visits)) tt
+      where
+        pull_none : (o : Option Packet) → accepted_by (pull_event o) ≡ None
+        pull_none None = refl
+        pull_none (Some p) = refl
+
+all-dropped : (P : Packet → Type 0) (n : ℕ) (packets : List Packet) → AllByRecursion P packets → AllByRecursion P (drop n packets)
+all-dropped P zero packets h = h
+all-dropped P (suc n) [] h = tt
+all-dropped P (suc n) (p ∷ packets) h = all-dropped P n packets h.1
+
+pub all-inside : (P : Packet → Type 0) (setup : Setup) (events : List Event) → CanHappen setup events → (d q : ℕ) (room : Room) → slice_get setup.queues q ≡ Some room → AllByRecursion (OfOffer P) events → AllByRecursion P (inside_of setup d q events)
+all-inside P setup events can d q room is h =
+    all-join P (heads_of setup d q events) (held (history setup q events))
+    (all-dropped P (length (emitted_of setup d q events)) (given_of setup q events) (all-given P (history setup q events) (all-left P (gone (history setup q events)) (held (history setup q events)) both)))
+    (all-right P (gone (history setup q events)) (held (history setup q events)) both)
+  where
+    past : IsQueueHistory room.kind room.capacity (history setup q events)
+    past = subst (λ o. MatchOption o ⊤ (λ (r : Room). IsQueueHistory r.kind r.capacity (history setup q events))) is (can.histories q)
+
+    both : AllByRecursion P (gone (history setup q events) ++ held (history setup q events))
+    both =
+        subst (AllByRecursion P) (sym (accepted-is (history setup q events)) ∙ (history-in_order room.kind room.capacity (history setup q events) past).order)
+        (all-accepted P setup q events h)
+
+-- So the numbers of what is inside are below how many were offered.
+pub inside-offered : (setup : Setup) (events : List Event) → CanHappen setup events → (d q : ℕ) (room : Room) → slice_get setup.queues q ≡ Some room → AllByRecursion (WasOffered events) (inside_of setup d q events)
+inside-offered setup events can d q room is = all-inside (WasOffered events) setup events can d q room is (all-offered setup events can)

@@ -1,0 +1,208 @@
+-- The packets of a queue's history, by what events offered and what a device's log shows.
+use Rattle.std.proofs.Common.{◌≡◌, inl, inr, ℕ, ◌==◌, Bool, true, false, if◌then◌else◌, List, [], ◌∷◌, ◌++◌, append-nil, Option, Some, None, slice_get, refl, sym, ap, ap₂, ◌∙◌, subst, arith}
+use Rattle.std.specs.Bool.{⊤}
+use Rattle.std.specs.List.{filter_map, cons_option, AllByRecursion}
+use Rattle.std.proofs.lemmas.Bool.{false≢true}
+use Rattle.std.proofs.lemmas.Bool.Decides.{nat_tests}
+use Rattle.std.proofs.lemmas.List.Elements.{filter-append, filter_map-append}
+use Rattle.clk_packet.specs.declared.packet.Packet.{Packet}
+use Rattle.clk_packet.specs.declared.packet.Kind.{Kind}
+use Rattle.clk_packet.specs.declared.packet.Kind.TheVariants.{TailDrop, FrontDrop}
+use Rattle.clk_packet.specs.declared.packet.Offered.{Offered}
+use Rattle.clk_packet.specs.declared.packet.Offered.TheVariants.{Accepted, Refused, Evicted}
+use Rattle.clk_packet.specs.Lists.{of_sender}
+use Rattle.clk_ring.specs.QueueHistory.{QueueEvent, accept, refuse, evict, give, empty, accepted, gone, held, IsInOrder, EachStands, IsQueueHistory, offer_events, pull_event}
+use Rattle.clk_sched.specs.declared.visit.Visit.{Visit}
+use Rattle.clk_sched.specs.Tree.{Tree}
+use Rattle.clk_sched.specs.Results.{asks_queue, leaf_packets}
+use Rattle.clk_packet.specs.Dealt.{IsDealt}
+use Rattle.clk_router.specs.Events.{Setup, Event, offered, pulled, happens_at, log_of, sends_to, answers_in, at_queue, history}
+use Rattle.clk_router.specs.InsideQueues.{given_by}
+use Rattle.clk_router.proofs.QueueCounts.{stands-first, stands-rest}
+use Rattle.clk_router.proofs.Settled.Dealt.{all-left}
+
+-- the packet that an event of a queue accepted, refused or evicted
+abbrev pub accepted_by : QueueEvent → Option Packet
+accepted_by (accept p) = Some p
+accepted_by event = None
+
+abbrev pub refused_by : QueueEvent → Option Packet
+refused_by (refuse p) = Some p
+refused_by event = None
+
+abbrev pub evicted_by : QueueEvent → Option Packet
+evicted_by (evict p) = Some p
+evicted_by event = None
+
+pub accepted-is : (events : List QueueEvent) → accepted events ≡ filter_map accepted_by events
+accepted-is [] = refl
+accepted-is (accept p ∷ events) = ap (λ l. p ∷ l) (accepted-is events)
+accepted-is (refuse p ∷ events) = accepted-is events
+accepted-is (evict p ∷ events) = accepted-is events
+accepted-is (give p ∷ events) = accepted-is events
+accepted-is (empty ∷ events) = accepted-is events
+
+-- what is gone is dealt to what was put out and what was given
+pub gone-dealt : (events : List QueueEvent) → IsDealt (gone events) (filter_map evicted_by events) (filter_map given_by events)
+gone-dealt [] = (refl, refl)
+gone-dealt (accept p ∷ events) = gone-dealt events
+gone-dealt (refuse p ∷ events) = gone-dealt events
+gone-dealt (evict p ∷ events) = inl (filter_map evicted_by events, refl, gone-dealt events)
+gone-dealt (give p ∷ events) = inr (filter_map given_by events, refl, gone-dealt events)
+gone-dealt (empty ∷ events) = gone-dealt events
+
+-- what holds of all that is gone holds of all that was put out, and of all that was given
+pub all-evicted : (P : Packet → Type 0) (events : List QueueEvent) → AllByRecursion P (gone events) → AllByRecursion P (filter_map evicted_by events)
+all-evicted P [] h = tt
+all-evicted P (accept p ∷ events) h = all-evicted P events h
+all-evicted P (refuse p ∷ events) h = all-evicted P events h
+all-evicted P (evict p ∷ events) h = (h.0, all-evicted P events h.1)
+all-evicted P (give p ∷ events) h = all-evicted P events h.1
+all-evicted P (empty ∷ events) h = all-evicted P events h
+
+pub all-given : (P : Packet → Type 0) (events : List QueueEvent) → AllByRecursion P (gone events) → AllByRecursion P (filter_map given_by events)
+all-given P [] h = tt
+all-given P (accept p ∷ events) h = all-given P events h
+all-given P (refuse p ∷ events) h = all-given P events h
+all-given P (evict p ∷ events) h = all-given P events h.1
+all-given P (give p ∷ events) h = (h.0, all-given P events h.1)
+all-given P (empty ∷ events) h = all-given P events h
+
+pub all-gone : (P : Packet → Type 0) (capacity : ℕ) (events : List QueueEvent) → IsInOrder capacity events → AllByRecursion P (accepted events) → AllByRecursion P (gone events)
+all-gone P capacity events order h = all-left P (gone events) (held events) (subst (AllByRecursion P) order.order h)
+
+-- a history is in order
+pub history-in_order : (kind : Kind) (capacity : ℕ) (events : List QueueEvent) → IsQueueHistory kind capacity events → IsInOrder capacity events
+history-in_order kind capacity events h = stands-first kind capacity events [] (stands-rest kind capacity [] events [] (subst (EachStands kind capacity []) (sym (append-nil events)) h))
+
+-- a FrontDropQueue refuses none, and a Queue evicts none
+pub none-refused : (kind : Kind) (capacity : ℕ) (before events : List QueueEvent) → kind ≡ FrontDrop → EachStands kind capacity before events → filter_map refused_by events ≡ []
+none-refused kind capacity before [] is h = refl
+none-refused kind capacity before (accept p ∷ events) is h = none-refused kind capacity (before ++ accept p ∷ []) events is h.3
+none-refused kind capacity before (refuse p ∷ events) is h = let kind_is = h.1.0 in absurd (cc)
+none-refused kind capacity before (evict p ∷ events) is h = none-refused kind capacity (before ++ evict p ∷ []) events is h.3
+none-refused kind capacity before (give p ∷ events) is h = none-refused kind capacity (before ++ give p ∷ []) events is h.3
+none-refused kind capacity before (empty ∷ events) is h = none-refused kind capacity (before ++ empty ∷ []) events is h.3
+
+pub none-evicted : (kind : Kind) (capacity : ℕ) (before events : List QueueEvent) → kind ≡ TailDrop → EachStands kind capacity before events → filter_map evicted_by events ≡ []
+none-evicted kind capacity before [] is h = refl
+none-evicted kind capacity before (accept p ∷ events) is h = none-evicted kind capacity (before ++ accept p ∷ []) events is h.3
+none-evicted kind capacity before (refuse p ∷ events) is h = none-evicted kind capacity (before ++ refuse p ∷ []) events is h.3
+none-evicted kind capacity before (evict p ∷ events) is h = let kind_is = h.1.0 in absurd (cc)
+none-evicted kind capacity before (give p ∷ events) is h = none-evicted kind capacity (before ++ give p ∷ []) events is h.3
+none-evicted kind capacity before (empty ∷ events) is h = none-evicted kind capacity (before ++ empty ∷ []) events is h.3
+
+-- pulls are no offers to a queue
+pub none-answered : (g : QueueEvent → Option Packet) → ((o : Option Packet) → g (pull_event o) ≡ None) → (o : Option Tree) (q : ℕ) (visits : List Visit) → filter_map g (answers_in o q visits) ≡ []
+none-answered g pull None q visits = refl
+none-answered g pull (Some tree) q [] = refl
+none-answered g pull (Some tree) q (v ∷ visits) = by_test (asks_queue tree q v) (none-answered g pull (Some tree) q visits)
+  where
+    by_test : (b : Bool) → filter_map g (answers_in (Some tree) q visits) ≡ [] → filter_map g ((if b then pull_event v.got ∷ [] else []) ++ answers_in (Some tree) q visits) ≡ []
+    by_test true rest = rw (pull v.got) rest
+    by_test false rest = rest
+
+-- an event that isn't one of the queue has no packet of the sender
+abbrev pub IsOwn : (Event → Option Packet) → Setup → ℕ → ℕ → Event → Type 0
+IsOwn f setup q s (offered p outcome) = sends_to setup.senders p.sender q ≡ false → of_sender s (cons_option (f (offered p outcome)) []) ≡ []
+IsOwn f setup q s (pulled device moment visits) = ⊤
+
+-- What events say of a sender's packets is what the history of its queue says.
+pub its-packets : (f : Event → Option Packet) (g : QueueEvent → Option Packet) → ((p : Packet) (outcome : Offered) → filter_map g (offer_events p outcome) ≡ cons_option (f (offered p outcome)) [])
+    → ((o : Option Packet) → g (pull_event o) ≡ None) → ((d m : ℕ) (visits : List Visit) → f (pulled d m visits) ≡ None) → (setup : Setup) (q s : ℕ) (events : List Event) → AllByRecursion (IsOwn f setup q s) events
+    → of_sender s (filter_map f events) ≡ of_sender s (filter_map g (history setup q events))
+its-packets f g offers pulls none setup q s [] own = refl
+its-packets f g offers pulls none setup q s (e ∷ events) own =
+    ap (of_sender s) (filter_map-append f (e ∷ []) events) ∙ filter-append (λ (p : Packet). p.sender == s) (cons_option (f e) []) (filter_map f events)
+    ∙ ap₂ (λ xs ys. xs ++ ys) (by_event e own.0) (its-packets f g offers pulls none setup q s events own.1)
+    ∙ sym (ap (of_sender s) (filter_map-append g (at_queue setup q e) (history setup q events)) ∙ filter-append (λ (p : Packet). p.sender == s) (filter_map g (at_queue setup q e)) (filter_map g (history setup q events)))
+  where
+    by_event : (e : Event) → IsOwn f setup q s e → of_sender s (cons_option (f e) []) ≡ of_sender s (filter_map g (at_queue setup q e))
+    by_event (offered p outcome) own = by_test (sends_to setup.senders p.sender q) own
+      where
+        by_test : (b : Bool) → (b ≡ false → of_sender s (cons_option (f (offered p outcome)) []) ≡ []) → of_sender s (cons_option (f (offered p outcome)) []) ≡ of_sender s (filter_map g (if b then offer_events p outcome else []))
+        by_test true own = ap (of_sender s) (sym (offers p outcome))
+        by_test false own = own refl
+    by_event (pulled c m visits) own = ap (λ o. of_sender s (cons_option o [])) (none c m visits) ∙ ap (of_sender s) (sym (none-answered g pulls (slice_get setup.trees c) q visits))
+
+-- What a queue given_of in the events at its device is what its leaf given_of.
+gives-visits : (tree : Tree) (q : ℕ) (visits : List Visit) → filter_map given_by (answers_in (Some tree) q visits) ≡ leaf_packets tree q visits
+gives-visits tree q [] = refl
+gives-visits tree q (v ∷ visits) = by_test (asks_queue tree q v) v.got (gives-visits tree q visits)
+  where
+    by_test : (b : Bool) (o : Option Packet) → filter_map given_by (answers_in (Some tree) q visits) ≡ leaf_packets tree q visits
+        → filter_map given_by ((if b then pull_event o ∷ [] else []) ++ answers_in (Some tree) q visits) ≡ cons_option (if b then o else None) (leaf_packets tree q visits)
+    by_test false o rest = rest
+    by_test true None rest = rest
+    by_test true (Some p) rest = ap (λ l. p ∷ l) rest
+
+pub gives-log : (setup : Setup) (d : ℕ) (tree : Tree) → slice_get setup.trees d ≡ Some tree → (q : ℕ) (events : List Event) → AllByRecursion (λ e. happens_at setup d e ≡ true) events
+    → filter_map given_by (history setup q events) ≡ leaf_packets tree q (log_of events)
+gives-log setup d tree its q [] h = refl
+gives-log setup d tree its q (offered p outcome ∷ events) h =
+    filter_map-append given_by (at_queue setup q (offered p outcome)) (history setup q events) ∙ ap (λ l. l ++ filter_map given_by (history setup q events)) (by_test (sends_to setup.senders p.sender q) outcome) ∙ gives-log setup d tree its q events h.1
+  where
+    by_test : (b : Bool) (o : Offered) → filter_map given_by (if b then offer_events p o else []) ≡ []
+    by_test false o = refl
+    by_test true Accepted = refl
+    by_test true (Refused r) = refl
+    by_test true (Evicted front) = refl
+gives-log setup d tree its q (pulled c m visits ∷ events) h =
+    let same : c ≡ d = grind (arith, nat_tests, h.0) in
+    filter_map-append given_by (at_queue setup q (pulled c m visits)) (history setup q events)
+    ∙ ap₂ (λ xs ys. xs ++ ys) (ap (λ o. filter_map given_by (answers_in o q visits)) (ap (slice_get setup.trees) same ∙ its) ∙ gives-visits tree q visits) (gives-log setup d tree its q events h.1)
+    ∙ sym (filter_map-append (λ (v : Visit). if asks_queue tree q v then v.got else None) visits (log_of events))
+
+-- All that a queue took in is of its senders.
+pub all-sent : (setup : Setup) (q : ℕ) (events : List Event) → AllByRecursion (λ (p : Packet). sends_to setup.senders p.sender q ≡ true) (filter_map accepted_by (history setup q events))
+all-sent setup q [] = tt
+all-sent setup q (e ∷ events) =
+    subst (AllByRecursion (λ (p : Packet). sends_to setup.senders p.sender q ≡ true)) (sym (filter_map-append accepted_by (at_queue setup q e) (history setup q events))) (by_event e (all-sent setup q events))
+  where
+    rest : List Packet
+    rest = filter_map accepted_by (history setup q events)
+
+    by_event : (e : Event) → AllByRecursion (λ (p : Packet). sends_to setup.senders p.sender q ≡ true) rest → AllByRecursion (λ (p : Packet). sends_to setup.senders p.sender q ≡ true) (filter_map accepted_by (at_queue setup q e) ++ rest)
+    by_event (offered p outcome) k = by_test (sends_to setup.senders p.sender q) refl outcome k
+      where
+        by_test : (b : Bool) → sends_to setup.senders p.sender q ≡ b → (o : Offered) → AllByRecursion (λ (p : Packet). sends_to setup.senders p.sender q ≡ true) rest
+            → AllByRecursion (λ (p : Packet). sends_to setup.senders p.sender q ≡ true) (filter_map accepted_by (if b then offer_events p o else []) ++ rest)
+        by_test false e o k = k
+        by_test true e Accepted k = (e, k)
+        by_test true e (Refused r) k = k
+        by_test true e (Evicted front) k = (e, k)
+    by_event (pulled c m visits) k = rw (none-answered accepted_by pull_none (slice_get setup.trees c) q visits) k
+      where
+        pull_none : (o : Option Packet) → accepted_by (pull_event o) ≡ None
+        pull_none None = refl
+        pull_none (Some p) = refl
+
+-- what holds of all that a queue put out holds of what its events put out
+abbrev pub EvictsWith : (Packet → Type 0) → Setup → ℕ → Event → Type 0
+EvictsWith P setup q (offered p (Evicted front)) = sends_to setup.senders p.sender q ≡ true → P front
+EvictsWith P setup q event = ⊤
+
+pub each-evicts : (P : Packet → Type 0) (setup : Setup) (q : ℕ) (events : List Event) → AllByRecursion P (filter_map evicted_by (history setup q events)) → AllByRecursion (EvictsWith P setup q) events
+each-evicts P setup q [] h = tt
+each-evicts P setup q (e ∷ events) h = by_event e (subst (AllByRecursion P) (filter_map-append evicted_by (at_queue setup q e) (history setup q events)) h) (each-evicts P setup q events)
+  where
+    rest : List Packet
+    rest = filter_map evicted_by (history setup q events)
+
+    by_event : (e : Event) → AllByRecursion P (filter_map evicted_by (at_queue setup q e) ++ rest) → (AllByRecursion P rest → AllByRecursion (EvictsWith P setup q) events)
+        → EvictsWith P setup q e × AllByRecursion (EvictsWith P setup q) events
+    by_event (offered p outcome) k more = by_test (sends_to setup.senders p.sender q) refl outcome k more
+      where
+        by_test : (b : Bool) → sends_to setup.senders p.sender q ≡ b → (o : Offered) → AllByRecursion P (filter_map evicted_by (if b then offer_events p o else []) ++ rest)
+            → (AllByRecursion P rest → AllByRecursion (EvictsWith P setup q) events) → EvictsWith P setup q (offered p o) × AllByRecursion (EvictsWith P setup q) events
+        by_test true e Accepted k more = (tt, more k)
+        by_test false e Accepted k more = (tt, more k)
+        by_test true e (Refused r) k more = (tt, more k)
+        by_test false e (Refused r) k more = (tt, more k)
+        by_test true e (Evicted front) k more = ((λ sends. k.0), more k.1)
+        by_test false e (Evicted front) k more = ((λ sends. absurd (false≢true (sym e ∙ sends))), more k)
+    by_event (pulled c m visits) k more = (tt, more (subst (AllByRecursion P) (ap (λ l. l ++ rest) (none-answered evicted_by pull_none (slice_get setup.trees c) q visits)) k))
+      where
+        pull_none : (o : Option Packet) → evicted_by (pull_event o) ≡ None
+        pull_none None = refl
+        pull_none (Some p) = refl
