@@ -42,8 +42,9 @@
  *     calls answer CLK_SHUT.)
  *   - A clk_router is filled by clk_open or clk_close, or is CLK_NO_ROUTER, before another call gets it.
  *   - A router that is open isn't opened over: its memory would be lost.
- *   - Calls on one router come one after the other, and from the thread that opened it: that another may have it is not proved. A caller
- *     with several threads gives each a ring of its own, from which that one offers. Two routers have nothing in common.
+ *   - Calls on one router come one after the other. They may come from several threads, as long as each call ends before the next begins
+ *     by a lock of the caller's, by the start or the join of a thread, or by a sequentially consistent atomic operation. Two routers have
+ *     nothing in common.
  *   - Pointers point to as much as is said: `length` bytes of a text, `count` elements of an array. What a call fills overlaps nothing
  *     else that it is handed.
  *   - No call is made from a signal handler, nor in the forked child of a process with several threads. malloc, realloc and free are

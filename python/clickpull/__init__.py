@@ -13,7 +13,8 @@ tree in Click's language and are context managers::
 Lengths are in bytes, and moments in ticks. What can't be done raises an `Error`, and leaves all as it was. That a packet is refused,
 or that none comes, is no error.
 
-A router, and a `Carrier` with it, stays on the thread that opened it. Calls hold Python's global lock.
+Any thread may use a router, or a `Carrier` with its router, but one call at a time: threads that share one use a lock. Calls hold
+Python's global lock.
 """
 from clickpull.carrier import Carried, Carrier, Evicted, Offer
 from clickpull.errors import AtEnd, Error, NoLength, Shut, TextFault, UnknownDevice, UnknownSender

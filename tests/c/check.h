@@ -42,5 +42,6 @@ void test_pulls(void);
 void test_draining(void);
 void test_tables(void);
 void test_carrying(void);
+void test_threads(void);
 
 #endif

@@ -45,6 +45,7 @@ int main(void) {
     test_draining();
     test_tables();
     test_carrying();
+    test_threads();
     printf("%d checks, %d failed\n", checked, failed);
     return failed != 0;
 }

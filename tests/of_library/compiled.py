@@ -8,7 +8,7 @@ from of_library.checks import Check, Failed, LeftOut, Setting, compare, need, ru
 WARNINGS = ["-Wall", "-Wextra", "-Wpedantic", "-Wconversion", "-Wshadow", "-Werror"]
 # valgrind doesn't read what clang writes for debuggers unless it is told to write it as of old.
 BUILT = ["-O1", "-gdwarf-4", *WARNINGS]
-C = ["-std=c11", *BUILT]
+C = ["-std=c11", "-pthread", *BUILT]
 CPP = ["-std=c++17", *BUILT]
 
 # The compilers of C, each with that of C++ beside it.

@@ -1,5 +1,7 @@
 -- What the walks of a handle share, and lemmas on steps one after another.
-pub mod AsBox
+pub mod Handles
+pub mod HandleLends
+pub mod HandleSend
 pub mod Chains
 mod AccountsTold
 pub mod SoFar

@@ -6,7 +6,7 @@ ghost use Rattle.clickpull_c.specs.declared.statuses.TheConstants.{OK};
 ghost use Rattle.clk_packet.specs.declared.fault.Fault.TheVariants.{Memory};
 ghost use Rattle.clk_syntax.specs.Reading.{HasFault};
 
-use crate::handle::{Handle, Place};
+use crate::handle::{Handle, Place, demand_send};
 use crate::statuses::{FAULT, OK};
 use crate::values::{CFault, fault_for_c};
 use clk_packet::Fault;
@@ -51,5 +51,6 @@ fn open(alloc: Global, text: &[u8]) -> Result<Handle, Fault>
 /// Gives back all that a router has, packets in its queues too.
 #[unsafe(no_mangle)]
 pub extern "C" fn clk_router_close(router: Handle) {
+    demand_send(&router);
     drop(router.into_box());
 }

@@ -1,5 +1,6 @@
 -- Lemmas that answers cite, of which `Callers` has those that crates above may cite too.
 pub mod Callers
+pub mod Crosses
 mod SenderLemmas
 mod PlaceLemmas
 mod PartsLemmas

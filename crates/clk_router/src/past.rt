@@ -25,6 +25,8 @@ impl Model for Past {
     ghost also_owns = { λ _. ftrue };
 }
 
+unsafe impl Send for Past {}
+
 impl Past {
     /// Nothing, over nothing.
     pub fn none() -> Past

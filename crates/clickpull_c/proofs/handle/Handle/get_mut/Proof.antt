@@ -1,123 +1,24 @@
--- `get_mut` lends the router, and the handle follows it: as a Box lends its value.
-use mathlib.Core.Path.{◌≡◌, refl}
-use Prim.Native.Nat.{ℕ}
-use mathlib.Core.List.{List, [], ◌∷◌}
-use seplogic.Ra.Ura.{Ura}
-use base.Fraction.{full_share}
-use mir.Syntax.{named}
-use mir.Val.{Val, vptr}
-use mir.Raw.{raw as bare}
-use base.Logic.{SProp, ent, sep, emp, via, fst∗, id⊢}
-use base.Fml.{Lft, GName, Share, Fml, ftrue, flft, fsep}
-use prog.Memory.{Memory}
-use prog.Routine.{Routine}
-use prog.Wp.{Env, Calls, Loops, WpFn, Tables}
-use types.Logic.{Logic, sem}
-use contract.Monad.{Fun}
+-- `get_mut` lends what the handle holds, and the handle follows it.
+use mathlib.Core.Path.{refl}
+use prog.Wp.{Tables}
 use contract.Running.{tables, tables_of}
-use sound.WpLaws.{WpFn-mono}
-use types.Kit.{‵, ◌⊛◌, some, at_ret, ◌$◌, ◌∵◌, !, qed, by, move, keep, use1, drop, split, join, pick, fsplit, fsplit3, fjoin, rewrite, suffices, frame, done, raw, later, await, group, fpack}
-use types.Part.{whole, sub, look_in}
-use types.Run.{stop, fld, load, of_opd, first, blocks, exec, returns, enter, addr}
-use types.ByLocal.{alloc_all, pass_all, free_all, look_at, get, through, sets, env, sets_last}
-use denote.Exit.{no}
-use denote.RattleType.{RattleType, owns}
-use denote.Memory.{part_at, mem, cell_at, part_of}
-use denote.RawPtr.{block_ptr}
-use denote.Ref.{MutRef, mut_vals, mut_Tells}
-use denote.Follow.{follows, Part, lends_Part}
-use denote.Signature.{plain, mut_ref_to}
-use denote.Steps.{nothing, opens}
-use denote.Triple.Entry.{on_entry}
-use denote.Triple.Spec.{Meets, triple_of}
+use denote.Memory.{lone}
+use denote.Triple.Spec.{triple_of}
 use denote.Triple.Table.{entered}
-use denote.Triple.Walked.{says, Stays, stay_dropped, walk_of, ends_at, walked, walk_Meets, Goes-spent_ref}
-use Rattle.std.proofs.alloc.Calls.{token}
-use Rattle.std.proofs.VecSteps.Shapes.{after}
-use Rattle.std_alloc.proofs.BoxSteps.Form.{D, B, τ, word, handle}
-use Rattle.std_alloc.proofs.BoxSteps.Steps.{box_out, box_in}
-use Rattle.clk_router.specs.contracts.counting.CountingRouter as Router
+use Rattle.clk_router.specs.contracts.counting.CountingRouter as Value
+use Rattle.clk_router.proofs.counting.CountingRouter.TheLaws as value
+use Rattle.clickpull_c.proofs.HandleLends.{Lends}
 use Rattle.clickpull_c.specs.contracts.handle.Handle as Handle
 use Rattle.clickpull_c.specs.inside.Follows.{with_router}
-use Rattle.clickpull_c.proofs.AsBox.{E}
 use Rattle.clickpull_c.specs.contracts.handle.Handle.get_mut as F
 use Rattle.clickpull_c.specs.contracts.handle.Handle.get_mut.Key.{name as #self}
 use Rattle.clickpull_c.proofs.handle.Handle.get_mut.Statement as stated
 use Rattle.clickpull_c.proofs.handle.Handle.get_mut.Code as code
 
-abbrev At : RattleType
-At = Handle.the_row
-
-abbrev R : RattleType
-R = Router.the_row
-
-abbrev stayed : Stays (F.ended).signature.params (F.ended).kept
-stayed = (stay_dropped (mut_ref_to (0 ∷ []) tt (plain (λ _. At))) no, tt)
-
--- the box that owns what a handle does
-abbrev boxed : At.Denot → D E
-boxed h = record { ptr = h.at; alloc = h.alloc; value = h.router }
-
-module _ {M : Type 1} {𝓤 : Ura M} (𝓛 : Logic 𝓤) (at_mem : Memory → SProp 𝓤) (run : Routine → Fun 𝓤) (κ : Lft) (q : Share) (rb ro : ℕ) (γ : GName) (h : At.Denot) where
-  open 𝓛 use {H, A}
-
-  abbrev bound : (walk_of 𝓛 F.ended stayed (F.clauses 𝓛 at_mem run)).Ghost
-  bound = (((κ, tt), (q, tt), tt, (record { ref_ptr = (rb, ro); ghost_name = γ; now = h }, tt), (vptr rb ro ∷ [], tt)), tt)
-
-  abbrev Post : Val → SProp 𝓤
-  Post = (walk_of 𝓛 F.ended stayed (F.clauses 𝓛 at_mem run)).post bound
-
-  module _ (b o : ℕ) (hv : Val) where
-    -- all of the handle but the router
-    abbrev Rest : Fml
-    Rest = fsep (fsep (token E.al h.alloc (bare (τ E)) (block_ptr b o)) (handle E h.alloc hv)) (cell_at full_share At.mir (word E hv b o ∷ []) rb ro)
-
-    back : h.at ≡ block_ptr b o → (w : R.Denot) → ent 𝓤 (sep 𝓤 (sem 𝓛 ((mem R).own_at w b o)) (sem 𝓛 Rest)) (sem 𝓛 ((mem At).own_at (with_router h w) rb ro))
-    unfolding part_of
-    back at_b w =
-        qed 𝓛 (‵ (part_at R full_share w b o) ∷ ‵ Rest ∷ []) ∵ move ! (1 ∷ []) $ fsplit ! $ fsplit ! $ move ! (3 ∷ []) $
-        box_in E ! (boxed (with_router h w)) b o w at_b refl $ use1 𝓛 (‵ (At.own_val (with_router h w) (word E hv b o ∷ []))) (id⊢ 𝓤 _) $ move ! (1 ∷ 0 ∷ []) $ fjoin ! $
-        fpack ! (List Val) (λ us. fsep (cell_at full_share At.mir us rb ro) (At.own_val (with_router h w) us)) (word E hv b o ∷ []) $ done !
-
-    exits : (γ' : GName)
-        → ent 𝓤 (sep 𝓤 (sem 𝓛 ((MutRef (named 0) κ R).own_val (record { ref_ptr = (b, o); ghost_name = γ'; now = h.router }) (vptr b o ∷ []))) (sep 𝓤 (A.lft κ q) (sem 𝓛 (follows At R γ γ' (with_router h))))) (Post (vptr b o))
-    exits γ' =
-        qed 𝓛 (‵ ((MutRef (named 0) κ R).own_val (record { ref_ptr = (b, o); ghost_name = γ'; now = h.router }) (vptr b o ∷ [])) ∷ ‵ (flft κ q) ∷ ‵ (follows At R γ γ' (with_router h)) ∷ []) ∵
-        suffices ! _ (ends_at 𝓛 F.ended stayed (F.clauses 𝓛 at_mem run) bound (vptr b o) (record { ref_ptr = (b, o); ghost_name = γ'; now = h.router }) (tt, tt) (tt, tt)) $
-        nothing ! $ nothing ! $ fjoin ! $ join ! $ nothing ! $ move ! (2 ∷ 0 ∷ []) $ join ! $ join ! $ frame ! $ says ! refl $ done !
-
-  module _ (C : Calls 𝓤 H) (Λ : Loops 𝓤 H) where
-    walk : ent 𝓤 (on_entry 𝓛 F.signature (κ, tt) (q, tt) (record { ref_ptr = (rb, ro); ghost_name = γ; now = h }, tt) (vptr rb ro ∷ [], tt)) (WpFn 𝓤 H C Λ code.function (vptr rb ro ∷ []) Post)
-    walk =
-        qed 𝓛 ((‵ (flft κ q) ⊛ ‵ ftrue) ∷ ‵ (owns (MutRef (named 0) κ At ∷ []) (record { ref_ptr = (rb, ro); ghost_name = γ; now = h }, tt) (vptr rb ro ∷ [], tt)) ∷ []) ∵
-        enter ! C Λ code.function (vptr rb ro ∷ []) _ $
-        alloc_all ! (λ l. pass_all ! refl ((tt, tt), tt) $
-        let En : Env 𝓤 H = env code.function.locals l in
-        move ! (1 ∷ []) $ fsplit ! $ fsplit3 ! $ drop ! $ move ! (3 ∷ []) $ split ! $ move ! (2 ∷ 3 ∷ 0 ∷ []) $
-        opens ! tt At {h = h} rb ro (λ vs. move ! (1 ∷ []) $ use1 𝓛 (‵ ((B E).own_val (boxed h) vs)) (id⊢ 𝓤 _) $
-        box_out E ! (boxed h) vs (λ b o hv at_b ws fa. move ! (1 ∷ 2 ∷ []) $ fjoin ! $ move ! (1 ∷ []) $
-        rewrite ! 2 (λ (us : List Val). ‵ (cell_at full_share At.mir us rb ro)) ws refl $
-        -- [the router; the right to its block with the allocator; the handle's cell; the open borrow, in three entries]
-        first ! $ blocks ! $
-        sets ! (of_opd ! (load ! (through ! refl (fld ! refl (stop !))) (look_in ! 2 (sub ! 0 refl (whole !))))) refl (tt, tt) $
-        sets_last ! (addr ! (through ! refl (stop !))) refl (tt, tt) $
-        exec ! C Λ En (after 1 (code.function).body) (at_ret En Post) $
-        sets ! (of_opd ! (get ! refl)) refl (tt, tt) $
-        move ! (1 ∷ 2 ∷ []) $ fjoin ! $ move ! (2 ∷ 3 ∷ 4 ∷ 1 ∷ 0 ∷ []) $ group ! 5 $
-        use1 𝓛 (later (some (λ (γ' : GName). raw (Part 𝓛 At R (with_router h) (named 0) κ q rb ro b o γ (sem 𝓛 (Rest b o hv)) (back b o hv at_b) h.router γ'))))
-        (lends_Part 𝓛 At R (with_router h) (named 0) κ q rb ro b o γ (sem 𝓛 (Rest b o hv)) (back b o hv at_b) (At.coded.code h) (At.coded.code h) h.router) $ await ! tt $ pick ! (λ γ'.
-        returns ! (look_at ! 0 refl) $ free_all ! refl $
-        keep ! (0 ∷ []) $ by ! (exits b o hv γ')))))
-
-meets : {M : Type 1} {𝓤 : Ura M} (𝓛 : Logic 𝓤) (at_mem : Memory → SProp 𝓤) (run : Routine → Fun 𝓤) (𝓣 : Tables 𝓤 𝓛.H)
-    → Meets 𝓛 F.signature (WpFn 𝓤 𝓛.H 𝓣.C 𝓣.Λ code.function) (F.spec 𝓛 at_mem run)
-meets {𝓤 = 𝓤} 𝓛 at_mem run 𝓣 =
-    walk_Meets 𝓛 F.ended stayed (Goes-spent_ref 𝓛 1 (0 ∷ []) tt (plain (λ _. At)), tt) (F.clauses 𝓛 at_mem run) (WpFn 𝓤 𝓛.H 𝓣.C 𝓣.Λ code.function) (WpFn-mono 𝓤 𝓛.H 𝓛.laws 𝓣 code.function)
-    (walked 𝓛 F.ended stayed (F.clauses 𝓛 at_mem run) (WpFn 𝓤 𝓛.H 𝓣.C 𝓣.Λ code.function) (λ κs. (mut_vals, tt)) (λ κs. (mut_Tells (named 0) κs.0 At, tt))
-    (λ κs qs bounds a g are. via 𝓤 _ (fst∗ 𝓤 _ (emp 𝓤)) (walk 𝓛 at_mem run κs.0 qs.0 a.0.ref_ptr.0 a.0.ref_ptr.1 a.0.ghost_name a.0.now 𝓣.C 𝓣.Λ)))
-
 pub get_mut_spec : {M : Type 1} → stated.statement M
 unfolding tables_of
 get_mut_spec 𝓤 𝓛 𝓜 𝓡 wired =
     let 𝓣 : Tables 𝓤 𝓛.H = tables_of 𝓤 𝓛.H 𝓜 (tables 𝓤 𝓛.H 𝓜 𝓡 𝓡.env) in
-    entered 𝓤 𝓛.H (triple_of 𝓛 F.signature (F.spec 𝓛 𝓜.mem 𝓡.returns)) 𝓣.C 𝓣.Λ #self code.function (code.unfolded 𝓤 𝓛.H 𝓜 𝓡 wired) (meets 𝓛 𝓜.mem 𝓡.returns 𝓣)
+    entered 𝓤 𝓛.H (triple_of 𝓛 F.signature (F.spec 𝓛 𝓜.mem 𝓡.returns)) 𝓣.C 𝓣.Λ #self code.function (code.unfolded 𝓤 𝓛.H 𝓜 𝓡 wired)
+    (Lends Value.the_row (lone Value.the_row.mir) value.the_row_laws Handle.the_row Handle.the_type.name Value.the_row.written.ty (lone Value.the_row.mir)
+    (λ h. record { ptr = h.at; alloc = h.alloc; value = h.router }) with_router (λ d vs. refl) (λ d x vs. refl) 𝓛 𝓣)
