@@ -1,13 +1,14 @@
 //! Examples of what words ask for, of trees that were read, and of what is written with visits: functions whose contracts tell it.
 
-ghost use Rattle.std.specs.Prelude.{◌≡◌, ◌∷◌, [], None, Some, codes};
+ghost use Rattle.std.specs.Prelude.{◌≡◌, ◌∷◌, [], List, None, Some, codes};
 ghost use Rattle.clap.specs.Faults.{fault_of};
 ghost use Rattle.clap.specs.declared.error.kind.ErrorKind.TheVariants.{DisplayHelp, DisplayVersion, MissingRequiredArgument, ValueValidation, UnknownArgument, InvalidSubcommand};
 ghost use Rattle.clk_packet.specs.declared.fault.Fault.TheVariants.{Memory, Read, Write};
 ghost use Rattle.clk_packet.specs.Examples.{success};
 ghost use Rattle.clk_script.specs.Examples.{failed};
 ghost use Rattle.clk_command.specs.Examples.{IsOneByteEach};
-ghost use Rattle.clk_command.specs.Tasks.{WasTreeRead, WroteBoth, builtin_text};
+ghost use Rattle.clk_tree.specs.Plan.{Planned};
+ghost use Rattle.clk_command.specs.Tasks.{IsPlanIn, WasTreeRead, WroteBoth, builtin_text};
 ghost use Rattle.clk_command.specs.Words.{program_words, task_in, builtin, check, script, run};
 
 /// What some words ask for, and which kinds of error come where they are wrong.
@@ -26,8 +27,9 @@ pub fn word_examples()
     ensures version { fault_of program_words (codes "--version" ∷ []) ≡ DisplayVersion ∷ [] }
 {}
 
-/// Trees that were not read: the source of a sound text failed, and a text breaks the grammar.
+/// A tree that was read, and two that were not: the source of a sound text failed, and a text breaks the grammar.
 pub fn tree_examples()
+    ensures is_read { (plan : List Planned) → IsPlanIn (Some builtin_text) plan → WasTreeRead (Some builtin_text) 0 0 }
     ensures not_after_a_failure { ¬ (WasTreeRead (Some builtin_text) 0 1) }
     ensures not_with_a_fault { ¬ (WasTreeRead (Some (codes "s")) 0 0) }
 {}

@@ -52,7 +52,7 @@ tallies_of l = map (tally_of (all_evicted (seats_of l))) (seats_of l)
 abbrev pub tallies_in : List LineLists → List Tally
 tallies_in lines = flat_map tallies_of lines
 
--- The same tallies by rising sender.
+-- The same tallies, by sender.
 pub record AreInOrder (tallies sorted : List Tally) : Type 0 where
   pub same : IsPermutation tallies sorted
   pub order : IsNonDecreasingBy (λ (t : Tally). t.sender) sorted

@@ -8,7 +8,7 @@ use Rattle.clk_ruled.specs.Queue.{SeatLists}
 use Rattle.clk_ruled.specs.Settle.{accepted_count, lost_count, HasLostBelow}
 use Rattle.clk_drain.specs.Outcome.{SharedQueue}
 
--- a queue with the lists of its seats, one for each of its senders, in order
+-- a queue with the lists of some seats
 pub record SeatedQueue : Type 0 where
   pub queue : SharedQueue
   pub seats : List SeatLists

@@ -91,8 +91,9 @@ pub record HasOffered (traces : List (List Packet)) (s : SeatedQueue) : Type 0 w
   pub senders : senders_at s.seats ≡ s.queue.senders
   pub sent : AllByRecursion (HasSent (sent_by traces)) s.seats
 
--- All that is sent was offered to the queues of a plan, and the fault names the first of these, by device and then by leaf, that lost packets
--- below its capacity.
+-- The senders of each queue of a plan offered all that they send, and there are lists of what the queues did with it by which the fault names
+-- the first of them, by device and then by leaf, that lost packets below its capacity. A run that fails hands back no lists, so other lists may
+-- name another queue.
 pub record IsUnsettledRun (plan : List Planned) (traces : List (List Packet)) (fault : Fault) : Type 0 where
   pub queues : List SeatedQueue
   pub are : map (λ (s : SeatedQueue). s.queue) queues ≡ queues_in_order plan

@@ -87,9 +87,9 @@ step_skipped = asking 0 3 0 0 None ∷ asking 1 9 0 0 (Some p0_0) ∷ []
 abbrev pub closing_late : List Visit
 closing_late = asking 0 3 0 0 None ∷ asking 1 5 0 0 (Some p1_0) ∷ []
 
--- two pulls of the closing were two ticks apart
+-- two pulls of the closing, each of which gave a packet, were two ticks apart
 abbrev pub closing_pauses : List Visit
-closing_pauses = asking 0 3 0 0 None ∷ asking 1 4 0 0 (Some p1_0) ∷ asking 2 6 0 0 None ∷ []
+closing_pauses = asking 0 3 0 0 None ∷ asking 1 4 0 0 (Some p1_0) ∷ asking 2 6 0 0 (Some p0_0) ∷ []
 
 -- the closing made a pull after its last packet came out
 abbrev pub closing_goes_on : List Visit

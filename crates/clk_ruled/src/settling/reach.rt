@@ -1,4 +1,4 @@
-//! Whether a queue took so many packets as it may hold, before it refused one or put one out.
+//! Whether a queue that lost packets accepted as many as it may hold.
 
 ghost use Rattle.std.specs.Prelude.{◌≡◌, ◌+◌, ◌-◌, ◌<◌, ◌≤◌, length, OnOk, IfErr, OnErr, true, false};
 ghost use Rattle.std.specs.List.{AllByRecursion};
