@@ -11,7 +11,8 @@
 // A `Router` carries packets, and a `Carrier<T>` with each a value of the caller's. Both are moved and not copied, and shut their router
 // where they end. A call that can't be made throws: `Error`, where the router is shut, a sender, device or queue is unknown, a packet has
 // no length or a number is at its end; `TextFault`, where a text makes no router; std::bad_alloc where memory is refused. A call that
-// throws leaves all as it was. That a packet is refused, or that none comes, is no error, and no exception.
+// throws leaves all as it was, but for a drain at the end of moments, which keeps the pulls that it made before. That a packet is refused,
+// or that none comes, is no error, and no exception.
 #ifndef CLICKPULL_HPP
 #define CLICKPULL_HPP
 
@@ -175,11 +176,13 @@ public:
         return given;
     }
 
-    // Pulls the device one tick apart until all that is left for it came out, `pulls` pulls were made, or `count` packets came out.
+    // Pulls the device one tick apart until all that is left for it came out, `pulls` pulls were made, `count` packets came out, or the
+    // next moment is at its end. It throws at that end only if no packet came out.
     Drained drain(std::uint16_t device, Departure *departures, std::size_t count,
                   std::uint64_t pulls = std::numeric_limits<std::uint64_t>::max()) {
         std::size_t given = 0;
-        const bool some_left = is_none(clk_drain(&router_, device, departures, count, pulls, &given));
+        const clk_status status = clk_drain(&router_, device, departures, count, pulls, &given);
+        const bool some_left = (status == CLK_AT_END && given != 0) || is_none(status);
         return {given, !some_left};
     }
 

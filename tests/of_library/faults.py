@@ -28,11 +28,11 @@ def faults_have_their_names(setting: Setting) -> str:
 
 
 def limits_are_the_same(setting: Setting) -> str:
-    """The end of moments is that of the definitions."""
-    path = setting.root / "crates" / "clk_sched" / "specs" / "Limits.antt"
+    """The end of moments is that of the code."""
+    path = setting.root / "crates" / "clk_sched" / "src" / "limits.rt"
     if not path.exists():
         raise LeftOut("the limits of sessions are missing")
-    found = re.search(r"end_of_moments = 2 \^ (\d+)", path.read_text())
+    found = re.search(r"END_OF_MOMENTS: u64 = 1 << (\d+);", path.read_text())
     text = (setting.include / "clickpull.h").read_text()
     declared = re.search(r"CLK_END_OF_MOMENTS \(UINT64_C\(1\) << (\d+)\)", text)
     if found is None or declared is None:
