@@ -72,6 +72,18 @@ static void a_router_drains() {
     CHECK(it.count == 1 && it.all && is_packet(departures[0].packet, 0, 4, 100));
 }
 
+/* What came out before the last moment is answered, and the next drain throws. */
+static void a_drain_ends_with_moments() {
+    Router router("a :: Sender(0); q :: Queue(9); d :: ToDevice(link); a -> q -> d;");
+    for (int i = 0; i < 3; i++)
+        router.offer(0, 100);
+    CHECK(router.pull(0, CLK_END_OF_MOMENTS - 2).has_value());
+    Departure departures[3];
+    const auto it = router.drain(0, departures, 3);
+    CHECK(it.count == 1 && !it.all && departures[0].moment == CLK_END_OF_MOMENTS - 1);
+    CHECK(thrown_by([&] { router.drain(0, departures, 3); }) == CLK_AT_END);
+}
+
 static void what_cannot_be_is_thrown() {
     Router router(ONE);
     CHECK(thrown_by([&] { router.offer(5, 1); }) == CLK_UNKNOWN_SENDER);
@@ -119,6 +131,7 @@ void test_router() {
     a_full_queue_refuses();
     bursts_go_together();
     a_router_drains();
+    a_drain_ends_with_moments();
     what_cannot_be_is_thrown();
     a_router_moves();
     a_router_tells_what_there_is();
