@@ -1,28 +1,14 @@
 -- What a drain gives is what is emitted in it.
-use Rattle.std.proofs.Common.{◌≡◌, ℕ, ◌+◌, List, [], ◌∷◌, ◌++◌, length, map, Option, Some, None, MatchOption, refl, ap, ◌∙◌, subst, arith, if◌then◌else◌}
-use Rattle.std.specs.List.{AllByRecursion, filter_map, flat_map, cons_option}
+use Rattle.std.proofs.Common.{◌≡◌, ℕ, ◌+◌, List, [], ◌∷◌, ◌++◌, length, map, Option, Some, None, refl, ap, ◌∙◌, subst, arith}
+use Rattle.std.specs.List.{AllByRecursion, flat_map, cons_option}
 use Rattle.std.proofs.lemmas.List.{length-append}
 use Rattle.clk_packet.specs.declared.packet.Packet.{Packet}
 use Rattle.clk_sched.specs.declared.visit.Visit.{Visit}
 use Rattle.clk_sched.specs.Log.{visits_of, pulls, turn, result_of}
-use Rattle.clk_sched.specs.Turns.{UpToFirst}
 use Rattle.clk_sched.specs.Laws.Device.{IsDeviceTurn}
 use Rattle.clk_sched.specs.Results.{emitted}
-use Rattle.clk_sched.proofs.Callers.Emitted.{emitted-append}
+use Rattle.clk_sched.proofs.Callers.Emitted.{emitted-append, result-passed}
 use Rattle.clk_sched.specs.Session.{Progress, IsDrained, given_in}
-
-abbrev passed : Visit → Option Packet
-passed v = if v.passed then v.got else None
-
--- One visit at most passes something, and it is the result.
-result-passed : (visits : List Visit) → UpToFirst (0 ∷ []) visits → filter_map passed visits ≡ cons_option (result_of visits) []
-result-passed [] h = absurd h
-result-passed (v ∷ []) h = refl
-result-passed (v ∷ w ∷ visits) h = absurd (by_got v.got h.1)
-  where
-    by_got : (got : Option Packet) → MatchOption got (UpToFirst [] (w ∷ visits)) (λ _. w ∷ visits ≡ []) → ⊥
-    by_got None k = k
-    by_got (Some p) k = cc
 
 -- The turns of the device in these pulls are in order.
 abbrev AreInOrder : List (List Visit) → Type 0

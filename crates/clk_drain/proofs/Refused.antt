@@ -1,5 +1,5 @@
 -- Why a run fails.
-use Rattle.std.proofs.Common.{◌≡◌, ℕ, ◌+◌, List, [], ◌∷◌, ◌++◌, length, map, suc, refl, sym, ap, ◌∙◌, inl, inr, subst, arith, zero}
+use Rattle.std.proofs.Common.{◌≡◌, ℕ, ◌+◌, List, [], ◌∷◌, ◌++◌, length, map, suc, refl, sym, ap, ◌∙◌, inl, inr, subst, arith}
 use Rattle.std.specs.List.{flat_map, range_with_len, AllByRecursion}
 use Rattle.std.proofs.lemmas.List.{map-append}
 use Rattle.clk_packet.specs.declared.packet.Packet.{Packet}
@@ -16,7 +16,7 @@ use Rattle.clk_drain.specs.Lost.{SeatedQueue, NamesFirstLost}
 use Rattle.clk_drain.specs.inside.Threads.{Terms, Feed}
 use Rattle.clk_drain.specs.inside.Handed.{EndLists, seated_in, IsFaultOfClosing}
 use Rattle.clk_drain.specs.inside.Devices.{AreOpenFrom}
-use Rattle.clk_drain.specs.Run.{queues_at, queues_in_order, senders_in, AreKnown, HasOffered, IsUnsettledRun, IsFaultOfRun}
+use Rattle.clk_drain.specs.Run.{queues_at, queues_in_order, senders_in, AreKnown, HasOffered, IsFaultOfRun}
 use Rattle.clk_drain.proofs.Joining.{AreJoinedFeeds}
 use Rattle.clk_drain.proofs.PlanDevices.{queues_by_device}
 use Rattle.clk_drain.proofs.Settling.{all-join}

@@ -1,5 +1,5 @@
 -- What senders that stand apart send together is no more than the whole trace.
-use Rattle.std.proofs.Common.{◌≡◌, ℕ, zero, suc, ◌+◌, ◌≤◌, ◌==◌, ◌||◌, inl, inr, Bool, true, false, true≢false, List, [], ◌∷◌, ◌++◌, length, map, refl, sym, ap, ◌∙◌, subst, arith, eq-eqb, ne_eqb}
+use Rattle.std.proofs.Common.{◌≡◌, ℕ, zero, suc, ◌+◌, ◌≤◌, ◌==◌, ◌||◌, Bool, true, false, true≢false, List, [], ◌∷◌, ◌++◌, length, map, refl, sym, ap, ◌∙◌, subst, arith, eq-eqb, ne_eqb}
 use Rattle.std.specs.List.{AllByRecursion}
 use Rattle.std.proofs.lemmas.Bool.{eqb-true, eqb-false, or_parts}
 use Rattle.clk_packet.specs.Trace.{sent_by, packets_in}
@@ -7,7 +7,8 @@ use Rattle.clk_packet.specs.declared.packet.Packet.{Packet}
 use Rattle.clk_packet.specs.Lists.{stands_in, are_distinct}
 use Rattle.clk_packet.proofs.Callers.Lists.{distinct-parts, distinct-more}
 use Rattle.clk_ruled.specs.Rooms.{rooms_in_all}
-use Rattle.clk_ruled.specs.Queue.{SeatLists, IsDealt}
+use Rattle.clk_packet.proofs.Callers.Dealt.{dealt-length}
+use Rattle.clk_ruled.specs.Queue.{SeatLists}
 use Rattle.clk_ruled.specs.Settle.{accepted_count}
 use Rattle.clk_drain.specs.Line.{LineLists, seats_of, seats_in, senders_at}
 use Rattle.clk_drain.specs.Closing.{accepted_over, HasSent}
@@ -69,15 +70,10 @@ rooms-sent traces [] = refl
 rooms-sent traces (s ∷ senders) = ap (λ n. length (sent_by traces s) + n) (rooms-sent traces senders)
 
 -- Seats that offered what is sent accepted no more.
-dealt-fewer : (packets accepted refused : List Packet) → IsDealt packets accepted refused → length accepted ≤ length packets
-dealt-fewer [] accepted refused h = let none = ap length h.0 in omega (arith, none)
-dealt-fewer (p ∷ packets) accepted refused (inl h) = let are = ap length h.1 in let rest = dealt-fewer packets h.0 refused h.2 in omega (arith, are, rest)
-dealt-fewer (p ∷ packets) accepted refused (inr h) = let rest = dealt-fewer packets accepted h.0 h.2 in omega (arith, rest)
-
 pub accepted-within : (traces : List (List Packet)) (seats : List SeatLists) → AllByRecursion (HasSent (sent_by traces)) seats → accepted_count seats ≤ sent_in traces (senders_at seats)
 accepted-within traces [] h = omega arith
 accepted-within traces (c ∷ seats) h =
-    let here = dealt-fewer (sent_by traces c.sender) c.accepted c.refused h.0.2 in let rest = accepted-within traces seats h.1 in
+    let here = dealt-length (sent_by traces c.sender) c.accepted c.refused h.0.2 in let rest = accepted-within traces seats h.1 in
     omega (arith, here, rest)
 
 accepted-joined : (some more : List SeatLists) → accepted_count (some ++ more) ≡ accepted_count some + accepted_count more

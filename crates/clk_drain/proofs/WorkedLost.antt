@@ -1,7 +1,6 @@
 -- Accounts of worked queues that lost packets, and which queues fault 21 names.
-use Rattle.std.proofs.Common.{◌≡◌, ◌⊎◌, ℕ, ◌+◌, ◌==◌, ◌<◌, Bool, true, false, List, [], ◌∷◌, ◌++◌, length, map, refl, sym, ap, ◌∙◌, subst, lit≤, inl, inr, ⊎_elim, arith, if◌then◌else◌}
+use Rattle.std.proofs.Common.{◌≡◌, ◌⊎◌, ℕ, ◌==◌, Bool, true, false, List, [], ◌∷◌, ◌++◌, length, refl, sym, ap, ◌∙◌, subst, lit≤, inl, inr, ⊎_elim, arith, if◌then◌else◌}
 use Rattle.std.proofs.lemmas.List.{length-append}
-use Rattle.std.specs.List.{AllByRecursion}
 use Rattle.atomic_table.specs.Seated.{TableId}
 use Rattle.clk_packet.specs.declared.packet.Packet.{Packet}
 use Rattle.clk_packet.specs.declared.packet.Kind.TheVariants.{TailDrop, FrontDrop}
@@ -9,9 +8,7 @@ use Rattle.clk_packet.specs.declared.fault.Fault.{Fault}
 use Rattle.clk_packet.specs.declared.fault.Fault.TheVariants.{Unsettled}
 use Rattle.clk_packet.specs.Lists.{In, stands_in, AreRising}
 use Rattle.clk_ruled.specs.PacketLists.{packet_numbers, without}
-use Rattle.clk_ruled.specs.Queue.{SeatLists, IsDealt, IsSharedOut}
-use Rattle.clk_ruled.specs.Settle.{HasLostBelow, accepted_of, evicted_of, accepted_count, lost_count}
-use Rattle.clk_ruled.specs.Account.{IsAccount}
+use Rattle.clk_ruled.specs.Settle.{HasLostBelow, accepted_of, accepted_count}
 use Rattle.clk_sched.specs.Examples.Priority.{p0_0, p1_0}
 use Rattle.clk_drain.specs.Examples.{p0_1}
 use Rattle.clk_drain.specs.Lost.{SeatedQueue, NamesFirstLost}

@@ -1,9 +1,8 @@
 -- What draining a worked session may come to.
-use Rattle.std.specs.Prelude.{ℕ, List, [], ◌∷◌, Some, false}
+use Rattle.std.specs.Prelude.{List, [], ◌∷◌, Some, false}
 use Rattle.atomic_table.specs.Seated.{TableId}
 use Rattle.clk_packet.specs.declared.packet.Packet.{Packet}
 use Rattle.clk_packet.specs.declared.packet.Kind.TheVariants.{TailDrop}
-use Rattle.clk_packet.specs.declared.tally.Tally.{Tally}
 use Rattle.clk_ruled.specs.declared.view.Setup.{Setup}
 use Rattle.clk_ruled.specs.Queue.{setup_of}
 use Rattle.clk_sched.specs.declared.visit.Visit.{Visit}

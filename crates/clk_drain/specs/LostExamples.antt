@@ -7,7 +7,7 @@ use Rattle.clk_packet.specs.declared.packet.Packet.{Packet}
 use Rattle.clk_packet.specs.declared.packet.Kind.{Kind}
 use Rattle.clk_packet.specs.declared.packet.Kind.TheVariants.{TailDrop, FrontDrop}
 use Rattle.clk_packet.specs.declared.fault.Fault.{Fault}
-use Rattle.clk_ruled.specs.Queue.{SeatLists, setup_of}
+use Rattle.clk_ruled.specs.Queue.{setup_of}
 use Rattle.clk_sched.specs.Examples.Priority.{p0_0, p1_0}
 use Rattle.clk_drain.specs.Examples.{p0_1}
 use Rattle.clk_drain.specs.Lost.{SeatedQueue, NamesFirstLost}

@@ -1,5 +1,6 @@
 -- The lemmas that crates above may cite, and no others.
 pub mod Events
+pub mod Emitted
 pub mod Apart
 pub mod Plans
 pub mod Keyed

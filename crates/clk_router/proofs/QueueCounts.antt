@@ -19,6 +19,7 @@ use Rattle.clk_sched.specs.Closing.{held_in_all, left_in}
 use Rattle.clk_tree.specs.declared.plan.parts.SenderSpec.{SenderSpec}
 use Rattle.clk_tree.specs.PlanParts.{number_of}
 use Rattle.clk_router.specs.Events.{Room, Setup, Event, offered, pulled, is_at, is_of_device, happens_at, log_of, accepted_in, evicted_in, sends_to, answers_in, at_queue, history}
+use Rattle.clk_router.specs.InsideQueues.{given_by}
 use Rattle.clk_router.specs.inside.Closable.{AreQueuesOf}
 use Rattle.clk_router.proofs.Callers.Apart.{none-later}
 
@@ -184,37 +185,41 @@ counts-sum weight f offers answers none setup d tree of (e ∷ events) h =
     by_event (pulled c m visits) does =
         sum-same (λ q. total weight (answers_in (slice_get setup.trees c) q visits)) (λ q. 0) (leaves (root tree)) (λ q. none-given (slice_get setup.trees c) q visits) ∙ sum-zero (leaves (root tree)) ∙ ap one_of (sym (none c m visits))
 
--- what a queue gave in the events at its device
-gives-visits : (tree : Tree) (q : ℕ) (visits : List Visit) → total is_give (answers_in (Some tree) q visits) ≡ length (leaf_packets tree q visits)
+-- What a queue gave in the events at its device is what its leaf gave.
+gives-visits : (tree : Tree) (q : ℕ) (visits : List Visit) → filter_map given_by (answers_in (Some tree) q visits) ≡ leaf_packets tree q visits
 gives-visits tree q [] = refl
 gives-visits tree q (v ∷ visits) = by_test (asks_queue tree q v) v.got (gives-visits tree q visits)
   where
-    by_test : (b : Bool) (o : Option Packet) → total is_give (answers_in (Some tree) q visits) ≡ length (leaf_packets tree q visits)
-        → total is_give ((if b then pull_event o ∷ [] else []) ++ answers_in (Some tree) q visits) ≡ length (cons_option (if b then o else None) (leaf_packets tree q visits))
+    by_test : (b : Bool) (o : Option Packet) → filter_map given_by (answers_in (Some tree) q visits) ≡ leaf_packets tree q visits
+        → filter_map given_by ((if b then pull_event o ∷ [] else []) ++ answers_in (Some tree) q visits) ≡ cons_option (if b then o else None) (leaf_packets tree q visits)
     by_test false o rest = rest
-    by_test true None rest = omega (arith, rest)
-    by_test true (Some p) rest = omega (arith, rest)
+    by_test true None rest = rest
+    by_test true (Some p) rest = ap (λ l. p ∷ l) rest
 
-gives-log : (setup : Setup) (d : ℕ) (tree : Tree) → slice_get setup.trees d ≡ Some tree → (q : ℕ) (events : List Event) → AllByRecursion (λ e. happens_at setup d e ≡ true) events → total is_give (history setup q events) ≡ length (leaf_packets tree q (log_of events))
+pub gives-log : (setup : Setup) (d : ℕ) (tree : Tree) → slice_get setup.trees d ≡ Some tree → (q : ℕ) (events : List Event) → AllByRecursion (λ e. happens_at setup d e ≡ true) events
+    → filter_map given_by (history setup q events) ≡ leaf_packets tree q (log_of events)
 gives-log setup d tree its q [] h = refl
 gives-log setup d tree its q (offered p outcome ∷ events) h =
-    total-append is_give (at_queue setup q (offered p outcome)) (history setup q events) ∙ ap₂ (λ m n. m + n) (total-sends is_give (sends_to setup.senders p.sender q) p outcome ∙ none (sends_to setup.senders p.sender q) outcome) (gives-log setup d tree its q events h.1) ∙ zero_before (length (leaf_packets tree q (log_of events)))
+    filter_map-append given_by (at_queue setup q (offered p outcome)) (history setup q events) ∙ ap (λ l. l ++ filter_map given_by (history setup q events)) (by_test (sends_to setup.senders p.sender q) outcome) ∙ gives-log setup d tree its q events h.1
   where
-    zero_before : (n : ℕ) → 0 + n ≡ n
-    zero_before n = omega arith
-
-    none : (b : Bool) (o : Offered) → (if b then total is_give (offer_events p o) else 0) ≡ 0
-    none false o = refl
-    none true Accepted = refl
-    none true (Refused r) = refl
-    none true (Evicted front) = refl
+    by_test : (b : Bool) (o : Offered) → filter_map given_by (if b then offer_events p o else []) ≡ []
+    by_test false o = refl
+    by_test true Accepted = refl
+    by_test true (Refused r) = refl
+    by_test true (Evicted front) = refl
 gives-log setup d tree its q (pulled c m visits ∷ events) h =
     let same : c ≡ d = grind (arith, nat_tests, h.0) in
-    let here = ap (λ o. total is_give (answers_in o q visits)) (ap (slice_get setup.trees) same ∙ its) ∙ gives-visits tree q visits in
-    let rest = gives-log setup d tree its q events h.1 in
-    let whole = total-append is_give (at_queue setup q (pulled c m visits)) (history setup q events) in
-    let packets = ap length (filter_map-append (λ (v : Visit). if asks_queue tree q v then v.got else None) visits (log_of events)) ∙ length-append (leaf_packets tree q visits) (leaf_packets tree q (log_of events)) in
-    omega (arith, here, rest, whole, packets)
+    filter_map-append given_by (at_queue setup q (pulled c m visits)) (history setup q events)
+    ∙ ap₂ (λ xs ys. xs ++ ys) (ap (λ o. filter_map given_by (answers_in o q visits)) (ap (slice_get setup.trees) same ∙ its) ∙ gives-visits tree q visits) (gives-log setup d tree its q events h.1)
+    ∙ sym (filter_map-append (λ (v : Visit). if asks_queue tree q v then v.got else None) visits (log_of events))
+
+total-given : (events : List QueueEvent) → total is_give events ≡ length (filter_map given_by events)
+total-given [] = refl
+total-given (accept p ∷ events) = let rest = total-given events in omega (arith, rest)
+total-given (refuse p ∷ events) = let rest = total-given events in omega (arith, rest)
+total-given (evict p ∷ events) = let rest = total-given events in omega (arith, rest)
+total-given (give p ∷ events) = let rest = total-given events in omega (arith, rest)
+total-given (empty ∷ events) = let rest = total-given events in omega (arith, rest)
 
 gives-sum : (tree : Tree) (log : List Visit) (qs : List ℕ) → sum_over (λ q. length (leaf_packets tree q log)) qs ≡ given_in_all tree qs log
 gives-sum tree log [] = refl
@@ -247,7 +252,7 @@ left-is setup d tree of events here histories conserved =
     let all = counts-all setup events (leaves (root tree)) each in
     let a = counts-sum is_accept accepted_in (λ p. accepted-one p) pull-none (λ c m v. refl) setup d tree of events here in
     let e = counts-sum is_evict evicted_in (λ p. evicted-one p) evict-none (λ c m v. refl) setup d tree of events here in
-    let g = sum-same (λ q. total is_give (history setup q events)) (λ q. length (leaf_packets tree q (log_of events))) (leaves (root tree)) (λ q. gives-log setup d tree of.its q events here) ∙ gives-sum tree (log_of events) (leaves (root tree)) in
+    let g = sum-same (λ q. total is_give (history setup q events)) (λ q. length (leaf_packets tree q (log_of events))) (leaves (root tree)) (λ q. total-given (history setup q events) ∙ ap length (gives-log setup d tree of.its q events here)) ∙ gives-sum tree (log_of events) (leaves (root tree)) in
     let h = held-sum (λ q. length (held (history setup q events))) (leaves (root tree)) in
     omega (arith, all, a, e, g, h, conserved)
   where

@@ -1,3 +1,4 @@
 -- The lemmas that crates above may cite, and no others.
 pub mod Emitted
 pub mod Lists
+pub mod Traced

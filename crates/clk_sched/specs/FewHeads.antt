@@ -1,5 +1,5 @@
 -- How many packets of one queue a tree can hold as heads at a time.
-use Rattle.std.specs.Prelude.{◌≡◌, ℕ, ◌+◌, ◌≤◌, true, List, length, if◌then◌else◌}
+use Rattle.std.specs.Prelude.{ℕ, ◌+◌, ◌≤◌, List, length, if◌then◌else◌}
 use Rattle.clk_packet.specs.Lists.{stands_in}
 use Rattle.clk_sched.specs.declared.visit.Visit.{Visit}
 use Rattle.clk_sched.specs.Tree.{Class, drr, Row, end, leaf, node, Tree, root, leaves}

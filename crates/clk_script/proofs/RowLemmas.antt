@@ -1,23 +1,22 @@
 -- What the rows of some events write.
-use Rattle.std.proofs.Common.{◌≡◌, ℕ, ◌+◌, ◌<◌, ◌≤◌, ◌==◌, Bool, true, false, List, [], ◌∷◌, ◌++◌, map, drop, get_or, if◌then◌else◌, Option, Some, None, MatchOption, slice_get, length, Vec, append-nil, refl, arith, sym, ap, ap₂, subst, ◌∙◌}
+use Rattle.std.proofs.Common.{◌≡◌, ℕ, ◌+◌, ◌<◌, ◌≤◌, ◌==◌, Bool, true, false, List, [], ◌∷◌, ◌++◌, map, drop, get_or, Option, Some, None, MatchOption, slice_get, length, Vec, append-nil, refl, arith, sym, ap, ap₂, subst, ◌∙◌}
 use Rattle.std.specs.Bool.{⊤}
 use Rattle.std.specs.List.{flat_map, filter_map, cons_option, range_with_len, AllByRecursion, AllZip}
 use Rattle.std.specs.declared.alloc.Global.{Global}
 use Rattle.std.proofs.lemmas.List.{drop_more, length-map}
 use Rattle.std.proofs.lemmas.List.FromFn.{length-map-range_with_len}
-use Rattle.std.proofs.lemmas.List.Elements.{filter-append, filter_map-append}
+use Rattle.std.proofs.lemmas.List.Elements.{filter_map-append}
 use Rattle.std.proofs.lemmas.Bool.Decides.{nat_tests}
 use Rattle.clk_packet.specs.declared.packet.Packet.{Packet}
 use Rattle.clk_packet.specs.declared.packet.Offered.TheVariants.{Accepted, Refused, Evicted}
 use Rattle.clk_sched.specs.declared.visit.Visit.{Visit}
 use Rattle.clk_sched.specs.declared.session.departures.Departure.{Departure}
-use Rattle.clk_sched.specs.Turns.{UpToFirst}
-use Rattle.clk_sched.specs.Laws.Device.{IsDeviceTurn}
-use Rattle.clk_sched.specs.Log.{visits_of, result_of, turn}
+use Rattle.clk_sched.specs.Log.{visits_of, result_of}
 use Rattle.clk_sched.specs.Results.{emitted}
 use Rattle.clk_script.specs.declared.rows.Row.{Row}
 use Rattle.clk_sched.specs.Tree.{Tree}
-use Rattle.clk_router.specs.Events.{Setup, Event, offered, pulled, happens_at, events_at, pull_in, evicted_in, log_of, IsOfDevice, RunsTree, CanHappen, logs_of, emitted_in}
+use Rattle.clk_router.specs.Events.{Setup, Event, offered, pulled, happens_at, events_at, evicted_in, log_of, IsOfDevice, RunsTree, CanHappen, logs_of, emitted_in}
+use Rattle.clk_router.proofs.Callers.Emitted.{its-given}
 use Rattle.clk_script.specs.Meaning.{has_several, offer_text, event_text, pull_text}
 use Rattle.clk_script.specs.inside.Recorder.{departure_text}
 use Rattle.clk_report.specs.Devices.{lists_of}
@@ -45,42 +44,10 @@ module _ (several : Bool) (given fronts : List Packet) where
   rows-lines (e ∷ events) (r ∷ rows) are =
       subst (λ (q : Row). WriteTheirs (e ∷ events) (q ∷ rows)) (sym are.0.1) (first-line are.0.0 e events rows (rows-lines events rows are.1))
 
--- the device has one visit in a pull
-pub alone : (v : Visit) (visits : List Visit) → UpToFirst (0 ∷ []) (v ∷ visits) → visits ≡ []
-alone v [] device = refl
-alone v (w ∷ visits) device = absurd (by_got v.got device.1)
-  where
-    by_got : (o : Option Packet) → MatchOption o (UpToFirst [] (w ∷ visits)) (λ p. w ∷ visits ≡ []) → ⊥
-    by_got None h = h
-    by_got (Some p) h = omega (arith, ap length h)
-
--- what came out is what the pulls gave
-abbrev gave : Visit → Option Packet
-gave v = if v.passed then v.got else None
-
-device-gave : (visits : List Visit) → UpToFirst (0 ∷ []) visits → filter_map gave visits ≡ cons_option (result_of visits) []
-device-gave [] device = absurd device
-device-gave (v ∷ visits) device = subst (λ more. filter_map gave (v ∷ more) ≡ cons_option (result_of (v ∷ more)) []) (sym (alone v visits device)) refl
-
-emitted-given : (events : List Event) → AllByRecursion IsDeviceTurn (map (turn 0) (filter_map pull_in events)) → emitted (log_of events) ≡ filter_map emitted_in events
-emitted-given [] device = refl
-emitted-given (offered p outcome ∷ events) device = emitted-given events device
-emitted-given (pulled d moment visits ∷ events) device =
-    ap (filter_map gave) (filter-append (λ (v : Visit). v.node == 0) visits (log_of events)) ∙ filter_map-append gave (visits_of 0 visits) (visits_of 0 (log_of events))
-    ∙ ap₂ (λ a b. a ++ b) (device-gave (visits_of 0 visits) device.0.in_order) (emitted-given events device.1) ∙ by_result (result_of (visits_of 0 visits)) refl
-  where
-    by_result : (o : Option Packet) → result_of (visits_of 0 visits) ≡ o → cons_option (result_of (visits_of 0 visits)) [] ++ filter_map emitted_in events ≡ filter_map emitted_in (pulled d moment visits ∷ events)
-    by_result None e = rw e refl
-    by_result (Some p) e = rw e refl
-
--- the turns of a device are those of a run
-pub its-turns : (tree : Tree) (events : List Event) → RunsTree tree events → AllByRecursion IsDeviceTurn (map (turn 0) (filter_map pull_in events))
-its-turns tree events runs = subst (λ l. AllByRecursion IsDeviceTurn (map (turn 0) l)) runs.pull_by_pull runs.run.device
-
 -- what came out at the first device is what its pulls gave
 first-emitted : (trees : List Tree) (events : List Event) → 1 ≤ length trees → MatchOption (slice_get trees 0) ⊤ (λ t. RunsTree t events) → emitted (log_of events) ≡ filter_map emitted_in events
 first-emitted [] events some runs = absurd (omega (arith, some))
-first-emitted (tree ∷ trees) events some runs = emitted-given events (its-turns tree events runs)
+first-emitted (tree ∷ trees) events some runs = its-given tree events runs
 
 -- where there is one device, all pulls are its own
 given-alone : (setup : Setup) (events : List Event) → AllByRecursion (IsOfDevice 1) events → filter_map emitted_in (events_at setup 0 events) ≡ filter_map emitted_in events

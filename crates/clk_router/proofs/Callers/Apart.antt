@@ -12,6 +12,7 @@ use Rattle.clk_tree.specs.declared.plan.parts.SenderSpec.{SenderSpec}
 use Rattle.clk_packet.specs.Lists.{AreRising}
 use Rattle.clk_tree.specs.PlanParts.{number_of}
 use Rattle.clk_router.specs.Events.{Room, Setup, Event, offered, pulled, is_at, is_of_device, happens_at, events_at, number_from, numbers_of, sends_to, answers_in, at_queue, history, IsOfDevice, IsOfSender, NamesItsOffer, RunsTree, CanHappen}
+use Rattle.clk_router.specs.Settled.{sends_at}
 use Rattle.clk_router.specs.Setups.{IsApart}
 
 -- tests joined by or
@@ -167,21 +168,17 @@ kept-twice p (x ∷ xs) = by_test (p x) refl (kept-twice p xs)
     by_test true e rest = rw (e, e) (ap (λ l. x ∷ l) rest)
     by_test false e rest = rw e rest
 
--- whether a sender's packets are offered at a device
-abbrev has_sender : Setup → ℕ → ℕ → Bool
-has_sender setup d s = list_any (λ (x : SenderSpec). (x.number == s) && is_of_device setup.queues d x) setup.senders
-
 -- no event is of a sender whose packets go another way than it does
-unnumbered : (setup : Setup) (d s : ℕ) (x : Event) → (happens_at setup d x ≡ has_sender setup d s → ⊥) → number_from s x ≡ None
+unnumbered : (setup : Setup) (d s : ℕ) (x : Event) → (happens_at setup d x ≡ sends_at setup d s → ⊥) → number_from s x ≡ None
 unnumbered setup d s (pulled c m v) other = refl
 unnumbered setup d s (offered p outcome) other = by_sender (p.sender == s) refl
   where
     by_sender : (t : Bool) → (p.sender == s) ≡ t → (if t then Some p.number else None) ≡ None
     by_sender false f = refl
-    by_sender true f = let same : p.sender ≡ s = grind (arith, nat_tests) in absurd (other (ap (has_sender setup d) same))
+    by_sender true f = let same : p.sender ≡ s = grind (arith, nat_tests) in absurd (other (ap (sends_at setup d) same))
 
 -- a sender's packets are all offered at a device, or none is
-numbers-at : (setup : Setup) (d s : ℕ) (events : List Event) → (b : Bool) → has_sender setup d s ≡ b → numbers_of s (events_at setup d events) ≡ (if b then numbers_of s events else [])
+numbers-at : (setup : Setup) (d s : ℕ) (events : List Event) → (b : Bool) → sends_at setup d s ≡ b → numbers_of s (events_at setup d events) ≡ (if b then numbers_of s events else [])
 numbers-at setup d s events true e = kept-all (happens_at setup d) (number_from s) events (λ x isnt. unnumbered setup d s x (λ same. false≢true (sym isnt ∙ same ∙ e)))
 numbers-at setup d s events false e = kept-none (happens_at setup d) (number_from s) events (λ x does. unnumbered setup d s x (λ same. false≢true (sym e ∙ sym same ∙ does)))
 

@@ -1,5 +1,5 @@
 -- Where the packets of each sender are, in events that can happen.
-use Rattle.std.proofs.Common.{◌≡◌, ℕ, zero, suc, ◌<◌, ◌==◌, Bool, true, false, if◌then◌else◌, List, [], ◌∷◌, ◌++◌, length, Option, Some, None, MatchOption, slice_get, refl, sym, ap, ap₂, ◌∙◌, subst, arith}
+use Rattle.std.proofs.Common.{◌≡◌, ℕ, ◌<◌, ◌==◌, Bool, true, false, if◌then◌else◌, List, [], ◌∷◌, ◌++◌, length, Option, Some, None, MatchOption, slice_get, refl, sym, ap, ap₂, ◌∙◌, subst, arith}
 use Rattle.std.specs.Bool.{⊤}
 use Rattle.std.specs.List.{filter_map, cons_option, AllByRecursion}
 use Rattle.std.proofs.lemmas.Bool.{false≢true, eqb-true}
@@ -15,28 +15,23 @@ use Rattle.clk_sched.specs.Tree.{Tree, root, leaves, leaves_distinct}
 use Rattle.clk_sched.specs.Run.{IsRun}
 use Rattle.clk_sched.specs.Results.{leaf_packets, traced_emitted, traced_heads, emitted, heads}
 use Rattle.clk_sched.specs.Conservation.{from_queue, ConservesPackets, MakesNothing}
+use Rattle.clk_sched.proofs.Callers.Lists.{to-all}
+use Rattle.clk_sched.proofs.Callers.Traced.{CameOf, emitted-traced, all-traced}
 use Rattle.clk_tree.specs.declared.plan.parts.SenderSpec.{SenderSpec}
 use Rattle.clk_tree.specs.PlanParts.{SendsWithin}
 use Rattle.clk_packet.specs.Dealt.{IsDealt}
+use Rattle.clk_packet.proofs.Callers.Dealt.{dealt-kept}
 use Rattle.clk_router.specs.Events.{Room, Setup, Event, offered, pulled, sender_numbers, is_at, happens_at, events_at, log_of, accepted_in, refused_in, evicted_in, sends_to, history, IsOfDevice, IsOfSender, RunsTree, CanHappen}
 use Rattle.clk_router.specs.Settled.{IsSenderAccounted, emitted_by, sends_at}
 use Rattle.clk_router.specs.InsideQueues.{given_by}
 use Rattle.clk_router.specs.inside.Closable.{IsClosable}
 use Rattle.clk_router.specs.inside.Parts.{IsWhole}
 use Rattle.clk_router.proofs.Callers.Apart.{sent-here, history-alone}
-use Rattle.clk_router.proofs.Settled.Dealt.{dealt-kept, offered-dealt, all-both, all-for, member-there}
+use Rattle.clk_router.proofs.QueueCounts.{gives-log}
+use Rattle.clk_router.proofs.Settled.Dealt.{offered-dealt, all-both, all-for, member-there}
 use Rattle.clk_router.proofs.Settled.Emitted.{emitted-all}
-use Rattle.clk_router.proofs.Settled.QueuePackets.{accepted_by, refused_by, evicted_by, accepted-is, gone-dealt, all-evicted, all-given, all-gone, history-in_order, none-refused, none-evicted, IsOwn, its-packets, gives-log, all-sent, EvictsWith, each-evicts}
-use Rattle.clk_router.proofs.Settled.OwnPackets.{one-queue, its-queue, CameOf, all-came, of-own_queue, none-of-other, all-traced, emitted-traced}
-
-pub at-member : {X : Type 0} (P : X → Type 0) (xs : List X) (i : ℕ) (x : X) → AllByRecursion P xs → slice_get xs i ≡ Some x → P x
-at-member P [] i x h e = absurd (cc)
-at-member P (y ∷ xs) zero x h e = let same : y ≡ x = cc in subst P same h.0
-at-member P (y ∷ xs) (suc i) x h e = at-member P xs i x h.1 e
-
-all-any : {X : Type 0} (P : X → Type 0) (xs : List X) → ((x : X) → P x) → AllByRecursion P xs
-all-any P [] f = tt
-all-any P (x ∷ xs) f = (f x, all-any P xs f)
+use Rattle.clk_router.proofs.Settled.QueuePackets.{accepted_by, refused_by, evicted_by, accepted-is, gone-dealt, all-evicted, all-given, all-gone, history-in_order, none-refused, none-evicted, IsOwn, its-packets, all-sent, EvictsWith, each-evicts}
+use Rattle.clk_router.proofs.Settled.OwnPackets.{SendsIn, one-queue, its-queue, all-came, of-own_queue, none-of-other}
 
 -- what happens at a device happens there
 pub own-events : (setup : Setup) (d : ℕ) (events : List Event) → AllByRecursion (λ e. happens_at setup d e ≡ true) (events_at setup d events)
@@ -160,7 +155,7 @@ module _ (conserves : (tree : Tree) → leaves_distinct tree ≡ true → Conser
   pub its-run : (d : ℕ) (tree : Tree) → slice_get setup.trees d ≡ Some tree → IsRun tree (log_of (its d))
   its-run d tree is = (subst (λ o. MatchOption o ⊤ (λ tree. RunsTree tree (its d))) is (can.runs d)).run
 
-  -- what a queue given_of is what its leaf given_of
+  -- what a queue gave is what its leaf gave
   pub leaf-gave : (d : ℕ) (tree : Tree) → slice_get setup.trees d ≡ Some tree → (q : ℕ) (room : Room) → slice_get setup.queues q ≡ Some room → (room.device == d) ≡ true → filter_map given_by (history setup q events) ≡ leaf_packets tree q (log_of (its d))
   leaf-gave d tree at q room is here = ap (filter_map given_by) (sym (history-alone setup closable.apart d q room is here events)) ∙ gives-log setup d tree at q (its d) (own-events setup d events)
 
@@ -173,7 +168,7 @@ module _ (conserves : (tree : Tree) → leaves_distinct tree ≡ true → Conser
       by_room (Some room) is e = (room, is, e)
 
   -- All that came out of a device, or is held in its tree, came from its queues, and is of their senders.
-  pub came : (d : ℕ) (tree : Tree) → slice_get setup.trees d ≡ Some tree → AllByRecursion (CameOf setup.senders (root tree)) (traced_emitted tree (log_of (its d))) × AllByRecursion (CameOf setup.senders (root tree)) (traced_heads (log_of (its d)) 1 (root tree))
+  pub came : (d : ℕ) (tree : Tree) → slice_get setup.trees d ≡ Some tree → AllByRecursion (CameOf (SendsIn setup.senders (root tree))) (traced_emitted tree (log_of (its d))) × AllByRecursion (CameOf (SendsIn setup.senders (root tree))) (traced_heads (log_of (its d)) 1 (root tree))
   came d tree at =
       let from = makes tree (log_of (its d)) (its-run d tree at) in (
         all-came setup.senders tree (log_of (its d)) (root tree) (traced_emitted tree (log_of (its d))) all from.0,
@@ -190,7 +185,7 @@ module _ (conserves : (tree : Tree) → leaves_distinct tree ≡ true → Conser
   pub all-own : (d : ℕ) (tree : Tree) → slice_get setup.trees d ≡ Some tree → AllByRecursion (λ (p : Packet). sends_at setup d p.sender ≡ true) (emitted_by setup d events)
   all-own d tree at =
       subst (AllByRecursion (λ (p : Packet). sends_at setup d p.sender ≡ true)) (sym (emitted-traced tree (log_of (its d))))
-      (all-traced setup.senders (root tree) (λ s. sends_at setup d s ≡ true) (λ k s stands sends. sent-here setup.queues setup.senders s k d (sym ((closable.queues d tree at).leaves_are k) ∙ stands) sends)
+      (all-traced (SendsIn setup.senders (root tree)) (λ s. sends_at setup d s ≡ true) (λ k s its. sent-here setup.queues setup.senders s k d (sym ((closable.queues d tree at).leaves_are k) ∙ its.0) its.1)
       (traced_emitted tree (log_of (its d))) (came d tree at).0)
 
   -- the leaf of a queue
@@ -207,7 +202,7 @@ module _ (conserves : (tree : Tree) → leaves_distinct tree ≡ true → Conser
         given = of_sender s.number (filter_map given_by past);
         offered_are = offered-dealt s.number events;
         accepted_are =
-            its-packets accepted_in accepted_by accepted-offer accepted-pull (λ d m visits. refl) setup s.queue s.number events (all-any (IsOwn accepted_in setup s.queue s.number) events (own-accepted setup s.queue s.number sends))
+            its-packets accepted_in accepted_by accepted-offer accepted-pull (λ d m visits. refl) setup s.queue s.number events (to-all (IsOwn accepted_in setup s.queue s.number) events (λ e _. own-accepted setup s.queue s.number sends e))
             ∙ ap (of_sender s.number) (sym (accepted-is past) ∙ order.order) ∙ filter-append (λ (p : Packet). p.sender == s.number) (gone past) (held past);
         gone_are =
             subst (λ l. IsDealt (of_sender s.number (gone past)) l (of_sender s.number (filter_map given_by past))) (sym evicted_are)
@@ -235,7 +230,7 @@ module _ (conserves : (tree : Tree) → leaves_distinct tree ≡ true → Conser
           (λ e known evicts. own-evicted setup s.queue s.number closable.apart.senders whole.wired sends e known evicts) can.senders all-evict)
 
       refused_are : of_sender s.number (filter_map refused_in events) ≡ of_sender s.number (filter_map refused_by past)
-      refused_are = its-packets refused_in refused_by refused-offer refused-pull (λ d m visits. refl) setup s.queue s.number events (all-any (IsOwn refused_in setup s.queue s.number) events (own-refused setup s.queue s.number sends))
+      refused_are = its-packets refused_in refused_by refused-offer refused-pull (λ d m visits. refl) setup s.queue s.number events (to-all (IsOwn refused_in setup s.queue s.number) events (λ e _. own-refused setup s.queue s.number sends e))
 
       its_given : of_sender s.number (filter_map given_by past) ≡ of_sender s.number (emitted log) ++ of_sender s.number (heads tree log)
       its_given =

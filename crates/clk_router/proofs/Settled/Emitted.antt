@@ -1,5 +1,5 @@
--- What all pulls put out of a sender is what its own device emitted of it.
-use Rattle.std.proofs.Common.{◌≡◌, ℕ, ◌==◌, Bool, true, false, if◌then◌else◌, List, [], ◌∷◌, ◌++◌, length, map, filter, Option, Some, None, MatchOption, slice_get, refl, sym, ap, ap₂, ◌∙◌, subst, arith}
+-- What all pulls emitted of a sender is what its own device emitted of it.
+use Rattle.std.proofs.Common.{◌≡◌, ℕ, ◌==◌, Bool, true, false, if◌then◌else◌, List, [], ◌∷◌, ◌++◌, length, filter, Some, MatchOption, slice_get, refl, sym, ap, ◌∙◌, subst, arith}
 use Rattle.std.specs.List.{filter_map, cons_option, AllByRecursion}
 use Rattle.std.proofs.lemmas.Bool.{false≢true}
 use Rattle.std.specs.Bool.{⊤}
@@ -7,41 +7,13 @@ use Rattle.std.proofs.lemmas.Bool.Decides.{nat_tests}
 use Rattle.std.proofs.lemmas.List.Elements.{filter-append, filter_map-append}
 use Rattle.clk_packet.specs.declared.packet.Packet.{Packet}
 use Rattle.clk_packet.specs.Lists.{of_sender}
-use Rattle.clk_sched.specs.declared.visit.Visit.{Visit}
-use Rattle.clk_sched.specs.Turns.{UpToFirst}
-use Rattle.clk_sched.specs.Laws.Device.{IsDeviceTurn}
-use Rattle.clk_sched.specs.Log.{visits_of, turn, result_of}
 use Rattle.clk_sched.specs.Tree.{Tree}
-use Rattle.clk_sched.specs.Results.{emitted}
-use Rattle.clk_sched.proofs.Callers.Emitted.{emitted-append}
-use Rattle.clk_router.specs.Events.{Setup, Event, offered, pulled, happens_at, events_at, log_of, pull_in, emitted_in, IsOfDevice, RunsTree, CanHappen}
+use Rattle.clk_router.specs.Events.{Setup, Event, offered, pulled, happens_at, events_at, emitted_in, IsOfDevice, RunsTree, CanHappen}
 use Rattle.clk_router.specs.Settled.{emitted_by}
+use Rattle.clk_router.proofs.Callers.Emitted.{its-given}
 use Rattle.clk_router.proofs.Settled.Dealt.{all-for, member-there}
 
--- the device has one visit in a pull, and so what came out in it is its result
-alone-visit : (v : Visit) (visits : List Visit) → UpToFirst (0 ∷ []) (v ∷ visits) → visits ≡ []
-alone-visit v [] device = refl
-alone-visit v (w ∷ visits) device = absurd (by_got v.got device.1)
-  where
-    by_got : (o : Option Packet) → MatchOption o (UpToFirst [] (w ∷ visits)) (λ p. w ∷ visits ≡ []) → ⊥
-    by_got None h = h
-    by_got (Some p) h = omega (arith, ap length h)
-
-pub passed-result : (visits : List Visit) → UpToFirst (0 ∷ []) visits → filter_map (λ (v : Visit). if v.passed then v.got else None) visits ≡ cons_option (result_of visits) []
-passed-result [] device = absurd device
-passed-result (v ∷ visits) device = subst (λ more. filter_map (λ (v : Visit). if v.passed then v.got else None) (v ∷ more) ≡ cons_option (result_of (v ∷ more)) []) (sym (alone-visit v visits device)) refl
-
--- what came out is what the pulls given_of
-emitted-given : (events : List Event) → AllByRecursion IsDeviceTurn (map (turn 0) (filter_map pull_in events)) → emitted (log_of events) ≡ filter_map emitted_in events
-emitted-given [] device = refl
-emitted-given (offered p outcome ∷ events) device = emitted-given events device
-emitted-given (pulled d moment visits ∷ events) device =
-    emitted-append visits (log_of events) ∙ ap₂ (λ a b. a ++ b) (passed-result (visits_of 0 visits) device.0.in_order) (emitted-given events device.1) ∙ sym (filter_map-append emitted_in (pulled d moment visits ∷ []) events)
-
-its-given : (tree : Tree) (events : List Event) → RunsTree tree events → emitted (log_of events) ≡ filter_map emitted_in events
-its-given tree events runs = emitted-given events (subst (λ l. AllByRecursion IsDeviceTurn (map (turn 0) l)) runs.pull_by_pull runs.run.device)
-
--- the packet of the sender that an event put out
+-- the packet of the sender that an event emitted
 abbrev OfEvent : ℕ → Event → List Packet
 OfEvent s e = of_sender s (cons_option (emitted_in e) [])
 
@@ -52,7 +24,7 @@ first-none : (xs ys : List Packet) → xs ++ ys ≡ [] → (xs ≡ []) × (ys �
 first-none [] ys e = (refl, e)
 first-none (x ∷ xs) ys e = absurd (omega (arith, ap length e))
 
--- where no event that passes a test put one out, each of them didn't
+-- where no event that passes a test emitted one, each of them emitted none
 each-none : (t : Event → Bool) (s : ℕ) (events : List Event) → of_sender s (filter_map emitted_in (filter t events)) ≡ [] → AllByRecursion (λ e. t e ≡ true → OfEvent s e ≡ []) events
 each-none t s [] none = tt
 each-none t s (e ∷ events) none = by_test (t e) refl none (each-none t s events)
@@ -62,7 +34,7 @@ each-none t s (e ∷ events) none = by_test (t e) refl none (each-none t s event
     by_test true is none rest = let both = first-none (OfEvent s e) (of_sender s (filter_map emitted_in (filter t events))) (sym (first-event s e (filter t events)) ∙ none) in ((λ _. both.0), rest both.1)
     by_test false is none rest = ((λ does. absurd (false≢true (sym is ∙ does))), rest none)
 
--- where events elsewhere put none out, those here put all out
+-- where events elsewhere emitted none, those here emitted all
 all-here : (t : Event → Bool) (s : ℕ) (events : List Event) → AllByRecursion (λ e. t e ≡ false → OfEvent s e ≡ []) events → of_sender s (filter_map emitted_in events) ≡ of_sender s (filter_map emitted_in (filter t events))
 all-here t s [] h = refl
 all-here t s (e ∷ events) h = first-event s e events ∙ by_test (t e) refl h.0 (all-here t s events h.1)
@@ -72,7 +44,7 @@ all-here t s (e ∷ events) h = first-event s e events ∙ by_test (t e) refl h.
     by_test true is none rest = ap (λ l. OfEvent s e ++ l) rest ∙ sym (first-event s e (filter t events))
     by_test false is none rest = ap (λ l. l ++ of_sender s (filter_map emitted_in events)) (none is) ∙ rest
 
--- What all pulls put out of a sender is what came out of it at its device, where none came out elsewhere.
+-- What all pulls emitted of a sender is what its device emitted of it, where no other device emitted any.
 pub emitted-all : (setup : Setup) (events : List Event) → CanHappen setup events → (d : ℕ) (tree : Tree) → slice_get setup.trees d ≡ Some tree → (s : ℕ) → ((c : ℕ) → (d == c) ≡ false → of_sender s (emitted_by setup c events) ≡ [])
     → of_sender s (filter_map emitted_in events) ≡ of_sender s (emitted_by setup d events)
 emitted-all setup events can d tree at s elsewhere = all-here (happens_at setup d) s events each ∙ ap (of_sender s) (sym (its-given tree (events_at setup d events) (subst (λ o. MatchOption o ⊤ (λ t. RunsTree t (events_at setup d events))) at (can.runs d))))

@@ -1,14 +1,14 @@
 -- How the packets inside each queue of a router change, in events that can happen.
-use Rattle.std.proofs.Common.{◌≡◌, ◌<◌, true, List, length, MatchOption, Some, slice_get, refl, sym, subst}
+use Rattle.std.proofs.Common.{◌≡◌, ◌<◌, true, length, MatchOption, refl, sym, subst}
 use Rattle.clk_sched.specs.Tree.{Tree, leaves_distinct}
 use Rattle.clk_sched.specs.Conservation.{ConservesPackets, MakesNothing}
 use Rattle.clk_sched.specs.FewHeads.{HoldsFewHeads}
-use Rattle.clk_router.specs.Events.{Room, Setup, CanHappen}
+use Rattle.clk_router.specs.Events.{Room, Setup}
 use Rattle.clk_router.specs.InsideQueues.{QueueGoesOn, QueuesGoOn}
 use Rattle.clk_router.specs.inside.Closable.{IsClosable}
 use Rattle.clk_router.specs.inside.Parts.{IsWhole}
+use Rattle.clk_router.proofs.PartsLemmas.{all-there}
 use Rattle.clk_router.proofs.Settled.Dealt.{member-there}
-use Rattle.clk_router.proofs.Settled.Accounted.{at-member}
 use Rattle.clk_router.proofs.Settled.Inside.{inside-fits}
 use Rattle.clk_router.proofs.Settled.InsideOffered.{inside-offered}
 use Rattle.clk_router.proofs.Settled.InsideSteps.{inside-other, inside-accepted, inside-refused, inside-evicted, inside-pulled}
@@ -18,7 +18,7 @@ queues-go_on conserves makes few setup whole closable =
     record {
       start = λ d q. refl;
       each = λ events q room can is.
-          (let its = member-there setup.trees room.device (at-member (λ (r : Room). r.device < length setup.trees) setup.queues q room whole.paths is) in
+          (let its = member-there setup.trees room.device (all-there (λ (r : Room). r.device < length setup.trees) setup.queues q room whole.paths is) in
           subst (λ o. MatchOption o ⊥ (QueueGoesOn setup events q room)) (sym its.1)
           (record {
             other = λ p outcome none. inside-other setup room.device q events p outcome none;

@@ -11,18 +11,19 @@ use Rattle.clk_sched.specs.Results.{Traced, traced_emitted, traced_heads}
 use Rattle.clk_ring.specs.QueueHistory.{held}
 use Rattle.clk_sched.specs.FewHeads.{drrs_above, HoldsFewHeads}
 use Rattle.clk_sched.specs.Conservation.{from_queue, ConservesPackets, MakesNothing}
+use Rattle.clk_sched.proofs.Callers.Traced.{CameOf, emitted-traced}
 use Rattle.clk_tree.specs.declared.plan.parts.SenderSpec.{SenderSpec}
 use Rattle.clk_tree.specs.PlanParts.{number_of}
 use Rattle.clk_router.specs.Events.{Room, Setup, Event, is_at, sends_to, events_at, log_of, history, CanHappen}
 use Rattle.clk_router.specs.InsideQueues.{is_of_queue, given_of, emitted_of, heads_of, inside_of}
 use Rattle.clk_router.specs.inside.Closable.{IsClosable}
 use Rattle.clk_router.specs.inside.Parts.{IsWhole}
-use Rattle.clk_router.proofs.Settled.OwnPackets.{one-queue, CameOf, emitted-traced}
+use Rattle.clk_router.proofs.Settled.OwnPackets.{SendsIn, one-queue, none-from}
 use Rattle.clk_router.proofs.Settled.QueuePackets.{history-in_order}
 use Rattle.clk_router.proofs.Settled.Accounted.{has-history, its-run, leaf-gave, came, stands-there}
 
 -- What is of a queue's senders came from that queue.
-pub of-queue : (senders : List SenderSpec) (row : Row) (q : ℕ) → AreRising (map number_of senders) → (ts : List Traced) → AllByRecursion (CameOf senders row) ts
+pub of-queue : (senders : List SenderSpec) (row : Row) (q : ℕ) → AreRising (map number_of senders) → (ts : List Traced) → AllByRecursion (CameOf (SendsIn senders row)) ts
     → filter (λ (p : Packet). sends_to senders p.sender q) (map (λ (t : Traced). t.0) ts) ≡ from_queue q ts
 of-queue senders row q rising [] h = refl
 of-queue senders row q rising (t ∷ ts) h = by_origin t.1 t.0 h.0 (of-queue senders row q rising ts h.1)
@@ -44,19 +45,6 @@ of-queue senders row q rising (t ∷ ts) h = by_origin t.1 t.0 h.0 (of-queue sen
     by_origin None p over rest = absurd over
     by_origin (Some k) p over rest = by_tests (sends_to senders p.sender q) (k == q) k p refl refl over.1 rest
 
--- Nothing came from a queue that doesn't stand in the tree.
-pub none-from : (senders : List SenderSpec) (row : Row) (q : ℕ) → stands_in q (leaves row) ≡ false → (ts : List Traced) → AllByRecursion (CameOf senders row) ts → from_queue q ts ≡ []
-none-from senders row q other [] h = refl
-none-from senders row q other (t ∷ ts) h = by_origin t.1 t.0 h.0 (none-from senders row q other ts h.1)
-  where
-    by_test : (b : Bool) (k : ℕ) (p : Packet) → (k == q) ≡ b → stands_in k (leaves row) ≡ true → from_queue q ts ≡ [] → cons_option (if b then Some p else None) (from_queue q ts) ≡ []
-    by_test true k p e here rest = absurd (false≢true (sym other ∙ subst (λ n. stands_in n (leaves row) ≡ true) (eqb-true k q e) here))
-    by_test false k p e here rest = rest
-
-    by_origin : (o : Option ℕ) (p : Packet) → MatchOption o ⊥ (λ k. (stands_in k (leaves row) ≡ true) × (sends_to senders p.sender k ≡ true)) → from_queue q ts ≡ [] → cons_option (if is_number q o then Some p else None) (from_queue q ts) ≡ []
-    by_origin None p over rest = absurd over
-    by_origin (Some k) p over rest = by_test (k == q) k p refl over.0 rest
-
 module _ (conserves : (tree : Tree) → leaves_distinct tree ≡ true → ConservesPackets tree) (makes : (tree : Tree) → MakesNothing tree) (setup : Setup) (whole : IsWhole setup) (closable : IsClosable setup) (events : List Event) (can : CanHappen setup events) where
   -- What came out of a device is traced, by queue.
   pub emitted-of : (d q : ℕ) (tree : Tree) → slice_get setup.trees d ≡ Some tree → emitted_of setup d q events ≡ from_queue q (traced_emitted tree (log_of (events_at setup d events)))
@@ -64,7 +52,7 @@ module _ (conserves : (tree : Tree) → leaves_distinct tree ≡ true → Conser
       let log = log_of (events_at setup d events) in
       ap (filter (is_of_queue setup q)) (emitted-traced tree log) ∙ of-queue setup.senders (root tree) q closable.apart.senders (traced_emitted tree log) (came conserves makes setup whole closable events can d tree at).0
 
-  -- What a queue given_of is what came out of it, and then its heads.
+  -- What a queue gave is what the device emitted of it, and then its heads.
   given-all : (q : ℕ) (room : Room) (tree : Tree) → slice_get setup.queues q ≡ Some room → slice_get setup.trees room.device ≡ Some tree
       → given_of setup q events ≡ emitted_of setup room.device q events ++ from_queue q (traced_heads (log_of (events_at setup room.device events)) 1 (root tree))
   given-all q room tree is at =

@@ -9,11 +9,11 @@ use Rattle.clk_packet.specs.declared.packet.Packet.{Packet}
 use Rattle.clk_packet.specs.declared.packet.Offered.{Offered}
 use Rattle.clk_packet.specs.declared.packet.Offered.TheVariants.{Accepted, Refused, Evicted}
 use Rattle.clk_packet.specs.Lists.{stands_in}
-use Rattle.clk_ring.specs.QueueHistory.{accepted, gone, held, IsQueueHistory, offer_events, pull_event}
+use Rattle.clk_ring.specs.QueueHistory.{gone, held, IsQueueHistory, offer_events, pull_event}
 use Rattle.clk_router.specs.Events.{Room, Setup, Event, offered, pulled, number_from, numbers_of, sends_to, at_queue, history, CanHappen}
-use Rattle.clk_router.specs.InsideQueues.{given_by, given_of, emitted_of, heads_of, inside_of}
+use Rattle.clk_router.specs.InsideQueues.{given_of, emitted_of, heads_of, inside_of}
+use Rattle.clk_sched.proofs.Callers.Lists.{all-split, all-weaker}
 use Rattle.clk_router.proofs.Callers.Events.{all-join}
-use Rattle.clk_router.proofs.Settled.Dealt.{all-left, all-right, all-implied}
 use Rattle.clk_router.proofs.Settled.QueuePackets.{accepted_by, accepted-is, all-given, history-in_order, none-answered}
 
 -- what holds of the packet of an offer
@@ -35,7 +35,7 @@ wider n (Some m) ns e = or-later (m == n) e
 
 all-numbered : (events : List Event) → AllByRecursion (OfOffer (IsNumbered events)) events
 all-numbered [] = tt
-all-numbered (e ∷ events) = (first e, all-implied (OfOffer (IsNumbered events)) (OfOffer (IsNumbered (e ∷ events))) events later (all-numbered events))
+all-numbered (e ∷ events) = (first e, all-weaker (OfOffer (IsNumbered events)) (OfOffer (IsNumbered (e ∷ events))) events later (all-numbered events))
   where
     first : (e : Event) → OfOffer (IsNumbered (e ∷ events)) e
     first (offered p outcome) =
@@ -60,7 +60,7 @@ abbrev pub WasOffered : List Event → Packet → Type 0
 WasOffered events p = p.number < length (numbers_of p.sender events)
 
 pub all-offered : (setup : Setup) (events : List Event) → CanHappen setup events → AllByRecursion (OfOffer (WasOffered events)) events
-all-offered setup events can = all-implied (OfOffer (IsNumbered events)) (OfOffer (WasOffered events)) events step (all-numbered events)
+all-offered setup events can = all-weaker (OfOffer (IsNumbered events)) (OfOffer (WasOffered events)) events step (all-numbered events)
   where
     step : (x : Event) → OfOffer (IsNumbered events) x → OfOffer (WasOffered events) x
     step (offered p outcome) h = let below = range-below p.number 0 (length (numbers_of p.sender events)) (subst (λ l. stands_in p.number l ≡ true) (can.numbered p.sender) h) in omega (arith, below)
@@ -95,8 +95,8 @@ all-dropped P (suc n) (p ∷ packets) h = all-dropped P n packets h.1
 pub all-inside : (P : Packet → Type 0) (setup : Setup) (events : List Event) → CanHappen setup events → (d q : ℕ) (room : Room) → slice_get setup.queues q ≡ Some room → AllByRecursion (OfOffer P) events → AllByRecursion P (inside_of setup d q events)
 all-inside P setup events can d q room is h =
     all-join P (heads_of setup d q events) (held (history setup q events))
-    (all-dropped P (length (emitted_of setup d q events)) (given_of setup q events) (all-given P (history setup q events) (all-left P (gone (history setup q events)) (held (history setup q events)) both)))
-    (all-right P (gone (history setup q events)) (held (history setup q events)) both)
+    (all-dropped P (length (emitted_of setup d q events)) (given_of setup q events) (all-given P (history setup q events) (all-split P (gone (history setup q events)) (held (history setup q events)) both).0))
+    (all-split P (gone (history setup q events)) (held (history setup q events)) both).1
   where
     past : IsQueueHistory room.kind room.capacity (history setup q events)
     past = subst (λ o. MatchOption o ⊤ (λ (r : Room). IsQueueHistory r.kind r.capacity (history setup q events))) is (can.histories q)

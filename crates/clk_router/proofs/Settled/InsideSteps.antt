@@ -18,7 +18,8 @@ use Rattle.clk_sched.specs.Log.{visits_of, turn, result_of}
 use Rattle.clk_sched.specs.Tree.{Tree, leaves_distinct}
 use Rattle.clk_sched.specs.Results.{emitted, asks_queue}
 use Rattle.clk_sched.specs.Conservation.{ConservesPackets, MakesNothing}
-use Rattle.clk_sched.proofs.Callers.Emitted.{emitted-append}
+use Rattle.clk_sched.proofs.Callers.Emitted.{emitted-append, result-passed}
+use Rattle.clk_sched.proofs.Callers.Lists.{all-split}
 use Rattle.clk_router.specs.Events.{Room, Setup, Event, offered, pulled, happens_at, sends_to, events_at, visits_in, log_of, pull_in, answers_in, at_queue, history, IsOfDevice, RunsTree, CanHappen}
 use Rattle.clk_router.specs.Settled.{emitted_by}
 use Rattle.clk_router.specs.InsideQueues.{given_by, is_of_queue, given_of, emitted_of, heads_of, inside_of, emitted_from, IsEvictedInside}
@@ -27,9 +28,8 @@ use Rattle.clk_router.specs.inside.Parts.{IsWhole}
 use Rattle.clk_router.proofs.QueueCounts.{stands-rest}
 use Rattle.clk_router.proofs.PartsLemmas.{history-with}
 use Rattle.clk_router.proofs.Callers.Events.{events-here, events-elsewhere, log-pulled}
-use Rattle.clk_router.proofs.Settled.Dealt.{all-right, member-there}
+use Rattle.clk_router.proofs.Settled.Dealt.{member-there}
 use Rattle.clk_router.proofs.Settled.QueuePackets.{accepted_by, accepted-is, history-in_order, none-answered}
-use Rattle.clk_router.proofs.Settled.Emitted.{passed-result}
 use Rattle.clk_router.proofs.Settled.Accounted.{has-history}
 use Rattle.clk_router.proofs.Settled.Inside.{given-is, none-emitted}
 
@@ -95,7 +95,7 @@ pull-emitted tree events d m visits runs =
     subst (AllByRecursion (λ pull. IsDeviceTurn (turn 0 pull))) (filter_map-append pull_in events (pulled d m visits ∷ []))
     (of-map (filter_map pull_in (events ++ pulled d m visits ∷ [])) (subst (λ l. AllByRecursion IsDeviceTurn (map (turn 0) l)) runs.pull_by_pull runs.run.device))
     in
-    passed-result (visits_of 0 visits) (all-right (λ pull. IsDeviceTurn (turn 0 pull)) (filter_map pull_in events) (visits ∷ []) turns).0.in_order
+    result-passed (visits_of 0 visits) (all-split (λ pull. IsDeviceTurn (turn 0 pull)) (filter_map pull_in events) (visits ∷ []) turns).1.0.in_order
   where
     of-map : (pulls : List (List Visit)) → AllByRecursion IsDeviceTurn (map (turn 0) pulls) → AllByRecursion (λ pull. IsDeviceTurn (turn 0 pull)) pulls
     of-map [] h = tt
@@ -243,7 +243,7 @@ module _ (conserves : (tree : Tree) → leaves_distinct tree ≡ true → Conser
           ∙ append_assoc o (heads_of setup d q more) (held (history setup q more))
 
       its_tree : (t : Tree) × (slice_get setup.trees c ≡ Some t)
-      its_tree = member-there setup.trees c (all-right (IsOfDevice (length setup.trees)) events (pulled c m visits ∷ []) goes_on.devices).0
+      its_tree = member-there setup.trees c (all-split (IsOfDevice (length setup.trees)) events (pulled c m visits ∷ []) goes_on.devices).1.0
 
       result : emitted visits ≡ cons_option (result_of (visits_of 0 visits)) []
       result =

@@ -12,6 +12,7 @@ use Rattle.clk_sched.specs.Run.{IsRun}
 use Rattle.clk_sched.specs.Results.{emitted, heads}
 use Rattle.clk_sched.specs.Conservation.{ConservesPackets, ConservesCounts, MakesNothing}
 use Rattle.clk_sched.specs.Closing.{held_in_all, left_in}
+use Rattle.clk_sched.proofs.Callers.Lists.{all-weaker}
 use Rattle.clk_tree.specs.declared.plan.parts.SenderSpec.{SenderSpec}
 use Rattle.clk_tree.specs.PlanParts.{SendsWithin}
 use Rattle.clk_packet.specs.Dealt.{IsDealt}
@@ -20,12 +21,13 @@ use Rattle.clk_router.specs.Settled.{IsSenderAccounted, IsSenderSettled, IsTreeS
 use Rattle.clk_router.specs.inside.Closable.{IsClosable}
 use Rattle.clk_router.specs.inside.Parts.{IsWhole}
 use Rattle.clk_router.proofs.Callers.Apart.{alone, history-alone}
+use Rattle.clk_router.proofs.PartsLemmas.{all-there}
 use Rattle.clk_router.proofs.QueueCounts.{left-is}
-use Rattle.clk_router.proofs.Settled.Dealt.{all-implied, all-both, no-members, member-there}
+use Rattle.clk_router.proofs.Settled.Dealt.{all-both, no-members, member-there}
 use Rattle.clk_router.proofs.Settled.QueuePackets.{history-in_order}
 use Rattle.clk_router.proofs.Settled.OwnPackets.{all-send}
 use Rattle.clk_router.proofs.Settled.Numbers.{out-once, all-out}
-use Rattle.clk_router.proofs.Settled.Accounted.{at-member, own-events, its-run, accounted, all-own}
+use Rattle.clk_router.proofs.Settled.Accounted.{own-events, its-run, accounted, all-own}
 
 -- where queues hold none in all, each holds none
 each-none : (f : ℕ → ℕ) (qs : List ℕ) → held_in_all f qs ≡ 0 → (q : ℕ) → stands_in q qs ≡ true → f q ≡ 0
@@ -91,7 +93,7 @@ for-senders setup whole P each =
     at_sender s within sends =
         let there = member-there setup.queues s.queue within in
         let room = there.0 in
-        let its = member-there setup.trees room.device (at-member (λ (r : Room). r.device < length setup.trees) setup.queues s.queue room whole.paths there.1) in
+        let its = member-there setup.trees room.device (all-there (λ (r : Room). r.device < length setup.trees) setup.queues s.queue room whole.paths there.1) in
         subst (λ (o : Option Room). MatchOption o ⊥ (λ (room : Room). MatchOption (slice_get setup.trees room.device) ⊥ (P s room))) (sym there.1)
         (subst (λ o. MatchOption o ⊥ (P s room)) (sym its.1) (each s room its.0 sends there.1 its.1))
 
@@ -100,7 +102,7 @@ pub for-queues : (setup : Setup) → IsWhole setup → (P : SenderSpec → Room 
     → ((s : SenderSpec) (room : Room) (tree : Tree) → sends_to setup.senders s.number s.queue ≡ true → slice_get setup.queues s.queue ≡ Some room → slice_get setup.trees room.device ≡ Some tree → P s room)
     → AllByRecursion (λ (s : SenderSpec). MatchOption (slice_get setup.queues s.queue) ⊥ (P s)) setup.senders
 for-queues setup whole P each =
-    all-implied (λ (s : SenderSpec). MatchOption (slice_get setup.queues s.queue) ⊥ (λ (room : Room). MatchOption (slice_get setup.trees room.device) ⊥ (λ tree. P s room))) (λ (s : SenderSpec). MatchOption (slice_get setup.queues s.queue) ⊥ (P s))
+    all-weaker (λ (s : SenderSpec). MatchOption (slice_get setup.queues s.queue) ⊥ (λ (room : Room). MatchOption (slice_get setup.trees room.device) ⊥ (λ tree. P s room))) (λ (s : SenderSpec). MatchOption (slice_get setup.queues s.queue) ⊥ (P s))
     setup.senders (λ s. by_room s (slice_get setup.queues s.queue)) (for-senders setup whole (λ s room tree. P s room) each)
   where
     by_tree : (s : SenderSpec) (room : Room) (o : Option Tree) → MatchOption o ⊥ (λ tree. P s room) → P s room

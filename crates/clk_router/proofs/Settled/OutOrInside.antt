@@ -1,18 +1,17 @@
 -- Each packet that a sender offered came back once, or is inside once.
-use Rattle.std.proofs.Common.{◌≡◌, ℕ, ◌+◌, ◌<◌, ◌≤◌, ◌==◌, nat_lt, Bool, true, false, List, ◌++◌, length, map, Option, Some, slice_get, refl, sym, ap, ◌∙◌, arith}
+use Rattle.std.proofs.Common.{◌≡◌, ℕ, ◌≤◌, ◌==◌, nat_lt, Bool, true, false, List, length, Some, slice_get, refl, sym, ap, ◌∙◌, arith}
 use Rattle.std.specs.List.{range_with_len}
 use Rattle.std.proofs.lemmas.Bool.Decides.{nat_tests}
 use Rattle.std.proofs.lemmas.List.Elements.{filter-append}
 use Rattle.clk_packet.specs.declared.packet.Packet.{Packet}
-use Rattle.clk_packet.specs.Lists.{of_sender, stands_in, are_distinct}
+use Rattle.clk_packet.specs.Lists.{of_sender, stands_in}
 use Rattle.clk_ring.specs.QueueHistory.{held}
-use Rattle.clk_sched.specs.declared.visit.Visit.{Visit}
 use Rattle.clk_sched.specs.Tree.{Tree, root, leaves_distinct}
 use Rattle.clk_sched.specs.Results.{traced_heads, heads}
 use Rattle.clk_sched.specs.Conservation.{ConservesPackets, MakesNothing}
 use Rattle.clk_tree.specs.declared.plan.parts.SenderSpec.{SenderSpec}
 use Rattle.clk_router.specs.Events.{Room, Setup, Event, sends_to, events_at, log_of, history, CanHappen}
-use Rattle.clk_router.specs.Settled.{IsSenderAccounted, offered_of, numbers_in, out_of}
+use Rattle.clk_router.specs.Settled.{offered_of, numbers_in, out_of}
 use Rattle.clk_router.specs.InsideQueues.{heads_of, inside_of, out_or_inside, IsOutOrInside, AreOutOrInside}
 use Rattle.clk_router.specs.inside.Closable.{IsClosable}
 use Rattle.clk_router.specs.inside.Parts.{IsWhole}

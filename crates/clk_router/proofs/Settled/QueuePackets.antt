@@ -1,9 +1,8 @@
 -- The packets of a queue's history, by what events offered and what a device's log shows.
-use Rattle.std.proofs.Common.{◌≡◌, inl, inr, ℕ, ◌==◌, Bool, true, false, if◌then◌else◌, List, [], ◌∷◌, ◌++◌, append-nil, Option, Some, None, slice_get, refl, sym, ap, ap₂, ◌∙◌, subst, arith}
+use Rattle.std.proofs.Common.{◌≡◌, inl, inr, ℕ, ◌==◌, Bool, true, false, if◌then◌else◌, List, [], ◌∷◌, ◌++◌, append-nil, Option, Some, None, slice_get, refl, sym, ap, ap₂, ◌∙◌, subst}
 use Rattle.std.specs.Bool.{⊤}
 use Rattle.std.specs.List.{filter_map, cons_option, AllByRecursion}
 use Rattle.std.proofs.lemmas.Bool.{false≢true}
-use Rattle.std.proofs.lemmas.Bool.Decides.{nat_tests}
 use Rattle.std.proofs.lemmas.List.Elements.{filter-append, filter_map-append}
 use Rattle.clk_packet.specs.declared.packet.Packet.{Packet}
 use Rattle.clk_packet.specs.declared.packet.Kind.{Kind}
@@ -14,12 +13,12 @@ use Rattle.clk_packet.specs.Lists.{of_sender}
 use Rattle.clk_ring.specs.QueueHistory.{QueueEvent, accept, refuse, evict, give, empty, accepted, gone, held, IsInOrder, EachStands, IsQueueHistory, offer_events, pull_event}
 use Rattle.clk_sched.specs.declared.visit.Visit.{Visit}
 use Rattle.clk_sched.specs.Tree.{Tree}
-use Rattle.clk_sched.specs.Results.{asks_queue, leaf_packets}
+use Rattle.clk_sched.specs.Results.{asks_queue}
+use Rattle.clk_sched.proofs.Callers.Lists.{all-split}
 use Rattle.clk_packet.specs.Dealt.{IsDealt}
-use Rattle.clk_router.specs.Events.{Setup, Event, offered, pulled, happens_at, log_of, sends_to, answers_in, at_queue, history}
+use Rattle.clk_router.specs.Events.{Setup, Event, offered, pulled, sends_to, answers_in, at_queue, history}
 use Rattle.clk_router.specs.InsideQueues.{given_by}
 use Rattle.clk_router.proofs.QueueCounts.{stands-first, stands-rest}
-use Rattle.clk_router.proofs.Settled.Dealt.{all-left}
 
 -- the packet that an event of a queue accepted, refused or evicted
 abbrev pub accepted_by : QueueEvent → Option Packet
@@ -69,7 +68,7 @@ all-given P (give p ∷ events) h = (h.0, all-given P events h.1)
 all-given P (empty ∷ events) h = all-given P events h
 
 pub all-gone : (P : Packet → Type 0) (capacity : ℕ) (events : List QueueEvent) → IsInOrder capacity events → AllByRecursion P (accepted events) → AllByRecursion P (gone events)
-all-gone P capacity events order h = all-left P (gone events) (held events) (subst (AllByRecursion P) order.order h)
+all-gone P capacity events order h = (all-split P (gone events) (held events) (subst (AllByRecursion P) order.order h)).0
 
 -- a history is in order
 pub history-in_order : (kind : Kind) (capacity : ℕ) (events : List QueueEvent) → IsQueueHistory kind capacity events → IsInOrder capacity events
@@ -124,34 +123,6 @@ its-packets f g offers pulls none setup q s (e ∷ events) own =
         by_test true own = ap (of_sender s) (sym (offers p outcome))
         by_test false own = own refl
     by_event (pulled c m visits) own = ap (λ o. of_sender s (cons_option o [])) (none c m visits) ∙ ap (of_sender s) (sym (none-answered g pulls (slice_get setup.trees c) q visits))
-
--- What a queue given_of in the events at its device is what its leaf given_of.
-gives-visits : (tree : Tree) (q : ℕ) (visits : List Visit) → filter_map given_by (answers_in (Some tree) q visits) ≡ leaf_packets tree q visits
-gives-visits tree q [] = refl
-gives-visits tree q (v ∷ visits) = by_test (asks_queue tree q v) v.got (gives-visits tree q visits)
-  where
-    by_test : (b : Bool) (o : Option Packet) → filter_map given_by (answers_in (Some tree) q visits) ≡ leaf_packets tree q visits
-        → filter_map given_by ((if b then pull_event o ∷ [] else []) ++ answers_in (Some tree) q visits) ≡ cons_option (if b then o else None) (leaf_packets tree q visits)
-    by_test false o rest = rest
-    by_test true None rest = rest
-    by_test true (Some p) rest = ap (λ l. p ∷ l) rest
-
-pub gives-log : (setup : Setup) (d : ℕ) (tree : Tree) → slice_get setup.trees d ≡ Some tree → (q : ℕ) (events : List Event) → AllByRecursion (λ e. happens_at setup d e ≡ true) events
-    → filter_map given_by (history setup q events) ≡ leaf_packets tree q (log_of events)
-gives-log setup d tree its q [] h = refl
-gives-log setup d tree its q (offered p outcome ∷ events) h =
-    filter_map-append given_by (at_queue setup q (offered p outcome)) (history setup q events) ∙ ap (λ l. l ++ filter_map given_by (history setup q events)) (by_test (sends_to setup.senders p.sender q) outcome) ∙ gives-log setup d tree its q events h.1
-  where
-    by_test : (b : Bool) (o : Offered) → filter_map given_by (if b then offer_events p o else []) ≡ []
-    by_test false o = refl
-    by_test true Accepted = refl
-    by_test true (Refused r) = refl
-    by_test true (Evicted front) = refl
-gives-log setup d tree its q (pulled c m visits ∷ events) h =
-    let same : c ≡ d = grind (arith, nat_tests, h.0) in
-    filter_map-append given_by (at_queue setup q (pulled c m visits)) (history setup q events)
-    ∙ ap₂ (λ xs ys. xs ++ ys) (ap (λ o. filter_map given_by (answers_in o q visits)) (ap (slice_get setup.trees) same ∙ its) ∙ gives-visits tree q visits) (gives-log setup d tree its q events h.1)
-    ∙ sym (filter_map-append (λ (v : Visit). if asks_queue tree q v then v.got else None) visits (log_of events))
 
 -- All that a queue took in is of its senders.
 pub all-sent : (setup : Setup) (q : ℕ) (events : List Event) → AllByRecursion (λ (p : Packet). sends_to setup.senders p.sender q ≡ true) (filter_map accepted_by (history setup q events))

@@ -1,6 +1,6 @@
 -- A tree holds no more heads of a queue than DRRScheds stand above the queue.
-use Rattle.std.proofs.Common.{◌≡◌, ℕ, zero, suc, ◌+◌, ◌<◌, ◌≤◌, ◌==◌, ◌||◌, if◌then◌else◌, Bool, true, false, List, [], ◌∷◌, ◌++◌, length, length-append, reverse, Option, Some, None, refl, sym, ap, ◌∙◌, subst, arith}
-use Rattle.std.specs.List.{flat_map, filter_map, cons_option, range_with_len}
+use Rattle.std.proofs.Common.{◌≡◌, ℕ, zero, suc, ◌+◌, ◌<◌, ◌≤◌, ◌==◌, if◌then◌else◌, Bool, true, false, List, [], ◌++◌, length, length-append, reverse, Option, Some, None, refl, sym, ap, ◌∙◌, subst, arith}
+use Rattle.std.specs.List.{flat_map, cons_option, range_with_len}
 use Rattle.std.proofs.lemmas.Bool.{false≢true}
 use Rattle.std.proofs.lemmas.Bool.Decides.{nat_tests}
 use Rattle.clk_packet.specs.declared.packet.Packet.{Packet}
@@ -9,10 +9,9 @@ use Rattle.clk_packet.proofs.Callers.Lists.{distinct-parts as first-parts}
 use Rattle.clk_sched.proofs.Trees.Distinct.{distinct-parts}
 use Rattle.clk_sched.specs.declared.visit.Visit.{Visit}
 use Rattle.clk_sched.specs.Tree.{Class, prio, round_robin, drr, stride, shaper, Row, end, leaf, node, Tree, root, nodes, width, leaves, leaves_distinct, is_number}
-use Rattle.clk_sched.specs.Heads.{head_at}
 use Rattle.clk_sched.specs.Log.{visits_of}
-use Rattle.clk_sched.specs.Laws.{Manner, in_order, with_heads, manner}
-use Rattle.clk_sched.specs.Results.{Traced, traced, origin_in, latest_origin, held_at, own_heads, traced_heads}
+use Rattle.clk_sched.specs.Laws.{manner}
+use Rattle.clk_sched.specs.Results.{Traced, traced, origin_in, held_at, own_heads, traced_heads}
 use Rattle.clk_sched.specs.Conservation.{from_queue}
 use Rattle.clk_sched.specs.FewHeads.{most_heads, drrs_above, HoldsFewHeads}
 use Rattle.clk_sched.proofs.Conservation.Origins.{latest-not, passed-not, origin-not, from_queue-append, traced-not, heads-not, node-not}

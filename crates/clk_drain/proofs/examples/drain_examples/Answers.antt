@@ -1,4 +1,4 @@
-use Rattle.std.proofs.Common.{ℕ, List, [], ◌∷◌, refl, lit≤, inl, inr, arith, sum_by}
+use Rattle.std.proofs.Common.{ℕ, [], ◌∷◌, refl, lit≤, inl, inr, arith, sum_by}
 use Rattle.std.proofs.lemmas.List.Sorted.{IsPermutation-refl, IsNonDecreasingBy-short, sum_by-IsPermutation}
 use Rattle.clk_packet.specs.declared.packet.Packet.{Packet}
 use Rattle.clk_packet.specs.declared.tally.Tally.{Tally}

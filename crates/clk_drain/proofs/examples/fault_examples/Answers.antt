@@ -1,21 +1,20 @@
-use Rattle.std.proofs.Common.{◌≡◌, ◌⊎◌, ℕ, ◌+◌, ◌==◌, ◌<◌, zero, suc, true, List, [], ◌∷◌, ◌++◌, length, map, refl, sym, ap, ◌∙◌, subst, lit≤, inl, inr, ⊎_elim, arith, if◌then◌else◌}
+use Rattle.std.proofs.Common.{◌≡◌, ◌⊎◌, ℕ, ◌==◌, ◌<◌, zero, suc, true, List, [], ◌∷◌, ◌++◌, length, map, refl, sym, ap, ◌∙◌, subst, inl, inr, ⊎_elim, arith, if◌then◌else◌}
 use Rattle.std.specs.List.{AllByRecursion}
 use Rattle.std.proofs.lemmas.List.{map-append}
-use Rattle.clk_packet.specs.declared.packet.Packet.{Packet}
 use Rattle.clk_packet.specs.declared.fault.Fault.{Fault}
 use Rattle.clk_packet.specs.declared.packet.Kind.TheVariants.{TailDrop}
 use Rattle.clk_packet.specs.Trace.{sent_by}
 use Rattle.clk_packet.specs.Lists.{stands_in}
+use Rattle.clk_packet.proofs.Callers.Dealt.{dealt-length}
 use Rattle.clk_ruled.specs.Queue.{SeatLists, IsDealt}
 use Rattle.clk_ruled.specs.Settle.{evicted_of, accepted_count, lost_count}
 use Rattle.clk_tree.specs.Plan.{Planned}
-use Rattle.clk_sched.specs.Examples.Priority.{p0_0, p1_0}
 use Rattle.clk_drain.specs.Closing.{HasSent}
 use Rattle.clk_drain.specs.Line.{senders_at}
 use Rattle.clk_drain.specs.Outcome.{SharedQueue}
 use Rattle.clk_drain.specs.Lost.{SeatedQueue}
-use Rattle.clk_drain.specs.Run.{queues_in_order, AreKnown, HasOffered, IsUnsettledRun, senders_in}
-use Rattle.clk_drain.specs.RunExamples.{plan, wider_plan, traces}
+use Rattle.clk_drain.specs.Run.{queues_in_order, HasOffered, IsUnsettledRun}
+use Rattle.clk_drain.specs.RunExamples.{wider_plan, traces}
 use Rattle.clk_drain.specs.LostExamples.{refusing, taking_one}
 use Rattle.clk_drain.proofs.WorkedLost.{refusing-lost, of-two, told}
 use Rattle.clk_drain.proofs.examples.fault_examples.Goals as goal
@@ -62,19 +61,12 @@ found P [] later x all = all.0
 found P (y ∷ earlier) later x all = found P earlier later x all.1
 
 -- Of two packets that were both accepted none was refused.
-dealt-count : (packets accepted refused : List Packet) → IsDealt packets accepted refused → length accepted + length refused ≡ length packets
-dealt-count [] accepted refused h = (λ i. length (h.0 i) + length (h.1 i))
-dealt-count (p ∷ packets) accepted refused h = ⊎_elim
-    (λ (x : (rest : List Packet) × (accepted ≡ p ∷ rest) × IsDealt packets rest refused). let here = ap length x.1 in let rest = dealt-count packets x.0 refused x.2 in omega (arith, here, rest))
-    (λ (x : (rest : List Packet) × (refused ≡ p ∷ rest) × IsDealt packets accepted rest). let here = ap length x.1 in let rest = dealt-count packets accepted x.0 x.2 in omega (arith, here, rest))
-    h
-
 none-lost : (seats : List SeatLists) → senders_at seats ≡ 0 ∷ [] → AllByRecursion (HasSent (sent_by traces)) seats → accepted_count seats ≡ 2 → evicted_of seats 0 ≡ [] → lost_count seats ≡ 0
 none-lost [] one sent both none = let counts = ap length one in absurd (omega (arith, counts))
 none-lost (l ∷ m ∷ seats) one sent both none = let counts = ap length one in absurd (omega (arith, counts))
 none-lost (l ∷ []) one sent both none =
     let sender : l.sender ≡ 0 = cc in
-    let dealt = dealt-count (sent_by traces 0) l.accepted l.refused (subst (λ s. IsDealt (sent_by traces s) l.accepted l.refused) sender sent.0.2) in
+    let dealt = dealt-length (sent_by traces 0) l.accepted l.refused (subst (λ s. IsDealt (sent_by traces s) l.accepted l.refused) sender sent.0.2) in
     let evicted : l.evicted ≡ [] = subst (λ s. (if s == 0 then l.evicted else []) ≡ []) sender none in
     let count = ap length evicted in omega (arith, dealt, both, count)
 

@@ -1,29 +1,11 @@
-use Rattle.std.proofs.Common.{◌≡◌, ◌+◌, List, [], ◌∷◌, length, map, refl, lit≤, arith, ap, ◌∙◌, ⊎_elim, inl, inr}
+use Rattle.std.proofs.Common.{List, [], ◌∷◌, length, map, refl, lit≤, arith, ap, inl, inr}
 use Rattle.std.proofs.lemmas.Bool.{false≢true}
 use Rattle.clk_packet.specs.declared.packet.Packet.{Packet}
-use Rattle.clk_ruled.specs.Queue.{IsDealt}
+use Rattle.clk_packet.proofs.Callers.Dealt.{dealt-length, dealt-none}
 use Rattle.clk_sched.specs.Examples.Priority.{p0_0, p1_0, p2_0}
 use Rattle.clk_drain.specs.Outcome.{IsDeviceSettled}
 use Rattle.clk_drain.specs.Examples.{p0_1, p0_2, sent, tally, tally_1, tally_2, device_b}
 use Rattle.clk_drain.proofs.examples.outcome_examples.Goals as goal
-
--- Two lists between which packets are dealt have as many in all.
-dealt-count : (dealt a b : List Packet) → IsDealt dealt a b → length dealt ≡ length a + length b
-dealt-count [] a b d = let none = ap length d.0 in let nor = ap length d.1 in omega (arith, none, nor)
-dealt-count (p ∷ dealt) a b d =
-    ⊎_elim
-    (λ (x : (rest : List Packet) × (a ≡ p ∷ rest) × IsDealt dealt rest b). let one = ap length x.1 in omega (arith, one, dealt-count dealt x.0 b x.2))
-    (λ (x : (rest : List Packet) × (b ≡ p ∷ rest) × IsDealt dealt a rest). let one = ap length x.1 in omega (arith, one, dealt-count dealt a x.0 x.2))
-    d
-
--- Where the first of them is empty, the second has all, in order.
-all-dealt : (dealt b : List Packet) → IsDealt dealt [] b → b ≡ dealt
-all-dealt [] b d = d.1
-all-dealt (p ∷ dealt) b d =
-    ⊎_elim
-    (λ (x : (rest : List Packet) × ([] ≡ p ∷ rest) × IsDealt dealt rest b). let one = ap length x.1 in absurd (omega (arith, one)))
-    (λ (x : (rest : List Packet) × (b ≡ p ∷ rest) × IsDealt dealt [] rest). x.1 ∙ ap (λ l. p ∷ l) (all-dealt dealt x.0 x.2))
-    d
 
 -- Device B is settled, whatever became of the packets of sender 0.
 b-settled : (accepted refused evicted : List Packet) → IsDeviceSettled sent (tally 0 accepted refused evicted ∷ tally_1 ∷ tally_2 ∷ []) device_b
@@ -149,10 +131,10 @@ pub returns-clause-not_emitted_twice : goal.returns-clause-not_emitted_twice
 returns-clause-not_emitted_twice c = λ o. let counts = ap length o.settled.0.emitted in absurd (omega (arith, counts))
 
 pub returns-clause-not_given_twice : goal.returns-clause-not_given_twice
-returns-clause-not_given_twice c = λ o. absurd (omega (arith, dealt-count (p0_0 ∷ []) [] (p0_0 ∷ p0_0 ∷ []) o.settled.0.queues.0.each.0.tally.accepted_are))
+returns-clause-not_given_twice c = λ o. absurd (omega (arith, dealt-length (p0_0 ∷ []) [] (p0_0 ∷ p0_0 ∷ []) o.settled.0.queues.0.each.0.tally.accepted_are))
 
 pub returns-clause-not_refused_emitted : goal.returns-clause-not_refused_emitted
-returns-clause-not_refused_emitted c = λ o. absurd (omega (arith, dealt-count (p0_0 ∷ []) [] (p0_0 ∷ p0_1 ∷ []) o.settled.0.queues.0.each.0.tally.accepted_are))
+returns-clause-not_refused_emitted c = λ o. absurd (omega (arith, dealt-length (p0_0 ∷ []) [] (p0_0 ∷ p0_1 ∷ []) o.settled.0.queues.0.each.0.tally.accepted_are))
 
 pub returns-clause-not_emitted_none : goal.returns-clause-not_emitted_none
 returns-clause-not_emitted_none c = λ o. let counts = ap length o.settled.0.emitted in absurd (omega (arith, counts))
@@ -176,13 +158,13 @@ pub returns-clause-not_other_emitted : goal.returns-clause-not_other_emitted
 returns-clause-not_other_emitted c = λ o. absurd (false≢true o.settled.1.0.own.1.0)
 
 pub returns-clause-not_packet_lost : goal.returns-clause-not_packet_lost
-returns-clause-not_packet_lost c = λ o. absurd (omega (arith, dealt-count (p2_0 ∷ []) [] [] o.settled.1.0.queues.0.each.1.0.tally.accepted_are))
+returns-clause-not_packet_lost c = λ o. absurd (omega (arith, dealt-length (p2_0 ∷ []) [] [] o.settled.1.0.queues.0.each.1.0.tally.accepted_are))
 
 pub returns-clause-not_other_evicted : goal.returns-clause-not_other_evicted
-returns-clause-not_other_evicted c = λ o. absurd (omega (arith, dealt-count (p1_0 ∷ []) [] [] o.settled.1.0.queues.0.each.0.tally.accepted_are))
+returns-clause-not_other_evicted c = λ o. absurd (omega (arith, dealt-length (p1_0 ∷ []) [] [] o.settled.1.0.queues.0.each.0.tally.accepted_are))
 
 pub returns-clause-not_packet_forgotten : goal.returns-clause-not_packet_forgotten
-returns-clause-not_packet_forgotten c = λ o. absurd (omega (arith, dealt-count (p0_0 ∷ p0_1 ∷ []) (p0_0 ∷ []) [] o.settled.0.queues.0.each.0.tally.offered_are))
+returns-clause-not_packet_forgotten c = λ o. absurd (omega (arith, dealt-length (p0_0 ∷ p0_1 ∷ []) (p0_0 ∷ []) [] o.settled.0.queues.0.each.0.tally.offered_are))
 
 pub returns-clause-not_tally_missing : goal.returns-clause-not_tally_missing
 returns-clause-not_tally_missing c = λ o. absurd o.settled.1.0.queues.0.each.0
@@ -197,7 +179,7 @@ pub returns-clause-not_sender_unknown : goal.returns-clause-not_sender_unknown
 returns-clause-not_sender_unknown c = λ o. absurd (false≢true o.known.1.1.1.0)
 
 pub returns-clause-not_never_sent : goal.returns-clause-not_never_sent
-returns-clause-not_never_sent c = λ o. absurd (omega (arith, dealt-count (p0_0 ∷ p0_1 ∷ []) (p0_0 ∷ p0_2 ∷ []) (p0_1 ∷ []) o.settled.0.queues.0.each.0.tally.offered_are))
+returns-clause-not_never_sent c = λ o. absurd (omega (arith, dealt-length (p0_0 ∷ p0_1 ∷ []) (p0_0 ∷ p0_2 ∷ []) (p0_1 ∷ []) o.settled.0.queues.0.each.0.tally.offered_are))
 
 pub returns-clause-not_queue_evicts : goal.returns-clause-not_queue_evicts
 returns-clause-not_queue_evicts c = λ o. let counts = ap length (o.settled.0.queues.0.each.0.tally.tail_drop refl) in absurd (omega (arith, counts))
@@ -210,7 +192,7 @@ returns-clause-not_swapped_by_device c = λ o. let numbers = ap (map (λ (p : Pa
 
 pub returns-clause-not_swapped_by_queue : goal.returns-clause-not_swapped_by_queue
 returns-clause-not_swapped_by_queue c =
-    λ o. let numbers = ap (map (λ (p : Packet). p.number)) (all-dealt (p0_0 ∷ p0_1 ∷ []) (p0_1 ∷ p0_0 ∷ []) o.settled.0.queues.0.each.0.tally.accepted_are) in absurd (cc)
+    λ o. let numbers = ap (map (λ (p : Packet). p.number)) (dealt-none (p0_0 ∷ p0_1 ∷ []) (p0_1 ∷ p0_0 ∷ []) o.settled.0.queues.0.each.0.tally.accepted_are) in absurd (cc)
 
 pub returns-clause-not_senders_swapped : goal.returns-clause-not_senders_swapped
 returns-clause-not_senders_swapped c = λ o. let senders = ap (map (λ (p : Packet). p.sender)) o.settled.1.0.emitted in absurd (cc)

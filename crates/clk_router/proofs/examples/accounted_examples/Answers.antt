@@ -3,7 +3,7 @@ use Rattle.clk_packet.specs.declared.packet.Packet.{Packet}
 use Rattle.clk_packet.specs.Dealt.{IsDealt}
 use Rattle.clk_sched.specs.Examples.Priority.{p0_0, p1_0}
 use Rattle.clk_router.specs.SettledExamples.{p0_1, p1_1}
-use Rattle.clk_router.proofs.Settled.Dealt.{dealt-none}
+use Rattle.clk_packet.proofs.Callers.Dealt.{dealt-none}
 use Rattle.clk_router.proofs.Settled.Numbers.{times-dealt, of_number}
 use Rattle.clk_router.proofs.examples.accounted_examples.Goals as goal
 

@@ -7,7 +7,7 @@ use Rattle.clk_sched.specs.Examples.Priority.{p0_0}
 use Rattle.clk_router.specs.Course.{accepted_at, evicted_at, emitted_at}
 use Rattle.clk_router.specs.Settled.{IsTreeSettled, emitted_by}
 use Rattle.clk_router.specs.SettledExamples.{two_devices, course_of, p0_1, emitted_there}
-use Rattle.clk_router.proofs.Settled.Dealt.{dealt-none}
+use Rattle.clk_packet.proofs.Callers.Dealt.{dealt-none}
 use Rattle.clk_router.proofs.Settled.Numbers.{times-dealt}
 use Rattle.clk_router.proofs.examples.settled_examples.Goals as goal
 
