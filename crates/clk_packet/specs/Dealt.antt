@@ -1,9 +1,13 @@
--- Packets that are dealt to two lists, and what became of a sender's packets.
-use Rattle.std.specs.Prelude.{◌≡◌, ◌⊎◌, List, [], ◌∷◌}
+-- Lists of packets: their numbers, how they are dealt to two lists, and what became of a sender's packets.
+use Rattle.std.specs.Prelude.{◌≡◌, ◌⊎◌, ℕ, List, [], ◌∷◌, map}
 use Rattle.clk_packet.specs.declared.packet.Packet.{Packet}
 use Rattle.clk_packet.specs.declared.packet.Kind.{Kind}
 use Rattle.clk_packet.specs.declared.packet.Kind.TheVariants.{TailDrop, FrontDrop}
 use Rattle.clk_packet.specs.declared.tally.Tally.{Tally}
+
+-- the numbers of these packets, in order
+abbrev pub packet_numbers : List Packet → List ℕ
+packet_numbers packets = map (λ (p : Packet). p.number) packets
 
 -- Each of the packets stands in one of the two lists, in their order.
 abbrev pub IsDealt : List Packet → List Packet → List Packet → Type 0

@@ -4,6 +4,7 @@ use Rattle.std.specs.List.{filter_map, cons_option, AllByRecursion}
 use Rattle.clk_packet.specs.declared.packet.Packet.{Packet}
 use Rattle.clk_packet.specs.declared.packet.Offered.{Offered}
 use Rattle.clk_packet.specs.declared.packet.Offered.TheVariants.{Accepted, Refused, Evicted}
+use Rattle.clk_packet.specs.Dealt.{packet_numbers}
 use Rattle.clk_packet.specs.Lists.{of_sender, stands_in, are_distinct}
 use Rattle.clk_ring.specs.QueueHistory.{QueueEvent, give, held}
 use Rattle.clk_sched.specs.declared.visit.Visit.{Visit}
@@ -11,7 +12,7 @@ use Rattle.clk_sched.specs.Tree.{Tree, root}
 use Rattle.clk_sched.specs.FewHeads.{drrs_above}
 use Rattle.clk_tree.specs.declared.plan.parts.SenderSpec.{SenderSpec}
 use Rattle.clk_router.specs.Events.{Room, Setup, Event, offered, pulled, numbers_of, sends_to, history, emitted_in, CanHappen}
-use Rattle.clk_router.specs.Settled.{offered_of, emitted_by, numbers_in, out_of}
+use Rattle.clk_router.specs.Settled.{offered_of, emitted_by, out_of}
 
 -- whether a packet is of a sender of this queue
 abbrev pub is_of_queue : Setup → ℕ → Packet → Bool
@@ -76,9 +77,9 @@ out_or_inside setup events s room = out_of setup events s room ++ of_sender s.nu
 
 -- Each packet that a sender offered is out of the router or inside it, once, and no other is.
 pub record IsOutOrInside (setup : Setup) (events : List Event) (s : SenderSpec) (room : Room) : Type 0 where
-  pub once : are_distinct (numbers_in (out_or_inside setup events s room)) ≡ true
-  pub all : (n : ℕ) → stands_in n (numbers_in (out_or_inside setup events s room)) ≡ nat_lt n (length (offered_of events s.number))
+  pub once : are_distinct (packet_numbers (out_or_inside setup events s room)) ≡ true
+  pub all : (n : ℕ) → stands_in n (packet_numbers (out_or_inside setup events s room)) ≡ nat_lt n (length (offered_of events s.number))
 
--- The same of all senders of a setup.
+-- For all senders of a setup: each packet is out of the router or inside it, once.
 abbrev pub AreOutOrInside : Setup → List Event → Type 0
 AreOutOrInside setup events = AllByRecursion (λ (s : SenderSpec). MatchOption (slice_get setup.queues s.queue) ⊥ (IsOutOrInside setup events s)) setup.senders

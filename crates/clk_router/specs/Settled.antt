@@ -1,9 +1,9 @@
 -- Where the packets of each sender are, and that all are settled once none is left (this project's own definitions).
-use Rattle.std.specs.Prelude.{◌≡◌, ℕ, ◌+◌, ◌<◌, ◌==◌, ◌&&◌, nat_lt, Bool, true, false, List, [], ◌++◌, length, map, Option, Some, None, MatchOption, ⊤, slice_get}
+use Rattle.std.specs.Prelude.{◌≡◌, ℕ, ◌+◌, ◌<◌, ◌==◌, ◌&&◌, nat_lt, Bool, true, false, List, [], ◌++◌, length, Option, Some, None, MatchOption, ⊤, slice_get}
 use Rattle.std.specs.List.{filter_map, list_any, AllByRecursion}
 use Rattle.clk_packet.specs.declared.packet.Packet.{Packet}
 use Rattle.clk_packet.specs.declared.packet.Kind.TheVariants.{TailDrop, FrontDrop}
-use Rattle.clk_packet.specs.Dealt.{IsDealt, IsTallyOf}
+use Rattle.clk_packet.specs.Dealt.{packet_numbers, IsDealt, IsTallyOf}
 use Rattle.clk_packet.specs.Lists.{of_sender, stands_in, are_distinct}
 use Rattle.clk_ring.specs.QueueHistory.{held}
 use Rattle.clk_sched.specs.Tree.{Tree}
@@ -26,7 +26,7 @@ offered_of events s = of_sender s (filter_map offered_in events)
 abbrev pub emitted_by : Setup → ℕ → List Event → List Packet
 emitted_by setup d events = emitted (log_of (events_at setup d events))
 
--- Where the packets of a sender are, which sends to this queue, over this tree.
+-- Where the packets of a sender are, which sends to the queue `room` of the device with this tree.
 pub record IsSenderAccounted (setup : Setup) (events : List Event) (s : SenderSpec) (room : Room) (tree : Tree) : Type 0 where
   -- the packets of the sender that the queue no longer holds, and those of them that it gave to the tree
   pub gone : List Packet
@@ -47,12 +47,12 @@ pub record IsSenderAccounted (setup : Setup) (events : List Event) (s : SenderSp
   pub tail_drop : room.kind ≡ TailDrop → (tally_after events s.number).evicted ≡ []
   pub front_drop : room.kind ≡ FrontDrop → (tally_after events s.number).refused ≡ []
 
--- Where all packets are that were offered over a setup.
+-- Where the packets of all senders of a setup are: each sends to a queue of the setup, whose device has a tree.
 abbrev pub IsCourseAccounted : Setup → List Event → Type 0
 IsCourseAccounted setup events =
     AllByRecursion (λ (s : SenderSpec). MatchOption (slice_get setup.queues s.queue) ⊥ (λ (room : Room). MatchOption (slice_get setup.trees room.device) ⊥ (IsSenderAccounted setup events s room))) setup.senders
 
--- What became of all that a sender offered, which sends to this queue. No other device emitted a packet of the sender.
+-- What became of all that a sender offered, which sends to the queue `room`. No other device emitted a packet of the sender.
 pub record IsSenderSettled (setup : Setup) (events : List Event) (s : SenderSpec) (room : Room) : Type 0 where
   pub tally : IsTallyOf (offered_of events s.number) (of_sender s.number (emitted_by setup room.device events)) room.kind (tally_after events s.number)
   pub elsewhere : (d : ℕ) → (room.device == d) ≡ false → of_sender s.number (emitted_by setup d events) ≡ []
@@ -76,24 +76,20 @@ pub record IsCourseSettled (setup : Setup) (events : List Event) : Type 0 where
 pub record IsDrained (c : Course) : Type 0 where
   pub none_left : (d : ℕ) → d < length c.setup.trees → accepted_at c d ≡ evicted_at c d + emitted_at c d
 
--- the numbers of packets
-abbrev pub numbers_in : List Packet → List ℕ
-numbers_in packets = map (λ (p : Packet). p.number) packets
-
 -- the packets of a sender that are out of the router: those refused, those evicted, and those that its device emitted
 abbrev pub out_of : Setup → List Event → SenderSpec → Room → List Packet
 out_of setup events s room = (tally_after events s.number).refused ++ ((tally_after events s.number).evicted ++ of_sender s.number (emitted_by setup room.device events))
 
 -- Each packet of a sender is out of the router once at most, and only if it was offered.
 pub record IsOutOnce (setup : Setup) (events : List Event) (s : SenderSpec) (room : Room) : Type 0 where
-  pub once : are_distinct (numbers_in (out_of setup events s room)) ≡ true
-  pub was_offered : (n : ℕ) → stands_in n (numbers_in (out_of setup events s room)) ≡ true → n < length (offered_of events s.number)
+  pub once : are_distinct (packet_numbers (out_of setup events s room)) ≡ true
+  pub was_offered : (n : ℕ) → stands_in n (packet_numbers (out_of setup events s room)) ≡ true → n < length (offered_of events s.number)
 
 -- Each packet that a sender offered is out of the router, and no other is.
 abbrev pub IsAllOut : Setup → List Event → SenderSpec → Room → Type 0
-IsAllOut setup events s room = (n : ℕ) → stands_in n (numbers_in (out_of setup events s room)) ≡ nat_lt n (length (offered_of events s.number))
+IsAllOut setup events s room = (n : ℕ) → stands_in n (packet_numbers (out_of setup events s room)) ≡ nat_lt n (length (offered_of events s.number))
 
--- The same of all senders of a setup.
+-- For all senders of a setup: each packet is out of the router once at most, or all packets are.
 abbrev pub AreOutOnce : Setup → List Event → Type 0
 AreOutOnce setup events = AllByRecursion (λ (s : SenderSpec). MatchOption (slice_get setup.queues s.queue) ⊥ (IsOutOnce setup events s)) setup.senders
 

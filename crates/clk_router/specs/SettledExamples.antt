@@ -38,17 +38,17 @@ emits d k p = pulled d 0 (asking k 0 0 0 (Some p) ∷ [])
 abbrev pub course_of : List Event → Course
 course_of events = record { setup = two_devices; events = events; keeps = keeps_nothing }
 
--- the packet is emitted by the device of its queue, by the other device, or not at all
+-- a packet is accepted, and is emitted by the device of its queue, by the other device, or not at all
 abbrev pub emitted_there : List Event
 emitted_there = offered p0_0 Accepted ∷ emits 0 0 p0_0 ∷ []
 
 abbrev pub emitted_elsewhere : List Event
 emitted_elsewhere = offered p0_0 Accepted ∷ emits 1 0 p0_0 ∷ []
 
-abbrev pub not_emitted : List Event
-not_emitted = offered p0_0 Accepted ∷ []
+abbrev pub left_inside : List Event
+left_inside = offered p0_0 Accepted ∷ []
 
--- the packet is emitted twice, or was never offered
+-- a packet is emitted twice, or was never offered
 abbrev pub emitted_twice : List Event
 emitted_twice = offered p0_0 Accepted ∷ emits 0 0 p0_0 ∷ emits 0 1 p0_0 ∷ []
 
@@ -105,3 +105,11 @@ head_held = offered p0_0 Accepted ∷ offered p0_1 Accepted ∷ pulled 0 0 (look
 
 abbrev pub stranger_held : List Event
 stranger_held = pulled 0 0 (look 0 0 1 0 true (Some p7_0) false ∷ asking 0 0 0 0 None ∷ []) ∷ []
+
+-- the queue of device 0 stands in the tree of device 1, and the other way round
+abbrev pub crossed : Setup
+crossed = record { trees = queue 1 ∷ queue 0 ∷ []; queues = two_devices.queues; senders = two_devices.senders }
+
+-- a queue of a device without a tree
+abbrev pub without_tree : Setup
+without_tree = record { trees = []; queues = record { kind = TailDrop; capacity = 2; device = 0 } ∷ []; senders = [] }

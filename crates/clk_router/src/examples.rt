@@ -5,9 +5,9 @@ ghost use Rattle.std.specs.Prelude.{◌≡◌, [], ◌∷◌};
 ghost use Rattle.clk_sched.specs.Examples.Priority.{p0_0};
 ghost use Rattle.clk_router.specs.Events.{CanHappen};
 ghost use Rattle.clk_router.specs.Examples.{one_queue, sender_offers, stranger_offers};
-ghost use Rattle.clk_router.specs.InsideQueues.{AreOutOrInside, heads_of, inside_of};
+ghost use Rattle.clk_router.specs.InsideQueues.{AreOutOrInside, QueuesGoOn, heads_of, inside_of};
 ghost use Rattle.clk_router.specs.Settled.{IsCourseAccounted, IsCourseSettled, AreOutOnce, AreAllOut, IsDrained};
-ghost use Rattle.clk_router.specs.SettledExamples.{two_devices, one_drr, course_of, p0_1, emitted_there, emitted_elsewhere, not_emitted, emitted_twice, never_offered, swapped, two_in_a_pull, refused_emitted, refused_held, evicted_emitted, queue_evicts, front_drop_refuses, stranger_emitted, lost, got_not_emitted, head_held, stranger_held};
+ghost use Rattle.clk_router.specs.SettledExamples.{two_devices, one_drr, crossed, without_tree, course_of, p0_1, emitted_there, emitted_elsewhere, left_inside, emitted_twice, never_offered, swapped, two_in_a_pull, refused_emitted, refused_held, evicted_emitted, queue_evicts, front_drop_refuses, stranger_emitted, lost, got_not_emitted, head_held, stranger_held};
 
 /// Which events can happen over one queue: its sender can offer a packet, and a sender that the setup does not have cannot.
 pub fn event_examples()
@@ -21,7 +21,7 @@ pub fn event_examples()
 pub fn settled_examples()
     ensures emitted_there { IsCourseSettled two_devices emitted_there }
     ensures not_emitted_elsewhere { ¬ (IsCourseSettled two_devices emitted_elsewhere) }
-    ensures not_not_emitted { ¬ (IsCourseSettled two_devices not_emitted) }
+    ensures not_left_inside { ¬ (IsCourseSettled two_devices left_inside) }
     ensures not_refused_emitted { ¬ (IsCourseSettled two_devices refused_emitted) }
     ensures not_swapped { ¬ (IsCourseSettled two_devices swapped) }
     ensures not_queue_evicts { ¬ (IsCourseSettled two_devices queue_evicts) }
@@ -30,11 +30,12 @@ pub fn settled_examples()
     ensures not_got_not_emitted { ¬ (IsCourseSettled two_devices got_not_emitted) }
     ensures not_stranger_held { ¬ (IsCourseSettled one_drr stranger_held) }
     ensures drained { IsDrained (course_of emitted_there) }
-    ensures not_drained { ¬ (IsDrained (course_of not_emitted)) }
+    ensures not_drained { ¬ (IsDrained (course_of left_inside)) }
 {}
 
-/// A course is accounted for whose packets are a head and held in the queue. It is not where a packet is emitted elsewhere, unless it was
-/// accepted, in another order, with another in one pull, or after it was evicted, and where a queue of either kind does what the other does.
+/// A course is accounted for that has one packet as a head and one in the queue. It is not where a packet is emitted elsewhere, was never
+/// accepted, is emitted in another order, in one pull with another, or after it was evicted, and where a queue of either kind does what
+/// the other does.
 pub fn accounted_examples()
     ensures head_held { IsCourseAccounted one_drr head_held }
     ensures not_emitted_elsewhere { ¬ (IsCourseAccounted two_devices emitted_elsewhere) }
@@ -46,15 +47,19 @@ pub fn accounted_examples()
     ensures not_front_drop_refuses { ¬ (IsCourseAccounted two_devices front_drop_refuses) }
 {}
 
-/// Which packets are out of a router, and which are inside: the head of a queue, and then what the queue holds. No packet is out twice, or
-/// out and never offered; one that is inside is not out; and none is neither, or both.
+/// Which packets are out of a router, and which are inside: the head of a queue, and then what the queue holds. No packet is out twice, is
+/// out and was never offered, is out and inside, or is neither. Queues do not go on over a setup where a queue stands in the tree of
+/// another device, or where its device has no tree.
 pub fn out_examples()
     ensures head_is_inside { inside_of one_drr 0 0 head_held ≡ p0_0 ∷ p0_1 ∷ [] }
     ensures head_is_first { heads_of one_drr 0 0 head_held ≡ p0_0 ∷ [] }
     ensures not_emitted_twice { ¬ (AreOutOnce two_devices emitted_twice) }
     ensures not_never_offered { ¬ (AreOutOnce two_devices never_offered) }
-    ensures not_all_out { ¬ (AreAllOut two_devices not_emitted) }
+    ensures not_all_out { ¬ (AreAllOut two_devices left_inside) }
     ensures not_all_offered { ¬ (AreAllOut two_devices never_offered) }
     ensures not_refused_held { ¬ (AreOutOrInside two_devices refused_held) }
     ensures not_lost { ¬ (AreOutOrInside two_devices lost) }
+    ensures not_more_than_offered { ¬ (AreOutOrInside two_devices never_offered) }
+    ensures not_crossed { ¬ (QueuesGoOn crossed) }
+    ensures not_without_tree { ¬ (QueuesGoOn without_tree) }
 {}

@@ -1,11 +1,8 @@
 -- Lists of packets.
-use Rattle.std.specs.Prelude.{◌≡◌, ℕ, ◌==◌, ◌&&◌, Bool, false, List, [], ◌∷◌, filter, map, not, ⊤}
+use Rattle.std.specs.Prelude.{◌≡◌, ◌==◌, ◌&&◌, Bool, false, List, [], ◌∷◌, filter, not, ⊤}
 use Rattle.std.specs.List.{list_any}
 use Rattle.clk_packet.specs.declared.packet.Packet.{Packet}
-
--- the numbers of these packets, in order
-abbrev pub packet_numbers : List Packet → List ℕ
-packet_numbers packets = map (λ (p : Packet). p.number) packets
+pub use Rattle.clk_packet.specs.Dealt.{packet_numbers}
 
 -- One packet: the same sender, and the same number.
 abbrev pub is_packet : Packet → Packet → Bool

@@ -33,7 +33,7 @@ use Rattle.clk_router.proofs.Settled.Emitted.{emitted-all}
 use Rattle.clk_router.proofs.Settled.QueuePackets.{accepted_by, refused_by, evicted_by, accepted-is, gone-dealt, all-evicted, all-given, all-gone, history-in_order, none-refused, none-evicted, IsOwn, its-packets, all-sent, EvictsWith, each-evicts}
 use Rattle.clk_router.proofs.Settled.OwnPackets.{SendsIn, one-queue, its-queue, all-came, of-own_queue, none-of-other}
 
--- what happens at a device happens there
+-- the events at a device happen there
 pub own-events : (setup : Setup) (d : ℕ) (events : List Event) → AllByRecursion (λ e. happens_at setup d e ≡ true) (events_at setup d events)
 own-events setup d [] = tt
 own-events setup d (e ∷ events) = by_test (happens_at setup d e) refl (own-events setup d events)
@@ -43,7 +43,7 @@ own-events setup d (e ∷ events) = by_test (happens_at setup d e) refl (own-eve
     by_test true here rest = (here, rest)
     by_test false elsewhere rest = rest
 
--- an offer's own packet is no other queue's
+-- a packet that is offered to another queue is of another sender
 own-offer : (setup : Setup) (q s : ℕ) (p : Packet) → sends_to setup.senders s q ≡ true → sends_to setup.senders p.sender q ≡ false → of_sender s (p ∷ []) ≡ []
 own-offer setup q s p sends none = by_test (p.sender == s) refl
   where
@@ -63,11 +63,11 @@ own-refused setup q s sends (offered p (Refused r)) = λ none. own-offer setup q
 own-refused setup q s sends (offered p (Evicted front)) = λ none. refl
 own-refused setup q s sends (pulled c m visits) = tt
 
--- a queue that is there
+-- a queue of the setup
 abbrev HasRoom : Setup → Type 0
 HasRoom setup = (k : ℕ) × ((room : Room) × (slice_get setup.queues k ≡ Some room))
 
--- nor is a packet that an offer put out
+-- and so is a packet that an offer to another queue evicts
 own-evicted : (setup : Setup) (q s : ℕ) → AreRising (sender_numbers setup) → AllByRecursion (SendsWithin (length setup.queues)) setup.senders → sends_to setup.senders s q ≡ true → (e : Event) → IsOfSender setup e
     → ((its : HasRoom setup) → EvictsWith (λ f. sends_to setup.senders f.sender its.0 ≡ true) setup its.0 e) → IsOwn evicted_in setup q s e
 own-evicted setup q s rising wired sends (offered p Accepted) known evicts = λ none. refl
@@ -84,7 +84,7 @@ own-evicted setup q s rising wired sends (offered p (Evicted front)) known evict
         absurd (false≢true (sym none ∙ subst (λ n. sends_to setup.senders p.sender n ≡ true) same its.1))
 own-evicted setup q s rising wired sends (pulled c m visits) known evicts = tt
 
--- what the two kinds of packets are, offer by offer
+-- what each offer is to its queue
 accepted-offer : (p : Packet) (outcome : Offered) → filter_map accepted_by (offer_events p outcome) ≡ cons_option (accepted_in (offered p outcome)) []
 accepted-offer p Accepted = refl
 accepted-offer p (Refused r) = refl
@@ -112,7 +112,7 @@ evicted-pull : (o : Option Packet) → evicted_by (pull_event o) ≡ None
 evicted-pull None = refl
 evicted-pull (Some p) = refl
 
--- a device that isn't there has no log
+-- a device that the setup does not have has no log
 absent : {X : Type 0} (xs : List X) (i c : ℕ) → slice_get xs i ≡ None → c < length xs → (c == i) ≡ false
 absent {X} xs i c e within = by_test (c == i) refl
   where
@@ -137,11 +137,11 @@ module _ (conserves : (tree : Tree) → leaves_distinct tree ≡ true → Conser
   abbrev its : ℕ → List Event
   its d = events_at setup d events
 
-  -- each queue that is there has a history
+  -- what happened to a queue is a history
   pub has-history : (q : ℕ) (room : Room) → slice_get setup.queues q ≡ Some room → IsQueueHistory room.kind room.capacity (history setup q events)
   has-history q room is = subst (λ o. MatchOption o ⊤ (λ (room : Room). IsQueueHistory room.kind room.capacity (history setup q events))) is (can.histories q)
 
-  -- and what is gone from it is of its senders
+  -- the packets that are gone from a queue are of its senders
   all-its : (q : ℕ) (room : Room) → slice_get setup.queues q ≡ Some room → AllByRecursion (λ (p : Packet). sends_to setup.senders p.sender q ≡ true) (gone (history setup q events))
   all-its q room is =
       all-gone (λ (p : Packet). sends_to setup.senders p.sender q ≡ true) room.capacity (history setup q events) (history-in_order room.kind room.capacity (history setup q events) (has-history q room is))
@@ -151,7 +151,7 @@ module _ (conserves : (tree : Tree) → leaves_distinct tree ≡ true → Conser
   all-evict = all-for (λ (its : HasRoom setup) e. EvictsWith (λ f. sends_to setup.senders f.sender its.0 ≡ true) setup its.0 e) events
       (λ its. each-evicts (λ f. sends_to setup.senders f.sender its.0 ≡ true) setup its.0 events (all-evicted (λ f. sends_to setup.senders f.sender its.0 ≡ true) (history setup its.0 events) (all-its its.0 its.1.0 its.1.1)))
 
-  -- the log of a device that is there is a run of its tree
+  -- the log of a device is a run of its tree
   pub its-run : (d : ℕ) (tree : Tree) → slice_get setup.trees d ≡ Some tree → IsRun tree (log_of (its d))
   its-run d tree is = (subst (λ o. MatchOption o ⊤ (λ tree. RunsTree tree (its d))) is (can.runs d)).run
 
@@ -167,7 +167,7 @@ module _ (conserves : (tree : Tree) → leaves_distinct tree ≡ true → Conser
       by_room None is e = absurd (false≢true e)
       by_room (Some room) is e = (room, is, e)
 
-  -- All that came out of a device, or is held in its tree, came from its queues, and is of their senders.
+  -- Each packet that a device emitted or its tree holds came from one of its queues, and is of a sender of that queue.
   pub came : (d : ℕ) (tree : Tree) → slice_get setup.trees d ≡ Some tree → AllByRecursion (CameOf (SendsIn setup.senders (root tree))) (traced_emitted tree (log_of (its d))) × AllByRecursion (CameOf (SendsIn setup.senders (root tree))) (traced_heads (log_of (its d)) 1 (root tree))
   came d tree at =
       let from = makes tree (log_of (its d)) (its-run d tree at) in (
@@ -181,20 +181,20 @@ module _ (conserves : (tree : Tree) → leaves_distinct tree ≡ true → Conser
           subst (AllByRecursion (λ (p : Packet). sends_to setup.senders p.sender k ≡ true)) (leaf-gave d tree at k there.0 there.1 there.2)
           (all-given (λ (p : Packet). sends_to setup.senders p.sender k ≡ true) (history setup k events) (all-its k there.0 there.1))
 
-  -- What came out of a device is of senders of its queues.
+  -- What a device emitted is of senders of its queues.
   pub all-own : (d : ℕ) (tree : Tree) → slice_get setup.trees d ≡ Some tree → AllByRecursion (λ (p : Packet). sends_at setup d p.sender ≡ true) (emitted_by setup d events)
   all-own d tree at =
       subst (AllByRecursion (λ (p : Packet). sends_at setup d p.sender ≡ true)) (sym (emitted-traced tree (log_of (its d))))
       (all-traced (SendsIn setup.senders (root tree)) (λ s. sends_at setup d s ≡ true) (λ k s its. sent-here setup.queues setup.senders s k d (sym ((closable.queues d tree at).leaves_are k) ∙ its.0) its.1)
       (traced_emitted tree (log_of (its d))) (came d tree at).0)
 
-  -- the leaf of a queue
+  -- a queue is a leaf of its device's tree
   pub stands-there : (q : ℕ) (room : Room) (tree : Tree) → slice_get setup.queues q ≡ Some room → slice_get setup.trees room.device ≡ Some tree → stands_in q (leaves (root tree)) ≡ true
   stands-there q room tree is at =
       let here : (room.device == room.device) ≡ true = grind (arith, nat_tests) in
       (closable.queues room.device tree at).leaves_are q ∙ ap (is_at room.device) is ∙ here
 
-  -- Where a sender's packets are.
+  -- The law: where the packets of a sender are.
   pub accounted : (s : SenderSpec) (room : Room) (tree : Tree) → sends_to setup.senders s.number s.queue ≡ true → slice_get setup.queues s.queue ≡ Some room → slice_get setup.trees room.device ≡ Some tree → IsSenderAccounted setup events s room tree
   accounted s room tree sends is at =
       record {

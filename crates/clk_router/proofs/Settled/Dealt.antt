@@ -33,7 +33,7 @@ pub no-members : {X : Type 0} (xs : List X) → length xs ≡ 0 → xs ≡ []
 no-members [] e = refl
 no-members (x ∷ xs) e = absurd (omega (arith, e))
 
--- a member that is there
+-- the member at a place
 pub member-there : {X : Type 0} (xs : List X) (i : ℕ) → i < length xs → (x : X) × (slice_get xs i ≡ Some x)
 member-there [] i within = absurd (omega (arith, within))
 member-there (x ∷ xs) zero within = (x, refl)

@@ -1,4 +1,4 @@
--- How the packets inside of a queue go on by an offer, and by a pull.
+-- The packets inside a queue, as the tree traces them.
 use Rattle.std.proofs.Common.{◌≡◌, ℕ, ◌+◌, ◌≤◌, ◌==◌, Bool, true, false, if◌then◌else◌, List, [], ◌∷◌, ◌++◌, length, length-append, drop, map, filter, Option, Some, None, MatchOption, slice_get, refl, sym, ap, ◌∙◌, subst, arith, eq-eqb}
 use Rattle.std.specs.List.{cons_option, AllByRecursion}
 use Rattle.std.proofs.lemmas.Bool.{false≢true, eqb-true}
@@ -22,7 +22,7 @@ use Rattle.clk_router.proofs.Settled.OwnPackets.{SendsIn, one-queue, none-from}
 use Rattle.clk_router.proofs.Settled.QueuePackets.{history-in_order}
 use Rattle.clk_router.proofs.Settled.Accounted.{has-history, its-run, leaf-gave, came, stands-there}
 
--- What is of a queue's senders came from that queue.
+-- The packets of a queue's senders came from that queue.
 pub of-queue : (senders : List SenderSpec) (row : Row) (q : ℕ) → AreRising (map number_of senders) → (ts : List Traced) → AllByRecursion (CameOf (SendsIn senders row)) ts
     → filter (λ (p : Packet). sends_to senders p.sender q) (map (λ (t : Traced). t.0) ts) ≡ from_queue q ts
 of-queue senders row q rising [] h = refl
@@ -46,7 +46,7 @@ of-queue senders row q rising (t ∷ ts) h = by_origin t.1 t.0 h.0 (of-queue sen
     by_origin (Some k) p over rest = by_tests (sends_to senders p.sender q) (k == q) k p refl refl over.1 rest
 
 module _ (conserves : (tree : Tree) → leaves_distinct tree ≡ true → ConservesPackets tree) (makes : (tree : Tree) → MakesNothing tree) (setup : Setup) (whole : IsWhole setup) (closable : IsClosable setup) (events : List Event) (can : CanHappen setup events) where
-  -- What came out of a device is traced, by queue.
+  -- What a device emitted of a queue is what the tree traces to that queue.
   pub emitted-of : (d q : ℕ) (tree : Tree) → slice_get setup.trees d ≡ Some tree → emitted_of setup d q events ≡ from_queue q (traced_emitted tree (log_of (events_at setup d events)))
   emitted-of d q tree at =
       let log = log_of (events_at setup d events) in
@@ -63,7 +63,7 @@ module _ (conserves : (tree : Tree) → leaves_distinct tree ≡ true → Conser
       ∙ conserves tree (closable.queues room.device tree at).distinct log (its-run conserves makes setup whole closable events can room.device tree at) q stands
       ∙ ap (λ l. l ++ from_queue q (traced_heads log 1 (root tree))) (sym (emitted-of room.device q tree at))
 
-  -- its heads are those that are held in the tree
+  -- The heads of a queue are what the tree holds of it.
   pub heads-are : (q : ℕ) (room : Room) (tree : Tree) → slice_get setup.queues q ≡ Some room → slice_get setup.trees room.device ≡ Some tree
       → heads_of setup room.device q events ≡ from_queue q (traced_heads (log_of (events_at setup room.device events)) 1 (root tree))
   heads-are q room tree is at =
@@ -73,7 +73,7 @@ module _ (conserves : (tree : Tree) → leaves_distinct tree ≡ true → Conser
   pub given-is : (q : ℕ) (room : Room) (tree : Tree) → slice_get setup.queues q ≡ Some room → slice_get setup.trees room.device ≡ Some tree → given_of setup q events ≡ emitted_of setup room.device q events ++ heads_of setup room.device q events
   given-is q room tree is at = given-all q room tree is at ∙ ap (λ l. emitted_of setup room.device q events ++ l) (sym (heads-are q room tree is at))
 
-  -- So no more of a queue are inside than it may hold, and DRRScheds stand above it.
+  -- So no more packets of a queue are inside than it may hold and DRRScheds stand above it.
   pub inside-fits : ((tree : Tree) → leaves_distinct tree ≡ true → HoldsFewHeads tree) → (q : ℕ) (room : Room) (tree : Tree) → slice_get setup.queues q ≡ Some room → slice_get setup.trees room.device ≡ Some tree → length (inside_of setup room.device q events) ≤ room.capacity + drrs_above q (root tree)
   inside-fits few q room tree is at =
       let heads = ap length (heads-are q room tree is at) in
@@ -82,7 +82,7 @@ module _ (conserves : (tree : Tree) → leaves_distinct tree ≡ true → Conser
       let both = length-append (heads_of setup room.device q events) (held (history setup q events)) in
       omega (arith, heads, bound, fits, both)
 
-  -- None of it came out of another device.
+  -- No other device emitted a packet of the queue.
   pub none-emitted : (d q : ℕ) (room : Room) (tree : Tree) → slice_get setup.queues q ≡ Some room → (room.device == d) ≡ false → slice_get setup.trees d ≡ Some tree → emitted_of setup d q events ≡ []
   none-emitted d q room tree is other at =
       let log = log_of (events_at setup d events) in

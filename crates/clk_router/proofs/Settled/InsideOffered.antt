@@ -1,4 +1,4 @@
--- What is inside of a queue was offered: the number of each packet is below how many its sender offered.
+-- The packets inside a queue were offered: each number is below how many packets its sender offered.
 use Rattle.std.proofs.Common.{◌≡◌, ℕ, zero, suc, ◌+◌, ◌<◌, ◌==◌, ◌||◌, Bool, true, false, if◌then◌else◌, List, [], ◌∷◌, ◌++◌, length, drop, Option, Some, None, MatchOption, slice_get, refl, sym, ap, ◌∙◌, subst, arith}
 use Rattle.std.specs.Bool.{⊤}
 use Rattle.std.specs.List.{filter_map, cons_option, range_with_len, AllByRecursion}
@@ -16,12 +16,12 @@ use Rattle.clk_sched.proofs.Callers.Lists.{all-split, all-weaker}
 use Rattle.clk_router.proofs.Callers.Events.{all-join}
 use Rattle.clk_router.proofs.Settled.QueuePackets.{accepted_by, accepted-is, all-given, history-in_order, none-answered}
 
--- what holds of the packet of an offer
+-- what holds of the packet that an event offered
 abbrev pub OfOffer : (Packet → Type 0) → Event → Type 0
 OfOffer P (offered p outcome) = P p
 OfOffer P (pulled device moment visits) = ⊤
 
--- the number of each packet that was offered is among those of its sender
+-- the number of a packet is among those that its sender offered
 abbrev IsNumbered : List Event → Packet → Type 0
 IsNumbered events p = stands_in p.number (numbers_of p.sender events) ≡ true
 
@@ -66,7 +66,7 @@ all-offered setup events can = all-weaker (OfOffer (IsNumbered events)) (OfOffer
     step (offered p outcome) h = let below = range-below p.number 0 (length (numbers_of p.sender events)) (subst (λ l. stands_in p.number l ≡ true) (can.numbered p.sender) h) in omega (arith, below)
     step (pulled d m visits) h = tt
 
--- What holds of all packets that were offered holds of those that a queue took in, and of all that are inside of it.
+-- What holds of all packets offered holds of those that a queue accepted, and of those inside it.
 pub all-accepted : (P : Packet → Type 0) (setup : Setup) (q : ℕ) (events : List Event) → AllByRecursion (OfOffer P) events → AllByRecursion P (filter_map accepted_by (history setup q events))
 all-accepted P setup q [] h = tt
 all-accepted P setup q (e ∷ events) h =
@@ -106,6 +106,6 @@ all-inside P setup events can d q room is h =
         subst (AllByRecursion P) (sym (accepted-is (history setup q events)) ∙ (history-in_order room.kind room.capacity (history setup q events) past).order)
         (all-accepted P setup q events h)
 
--- So the numbers of what is inside are below how many were offered.
+-- So the packets inside were offered.
 pub inside-offered : (setup : Setup) (events : List Event) → CanHappen setup events → (d q : ℕ) (room : Room) → slice_get setup.queues q ≡ Some room → AllByRecursion (WasOffered events) (inside_of setup d q events)
 inside-offered setup events can d q room is = all-inside (WasOffered events) setup events can d q room is (all-offered setup events can)

@@ -1,4 +1,4 @@
--- What is inside of a queue after an offer, and after a pull.
+-- The packets inside a queue after an offer, and after a pull.
 use Rattle.std.proofs.Common.{◌≡◌, ℕ, ◌==◌, Bool, true, false, if◌then◌else◌, List, [], ◌∷◌, ◌++◌, length, drop, map, filter, append-nil, append_assoc, Option, Some, None, MatchOption, slice_get, refl, sym, ap, ap₂, ◌∙◌, subst, arith}
 use Rattle.std.specs.Bool.{⊤}
 use Rattle.std.specs.List.{filter_map, cons_option, AllByRecursion}
@@ -33,7 +33,7 @@ use Rattle.clk_router.proofs.Settled.QueuePackets.{accepted_by, accepted-is, his
 use Rattle.clk_router.proofs.Settled.Accounted.{has-history}
 use Rattle.clk_router.proofs.Settled.Inside.{given-is, none-emitted}
 
--- what is gone, by event
+-- the packet that is gone by an event
 abbrev gone_by : QueueEvent → Option Packet
 gone_by (evict p) = Some p
 gone_by (give p) = Some p
@@ -53,7 +53,7 @@ accepted-more xs ys = accepted-is (xs ++ ys) ∙ filter_map-append accepted_by x
 gone-more : (xs ys : List QueueEvent) → gone (xs ++ ys) ≡ gone xs ++ gone ys
 gone-more xs ys = gone-is (xs ++ ys) ∙ filter_map-append gone_by xs ys ∙ ap₂ (λ a b. a ++ b) (sym (gone-is xs)) (sym (gone-is ys))
 
--- how what is held goes on: a packet more at the back, and where one goes out for it
+-- what a queue holds after it accepted a packet, refused one, or evicted one for another
 held-taken : (capacity : ℕ) (past : List QueueEvent) (p : Packet) → IsInOrder capacity past → held (past ++ accept p ∷ []) ≡ held past ++ p ∷ []
 held-taken capacity past p order =
     let took = accepted-more past (accept p ∷ []) ∙ ap (λ l. l ++ p ∷ []) order.order ∙ append_assoc (gone past) (held past) (p ∷ []) in
@@ -88,7 +88,7 @@ held-evicted kind capacity past front p h = record { rest = mid; was = was; is =
         ap held (sym (append_assoc past (evict front ∷ []) (accept p ∷ [])))
         ∙ held-taken capacity (past ++ evict front ∷ []) p h.3.0
 
--- what came out in the last pull is its result
+-- what a pull emitted is its result
 pull-emitted : (tree : Tree) (events : List Event) (d m : ℕ) (visits : List Visit) → RunsTree tree (events ++ pulled d m visits ∷ []) → emitted visits ≡ cons_option (result_of (visits_of 0 visits)) []
 pull-emitted tree events d m visits runs =
     let turns : AllByRecursion (λ pull. IsDeviceTurn (turn 0 pull)) (filter_map pull_in events ++ visits ∷ []) =
@@ -101,7 +101,7 @@ pull-emitted tree events d m visits runs =
     of-map [] h = tt
     of-map (pull ∷ pulls) h = (h.0, of-map pulls h.1)
 
--- what came out of a device, and an event more
+-- what a device emitted after one more event
 emitted-offer : (setup : Setup) (d : ℕ) (events : List Event) (p : Packet) (outcome : Offered) → emitted_by setup d (events ++ offered p outcome ∷ []) ≡ emitted_by setup d events
 emitted-offer setup d events p outcome = by_test (happens_at setup d (offered p outcome)) refl
   where
@@ -149,7 +149,7 @@ module _ (conserves : (tree : Tree) → leaves_distinct tree ≡ true → Conser
   order : IsInOrder room.capacity (history setup q events)
   order = history-in_order room.kind room.capacity (history setup q events) (has-history conserves makes setup whole closable events can q room its_room)
 
-  -- one that is accepted, and one that is refused
+  -- A packet that is accepted goes to the end, and one that is refused changes nothing.
   pub inside-accepted : (p : Packet) → sends_to setup.senders p.sender q ≡ true → inside_of setup d q (events ++ offered p Accepted ∷ []) ≡ inside_of setup d q events ++ p ∷ []
   inside-accepted p sends =
       ap₂ (λ a b. a ++ b) (heads-offer setup d q events p Accepted)
@@ -161,7 +161,7 @@ module _ (conserves : (tree : Tree) → leaves_distinct tree ≡ true → Conser
       ap₂ (λ a b. a ++ b) (heads-offer setup d q events p (Refused r))
       (ap held (history-with setup q events (offered p (Refused r)) ∙ ap (λ b. history setup q events ++ (if b then offer_events p (Refused r) else [])) sends) ∙ held-refused (history setup q events) p)
 
-  -- one for which the first that is held goes out
+  -- A packet that evicts goes to the end, and the first that the queue holds is gone.
   pub inside-evicted : (p front : Packet) → sends_to setup.senders p.sender q ≡ true → CanHappen setup (events ++ offered p (Evicted front) ∷ []) → IsEvictedInside setup d q events (events ++ offered p (Evicted front) ∷ []) front p
   inside-evicted p front sends goes_on =
       record {
@@ -180,7 +180,7 @@ module _ (conserves : (tree : Tree) → leaves_distinct tree ≡ true → Conser
           (stands-rest room.kind room.capacity [] (history setup q events) (evict front ∷ accept p ∷ [])
           (subst (EachStands room.kind room.capacity []) its_past (has-history conserves makes setup whole closable (events ++ offered p (Evicted front) ∷ []) goes_on q room its_room)))
 
-  -- A pull puts out the first that is inside, or none.
+  -- A pull emits the first that is inside, or none of the queue.
   pub inside-pulled : (tree : Tree) → slice_get setup.trees d ≡ Some tree → (c m : ℕ) (visits : List Visit) → CanHappen setup (events ++ pulled c m visits ∷ [])
       → inside_of setup d q events ≡ emitted_from setup q (pulled c m visits) ++ inside_of setup d q (events ++ pulled c m visits ∷ [])
   inside-pulled tree at c m visits goes_on = by_device (c == d) refl
@@ -212,7 +212,7 @@ module _ (conserves : (tree : Tree) → leaves_distinct tree ≡ true → Conser
           by_test true None rest = rest
           by_test true (Some p) rest = ap (λ l. p ∷ l) rest
 
-      -- what is held is what was given, and then what is held yet
+      -- what the queue held is what it gave, and then what it holds now
       held_was : held (history setup q events) ≡ given ++ held (history setup q more)
       held_was =
           let next = (history-in_order room.kind room.capacity (history setup q more) (has-history conserves makes setup whole closable more goes_on q room its_room)).order in
@@ -229,7 +229,7 @@ module _ (conserves : (tree : Tree) → leaves_distinct tree ≡ true → Conser
       given_more : given_of setup q more ≡ given_of setup q events ++ given
       given_more = ap (filter_map given_by) its_past ∙ filter_map-append given_by (history setup q events) answers
 
-      -- what came out of the queue's device
+      -- from what the queue's device emitted
       by_out : (o : List Packet) → emitted_of setup d q more ≡ emitted_of setup d q events ++ o → inside_of setup d q events ≡ o ++ inside_of setup d q more
       by_out o out_more =
           let was = given-is conserves makes setup whole closable events can q room tree its_room at in

@@ -1,4 +1,4 @@
--- Where nothing is left at a device, neither its queues nor its tree hold a packet, and so a course is settled where nothing is left at any.
+-- Where nothing is left for a device, its queues and its tree hold no packet. So a course is settled where nothing is left for any device.
 use Rattle.std.proofs.Common.{◌≡◌, ℕ, ◌+◌, ◌<◌, ◌==◌, ◌||◌, Bool, true, false, List, [], ◌∷◌, ◌++◌, length, append-nil, Option, Some, None, MatchOption, slice_get, refl, sym, ap, ◌∙◌, subst, arith}
 use Rattle.std.specs.Bool.{⊤}
 use Rattle.std.specs.List.{filter_map, AllByRecursion}
@@ -29,7 +29,7 @@ use Rattle.clk_router.proofs.Settled.OwnPackets.{all-send}
 use Rattle.clk_router.proofs.Settled.Numbers.{out-once, all-out}
 use Rattle.clk_router.proofs.Settled.Accounted.{own-events, its-run, accounted, all-own}
 
--- where queues hold none in all, each holds none
+-- where queues hold no packet in all, each holds none
 each-none : (f : ℕ → ℕ) (qs : List ℕ) → held_in_all f qs ≡ 0 → (q : ℕ) → stands_in q qs ≡ true → f q ≡ 0
 each-none f [] none q stands = absurd (false≢true stands)
 each-none f (x ∷ qs) none q stands = by_test (x == q) refl stands (each-none f qs (omega (arith, none)) q)
@@ -42,7 +42,7 @@ in-order : (o : Option Room) (events : List QueueEvent) → MatchOption o ⊤ (�
 in-order None events h = tt
 in-order (Some room) events h = history-in_order room.kind room.capacity events h
 
--- nothing is held where nothing is left
+-- the queues and the tree of a device hold no packet
 pub record HoldsNone (setup : Setup) (events : List Event) (d : ℕ) (tree : Tree) : Type 0 where
   pub queues : (q : ℕ) → stands_in q (leaves (root tree)) ≡ true → held (history setup q (events_at setup d events)) ≡ []
   pub heads_are : heads tree (log_of (events_at setup d events)) ≡ []
@@ -63,7 +63,7 @@ none-held start counts setup closable events can d tree at run none =
       heads_are = no-members (heads tree (log_of its)) no_heads;
     }
 
--- What is accounted for is settled, where nothing is held.
+-- A sender that is accounted for is settled where nothing is held.
 settled-sender : (setup : Setup) (events : List Event) (s : SenderSpec) (room : Room) (tree : Tree) → IsSenderAccounted setup events s room tree → held (history setup s.queue events) ≡ [] → heads tree (log_of (events_at setup room.device events)) ≡ []
     → IsSenderSettled setup events s room
 settled-sender setup events s room tree a no_held no_heads =
@@ -81,7 +81,7 @@ settled-sender setup events s room tree a no_held no_heads =
       elsewhere = a.elsewhere;
     }
 
--- what holds at each sender whose queue and tree are there holds of all senders of a whole setup
+-- In a whole setup, each sender has its queue and its tree.
 for-senders : (setup : Setup) → IsWhole setup → (P : SenderSpec → Room → Tree → Type 0)
     → ((s : SenderSpec) (room : Room) (tree : Tree) → sends_to setup.senders s.number s.queue ≡ true → slice_get setup.queues s.queue ≡ Some room → slice_get setup.trees room.device ≡ Some tree → P s room tree)
     → AllByRecursion (λ (s : SenderSpec). MatchOption (slice_get setup.queues s.queue) ⊥ (λ (room : Room). MatchOption (slice_get setup.trees room.device) ⊥ (P s room))) setup.senders
@@ -97,7 +97,7 @@ for-senders setup whole P each =
         subst (λ (o : Option Room). MatchOption o ⊥ (λ (room : Room). MatchOption (slice_get setup.trees room.device) ⊥ (P s room))) (sym there.1)
         (subst (λ o. MatchOption o ⊥ (P s room)) (sym its.1) (each s room its.0 sends there.1 its.1))
 
--- and where the tree isn't spoken of
+-- the same of what does not speak of the tree
 pub for-queues : (setup : Setup) → IsWhole setup → (P : SenderSpec → Room → Type 0)
     → ((s : SenderSpec) (room : Room) (tree : Tree) → sends_to setup.senders s.number s.queue ≡ true → slice_get setup.queues s.queue ≡ Some room → slice_get setup.trees room.device ≡ Some tree → P s room)
     → AllByRecursion (λ (s : SenderSpec). MatchOption (slice_get setup.queues s.queue) ⊥ (P s)) setup.senders
@@ -113,7 +113,7 @@ for-queues setup whole P each =
     by_room s None h = absurd h
     by_room s (Some room) h = by_tree s room (slice_get setup.trees room.device) h
 
--- The laws of a course over a setup that is whole: where all packets are, and that each comes back once at most.
+-- The laws of a course: where all packets are, and that each is out of the router once at most.
 module _ (conserves : (tree : Tree) → leaves_distinct tree ≡ true → ConservesPackets tree) (makes : (tree : Tree) → MakesNothing tree) (setup : Setup) (whole : IsWhole setup) (closable : IsClosable setup) (events : List Event)
     (can : CanHappen setup events) where
   account : (s : SenderSpec) (room : Room) (tree : Tree) → sends_to setup.senders s.number s.queue ≡ true → slice_get setup.queues s.queue ≡ Some room → slice_get setup.trees room.device ≡ Some tree → IsSenderAccounted setup events s room tree
@@ -125,7 +125,7 @@ module _ (conserves : (tree : Tree) → leaves_distinct tree ≡ true → Conser
   pub are-out_once : AreOutOnce setup events
   are-out_once = for-queues setup whole (IsOutOnce setup events) (λ s room tree sends is at. out-once setup events s room tree can (account s room tree sends is at))
 
-  -- and where nothing is left at any device: all is settled, and each came back
+  -- where nothing is left for any device, all is settled, and each packet is out
   module _ (start : (tree : Tree) → IsRun tree []) (counts : (tree : Tree) → leaves_distinct tree ≡ true → ConservesCounts tree)
       (none : (d : ℕ) → d < length setup.trees → length (filter_map accepted_in (events_at setup d events)) ≡ length (filter_map evicted_in (events_at setup d events)) + length (emitted (log_of (events_at setup d events)))) where
     nothing : (d : ℕ) (tree : Tree) → slice_get setup.trees d ≡ Some tree → HoldsNone setup events d tree

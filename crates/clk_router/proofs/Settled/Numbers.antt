@@ -1,4 +1,4 @@
--- Each packet that a sender offered comes back once at most, and once where nothing is left.
+-- Each packet that a sender offered is out of the router once at most, and once where nothing is left. All by counts of numbers.
 use Rattle.std.proofs.Common.{◌≡◌, inl, inr, ℕ, zero, suc, ◌+◌, ◌<◌, ◌≤◌, ◌==◌, ◌||◌, nat_lt, Bool, true, false, if◌then◌else◌, List, [], ◌∷◌, ◌++◌, length, Some, None, refl, sym, ap, ◌∙◌, arith}
 use Rattle.std.specs.List.{filter_map, cons_option, range_with_len}
 use Rattle.std.proofs.lemmas.Bool.{false≢true}
@@ -11,18 +11,18 @@ use Rattle.clk_ring.specs.QueueHistory.{held}
 use Rattle.clk_sched.specs.Tree.{Tree}
 use Rattle.clk_sched.specs.Results.{heads}
 use Rattle.clk_tree.specs.declared.plan.parts.SenderSpec.{SenderSpec}
-use Rattle.clk_packet.specs.Dealt.{IsDealt}
+use Rattle.clk_packet.specs.Dealt.{packet_numbers, IsDealt}
 use Rattle.clk_router.specs.Events.{Room, Setup, Event, CanHappen, offered, pulled, numbers_of, events_at, log_of, accepted_in, refused_in, evicted_in, history}
-use Rattle.clk_router.specs.Settled.{IsSenderAccounted, offered_of, emitted_by, numbers_in, out_of, IsOutOnce, IsAllOut}
+use Rattle.clk_router.specs.Settled.{IsSenderAccounted, offered_of, emitted_by, out_of, IsOutOnce, IsAllOut}
 
 -- how often a number stands in a list
 abbrev pub times : ℕ → List ℕ → ℕ
 times n [] = 0
 times n (m ∷ ms) = (if m == n then 1 else 0) + times n ms
 
--- how often packets have it
+-- how many packets have a number
 abbrev pub of_number : ℕ → List Packet → ℕ
-of_number n packets = times n (numbers_in packets)
+of_number n packets = times n (packet_numbers packets)
 
 pub times-append : (n : ℕ) (xs ys : List Packet) → of_number n (xs ++ ys) ≡ of_number n xs + of_number n ys
 times-append n [] ys = omega arith
@@ -33,7 +33,7 @@ times-dealt n [] a b h = let x = ap (of_number n) h.0 in let y = ap (of_number n
 times-dealt n (p ∷ packets) a b (inl x) = let here = ap (of_number n) x.1 in let rest = times-dealt n packets x.0 b x.2 in omega (arith, here, rest)
 times-dealt n (p ∷ packets) a b (inr x) = let here = ap (of_number n) x.1 in let rest = times-dealt n packets a x.0 x.2 in omega (arith, here, rest)
 
--- numbers that follow one another
+-- a number stands once in a range that has it, and in no other
 times-below : (n a k : ℕ) → n < a → times n (range_with_len a k) ≡ 0
 times-below n a zero below = refl
 times-below n a (suc k) below =
@@ -66,7 +66,7 @@ times-above n a (suc k) above =
     let is = ap (λ (b : Bool). (if b then 1 else 0) + times n (range_with_len (a + 1) k)) other in
     omega (arith, is, rest)
 
--- lists by how often numbers stand in them
+-- a number stands in a list where it stands there once or more
 pub none-stands : (n : ℕ) (ms : List ℕ) → times n ms ≡ 0 → stands_in n ms ≡ false
 none-stands n [] e = refl
 none-stands n (m ∷ ms) e = by_test (m == n) refl e (none-stands n ms)
@@ -90,22 +90,22 @@ once-distinct (m ∷ ms) once =
     (once-distinct ms (λ n. let here = once n in omega (arith, here)))
 
 -- the numbers of what a sender offered
-numbers-offered : (s : ℕ) (events : List Event) → numbers_in (offered_of events s) ≡ numbers_of s events
+numbers-offered : (s : ℕ) (events : List Event) → packet_numbers (offered_of events s) ≡ numbers_of s events
 numbers-offered s [] = refl
 numbers-offered s (offered p outcome ∷ events) = by_test (p.sender == s) (numbers-offered s events)
   where
-    by_test : (b : Bool) → numbers_in (offered_of events s) ≡ numbers_of s events → numbers_in (if b then p ∷ offered_of events s else offered_of events s) ≡ cons_option (if b then Some p.number else None) (numbers_of s events)
+    by_test : (b : Bool) → packet_numbers (offered_of events s) ≡ numbers_of s events → packet_numbers (if b then p ∷ offered_of events s else offered_of events s) ≡ cons_option (if b then Some p.number else None) (numbers_of s events)
     by_test true rest = ap (λ l. p.number ∷ l) rest
     by_test false rest = rest
 numbers-offered s (pulled d m visits ∷ events) = numbers-offered s events
 
--- how often a number stands among what a sender offered
+-- a sender offered each number once, up to how many packets it offered
 pub offered-times : (setup : Setup) (events : List Event) → CanHappen setup events → (s n : ℕ) → of_number n (offered_of events s) ≡ times n (range_with_len 0 (length (offered_of events s)))
 offered-times setup events can s n =
     let count : length (offered_of events s) ≡ length (numbers_of s events) = sym (length-map (offered_of events s) (λ (p : Packet). p.number)) ∙ ap length (numbers-offered s events) in
     ap (times n) (numbers-offered s events ∙ can.numbered s) ∙ ap (λ k. times n (range_with_len 0 k)) (sym count)
 
--- What came back, and what is held yet, is what was offered.
+-- The packets of a number that are out, or held in the tree or the queue, are as many as were offered.
 pub out-times : (setup : Setup) (events : List Event) (s : SenderSpec) (room : Room) (tree : Tree) → IsSenderAccounted setup events s room tree → (n : ℕ)
     → of_number n (out_of setup events s room) + (of_number n (of_sender s.number (heads tree (log_of (events_at setup room.device events)))) + of_number n (of_sender s.number (held (history setup s.queue events)))) ≡ of_number n (offered_of events s.number)
 out-times setup events s room tree a n =
@@ -121,11 +121,11 @@ out-times setup events s room tree a n =
     let second = times-append n evicted its_emitted in
     omega (arith, offered_are, gone_are, accepted_are, given_are, first, second)
 
--- Each packet comes back once at most.
+-- Each packet is out once at most.
 pub out-once : (setup : Setup) (events : List Event) (s : SenderSpec) (room : Room) (tree : Tree) → CanHappen setup events → IsSenderAccounted setup events s room tree → IsOutOnce setup events s room
 out-once setup events s room tree can a =
     record {
-      once = once-distinct (numbers_in (out_of setup events s room)) (λ n. let back = out-times setup events s room tree a n in let all = offered-times setup events can s.number n in let most = at-most n in omega (arith, back, all, most));
+      once = once-distinct (packet_numbers (out_of setup events s room)) (λ n. let back = out-times setup events s room tree a n in let all = offered-times setup events can s.number n in let most = at-most n in omega (arith, back, all, most));
       was_offered = λ n stands. within n stands (nat_lt n (length (offered_of events s.number))) refl;
     }
   where
@@ -139,15 +139,15 @@ out-once setup events s room tree can a =
     at-most : (n : ℕ) → times n (range_with_len 0 (length (offered_of events s.number))) ≤ 1
     at-most n = by_place n (nat_lt n (length (offered_of events s.number))) refl
 
-    within : (n : ℕ) → stands_in n (numbers_in (out_of setup events s room)) ≡ true → (b : Bool) → nat_lt n (length (offered_of events s.number)) ≡ b → n < length (offered_of events s.number)
+    within : (n : ℕ) → stands_in n (packet_numbers (out_of setup events s room)) ≡ true → (b : Bool) → nat_lt n (length (offered_of events s.number)) ≡ b → n < length (offered_of events s.number)
     within n stands true e = grind (arith, nat_tests, e)
     within n stands false e =
         let none = times-above n 0 (length (offered_of events s.number)) (grind (arith, nat_tests, e)) in
         let back = out-times setup events s room tree a n in
         let all = offered-times setup events can s.number n in
-        absurd (false≢true (sym (none-stands n (numbers_in (out_of setup events s room)) (omega (arith, none, back, all))) ∙ stands))
+        absurd (false≢true (sym (none-stands n (packet_numbers (out_of setup events s room)) (omega (arith, none, back, all))) ∙ stands))
 
--- Where nothing is held, each came back.
+-- Where nothing is held, each packet is out.
 pub all-out : (setup : Setup) (events : List Event) (s : SenderSpec) (room : Room) (tree : Tree) → CanHappen setup events → IsSenderAccounted setup events s room tree → held (history setup s.queue events) ≡ []
     → heads tree (log_of (events_at setup room.device events)) ≡ [] → IsAllOut setup events s room
 all-out setup events s room tree can a no_held no_heads n = by_place (nat_lt n (length (offered_of events s.number))) refl
@@ -160,6 +160,6 @@ all-out setup events s room tree can a no_held no_heads n = by_place (nat_lt n (
         let q = ap (λ l. of_number n (of_sender s.number l)) no_held in
         omega (arith, back, all, h, q)
 
-    by_place : (b : Bool) → nat_lt n (length (offered_of events s.number)) ≡ b → stands_in n (numbers_in (out_of setup events s room)) ≡ b
-    by_place true e = some-stands n (numbers_in (out_of setup events s room)) (let one = times-within n 0 (length (offered_of events s.number)) (omega arith) (grind (arith, nat_tests, e)) in omega (arith, one, its))
-    by_place false e = none-stands n (numbers_in (out_of setup events s room)) (let none = times-above n 0 (length (offered_of events s.number)) (grind (arith, nat_tests, e)) in omega (arith, none, its))
+    by_place : (b : Bool) → nat_lt n (length (offered_of events s.number)) ≡ b → stands_in n (packet_numbers (out_of setup events s room)) ≡ b
+    by_place true e = some-stands n (packet_numbers (out_of setup events s room)) (let one = times-within n 0 (length (offered_of events s.number)) (omega arith) (grind (arith, nat_tests, e)) in omega (arith, one, its))
+    by_place false e = none-stands n (packet_numbers (out_of setup events s room)) (let none = times-above n 0 (length (offered_of events s.number)) (grind (arith, nat_tests, e)) in omega (arith, none, its))

@@ -1,4 +1,4 @@
--- Each packet that a sender offered came back once, or is inside once.
+-- Each packet that a sender offered is out of the router or inside it, once.
 use Rattle.std.proofs.Common.{◌≡◌, ℕ, ◌≤◌, ◌==◌, nat_lt, Bool, true, false, List, length, Some, slice_get, refl, sym, ap, ◌∙◌, arith}
 use Rattle.std.specs.List.{range_with_len}
 use Rattle.std.proofs.lemmas.Bool.Decides.{nat_tests}
@@ -11,7 +11,8 @@ use Rattle.clk_sched.specs.Results.{traced_heads, heads}
 use Rattle.clk_sched.specs.Conservation.{ConservesPackets, MakesNothing}
 use Rattle.clk_tree.specs.declared.plan.parts.SenderSpec.{SenderSpec}
 use Rattle.clk_router.specs.Events.{Room, Setup, Event, sends_to, events_at, log_of, history, CanHappen}
-use Rattle.clk_router.specs.Settled.{offered_of, numbers_in, out_of}
+use Rattle.clk_packet.specs.Dealt.{packet_numbers}
+use Rattle.clk_router.specs.Settled.{offered_of, out_of}
 use Rattle.clk_router.specs.InsideQueues.{heads_of, inside_of, out_or_inside, IsOutOrInside, AreOutOrInside}
 use Rattle.clk_router.specs.inside.Closable.{IsClosable}
 use Rattle.clk_router.specs.inside.Parts.{IsWhole}
@@ -22,7 +23,7 @@ use Rattle.clk_router.proofs.Settled.Numbers.{times, of_number, times-append, ti
 use Rattle.clk_router.proofs.Settled.NoneLeft.{for-queues}
 
 module _ (conserves : (tree : Tree) → leaves_distinct tree ≡ true → ConservesPackets tree) (makes : (tree : Tree) → MakesNothing tree) (setup : Setup) (whole : IsWhole setup) (closable : IsClosable setup) (events : List Event) (can : CanHappen setup events) where
-  -- how often a number stands among all
+  -- the packets of a number that are out or inside are as many as were offered
   all-times : (s : SenderSpec) (room : Room) (tree : Tree) → sends_to setup.senders s.number s.queue ≡ true → slice_get setup.queues s.queue ≡ Some room → slice_get setup.trees room.device ≡ Some tree → (n : ℕ)
       → of_number n (out_or_inside setup events s room) ≡ times n (range_with_len 0 (length (offered_of events s.number)))
   all-times s room tree sends is at n =
@@ -45,7 +46,7 @@ module _ (conserves : (tree : Tree) → leaves_distinct tree ≡ true → Conser
   out-or_inside : (s : SenderSpec) (room : Room) (tree : Tree) → sends_to setup.senders s.number s.queue ≡ true → slice_get setup.queues s.queue ≡ Some room → slice_get setup.trees room.device ≡ Some tree → IsOutOrInside setup events s room
   out-or_inside s room tree sends is at =
       record {
-        once = once-distinct (numbers_in (out_or_inside setup events s room)) (λ n. by_most n (nat_lt n (length (offered_of events s.number))) refl (all-times s room tree sends is at n));
+        once = once-distinct (packet_numbers (out_or_inside setup events s room)) (λ n. by_most n (nat_lt n (length (offered_of events s.number))) refl (all-times s room tree sends is at n));
         all = λ n. by_place n (nat_lt n (length (offered_of events s.number))) refl (all-times s room tree sends is at n);
       }
     where
@@ -53,10 +54,10 @@ module _ (conserves : (tree : Tree) → leaves_distinct tree ≡ true → Conser
       by_most n true e its = let one = times-within n 0 (length (offered_of events s.number)) (omega arith) (grind (arith, nat_tests, e)) in omega (arith, one, its)
       by_most n false e its = let none = times-above n 0 (length (offered_of events s.number)) (grind (arith, nat_tests, e)) in omega (arith, none, its)
 
-      by_place : (n : ℕ) (b : Bool) → nat_lt n (length (offered_of events s.number)) ≡ b → of_number n (out_or_inside setup events s room) ≡ times n (range_with_len 0 (length (offered_of events s.number))) → stands_in n (numbers_in (out_or_inside setup events s room)) ≡ b
-      by_place n true e its = some-stands n (numbers_in (out_or_inside setup events s room)) (let one = times-within n 0 (length (offered_of events s.number)) (omega arith) (grind (arith, nat_tests, e)) in omega (arith, one, its))
-      by_place n false e its = none-stands n (numbers_in (out_or_inside setup events s room)) (let none = times-above n 0 (length (offered_of events s.number)) (grind (arith, nat_tests, e)) in omega (arith, none, its))
+      by_place : (n : ℕ) (b : Bool) → nat_lt n (length (offered_of events s.number)) ≡ b → of_number n (out_or_inside setup events s room) ≡ times n (range_with_len 0 (length (offered_of events s.number))) → stands_in n (packet_numbers (out_or_inside setup events s room)) ≡ b
+      by_place n true e its = some-stands n (packet_numbers (out_or_inside setup events s room)) (let one = times-within n 0 (length (offered_of events s.number)) (omega arith) (grind (arith, nat_tests, e)) in omega (arith, one, its))
+      by_place n false e its = none-stands n (packet_numbers (out_or_inside setup events s room)) (let none = times-above n 0 (length (offered_of events s.number)) (grind (arith, nat_tests, e)) in omega (arith, none, its))
 
-  -- for all senders
+  -- the same of all senders
   pub are-out_or_inside : AreOutOrInside setup events
   are-out_or_inside = for-queues setup whole (IsOutOrInside setup events) out-or_inside

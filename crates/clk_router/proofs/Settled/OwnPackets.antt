@@ -1,4 +1,4 @@
--- Each sender sends to one queue, and so what came out of a sender's packets came from its own queue.
+-- Each sender sends to one queue, and so the packets of a sender came from its own queue.
 use Rattle.std.proofs.Common.{◌≡◌, ℕ, ◌==◌, ◌&&◌, ◌||◌, Bool, true, false, if◌then◌else◌, List, [], ◌∷◌, map, Option, Some, None, MatchOption, refl, sym, ap, ◌∙◌, subst, arith}
 use Rattle.std.specs.List.{AllByRecursion, list_any, cons_option}
 use Rattle.std.proofs.lemmas.Bool.{false≢true, eqb-true, or_right}
@@ -37,7 +37,7 @@ all-send (x ∷ senders) = (
   sends-wider senders x senders (all-send senders),
 )
 
--- a sender that is there sends to a queue, of which holds what holds of all senders
+-- a sender of the setup sends to a queue, and has what all senders have
 pub its-queue : (P : SenderSpec → Type 0) (senders : List SenderSpec) (n : ℕ) → AllByRecursion P senders → list_any (λ m. m == n) (map number_of senders) ≡ true → (x : SenderSpec) × (sends_to senders n x.queue ≡ true) × P x
 its-queue P [] n h e = absurd (false≢true e)
 its-queue P (x ∷ senders) n h e = by_test (x.number == n) refl e (its-queue P senders n h.1)
@@ -47,7 +47,7 @@ its-queue P (x ∷ senders) n h e = by_test (x.number == n) refl e (its-queue P 
     by_test true f e rest = (x, (let q : (x.queue == x.queue) ≡ true = grind (arith, nat_tests) in rw q refl), h.0)
     by_test false f e rest = let its = rest e in (its.0, its.1, its.2)
 
--- a sender sends to a queue of a row
+-- a sender sends to a queue that stands in a row
 abbrev pub SendsIn : List SenderSpec → Row → ℕ → ℕ → Type 0
 SendsIn senders row s k = (stands_in k (leaves row) ≡ true) × (sends_to senders s k ≡ true)
 
@@ -61,12 +61,12 @@ all-came senders tree log row (t ∷ ts) all h = (by_origin t.1 t.0 h.0, all-cam
     by_origin None p h = absurd h
     by_origin (Some k) p h = (h.0, of-all (λ (p : Packet). sends_to senders p.sender k ≡ true) p (leaf_packets tree k log) (all k h.0) h.1)
 
--- Of a sender's packets all came from its own queue.
+-- The packets of a sender came from its own queue.
 pub of-own_queue : (senders : List SenderSpec) (row : Row) (s q : ℕ) → AreRising (map number_of senders) → sends_to senders s q ≡ true → (ts : List Traced) → AllByRecursion (CameOf (SendsIn senders row)) ts
     → of_sender s (map (λ (t : Traced). t.0) ts) ≡ of_sender s (from_queue q ts)
 of-own_queue senders row s q rising sends = from-own_queue (SendsIn senders row) s q (λ k its. one-queue senders s k q rising its.1 sends)
 
--- Nothing came from a queue that doesn't stand in the tree.
+-- No packet came from a queue that does not stand in the tree.
 pub none-from : (senders : List SenderSpec) (row : Row) (q : ℕ) → stands_in q (leaves row) ≡ false → (ts : List Traced) → AllByRecursion (CameOf (SendsIn senders row)) ts → from_queue q ts ≡ []
 none-from senders row q other [] h = refl
 none-from senders row q other (t ∷ ts) h = by_origin t.1 t.0 h.0 (none-from senders row q other ts h.1)
@@ -79,7 +79,7 @@ none-from senders row q other (t ∷ ts) h = by_origin t.1 t.0 h.0 (none-from se
     by_origin None p over rest = absurd over
     by_origin (Some k) p over rest = by_test (k == q) k p refl over.0 rest
 
--- So no packet of a sender came out of a tree in which its queue does not stand.
+-- So a tree in which the queue of a sender does not stand has no packet of the sender.
 pub none-of-other : (senders : List SenderSpec) (row : Row) (s q : ℕ) → AreRising (map number_of senders) → sends_to senders s q ≡ true → stands_in q (leaves row) ≡ false → (ts : List Traced) → AllByRecursion (CameOf (SendsIn senders row)) ts
     → of_sender s (map (λ (t : Traced). t.0) ts) ≡ []
 none-of-other senders row s q rising sends other ts h = of-own_queue senders row s q rising sends ts h ∙ ap (of_sender s) (none-from senders row q other ts h)

@@ -41,7 +41,7 @@ accepted-is (evict p ∷ events) = accepted-is events
 accepted-is (give p ∷ events) = accepted-is events
 accepted-is (empty ∷ events) = accepted-is events
 
--- what is gone is dealt to what was put out and what was given
+-- what is gone is dealt to what was evicted and what was given
 pub gone-dealt : (events : List QueueEvent) → IsDealt (gone events) (filter_map evicted_by events) (filter_map given_by events)
 gone-dealt [] = (refl, refl)
 gone-dealt (accept p ∷ events) = gone-dealt events
@@ -50,7 +50,7 @@ gone-dealt (evict p ∷ events) = inl (filter_map evicted_by events, refl, gone-
 gone-dealt (give p ∷ events) = inr (filter_map given_by events, refl, gone-dealt events)
 gone-dealt (empty ∷ events) = gone-dealt events
 
--- what holds of all that is gone holds of all that was put out, and of all that was given
+-- what holds of all that is gone holds of all that was evicted, and of all that was given
 pub all-evicted : (P : Packet → Type 0) (events : List QueueEvent) → AllByRecursion P (gone events) → AllByRecursion P (filter_map evicted_by events)
 all-evicted P [] h = tt
 all-evicted P (accept p ∷ events) h = all-evicted P events h
@@ -91,7 +91,7 @@ none-evicted kind capacity before (evict p ∷ events) is h = let kind_is = h.1.
 none-evicted kind capacity before (give p ∷ events) is h = none-evicted kind capacity (before ++ give p ∷ []) events is h.3
 none-evicted kind capacity before (empty ∷ events) is h = none-evicted kind capacity (before ++ empty ∷ []) events is h.3
 
--- pulls are no offers to a queue
+-- the answers to a pull are no offers
 pub none-answered : (g : QueueEvent → Option Packet) → ((o : Option Packet) → g (pull_event o) ≡ None) → (o : Option Tree) (q : ℕ) (visits : List Visit) → filter_map g (answers_in o q visits) ≡ []
 none-answered g pull None q visits = refl
 none-answered g pull (Some tree) q [] = refl
@@ -101,7 +101,7 @@ none-answered g pull (Some tree) q (v ∷ visits) = by_test (asks_queue tree q v
     by_test true rest = rw (pull v.got) rest
     by_test false rest = rest
 
--- an event that isn't one of the queue has no packet of the sender
+-- an event of another queue has no packet of the sender
 abbrev pub IsOwn : (Event → Option Packet) → Setup → ℕ → ℕ → Event → Type 0
 IsOwn f setup q s (offered p outcome) = sends_to setup.senders p.sender q ≡ false → of_sender s (cons_option (f (offered p outcome)) []) ≡ []
 IsOwn f setup q s (pulled device moment visits) = ⊤
@@ -124,7 +124,7 @@ its-packets f g offers pulls none setup q s (e ∷ events) own =
         by_test false own = own refl
     by_event (pulled c m visits) own = ap (λ o. of_sender s (cons_option o [])) (none c m visits) ∙ ap (of_sender s) (sym (none-answered g pulls (slice_get setup.trees c) q visits))
 
--- All that a queue took in is of its senders.
+-- All that a queue accepted is of its senders.
 pub all-sent : (setup : Setup) (q : ℕ) (events : List Event) → AllByRecursion (λ (p : Packet). sends_to setup.senders p.sender q ≡ true) (filter_map accepted_by (history setup q events))
 all-sent setup q [] = tt
 all-sent setup q (e ∷ events) =
@@ -148,7 +148,7 @@ all-sent setup q (e ∷ events) =
         pull_none None = refl
         pull_none (Some p) = refl
 
--- what holds of all that a queue put out holds of what its events put out
+-- what holds of all that a queue evicted holds of what each of its events evicted
 abbrev pub EvictsWith : (Packet → Type 0) → Setup → ℕ → Event → Type 0
 EvictsWith P setup q (offered p (Evicted front)) = sends_to setup.senders p.sender q ≡ true → P front
 EvictsWith P setup q event = ⊤

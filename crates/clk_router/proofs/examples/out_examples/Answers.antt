@@ -1,5 +1,13 @@
-use Rattle.std.proofs.Common.{refl, arith}
+use Rattle.std.proofs.Common.{◌≡◌, ℕ, zero, suc, ◌==◌, Bool, true, false, if◌then◌else◌, [], ◌∷◌, length, Some, None, MatchOption, slice_get, refl, ap, lit≤, arith}
+use Rattle.std.specs.Bool.{⊤}
+use Rattle.std.specs.List.{cons_option, range_with_len}
 use Rattle.std.proofs.lemmas.Bool.{false≢true, true≢false}
+use Rattle.clk_packet.specs.declared.packet.Kind.TheVariants.{TailDrop}
+use Rattle.clk_ring.specs.QueueHistory.{IsQueueHistory}
+use Rattle.clk_sched.specs.Examples.Priority.{p0_0}
+use Rattle.clk_sched.specs.Log.{asking}
+use Rattle.clk_router.specs.Events.{Room, events_at, history, RunsTree, CanHappen}
+use Rattle.clk_router.specs.SettledExamples.{crossed, without_tree, left_inside, emitted_elsewhere}
 use Rattle.clk_router.proofs.examples.out_examples.Goals as goal
 
 pub returns-clause-head_is_inside : goal.returns-clause-head_is_inside
@@ -25,3 +33,58 @@ returns-clause-not_refused_held c = λ o. absurd (false≢true o.0.once)
 
 pub returns-clause-not_lost : goal.returns-clause-not_lost
 returns-clause-not_lost c = λ o. absurd (false≢true (o.0.all 0))
+
+pub returns-clause-not_more_than_offered : goal.returns-clause-not_more_than_offered
+returns-clause-not_more_than_offered c = λ o. absurd (true≢false (o.0.all 0))
+
+-- the numbers of one offer of sender 0, by whether it is of the sender
+numbered : (s : ℕ) (b : Bool) → cons_option (if b then Some 0 else None) [] ≡ range_with_len 0 (length {A = ℕ} (cons_option (if b then Some 0 else None) []))
+numbered s true = refl
+numbered s false = refl
+
+crossed-offered : CanHappen crossed left_inside
+crossed-offered = record { senders = (refl, tt); numbered = λ s. numbered s (0 == s); devices = (tt, tt); runs = runs; refusals = (tt, tt); histories = histories }
+  where
+    runs : (d : ℕ) → MatchOption (slice_get crossed.trees d) ⊤ (λ tree. RunsTree tree (events_at crossed d left_inside))
+    runs zero = record { run = record { shape = record { blocks = refl; one_moment = tt; moments = tt }; device = tt; below = tt }; pull_by_pull = refl; moments = refl }
+    runs (suc zero) = record { run = record { shape = record { blocks = refl; one_moment = tt; moments = tt }; device = tt; below = tt }; pull_by_pull = refl; moments = refl }
+    runs (suc (suc d)) = tt
+
+    histories : (q : ℕ) → MatchOption (slice_get crossed.queues q) ⊤ (λ (room : Room). IsQueueHistory room.kind room.capacity (history crossed q left_inside))
+    histories zero = (record { order = refl; fits = lit≤ tt }, tt, tt, record { order = refl; fits = lit≤ tt })
+    histories (suc zero) = record { order = refl; fits = lit≤ tt }
+    histories (suc (suc q)) = tt
+
+crossed-emitted : CanHappen crossed emitted_elsewhere
+crossed-emitted = record { senders = (refl, (tt, tt)); numbered = λ s. numbered s (0 == s); devices = (tt, (lit≤ tt, tt)); runs = runs; refusals = (tt, (tt, tt)); histories = histories }
+  where
+    runs : (d : ℕ) → MatchOption (slice_get crossed.trees d) ⊤ (λ tree. RunsTree tree (events_at crossed d emitted_elsewhere))
+    runs zero = record { run = record { shape = record { blocks = refl; one_moment = tt; moments = tt }; device = tt; below = tt }; pull_by_pull = refl; moments = refl }
+    runs (suc zero) = record {
+      run = record {
+        shape = record { blocks = refl; one_moment = ((refl, tt), tt); moments = (lit≤ tt, tt) };
+        device = (record { plain = (record { fresh = refl; passed = refl }, tt); in_order = (refl, refl) }, tt);
+        below = tt;
+      };
+      pull_by_pull = refl;
+      moments = refl;
+    }
+    runs (suc (suc d)) = tt
+
+    histories : (q : ℕ) → MatchOption (slice_get crossed.queues q) ⊤ (λ (room : Room). IsQueueHistory room.kind room.capacity (history crossed q emitted_elsewhere))
+    histories zero = (record { order = refl; fits = lit≤ tt }, tt, tt, (record { order = refl; fits = lit≤ tt }, tt, tt, record { order = refl; fits = lit≤ tt }))
+    histories (suc zero) = record { order = refl; fits = lit≤ tt }
+    histories (suc (suc q)) = tt
+
+pub returns-clause-not_crossed : goal.returns-clause-not_crossed
+returns-clause-not_crossed c = λ o. let first = (o.each left_inside 0 (record { kind = TailDrop; capacity = 2; device = 0 }) crossed-offered refl).pulled_on 1 0 (asking 0 0 0 0 (Some p0_0) ∷ []) crossed-emitted in absurd (omega (arith, ap length first))
+
+without-tree : CanHappen without_tree []
+without-tree = record { senders = tt; numbered = λ s. refl; devices = tt; runs = λ d. tt; refusals = tt; histories = histories }
+  where
+    histories : (q : ℕ) → MatchOption (slice_get without_tree.queues q) ⊤ (λ (room : Room). IsQueueHistory room.kind room.capacity (history without_tree q []))
+    histories zero = record { order = refl; fits = lit≤ tt }
+    histories (suc q) = tt
+
+pub returns-clause-not_without_tree : goal.returns-clause-not_without_tree
+returns-clause-not_without_tree c = λ o. absurd (o.each [] 0 (record { kind = TailDrop; capacity = 2; device = 0 }) without-tree refl)

@@ -44,8 +44,8 @@ returns-clause-emitted_there c =
 pub returns-clause-not_emitted_elsewhere : goal.returns-clause-not_emitted_elsewhere
 returns-clause-not_emitted_elsewhere c = λ s. let none = s.senders.0.elsewhere 1 refl in absurd (omega (arith, ap length none))
 
-pub returns-clause-not_not_emitted : goal.returns-clause-not_not_emitted
-returns-clause-not_not_emitted c = λ s. let count = times-dealt 0 (p0_0 ∷ []) [] [] s.senders.0.tally.accepted_are in absurd (omega (arith, count))
+pub returns-clause-not_left_inside : goal.returns-clause-not_left_inside
+returns-clause-not_left_inside c = λ s. let count = times-dealt 0 (p0_0 ∷ []) [] [] s.senders.0.tally.accepted_are in absurd (omega (arith, count))
 
 pub returns-clause-not_refused_emitted : goal.returns-clause-not_refused_emitted
 returns-clause-not_refused_emitted c = λ s. let count = times-dealt 1 (p0_0 ∷ []) [] (p0_0 ∷ p0_1 ∷ []) s.senders.0.tally.accepted_are in absurd (omega (arith, count))

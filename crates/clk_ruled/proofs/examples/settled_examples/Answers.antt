@@ -1,4 +1,4 @@
-use Rattle.std.proofs.Common.{◌≡◌, false, List, [], ◌∷◌, ◌++◌, get_or, refl, lit≤, inl, inr, ap, Bool, arith, length}
+use Rattle.std.proofs.Common.{◌≡◌, false, List, [], ◌∷◌, ◌++◌, get_or, refl, lit≤, ap, Bool, arith, length}
 use Rattle.clk_packet.specs.declared.packet.Packet.{Packet}
 use Rattle.clk_ruled.specs.PacketLists.{without}
 use Rattle.clk_ruled.specs.SettleExamples.{front_dropped, front_tallies, tail_tallies}
