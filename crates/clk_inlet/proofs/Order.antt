@@ -1,0 +1,36 @@
+-- The order of items: what follows from MayFollow.
+use Rattle.std.proofs.Common.{◌≡◌, ◌++◌, ◌∷◌, [], List, true, false, refl, sym, subst, arith}
+use Rattle.std.proofs.lemmas.List.{append_assoc, append-nil}
+use Rattle.rtrb.specs.Fifo.{Allowed}
+use Rattle.clk_inlet.specs.Items.{MayFollow, has_end, IsWhole}
+use Rattle.clk_inlet.specs.declared.item.Item.{Item}
+
+module _ {T : Type 0} (allows : List T → T → Type 0) where
+  -- the second part of a list is allowed after the first
+  pub second_part : (before xs ys : List T) → Allowed allows before (xs ++ ys) → Allowed allows (before ++ xs) ys
+  second_part before [] ys h = subst (λ l. Allowed allows l ys) (sym (append-nil before)) h
+  second_part before (x ∷ xs) ys h = subst (λ l. Allowed allows l ys) (append_assoc before (x ∷ []) xs) (second_part (before ++ x ∷ []) xs ys h.1)
+
+  pub first_part : (before xs ys : List T) → Allowed allows before (xs ++ ys) → Allowed allows before xs
+  first_part before [] ys h = tt
+  first_part before (x ∷ xs) ys h = (h.0, first_part (before ++ x ∷ []) xs ys h.1)
+
+  -- two parts that are allowed one after the other are allowed together
+  pub both_parts : (before xs ys : List T) → Allowed allows before xs → Allowed allows (before ++ xs) ys → Allowed allows before (xs ++ ys)
+  both_parts before [] ys h k = subst (λ l. Allowed allows l ys) (append-nil before) k
+  both_parts before (x ∷ xs) ys h k = (h.0, both_parts (before ++ x ∷ []) xs ys h.1 (subst (λ l. Allowed allows l ys) (sym (append_assoc before (x ∷ []) xs)) k))
+
+-- items that may follow what came keep all in order
+pub still_allowed : (before more now : List Item) → now ≡ before ++ more → Allowed MayFollow before more → Allowed MayFollow [] before → Allowed MayFollow [] now
+still_allowed before more now e h k = subst (Allowed MayFollow []) (sym e) (both_parts MayFollow [] before more k h)
+
+pub one_more_allowed : (before now : List Item) (x : Item) → now ≡ before ++ x ∷ [] → MayFollow before x → Allowed MayFollow [] before → Allowed MayFollow [] now
+one_more_allowed before now x e h = still_allowed before (x ∷ []) now e (h, tt)
+
+pub whole : (items : List Item) → has_end items ≡ true → IsWhole items
+whole items ended [] h = refl
+whole items ended (x ∷ more) h = let no : has_end items ≡ false = (second_part MayFollow [] items (x ∷ more) h).0.not_ended in absurd (grind arith)
+
+-- none of the items before one that is allowed is the end
+pub none_before : (before ys zs : List Item) (y : Item) → Allowed MayFollow before (ys ++ y ∷ zs) → has_end (before ++ ys) ≡ false
+none_before before ys zs y h = (second_part MayFollow before ys (y ∷ zs) h).0.not_ended

@@ -1,0 +1,48 @@
+-- What contracts see of the two halves of an inlet's ring.
+use Rattle.std.specs.Prelude.{◌≡◌, ℕ, ◌+◌, ◌==◌, ◌||◌, ◌⊎◌, Bool, true, List, length, take}
+use Rattle.rtrb.specs.Ring.{sent, received, known_items, IsPair}
+use Rattle.clk_inlet.specs.Limits.{most_packets}
+use Rattle.clk_inlet.specs.Items.{packets, has_end}
+use Rattle.clk_inlet.specs.declared.item.Item.{Item}
+use Rattle.clk_inlet.specs.declared.inlet.Inlet.{Inlet}
+use Rattle.clk_inlet.specs.declared.outlet.Outlet.{Outlet}
+
+-- the items that were put into the ring, oldest first: the packets, and the end once it was put
+abbrev pub put : Inlet → List Item
+put i = sent i.producer
+
+-- the packets that were put into the ring, oldest first
+abbrev pub offered : Inlet → List Item
+offered i = packets (put i)
+
+-- the number of the next packet: how many were put into the ring before it
+abbrev pub next_number : Inlet → ℕ
+next_number i = length (offered i)
+
+-- how many packets are sure to fit now
+abbrev pub fits : Inlet → ℕ
+fits i = i.free
+
+-- no more packets go in: the end was put, or as many packets as an inlet takes in all
+abbrev pub at_end : Inlet → Bool
+at_end i = has_end (put i) || (next_number i == most_packets)
+
+-- A batch stops after its first `count` items: no item is left, the next one has length 0, or no packet is sure to fit any more.
+abbrev pub StopsAt : (count : ℕ) → List Item → Inlet → Type 0
+StopsAt count items now = (count ≡ length items) ⊎ ((has_end (take (count + 1) items) ≡ true) ⊎ (fits now ≡ 0))
+
+-- the items that came out of the ring, oldest first: the packets, and the end once it came
+abbrev pub came : Outlet → List Item
+came o = received o.consumer
+
+-- the packets that came out of the ring, oldest first
+abbrev pub taken : Outlet → List Item
+taken o = packets (came o)
+
+-- the items that were seen in the ring and have not come out
+abbrev pub seen : Outlet → List Item
+seen o = known_items o.consumer
+
+-- the two halves of one ring
+abbrev pub AreHalves : Inlet → Outlet → Type 0
+AreHalves i o = IsPair i.producer o.consumer

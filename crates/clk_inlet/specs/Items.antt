@@ -1,0 +1,30 @@
+-- The items of an inlet: packets, and at last an end (this project's own choice).
+use Rattle.std.specs.Prelude.{◌≡◌, ◌<◌, ◌==◌, ℕ, Bool, true, false, not, List, [], ◌∷◌, ◌++◌, filter, length}
+use Rattle.std.specs.List.{list_any}
+use Rattle.rtrb.specs.Fifo.{Allowed}
+use Rattle.clk_inlet.specs.Limits.{most_packets}
+use Rattle.clk_inlet.specs.declared.item.Item.{Item}
+
+-- a packet of this many bytes, with the caller's token
+abbrev pub packet_item : (bytes token : ℕ) → Item
+packet_item bytes token = record { token = token; length = bytes }
+
+-- an item of length 0 is the end
+abbrev pub is_end : Item → Bool
+is_end x = x.length == 0
+
+abbrev pub has_end : List Item → Bool
+has_end items = list_any is_end items
+
+-- the packets among these items
+abbrev pub packets : List Item → List Item
+packets items = filter (λ x. not (is_end x)) items
+
+-- Item x may go through after the items `before`: nothing follows the end, and each packet's number is below the limit.
+pub record MayFollow (before : List Item) (x : Item) : Type 0 where
+  pub not_ended : has_end before ≡ false
+  pub numbered : is_end x ≡ false → length (packets before) < most_packets
+
+-- These are all items of a sender: whatever went through and begins with them is just them.
+abbrev pub IsWhole : List Item → Type 0
+IsWhole items = (more : List Item) → Allowed MayFollow [] (items ++ more) → more ≡ []

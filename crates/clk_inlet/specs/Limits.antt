@@ -1,0 +1,11 @@
+-- The limits of an inlet (this project's own choice).
+use Rattle.std.specs.Prelude.{ℕ}
+use Rattle.clk_inlet.specs.declared.limits.TheConstants.{MAX_ROOM, MAX_PACKETS}
+
+-- the largest number of packets that an inlet has room for
+abbrev pub most_room : ℕ
+most_room = MAX_ROOM
+
+-- how many packets go through an inlet in all
+abbrev pub most_packets : ℕ
+most_packets = MAX_PACKETS

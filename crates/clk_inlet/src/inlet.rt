@@ -1,0 +1,209 @@
+//! The sender's half of a ring.
+
+ghost use Rattle.std.specs.Prelude.{◌≡◌, ◌+◌, ◌<◌, ◌≤◌, true, false, length, take};
+ghost use Rattle.rtrb.specs.Ring.{sent, known_free};
+ghost use Rattle.clk_inlet.specs.Items.{has_end, packets};
+ghost use Rattle.clk_inlet.specs.Limits.{most_packets};
+
+use crate::item::{Item, ItemOrder};
+use crate::limits::MAX_PACKETS;
+use rtrb::Producer;
+use std::alloc::Global;
+
+/// The sender's half of a ring. No call waits or allocates.
+///
+/// The ring keeps a slot for the end, so that ending never fails. Dropping the half ends it.
+pub struct Inlet {
+    pub(crate) producer: Producer<Item, Global, ItemOrder>,
+    // The number of the next packet.
+    next: u32,
+    // How many packets are sure to fit.
+    free: usize,
+    ended: bool,
+    ghost counted: { next ≡ length (packets (sent producer)) },
+    ghost end_is_put: { ended ≡ has_end (sent producer) },
+    // A slot is kept for the end.
+    ghost reserved: { ended ≡ false → free < known_free producer },
+    ghost numbers_left: { next + free ≤ most_packets },
+    ghost full_at_end: { ended ≡ true → free ≡ 0 },
+}
+
+// The end of a sender's packets.
+const END: Item = Item {
+    token: 0,
+    length: 0,
+};
+
+/// Why an offer was refused.
+#[derive(Clone, Copy, Debug, PartialEq, Eq)]
+pub enum Refusal {
+    /// The ring is full. It accepts packets again once the taker has taken some.
+    Full,
+    /// The inlet has ended, or has accepted [`MAX_PACKETS`] packets. It accepts no more.
+    AtEnd,
+}
+
+impl Inlet {
+    ghost use Rattle.std.specs.Prelude.{◌≡◌, ◌↔◌, ◌+◌, ◌<◌, ◌≤◌, ◌++◌, ◌∷◌, [], true, false, length, take, Ok, Err, IsOk, IfOk, OnOk, OnErr};
+    ghost use Rattle.rtrb.specs.Ring.{sent, known_free};
+    ghost use Rattle.clk_inlet.specs.Limits.{most_packets};
+    ghost use Rattle.clk_inlet.specs.Items.{packet_item, has_end, packets};
+    ghost use Rattle.clk_inlet.specs.Halves.{put, offered, next_number, fits, at_end, StopsAt, AreHalves};
+    ghost use Rattle.clk_inlet.specs.declared.outlet.Outlet.{Outlet};
+    ghost use Rattle.clk_inlet.specs.declared.inlet.Refusal.TheVariants.{Full, AtEnd};
+
+    // The sender's half of a new ring, with a slot more than its room.
+    pub(crate) fn of(producer: Producer<Item, Global, ItemOrder>, room: u32) -> Inlet
+        requires new { (sent producer ≡ []) × (room < known_free producer) }
+        ensures ring { result.producer ≡ producer }
+        ensures fits { fits result ≡ room }
+    {
+        Inlet {
+            producer,
+            next: 0,
+            free: room as usize,
+            ended: false,
+        }
+    }
+
+    /// Returns how many packets are sure to fit now, beside the end. It is 0 once the inlet accepts no more.
+    pub fn room(&mut self) -> usize
+        ensures room { result ≡ fits self.new }
+        ensures unchanged { put self.new ≡ put self.old }
+        ensures fits { fits self.old ≤ fits self.new }
+        ensures halves { (o : Outlet) → AreHalves self.old o → AreHalves self.new o }
+    {
+        if !self.ended {
+            let numbers = (MAX_PACKETS - self.next) as usize;
+            self.free = numbers.min(self.producer.slots() - 1);
+        }
+        self.free
+    }
+
+    // How many packets are sure to fit. It looks at the ring only if fewer than `wanted` were.
+    fn room_for(&mut self, wanted: usize) -> usize
+        ensures room { result ≡ fits self.new }
+        ensures unchanged { put self.new ≡ put self.old }
+        ensures fits { fits self.old ≤ fits self.new }
+        ensures halves { (o : Outlet) → AreHalves self.old o → AreHalves self.new o }
+    {
+        if self.free < wanted {
+            return self.room();
+        }
+        self.free
+    }
+
+    // Whether the inlet accepts no more.
+    fn is_at_end(&self) -> bool
+        ensures { result ≡ at_end self.now }
+    {
+        self.ended || self.next == MAX_PACKETS
+    }
+
+    /// Offers a packet of this many bytes, at least 1, and returns its number, which counts the packets before it.
+    ///
+    /// Fails with [`Refusal::AtEnd`] if the inlet has ended or has accepted [`MAX_PACKETS`] packets, and otherwise with
+    /// [`Refusal::Full`] if the packet does not fit now.
+    pub fn offer(&mut self, length: u16, token: u64) -> Result<u32, Refusal>
+        requires has_length { 1 ≤ length }
+        ensures number { IfOk result (λ number. number ≡ next_number self.old) }
+        ensures put { OnOk result (put self.new ≡ put self.old ++ packet_item length token ∷ []) }
+        ensures offered { OnOk result (offered self.new ≡ offered self.old ++ packet_item length token ∷ []) }
+        ensures fits { OnOk result (fits self.old ≤ fits self.new + 1) }
+        ensures refused { OnErr result ((put self.new ≡ put self.old) × (fits self.new ≡ 0)) }
+        ensures at_end { result ≡ Err AtEnd ↔ at_end self.old ≡ true }
+        ensures succeeds { 0 < fits self.old → IsOk result }
+        ensures halves { (o : Outlet) → AreHalves self.old o → AreHalves self.new o }
+    {
+        if self.room_for(1) == 0 {
+            return Err(if self.is_at_end() {
+                Refusal::AtEnd
+            } else {
+                Refusal::Full
+            });
+        }
+        let number = self.next;
+        self.producer.push_reserved(Item { token, length });
+        self.next = number + 1;
+        self.free -= 1;
+        Ok(number)
+    }
+
+    /// Offers a batch of packets, in order, and returns how many were accepted. It stops at the first item of length 0, and where no
+    /// more fit.
+    ///
+    /// The taker sees all of them at once.
+    pub fn offer_many(&mut self, items: &[Item]) -> usize
+        ensures count { result ≤ length items.now }
+        ensures put { put self.new ≡ put self.old ++ take result items.now }
+        ensures offered { offered self.new ≡ offered self.old ++ take result items.now }
+        ensures packets { has_end (take result items.now) ≡ false }
+        ensures stops { StopsAt result items.now self.new }
+        ensures fits { fits self.old ≤ fits self.new + result }
+        ensures halves { (o : Outlet) → AreHalves self.old o → AreHalves self.new o }
+    {
+        let room = self.room_for(items.len());
+        if room == 0 {
+            return 0;
+        }
+        let count = packets_in(items, room);
+        let (front, _) = items.split_at(count);
+        match self.producer.push_entire_slice(front) {
+            Ok(()) => {
+                self.next += count as u32;
+                self.free -= count;
+                count
+            }
+            Err(_) => unreachable!(),
+        }
+    }
+
+    /// Ends the inlet: no packet follows. Ending it again does nothing.
+    pub fn end(&mut self)
+        ensures ended { has_end (put self.new) ≡ true }
+        ensures unchanged { offered self.new ≡ offered self.old }
+        ensures halves { (o : Outlet) → AreHalves self.old o → AreHalves self.new o }
+    {
+        if self.ended {
+            return;
+        }
+        self.producer.push_reserved(END);
+        self.ended = true;
+        self.free = 0;
+    }
+}
+
+impl Drop for Inlet {
+    fn drop(self) {
+        let Inlet {
+            mut producer,
+            next: _,
+            free: _,
+            ended,
+        } = self;
+        if !ended {
+            producer.push_reserved(END);
+        }
+        leave(producer);
+    }
+}
+
+// Leaves the ring, once the end is in it.
+fn leave(producer: Producer<Item, Global, ItemOrder>)
+    requires ended { has_end (sent producer) ≡ true }
+{
+    drop(producer);
+}
+
+// How many packets these items begin with, and no more than `most`.
+fn packets_in(items: &[Item], most: usize) -> usize
+    ensures within { (result ≤ most) × (result ≤ length items.now) }
+    ensures packets { has_end (take result items.now) ≡ false }
+    ensures stops { result < most → result < length items.now → has_end (take (result + 1) items.now) ≡ true }
+{
+    let mut count = 0;
+    while count < most && count < items.len() && items[count].length != 0 {
+        count += 1;
+    }
+    count
+}

@@ -1,0 +1,14 @@
+//! Inlets: bounded rings through which one sender passes packets to one taker, each on a thread of its own.
+#![tactic(auto)]
+
+mod inlet;
+mod item;
+mod limits;
+mod outlet;
+mod ring;
+
+pub use inlet::{Inlet, Refusal};
+pub use item::{Item, ItemOrder};
+pub use limits::{MAX_PACKETS, MAX_ROOM};
+pub use outlet::Outlet;
+pub use ring::open;

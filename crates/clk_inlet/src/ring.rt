@@ -1,0 +1,27 @@
+//! How the ring of an inlet is opened.
+
+ghost use Rattle.std.specs.Prelude.{◌≡◌, ◌≤◌, [], IfOk};
+ghost use Rattle.clk_inlet.specs.Limits.{most_room};
+ghost use Rattle.clk_inlet.specs.Halves.{put, fits, came, AreHalves};
+
+use crate::inlet::Inlet;
+use crate::item::ItemOrder;
+use crate::outlet::Outlet;
+use rtrb::RingBuffer;
+use std::alloc::{AllocError, Global};
+
+/// Opens an inlet with room for so many packets, 1 to [`MAX_ROOM`](crate::MAX_ROOM), and returns the sender's half and the taker's.
+///
+/// No other call allocates. The ring takes 16 bytes for each packet, and for the end. Fails if the allocation fails.
+pub fn open(alloc: Global, room: u32) -> Result<(Inlet, Outlet), AllocError>
+    requires room { (1 ≤ room) × (room ≤ most_room) }
+    ensures halves { IfOk result (λ r. AreHalves r.0 r.1) }
+    ensures empty { IfOk result (λ r. (put r.0 ≡ []) × (came r.1 ≡ [])) }
+    ensures fits { IfOk result (λ r. fits r.0 ≡ room) }
+{
+    let (producer, consumer) = RingBuffer::with_protocol::<Global, ItemOrder>(
+        alloc,
+        room as usize + 1,
+    )?;
+    Ok((Inlet::of(producer, room), Outlet::of(consumer)))
+}
