@@ -1,6 +1,6 @@
 -- The halves of a ring stay together, and what a taker knows of it grows.
-use Rattle.std.proofs.Common.{◌≡◌, ◌++◌, ◌∷◌, [], List, ℕ, zero, suc, ◌+◌, length, sym, ap, ◌∙◌, refl, arith}
-use Rattle.std.proofs.lemmas.List.{append_assoc, append-nil}
+use Rattle.std.proofs.Common.{◌≡◌, ◌++◌, ◌∷◌, [], List, length, sym, ap, ◌∙◌, refl, arith}
+use Rattle.std.proofs.lemmas.List.{append_assoc}
 use mathlib.Core.List.{IsPrefix}
 use Rattle.rtrb.specs.Ring.{IsPair, SameProducer, SameConsumer}
 use Rattle.rtrb.specs.declared.producer.Producer.{Producer}

@@ -1,5 +1,5 @@
 -- Packets that are offered together.
-use Rattle.std.proofs.Common.{◌≡◌, ◌++◌, List, ℕ, ◌+◌, ◌<◌, ◌≤◌, ◌||◌, true, false, Bool, refl, sym, ap, ◌∙◌, take, drop, length, arith, take-append-drop}
+use Rattle.std.proofs.Common.{◌≡◌, ◌++◌, List, ℕ, ◌+◌, ◌<◌, ◌≤◌, true, false, Bool, refl, ap, ◌∙◌, take, drop, length, arith, take-append-drop}
 use Rattle.std.proofs.lemmas.List.{length-append, length-take}
 use Rattle.std.proofs.lemmas.List.Folds.{list_any-append}
 use Rattle.rtrb.specs.Fifo.{EachAllowed}
@@ -20,9 +20,9 @@ grown before xs b x = ap length (more before xs b x) ∙ length-append (packets 
 -- packets that keep below the limit may follow, one after the other
 pub each_may_follow : (before xs : List Item) → has_end before ≡ false → has_end xs ≡ false → length (packets before) + length xs ≤ most_packets → EachAllowed MayFollow before xs
 each_may_follow before xs b x room = λ i d near. record {
-    not_ended = both before (take i xs) b (front xs i x);
-    numbered = λ _. let g = grown before (take i xs) b (front xs i x) in omega (arith, g, length-take i xs, near, room);
-  }
+  not_ended = both before (take i xs) b (front xs i x);
+  numbered = λ _. let g = grown before (take i xs) b (front xs i x) in omega (arith, g, length-take i xs, near, room);
+}
 
 -- what was sent after them
 pub sent_on : (before xs now : List Item) → has_end before ≡ false → has_end xs ≡ false → now ≡ before ++ xs → (has_end now ≡ false) × (packets now ≡ packets before ++ xs) × (length (packets now) ≡ length (packets before) + length xs)

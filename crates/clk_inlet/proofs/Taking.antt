@@ -1,6 +1,6 @@
 -- Items that are taken together: none but the last is the end.
-use Rattle.std.proofs.Common.{◌≡◌, ◌++◌, ◌∷◌, [], List, ℕ, ◌+◌, ◌-◌, ◌<◌, ◌≤◌, ◌||◌, true, false, Bool, not, refl, sym, subst, ap, ◌∙◌, take, drop, set, length, filter, slice_index_or, arith}
-use Rattle.std.proofs.lemmas.List.{append-nil, take_more, take-set, drop-set}
+use Rattle.std.proofs.Common.{◌≡◌, ◌++◌, ◌∷◌, [], List, ℕ, ◌+◌, ◌-◌, ◌<◌, ◌≤◌, false, not, refl, subst, ap, ◌∙◌, take, length, slice_index_or, arith}
+use Rattle.std.proofs.lemmas.List.{append-nil, take_more}
 use Rattle.std.proofs.lemmas.List.Folds.{list_any-append}
 use Rattle.std.proofs.lemmas.List.Elements.{filter-append}
 use Rattle.rtrb.specs.Fifo.{Allowed}

@@ -1,5 +1,5 @@
 -- The items of an inlet: packets, and at last an end (this project's own choice).
-use Rattle.std.specs.Prelude.{◌≡◌, ◌<◌, ◌==◌, ℕ, Bool, true, false, not, List, [], ◌∷◌, ◌++◌, filter, length}
+use Rattle.std.specs.Prelude.{◌≡◌, ◌<◌, ◌==◌, ℕ, Bool, false, not, List, [], ◌++◌, filter, length}
 use Rattle.std.specs.List.{list_any}
 use Rattle.rtrb.specs.Fifo.{Allowed}
 use Rattle.clk_inlet.specs.Limits.{most_packets}

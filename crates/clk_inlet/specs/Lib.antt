@@ -2,3 +2,4 @@
 pub mod Limits
 pub mod Items
 pub mod Halves
+pub mod Examples

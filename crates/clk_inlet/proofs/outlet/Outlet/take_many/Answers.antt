@@ -1,4 +1,4 @@
-use Rattle.std.proofs.Common.{rules, ◌≡◌, ◌<◌, ◌≤◌, ◌-◌, ◌+◌, ◌++◌, ◌∙◌, false, true, List, [], length, take, set, slice_set, ℕ, slice_index_or, sym, subst, ap, arith}
+use Rattle.std.proofs.Common.{◌-◌, ◌++◌, ◌∙◌, List, [], take, sym, subst, ap, arith}
 use Rattle.std.proofs.lemmas.List.{take-set, length-take-le}
 use Rattle.rtrb.specs.Fifo.{Allowed}
 use Rattle.rtrb.specs.Ring.{received, known_items}
@@ -19,8 +19,8 @@ returns-then-items-count-eq0-clause-taken c =
     let n = c.seen_up_to-count.result in
     let same = c.seen_up_to-count.ensures.unchanged in
     ended (received c.seen_up_to-count.new.self.consumer) p.new.items n none (omega (arith, c.if-count-eq0.false)) (omega (arith, p.auto.items, c.seen_up_to-count.ensures.count.0)) p.ensures.allowed c.if-items-count-eq0.true _ p.ensures.received
-      ∙ ap (λ (l : List Item). packets l ++ take (n - 1) p.new.items) same
-      ∙ ap (λ (l : List Item). taken c.args.self.now ++ l) (sym (take-set p.new.items (n - 1) _))
+    ∙ ap (λ (l : List Item). packets l ++ take (n - 1) p.new.items) same
+    ∙ ap (λ (l : List Item). taken c.args.self.now ++ l) (sym (take-set p.new.items (n - 1) _))
 
 pub returns-then-items-count-eq0-clause-packets : goal.returns-then-items-count-eq0-clause-packets
 returns-then-items-count-eq0-clause-packets c =
@@ -40,7 +40,7 @@ pub returns-then-items-count-eq0-clause-grows : goal.returns-then-items-count-eq
 returns-then-items-count-eq0-clause-grows c =
     let p = c.pop_seen in
     known_grows (came c.args.self.now) (seen c.args.self.now) (known_items c.seen_up_to-count.new.self.consumer) (take c.seen_up_to-count.result p.new.items) (known_items p.new.consumer) _ c.seen_up_to-count.ensures.seen p.ensures.known
-      (p.ensures.received ∙ ap (λ (l : List Item). l ++ take c.seen_up_to-count.result p.new.items) c.seen_up_to-count.ensures.unchanged)
+    (p.ensures.received ∙ ap (λ (l : List Item). l ++ take c.seen_up_to-count.result p.new.items) c.seen_up_to-count.ensures.unchanged)
 
 pub returns-then-items-count-eq0-clause-allowed : goal.returns-then-items-count-eq0-clause-allowed
 returns-then-items-count-eq0-clause-allowed c =
@@ -70,13 +70,13 @@ returns-clause-all_seen c =
     let p = c.pop_seen in
     let n = c.seen_up_to-count.result in
     λ fewer open_yet. all_taken (seen c.args.self.now) (known_items c.seen_up_to-count.new.self.consumer) (take n p.new.items) (known_items p.new.consumer) c.seen_up_to-count.ensures.seen p.ensures.known
-      (length-take-le n p.new.items (omega (arith, p.auto.items, c.seen_up_to-count.ensures.count.0)) ∙ c.seen_up_to-count.ensures.all fewer)
+    (length-take-le n p.new.items (omega (arith, p.auto.items, c.seen_up_to-count.ensures.count.0)) ∙ c.seen_up_to-count.ensures.all fewer)
 
 pub returns-clause-grows : goal.returns-clause-grows
 returns-clause-grows c =
     let p = c.pop_seen in
     known_grows (came c.args.self.now) (seen c.args.self.now) (known_items c.seen_up_to-count.new.self.consumer) (take c.seen_up_to-count.result p.new.items) (known_items p.new.consumer) _ c.seen_up_to-count.ensures.seen p.ensures.known
-      (p.ensures.received ∙ ap (λ (l : List Item). l ++ take c.seen_up_to-count.result p.new.items) c.seen_up_to-count.ensures.unchanged)
+    (p.ensures.received ∙ ap (λ (l : List Item). l ++ take c.seen_up_to-count.result p.new.items) c.seen_up_to-count.ensures.unchanged)
 
 pub returns-clause-allowed : goal.returns-clause-allowed
 returns-clause-allowed c =

@@ -1,0 +1,28 @@
+-- The items of worked inlets.
+use Rattle.std.specs.Prelude.{List, [], ◌∷◌}
+use Rattle.clk_inlet.specs.declared.item.Item.{Item}
+use Rattle.clk_inlet.specs.Items.{packet_item}
+
+-- two packets of one length, told apart by their tokens, and an end
+abbrev pub first : Item
+first = packet_item 100 7
+
+abbrev pub second : Item
+second = packet_item 100 8
+
+abbrev pub the_end : Item
+the_end = packet_item 0 0
+
+-- items that went through before
+abbrev pub one_packet : List Item
+one_packet = first ∷ []
+
+abbrev pub just_ended : List Item
+just_ended = the_end ∷ []
+
+abbrev pub ended : List Item
+ended = first ∷ second ∷ the_end ∷ []
+
+-- the end stands before the last item
+abbrev pub ended_early : List Item
+ended_early = first ∷ the_end ∷ second ∷ []

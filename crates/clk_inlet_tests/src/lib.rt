@@ -1,0 +1,9 @@
+//! Tests of clk_inlet, by its public calls alone: on one thread, with the sender on another, and with memory refused.
+#![tactic(auto)]
+
+#[cfg(test)]
+mod calls;
+#[cfg(test)]
+mod memory;
+#[cfg(test)]
+mod threads;
