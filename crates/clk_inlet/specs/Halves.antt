@@ -44,5 +44,5 @@ abbrev pub seen : Outlet → List Item
 seen o = known_items o.consumer
 
 -- the two halves of one ring
-abbrev pub AreHalves : Inlet → Outlet → Type 0
-AreHalves i o = IsPair i.producer o.consumer
+pub record AreHalves (i : Inlet) (o : Outlet) : Type 0 where
+  pub one_ring : IsPair i.producer o.consumer

@@ -93,11 +93,15 @@ impl Inlet {
         self.free
     }
 
-    // Whether the inlet accepts no more.
-    fn is_at_end(&self) -> bool
-        ensures { result ≡ at_end self.now }
+    // Why an offer that does not fit is refused.
+    fn refusal(&self) -> Refusal
+        ensures { result ≡ AtEnd ↔ at_end self.now ≡ true }
     {
-        self.ended || self.next == MAX_PACKETS
+        if self.ended || self.next == MAX_PACKETS {
+            Refusal::AtEnd
+        } else {
+            Refusal::Full
+        }
     }
 
     /// Offers a packet of this many bytes, at least 1, and returns its number, which counts the packets before it.
@@ -116,11 +120,7 @@ impl Inlet {
         ensures halves { (o : Outlet) → AreHalves self.old o → AreHalves self.new o }
     {
         if self.room_for(1) == 0 {
-            return Err(if self.is_at_end() {
-                Refusal::AtEnd
-            } else {
-                Refusal::Full
-            });
+            return Err(self.refusal());
         }
         let number = self.next;
         self.producer.push_reserved(Item { token, length });

@@ -37,4 +37,4 @@ returns-clause-offered c =
     s.1 ∙ cc (r.ensures.unchanged, c.split_at.ensures.front)
 
 pub returns-clause-halves : goal.returns-clause-halves
-returns-clause-halves c = λ o h. sender_stays c.room_for-room.new.self.producer c.push_entire_slice.new.self o.consumer c.push_entire_slice.ensures.ring (c.room_for-room.ensures.halves o h)
+returns-clause-halves c = λ o h. record { one_ring = sender_stays c.room_for-room.new.self.producer c.push_entire_slice.new.self o.consumer c.push_entire_slice.ensures.ring (c.room_for-room.ensures.halves o h).one_ring }

@@ -48,7 +48,7 @@ returns-then-items-count-eq0-clause-allowed c =
     λ h. still_allowed (received c.seen_up_to-count.new.self.consumer) (take c.seen_up_to-count.result p.new.items) _ p.ensures.received p.ensures.allowed (subst (Allowed MayFollow []) (sym c.seen_up_to-count.ensures.unchanged) h)
 
 pub returns-then-items-count-eq0-clause-halves : goal.returns-then-items-count-eq0-clause-halves
-returns-then-items-count-eq0-clause-halves c = λ i h. taker_stays i.producer c.seen_up_to-count.new.self.consumer c.pop_seen.new.consumer c.pop_seen.ensures.ring (c.seen_up_to-count.ensures.halves i h)
+returns-then-items-count-eq0-clause-halves c = λ i h. record { one_ring = taker_stays i.producer c.seen_up_to-count.new.self.consumer c.pop_seen.new.consumer c.pop_seen.ensures.ring (c.seen_up_to-count.ensures.halves i h).one_ring }
 
 pub invariant_of-self-else-items-count-eq0 : goal.invariant_of-self-else-items-count-eq0
 invariant_of-self-else-items-count-eq0 c =
@@ -84,4 +84,4 @@ returns-clause-allowed c =
     λ h. still_allowed (received c.seen_up_to-count.new.self.consumer) (take c.seen_up_to-count.result p.new.items) _ p.ensures.received p.ensures.allowed (subst (Allowed MayFollow []) (sym c.seen_up_to-count.ensures.unchanged) h)
 
 pub returns-clause-halves : goal.returns-clause-halves
-returns-clause-halves c = λ i h. taker_stays i.producer c.seen_up_to-count.new.self.consumer c.pop_seen.new.consumer c.pop_seen.ensures.ring (c.seen_up_to-count.ensures.halves i h)
+returns-clause-halves c = λ i h. record { one_ring = taker_stays i.producer c.seen_up_to-count.new.self.consumer c.pop_seen.new.consumer c.pop_seen.ensures.ring (c.seen_up_to-count.ensures.halves i h).one_ring }
