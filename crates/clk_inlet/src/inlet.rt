@@ -10,9 +10,9 @@ use crate::limits::MAX_PACKETS;
 use rtrb::Producer;
 use std::alloc::Global;
 
-/// The sender's half of a ring. No call waits or allocates.
+/// The sender's half of an inlet. It may go to a thread of its own. No call waits or allocates.
 ///
-/// The ring keeps a slot for the end, so that ending never fails. Dropping the half ends it.
+/// A slot of the ring is reserved for the end, so ending never fails. Dropping an `Inlet` ends it.
 pub struct Inlet {
     pub(crate) producer: Producer<Item, Global, ItemOrder>,
     // The number of the next packet.
@@ -22,7 +22,7 @@ pub struct Inlet {
     ended: bool,
     ghost counted: { next ≡ length (packets (sent producer)) },
     ghost end_is_put: { ended ≡ has_end (sent producer) },
-    // A slot is kept for the end.
+    // A slot is reserved for the end.
     ghost reserved: { ended ≡ false → free < known_free producer },
     ghost numbers_left: { next + free ≤ most_packets },
     ghost full_at_end: { ended ≡ true → free ≡ 0 },
@@ -37,7 +37,7 @@ const END: Item = Item {
 /// Why an offer was refused.
 #[derive(Clone, Copy, Debug, PartialEq, Eq)]
 pub enum Refusal {
-    /// The ring is full. It accepts packets again once the taker has taken some.
+    /// The ring is full. It has room again once the taker has taken a packet.
     Full,
     /// The inlet has ended, or has accepted [`MAX_PACKETS`] packets. It accepts no more.
     AtEnd,
@@ -66,7 +66,7 @@ impl Inlet {
         }
     }
 
-    /// Returns how many packets are sure to fit now, beside the end. It is 0 once the inlet accepts no more.
+    /// Looks at the ring, and returns how many packets are sure to fit now. At the end that is 0.
     pub fn room(&mut self) -> usize
         ensures room { result ≡ fits self.new }
         ensures unchanged { put self.new ≡ put self.old }
@@ -80,7 +80,7 @@ impl Inlet {
         self.free
     }
 
-    // How many packets are sure to fit. It looks at the ring only if fewer than `wanted` were.
+    // How many packets are sure to fit. It looks at the ring only if fewer than `wanted` packets were.
     fn room_for(&mut self, wanted: usize) -> usize
         ensures room { result ≡ fits self.new }
         ensures unchanged { put self.new ≡ put self.old }
@@ -104,10 +104,13 @@ impl Inlet {
         }
     }
 
-    /// Offers a packet of this many bytes, at least 1, and returns its number, which counts the packets before it.
+    /// Offers a packet of `length` bytes, at least 1, with a token of the caller's. Returns the packet's number, which is how many packets
+    /// were accepted before it.
     ///
-    /// Fails with [`Refusal::AtEnd`] if the inlet has ended or has accepted [`MAX_PACKETS`] packets, and otherwise with
-    /// [`Refusal::Full`] if the packet does not fit now.
+    /// # Errors
+    ///
+    /// [`Refusal::AtEnd`] if the inlet has ended, or has accepted [`MAX_PACKETS`] packets. Otherwise [`Refusal::Full`] if the packet does
+    /// not fit now.
     pub fn offer(&mut self, length: u16, token: u64) -> Result<u32, Refusal>
         requires has_length { 1 ≤ length }
         ensures number { IfOk result (λ number. number ≡ next_number self.old) }
@@ -129,10 +132,10 @@ impl Inlet {
         Ok(number)
     }
 
-    /// Offers a batch of packets, in order, and returns how many were accepted. It stops at the first item of length 0, and where no
-    /// more fit.
+    /// Offers a batch of packets, in order, and returns how many were accepted. An item's length is in bytes. The batch stops before the
+    /// first item of length 0, and before the first packet that does not fit.
     ///
-    /// The taker sees all of them at once.
+    /// The taker sees all packets of a batch at once.
     pub fn offer_many(&mut self, items: &[Item]) -> usize
         ensures count { result ≤ length items.now }
         ensures put { put self.new ≡ put self.old ++ take result items.now }
@@ -158,7 +161,7 @@ impl Inlet {
         }
     }
 
-    /// Ends the inlet: no packet follows. Ending it again does nothing.
+    /// Ends the inlet: no packet follows. An inlet that has ended stays as it is.
     pub fn end(&mut self)
         ensures ended { has_end (put self.new) ≡ true }
         ensures unchanged { offered self.new ≡ offered self.old }
@@ -188,7 +191,7 @@ impl Drop for Inlet {
     }
 }
 
-// Leaves the ring, once the end is in it.
+// Lets the sender's side of a ring go, in which the end is.
 fn leave(producer: Producer<Item, Global, ItemOrder>)
     requires ended { has_end (sent producer) ≡ true }
 {

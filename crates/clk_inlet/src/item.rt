@@ -6,11 +6,11 @@ use rtrb::Protocol;
 
 /// A packet, or the end of a sender's packets.
 ///
-/// An item carries no sender and no number. An inlet has one sender, and the n-th packet that goes through is packet n, from 0.
+/// It carries neither a sender nor a number. An inlet has one sender, and the n-th packet that goes through is packet n, from 0.
 #[repr(C)]
 #[derive(Clone, Copy, Debug, PartialEq, Eq)]
 pub struct Item {
-    /// The caller's own value, which goes with the packet.
+    /// A value of the caller's, which goes with the packet.
     pub token: u64,
     /// The packet's length in bytes. Length 0 is the end.
     pub length: u16,

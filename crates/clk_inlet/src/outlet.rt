@@ -11,7 +11,7 @@ use crate::item::{Item, ItemOrder};
 use rtrb::Consumer;
 use std::alloc::Global;
 
-/// The taker's half of a ring. No call waits or allocates.
+/// The taker's half of an inlet. It may go to a thread of its own. No call waits or allocates.
 #[derive(Drop)]
 pub struct Outlet {
     pub(crate) consumer: Consumer<Item, Global, ItemOrder>,
@@ -25,7 +25,7 @@ impl Outlet {
     ghost use Rattle.rtrb.specs.Ring.{received};
     ghost use Rattle.rtrb.specs.Fifo.{Allowed};
     ghost use Rattle.clk_inlet.specs.Items.{has_end, is_end, packets, MayFollow, IsWhole};
-    ghost use Rattle.clk_inlet.specs.Halves.{put, came, taken, seen, AreHalves};
+    ghost use Rattle.clk_inlet.specs.Halves.{put, fits, came, taken, seen, AreHalves};
     ghost use Rattle.clk_inlet.specs.declared.inlet.Inlet.{Inlet};
 
     // The taker's half of a new ring.
@@ -40,7 +40,7 @@ impl Outlet {
     }
 
     #[tactic(auto, using(crate::proofs::Order::one_more_allowed))]
-    /// Takes the next packet, or returns `None` if none has come. It never returns the end.
+    /// Takes the next packet. Returns `None` if none has come, or if the end has. The end itself is never returned.
     pub fn take(&mut self) -> Option<Item>
         ensures came { IfSome result (λ x. came self.new ≡ came self.old ++ x ∷ []) }
         ensures taken { IfSome result (λ x. taken self.new ≡ taken self.old ++ x ∷ []) }
@@ -62,7 +62,7 @@ impl Outlet {
         Some(item)
     }
 
-    // How many items, up to `wanted`, are seen. It looks at the ring only if fewer were.
+    // How many items are seen, and `wanted` at most. It looks at the ring only if fewer than `wanted` items were.
     fn seen_up_to(&mut self, wanted: usize) -> usize
         ensures count { (result ≤ wanted) × (result ≤ length (seen self.new)) }
         ensures all { result < wanted → result ≡ length (seen self.new) }
@@ -76,8 +76,8 @@ impl Outlet {
         wanted
     }
 
-    /// Takes packets into the start of the slice, as many as have come and fit, and returns how many. The rest of the slice stays as it
-    /// is. It never gives the end.
+    /// Takes packets into the start of `items`, as many as have come and fit there, and returns how many. The rest of `items` stays as it
+    /// is. The end is never given.
     pub fn take_many(&mut self, items: &mut [Item]) -> usize
         ensures count { result ≤ length items.old }
         ensures rest { drop result items.new ≡ drop result items.old }
@@ -96,7 +96,7 @@ impl Outlet {
         if count == 0 {
             return 0;
         }
-        // The end would be the last of these. Its place in the slice is given back then.
+        // Only the last of these can be the end. What stood in its place is then put back.
         let last = items[count - 1];
         pop_seen(&mut self.consumer, items, count);
         if items[count - 1].length == 0 {
@@ -108,7 +108,7 @@ impl Outlet {
     }
 
     #[tactic(auto, using(crate::proofs::Order::whole))]
-    /// Whether the end has come. Then every packet that was ever sent has come too.
+    /// Returns whether the end has come. Every packet that was ever sent has then been taken.
     pub fn is_ended(&self) -> bool
         ensures ended { result ≡ has_end (came self.now) }
         ensures whole { result ≡ true → IsWhole (came self.now) }
@@ -116,10 +116,12 @@ impl Outlet {
         self.ended
     }
 
-    /// Compares both halves, on a thread that has both: what came out and what is seen is then all that was put in.
+    /// Looks at the ring on a thread that has both halves. What came out and what is seen is then all that was put in. No item moves.
     pub fn beside(&mut self, inlet: &mut Inlet)
         requires halves { AreHalves inlet.old self.old }
-        ensures unchanged { (put inlet.new ≡ put inlet.old) × (came self.new ≡ came self.old) }
+        ensures inlet { (put inlet.new ≡ put inlet.old) × (fits inlet.new ≡ fits inlet.old) }
+        ensures came { came self.new ≡ came self.old }
+        ensures seen { IsPrefix (seen self.old) (seen self.new) }
         ensures all { came self.new ++ seen self.new ≡ put inlet.new }
         ensures halves { AreHalves inlet.new self.new }
     {
@@ -127,7 +129,7 @@ impl Outlet {
     }
 }
 
-// Pops so many items, all of them seen, into the start of the slice.
+// Pops `count` items, which are seen, into the start of `items`.
 fn pop_seen(consumer: &mut Consumer<Item, Global, ItemOrder>, items: &mut [Item], count: usize)
     requires fits { count ≤ length items.old }
     requires seen { count ≤ length (known_items consumer.old) }

@@ -10,9 +10,13 @@ use crate::outlet::Outlet;
 use rtrb::RingBuffer;
 use std::alloc::{AllocError, Global};
 
-/// Opens an inlet with room for so many packets, 1 to [`MAX_ROOM`](crate::MAX_ROOM), and returns the sender's half and the taker's.
+/// Opens an inlet with room for `room` packets, from 1 to [`MAX_ROOM`](crate::MAX_ROOM), and returns its two halves.
 ///
-/// No other call allocates. The ring takes 16 bytes for each packet, and for the end. Fails if the allocation fails.
+/// The ring takes 16 bytes for each packet, and for the end. No other call allocates.
+///
+/// # Errors
+///
+/// Fails if the allocation fails.
 pub fn open(alloc: Global, room: u32) -> Result<(Inlet, Outlet), AllocError>
     requires room { (1 ≤ room) × (room ≤ most_room) }
     ensures halves { IfOk result (λ r. AreHalves r.0 r.1) }

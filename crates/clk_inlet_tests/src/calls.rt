@@ -1,5 +1,6 @@
 //! Calls of both halves on one thread.
 
+use crate::calling::through;
 use clk_inlet::{Item, Refusal, open};
 use std::test::Fail;
 
@@ -43,6 +44,7 @@ fn a_full_inlet_accepts_later(rt: HostRuntime) -> Result<(), Fail> {
     assert_eq!(rt; inlet.offer_many(&batch), 2);
     assert_eq!(rt; inlet.offer(62, 3), Err(Refusal::Full));
     assert_eq!(rt; outlet.take(), Some(item(60, 1)));
+    assert_eq!(rt; inlet.room(), 1);
     assert_eq!(rt; inlet.offer(62, 3), Ok(2));
     assert_eq!(rt; inlet.offer(63, 4), Err(Refusal::Full));
     // The end has a slot of its own.
@@ -52,5 +54,11 @@ fn a_full_inlet_accepts_later(rt: HostRuntime) -> Result<(), Fail> {
     assert!(rt; !outlet.is_ended());
     assert_eq!(rt; outlet.take(), None);
     assert!(rt; outlet.is_ended());
+    Ok(())
+}
+
+#[test]
+fn the_caller_of_the_page(rt: HostRuntime) -> Result<(), Fail> {
+    assert_eq!(rt; through(rt.alloc(), 60, 7)?, Some(item(60, 7)));
     Ok(())
 }
