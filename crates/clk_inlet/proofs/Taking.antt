@@ -16,35 +16,49 @@ plain (x ∷ xs) h = grind (arith, plain xs)
 pub more : (before ys : List Item) → has_end before ≡ false → has_end ys ≡ false → packets (before ++ ys) ≡ packets before ++ ys
 more before ys h k = filter-append (λ x. not (is_end x)) before ys ∙ ap (λ (l : List Item). packets before ++ l) (plain ys k)
 
-module _ (before xs : List Item) (n : ℕ) (d : Item) (some : 0 < n) (few : n ≤ length xs) (allowed : Allowed MayFollow before (take n xs)) where
-  split : take n xs ≡ take (n - 1) xs ++ slice_index_or xs (n - 1) d ∷ []
-  split = let e : n - 1 + 1 ≡ n = omega arith in subst (λ (m : ℕ). take m xs ≡ take (n - 1) xs ++ slice_index_or xs (n - 1) d ∷ []) e (take_more xs (n - 1) d (omega arith))
+-- `count` items, one or more, were taken into the start of `items`, after those of `before`
+pub record Batch (before items : List Item) (count : ℕ) : Type 0 where
+  pub some : 0 < count
+  pub few : count ≤ length items
+  pub allowed : Allowed MayFollow before (take count items)
 
-  none_yet : has_end (before ++ take (n - 1) xs) ≡ false
-  none_yet = none_before before (take (n - 1) xs) [] (slice_index_or xs (n - 1) d) (subst (Allowed MayFollow before) split allowed)
+-- an item where there may be none, for the last item of a batch
+abbrev pub no_item : Item
+no_item = record { token = 0; length = 0 }
 
-  pub none_among : (has_end before ≡ false) × (has_end (take (n - 1) xs) ≡ false)
-  none_among = grind (arith, none_yet, list_any-append is_end before (take (n - 1) xs))
+abbrev pub last_of : List Item → ℕ → Item
+last_of items count = slice_index_or items (count - 1) no_item
 
-  pub front_allowed : Allowed MayFollow before (take (n - 1) xs)
-  front_allowed = first_part MayFollow before (take (n - 1) xs) (slice_index_or xs (n - 1) d ∷ []) (subst (Allowed MayFollow before) split allowed)
+module _ (before items : List Item) (count : ℕ) (b : Batch before items count) where
+  split : take count items ≡ take (count - 1) items ++ last_of items count ∷ []
+  split = let some = b.some in let few = b.few in let e : count - 1 + 1 ≡ count = omega arith in subst (λ (m : ℕ). take m items ≡ take (count - 1) items ++ last_of items count ∷ []) e (take_more items (count - 1) no_item (omega arith))
+
+  none_yet : has_end (before ++ take (count - 1) items) ≡ false
+  none_yet = none_before before (take (count - 1) items) [] (last_of items count) (subst (Allowed MayFollow before) split b.allowed)
+
+  -- none but the last item is the end
+  pub none_among : (has_end before ≡ false) × (has_end (take (count - 1) items) ≡ false)
+  none_among = grind (arith, none_yet, list_any-append is_end before (take (count - 1) items))
+
+  pub front_allowed : Allowed MayFollow before (take (count - 1) items)
+  front_allowed = first_part MayFollow before (take (count - 1) items) (last_of items count ∷ []) (subst (Allowed MayFollow before) split b.allowed)
 
   -- where the last item is the end, the others are the packets
-  pub ended : (slice_index_or xs (n - 1) d).length ≡ 0 → (now : List Item) → now ≡ before ++ take n xs → packets now ≡ packets before ++ take (n - 1) xs
-  ended zero_length now e = ap packets (e ∙ ap (λ (l : List Item). before ++ l) split) ∙ (filter-append (λ x. not (is_end x)) before (take (n - 1) xs ++ slice_index_or xs (n - 1) d ∷ []) ∙ ap (λ (l : List Item). packets before ++ l) kept)
+  pub ended : (last_of items count).length ≡ 0 → (now : List Item) → now ≡ before ++ take count items → packets now ≡ packets before ++ take (count - 1) items
+  ended zero_length now e = ap packets (e ∙ ap (λ (l : List Item). before ++ l) split) ∙ (filter-append (λ x. not (is_end x)) before (take (count - 1) items ++ last_of items count ∷ []) ∙ ap (λ (l : List Item). packets before ++ l) kept)
     where
-      kept : packets (take (n - 1) xs ++ slice_index_or xs (n - 1) d ∷ []) ≡ take (n - 1) xs
-      kept = grind (arith, filter-append (λ x. not (is_end x)) (take (n - 1) xs) (slice_index_or xs (n - 1) d ∷ []), plain (take (n - 1) xs) none_among.1, append-nil (take (n - 1) xs))
+      kept : packets (take (count - 1) items ++ last_of items count ∷ []) ≡ take (count - 1) items
+      kept = grind (arith, filter-append (λ x. not (is_end x)) (take (count - 1) items) (last_of items count ∷ []), plain (take (count - 1) items) none_among.1, append-nil (take (count - 1) items))
 
   -- where it is not, all are packets
-  pub goes_on : ((slice_index_or xs (n - 1) d).length ≡ 0 → ⊥) → (now : List Item) → now ≡ before ++ take n xs → (has_end now ≡ false) × (has_end (take n xs) ≡ false) × (packets now ≡ packets before ++ take n xs)
-  goes_on some_length now e = (ap has_end e ∙ all, among, ap packets e ∙ more before (take n xs) none_among.0 among)
+  pub goes_on : ((last_of items count).length ≡ 0 → ⊥) → (now : List Item) → now ≡ before ++ take count items → (has_end now ≡ false) × (has_end (take count items) ≡ false) × (packets now ≡ packets before ++ take count items)
+  goes_on some_length now e = (ap has_end e ∙ all, among, ap packets e ∙ more before (take count items) none_among.0 among)
     where
-      last_no : has_end (slice_index_or xs (n - 1) d ∷ []) ≡ false
+      last_no : has_end (last_of items count ∷ []) ≡ false
       last_no = grind (arith, some_length)
 
-      among : has_end (take n xs) ≡ false
-      among = ap has_end split ∙ grind (arith, list_any-append is_end (take (n - 1) xs) (slice_index_or xs (n - 1) d ∷ []), none_among.1, last_no)
+      among : has_end (take count items) ≡ false
+      among = ap has_end split ∙ grind (arith, list_any-append is_end (take (count - 1) items) (last_of items count ∷ []), none_among.1, last_no)
 
-      all : has_end (before ++ take n xs) ≡ false
-      all = grind (arith, list_any-append is_end before (take n xs), none_among.0, among)
+      all : has_end (before ++ take count items) ≡ false
+      all = grind (arith, list_any-append is_end before (take count items), none_among.0, among)

@@ -165,6 +165,7 @@ impl Inlet {
     pub fn end(&mut self)
         ensures ended { has_end (put self.new) ≡ true }
         ensures unchanged { offered self.new ≡ offered self.old }
+        ensures full { fits self.new ≡ 0 }
         ensures halves { (o : Outlet) → AreHalves self.old o → AreHalves self.new o }
     {
         if self.ended {
