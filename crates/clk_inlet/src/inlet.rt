@@ -141,6 +141,7 @@ impl Inlet {
         ensures put { put self.new ≡ put self.old ++ take result items.now }
         ensures offered { offered self.new ≡ offered self.old ++ take result items.now }
         ensures packets { has_end (take result items.now) ≡ false }
+        ensures at_end { at_end self.old ≡ true → result ≡ 0 }
         ensures stops { StopsAt result items.now self.new }
         ensures fits { fits self.old ≤ fits self.new + result }
         ensures halves { (o : Outlet) → AreHalves self.old o → AreHalves self.new o }

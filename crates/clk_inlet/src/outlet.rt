@@ -46,6 +46,7 @@ impl Outlet {
         ensures taken { IfSome result (λ x. taken self.new ≡ taken self.old ++ x ∷ []) }
         ensures packet { IfSome result (λ x. (is_end x ≡ false) × MayFollow (came self.old) x) }
         ensures none { result ≡ None → taken self.new ≡ taken self.old }
+        ensures ended { has_end (came self.old) ≡ true → came self.new ≡ came self.old }
         ensures none_seen { result ≡ None → has_end (came self.new) ≡ false → seen self.old ≡ [] }
         ensures grows { IsPrefix (came self.old ++ seen self.old) (came self.new ++ seen self.new) }
         ensures allowed { Allowed MayFollow [] (came self.old) → Allowed MayFollow [] (came self.new) }
@@ -84,6 +85,7 @@ impl Outlet {
         ensures taken { taken self.new ≡ taken self.old ++ take result items.new }
         ensures packets { has_end (take result items.new) ≡ false }
         ensures may_follow { Allowed MayFollow (came self.old) (take result items.new) }
+        ensures ended { has_end (came self.old) ≡ true → came self.new ≡ came self.old }
         ensures all_seen { result < length items.old → has_end (came self.new) ≡ false → IsPrefix (seen self.old) (take result items.new) }
         ensures grows { IsPrefix (came self.old ++ seen self.old) (came self.new ++ seen self.new) }
         ensures allowed { Allowed MayFollow [] (came self.old) → Allowed MayFollow [] (came self.new) }
