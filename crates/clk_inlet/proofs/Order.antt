@@ -11,6 +11,7 @@ module _ {T : Type 0} (allows : List T → T → Type 0) where
   second_part before [] ys h = subst (λ l. Allowed allows l ys) (sym (append-nil before)) h
   second_part before (x ∷ xs) ys h = subst (λ l. Allowed allows l ys) (append_assoc before (x ∷ []) xs) (second_part (before ++ x ∷ []) xs ys h.1)
 
+  -- and so is the first part
   pub first_part : (before xs ys : List T) → Allowed allows before (xs ++ ys) → Allowed allows before xs
   first_part before [] ys h = tt
   first_part before (x ∷ xs) ys h = (h.0, first_part (before ++ x ∷ []) xs ys h.1)
@@ -27,6 +28,7 @@ still_allowed before more now e h k = subst (Allowed MayFollow []) (sym e) (both
 pub one_more_allowed : (before now : List Item) (x : Item) → now ≡ before ++ x ∷ [] → MayFollow before x → Allowed MayFollow [] before → Allowed MayFollow [] now
 one_more_allowed before now x e h = still_allowed before (x ∷ []) now e (h, tt)
 
+-- what has the end is whole
 pub whole : (items : List Item) → has_end items ≡ true → IsWhole items
 whole items ended [] h = refl
 whole items ended (x ∷ more) h = let no : has_end items ≡ false = (second_part MayFollow [] items (x ∷ more) h).0.not_ended in absurd (grind arith)

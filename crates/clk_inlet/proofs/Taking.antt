@@ -13,6 +13,7 @@ plain : (xs : List Item) → has_end xs ≡ false → packets xs ≡ xs
 plain [] h = refl
 plain (x ∷ xs) h = grind (arith, plain xs)
 
+-- packets that follow packets add to them
 pub more : (before ys : List Item) → has_end before ≡ false → has_end ys ≡ false → packets (before ++ ys) ≡ packets before ++ ys
 more before ys h k = filter-append (λ x. not (is_end x)) before ys ∙ ap (λ (l : List Item). packets before ++ l) (plain ys k)
 

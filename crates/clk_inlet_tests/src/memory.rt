@@ -1,6 +1,12 @@
-//! Opening an inlet where memory is refused. tests/refuse-memory has each allocation refused in turn.
+//! The memory of an inlet. tests/refuse-memory has each allocation of opening one refused in turn.
 
-use clk_inlet::open;
+use clk_inlet::{Item, open};
+use std::mem::size_of;
+
+#[test]
+fn an_item_takes_16_bytes(rt: HostRuntime) {
+    assert_eq!(rt; size_of::<Item>(), 16);
+}
 
 #[test]
 fn an_inlet_allocates_at_open(rt: HostRuntime) {
