@@ -18,7 +18,7 @@ pub struct Item {
 
 /// The order of items: nothing follows the end, and each packet's number fits 32 bits.
 #[derive(Clone, Copy)]
-pub struct ItemOrder;
+pub(crate) struct ItemOrder;
 
 impl Protocol<Item> for ItemOrder {
     ghost allows = { λ before x. MayFollow before x };
