@@ -15,11 +15,11 @@ module _ {T A P : Type 0} where
   taker_stays p c d s h = (s.0.0 ∙ h.0, s.0.1 ∙ h.1, s.0.2 ∙ h.2, s.0.3 ∙ h.3)
 
 module _ {X : Type 0} where
-  -- what came and is seen, where more is seen and some of it taken
-  pub known_grows : (came seen between taken left now : List X) → IsPrefix seen between → IsPrefix between (taken ++ left) → now ≡ came ++ taken → IsPrefix (came ++ seen) (now ++ left)
-  known_grows came seen between taken left now h k e = (
+  -- what was popped and is seen, where more is seen and some of it taken
+  pub known_grows : (popped seen between taken left now : List X) → IsPrefix seen between → IsPrefix between (taken ++ left) → now ≡ popped ++ taken → IsPrefix (popped ++ seen) (now ++ left)
+  known_grows popped seen between taken left now h k e = (
     h.0 ++ k.0,
-    append_assoc came seen (h.0 ++ k.0) ∙ ap (λ (l : List X). came ++ l) (sym (append_assoc seen h.0 k.0) ∙ ap (λ (l : List X). l ++ k.0) h.1 ∙ k.1) ∙ sym (append_assoc came taken left) ∙ ap (λ (l : List X). l ++ left) (sym e),
+    append_assoc popped seen (h.0 ++ k.0) ∙ ap (λ (l : List X). popped ++ l) (sym (append_assoc seen h.0 k.0) ∙ ap (λ (l : List X). l ++ k.0) h.1 ∙ k.1) ∙ sym (append_assoc popped taken left) ∙ ap (λ (l : List X). l ++ left) (sym e),
   )
 
   -- two lists of one length that begin the same list are equal

@@ -21,7 +21,7 @@ module _ {T : Type 0} (allows : List T → T → Type 0) where
   both_parts before [] ys h k = subst (λ l. Allowed allows l ys) (append-nil before) k
   both_parts before (x ∷ xs) ys h k = (h.0, both_parts (before ++ x ∷ []) xs ys h.1 (subst (λ l. Allowed allows l ys) (sym (append_assoc before (x ∷ []) xs)) k))
 
--- items that may follow what came keep all in order
+-- items that may follow what was popped keep all in order
 pub still_allowed : (before more now : List Item) → now ≡ before ++ more → Allowed MayFollow before more → Allowed MayFollow [] before → Allowed MayFollow [] now
 still_allowed before more now e h k = subst (Allowed MayFollow []) (sym e) (both_parts MayFollow [] before more k h)
 

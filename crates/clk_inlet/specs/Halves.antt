@@ -7,15 +7,15 @@ use Rattle.clk_inlet.specs.declared.item.Item.{Item}
 use Rattle.clk_inlet.specs.declared.inlet.Inlet.{Inlet}
 use Rattle.clk_inlet.specs.declared.outlet.Outlet.{Outlet}
 
--- the items that were put into the ring, oldest first: the packets, and the end once it was put
-abbrev pub put : Inlet → List Item
-put i = sent i.producer
+-- the items that were pushed into the ring, oldest first: the packets, and the end once it was pushed
+abbrev pub pushed : Inlet → List Item
+pushed i = sent i.producer
 
--- the packets that were put into the ring, oldest first
+-- the packets that were pushed into the ring, oldest first
 abbrev pub offered : Inlet → List Item
-offered i = packets (put i)
+offered i = packets (pushed i)
 
--- the number of the next packet: how many were put into the ring before it
+-- the number of the next packet: how many were pushed into the ring before it
 abbrev pub next_number : Inlet → ℕ
 next_number i = length (offered i)
 
@@ -23,21 +23,21 @@ next_number i = length (offered i)
 abbrev pub fits : Inlet → ℕ
 fits i = i.free
 
--- no more packets go in: the end was put, or as many packets as an inlet takes in all
+-- no more packets go in: the end was pushed, or as many packets as an inlet takes in all
 abbrev pub at_end : Inlet → Bool
-at_end i = has_end (put i) || (next_number i == most_packets)
+at_end i = has_end (pushed i) || (next_number i == most_packets)
 
 -- A batch stops after its first `count` items: no item is left, the next one has length 0, or no packet is sure to fit any more.
 abbrev pub StopsAt : (count : ℕ) → List Item → Inlet → Type 0
 StopsAt count items now = (count ≡ length items) ⊎ ((has_end (take (count + 1) items) ≡ true) ⊎ (fits now ≡ 0))
 
--- the items that came out of the ring, oldest first: the packets, and the end once it came
-abbrev pub came : Outlet → List Item
-came o = received o.consumer
+-- the items that were popped from the ring, oldest first: the packets, and the end once it was popped
+abbrev pub popped : Outlet → List Item
+popped o = received o.consumer
 
--- the packets that came out of the ring, oldest first
+-- the packets that were popped from the ring, oldest first
 abbrev pub taken : Outlet → List Item
-taken o = packets (came o)
+taken o = packets (popped o)
 
 -- the items that were seen in the ring and have not come out
 abbrev pub seen : Outlet → List Item

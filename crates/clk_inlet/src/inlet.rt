@@ -48,7 +48,7 @@ impl Inlet {
     ghost use Rattle.rtrb.specs.Ring.{sent, known_free};
     ghost use Rattle.clk_inlet.specs.Limits.{most_packets};
     ghost use Rattle.clk_inlet.specs.Items.{packet_item, has_end, packets};
-    ghost use Rattle.clk_inlet.specs.Halves.{put, offered, next_number, fits, at_end, StopsAt, AreHalves};
+    ghost use Rattle.clk_inlet.specs.Halves.{pushed, offered, next_number, fits, at_end, StopsAt, AreHalves};
     ghost use Rattle.clk_inlet.specs.declared.outlet.Outlet.{Outlet};
     ghost use Rattle.clk_inlet.specs.declared.inlet.Refusal.TheVariants.{Full, AtEnd};
 
@@ -69,7 +69,7 @@ impl Inlet {
     /// Looks at the ring, and returns how many packets are sure to fit now. At the end that is 0.
     pub fn room(&mut self) -> usize
         ensures room { result ≡ fits self.new }
-        ensures unchanged { put self.new ≡ put self.old }
+        ensures unchanged { pushed self.new ≡ pushed self.old }
         ensures fits { fits self.old ≤ fits self.new }
         ensures halves { (o : Outlet) → AreHalves self.old o → AreHalves self.new o }
     {
@@ -83,7 +83,7 @@ impl Inlet {
     // How many packets are sure to fit. It looks at the ring only if fewer than `wanted` packets were.
     fn room_for(&mut self, wanted: usize) -> usize
         ensures room { result ≡ fits self.new }
-        ensures unchanged { put self.new ≡ put self.old }
+        ensures unchanged { pushed self.new ≡ pushed self.old }
         ensures fits { fits self.old ≤ fits self.new }
         ensures halves { (o : Outlet) → AreHalves self.old o → AreHalves self.new o }
     {
@@ -114,10 +114,10 @@ impl Inlet {
     pub fn offer(&mut self, length: u16, token: u64) -> Result<u32, Refusal>
         requires has_length { 1 ≤ length }
         ensures number { IfOk result (λ number. number ≡ next_number self.old) }
-        ensures put { OnOk result (put self.new ≡ put self.old ++ packet_item length token ∷ []) }
+        ensures pushed { OnOk result (pushed self.new ≡ pushed self.old ++ packet_item length token ∷ []) }
         ensures offered { OnOk result (offered self.new ≡ offered self.old ++ packet_item length token ∷ []) }
         ensures fits { OnOk result (fits self.old ≤ fits self.new + 1) }
-        ensures refused { OnErr result ((put self.new ≡ put self.old) × (fits self.new ≡ 0)) }
+        ensures refused { OnErr result ((pushed self.new ≡ pushed self.old) × (fits self.new ≡ 0)) }
         ensures at_end { result ≡ Err AtEnd ↔ at_end self.old ≡ true }
         ensures succeeds { 0 < fits self.old → IsOk result }
         ensures halves { (o : Outlet) → AreHalves self.old o → AreHalves self.new o }
@@ -138,7 +138,7 @@ impl Inlet {
     /// The taker sees all packets of a batch at once.
     pub fn offer_many(&mut self, items: &[Item]) -> usize
         ensures count { result ≤ length items.now }
-        ensures put { put self.new ≡ put self.old ++ take result items.now }
+        ensures pushed { pushed self.new ≡ pushed self.old ++ take result items.now }
         ensures offered { offered self.new ≡ offered self.old ++ take result items.now }
         ensures packets { has_end (take result items.now) ≡ false }
         ensures at_end { at_end self.old ≡ true → result ≡ 0 }
@@ -164,7 +164,7 @@ impl Inlet {
 
     /// Ends the inlet: no packet follows. An inlet that has ended stays as it is.
     pub fn end(&mut self)
-        ensures ended { has_end (put self.new) ≡ true }
+        ensures ended { has_end (pushed self.new) ≡ true }
         ensures unchanged { offered self.new ≡ offered self.old }
         ensures full { fits self.new ≡ 0 }
         ensures halves { (o : Outlet) → AreHalves self.old o → AreHalves self.new o }

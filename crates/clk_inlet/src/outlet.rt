@@ -16,7 +16,7 @@ use std::alloc::Global;
 pub struct Outlet {
     pub(crate) consumer: Consumer<Item, Global, ItemOrder>,
     ended: bool,
-    ghost end_came: { ended ≡ has_end (received consumer) },
+    ghost end_is_popped: { ended ≡ has_end (received consumer) },
 }
 
 impl Outlet {
@@ -25,7 +25,7 @@ impl Outlet {
     ghost use Rattle.rtrb.specs.Ring.{received};
     ghost use Rattle.rtrb.specs.Fifo.{Allowed};
     ghost use Rattle.clk_inlet.specs.Items.{has_end, is_end, packets, MayFollow, IsWhole};
-    ghost use Rattle.clk_inlet.specs.Halves.{put, fits, came, taken, seen, AreHalves};
+    ghost use Rattle.clk_inlet.specs.Halves.{pushed, fits, popped, taken, seen, AreHalves};
     ghost use Rattle.clk_inlet.specs.declared.inlet.Inlet.{Inlet};
 
     // The taker's half of a new ring.
@@ -42,14 +42,14 @@ impl Outlet {
     #[tactic(auto, using(crate::proofs::Order::one_more_allowed))]
     /// Takes the next packet. Returns `None` if none has come, or if the end has. The end itself is never returned.
     pub fn take(&mut self) -> Option<Item>
-        ensures came { IfSome result (λ x. came self.new ≡ came self.old ++ x ∷ []) }
+        ensures popped { IfSome result (λ x. popped self.new ≡ popped self.old ++ x ∷ []) }
         ensures taken { IfSome result (λ x. taken self.new ≡ taken self.old ++ x ∷ []) }
-        ensures packet { IfSome result (λ x. (is_end x ≡ false) × MayFollow (came self.old) x) }
+        ensures packet { IfSome result (λ x. (is_end x ≡ false) × MayFollow (popped self.old) x) }
         ensures none { result ≡ None → taken self.new ≡ taken self.old }
-        ensures ended { has_end (came self.old) ≡ true → came self.new ≡ came self.old }
-        ensures none_seen { result ≡ None → has_end (came self.new) ≡ false → seen self.old ≡ [] }
-        ensures grows { IsPrefix (came self.old ++ seen self.old) (came self.new ++ seen self.new) }
-        ensures allowed { Allowed MayFollow [] (came self.old) → Allowed MayFollow [] (came self.new) }
+        ensures ended { has_end (popped self.old) ≡ true → popped self.new ≡ popped self.old }
+        ensures none_seen { result ≡ None → has_end (popped self.new) ≡ false → seen self.old ≡ [] }
+        ensures grows { IsPrefix (popped self.old ++ seen self.old) (popped self.new ++ seen self.new) }
+        ensures allowed { Allowed MayFollow [] (popped self.old) → Allowed MayFollow [] (popped self.new) }
         ensures halves { (i : Inlet) → AreHalves i self.old → AreHalves i self.new }
     {
         if self.ended {
@@ -67,7 +67,7 @@ impl Outlet {
     fn seen_up_to(&mut self, wanted: usize) -> usize
         ensures count { (result ≤ wanted) × (result ≤ length (seen self.new)) }
         ensures all { result < wanted → result ≡ length (seen self.new) }
-        ensures unchanged { came self.new ≡ came self.old }
+        ensures unchanged { popped self.new ≡ popped self.old }
         ensures seen { IsPrefix (seen self.old) (seen self.new) }
         ensures halves { (i : Inlet) → AreHalves i self.old → AreHalves i self.new }
     {
@@ -84,11 +84,11 @@ impl Outlet {
         ensures rest { drop result items.new ≡ drop result items.old }
         ensures taken { taken self.new ≡ taken self.old ++ take result items.new }
         ensures packets { has_end (take result items.new) ≡ false }
-        ensures may_follow { Allowed MayFollow (came self.old) (take result items.new) }
-        ensures ended { has_end (came self.old) ≡ true → came self.new ≡ came self.old }
-        ensures all_seen { result < length items.old → has_end (came self.new) ≡ false → IsPrefix (seen self.old) (take result items.new) }
-        ensures grows { IsPrefix (came self.old ++ seen self.old) (came self.new ++ seen self.new) }
-        ensures allowed { Allowed MayFollow [] (came self.old) → Allowed MayFollow [] (came self.new) }
+        ensures may_follow { Allowed MayFollow (popped self.old) (take result items.new) }
+        ensures ended { has_end (popped self.old) ≡ true → popped self.new ≡ popped self.old }
+        ensures all_seen { result < length items.old → has_end (popped self.new) ≡ false → IsPrefix (seen self.old) (take result items.new) }
+        ensures grows { IsPrefix (popped self.old ++ seen self.old) (popped self.new ++ seen self.new) }
+        ensures allowed { Allowed MayFollow [] (popped self.old) → Allowed MayFollow [] (popped self.new) }
         ensures halves { (i : Inlet) → AreHalves i self.old → AreHalves i self.new }
     {
         if self.ended {
@@ -98,7 +98,7 @@ impl Outlet {
         if count == 0 {
             return 0;
         }
-        // Only the last of these can be the end. What stood in its place is then put back.
+        // Only the last of these can be the end. What stood in its place is then restored.
         let last = items[count - 1];
         pop_seen(&mut self.consumer, items, count);
         if items[count - 1].length == 0 {
@@ -112,19 +112,19 @@ impl Outlet {
     #[tactic(auto, using(crate::proofs::Order::whole))]
     /// Returns whether the end has come. Every packet that was ever sent has then been taken.
     pub fn is_ended(&self) -> bool
-        ensures ended { result ≡ has_end (came self.now) }
-        ensures whole { result ≡ true → IsWhole (came self.now) }
+        ensures ended { result ≡ has_end (popped self.now) }
+        ensures whole { result ≡ true → IsWhole (popped self.now) }
     {
         self.ended
     }
 
-    /// Looks at the ring on a thread that has both halves. What came out and what is seen is then all that was put in. No item moves.
+    /// Looks at the ring on a thread that has both halves. What was popped and what is seen is then all that was pushed. No item moves.
     pub fn beside(&mut self, inlet: &mut Inlet)
         requires halves { AreHalves inlet.old self.old }
-        ensures inlet { (put inlet.new ≡ put inlet.old) × (fits inlet.new ≡ fits inlet.old) }
-        ensures came { came self.new ≡ came self.old }
+        ensures inlet { (pushed inlet.new ≡ pushed inlet.old) × (fits inlet.new ≡ fits inlet.old) }
+        ensures popped { popped self.new ≡ popped self.old }
         ensures seen { IsPrefix (seen self.old) (seen self.new) }
-        ensures all { came self.new ++ seen self.new ≡ put inlet.new }
+        ensures all { popped self.new ++ seen self.new ≡ pushed inlet.new }
         ensures halves { AreHalves inlet.new self.new }
     {
         self.consumer.slots_beside(&mut inlet.producer);

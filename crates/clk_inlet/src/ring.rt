@@ -2,7 +2,7 @@
 
 ghost use Rattle.std.specs.Prelude.{◌≡◌, ◌≤◌, [], IfOk};
 ghost use Rattle.clk_inlet.specs.Limits.{most_room};
-ghost use Rattle.clk_inlet.specs.Halves.{put, fits, came, AreHalves};
+ghost use Rattle.clk_inlet.specs.Halves.{pushed, fits, popped, AreHalves};
 
 use crate::inlet::Inlet;
 use crate::item::ItemOrder;
@@ -20,7 +20,7 @@ use std::alloc::{AllocError, Global};
 pub fn open(alloc: Global, room: u32) -> Result<(Inlet, Outlet), AllocError>
     requires room { (1 ≤ room) × (room ≤ most_room) }
     ensures halves { IfOk result (λ r. AreHalves r.0 r.1) }
-    ensures empty { IfOk result (λ r. (put r.0 ≡ []) × (came r.1 ≡ [])) }
+    ensures empty { IfOk result (λ r. (pushed r.0 ≡ []) × (popped r.1 ≡ [])) }
     ensures fits { IfOk result (λ r. fits r.0 ≡ room) }
 {
     let (producer, consumer) = RingBuffer::with_protocol::<Global, ItemOrder>(

@@ -2,7 +2,7 @@ use Rattle.std.proofs.Common.{◌≡◌, ◌<◌, ◌++◌, ◌∷◌, [], List,
 use Rattle.std.proofs.lemmas.Bool.Decides.{nat_tests}
 use mathlib.Core.List.{IsPrefix}
 use Rattle.clk_inlet.specs.Items.{packet_item, packets, has_end, is_end}
-use Rattle.clk_inlet.specs.Halves.{put, fits, came, seen}
+use Rattle.clk_inlet.specs.Halves.{pushed, fits, popped, seen}
 use Rattle.clk_inlet.specs.declared.item.Item.{Item}
 use Rattle.clk_inlet.specs.declared.inlet.Refusal.{Refusal}
 use Rattle.clk_inlet_tests.proofs.calling.through.Goals as goal
@@ -11,7 +11,7 @@ accepted : (r : Result ℕ Refusal) (P : Type 0) → IsOk r → OnOk r P → P
 accepted (Ok n) P ok h = h
 accepted (Err e) P ok h = absurd (grind arith)
 
--- where one packet is seen and none came before, it is taken
+-- where one packet is seen and none was popped before, it is taken
 module _ (x : Item) (before waiting now left : List Item) (first : before ≡ []) (all : before ++ waiting ≡ x ∷ []) (packet : is_end x ≡ false) (grows : IsPrefix (before ++ waiting) (now ++ left)) where
   begins : x ∷ grows.0 ≡ now ++ left
   begins = ap (λ (l : List Item). l ++ grows.0) (sym all) ∙ grows.1
@@ -40,6 +40,6 @@ returns c =
     let x = packet_item c.args.length c.args.token in
     let b = c.beside in
     let fit : 0 < fits o.inlet = omega (arith, o.ensures.fits) in
-    let put_so : put c.offer.new.self ≡ put o.inlet ++ x ∷ [] = accepted c.offer.result _ (c.offer.ensures.succeeds fit) c.offer.ensures.put in
-    let all : came b.new.self ++ seen b.new.self ≡ x ∷ [] = b.ensures.all ∙ b.ensures.inlet.0 ∙ put_so ∙ ap (λ (l : List Item). l ++ x ∷ []) o.ensures.empty.0 in
-    given x (came b.new.self) (seen b.new.self) (came c.take.new.self) (seen c.take.new.self) (b.ensures.came ∙ o.ensures.empty.1) all (grind (arith, nat_tests, c.requires)) c.take.ensures.grows c.take.result c.take.ensures.came c.take.ensures.none c.take.ensures.none_seen
+    let put_so : pushed c.offer.new.self ≡ pushed o.inlet ++ x ∷ [] = accepted c.offer.result _ (c.offer.ensures.succeeds fit) c.offer.ensures.pushed in
+    let all : popped b.new.self ++ seen b.new.self ≡ x ∷ [] = b.ensures.all ∙ b.ensures.inlet.0 ∙ put_so ∙ ap (λ (l : List Item). l ++ x ∷ []) o.ensures.empty.0 in
+    given x (popped b.new.self) (seen b.new.self) (popped c.take.new.self) (seen c.take.new.self) (b.ensures.popped ∙ o.ensures.empty.1) all (grind (arith, nat_tests, c.requires)) c.take.ensures.grows c.take.result c.take.ensures.popped c.take.ensures.none c.take.ensures.none_seen

@@ -3,7 +3,7 @@ use Rattle.std.proofs.lemmas.List.{take-set, length-take-le}
 use Rattle.rtrb.specs.Fifo.{Allowed}
 use Rattle.rtrb.specs.Ring.{received, known_items}
 use Rattle.clk_inlet.specs.Items.{MayFollow, has_end, packets}
-use Rattle.clk_inlet.specs.Halves.{came, taken, seen}
+use Rattle.clk_inlet.specs.Halves.{popped, taken, seen}
 use Rattle.clk_inlet.specs.declared.item.Item.{Item}
 use Rattle.clk_inlet.proofs.Order.{still_allowed}
 use Rattle.clk_inlet.proofs.Halves.{taker_stays, known_grows, all_taken}
@@ -40,14 +40,14 @@ returns-then-items-count-eq0-clause-may_follow c =
     let p = c.pop_seen in
     let b = batch before c.args.items.now p.new.items n c.if-count-eq0.false c.seen_up_to-count.ensures.count.0 p.auto.items p.ensures.allowed in
     let front = subst (λ (l : List Item). Allowed MayFollow l (take (n - 1) p.new.items)) c.seen_up_to-count.ensures.unchanged (front_allowed before p.new.items n b) in
-    subst (Allowed MayFollow (came c.args.self.now)) (sym (take-set p.new.items (n - 1) _)) front
+    subst (Allowed MayFollow (popped c.args.self.now)) (sym (take-set p.new.items (n - 1) _)) front
 
 pub returns-then-items-count-eq0-clause-grows : goal.returns-then-items-count-eq0-clause-grows
 returns-then-items-count-eq0-clause-grows c =
     let before = received c.seen_up_to-count.new.self.consumer in
     let n = c.seen_up_to-count.result in
     let p = c.pop_seen in
-    known_grows (came c.args.self.now) (seen c.args.self.now) (known_items c.seen_up_to-count.new.self.consumer) (take n p.new.items) (known_items p.new.consumer) (received p.new.consumer)
+    known_grows (popped c.args.self.now) (seen c.args.self.now) (known_items c.seen_up_to-count.new.self.consumer) (take n p.new.items) (known_items p.new.consumer) (received p.new.consumer)
     c.seen_up_to-count.ensures.seen p.ensures.known (p.ensures.received ∙ ap (λ (l : List Item). l ++ take n p.new.items) c.seen_up_to-count.ensures.unchanged)
 
 pub returns-then-items-count-eq0-clause-allowed : goal.returns-then-items-count-eq0-clause-allowed
@@ -69,7 +69,7 @@ invariant_of-self-else-items-count-eq0 c =
     let p = c.pop_seen in
     let b = batch before c.args.items.now p.new.items n c.if-count-eq0.false c.seen_up_to-count.ensures.count.0 p.auto.items p.ensures.allowed in
     let more = goes_on before p.new.items n b c.if-items-count-eq0.false (received p.new.consumer) p.ensures.received in
-    record { end_came = c.seen_up_to-count.new.self.end_came ∙ (none_among before p.new.items n b).0 ∙ sym more.0 }
+    record { end_is_popped = c.seen_up_to-count.new.self.end_is_popped ∙ (none_among before p.new.items n b).0 ∙ sym more.0 }
 
 pub returns-clause-taken : goal.returns-clause-taken
 returns-clause-taken c =
@@ -94,7 +94,7 @@ returns-clause-grows c =
     let before = received c.seen_up_to-count.new.self.consumer in
     let n = c.seen_up_to-count.result in
     let p = c.pop_seen in
-    known_grows (came c.args.self.now) (seen c.args.self.now) (known_items c.seen_up_to-count.new.self.consumer) (take n p.new.items) (known_items p.new.consumer) (received p.new.consumer)
+    known_grows (popped c.args.self.now) (seen c.args.self.now) (known_items c.seen_up_to-count.new.self.consumer) (take n p.new.items) (known_items p.new.consumer) (received p.new.consumer)
     c.seen_up_to-count.ensures.seen p.ensures.known (p.ensures.received ∙ ap (λ (l : List Item). l ++ take n p.new.items) c.seen_up_to-count.ensures.unchanged)
 
 pub returns-clause-allowed : goal.returns-clause-allowed
