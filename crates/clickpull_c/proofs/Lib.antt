@@ -2,6 +2,5 @@
 pub mod Handles
 pub mod HandleLends
 pub mod HandleSend
-pub mod Chains
 mod AccountsTold
 pub mod SoFar

@@ -12,10 +12,10 @@ use Rattle.clickpull_c.specs.declared.values.COffer.{COffer}
 use Rattle.clickpull_c.specs.declared.values.COffered.{COffered}
 use Rattle.clickpull_c.specs.declared.values.CDeparture.{CDeparture}
 use Rattle.clickpull_c.specs.Values.{packet_in_c}
-use Rattle.clickpull_c.specs.Chains.{IsChain}
+use Rattle.clk_router.specs.Chains.{IsChain}
 use Rattle.clickpull_c.specs.Calls.{IsOffered, OffersOne, IsOfferedSoFar, GivesOne, DrainPull, PullsNext, HasRoom, with_departure, departures_of}
 use Rattle.clickpull_c.specs.inside.SoFar.{GaveSoFar, DrainedSoFar}
-use Rattle.clickpull_c.proofs.Chains.{chain-more, zip-more}
+use Rattle.clk_router.proofs.Callers.Chains.{chain-more, zip-more}
 
 -- what stands after a place that was filled is as it was
 others-more : {X : Type 0} (before filled : List X) (i : ℕ) (y : X) → drop i filled ≡ drop i before → drop (i + 1) (slice_set filled i y) ≡ drop (i + 1) before

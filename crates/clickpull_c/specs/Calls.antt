@@ -11,7 +11,7 @@ use Rattle.clickpull_c.specs.declared.values.COffer.{COffer}
 use Rattle.clickpull_c.specs.declared.values.COffered.{COffered}
 use Rattle.clickpull_c.specs.declared.statuses.TheConstants.{OK, NONE, AT_END}
 use Rattle.clickpull_c.specs.Answers.{RefusesOffer}
-use Rattle.clickpull_c.specs.Chains.{IsChain}
+use Rattle.clk_router.specs.Chains.{IsChain}
 use Rattle.clickpull_c.specs.Values.{packet_in_c, offered_in_c}
 
 -- A sender offered its next packet, of this length, and what became of it was filled in.

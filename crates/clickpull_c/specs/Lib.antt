@@ -1,6 +1,5 @@
 pub mod Answers
 pub mod Calls
-pub mod Chains
 pub mod Counts
 pub mod Examples
 pub mod Opens

@@ -4,3 +4,4 @@ pub mod Emitted
 pub mod Apart
 pub mod Plans
 pub mod Keyed
+pub mod Chains

@@ -9,5 +9,6 @@ pub mod NoneLeft
 pub mod Inside
 pub mod InsideSteps
 pub mod InsideOffered
+pub mod OfSenders
 pub mod GoesOn
 pub mod OutOrInside

@@ -1,6 +1,6 @@
 -- Which packets of each queue are inside a router: those that its device's tree holds as heads, and then those that the queue holds.
-use Rattle.std.specs.Prelude.{◌≡◌, ℕ, ◌+◌, ◌<◌, ◌≤◌, nat_lt, Bool, true, false, List, [], ◌∷◌, ◌++◌, length, filter, drop, Option, Some, None, MatchOption, slice_get}
-use Rattle.std.specs.List.{filter_map, cons_option, AllByRecursion}
+use Rattle.std.specs.Prelude.{◌≡◌, ℕ, ◌+◌, ◌<◌, ◌≤◌, nat_lt, Bool, true, false, List, [], ◌∷◌, ◌++◌, length, filter, drop, ◌==◌, Option, Some, None, MatchOption, ⊤, slice_get}
+use Rattle.std.specs.List.{filter_map, cons_option, list_any, AllByRecursion}
 use Rattle.clk_packet.specs.declared.packet.Packet.{Packet}
 use Rattle.clk_packet.specs.declared.packet.Offered.{Offered}
 use Rattle.clk_packet.specs.declared.packet.Offered.TheVariants.{Accepted, Refused, Evicted}
@@ -11,7 +11,7 @@ use Rattle.clk_sched.specs.declared.visit.Visit.{Visit}
 use Rattle.clk_sched.specs.Tree.{Tree, root}
 use Rattle.clk_sched.specs.FewHeads.{drrs_above}
 use Rattle.clk_tree.specs.declared.plan.parts.SenderSpec.{SenderSpec}
-use Rattle.clk_router.specs.Events.{Room, Setup, Event, offered, pulled, numbers_of, sends_to, history, emitted_in, CanHappen}
+use Rattle.clk_router.specs.Events.{Room, Setup, sender_numbers, Event, offered, pulled, numbers_of, sends_to, history, emitted_in, CanHappen}
 use Rattle.clk_router.specs.Settled.{offered_of, emitted_by, out_of}
 
 -- whether a packet is of a sender of this queue
@@ -56,6 +56,8 @@ pub record QueueGoesOn (setup : Setup) (events : List Event) (q : ℕ) (room : R
   -- a packet that is accepted goes to the end, and one that is refused changes nothing
   pub accepted : (p : Packet) → is_of_queue setup q p ≡ true → inside_of setup room.device q (events ++ offered p Accepted ∷ []) ≡ inside_of setup room.device q events ++ p ∷ []
   pub refused : (p r : Packet) → is_of_queue setup q p ≡ true → inside_of setup room.device q (events ++ offered p (Refused r) ∷ []) ≡ inside_of setup room.device q events
+  -- only a full queue refuses or evicts
+  pub full : (p : Packet) (outcome : Offered) → is_of_queue setup q p ≡ true → CanHappen setup (events ++ offered p outcome ∷ []) → (outcome ≡ Accepted → ⊥) → length (held (history setup q events)) ≡ room.capacity
   -- a packet that evicts goes to the end, and the first that the queue holds is gone
   pub evicted : (p front : Packet) → is_of_queue setup q p ≡ true → CanHappen setup (events ++ offered p (Evicted front) ∷ []) → IsEvictedInside setup room.device q events (events ++ offered p (Evicted front) ∷ []) front p
   -- a pull of any device emits the first, or none of this queue
@@ -66,10 +68,12 @@ pub record QueueGoesOn (setup : Setup) (events : List Event) (q : ℕ) (room : R
   -- each packet was offered
   pub were_offered : AllByRecursion (λ (p : Packet). p.number < length (numbers_of p.sender events)) (inside_of setup room.device q events)
 
--- How the packets inside each queue of a setup change, in events that can happen. At first there are none.
+-- How the packets inside each queue of a setup change, in events that can happen. At first there are none. A pull emits a packet of a sender
+-- of the setup, or none.
 pub record QueuesGoOn (setup : Setup) : Type 0 where
   pub start : (d q : ℕ) → inside_of setup d q [] ≡ []
   pub each : (events : List Event) (q : ℕ) (room : Room) → CanHappen setup events → slice_get setup.queues q ≡ Some room → MatchOption (slice_get setup.trees room.device) ⊥ (QueueGoesOn setup events q room)
+  pub of_senders : (events : List Event) (c m : ℕ) (visits : List Visit) → CanHappen setup (events ++ pulled c m visits ∷ []) → MatchOption (emitted_in (pulled c m visits)) ⊤ (λ (p : Packet). list_any (λ n. n == p.sender) (sender_numbers setup) ≡ true)
 
 -- the packets of a sender that are out of the router, and those that are inside its queue
 abbrev pub out_or_inside : Setup → List Event → SenderSpec → Room → List Packet

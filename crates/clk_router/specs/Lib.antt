@@ -4,6 +4,7 @@ pub mod Accounts
 pub mod Setups
 pub mod Stored
 pub mod Course
+pub mod Chains
 pub mod Settled
 pub mod InsideQueues
 pub mod Examples

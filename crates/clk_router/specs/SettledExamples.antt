@@ -113,3 +113,7 @@ crossed = record { trees = queue 1 ∷ queue 0 ∷ []; queues = two_devices.queu
 -- a queue of a device without a tree
 abbrev pub without_tree : Setup
 without_tree = record { trees = []; queues = record { kind = TailDrop; capacity = 2; device = 0 } ∷ []; senders = [] }
+
+-- a tree over a queue that is not there
+abbrev pub without_queue : Setup
+without_queue = record { trees = queue 0 ∷ []; queues = []; senders = [] }

@@ -7,7 +7,7 @@ ghost use Rattle.clk_router.specs.Events.{CanHappen};
 ghost use Rattle.clk_router.specs.Examples.{one_queue, sender_offers, stranger_offers};
 ghost use Rattle.clk_router.specs.InsideQueues.{AreOutOrInside, QueuesGoOn, heads_of, inside_of};
 ghost use Rattle.clk_router.specs.Settled.{IsCourseAccounted, IsCourseSettled, AreOutOnce, AreAllOut, IsDrained};
-ghost use Rattle.clk_router.specs.SettledExamples.{two_devices, one_drr, crossed, without_tree, course_of, p0_1, emitted_there, emitted_elsewhere, left_inside, emitted_twice, never_offered, swapped, two_in_a_pull, refused_emitted, refused_held, evicted_emitted, queue_evicts, front_drop_refuses, stranger_emitted, lost, got_not_emitted, head_held, stranger_held};
+ghost use Rattle.clk_router.specs.SettledExamples.{two_devices, one_drr, crossed, without_tree, without_queue, course_of, p0_1, emitted_there, emitted_elsewhere, left_inside, emitted_twice, never_offered, swapped, two_in_a_pull, refused_emitted, refused_held, evicted_emitted, queue_evicts, front_drop_refuses, stranger_emitted, lost, got_not_emitted, head_held, stranger_held};
 
 /// Which events can happen over one queue: its sender can offer a packet, and a sender that the setup does not have cannot.
 pub fn event_examples()
@@ -49,7 +49,7 @@ pub fn accounted_examples()
 
 /// Which packets are out of a router, and which are inside: the head of a queue, and then what the queue holds. No packet is out twice, is
 /// out and was never offered, is out and inside, or is neither. Queues do not go on over a setup where a queue stands in the tree of
-/// another device, or where its device has no tree.
+/// another device, where its device has no tree, or where a tree stands over a queue that is not there.
 pub fn out_examples()
     ensures head_is_inside { inside_of one_drr 0 0 head_held ≡ p0_0 ∷ p0_1 ∷ [] }
     ensures head_is_first { heads_of one_drr 0 0 head_held ≡ p0_0 ∷ [] }
@@ -62,4 +62,5 @@ pub fn out_examples()
     ensures not_more_than_offered { ¬ (AreOutOrInside two_devices never_offered) }
     ensures not_crossed { ¬ (QueuesGoOn crossed) }
     ensures not_without_tree { ¬ (QueuesGoOn without_tree) }
+    ensures not_without_queue { ¬ (QueuesGoOn without_queue) }
 {}

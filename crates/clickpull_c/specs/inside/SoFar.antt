@@ -3,7 +3,7 @@ use Rattle.std.specs.Prelude.{◌≡◌, ℕ, ◌≤◌, List, length, take, dro
 use Rattle.clk_router.specs.Course.{Course}
 use Rattle.clickpull_c.specs.declared.values.CPacket.{CPacket}
 use Rattle.clickpull_c.specs.declared.values.CDeparture.{CDeparture}
-use Rattle.clickpull_c.specs.Chains.{IsChain}
+use Rattle.clk_router.specs.Chains.{IsChain}
 use Rattle.clickpull_c.specs.Calls.{GivesOne, DrainPull, PullsNext, HasRoom, departures_of}
 
 -- so many pulls at a moment gave a packet each

@@ -47,6 +47,14 @@ one-sender (x ∷ senders) s P Q rising a b = by_number (x.number == s) refl a b
         (x, or-first (P x) _ (none-later senders s x.number P same rising.0) a, or-first (Q x) _ (none-later senders s x.number Q same rising.0) b)
     by_number false e a b rest = rest a b
 
+-- a sender sends to one queue
+pub one-queue : (senders : List SenderSpec) (s k q : ℕ) → AreRising (map number_of senders) → sends_to senders s k ≡ true → sends_to senders s q ≡ true → k ≡ q
+one-queue senders s k q rising a b =
+    let its = one-sender senders s (λ x. x.queue == k) (λ x. x.queue == q) rising a b in
+    let first = its.1 in
+    let second = its.2 in
+    grind (arith, nat_tests, first, second)
+
 -- who sends to a queue of a device is of that device
 pub sent-here : (queues : List Room) (senders : List SenderSpec) (s q d : ℕ) → is_at d (slice_get queues q) ≡ true → sends_to senders s q ≡ true
     → list_any (λ (x : SenderSpec). (x.number == s) && is_of_device queues d x) senders ≡ true

@@ -26,12 +26,12 @@ use Rattle.clk_router.specs.Settled.{IsSenderAccounted, emitted_by, sends_at}
 use Rattle.clk_router.specs.InsideQueues.{given_by}
 use Rattle.clk_router.specs.inside.Closable.{IsClosable}
 use Rattle.clk_router.specs.inside.Parts.{IsWhole}
-use Rattle.clk_router.proofs.Callers.Apart.{sent-here, history-alone}
+use Rattle.clk_router.proofs.Callers.Apart.{sent-here, history-alone, one-queue}
 use Rattle.clk_router.proofs.QueueCounts.{gives-log}
 use Rattle.clk_router.proofs.Settled.Dealt.{offered-dealt, all-both, all-for, member-there}
 use Rattle.clk_router.proofs.Settled.Emitted.{emitted-all}
 use Rattle.clk_router.proofs.Settled.QueuePackets.{accepted_by, refused_by, evicted_by, accepted-is, gone-dealt, all-evicted, all-given, all-gone, history-in_order, none-refused, none-evicted, IsOwn, its-packets, all-sent, EvictsWith, each-evicts}
-use Rattle.clk_router.proofs.Settled.OwnPackets.{SendsIn, one-queue, its-queue, all-came, of-own_queue, none-of-other}
+use Rattle.clk_router.proofs.Settled.OwnPackets.{SendsIn, its-queue, all-came, of-own_queue, none-of-other}
 
 -- the events at a device happen there
 pub own-events : (setup : Setup) (d : ℕ) (events : List Event) → AllByRecursion (λ e. happens_at setup d e ≡ true) (events_at setup d events)

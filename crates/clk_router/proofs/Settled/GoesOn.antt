@@ -11,7 +11,8 @@ use Rattle.clk_router.proofs.PartsLemmas.{all-there}
 use Rattle.clk_router.proofs.Settled.Dealt.{member-there}
 use Rattle.clk_router.proofs.Settled.Inside.{inside-fits}
 use Rattle.clk_router.proofs.Settled.InsideOffered.{inside-offered}
-use Rattle.clk_router.proofs.Settled.InsideSteps.{inside-other, inside-accepted, inside-refused, inside-evicted, inside-pulled}
+use Rattle.clk_router.proofs.Settled.OfSenders.{of-senders}
+use Rattle.clk_router.proofs.Settled.InsideSteps.{inside-other, inside-accepted, inside-refused, inside-full, inside-evicted, inside-pulled}
 
 pub queues-go_on : ((tree : Tree) → leaves_distinct tree ≡ true → ConservesPackets tree) → ((tree : Tree) → MakesNothing tree) → ((tree : Tree) → leaves_distinct tree ≡ true → HoldsFewHeads tree) → (setup : Setup) → IsWhole setup → IsClosable setup → QueuesGoOn setup
 queues-go_on conserves makes few setup whole closable =
@@ -24,9 +25,11 @@ queues-go_on conserves makes few setup whole closable =
             other = λ p outcome none. inside-other setup room.device q events p outcome none;
             accepted = λ p sends. inside-accepted conserves makes setup whole closable events can q room is p sends;
             refused = λ p r sends. inside-refused conserves makes setup whole closable events can q room is p r sends;
+            full = λ p outcome sends goes_on never. inside-full conserves makes setup whole closable events can q room is p outcome sends goes_on never;
             evicted = λ p front sends goes_on. inside-evicted conserves makes setup whole closable events can q room is p front sends goes_on;
             pulled_on = λ c m visits goes_on. inside-pulled conserves makes setup whole closable events can q room is its.0 its.1 c m visits goes_on;
             fits = inside-fits conserves makes setup whole closable events can few q room its.0 is its.1;
             were_offered = inside-offered setup events can room.device q room is;
           }));
+      of_senders = λ events c m visits goes_on. of-senders conserves makes setup whole closable events c m visits goes_on;
     }

@@ -18,7 +18,8 @@ use Rattle.clk_router.specs.Events.{Room, Setup, Event, is_at, sends_to, events_
 use Rattle.clk_router.specs.InsideQueues.{is_of_queue, given_of, emitted_of, heads_of, inside_of}
 use Rattle.clk_router.specs.inside.Closable.{IsClosable}
 use Rattle.clk_router.specs.inside.Parts.{IsWhole}
-use Rattle.clk_router.proofs.Settled.OwnPackets.{SendsIn, one-queue, none-from}
+use Rattle.clk_router.proofs.Callers.Apart.{one-queue}
+use Rattle.clk_router.proofs.Settled.OwnPackets.{SendsIn, none-from}
 use Rattle.clk_router.proofs.Settled.QueuePackets.{history-in_order}
 use Rattle.clk_router.proofs.Settled.Accounted.{has-history, its-run, leaf-gave, came, stands-there}
 

@@ -89,7 +89,7 @@ held-evicted kind capacity past front p h = record { rest = mid; was = was; is =
         ∙ held-taken capacity (past ++ evict front ∷ []) p h.3.0
 
 -- what a pull emitted is its result
-pull-emitted : (tree : Tree) (events : List Event) (d m : ℕ) (visits : List Visit) → RunsTree tree (events ++ pulled d m visits ∷ []) → emitted visits ≡ cons_option (result_of (visits_of 0 visits)) []
+pub pull-emitted : (tree : Tree) (events : List Event) (d m : ℕ) (visits : List Visit) → RunsTree tree (events ++ pulled d m visits ∷ []) → emitted visits ≡ cons_option (result_of (visits_of 0 visits)) []
 pull-emitted tree events d m visits runs =
     let turns : AllByRecursion (λ pull. IsDeviceTurn (turn 0 pull)) (filter_map pull_in events ++ visits ∷ []) =
     subst (AllByRecursion (λ pull. IsDeviceTurn (turn 0 pull))) (filter_map-append pull_in events (pulled d m visits ∷ []))
@@ -109,7 +109,7 @@ emitted-offer setup d events p outcome = by_test (happens_at setup d (offered p 
     by_test true e = ap (λ l. emitted (log_of l)) (events-here setup d events (offered p outcome) e) ∙ ap emitted (flat_map-append visits_in (events_at setup d events) (offered p outcome ∷ []) ∙ append-nil (log_of (events_at setup d events)))
     by_test false e = ap (λ l. emitted (log_of l)) (events-elsewhere setup d events (offered p outcome) e)
 
-emitted-pull : (setup : Setup) (d : ℕ) (events : List Event) (m : ℕ) (visits : List Visit) → emitted_by setup d (events ++ pulled d m visits ∷ []) ≡ emitted_by setup d events ++ emitted visits
+pub emitted-pull : (setup : Setup) (d : ℕ) (events : List Event) (m : ℕ) (visits : List Visit) → emitted_by setup d (events ++ pulled d m visits ∷ []) ≡ emitted_by setup d events ++ emitted visits
 emitted-pull setup d events m visits =
     let here : (d == d) ≡ true = grind (arith, nat_tests) in
     ap (λ l. emitted (log_of l)) (events-here setup d events (pulled d m visits) here) ∙ ap emitted (log-pulled (events_at setup d events) d m visits) ∙ emitted-append (log_of (events_at setup d events)) visits
@@ -160,6 +160,21 @@ module _ (conserves : (tree : Tree) → leaves_distinct tree ≡ true → Conser
   inside-refused p r sends =
       ap₂ (λ a b. a ++ b) (heads-offer setup d q events p (Refused r))
       (ap held (history-with setup q events (offered p (Refused r)) ∙ ap (λ b. history setup q events ++ (if b then offer_events p (Refused r) else [])) sends) ∙ held-refused (history setup q events) p)
+
+  -- Only a full queue refuses or evicts.
+  pub inside-full : (p : Packet) (outcome : Offered) → sends_to setup.senders p.sender q ≡ true → CanHappen setup (events ++ offered p outcome ∷ []) → (outcome ≡ Accepted → ⊥) → length (held (history setup q events)) ≡ room.capacity
+  inside-full p outcome sends goes_on never =
+      by_outcome outcome never
+      (stands-rest room.kind room.capacity [] (history setup q events) (offer_events p outcome)
+      (subst (EachStands room.kind room.capacity []) its_past (has-history conserves makes setup whole closable (events ++ offered p outcome ∷ []) goes_on q room its_room)))
+    where
+      its_past : history setup q (events ++ offered p outcome ∷ []) ≡ history setup q events ++ offer_events p outcome
+      its_past = history-with setup q events (offered p outcome) ∙ ap (λ b. history setup q events ++ (if b then offer_events p outcome else [])) sends
+
+      by_outcome : (o : Offered) → (o ≡ Accepted → ⊥) → EachStands room.kind room.capacity (history setup q events) (offer_events p o) → length (held (history setup q events)) ≡ room.capacity
+      by_outcome Accepted never h = absurd (never refl)
+      by_outcome (Refused r) never h = h.1.1
+      by_outcome (Evicted front) never h = h.1.1
 
   -- A packet that evicts goes to the end, and the first that the queue holds is gone.
   pub inside-evicted : (p front : Packet) → sends_to setup.senders p.sender q ≡ true → CanHappen setup (events ++ offered p (Evicted front) ∷ []) → IsEvictedInside setup d q events (events ++ offered p (Evicted front) ∷ []) front p

@@ -14,15 +14,7 @@ use Rattle.clk_sched.proofs.Callers.Traced.{CameOf, from-own_queue}
 use Rattle.clk_tree.specs.declared.plan.parts.SenderSpec.{SenderSpec}
 use Rattle.clk_tree.specs.PlanParts.{number_of}
 use Rattle.clk_router.specs.Events.{sends_to}
-use Rattle.clk_router.proofs.Callers.Apart.{one-sender}
-
--- a sender sends to one queue
-pub one-queue : (senders : List SenderSpec) (s k q : ℕ) → AreRising (map number_of senders) → sends_to senders s k ≡ true → sends_to senders s q ≡ true → k ≡ q
-one-queue senders s k q rising a b =
-    let its = one-sender senders s (λ x. x.queue == k) (λ x. x.queue == q) rising a b in
-    let first = its.1 in
-    let second = its.2 in
-    grind (arith, nat_tests, first, second)
+use Rattle.clk_router.proofs.Callers.Apart.{one-queue}
 
 -- each sender sends to its queue
 sends-wider : (senders : List SenderSpec) (x : SenderSpec) (some : List SenderSpec) → AllByRecursion (λ (s : SenderSpec). sends_to senders s.number s.queue ≡ true) some

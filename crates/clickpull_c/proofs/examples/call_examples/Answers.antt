@@ -5,7 +5,7 @@ use Rattle.clk_sched.specs.Examples.{look}
 use Rattle.clk_router.specs.Events.{pulled}
 use Rattle.clk_router.specs.Course.{Course}
 use Rattle.clickpull_c.specs.Calls.{EndsPulls, full, gave_none, at_end, empty, DrainPull, PullsNext, HasRoom, with_departure}
-use Rattle.clickpull_c.specs.Chains.{IsChain}
+use Rattle.clk_router.specs.Chains.{IsChain}
 use Rattle.clickpull_c.specs.Examples.{p0_0, fresh, fresh_pulled, one_out, one_out_pulled, two_wait, first_out, first_out_pulled}
 use Rattle.clickpull_c.proofs.examples.call_examples.Goals as goal
 

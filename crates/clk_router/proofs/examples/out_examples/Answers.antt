@@ -7,7 +7,7 @@ use Rattle.clk_ring.specs.QueueHistory.{IsQueueHistory}
 use Rattle.clk_sched.specs.Examples.Priority.{p0_0}
 use Rattle.clk_sched.specs.Log.{asking}
 use Rattle.clk_router.specs.Events.{Room, events_at, history, RunsTree, CanHappen}
-use Rattle.clk_router.specs.SettledExamples.{crossed, without_tree, left_inside, emitted_elsewhere}
+use Rattle.clk_router.specs.SettledExamples.{crossed, without_tree, without_queue, left_inside, emitted_elsewhere, stranger_emitted, p7_0}
 use Rattle.clk_router.proofs.examples.out_examples.Goals as goal
 
 pub returns-clause-head_is_inside : goal.returns-clause-head_is_inside
@@ -88,3 +88,21 @@ without-tree = record { senders = tt; numbered = λ s. refl; devices = tt; runs 
 
 pub returns-clause-not_without_tree : goal.returns-clause-not_without_tree
 returns-clause-not_without_tree c = λ o. absurd (o.each [] 0 (record { kind = TailDrop; capacity = 2; device = 0 }) without-tree refl)
+
+without-queue : CanHappen without_queue stranger_emitted
+without-queue = record { senders = (tt, tt); numbered = λ s. refl; devices = (lit≤ tt, tt); runs = runs; refusals = (tt, tt); histories = λ q. tt }
+  where
+    runs : (d : ℕ) → MatchOption (slice_get without_queue.trees d) ⊤ (λ tree. RunsTree tree (events_at without_queue d stranger_emitted))
+    runs zero = record {
+      run = record {
+        shape = record { blocks = refl; one_moment = ((refl, tt), tt); moments = (lit≤ tt, tt) };
+        device = (record { plain = (record { fresh = refl; passed = refl }, tt); in_order = (refl, refl) }, tt);
+        below = tt;
+      };
+      pull_by_pull = refl;
+      moments = refl;
+    }
+    runs (suc d) = tt
+
+pub returns-clause-not_without_queue : goal.returns-clause-not_without_queue
+returns-clause-not_without_queue c = λ o. absurd (false≢true (o.of_senders [] 0 0 (asking 0 0 0 0 (Some p7_0) ∷ []) without-queue))
