@@ -1,0 +1,9 @@
+-- Lemmas on what a live router keeps.
+mod Lists
+mod Outlets
+mod Counts
+mod QueueTokens
+mod Steps
+mod AfterOffer
+mod Fitting
+mod SoFar

@@ -1,0 +1,98 @@
+-- Lists with one member replaced, and lists side by side.
+use Rattle.std.proofs.Common.{◌≡◌, ℕ, zero, suc, ◌+◌, ◌<◌, ◌==◌, ◌⊎◌, inl, inr, Bool, true, false, List, [], ◌∷◌, ◌++◌, length, take, drop, set, Option, Some, None, MatchOption, slice_get, refl, sym, ap, subst, arith}
+use Rattle.std.specs.List.{AllZip}
+use Rattle.std.proofs.lemmas.Bool.Decides.{nat_tests}
+
+-- an option that is there
+pub there : {X : Type 0} (P : X → Type 0) (o : Option X) → MatchOption o ⊥ P → (x : X) × (o ≡ Some x) × P x
+there P None h = absurd h
+there P (Some x) h = (x, refl, h)
+
+-- a member at a place that is there
+pub member : {X : Type 0} (xs : List X) (i : ℕ) → i < length xs → (x : X) × (slice_get xs i ≡ Some x)
+member [] i low = absurd (omega (arith, low))
+member (x ∷ xs) zero low = (x, refl)
+member (x ∷ xs) (suc i) low = member xs i (omega (arith, low))
+
+-- a member of a list in which one was replaced
+pub set-cases : {X : Type 0} (xs : List X) (i k : ℕ) (y z : X) → slice_get (set xs i y) k ≡ Some z → ((k ≡ i) × (y ≡ z)) ⊎ (((k == i) ≡ false) × (slice_get xs k ≡ Some z))
+set-cases [] i k y z e = absurd (cc)
+set-cases (x ∷ xs) zero zero y z e = inl (refl, cc)
+set-cases (x ∷ xs) zero (suc k) y z e = inr (grind (arith, nat_tests), e)
+set-cases (x ∷ xs) (suc i) zero y z e = inr (grind (arith, nat_tests), e)
+set-cases {X} (x ∷ xs) (suc i) (suc k) y z e = later (set-cases xs i k y z e)
+  where
+    later : ((k ≡ i) × (y ≡ z)) ⊎ (((k == i) ≡ false) × (slice_get xs k ≡ Some z)) → ((suc k ≡ suc i) × (y ≡ z)) ⊎ (((suc k == suc i) ≡ false) × (slice_get (x ∷ xs) (suc k) ≡ Some z))
+    later (inl h) = inl (ap suc h.0, h.1)
+    later (inr h) = inr ((let no = h.0 in grind (arith, nat_tests)), h.1)
+
+pub set-here : {X : Type 0} (xs : List X) (i : ℕ) (x y : X) → slice_get xs i ≡ Some x → slice_get (set xs i y) i ≡ Some y
+set-here [] i x y e = absurd (cc)
+set-here (z ∷ xs) zero x y e = refl
+set-here (z ∷ xs) (suc i) x y e = set-here xs i x y e
+
+pub set-other : {X : Type 0} (xs : List X) (i k : ℕ) (y z : X) → (k == i) ≡ false → slice_get xs k ≡ Some z → slice_get (set xs i y) k ≡ Some z
+set-other [] i k y z other e = absurd (cc)
+set-other (x ∷ xs) zero zero y z other e = absurd (grind (arith, nat_tests))
+set-other (x ∷ xs) zero (suc k) y z other e = e
+set-other (x ∷ xs) (suc i) zero y z other e = e
+set-other (x ∷ xs) (suc i) (suc k) y z other e = set-other xs i k y z (grind (arith, nat_tests)) e
+
+-- members of a list that goes on
+pub in-front : {X : Type 0} (xs ys : List X) (n : ℕ) (x : X) → slice_get xs n ≡ Some x → slice_get (xs ++ ys) n ≡ Some x
+in-front [] ys n x e = absurd (cc)
+in-front (z ∷ xs) ys zero x e = e
+in-front (z ∷ xs) ys (suc n) x e = in-front xs ys n x e
+
+pub at-end : {X : Type 0} (xs : List X) (x : X) → slice_get (xs ++ x ∷ []) (length xs) ≡ Some x
+at-end [] x = refl
+at-end (z ∷ xs) x = at-end xs x
+
+module _ {X Y : Type 0} where
+  pub zip-widened : (R S : X → Y → Type 0) → ((x : X) (y : Y) → R x y → S x y) → (xs : List X) (ys : List Y) → AllZip R xs ys → AllZip S xs ys
+  zip-widened R S wider [] [] h = tt
+  zip-widened R S wider [] (y ∷ ys) h = absurd h
+  zip-widened R S wider (x ∷ xs) [] h = absurd h
+  zip-widened R S wider (x ∷ xs) (y ∷ ys) h = (wider x y h.0, zip-widened R S wider xs ys h.1)
+
+  module _ (R : X → Y → Type 0) where
+    pub zip-length : (xs : List X) (ys : List Y) → AllZip R xs ys → length xs ≡ length ys
+    zip-length [] [] h = refl
+    zip-length [] (y ∷ ys) h = absurd h
+    zip-length (x ∷ xs) [] h = absurd h
+    zip-length (x ∷ xs) (y ∷ ys) h = ap suc (zip-length xs ys h.1)
+
+    pub zip-push : (xs : List X) (ys : List Y) (x : X) (y : Y) → AllZip R xs ys → R x y → AllZip R (xs ++ x ∷ []) (ys ++ y ∷ [])
+    zip-push [] [] x y h r = (r, tt)
+    zip-push [] (b ∷ ys) x y h r = absurd h
+    zip-push (a ∷ xs) [] x y h r = absurd h
+    zip-push (a ∷ xs) (b ∷ ys) x y h r = (h.0, zip-push xs ys x y h.1 r)
+
+    -- the member behind these is taken out on both sides
+    pub zip-out : (before rest : List X) (x : X) (ys : List Y) (y : Y) → AllZip R (before ++ x ∷ rest) ys → slice_get ys (length before) ≡ Some y
+        → R x y × AllZip R (before ++ rest) (take (length before) ys ++ drop (length before + 1) ys)
+    zip-out [] rest x [] y h e = absurd h
+    zip-out [] rest x (b ∷ ys) y h e = (let same : b ≡ y = cc in subst (R x) same h.0, h.1)
+    zip-out (a ∷ before) rest x [] y h e = absurd h
+    zip-out (a ∷ before) rest x (b ∷ ys) y h e =
+        let more = zip-out before rest x ys y h.1 e in
+        let n : suc (length before + 1) ≡ suc (length before) + 1 = omega arith in
+        (more.0, subst (λ k. AllZip R (a ∷ before ++ rest) (take (suc (length before)) (b ∷ ys) ++ drop k (b ∷ ys))) n (h.0, more.1))
+
+module _ {X : Type 0} (R : X → X → Type 0) (same : (x : X) → R x x) where
+  pub zip-same : (xs : List X) → AllZip R xs xs
+  zip-same [] = tt
+  zip-same (x ∷ xs) = (same x, zip-same xs)
+
+  -- one member goes on, and the others stay
+  pub zip-one : (xs : List X) (i : ℕ) (x y : X) → slice_get xs i ≡ Some x → R x y → AllZip R xs (set xs i y)
+  zip-one [] i x y e r = tt
+  zip-one (a ∷ xs) zero x y e r = (let is : a ≡ x = cc in subst (λ z. R z y) (sym is) r, zip-same xs)
+  zip-one (a ∷ xs) (suc i) x y e r = (same a, zip-one xs i x y e r)
+
+pub zip-then : {X : Type 0} (R : X → X → Type 0) → ((x y z : X) → R x y → R y z → R x z) → (xs ys zs : List X) → AllZip R xs ys → AllZip R ys zs → AllZip R xs zs
+zip-then R join [] [] zs h k = k
+zip-then R join [] (y ∷ ys) zs h k = absurd h
+zip-then R join (x ∷ xs) [] zs h k = absurd h
+zip-then R join (x ∷ xs) (y ∷ ys) [] h k = absurd k
+zip-then R join (x ∷ xs) (y ∷ ys) (z ∷ zs) h k = (join x y z h.0 k.0, zip-then R join xs ys zs h.1 k.1)

@@ -1,0 +1,71 @@
+-- Tokens as one outlet takes more packets.
+use Rattle.std.proofs.Common.{◌≡◌, ℕ, ◌==◌, Bool, true, false, List, [], ◌∷◌, ◌++◌, append-nil, append_assoc, length, map, set, Some, slice_get, refl, sym, ap, ◌∙◌, subst, arith}
+use Rattle.std.specs.Option.{option_map}
+use Rattle.std.proofs.lemmas.Bool.{eqb-true}
+use Rattle.std.proofs.lemmas.List.{map-set}
+use Rattle.std.proofs.lemmas.Option.{slice_get-map}
+use Rattle.clk_packet.specs.declared.packet.Packet.{Packet}
+use Rattle.clk_inlet.specs.Halves.{popped, taken, seen as waiting}
+use Rattle.clk_inlet.specs.Items.{packet_item}
+use Rattle.clk_inlet.specs.declared.item.Item.{Item}
+use Rattle.clk_inlet.specs.declared.outlet.Outlet.{Outlet}
+use Rattle.clk_router.specs.Course.{sender_at}
+use Rattle.clk_router.specs.Events.{Setup}
+use Rattle.clk_live.specs.State.{IsTokenOf, GoesOn, AllGoOn}
+use Rattle.clk_live.proofs.Lists.{set-here, set-other, in-front, at-end, zip-same, zip-one, zip-then}
+
+module _ (setup : Setup) (outlets : List Outlet) (i : ℕ) (old new : Outlet) (its : slice_get outlets i ≡ Some old) (more : List Item) (grows : taken new ≡ taken old ++ more) where
+  -- each packet keeps its token
+  pub token-stays : (p : Packet) (token : ℕ) → IsTokenOf setup (map taken outlets) p token → IsTokenOf setup (map taken (set outlets i new)) p token
+  token-stays p token h = by_place (h.place == i) refl
+    where
+      by_place : (b : Bool) → (h.place == i) ≡ b → IsTokenOf setup (map taken (set outlets i new)) p token
+      by_place true e =
+          let here : h.place ≡ i = eqb-true h.place i e in
+          let same : Some h.its_items ≡ Some (taken old) = sym h.its ∙ ap (slice_get (map taken outlets)) here ∙ slice_get-map taken outlets i ∙ ap (option_map taken) its in
+          let is : h.its_items ≡ taken old = cc same in
+          record {
+            place = i;
+            its_items = taken new;
+            sender = ap (sender_at setup) (sym here) ∙ h.sender;
+            its = slice_get-map taken (set outlets i new) i ∙ ap (option_map taken) (set-here outlets i old new its);
+            item = ap (λ l. slice_get l p.number) grows ∙ in-front (taken old) more p.number (packet_item p.length token) (ap (λ l. slice_get l p.number) (sym is) ∙ h.item);
+          }
+      by_place false e = record {
+        place = h.place;
+        its_items = h.its_items;
+        sender = h.sender;
+        its = ap (λ l. slice_get l h.place) (map-set taken outlets i new) ∙ set-other (map taken outlets) i h.place (taken new) h.its_items e h.its;
+        item = h.item;
+      }
+
+-- the packet that comes next has the token that came with it
+pub token-comes : (setup : Setup) (outlets : List Outlet) (i : ℕ) (old new : Outlet) → slice_get outlets i ≡ Some old → (p : Packet) (token : ℕ) → sender_at setup i ≡ Some p.sender → taken new ≡ taken old ++ packet_item p.length token ∷ []
+    → p.number ≡ length (taken old) → IsTokenOf setup (map taken (set outlets i new)) p token
+token-comes setup outlets i old new its p token sender grows number = record {
+  place = i;
+  its_items = taken new;
+  sender = sender;
+  its = slice_get-map taken (set outlets i new) i ∙ ap (option_map taken) (set-here outlets i old new its);
+  item = ap (λ l. slice_get l p.number) grows ∙ ap (slice_get (taken old ++ packet_item p.length token ∷ [])) number ∙ at-end (taken old) (packet_item p.length token);
+}
+
+-- outlets go on
+pub goes-same : (o : Outlet) → GoesOn o o
+goes-same o = record { halves = λ i h. h; in_order = λ h. h; grows = ([], append-nil (popped o ++ waiting o)) }
+
+pub goes-then : (o p q : Outlet) → GoesOn o p → GoesOn p q → GoesOn o q
+goes-then o p q h k = record {
+  halves = λ i a. k.halves i (h.halves i a);
+  in_order = λ a. k.in_order (h.in_order a);
+  grows = (h.grows.0 ++ k.grows.0, sym (append_assoc (popped o ++ waiting o) h.grows.0 k.grows.0) ∙ ap (λ l. l ++ k.grows.0) h.grows.1 ∙ k.grows.1);
+}
+
+pub all-same : (os : List Outlet) → AllGoOn os os
+all-same = zip-same GoesOn goes-same
+
+pub all-then : (os ps qs : List Outlet) → AllGoOn os ps → AllGoOn ps qs → AllGoOn os qs
+all-then = zip-then GoesOn goes-then
+
+pub one-goes : (os : List Outlet) (i : ℕ) (o p : Outlet) → slice_get os i ≡ Some o → GoesOn o p → AllGoOn os (set os i p)
+one-goes = zip-one GoesOn goes-same

@@ -1,0 +1,393 @@
+-- What a live router keeps, as packets are offered and devices pulled.
+use Rattle.std.proofs.Common.{◌≡◌, ℕ, zero, suc, ◌+◌, ◌<◌, ◌≤◌, ◌==◌, ◌&&◌, ◌||◌, ◌⊎◌, inl, inr, Bool, true, false, if◌then◌else◌, List, [], ◌∷◌, ◌++◌, length, map, set, drop, filter, Option, Some, None, MatchOption, slice_get, get_or, refl, sym, ap, ◌∙◌, subst, arith}
+use Rattle.std.specs.Bool.{⊤}
+use Rattle.std.specs.List.{cons_option, list_any, AllByRecursion, AllZip}
+use Rattle.std.specs.Option.{option_map, IsSome}
+use Rattle.std.proofs.lemmas.Bool.{false≢true, eqb-true, or_right}
+use Rattle.std.proofs.lemmas.Bool.Decides.{nat_tests}
+use Rattle.std.proofs.lemmas.List.{append-nil, map-append, map-set, set-get_or, length-append, length-map, length-set}
+use Rattle.std.proofs.lemmas.Option.{slice_get-map, slice_get_within, get_or_from_slice_get}
+use Rattle.circular_buffer.specs.Buffer.{Buffer, buffer}
+use Rattle.clk_packet.specs.declared.packet.Packet.{Packet}
+use Rattle.clk_packet.specs.declared.packet.Offered.{Offered}
+use Rattle.clk_packet.specs.Lists.{AreRising}
+use Rattle.clk_sched.specs.declared.visit.Visit.{Visit}
+use Rattle.clk_sched.specs.Log.{visits_of, result_of}
+use Rattle.clk_tree.specs.declared.plan.parts.SenderSpec.{SenderSpec}
+use Rattle.clk_tree.specs.PlanParts.{SendsWithin, number_of}
+use Rattle.clk_inlet.specs.Halves.{taken}
+use Rattle.clk_inlet.specs.Items.{packet_item}
+use Rattle.clk_inlet.specs.Limits.{most_packets}
+use Rattle.clk_inlet.specs.declared.item.Item.{Item}
+use Rattle.clk_inlet.specs.declared.outlet.Outlet.{Outlet}
+use Rattle.clk_router.specs.declared.accounts.Account.{Account}
+use Rattle.clk_router.specs.Accounts.{account_after}
+use Rattle.clk_router.specs.Course.{Course, after, sender_at, IsPulled}
+use Rattle.clk_router.specs.Events.{Room, Setup, Event, offered, pulled, sender_numbers, sends_to, emitted_in, CanHappen}
+use Rattle.clk_router.specs.InsideQueues.{is_of_queue, inside_of, emitted_from, QueuesGoOn}
+use Rattle.clk_router.specs.Settled.{offered_of}
+use Rattle.clk_router.proofs.Callers.Apart.{one-queue}
+use Rattle.clk_live.specs.declared.taking.Outcome.{Outcome}
+use Rattle.clk_live.specs.State.{IsTokenOf}
+use Rattle.clk_live.specs.inside.Kept.{item_length, packet_length, AreOffered, most_inside, AreTokens, IsKept}
+use Rattle.clk_live.specs.inside.Noted.{CanNote, IsNoted}
+use Rattle.clk_live.proofs.Lists.{member, set-cases, set-here, zip-widened}
+use Rattle.clk_live.proofs.Outlets.{token-stays, token-comes}
+use Rattle.clk_live.proofs.Counts.{offers-one, offers-other, offers-pull, number-is, taken-many}
+use Rattle.clk_live.proofs.QueueTokens.{EvictedHas, Notes, can-note, notes, inside-same, inside-pulled}
+
+-- the sender at a place
+pub spec-at : (senders : List SenderSpec) (i s : ℕ) → slice_get (map number_of senders) i ≡ Some s → (x : SenderSpec) × (slice_get senders i ≡ Some x) × (x.number ≡ s)
+spec-at [] i s e = absurd (cc)
+spec-at (x ∷ senders) zero s e = (x, refl, cc)
+spec-at (x ∷ senders) (suc i) s e = spec-at senders i s e
+
+-- what a read of an account gives where none is
+abbrev pub no_account : Account
+no_account = record {
+  sender = 0;
+  queue = 0;
+  accepted = record { packets = 0; bytes = 0 };
+  refused = record { packets = 0; bytes = 0 };
+  evicted = record { packets = 0; bytes = 0 };
+  emitted = record { packets = 0; bytes = 0 };
+}
+
+-- its account tells its queue
+pub account-queue : (events : List Event) (senders : List SenderSpec) (accounts : List Account) (i : ℕ) (x : SenderSpec) (d : Account) → accounts ≡ map (account_after events) senders → slice_get senders i ≡ Some x → (get_or accounts i d).queue ≡ x.queue
+account-queue events senders accounts i x d are at =
+    let here : slice_get accounts i ≡ Some (account_after events x) = ap (λ l. slice_get l i) are ∙ slice_get-map (account_after events) senders i ∙ ap (option_map (account_after events)) at in
+    ap (λ (a : Account). a.queue) (get_or_from_slice_get accounts i (account_after events x) d here)
+
+-- it sends to its queue, which is there
+pub sends-own : (senders : List SenderSpec) (i : ℕ) (x : SenderSpec) → slice_get senders i ≡ Some x → sends_to senders x.number x.queue ≡ true
+sends-own [] i x e = absurd (cc)
+sends-own (y ∷ senders) zero x e =
+    let same : y ≡ x = cc in
+    subst (λ (z : SenderSpec). sends_to (y ∷ senders) z.number z.queue ≡ true) same
+    (let n : (y.number == y.number) ≡ true = grind (arith, nat_tests) in let q : (y.queue == y.queue) ≡ true = grind (arith, nat_tests) in rw (n, q) refl)
+sends-own (y ∷ senders) (suc i) x e = or_right ((y.number == x.number) && (y.queue == x.queue)) (sends_to senders x.number x.queue) (sends-own senders i x e)
+
+pub sends-within : (n : ℕ) (senders : List SenderSpec) (i : ℕ) (x : SenderSpec) → AllByRecursion (SendsWithin n) senders → slice_get senders i ≡ Some x → x.queue < n
+sends-within n [] i x h e = absurd (cc)
+sends-within n (y ∷ senders) zero x h e = let same : y ≡ x = cc in subst (λ (z : SenderSpec). z.queue < n) same h.0
+sends-within n (y ∷ senders) (suc i) x h e = sends-within n senders i x h.1 e
+
+-- numbers that rise stand at one place each
+above-at : (ns : List ℕ) (n i a : ℕ) → AllByRecursion (λ m. n < m) ns → slice_get ns i ≡ Some a → n < a
+above-at [] n i a h e = absurd (cc)
+above-at (m ∷ ns) n zero a h e = let same : m ≡ a = cc in subst (λ k. n < k) same h.0
+above-at (m ∷ ns) n (suc i) a h e = above-at ns n i a h.1 e
+
+pub one-place : (ns : List ℕ) (i k a : ℕ) → AreRising ns → slice_get ns i ≡ Some a → slice_get ns k ≡ Some a → k ≡ i
+one-place [] i k a rising e f = absurd (cc)
+one-place (n ∷ ns) zero zero a rising e f = refl
+one-place (n ∷ ns) zero (suc k) a rising e f = let same : n ≡ a = cc in let above = above-at ns n k a rising.0 f in absurd (omega (arith, same, above))
+one-place (n ∷ ns) (suc i) zero a rising e f = let same : n ≡ a = cc in let above = above-at ns n i a rising.0 e in absurd (omega (arith, same, above))
+one-place (n ∷ ns) (suc i) (suc k) a rising e f = ap suc (one-place ns i k a rising.1 e f)
+
+-- a packet of a sender of one queue is of no other
+pub other-queue : (senders : List SenderSpec) (s q k : ℕ) → AreRising (map number_of senders) → sends_to senders s q ≡ true → (k == q) ≡ false → sends_to senders s k ≡ false
+other-queue senders s q k rising own other = by_test (sends_to senders s k) refl
+  where
+    by_test : (b : Bool) → sends_to senders s k ≡ b → b ≡ false
+    by_test false e = refl
+    by_test true e = let same = one-queue senders s k q rising e own in absurd (grind (arith, nat_tests))
+
+-- the first members of lists side by side
+zip-first : {X Y : Type 0} (R : X → Y → Type 0) (x : X) (xs : List X) (ys : List Y) → AllZip R (x ∷ xs) ys → (y : Y) × (slice_get ys 0 ≡ Some y) × R x y × AllZip R xs (drop 1 ys)
+zip-first R x xs [] h = absurd h
+zip-first R x xs (y ∷ ys) h = (y, refl, h.0, h.1)
+
+module _ (old : Course) (outlets : List Outlet) (buffers : List (Buffer ℕ)) (kept : IsKept old outlets buffers) (law : QueuesGoOn old.setup) (rising : AreRising (sender_numbers old.setup)) (can : CanHappen old.setup old.events) where
+  -- the queue of the sender at a place
+  pub record ItsQueue (place s : ℕ) : Type 0 where
+    pub spec : SenderSpec
+    pub at : slice_get old.setup.senders place ≡ Some spec
+    pub number : spec.number ≡ s
+    pub room : Room
+    pub queue : slice_get old.setup.queues spec.queue ≡ Some room
+    pub own : sends_to old.setup.senders s spec.queue ≡ true
+    pub b : Buffer ℕ
+    pub tokens : slice_get buffers spec.queue ≡ Some b
+
+  pub its-queue : (place s : ℕ) → sender_at old.setup place ≡ Some s → ItsQueue place s
+  its-queue place s sender =
+      let x = spec-at old.setup.senders place s sender in
+      let within = sends-within (length old.setup.queues) old.setup.senders place x.0 kept.wired x.1 in
+      let room = member old.setup.queues x.0.queue within in
+      let b = member buffers x.0.queue (omega (arith, within, kept.queues)) in
+      record {
+        spec = x.0;
+        at = x.1;
+        number = x.2;
+        room = room.0;
+        queue = room.1;
+        own = subst (λ n. sends_to old.setup.senders n x.0.queue ≡ true) x.2 (sends-own old.setup.senders place x.0 x.1);
+        b = b.0;
+        tokens = b.1;
+      }
+
+  module _ (d m : ℕ) (visits : List Visit) (more : CanHappen old.setup (old.events ++ pulled d m visits ∷ [])) where
+    events : List Event
+    events = old.events ++ pulled d m visits ∷ []
+
+    with_buffers : (new : List (Buffer ℕ)) → length new ≡ length buffers
+        → ((q : ℕ) (room : Room) (b : Buffer ℕ) → slice_get old.setup.queues q ≡ Some room → slice_get new q ≡ Some b → AreTokens old.setup (old.events ++ pulled d m visits ∷ []) (map taken outlets) q room b)
+        → IsKept (after old (pulled d m visits ∷ [])) outlets new
+    with_buffers new same tokens = record {
+      places = kept.places;
+      few_places = kept.few_places;
+      wired = kept.wired;
+      offers = λ place o s its at.
+          (let h = kept.offers place o s its at in
+          record { lengths = h.lengths ∙ ap (map packet_length) (sym (offers-pull old.events d m visits s)); few = h.few });
+      queues = same ∙ kept.queues;
+      tokens = tokens;
+    }
+
+    -- the tokens of a queue of which nothing was emitted
+    stay : (q : ℕ) (room : Room) (b : Buffer ℕ) → slice_get old.setup.queues q ≡ Some room → slice_get buffers q ≡ Some b → emitted_from old.setup q (pulled d m visits) ≡ [] → AreTokens old.setup (old.events ++ pulled d m visits ∷ []) (map taken outlets) q room b
+    stay q room b is at none =
+        let h = kept.tokens q room b is at in
+        let same : inside_of old.setup room.device q old.events ≡ inside_of old.setup room.device q (old.events ++ pulled d m visits ∷ []) = inside-pulled old.setup law q room is old.events can d m visits more ∙ ap (λ l. l ++ inside_of old.setup room.device q (old.events ++ pulled d m visits ∷ [])) none in
+        record { tokens = subst (λ l. AllZip (IsTokenOf old.setup (map taken outlets)) l b.items) same h.tokens; capacity = h.capacity }
+
+    pub kept-none : result_of (visits_of 0 visits) ≡ None → IsKept (after old (pulled d m visits ∷ [])) outlets buffers
+    kept-none none = with_buffers buffers refl (λ q room b is at. stay q room b is at (ap (λ o. filter (is_of_queue old.setup q) (cons_option o [])) none))
+
+    pub record Popped (p : Packet) (q : ℕ) (b : Buffer ℕ) : Type 0 where
+      pub token : ℕ
+      pub first : slice_get b.items 0 ≡ Some token
+      pub its : IsTokenOf old.setup (map taken outlets) p token
+      pub goes_on : (new : Buffer ℕ) → new ≡ buffer (drop 1 b.items) b.capacity → IsKept (after old (pulled d m visits ∷ [])) outlets (set buffers q new)
+
+    pub kept-some : (p : Packet) (place : ℕ) (i : ItsQueue place p.sender) → result_of (visits_of 0 visits) ≡ Some p → Popped p i.spec.queue i.b
+    kept-some p place i got =
+        let q = i.spec.queue in
+        let h = kept.tokens q i.room i.b i.queue i.tokens in
+        let emits : emitted_from old.setup q (pulled d m visits) ≡ p ∷ [] = ap (λ o. filter (is_of_queue old.setup q) (cons_option o [])) got ∙ ap (λ t. if t then p ∷ [] else []) i.own in
+        let first : inside_of old.setup i.room.device q old.events ≡ p ∷ inside_of old.setup i.room.device q (old.events ++ pulled d m visits ∷ []) =
+        inside-pulled old.setup law q i.room i.queue old.events can d m visits more ∙ ap (λ l. l ++ inside_of old.setup i.room.device q (old.events ++ pulled d m visits ∷ [])) emits
+        in
+        let z = zip-first (IsTokenOf old.setup (map taken outlets)) p (inside_of old.setup i.room.device q (old.events ++ pulled d m visits ∷ [])) i.b.items (subst (λ l. AllZip (IsTokenOf old.setup (map taken outlets)) l i.b.items) first h.tokens) in
+        record {
+          token = z.0;
+          first = z.1;
+          its = z.2;
+          goes_on = λ new is. with_buffers (set buffers q new) (length-set buffers q new) (λ k room b at here. by_queue new is z.3 k room b at (set-cases buffers q k new b here));
+        }
+      where
+        by_queue : (new : Buffer ℕ) → new ≡ buffer (drop 1 i.b.items) i.b.capacity → AllZip (IsTokenOf old.setup (map taken outlets)) (inside_of old.setup i.room.device i.spec.queue (old.events ++ pulled d m visits ∷ [])) (drop 1 i.b.items)
+            → (k : ℕ) (room : Room) (b : Buffer ℕ) → slice_get old.setup.queues k ≡ Some room → ((k ≡ i.spec.queue) × (new ≡ b)) ⊎ (((k == i.spec.queue) ≡ false) × (slice_get buffers k ≡ Some b))
+            → AreTokens old.setup (old.events ++ pulled d m visits ∷ []) (map taken outlets) k room b
+        by_queue new is rest k room b at (inl (same, new_is)) =
+            let one : Some i.room ≡ Some room = sym i.queue ∙ ap (slice_get old.setup.queues) (sym same) ∙ at in
+            let its : i.room ≡ room = cc one in
+            subst (λ n. AreTokens old.setup (old.events ++ pulled d m visits ∷ []) (map taken outlets) n room b) (sym same)
+            (subst (λ (r : Room). AreTokens old.setup (old.events ++ pulled d m visits ∷ []) (map taken outlets) i.spec.queue r b) its
+            (subst (AreTokens old.setup (old.events ++ pulled d m visits ∷ []) (map taken outlets) i.spec.queue i.room) (sym is ∙ new_is)
+            (record { tokens = rest; capacity = (kept.tokens i.spec.queue i.room i.b i.queue i.tokens).capacity })))
+        by_queue new is rest k room b at (inr (other, here)) =
+            let none : sends_to old.setup.senders p.sender k ≡ false = other-queue old.setup.senders p.sender i.spec.queue k rising i.own other in
+            stay k room b at here (ap (λ o. filter (is_of_queue old.setup k) (cons_option o [])) got ∙ ap (λ t. if t then p ∷ [] else []) none)
+
+  module _ (place : ℕ) (o taker : Outlet) (its : slice_get outlets place ≡ Some o) (x : Item) (grows : taken taker ≡ taken o ++ x ∷ []) (few : length (taken o) < most_packets) (p : Packet) (outcome : Offered) (sender : sender_at old.setup place ≡ Some p.sender)
+      (bytes : p.length ≡ x.length) (more : CanHappen old.setup (old.events ++ offered p outcome ∷ [])) where
+    pub number : p.number ≡ length (taken o)
+    number = number-is old.setup old.events p outcome more ∙ taken-many old outlets buffers kept can place p.sender o its sender
+
+    pub is-item : x ≡ packet_item p.length x.token
+    is-item = λ k. record { token = x.token; length = sym bytes k }
+
+    pub its-token : IsTokenOf old.setup (map taken (set outlets place taker)) p x.token
+    its-token = token-comes old.setup outlets place o taker its p x.token sender (grows ∙ ap (λ (y : Item). taken o ++ y ∷ []) is-item) number
+
+    stays : (r : Packet) (token : ℕ) → IsTokenOf old.setup (map taken outlets) r token → IsTokenOf old.setup (map taken (set outlets place taker)) r token
+    stays = token-stays old.setup outlets place o taker its (x ∷ []) grows
+
+    offers-more : (k : ℕ) (u : Outlet) (s : ℕ) → slice_get (set outlets place taker) k ≡ Some u → sender_at old.setup k ≡ Some s → AreOffered (old.events ++ offered p outcome ∷ []) s u
+    offers-more k u s here at = by_place (set-cases outlets place k taker u here)
+      where
+        by_place : ((k ≡ place) × (taker ≡ u)) ⊎ (((k == place) ≡ false) × (slice_get outlets k ≡ Some u)) → AreOffered (old.events ++ offered p outcome ∷ []) s u
+        by_place (inl (same, is)) =
+            let numbers : Some p.sender ≡ Some s = sym sender ∙ ap (sender_at old.setup) (sym same) ∙ at in
+            let named : p.sender ≡ s = cc numbers in
+            let own : (p.sender == s) ≡ true = grind (arith, nat_tests, named) in
+            let h = kept.offers place o s its (ap (sender_at old.setup) (sym same) ∙ at) in
+            let longer = length-append (taken o) (x ∷ []) in
+            let many = ap length grows in
+            subst (AreOffered (old.events ++ offered p outcome ∷ []) s) is
+            (record {
+              lengths = ap (map item_length) grows ∙ map-append item_length (taken o) (x ∷ []) ∙ ap (λ l. l ++ x.length ∷ []) h.lengths ∙ ap (λ n. map packet_length (offered_of old.events s) ++ n ∷ []) (sym bytes)
+                  ∙ sym (map-append packet_length (offered_of old.events s) (p ∷ [])) ∙ ap (map packet_length) (sym (offers-one old.events p outcome s own));
+              few = omega (arith, longer, many, few);
+            })
+        by_place (inr (other, there)) =
+            let h = kept.offers k u s there at in
+            let not_its : (p.sender == s) ≡ false = not-its (p.sender == s) refl in
+            record { lengths = h.lengths ∙ ap (map packet_length) (sym (offers-other old.events p outcome s not_its)); few = h.few }
+          where
+            not-its : (b : Bool) → (p.sender == s) ≡ b → b ≡ false
+            not-its false e = refl
+            not-its true e =
+                let named : p.sender ≡ s = eqb-true p.sender s e in
+                let same = one-place (sender_numbers old.setup) place k s rising (sender ∙ ap Some named) at in
+                absurd (grind (arith, nat_tests))
+
+    module _ (i : ItsQueue place p.sender) where
+      q : ℕ
+      q = i.spec.queue
+
+      was : AreTokens old.setup old.events (map taken outlets) i.spec.queue i.room i.b
+      was = kept.tokens i.spec.queue i.room i.b i.queue i.tokens
+
+      tokens : AllZip (IsTokenOf old.setup (map taken (set outlets place taker))) (inside_of old.setup i.room.device i.spec.queue old.events) i.b.items
+      tokens = zip-widened (IsTokenOf old.setup (map taken outlets)) (IsTokenOf old.setup (map taken (set outlets place taker))) stays (inside_of old.setup i.room.device i.spec.queue old.events) i.b.items was.tokens
+
+      -- there is room for the token
+      pub room-for : CanNote i.b i.room.capacity outcome
+      room-for = can-note old.setup law i.spec.queue i.room i.queue (IsTokenOf old.setup (map taken (set outlets place taker))) old.events can p i.own i.b tokens was.capacity outcome more
+
+      module _ (noted : Outcome) (new : Buffer ℕ) (is : IsNoted i.b i.room.capacity x.token outcome noted new) where
+        after-offer : Notes (IsTokenOf old.setup (map taken (set outlets place taker))) (inside_of old.setup i.room.device i.spec.queue (old.events ++ offered p outcome ∷ [])) i.b.capacity noted new
+        after-offer = notes old.setup law i.spec.queue i.room i.queue (IsTokenOf old.setup (map taken (set outlets place taker))) old.events can p i.own i.b tokens was.capacity x.token its-token outcome noted new more is
+
+        pub evicted-has : EvictedHas (IsTokenOf old.setup (map taken (set outlets place taker))) noted
+        evicted-has = after-offer.evicted
+
+        by_queue : (k : ℕ) (room : Room) (b : Buffer ℕ) → slice_get old.setup.queues k ≡ Some room → ((k ≡ i.spec.queue) × (new ≡ b)) ⊎ (((k == i.spec.queue) ≡ false) × (slice_get buffers k ≡ Some b))
+            → AreTokens old.setup (old.events ++ offered p outcome ∷ []) (map taken (set outlets place taker)) k room b
+        by_queue k room b at (inl (same, new_is)) =
+            let one : Some i.room ≡ Some room = sym i.queue ∙ ap (slice_get old.setup.queues) (sym same) ∙ at in
+            let its_room : i.room ≡ room = cc one in
+            subst (λ n. AreTokens old.setup (old.events ++ offered p outcome ∷ []) (map taken (set outlets place taker)) n room b) (sym same)
+            (subst (λ (r : Room). AreTokens old.setup (old.events ++ offered p outcome ∷ []) (map taken (set outlets place taker)) i.spec.queue r b) its_room
+            (subst (AreTokens old.setup (old.events ++ offered p outcome ∷ []) (map taken (set outlets place taker)) i.spec.queue i.room) new_is
+            (record { tokens = after-offer.tokens; capacity = after-offer.same ∙ was.capacity })))
+        by_queue k room b at (inr (other, here)) =
+            let h = kept.tokens k room b at here in
+            let none : sends_to old.setup.senders p.sender k ≡ false = other-queue old.setup.senders p.sender i.spec.queue k rising i.own other in
+            let same = inside-same old.setup law k room at old.events can p outcome none in
+            record {
+              tokens = subst (λ l. AllZip (IsTokenOf old.setup (map taken (set outlets place taker))) l b.items) (sym same) (zip-widened (IsTokenOf old.setup (map taken outlets)) (IsTokenOf old.setup (map taken (set outlets place taker))) stays (inside_of old.setup room.device k old.events) b.items h.tokens);
+              capacity = h.capacity;
+            }
+
+        pub kept-offered : IsKept (after old (offered p outcome ∷ [])) (set outlets place taker) (set buffers i.spec.queue new)
+        kept-offered = record {
+          places = length-set outlets place taker ∙ kept.places;
+          few_places = (let same = length-set outlets place taker in omega (arith, same, kept.few_places));
+          wired = kept.wired;
+          offers = offers-more;
+          queues = length-set buffers i.spec.queue new ∙ kept.queues;
+          tokens = λ k room b at here. by_queue k room b at (set-cases buffers i.spec.queue k new b here);
+        }
+
+-- a number that stands in a list stands at a place
+pub stands-at : (ns : List ℕ) (s : ℕ) → list_any (λ n. n == s) ns ≡ true → (i : ℕ) × (slice_get ns i ≡ Some s)
+stands-at [] s e = absurd (false≢true e)
+stands-at (n ∷ ns) s e = by_test (n == s) refl e (stands-at ns s)
+  where
+    by_test : (b : Bool) → (n == s) ≡ b → (b || list_any (λ k. k == s) ns) ≡ true → (list_any (λ k. k == s) ns ≡ true → (i : ℕ) × (slice_get ns i ≡ Some s)) → (i : ℕ) × (slice_get (n ∷ ns) i ≡ Some s)
+    by_test true f e rest = (0, ap Some (eqb-true n s f))
+    by_test false f e rest = let at = rest e in (suc at.0, at.1)
+
+-- a search that misses nothing finds what is there
+found : (setup : Setup) (s : ℕ) (o : Option ℕ) → (o ≡ None → (place : ℕ) → sender_at setup place ≡ Some s → ⊥) → (i : ℕ) × (sender_at setup i ≡ Some s) → IsSome o
+found setup s None missing at = absurd (missing refl at.0 at.1)
+found setup s (Some place) missing at = search
+
+-- what a read at a place gave is what stands there
+pub read-is : (buffers : List (Buffer ℕ)) (n q : ℕ) (b read : Buffer ℕ) → n ≡ q → slice_get buffers q ≡ Some b → read ≡ get_or buffers n read → read ≡ b
+read-is buffers n q b read same at is = is ∙ ap (λ k. get_or buffers k read) same ∙ get_or_from_slice_get buffers q b read at
+
+module _ (old : Course) (outlets : List Outlet) (buffers : List (Buffer ℕ)) (kept : IsKept old outlets buffers) (law : QueuesGoOn old.setup) (rising : AreRising (sender_numbers old.setup)) (can : CanHappen old.setup old.events)
+    (new : Course) (d m : ℕ) (got : Option Packet) (pull : IsPulled old new d m got) (can_new : CanHappen new.setup new.events) where
+  goes : CanHappen old.setup (old.events ++ pulled d m pull.visits ∷ [])
+  goes = subst (λ (c : Course). CanHappen c.setup c.events) pull.goes_on can_new
+
+  pub pulled-none : got ≡ None → IsKept new outlets buffers
+  pulled-none none = subst (λ (c : Course). IsKept c outlets buffers) (sym pull.goes_on) (kept-none old outlets buffers kept law rising can d m pull.visits goes (pull.result ∙ none))
+
+  module _ (p : Packet) (gave : got ≡ Some p) where
+    known : (i : ℕ) × (sender_at new.setup i ≡ Some p.sender)
+    known =
+        subst (λ (c : Course). (i : ℕ) × (sender_at c.setup i ≡ Some p.sender)) (sym pull.goes_on)
+        (stands-at (sender_numbers old.setup) p.sender
+        (subst (λ o. MatchOption o ⊤ (λ (r : Packet). list_any (λ n. n == r.sender) (sender_numbers old.setup) ≡ true)) (pull.result ∙ gave) (law.of_senders old.events d m pull.visits goes)))
+
+    -- the sender of the packet is found
+    pub sender-found : (o : Option ℕ) → (o ≡ None → (place : ℕ) → sender_at new.setup place ≡ Some p.sender → ⊥) → IsSome o
+    sender-found o missing = found new.setup p.sender o missing known
+
+    module _ (place : ℕ) (at : sender_at new.setup place ≡ Some p.sender) (accounts : List Account) (are : accounts ≡ map (account_after new.events) new.setup.senders) where
+      queue : ItsQueue old outlets buffers kept law rising can place p.sender
+      queue = its-queue old outlets buffers kept law rising can place p.sender (subst (λ (c : Course). sender_at c.setup place ≡ Some p.sender) pull.goes_on at)
+
+      same_accounts : accounts ≡ map (account_after new.events) old.setup.senders
+      same_accounts = are ∙ ap (λ (c : Course). map (account_after new.events) c.setup.senders) pull.goes_on
+
+      pub account-there : place < length accounts
+      account-there =
+          let within = slice_get_within old.setup.senders place queue.spec queue.at in
+          let many = ap length same_accounts ∙ length-map old.setup.senders (account_after new.events) in
+          omega (arith, within, many)
+
+      module _ (n : ℕ) (default : Account) (told : n ≡ (get_or accounts place default).queue) where
+        queue-is : n ≡ queue.spec.queue
+        queue-is = told ∙ account-queue new.events old.setup.senders accounts place queue.spec default same_accounts queue.at
+
+        pub tokens-there : n < length buffers
+        tokens-there = let within = slice_get_within buffers queue.spec.queue queue.b queue.tokens in omega (arith, within, queue-is)
+
+        module _ (read : Buffer ℕ) (is : read ≡ get_or buffers n read) where
+          own : read ≡ queue.b
+          own = read-is buffers n queue.spec.queue queue.b read queue-is queue.tokens is
+
+          popped : Popped old outlets buffers kept law rising can d m pull.visits goes p queue.spec.queue queue.b
+          popped = kept-some old outlets buffers kept law rising can d m pull.visits goes p place queue (pull.result ∙ gave)
+
+          first : slice_get read.items 0 ≡ Some popped.token
+          first = ap (λ (b : Buffer ℕ). slice_get b.items 0) own ∙ popped.first
+
+          pub token-there : (o : Option ℕ) → o ≡ slice_get read.items 0 → IsSome o
+          token-there o e = subst IsSome (sym (e ∙ first)) search
+
+          pub token-is : (o : Option ℕ) (token : ℕ) → o ≡ slice_get read.items 0 → o ≡ Some token → IsTokenOf old.setup (map taken outlets) p token
+          token-is o token e some = let same : Some popped.token ≡ Some token = sym first ∙ sym e ∙ some in let one : popped.token ≡ token = cc same in subst (IsTokenOf old.setup (map taken outlets) p) one popped.its
+
+          pub pulled-some : (left : Buffer ℕ) → left ≡ buffer (drop 1 read.items) read.capacity → IsKept new outlets (set buffers n left)
+          pulled-some left e =
+              subst (λ k. IsKept new outlets (set buffers k left)) (sym queue-is)
+              (subst (λ (c : Course). IsKept c outlets (set buffers queue.spec.queue left)) (sym pull.goes_on)
+              (popped.goes_on left (e ∙ ap (λ (b : Buffer ℕ). buffer (drop 1 b.items) b.capacity) own)))
+
+module _ (old : Course) (outlets : List Outlet) (buffers : List (Buffer ℕ)) (kept : IsKept old outlets buffers) (place : ℕ) (o taker : Outlet) (its : slice_get outlets place ≡ Some o) where
+  -- the outlet took no packet
+  pub kept-untaken : taken taker ≡ taken o → IsKept old (set outlets place taker) buffers
+  kept-untaken same = record {
+    places = length-set outlets place taker ∙ kept.places;
+    few_places = (let many = length-set outlets place taker in omega (arith, many, kept.few_places));
+    wired = kept.wired;
+    offers = λ k u s here at. by_place k u s at (set-cases outlets place k taker u here);
+    queues = kept.queues;
+    tokens = λ q room b is at.
+        (let h = kept.tokens q room b is at in
+        record {
+          tokens = zip-widened (IsTokenOf old.setup (map taken outlets)) (IsTokenOf old.setup (map taken (set outlets place taker))) (token-stays old.setup outlets place o taker its [] (same ∙ sym (append-nil (taken o)))) (inside_of old.setup room.device q old.events) b.items h.tokens;
+          capacity = h.capacity;
+        });
+  }
+    where
+      by_place : (k : ℕ) (u : Outlet) (s : ℕ) → sender_at old.setup k ≡ Some s → ((k ≡ place) × (taker ≡ u)) ⊎ (((k == place) ≡ false) × (slice_get outlets k ≡ Some u)) → AreOffered old.events s u
+      by_place k u s at (inl (there, is)) =
+          let h = kept.offers place o s its (ap (sender_at old.setup) (sym there) ∙ at) in
+          subst (AreOffered old.events s) is (record { lengths = ap (map item_length) same ∙ h.lengths; few = (let many = ap length same in omega (arith, many, h.few)) })
+      by_place k u s at (inr (other, there)) = kept.offers k u s there at
+
+  pub none-changes : taken taker ≡ taken o → map taken (set outlets place taker) ≡ map taken outlets
+  none-changes same = map-set taken outlets place taker ∙ ap (set (map taken outlets) place) (same ∙ sym (get_or-map taken outlets place o its)) ∙ set-get_or (map taken outlets) place (taken o)
+    where
+      get_or-map : (f : Outlet → List Item) (xs : List Outlet) (i : ℕ) (x : Outlet) → slice_get xs i ≡ Some x → get_or (map f xs) i (f x) ≡ f x
+      get_or-map f xs i x e = get_or_from_slice_get (map f xs) i (f x) (f x) (slice_get-map f xs i ∙ ap (option_map f) e)

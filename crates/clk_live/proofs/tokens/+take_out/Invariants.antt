@@ -1,0 +1,4 @@
+use Rattle.clk_live.proofs.tokens.+take_out.Given as goal
+
+abbrev pub decreases-take_out : goal.decreases-take_out
+decreases-take_out l = l.place

@@ -1,0 +1,5 @@
+-- What is seen of a live router, and what its calls come to.
+pub mod State
+pub mod Taking
+pub mod Pulling
+pub mod inside

@@ -1,0 +1,61 @@
+-- What takes packets from inlets.
+use Rattle.std.specs.Prelude.{◌≡◌, ℕ, ◌≤◌, false, List, [], ◌∷◌, ◌++◌, length, slice_set as set, take, drop, ⊤, Some, slice_get}
+use Rattle.std.specs.List.{AllByRecursion}
+use Rattle.clk_packet.specs.declared.packet.Packet.{Packet}
+use Rattle.clk_packet.specs.declared.packet.Offered.{Offered}
+use Rattle.clk_packet.specs.declared.packet.Offered.TheVariants as offer
+use Rattle.clk_inlet.specs.Halves.{popped, seen as waiting}
+use Rattle.clk_inlet.specs.Items.{packet_item, has_end}
+use Rattle.clk_inlet.specs.declared.item.Item.{Item}
+use Rattle.clk_inlet.specs.declared.outlet.Outlet.{Outlet}
+use Rattle.clk_router.specs.Chains.{IsChain}
+use Rattle.clk_router.specs.Course.{after, sender_at}
+use Rattle.clk_router.specs.Events.{Setup, offered}
+use Rattle.clk_live.specs.declared.taking.Outcome.{Outcome}
+use Rattle.clk_live.specs.declared.taking.Outcome.TheVariants.{Accepted, Refused, Evicted}
+use Rattle.clk_live.specs.declared.taking.Taken.{Taken}
+use Rattle.clk_live.specs.State.{Seen, IsTokenOf}
+
+-- the outcome of the packet's offer, without tokens
+abbrev pub offer_outcome : Packet → Outcome → Offered
+offer_outcome p Accepted = offer.Accepted
+offer_outcome p Refused = offer.Refused p
+offer_outcome p (Evicted front token) = offer.Evicted front
+
+-- if another packet was evicted, the token came with it
+abbrev pub HasToken : Seen → Outcome → Type 0
+HasToken s (Evicted front token) = IsTokenOf s.course.setup s.items front token
+HasToken s outcome = ⊤
+
+-- The next packet of the sender at a place was taken and offered to its queue.
+pub record IsTaken (place : ℕ) (old : Seen) (t : Taken) (new : Seen) : Type 0 where
+  pub before : List Item
+  pub was : slice_get old.items place ≡ Some before
+  pub items : new.items ≡ set old.items place (before ++ packet_item t.packet.length t.token ∷ [])
+  pub sender : sender_at old.course.setup place ≡ Some t.packet.sender
+  pub number : t.packet.number ≡ length before
+  pub goes_on : new.course ≡ after old.course (offered t.packet (offer_outcome t.packet t.outcome) ∷ [])
+  pub evicted : HasToken new t.outcome
+
+-- the next packet of some sender was taken
+abbrev pub TakesOne : Seen → Taken → Seen → Type 0
+TakesOne old t new = (place : ℕ) × IsTaken place old t new
+
+-- So many packets were taken, of any senders, and filled in. The others' places are as they were.
+pub record AreTaken (old new : Seen) (before filled : List Taken) (count : ℕ) : Type 0 where
+  pub within : count ≤ length before
+  pub many : length filled ≡ length before
+  pub took : IsChain TakesOne old (take count filled) new
+  pub others : drop count filled ≡ drop count before
+
+-- A sender's outlet gave no packet: unless it has ended, no packet was seen in its ring.
+abbrev pub HasNone : List Outlet → List Outlet → ℕ → Type 0
+HasNone old new place = (o n : Outlet) → slice_get old place ≡ Some o → slice_get new place ≡ Some n → has_end (popped n) ≡ false → waiting o ≡ []
+
+-- these packets are of the sender at a place
+abbrev pub AreOf : Setup → ℕ → List Taken → Type 0
+AreOf setup place taken = AllByRecursion (λ (t : Taken). sender_at setup place ≡ Some t.packet.sender) taken
+
+-- each of these packets was accepted, and no other was evicted for it
+abbrev pub AllAccepted : List Taken → Type 0
+AllAccepted taken = AllByRecursion (λ (t : Taken). t.outcome ≡ Accepted) taken

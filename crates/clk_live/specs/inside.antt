@@ -1,0 +1,4 @@
+-- What the parts of a live router say to each other.
+pub mod Kept
+pub mod Noted
+pub mod Room

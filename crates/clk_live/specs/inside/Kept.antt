@@ -1,0 +1,51 @@
+-- What the parts of a live router have to do with each other, at any time.
+use Rattle.std.specs.Prelude.{◌≡◌, ℕ, ◌+◌, ◌<◌, ◌≤◌, ◌^◌, List, length, map, Option, Some, None, slice_get}
+use Rattle.std.specs.List.{AllByRecursion, AllZip}
+use Rattle.circular_buffer.specs.Buffer.{Buffer}
+use Rattle.clk_packet.specs.declared.packet.Packet.{Packet}
+use Rattle.clk_inlet.specs.Halves.{taken}
+use Rattle.clk_inlet.specs.Limits.{most_packets}
+use Rattle.clk_inlet.specs.declared.item.Item.{Item}
+use Rattle.clk_inlet.specs.declared.outlet.Outlet.{Outlet}
+use Rattle.clk_sched.specs.FewHeads.{drrs_above}
+use Rattle.clk_sched.specs.Tree.{Tree, root}
+use Rattle.clk_tree.specs.PlanParts.{SendsWithin}
+use Rattle.clk_router.specs.Course.{Course, sender_at}
+use Rattle.clk_router.specs.Events.{Room, Setup, Event}
+use Rattle.clk_router.specs.InsideQueues.{inside_of}
+use Rattle.clk_router.specs.Settled.{offered_of}
+use Rattle.clk_live.specs.State.{IsTokenOf}
+
+abbrev pub item_length : Item → ℕ
+item_length x = x.length
+
+abbrev pub packet_length : Packet → ℕ
+packet_length p = p.length
+
+-- What was taken from a sender's inlet is what the sender offered, and no more than an inlet takes in all.
+pub record AreOffered (events : List Event) (s : ℕ) (o : Outlet) : Type 0 where
+  pub lengths : map item_length (taken o) ≡ map packet_length (offered_of events s)
+  pub few : length (taken o) ≤ most_packets
+
+-- how many DRRScheds stand above a queue in the tree of its device
+abbrev pub drrs_in : Option Tree → ℕ → ℕ
+drrs_in None q = 0
+drrs_in (Some tree) q = drrs_above q (root tree)
+
+-- how many packets of a queue can be inside
+abbrev pub most_inside : Setup → ℕ → Room → ℕ
+most_inside setup q room = room.capacity + drrs_in (slice_get setup.trees room.device) q
+
+-- The tokens of a queue are those of the packets inside it, and there is room for those of as many as can be inside.
+pub record AreTokens (setup : Setup) (events : List Event) (items : List (List Item)) (q : ℕ) (room : Room) (b : Buffer ℕ) : Type 0 where
+  pub tokens : AllZip (IsTokenOf setup items) (inside_of setup room.device q events) b.items
+  pub capacity : b.capacity ≡ most_inside setup q room
+
+-- The outlets and tokens of a live router stand as its course says.
+pub record IsKept (c : Course) (outlets : List Outlet) (buffers : List (Buffer ℕ)) : Type 0 where
+  pub places : length outlets ≡ length c.setup.senders
+  pub few_places : length outlets ≤ 2 ^ 16
+  pub wired : AllByRecursion (SendsWithin (length c.setup.queues)) c.setup.senders
+  pub offers : (place : ℕ) (o : Outlet) (s : ℕ) → slice_get outlets place ≡ Some o → sender_at c.setup place ≡ Some s → AreOffered c.events s o
+  pub queues : length buffers ≡ length c.setup.queues
+  pub tokens : (q : ℕ) (room : Room) (b : Buffer ℕ) → slice_get c.setup.queues q ≡ Some room → slice_get buffers q ≡ Some b → AreTokens c.setup c.events (map taken outlets) q room b

@@ -1,0 +1,11 @@
+//! A router whose senders offer from threads of their own, through inlets.
+#![tactic(auto)]
+
+mod live;
+mod pulling;
+mod taking;
+mod tokens;
+
+pub use live::Live;
+pub use pulling::Emitted;
+pub use taking::{Outcome, Taken};

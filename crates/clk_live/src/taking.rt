@@ -1,0 +1,157 @@
+//! Taking packets from inlets.
+
+ghost use Rattle.clk_live.specs.inside.Room.{HasRoomFor};
+
+use crate::live::Live;
+use crate::tokens::note_offer;
+use clk_packet::Packet;
+
+/// What became of a packet that was taken from its inlet and offered to its queue.
+#[derive(Clone, Copy, Debug, PartialEq, Eq)]
+pub enum Outcome {
+    /// The queue accepted it.
+    Accepted,
+    /// The queue was full and refused it.
+    Refused,
+    /// The queue was full. It accepted the packet, and evicted the one at its front.
+    Evicted {
+        /// The evicted packet.
+        packet: Packet,
+        /// The token that came with the evicted packet.
+        token: u64,
+    },
+}
+
+/// A packet that was taken from its inlet and offered to its queue.
+#[derive(Clone, Copy, Debug, PartialEq, Eq)]
+pub struct Taken {
+    /// The packet.
+    pub packet: Packet,
+    /// The token that came with it.
+    pub token: u64,
+    /// What became of it.
+    pub outcome: Outcome,
+}
+
+impl Live {
+    ghost use Rattle.std.specs.Prelude.{◌≡◌, ◌<◌, ◌≤◌, ℕ, List, true, false, None, length, take, drop, slice_get, IfSome};
+    ghost use Rattle.clk_router.specs.Course.{sender_at};
+    ghost use Rattle.clk_live.specs.State.{Seen, seen, AllGoOn};
+    ghost use Rattle.clk_live.specs.Taking.{IsTaken, AreTaken, AreOf, AllAccepted, HasNone};
+
+    /// Takes the next packet from the inlet of the sender at this place, and offers it to the sender's queue. Returns `None` if no packet
+    /// waits there.
+    pub fn take(&mut self, place: usize) -> Option<Taken>
+        requires there { place < length self.old.outlets }
+        ensures taken { IfSome result (λ t. IsTaken place (seen self.old) t (seen self.new)) }
+        ensures none { result ≡ None → seen self.new ≡ seen self.old }
+        ensures none_waits { result ≡ None → HasNone self.old.outlets self.new.outlets place }
+        ensures outlets { AllGoOn self.old.outlets self.new.outlets }
+        ensures turn { self.new.turn ≡ self.old.turn }
+    {
+        let item = self.outlets[place].take()?;
+        // What is inside each queue changes by these laws, which do nothing.
+        self.router.queues_go_on();
+        self.router.has_happened();
+        let _ = self.router.senders();
+        let (packet, outcome) = self.router.offer(place, item.length);
+        self.router.has_happened();
+        let queue = self.router.accounts()[place].queue;
+        let capacity = self.router.queue(queue).capacity;
+        let tokens = &mut self.tokens[usize::from(queue)];
+        let outcome = note_offer(tokens, capacity, item.token, outcome);
+        Some(Taken {
+            packet,
+            token: item.token,
+            outcome,
+        })
+    }
+
+    // Whether the queue of the sender at this place is full.
+    fn is_full(&self, place: usize) -> bool
+        requires there { place < length self.now.outlets }
+        ensures { result ≡ false → HasRoomFor self.now.course place }
+    {
+        let queue = self.router.accounts()[place].queue;
+        let state = self.router.queue(queue);
+        state.held == state.capacity
+    }
+
+    // Takes the next packet of the sender at a place. If only packets that fit are wanted and the queue is full, it takes none.
+    fn take_one(&mut self, place: usize, only_fitting: bool) -> Option<Taken>
+        requires there { place < length self.old.outlets }
+        ensures taken { IfSome result (λ t. IsTaken place (seen self.old) t (seen self.new)) }
+        ensures none { result ≡ None → seen self.new ≡ seen self.old }
+        ensures accepted { only_fitting ≡ true → IfSome result (λ t. t.outcome ≡ Outcome.Accepted) }
+        ensures outlets { AllGoOn self.old.outlets self.new.outlets }
+        ensures turn { self.new.turn ≡ self.old.turn }
+    {
+        if !only_fitting {
+            return self.take(place);
+        }
+        if self.is_full(place) {
+            return None;
+        }
+        self.take_fitting(place)
+    }
+
+    // Takes the next packet of the sender at a place, whose queue is not full.
+    fn take_fitting(&mut self, place: usize) -> Option<Taken>
+        requires there { place < length self.old.outlets }
+        requires room { HasRoomFor self.old.course place }
+        ensures taken { IfSome result (λ t. IsTaken place (seen self.old) t (seen self.new)) }
+        ensures none { result ≡ None → seen self.new ≡ seen self.old }
+        ensures accepted { IfSome result (λ t. t.outcome ≡ Outcome.Accepted) }
+        ensures outlets { AllGoOn self.old.outlets self.new.outlets }
+        ensures turn { self.new.turn ≡ self.old.turn }
+    {
+        // Only a full queue refuses or evicts, by these laws, which do nothing.
+        self.router.queues_go_on();
+        self.router.has_happened();
+        let taken = self.take(place);
+        self.router.has_happened();
+        taken
+    }
+
+    // Takes packets of the sender at a place into `taken`, from its place `from` on, up to `most`.
+    fn fill(
+        &mut self,
+        place: usize,
+        only_fitting: bool,
+        taken: &mut [Taken],
+        from: usize,
+        most: usize,
+    ) -> usize
+        requires there { place < length self.old.outlets }
+        requires within { (from ≤ most) × (most ≤ length taken.old) }
+        ensures count { (from ≤ result) × (result ≤ most) }
+        ensures taken { (old : Seen) (before : List Taken) → AreTaken old (seen self.old) before taken.old from → AreTaken old (seen self.new) before taken.new result }
+        ensures of_sender { AreOf self.old.course.setup place (drop from (take result taken.new)) }
+        ensures accepted { only_fitting ≡ true → AllAccepted (take from taken.old) → AllAccepted (take result taken.new) }
+        ensures outlets { AllGoOn self.old.outlets self.new.outlets }
+        ensures unchanged { (self.new.turn ≡ self.old.turn) × (self.new.course.setup ≡ self.old.course.setup) }
+    {
+        let mut count = from;
+        while count < most {
+            let Some(one) = self.take_one(place, only_fitting) else {
+                return count;
+            };
+            taken[count] = one;
+            count += 1;
+        }
+        count
+    }
+
+    /// Takes packets from the inlet of the sender at this place into the start of `taken`, as many as wait there and fit. Offers each to the
+    /// sender's queue, in order. Returns how many.
+    pub fn take_many(&mut self, place: usize, taken: &mut [Taken]) -> usize
+        requires there { place < length self.old.outlets }
+        ensures taken { AreTaken (seen self.old) (seen self.new) taken.old taken.new result }
+        ensures of_sender { AreOf self.old.course.setup place (take result taken.new) }
+        ensures outlets { AllGoOn self.old.outlets self.new.outlets }
+        ensures turn { self.new.turn ≡ self.old.turn }
+    {
+        let most = taken.len();
+        self.fill(place, false, taken, 0, most)
+    }
+}

@@ -1,0 +1,54 @@
+//! The tokens of the packets inside a queue.
+
+ghost use Rattle.std.specs.Prelude.{◌≡◌, ◌+◌, ◌<◌, ◌≤◌, ◌++◌, length, take, drop, Some, slice_get};
+ghost use Rattle.circular_buffer.specs.Buffer.{buffer};
+ghost use Rattle.clk_live.specs.inside.Noted.{CanNote, IsNoted};
+
+use crate::taking::Outcome;
+use circular_buffer::HeapCircularBuffer;
+use clk_packet::Offered;
+
+// Notes that a packet with this token was offered to a queue, which holds `capacity` packets at most, with this outcome.
+pub(crate) fn note_offer(
+    tokens: &mut HeapCircularBuffer<u64>,
+    capacity: usize,
+    token: u64,
+    outcome: Offered,
+) -> Outcome
+    requires { CanNote tokens.old capacity outcome }
+    ensures { IsNoted tokens.old capacity token outcome result tokens.new }
+{
+    match outcome {
+        Offered::Accepted => {
+            tokens.push_back(token);
+            Outcome::Accepted
+        }
+        Offered::Refused(_) => Outcome::Refused,
+        Offered::Evicted(packet) => {
+            // The evicted packet stands behind the heads, which are as many as are inside beyond the full queue.
+            let heads = tokens.len() - capacity;
+            let evicted = take_out(tokens, heads);
+            tokens.push_back(token);
+            Outcome::Evicted {
+                packet,
+                token: evicted,
+            }
+        }
+    }
+}
+
+// Takes out the token at a place.
+fn take_out(tokens: &mut HeapCircularBuffer<u64>, place: usize) -> u64
+    requires there { place < length tokens.old.items }
+    requires fits { length tokens.old.items ≤ tokens.old.capacity }
+    ensures token { slice_get tokens.old.items place ≡ Some result }
+    ensures others { tokens.new ≡ buffer (take place tokens.old.items ++ drop (place + 1) tokens.old.items) tokens.old.capacity }
+{
+    let first = tokens.pop_front().unwrap();
+    if place == 0 {
+        return first;
+    }
+    let token = take_out(tokens, place - 1);
+    tokens.push_front(first);
+    token
+}
