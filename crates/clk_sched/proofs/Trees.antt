@@ -4,6 +4,7 @@ pub mod TreeLemmas
 pub mod LaidOut
 pub mod Added
 pub mod Distinct
+pub mod Drrs
 pub mod Numbering
 pub mod Below
 pub mod QueuesAsked

@@ -1,4 +1,5 @@
 -- What the code's own parts say to one another: no contract of a public call stands on it.
+pub mod Drrs
 pub mod Falls
 pub mod Held
 pub mod Holds

@@ -2,6 +2,7 @@
 
 mod bound;
 mod distinct;
+mod drrs;
 
 ghost use Rattle.std.specs.Prelude.{◌≡◌, ◌≤◌, length};
 ghost use Rattle.clk_packet.specs.Limits.{most_quantum, most_tickets, most_rate, most_burst};
