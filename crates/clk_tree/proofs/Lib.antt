@@ -1,4 +1,5 @@
--- What the code meets its contracts by.
+-- What the code meets its contracts by, of which `Callers` has the lemmas that crates above may cite too.
+pub mod Callers
 mod Building
 mod Sound
 mod Distinct
