@@ -7,5 +7,6 @@ pub mod QueueLemmas
 pub mod QueueLaws
 pub mod LeafLemmas
 pub mod SharedOut
+pub mod DrrCounts
 pub mod PartLemmas
 pub mod PlanLemmas

@@ -4,6 +4,7 @@ pub mod PlanTree
 pub mod PlanPaths
 pub mod PlanParts
 pub mod Shares
+pub mod Drrs
 pub mod Canonical
 pub mod Laws
 pub mod inside

@@ -55,7 +55,7 @@ impl Plan {
     ghost use Rattle.std.specs.Prelude.{◌≡◌, ◌≤◌, ◌<◌, ◌+◌, ◌⊎◌, ℕ, List, true, map, length, slice_get, IfOk, IfErr, IsOkUnless};
     ghost use Rattle.std.specs.List.{AllByRecursion};
     ghost use Rattle.clk_packet.specs.declared.fault.Fault.TheVariants.{Memory};
-    ghost use Rattle.clk_packet.specs.Limits.{most_elements};
+    ghost use Rattle.clk_packet.specs.Limits.{most_elements, most_levels};
     ghost use Rattle.clk_packet.specs.Lists.{stands_in, AreRising};
     ghost use Rattle.clk_sched.specs.Tree.{Tree, root, leaves, leaves_distinct};
     ghost use Rattle.clk_sched.specs.Session.{elements};
@@ -65,6 +65,7 @@ impl Plan {
     ghost use Rattle.clk_tree.specs.PlanTree.{device_count, IsTreeOf};
     ghost use Rattle.clk_tree.specs.PlanParts.{queued, leads_to, number_of, senders_of, queues_of, HasCapacity, SendsWithin};
     ghost use Rattle.clk_tree.specs.Shares.{AreTreesOf, AreSharedOut};
+    ghost use Rattle.clk_tree.specs.Drrs.{AreDrrsAbove};
     ghost use Rattle.clk_tree.specs.Canonical.{canonical_text};
 
     /// Reads a tree text: the plan that it denotes, where it keeps to the grammar of Click's language, and declares and connects trees of
@@ -147,6 +148,25 @@ impl Plan {
         ensures devices { AllByRecursion (λ q. q.device < device_count self.now) (queues_of self.now) }
     {
         &self.queues
+    }
+
+    /// The number of DRRScheds above each queue in the tree of its device, at the queue's number. Makes the tree of each device in turn.
+    ///
+    /// # Errors
+    ///
+    /// Fault 1 where memory is refused.
+    pub fn drrs_above(&self, alloc: Global) -> Result<Vec<u32>, Fault>
+        ensures length { IfOk result (λ counts. length counts.items ≡ length (queues_of self.now)) }
+        ensures counts { IfOk result (λ counts. (trees : List Tree) → AreTreesOf self.now trees → AreDrrsAbove (queues_of self.now) trees counts.items) }
+        ensures limit { IfOk result (λ counts. AllByRecursion (λ n. n ≤ most_levels) counts.items) }
+        ensures fault { IsOkUnless result Memory }
+    {
+        let mut counts = vec![in alloc; 0; self.queues().len()]?;
+        for device in 0..self.devices() {
+            let tree = self.tree(alloc, device)?;
+            tree.count_drrs(&mut counts);
+        }
+        Ok(counts)
     }
 
     /// A law: the leaves of the trees together are the numbers of the queues, each once, and each queue is a leaf of the tree of its device.

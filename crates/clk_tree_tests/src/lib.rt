@@ -8,6 +8,8 @@ mod calling;
 #[cfg(test)]
 mod canonical;
 #[cfg(test)]
+mod drrs;
+#[cfg(test)]
 mod faults;
 #[cfg(test)]
 mod limits;

@@ -25,6 +25,7 @@ enum Call {
     Read,
     Write,
     Tree,
+    DrrsAbove,
     // What the test itself makes of the tree.
     Session,
 }
@@ -42,6 +43,7 @@ fn met_refusal(rt: &impl Abort, alloc: Global) -> Option<Call> {
     let plan = read(rt, alloc, &mut refused);
     write(rt, alloc, &plan, &mut refused);
     tree(rt, alloc, &plan, &mut refused);
+    drrs_above(rt, alloc, &plan, &mut refused);
     refused.call
 }
 
@@ -95,4 +97,15 @@ fn tree(rt: &impl Abort, alloc: Global, plan: &Plan, refused: &mut Refused) {
         Ok(session) => assert_eq!(rt; session.bound(1), 266),
         Err(fault) => refused.note(rt, Call::Session, fault),
     }
+}
+
+fn drrs_above(rt: &impl Abort, alloc: Global, plan: &Plan, refused: &mut Refused) {
+    let counts = match plan.drrs_above(alloc) {
+        Ok(counts) => counts,
+        Err(fault) => {
+            refused.note(rt, Call::DrrsAbove, fault);
+            plan.drrs_above(alloc).expect(rt, "memory")
+        }
+    };
+    assert_eq!(rt; counts.as_slice(), [1].as_slice());
 }
