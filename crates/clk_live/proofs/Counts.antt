@@ -21,7 +21,8 @@ use Rattle.clk_tree.specs.PlanParts.{number_of}
 use Rattle.clk_router.specs.Course.{Course, sender_at, accepted_at, evicted_at, end_of_packets, CanOffer}
 use Rattle.clk_router.specs.Events.{Setup, Event, offered, pulled, sender_numbers, number_from, numbers_of, happens_at, events_at, accepted_in, evicted_in, IsOfSender, CanHappen}
 use Rattle.clk_router.specs.Settled.{offered_in, offered_of}
-use Rattle.clk_live.specs.inside.Kept.{item_length, packet_length, AreOffered, IsKept}
+use Rattle.clk_live.specs.Outcome.{item_length, packet_length}
+use Rattle.clk_live.specs.inside.Kept.{AreOffered, IsKept}
 use Rattle.clk_live.proofs.Lists.{member}
 
 -- a sender offered as many packets as it numbered

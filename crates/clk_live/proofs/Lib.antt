@@ -7,3 +7,4 @@ mod Steps
 mod AfterOffer
 mod Fitting
 mod SoFar
+mod Openings

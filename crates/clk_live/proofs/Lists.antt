@@ -96,3 +96,10 @@ zip-then R join [] (y ∷ ys) zs h k = absurd h
 zip-then R join (x ∷ xs) [] zs h k = absurd h
 zip-then R join (x ∷ xs) (y ∷ ys) [] h k = absurd k
 zip-then R join (x ∷ xs) (y ∷ ys) (z ∷ zs) h k = (join x y z h.0 k.0, zip-then R join xs ys zs h.1 k.1)
+
+-- lists of one length of which each place has this
+pub zip-at : {X Y : Type 0} (R : X → Y → Type 0) (xs : List X) (ys : List Y) → length xs ≡ length ys → ((i : ℕ) (x : X) (y : Y) → slice_get xs i ≡ Some x → slice_get ys i ≡ Some y → R x y) → AllZip R xs ys
+zip-at R [] [] e each = tt
+zip-at R [] (y ∷ ys) e each = absurd (omega (arith, e))
+zip-at R (x ∷ xs) [] e each = absurd (omega (arith, e))
+zip-at R (x ∷ xs) (y ∷ ys) e each = (each 0 x y refl refl, zip-at R xs ys (omega (arith, e)) (λ i a b at here. each (suc i) a b at here))

@@ -29,7 +29,8 @@ use Rattle.clk_router.specs.Settled.{offered_of}
 use Rattle.clk_router.proofs.Callers.Apart.{one-queue}
 use Rattle.clk_live.specs.declared.taking.Outcome.{Outcome}
 use Rattle.clk_live.specs.State.{IsTokenOf}
-use Rattle.clk_live.specs.inside.Kept.{item_length, packet_length, AreOffered, most_inside, AreTokens, IsKept}
+use Rattle.clk_live.specs.Outcome.{item_length, packet_length}
+use Rattle.clk_live.specs.inside.Kept.{AreOffered, most_inside, AreTokens, IsKept}
 use Rattle.clk_live.specs.inside.Noted.{CanNote, IsNoted}
 use Rattle.clk_live.proofs.Lists.{member, set-cases, set-here, zip-widened}
 use Rattle.clk_live.proofs.Outlets.{token-stays, token-comes}
@@ -391,3 +392,9 @@ module _ (old : Course) (outlets : List Outlet) (buffers : List (Buffer ℕ)) (k
     where
       get_or-map : (f : Outlet → List Item) (xs : List Outlet) (i : ℕ) (x : Outlet) → slice_get xs i ≡ Some x → get_or (map f xs) i (f x) ≡ f x
       get_or-map f xs i x e = get_or_from_slice_get (map f xs) i (f x) (f x) (slice_get-map f xs i ∙ ap (option_map f) e)
+
+-- the outlet from which these packets were taken
+pub outlet-of : (outlets : List Outlet) (i : ℕ) (items : List Item) → slice_get (map taken outlets) i ≡ Some items → (o : Outlet) × (slice_get outlets i ≡ Some o) × (taken o ≡ items)
+outlet-of [] i items e = absurd (cc)
+outlet-of (o ∷ outlets) zero items e = (o, refl, cc)
+outlet-of (o ∷ outlets) (suc i) items e = outlet-of outlets i items e

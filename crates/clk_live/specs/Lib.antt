@@ -1,5 +1,7 @@
 -- What is seen of a live router, and what its calls come to.
 pub mod State
+pub mod Opening
 pub mod Taking
 pub mod Pulling
+pub mod Outcome
 pub mod inside

@@ -2,3 +2,4 @@
 pub mod Kept
 pub mod Noted
 pub mod Room
+pub mod Opened

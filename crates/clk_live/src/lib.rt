@@ -2,6 +2,7 @@
 #![tactic(auto)]
 
 mod live;
+mod opening;
 mod pulling;
 mod taking;
 mod tokens;

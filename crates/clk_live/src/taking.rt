@@ -154,4 +154,46 @@ impl Live {
         let most = taken.len();
         self.fill(place, false, taken, 0, most)
     }
+
+    /// Takes packets from all inlets in one round over the senders, at most `each` from each, into the start of `taken`. Offers each to its
+    /// sender's queue. Returns how many. The round ends early if `taken` is full, and the next round starts at the next sender.
+    pub fn take_in(&mut self, each: usize, taken: &mut [Taken]) -> usize
+        ensures taken { AreTaken (seen self.old) (seen self.new) taken.old taken.new result }
+        ensures outlets { AllGoOn self.old.outlets self.new.outlets }
+    {
+        self.round(false, each, taken)
+    }
+
+    /// Does what [`take_in`](Live::take_in) does, but leaves a packet in its inlet while its queue is full. So a full queue holds back its
+    /// senders: no packet is refused, and none is evicted.
+    pub fn take_in_fitting(&mut self, each: usize, taken: &mut [Taken]) -> usize
+        ensures taken { AreTaken (seen self.old) (seen self.new) taken.old taken.new result }
+        ensures accepted { AllAccepted (take result taken.new) }
+        ensures outlets { AllGoOn self.old.outlets self.new.outlets }
+    {
+        self.round(true, each, taken)
+    }
+
+    // Takes packets from all inlets in one round, of those that fit if only these are wanted.
+    fn round(&mut self, only_fitting: bool, each: usize, taken: &mut [Taken]) -> usize
+        ensures taken { AreTaken (seen self.old) (seen self.new) taken.old taken.new result }
+        ensures accepted { only_fitting ≡ true → AllAccepted (take result taken.new) }
+        ensures outlets { AllGoOn self.old.outlets self.new.outlets }
+    {
+        let places = self.outlets.len();
+        let mut place = self.turn;
+        let mut count = 0;
+        let mut visited = 0;
+        while visited < places && count < taken.len() {
+            if place >= places {
+                place = 0;
+            }
+            let most = count + each.min(taken.len() - count);
+            count = self.fill(place, only_fitting, taken, count, most);
+            place += 1;
+            visited += 1;
+        }
+        self.turn = place;
+        count
+    }
 }

@@ -14,17 +14,12 @@ use Rattle.clk_router.specs.Course.{Course, sender_at}
 use Rattle.clk_router.specs.Events.{Room, Setup, Event}
 use Rattle.clk_router.specs.InsideQueues.{inside_of}
 use Rattle.clk_router.specs.Settled.{offered_of}
+use Rattle.clk_live.specs.Outcome.{AreOffersOf}
 use Rattle.clk_live.specs.State.{IsTokenOf}
-
-abbrev pub item_length : Item → ℕ
-item_length x = x.length
-
-abbrev pub packet_length : Packet → ℕ
-packet_length p = p.length
 
 -- What was taken from a sender's inlet is what the sender offered, and no more than an inlet takes in all.
 pub record AreOffered (events : List Event) (s : ℕ) (o : Outlet) : Type 0 where
-  pub lengths : map item_length (taken o) ≡ map packet_length (offered_of events s)
+  pub lengths : AreOffersOf events s (taken o)
   pub few : length (taken o) ≤ most_packets
 
 -- how many DRRScheds stand above a queue in the tree of its device

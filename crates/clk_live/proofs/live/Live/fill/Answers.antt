@@ -29,8 +29,7 @@ loop-count-preserved c =
     let took = c.in-Some.ensures.taken in
     let low : l.count < length l.taken = (let fits = c.requires.within in let test = c.loop-count-test.true in let same = inv.0.2 in omega (arith, fits, test, same)) in
     let setup = ap (λ (k : Course). k.setup) took.goes_on in
-    let many = zip-length GoesOn l.self.outlets c.take_one.new.self.outlets c.take_one.ensures.outlets in
-    (
+    let many = zip-length GoesOn l.self.outlets c.take_one.new.self.outlets c.take_one.ensures.outlets in (
       (omega (arith, inv.0.0), (let test = c.loop-count-test.true in omega (arith, test)), length-set l.taken l.count one ∙ inv.0.2, (let there = inv.0.3 in omega (arith, there, many))),
       (λ old before h. taken-more old (seen l.self) (seen c.take_one.new.self) before l.taken l.count one low (inv.1 old before h) (c.args.place, took)),
       all-from (λ (t : Taken). sender_at c.args.self.now.course.setup c.args.place ≡ Some t.packet.sender) c.args.from l.taken l.count one inv.0.0 low inv.2 (ap (λ s. sender_at s c.args.place) (sym inv.5.1) ∙ took.sender),

@@ -1,0 +1,119 @@
+-- The parts of a live router, as they are opened.
+use Rattle.std.proofs.Common.{◌≡◌, ℕ, zero, suc, ◌+◌, ◌<◌, ◌≤◌, ◌^◌, ◌⊎◌, inl, inr, List, [], ◌∷◌, ◌++◌, length, map, Option, Some, None, slice_get, get_or, refl, sym, ap, ◌∙◌, subst, arith}
+use Rattle.std.specs.List.{AllByRecursion, AllZip}
+use Rattle.std.specs.Option.{option_map}
+use Rattle.std.proofs.lemmas.List.{length-append, length-map}
+use Rattle.std.proofs.lemmas.Option.{slice_get-map, slice_get_within, get_or_from_slice_get}
+use Rattle.circular_buffer.specs.Buffer.{Buffer, buffer}
+use Rattle.clk_packet.specs.Lists.{AreRising}
+use Rattle.clk_sched.specs.Kinds.{keeps_nothing}
+use Rattle.clk_sched.specs.Tree.{Tree, root}
+use Rattle.clk_sched.specs.FewHeads.{drrs_above}
+use Rattle.clk_tree.specs.declared.plan.parts.SenderSpec.{SenderSpec}
+use Rattle.clk_tree.specs.Plan.{Planned}
+use Rattle.clk_tree.specs.PlanParts.{Queued, SendsWithin, queues_of, senders_of}
+use Rattle.clk_tree.specs.Shares.{AreTreesOf}
+use Rattle.clk_tree.specs.Drrs.{AreDrrsAbove}
+use Rattle.clk_inlet.specs.Halves.{popped, taken}
+use Rattle.clk_inlet.specs.Items.{packets}
+use Rattle.clk_inlet.specs.declared.item.Item.{Item}
+use Rattle.clk_inlet.specs.declared.outlet.Outlet.{Outlet}
+use Rattle.clk_router.specs.Course.{Course, IsOpened}
+use Rattle.clk_router.specs.Events.{Room, room_of, Setup, plan_setup}
+use Rattle.clk_live.specs.State.{IsTokenOf}
+use Rattle.clk_live.specs.Outcome.{item_length, packet_length}
+use Rattle.clk_live.specs.inside.Kept.{drrs_in, most_inside, IsKept}
+use Rattle.clk_live.specs.inside.Opened.{AreRoomy}
+
+-- numbers that rise are no less than their places
+low-from : (ns : List ℕ) (least i n : ℕ) → AllByRecursion (λ m. least ≤ m) ns → AreRising ns → slice_get ns i ≡ Some n → least + i ≤ n
+low-from [] least i n all rising e = absurd (cc)
+low-from (m ∷ ns) least zero n all rising e = let same : m ≡ n = cc in let first = all.0 in omega (arith, same, first)
+low-from (m ∷ ns) least (suc i) n all rising e =
+    let above = low-from ns (suc m) i n (later ns m rising.0) rising.1 e in
+    let first = all.0 in
+    omega (arith, above, first)
+  where
+    later : (ks : List ℕ) (m : ℕ) → AllByRecursion (λ k. m < k) ks → AllByRecursion (λ k. suc m ≤ k) ks
+    later [] m h = tt
+    later (k ∷ ks) m h = ((let first = h.0 in omega (arith, first)), later ks m h.1)
+
+pub place-low : (ns : List ℕ) (i n : ℕ) → AreRising ns → slice_get ns i ≡ Some n → i ≤ n
+place-low ns i n rising e = let low = low-from ns 0 i n (all ns) rising e in omega (arith, low)
+  where
+    all : (ks : List ℕ) → AllByRecursion (λ k. 0 ≤ k) ks
+    all [] = tt
+    all (k ∷ ks) = (omega arith, all ks)
+
+pub all-pushed : {X : Type 0} (P : X → Type 0) (xs : List X) (x : X) → AllByRecursion P xs → P x → AllByRecursion P (xs ++ x ∷ [])
+all-pushed P [] x h p = (p, tt)
+all-pushed P (y ∷ xs) x h p = (h.0, all-pushed P xs x h.1 p)
+
+-- one more buffer
+at-end-or : (bs : List (Buffer ℕ)) (b c : Buffer ℕ) (q : ℕ) → slice_get (bs ++ b ∷ []) q ≡ Some c → (slice_get bs q ≡ Some c) ⊎ ((q ≡ length bs) × (b ≡ c))
+at-end-or [] b c zero e = inr (refl, cc)
+at-end-or [] b c (suc q) e = absurd (cc)
+at-end-or (x ∷ bs) b c zero e = inl e
+at-end-or (x ∷ bs) b c (suc q) e = later (at-end-or bs b c q e)
+  where
+    later : (slice_get bs q ≡ Some c) ⊎ ((q ≡ length bs) × (b ≡ c)) → (slice_get (x ∷ bs) (suc q) ≡ Some c) ⊎ ((suc q ≡ suc (length bs)) × (b ≡ c))
+    later (inl h) = inl h
+    later (inr h) = inr (ap suc h.0, h.1)
+
+pub roomy-none : (queues : List Queued) (counts : List ℕ) → AreRoomy queues counts 0 []
+roomy-none queues counts = record { many = refl; each = λ q queue count b at many here. absurd (cc) }
+
+pub roomy-more : (queues : List Queued) (counts : List ℕ) (n : ℕ) (bs : List (Buffer ℕ)) (b : Buffer ℕ) (queue : Queued) (count : ℕ) → slice_get queues n ≡ Some queue → slice_get counts n ≡ Some count → b ≡ buffer [] (queue.capacity + count)
+    → AreRoomy queues counts n bs → AreRoomy queues counts (n + 1) (bs ++ b ∷ [])
+roomy-more queues counts n bs b queue count at many is h = record {
+  many = (let longer = length-append bs (b ∷ []) in omega (arith, longer, h.many));
+  each = λ q other k c its_queue its_count here. by_place q other k c its_queue its_count (at-end-or bs b c q here);
+}
+  where
+    by_place : (q : ℕ) (other : Queued) (k : ℕ) (c : Buffer ℕ) → slice_get queues q ≡ Some other → slice_get counts q ≡ Some k → (slice_get bs q ≡ Some c) ⊎ ((q ≡ length bs) × (b ≡ c)) → (c.items ≡ []) × (c.capacity ≡ other.capacity + k)
+    by_place q other k c its_queue its_count (inl here) = h.each q other k c its_queue its_count here
+    by_place q other k c its_queue its_count (inr (place, same)) =
+        let here : q ≡ n = place ∙ h.many in
+        let one : Some queue ≡ Some other = sym at ∙ ap (slice_get queues) (sym here) ∙ its_queue in
+        let same_queue : queue ≡ other = cc one in
+        let two : Some count ≡ Some k = sym many ∙ ap (slice_get counts) (sym here) ∙ its_count in
+        let same_count : count ≡ k = cc two in
+        let was : c ≡ buffer [] (queue.capacity + count) = sym same ∙ is in
+        (ap (λ (x : Buffer ℕ). x.items) was, ap (λ (x : Buffer ℕ). x.capacity) was ∙ ap (λ (x : Queued). x.capacity + count) same_queue ∙ ap (λ m. other.capacity + m) same_count)
+
+-- the queue whose room stands at a place
+queue-at : (queues : List Queued) (q : ℕ) (room : Room) → slice_get (map room_of queues) q ≡ Some room → (queue : Queued) × (slice_get queues q ≡ Some queue) × (room_of queue ≡ room)
+queue-at [] q room e = absurd (cc)
+queue-at (x ∷ queues) zero room e = (x, refl, cc)
+queue-at (x ∷ queues) (suc q) room e = queue-at queues q room e
+
+member-of : (os : List Outlet) (i : ℕ) (o : Outlet) → AllByRecursion (λ (u : Outlet). popped u ≡ []) os → slice_get os i ≡ Some o → popped o ≡ []
+member-of [] i o h e = absurd (cc)
+member-of (u ∷ os) zero o h e = let same : u ≡ o = cc in subst (λ (v : Outlet). popped v ≡ []) same h.0
+member-of (u ∷ os) (suc i) o h e = member-of os i o h.1 e
+
+-- So a live router is opened.
+pub kept-opened : (plan : List Planned) (c : Course) (outlets : List Outlet) (buffers : List (Buffer ℕ)) (counts : List ℕ) → IsOpened plan keeps_nothing c → length outlets ≡ length c.setup.senders → length outlets ≤ 2 ^ 16
+    → AllByRecursion (SendsWithin (length (queues_of plan))) (senders_of plan) → AllByRecursion (λ (o : Outlet). popped o ≡ []) outlets → ((trees : List Tree) → AreTreesOf plan trees → AreDrrsAbove (queues_of plan) trees counts)
+    → AreRoomy (queues_of plan) counts (length (queues_of plan)) buffers → ((q : ℕ) (room : Room) → slice_get c.setup.queues q ≡ Some room → (tree : Tree) × (slice_get c.setup.trees room.device ≡ Some tree)) → IsKept c outlets buffers
+kept-opened plan c outlets buffers counts opened places few wired taken_none above roomy trees =
+    subst (λ (k : Course). IsKept k outlets buffers) (sym opened.is)
+    (record {
+      places = places ∙ ap (λ (k : Course). length k.setup.senders) opened.is;
+      few_places = few;
+      wired = subst (λ n. AllByRecursion (SendsWithin n) (senders_of plan)) (sym (length-map (queues_of plan) room_of)) wired;
+      offers = λ place o s its at.
+          (let none = ap packets (member-of outlets place o taken_none its) in record { lengths = ap (map item_length) none; few = (let many = ap length none in omega (arith, many)) });
+      queues = roomy.many ∙ sym (length-map (queues_of plan) room_of);
+      tokens = λ q room b at here.
+          (let queue = queue-at (queues_of plan) q room at in
+          let drrs = above opened.trees opened.are in
+          let tree = trees q room (ap (λ (k : Course). slice_get k.setup.queues q) opened.is ∙ at) in
+          let stands : slice_get opened.trees room.device ≡ Some tree.0 = sym (ap (λ (k : Course). slice_get k.setup.trees room.device) opened.is) ∙ tree.1 in
+          let count = drrs.each q queue.0 tree.0 queue.1 (ap (λ (r : Room). slice_get opened.trees r.device) queue.2 ∙ stands) in
+          let b_is = roomy.each q queue.0 (drrs_above q (root tree.0)) b queue.1 count here in
+          record {
+            tokens = subst (λ ts. AllZip (IsTokenOf (plan_setup opened.trees plan) (map taken outlets)) [] ts) (sym b_is.0) tt;
+            capacity = b_is.1 ∙ ap (λ (r : Room). r.capacity + drrs_above q (root tree.0)) queue.2 ∙ ap (λ o. room.capacity + drrs_in o q) (sym stands);
+          });
+    })
