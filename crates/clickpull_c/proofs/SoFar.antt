@@ -17,7 +17,7 @@ use Rattle.clickpull_c.specs.Calls.{IsOffered, OffersOne, IsOfferedSoFar, GivesO
 use Rattle.clickpull_c.specs.inside.SoFar.{GaveSoFar, DrainedSoFar}
 use Rattle.clk_router.proofs.Callers.Chains.{chain-more, zip-more}
 
--- what stands after a place that was filled is as it was
+-- the elements after a filled place are unchanged
 others-more : {X : Type 0} (before filled : List X) (i : ℕ) (y : X) → drop i filled ≡ drop i before → drop (i + 1) (slice_set filled i y) ≡ drop (i + 1) before
 others-more before filled i y same = drop-set-lt (i + 1) filled i y (omega arith) ∙ drop_more_same filled before i same
 
@@ -61,7 +61,7 @@ departures-more : (pulls : List DrainPull) (pull : DrainPull) → departures_of 
 departures-more [] pull = refl
 departures-more (p ∷ ps) pull = on-top p.moment p.got pull (departures_of (ps ++ pull ∷ [])) (departures_of ps) (departures-more ps pull)
 
--- one more pull has room where fewer packets came out so far than there are places
+-- one more pull has room where fewer packets were emitted so far than there are places
 room-more : (places : ℕ) (pulls : List DrainPull) (pull : DrainPull) → HasRoom places pulls → length (departures_of pulls) < places → HasRoom places (pulls ++ pull ∷ [])
 room-more places pulls pull room low made within =
     let longer = length-append pulls (pull ∷ []) in

@@ -23,7 +23,7 @@ pub record IsOffered (old new : Course) (sender length : ℕ) (filled : COffered
   pub filled_is : filled ≡ offered_in_c packet outcome
   pub goes_on : new ≡ after old (offered packet outcome ∷ [])
 
--- what a pull with this result answers, and what it leaves where the packet is filled in
+-- what a pull with this result returns, and what it leaves where the packet is filled in
 abbrev pub pull_status : Option Packet → ℕ
 pull_status None = NONE
 pull_status (Some p) = OK
@@ -32,7 +32,7 @@ abbrev pub pull_fills : CPacket → Option Packet → CPacket
 pull_fills before None = before
 pull_fills before (Some p) = packet_in_c p
 
--- A device was pulled once, the packet that came out was filled in, if one did, and this was answered.
+-- A device was pulled once, the packet that it emitted was filled in, if it emitted one, and this status was returned.
 pub record AnswersPull (old new : Course) (device moment : ℕ) (before filled : CPacket) (status : ℕ) : Type 0 where
   pub got : Option Packet
   pub pulled : IsPulled old new device moment got
@@ -60,14 +60,14 @@ pub record GivesOne (device moment : ℕ) (c : Course) (filled : CPacket) (next 
   pub pulled : IsPulled c next device moment (Some packet)
   pub filled_is : filled ≡ packet_in_c packet
 
--- Pulls at a moment ended: as many as wanted came out; or fewer did, and the last gave none; or one came out at least, and no more can be
--- made.
+-- Pulls at a moment ended: as many packets as wanted were emitted; or fewer were, and the last pull gave none; or at least one was, and
+-- no more pulls can be made.
 pub data EndsPulls (device moment count : ℕ) (last new : Course) (given : ℕ) : Type 0 where
   full : given ≡ count → new ≡ last → EndsPulls device moment count last new given
   gave_none : given < count → IsPulled last new device moment None → EndsPulls device moment count last new given
   at_end : 1 ≤ given → (CanPull new device moment → ⊥) → new ≡ last → EndsPulls device moment count last new given
 
--- A device was pulled again and again at a moment. So many packets came out, and were filled in, and the others' places are as they were.
+-- A device was pulled again and again at a moment. So many packets were emitted, and filled in, and the others' places are as they were.
 pub record IsPulledOften (old new : Course) (device moment : ℕ) (before filled : List CPacket) (given : ℕ) : Type 0 where
   pub last : Course
   pub within : given ≤ length before
@@ -75,7 +75,7 @@ pub record IsPulledOften (old new : Course) (device moment : ℕ) (before filled
   pub others : drop given filled ≡ drop given before
   pub ends : EndsPulls device moment (length before) last new given
 
--- what pulls answer that gave so many of so many packets
+-- what pulls return that gave so many of so many packets
 abbrev pub pulls_status : ℕ → ℕ → ℕ
 pulls_status given count = if (given == 0) && nat_lt 0 count then NONE else OK
 
@@ -84,7 +84,7 @@ pub record DrainPull : Type 0 where
   pub moment : ℕ
   pub got : Option Packet
 
--- all packets that were accepted at a device were evicted or came out, and some were not
+-- all packets that were accepted at a device were evicted or emitted, and some were not
 abbrev pub IsEmptied : Course → ℕ → Type 0
 IsEmptied c device = accepted_at c device ≡ evicted_at c device + emitted_at c device
 
@@ -106,17 +106,17 @@ abbrev pub departures_of : List DrainPull → List CDeparture
 departures_of [] = []
 departures_of (pull ∷ pulls) = with_departure pull.moment pull.got (departures_of pulls)
 
--- before each of these pulls, fewer packets had come out than there are places
+-- before each of these pulls, fewer packets had been emitted than there are places
 abbrev pub HasRoom : ℕ → List DrainPull → Type 0
 HasRoom places pulls = (made : ℕ) → made < length pulls → length (departures_of (take made pulls)) < places
 
--- A drain ended: nothing is left; or as many pulls were made or packets came out as were wanted; or the next moment is at its end.
+-- A drain ended: nothing is left; or as many pulls were made or packets emitted as were wanted; or the next moment is at its end.
 pub data EndsDrain (new : Course) (device count most made given status : ℕ) : Type 0 where
   empty : status ≡ OK → IsEmptied new device → EndsDrain new device count most made given status
   full : status ≡ NONE → HasLeft new device → (given ≡ count) ⊎ (made ≡ most) → EndsDrain new device count most made given status
   at_end : status ≡ AT_END → HasLeft new device → (CanPull new device (moment_at new device + 1) → ⊥) → EndsDrain new device count most made given status
 
--- A device was pulled one tick apart, at most so often, each time with something left and a place free. So many packets came out, and were
+-- A device was pulled one tick apart, at most so often, each time with something left and a place free. So many packets were emitted, and
 -- filled in with their moments, and the others' places are as they were.
 pub record IsDrained (old new : Course) (device most : ℕ) (before filled : List CDeparture) (given status : ℕ) : Type 0 where
   pub pulls : List DrainPull

@@ -36,11 +36,11 @@ scheduled = record { trees = scheduler (drr (100 ∷ [])) (leaf 0 end) ∷ []; q
 abbrev pub fresh : Course
 fresh = record { setup = alone; events = []; keeps = keeps_nothing }
 
--- the router after one pull of the queue, in which none came out
+-- the router after one pull of the queue, which emitted none
 abbrev pub fresh_pulled : Course
 fresh_pulled = after fresh (pulled 0 1 (asking 0 1 0 0 None ∷ []) ∷ [])
 
--- one packet waits in the queue; it comes out; and a further pull gives none
+-- one packet waits in the queue; it is emitted; and a further pull gives none
 abbrev pub one_waits : Course
 one_waits = record { setup = alone; events = offered p0_0 Accepted ∷ []; keeps = keeps_nothing }
 
@@ -50,7 +50,7 @@ one_out = after one_waits (pulled 0 1 (asking 0 1 0 0 (Some p0_0) ∷ []) ∷ []
 abbrev pub one_out_pulled : Course
 one_out_pulled = after one_out (pulled 0 1 (asking 1 1 0 0 None ∷ []) ∷ [])
 
--- two packets wait below the DRRSched; the first comes out; and a further pull gives none, since the second is longer than its deficit
+-- two packets wait below the DRRSched; the first is emitted; and a further pull gives none, since the second is longer than its deficit
 abbrev pub two_wait : Course
 two_wait = record { setup = scheduled; events = offered p0_0 Accepted ∷ offered p0_1 Accepted ∷ []; keeps = keeps_nothing }
 

@@ -10,8 +10,8 @@ use crate::statuses::{AT_END, NONE, OK, UNKNOWN_DEVICE};
 use crate::values::{CDeparture, packet_for_c};
 use clk_router::CountingRouter;
 
-/// Pulls the device with this number one tick apart, the first time one tick after its counted moment, until nothing is left for it, so many
-/// pulls were made, or all places for departures are filled. How many packets came out is filled in.
+/// Pulls the device with this number one tick apart, the first time one tick after its counted moment, until nothing is left for it, so
+/// many pulls were made, or all places for departures are filled. How many packets were emitted is filled in.
 #[unsafe(no_mangle)]
 pub extern "C" fn clk_router_drain(
     router: &mut Handle,
@@ -32,7 +32,7 @@ pub extern "C" fn clk_router_drain(
     status
 }
 
-/// The same, over the router: how many packets came out, and what is answered.
+/// Drains a device of this router. Returns how many packets were emitted, and the status.
 fn drain(
     router: &mut CountingRouter,
     device: u16,

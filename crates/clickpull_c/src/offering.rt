@@ -47,7 +47,7 @@ pub extern "C" fn clk_router_offer_many(
     status
 }
 
-/// The same, over the router: how many were made, and what is answered.
+/// Makes these offers to this router, up to the first that can't be made. Returns how many were made, and the status.
 fn offer_each(
     router: &mut CountingRouter,
     offers: &[COffer],
@@ -71,7 +71,7 @@ fn offer_each(
     (done, OK)
 }
 
-/// The same, of one offer, over the router.
+/// Makes one offer to this router. Returns what became of it, or the status that says why it can't be made.
 fn offer(router: &mut CountingRouter, sender: u16, length: u16) -> Result<COffered, u32>
     ensures offered { IfOk result (IsOffered router.old router.new sender length) }
     ensures refused { IfErr result (RefusesOffer router.old sender length) }

@@ -15,7 +15,7 @@ use clk_tree::Plan;
 use std::alloc::Global;
 
 /// Makes the router of the plan that a text in Click's language denotes, before anything has happened, and puts it into an empty place.
-/// Where the text makes none, or memory is refused, the fault is filled in.
+/// Where the text makes none, or an allocation fails, the fault is filled in.
 #[unsafe(no_mangle)]
 pub extern "C" fn clk_router_open(
     alloc: Global,
@@ -38,7 +38,7 @@ pub extern "C" fn clk_router_open(
     }
 }
 
-/// The same, as a handle.
+/// Makes the router of the plan that this text denotes, as a handle.
 fn open(alloc: Global, text: &[u8]) -> Result<Handle, Fault>
     ensures opened { IfOk result (λ handle. Opens text.now handle.router) }
     ensures fault { IfErr result (λ fault. (fault ≡ Memory) ⊎ HasFault text.now fault) }
@@ -48,7 +48,7 @@ fn open(alloc: Global, text: &[u8]) -> Result<Handle, Fault>
     Ok(Handle::of(Box::new(alloc, router)?))
 }
 
-/// Gives back all that a router has, packets in its queues too.
+/// Frees all that a router has, packets in its queues too.
 #[unsafe(no_mangle)]
 pub extern "C" fn clk_router_close(router: Handle) {
     demand_send(&router);

@@ -11,8 +11,8 @@ use crate::values::{CPacket, packet_for_c};
 use clk_packet::Packet;
 use clk_router::CountingRouter;
 
-/// Pulls the device with this number once, at this moment in ticks or, where that is later, at the greatest so far. The packet that comes
-/// out is filled in.
+/// Pulls the device with this number once, at this moment in ticks or, where that is later, at the greatest so far. The packet that is
+/// emitted is filled in.
 #[unsafe(no_mangle)]
 pub extern "C" fn clk_router_pull(
     router: &mut Handle,
@@ -32,8 +32,8 @@ pub extern "C" fn clk_router_pull(
     }
 }
 
-/// Pulls the device with this number at this moment in ticks until a pull gives none, or all places for packets are filled. How many came
-/// out is filled in.
+/// Pulls the device with this number at this moment in ticks until a pull gives none, or all places for packets are filled. How many were
+/// emitted is filled in.
 #[unsafe(no_mangle)]
 pub extern "C" fn clk_router_pull_many(
     router: &mut Handle,
@@ -57,7 +57,7 @@ pub extern "C" fn clk_router_pull_many(
     }
 }
 
-/// The same, over the router: how many came out.
+/// Pulls a device of this router again and again at this moment, if it can be pulled. Returns how many packets were emitted.
 fn pull_often(
     router: &mut CountingRouter,
     device: u16,
@@ -77,7 +77,7 @@ fn pull_often(
     Ok(pull_on(router, device, moment, packets))
 }
 
-/// The same, of a device that can be pulled at this moment.
+/// Pulls a device that can be pulled at this moment again and again. Returns how many packets were emitted.
 fn pull_on(router: &mut CountingRouter, device: u16, moment: u64, packets: &mut [CPacket]) -> usize
     requires can { CanPull router.old device moment }
     ensures { IsPulledOften router.old router.new device moment packets.old packets.new result }
@@ -96,7 +96,7 @@ fn pull_on(router: &mut CountingRouter, device: u16, moment: u64, packets: &mut 
     given
 }
 
-/// The same, once, over the router.
+/// Pulls a device of this router once, if it can be pulled. Returns the packet, if one was emitted.
 fn pull(router: &mut CountingRouter, device: u16, moment: u64) -> Result<Option<Packet>, u32>
     ensures pulled { IfOk result (IsPulled router.old router.new device moment) }
     ensures refused { IfErr result (RefusesPull router.old device moment) }

@@ -1,4 +1,4 @@
-//! What calls answer. Two answers are the header's alone: 2, for a router that is shut, and 3, for a null pointer.
+//! What calls return. Two statuses are the header's alone: 2, for a router that is shut, and 3, for a null pointer.
 
 /// It is done.
 pub const OK: u32 = 0;
@@ -21,7 +21,7 @@ pub const AT_END: u32 = 7;
 /// The tree has no queue of this number.
 pub const UNKNOWN_QUEUE: u32 = 8;
 
-/// The text makes no router, or memory was refused.
+/// The text makes no router, or an allocation failed.
 pub const FAULT: u32 = 9;
 
 /// The packet was accepted.
@@ -30,5 +30,5 @@ pub const ACCEPTED: u32 = 0;
 /// The packet was refused.
 pub const REFUSED: u32 = 1;
 
-/// The packet was accepted, and another was put out for it.
+/// The packet was accepted, and another was evicted for it.
 pub const EVICTED: u32 = 2;

@@ -51,7 +51,7 @@ pub extern "C" fn clk_router_moment(router: &mut Handle, device: u16, moment: &m
     OK
 }
 
-/// How many packets are left for the device with this number, accepted there and neither put out for later ones nor come out, is filled in.
+/// How many packets are left for the device with this number, accepted there and neither evicted for later ones nor emitted, is filled in.
 #[unsafe(no_mangle)]
 pub extern "C" fn clk_router_left(router: &mut Handle, device: u16, packets: &mut u64) -> u32
     ensures answer { TellsLeft router.old.router device packets.new result ⊎ (HasNoDevice router.old.router device result × (packets.new ≡ packets.old)) }

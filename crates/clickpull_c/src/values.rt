@@ -25,9 +25,9 @@ pub struct CPacket {
 pub struct COffered {
     /// The packet, with its number.
     pub packet: CPacket,
-    /// The packet that was put out for it, all zero unless one was.
+    /// The packet that was evicted for it, all zero unless one was.
     pub evicted: CPacket,
-    /// 0 for a packet that was accepted, 1 for one that was refused, 2 for one for which another was put out.
+    /// 0 for a packet that was accepted, 1 for one that was refused, 2 for one for which another was evicted.
     pub outcome: u32,
 }
 
@@ -41,11 +41,11 @@ pub struct COffer {
     pub length: u16,
 }
 
-/// A packet that came out in a drain. In C it is the struct `clk_departure`.
+/// A packet that was emitted in a drain. In C it is the struct `clk_departure`.
 #[repr(C)]
 #[derive(Clone, Copy)]
 pub struct CDeparture {
-    /// When it came out, in ticks.
+    /// When it was emitted, in ticks.
     pub moment: u64,
     /// The packet.
     pub packet: CPacket,
@@ -65,13 +65,13 @@ pub struct CTotal {
 #[repr(C)]
 #[derive(Clone, Copy)]
 pub struct CAccount {
-    /// What its queue took.
+    /// What its queue accepted.
     pub accepted: CTotal,
     /// What its queue was too full to take.
     pub refused: CTotal,
-    /// What of the accepted was put out for later packets.
+    /// What of the accepted was evicted for later packets.
     pub evicted: CTotal,
-    /// What of the accepted came out at the device.
+    /// What of the accepted was emitted at the device.
     pub emitted: CTotal,
     /// The sender's number.
     pub sender: u16,

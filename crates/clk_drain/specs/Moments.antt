@@ -21,6 +21,6 @@ pub record HasMoments (step limit : ℕ) (tree : Tree) (log : List Visit) : Type
   pub within : length running ≤ limit
   pub each_step : map moment_of running ≡ steps step (length running)
   pub each_tick : map moment_of closing ≡ range_with_len (length running * step + 1) (length closing)
-  -- The closing stops as soon as its last packet came out, within the pulls that a closing of so many packets is given.
+  -- The closing stops as soon as its last packet was emitted, within the pulls that a closing of so many packets is given.
   pub stops : LastGives closing
   pub few : length closing ≤ closing_bound tree (length (given_in closing))

@@ -41,7 +41,7 @@ scheduled_plan = plan_with 1 6 (planned (codes "o") prio (2 ∷ []) ∷ [])
 abbrev pub traces : List (List Packet)
 traces = (p0_0 ∷ p0_1 ∷ []) ∷ (p1_0 ∷ []) ∷ []
 
--- what a run came to, in lists: what came out at each device, the visits of each one's tree, and the tallies
+-- what a run came to, in lists: what was emitted at each device, the visits of each one's tree, and the tallies
 pub record Lists : Type 0 where
   pub emitted : List (List Packet)
   pub logs : List (List Visit)
@@ -67,7 +67,7 @@ came_to emitted logs tallies = record { emitted = emitted; logs = logs; tallies 
 abbrev pub log_a : List Visit
 log_a = asking 0 3 0 0 None ∷ asking 1 6 0 0 (Some p0_0) ∷ []
 
--- The second was pulled once, and its packet came out in the closing.
+-- The second was pulled once, and its packet was emitted in the closing.
 abbrev pub log_b : List Visit
 log_b = asking 0 3 0 0 None ∷ asking 1 4 0 0 (Some p1_0) ∷ []
 
@@ -91,7 +91,7 @@ closing_late = asking 0 3 0 0 None ∷ asking 1 5 0 0 (Some p1_0) ∷ []
 abbrev pub closing_pauses : List Visit
 closing_pauses = asking 0 3 0 0 None ∷ asking 1 4 0 0 (Some p1_0) ∷ asking 2 6 0 0 (Some p0_0) ∷ []
 
--- the closing made a pull after its last packet came out
+-- the closing made a pull after its last packet was emitted
 abbrev pub closing_goes_on : List Visit
 closing_goes_on = asking 0 3 0 0 None ∷ asking 1 4 0 0 (Some p1_0) ∷ asking 2 5 0 0 None ∷ []
 
@@ -105,7 +105,7 @@ tally_0 = tally 0 (p0_0 ∷ []) (p0_1 ∷ []) []
 abbrev tally_1 : Tally
 tally_1 = tally 1 (p1_0 ∷ []) [] []
 
--- The first Queue took the first packet of its sender and refused the second, and the second Queue took its one packet.
+-- The first Queue accepted the first packet of its sender and refused the second, and the second Queue accepted its one packet.
 abbrev pub run_lists : Lists
 run_lists = came_to ((p0_0 ∷ []) ∷ (p1_0 ∷ []) ∷ []) (log_a ∷ log_b ∷ []) (tally_0 ∷ tally_1 ∷ [])
 
@@ -121,7 +121,7 @@ device_too_many = came_to ((p0_0 ∷ []) ∷ (p1_0 ∷ []) ∷ [] ∷ []) (log_a
 abbrev pub log_missing : Lists
 log_missing = came_to ((p0_0 ∷ []) ∷ (p1_0 ∷ []) ∷ []) (log_a ∷ []) (tally_0 ∷ tally_1 ∷ [])
 
--- the second device has no list of what came out there
+-- the second device has no list of what was emitted there
 abbrev pub emitted_missing : Lists
 emitted_missing = came_to ((p0_0 ∷ []) ∷ []) (log_a ∷ log_b ∷ []) (tally_0 ∷ tally_1 ∷ [])
 
@@ -129,7 +129,7 @@ emitted_missing = came_to ((p0_0 ∷ []) ∷ []) (log_a ∷ log_b ∷ []) (tally
 abbrev pub logs_swapped : Lists
 logs_swapped = came_to ((p0_0 ∷ []) ∷ (p1_0 ∷ []) ∷ []) (log_b ∷ log_a ∷ []) (tally_0 ∷ tally_1 ∷ [])
 
--- each device has the other's log, and what came out there
+-- each device has the other's log, and what was emitted there
 abbrev pub devices_swapped : Lists
 devices_swapped = came_to ((p1_0 ∷ []) ∷ (p0_0 ∷ []) ∷ []) (log_b ∷ log_a ∷ []) (tally_0 ∷ tally_1 ∷ [])
 
@@ -153,7 +153,7 @@ with_closing_late = came_to ((p0_0 ∷ []) ∷ (p1_0 ∷ []) ∷ []) (log_a ∷ 
 abbrev pub with_closing_goes_on : Lists
 with_closing_goes_on = came_to ((p0_0 ∷ []) ∷ (p1_0 ∷ []) ∷ []) (log_a ∷ closing_goes_on ∷ []) (tally_0 ∷ tally_1 ∷ [])
 
--- Runs of a plan over the trace may fail with a fault, or never do. (A seat is told by the queue that it belongs to.)
+-- Runs of a plan over the trace may fail with a fault, or never do. (A seat is identified by the queue that it belongs to.)
 abbrev pub MayFailWith : List Planned → Fault → Type 0
 MayFailWith plan fault = TableId → IsFaultOfRun plan traces fault
 

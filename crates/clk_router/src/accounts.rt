@@ -25,13 +25,13 @@ pub struct Account {
     pub sender: u16,
     /// The number of the queue that it sends to.
     pub queue: u16,
-    /// What its queue took.
+    /// What its queue accepted.
     pub accepted: Total,
-    /// What its queue turned away.
+    /// What its queue refused.
     pub refused: Total,
-    /// What its queue took, and put out for a later one.
+    /// What its queue accepted, and evicted for a later one.
     pub evicted: Total,
-    /// What came out at a device.
+    /// What was emitted at a device.
     pub emitted: Total,
 }
 
@@ -59,7 +59,7 @@ impl Total {
     }
 }
 
-/// The accounts of these senders, before they have sent anything. Fault 1 where memory is refused.
+/// The accounts of these senders, before they have sent anything. Fault 1 where an allocation fails.
 pub fn accounts_of(alloc: Global, specs: &[SenderSpec]) -> Result<Vec<Account>, Fault>
     ensures made { IfOk result (λ accounts. accounts.items ≡ map account_made specs.now) }
     ensures fault { IsOkUnless result Fault.Memory }
@@ -102,7 +102,7 @@ pub fn count_offered(
     }
 }
 
-/// Counts that a packet was put out of its queue for a later one, in the accounts of senders of these numbers.
+/// Counts that a packet was evicted from its queue for a later one, in the accounts of senders of these numbers.
 fn count_evicted(accounts: &mut Vec<Account>, numbers: &[u16], front: Packet)
     requires alike { map account_sender accounts.old.items ≡ numbers.now }
     requires rising { AreRising numbers.now }
@@ -114,7 +114,7 @@ fn count_evicted(accounts: &mut Vec<Account>, numbers: &[u16], front: Packet)
     }
 }
 
-/// Counts the packet that came out at a device in a pull, if one did, in the accounts of senders of these numbers.
+/// Counts the packet that was emitted at a device in a pull, if one was, in the accounts of senders of these numbers.
 pub fn count_given(accounts: &mut Vec<Account>, numbers: &[u16], got: Option<Packet>)
     requires alike { map account_sender accounts.old.items ≡ numbers.now }
     requires rising { AreRising numbers.now }
@@ -126,7 +126,7 @@ pub fn count_given(accounts: &mut Vec<Account>, numbers: &[u16], got: Option<Pac
     }
 }
 
-/// Counts that a packet came out at a device, in the accounts of senders of these numbers.
+/// Counts that a packet was emitted at a device, in the accounts of senders of these numbers.
 fn count_emitted(accounts: &mut Vec<Account>, numbers: &[u16], packet: Packet)
     requires alike { map account_sender accounts.old.items ≡ numbers.now }
     requires rising { AreRising numbers.now }

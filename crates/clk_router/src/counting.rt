@@ -10,7 +10,7 @@ use clk_tree::Plan;
 use std::alloc::Global;
 use std::marker::Model;
 
-/// A router that keeps nothing of the past but totals for each sender: no call takes memory but the one that opens it, so that it can go on
+/// A router that keeps nothing of the past but totals for each sender: no call allocates but the one that opens it, so that it can go on
 /// until a sender has offered 4,294,967,295 packets, or a device is at the end of its pulls or moments. What is said of it is said of all
 /// events so far.
 #[derive(Drop)]
@@ -52,7 +52,7 @@ impl CountingRouter {
     ///
     /// # Errors
     ///
-    /// Fault 1 where memory is refused.
+    /// Fault 1 where an allocation fails.
     pub fn open(alloc: Global, plan: &Plan) -> Result<CountingRouter, Fault>
         ensures opened { IfOk result (IsOpened plan.now keeps_nothing) }
         ensures fault { IsOkUnless result Fault.Memory }
@@ -119,7 +119,7 @@ impl CountingRouter {
         self.router.can_offer(place)
     }
 
-    /// The sender at this place offers its next packet, of this length in bytes, to its queue. Answers the packet, and what became of it.
+    /// The sender at this place offers its next packet, of this length in bytes, to its queue. Returns the packet, and what became of it.
     pub fn offer(&mut self, place: usize, length: u16) -> (Packet, Offered)
         requires can { CanOffer self.old place }
         requires has_length { 1 ≤ length }
@@ -155,7 +155,7 @@ impl CountingRouter {
         requires can { CanPull self.old device moment }
         ensures pulled { IsPulled self.old self.new device moment result }
     {
-        // Nothing is kept, so that no memory is refused.
+        // Nothing is kept, so that no allocation fails.
         let got = self.router.pull(device, moment).unwrap();
         count_given(&mut self.accounts, self.router.senders(), got);
         got
@@ -170,7 +170,7 @@ impl CountingRouter {
         self.router.moment(device)
     }
 
-    /// How many packets are left for a device: accepted at it, and neither evicted nor come out.
+    /// How many packets are left for a device: accepted at it, and neither evicted nor emitted.
     pub fn left(&self, device: u16) -> u64
         requires { device < length self.now.setup.trees }
         ensures { accepted_at self.now device ≡ evicted_at self.now device + emitted_at self.now device + result }
@@ -210,7 +210,7 @@ impl CountingRouter {
     pub fn accounts(&self) -> &[Account]
         ensures { result.now ≡ map (account_after self.now.events) self.now.setup.senders }
     {
-        // That these are the accounts is known where the router is read.
+        // Reading the router brings its invariant into scope, which says that these are the accounts.
         let _ = &self.router;
         self.accounts.as_slice()
     }

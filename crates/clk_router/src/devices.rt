@@ -11,13 +11,13 @@ use std::alloc::Global;
 /// A device, and what was done at it.
 #[derive(Drop)]
 pub struct Device {
-    /// Its tree, with the log of its pulls and the packets that came out, as far as these are kept.
+    /// Its tree, with the log of its pulls and the packets that were emitted, as far as these are kept.
     pub session: Kernel,
-    /// How many packets its queues took and didn't put out for later ones.
+    /// How many packets its queues accepted and didn't evict for later ones.
     pub kept: u64,
 }
 
-/// A device for each of these trees, before it is pulled, which keeps this of the past. Fault 1 where memory is refused.
+/// A device for each of these trees, before it is pulled, which keeps this of the past. Fault 1 where an allocation fails.
 pub fn devices_of(alloc: Global, trees: Vec<Tree>, keeps: Keeps) -> Result<Vec<Device>, Fault>
     requires each { AllByRecursion CanStand trees.items }
     ensures made { IfOk result (λ devices. devices.items ≡ map (device_made keeps) trees.items) }

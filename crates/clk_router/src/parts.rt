@@ -40,7 +40,7 @@ impl Parts {
     ghost use Rattle.clk_router.specs.Events.{Setup, Event, offered, setup_of};
     ghost use Rattle.clk_router.specs.inside.Parts.{CanStand, CanOfferAt, CanPullAt, CanCloseAt, CanCount, Counts, CountsLeft, IsAt, IsWhole, KeepsAs, LeadsOnByPull, LeadsOnByPulls, ClosesBy, Stand, device_log, device_emitted};
 
-    /// The parts of a router before anything has happened, whose devices keep this of the past. Fault 1 where memory is refused.
+    /// The parts of a router before anything has happened, whose devices keep this of the past. Fault 1 where an allocation fails.
     pub fn new(
         alloc: Global,
         trees: Vec<Tree>,
@@ -99,8 +99,8 @@ impl Parts {
         }
     }
 
-    /// Pulls a device once, at this moment in ticks or, where that is later, at the greatest so far. Fault 1 where memory is refused to
-    /// what it keeps.
+    /// Pulls a device once, at this moment in ticks or, where that is later, at the greatest so far. Fault 1 where an allocation for
+    /// what it keeps fails.
     pub fn pull(&mut self, device: u16, moment: u64) -> Result<Option<Packet>, Fault>
         requires can { CanPullAt self.old.keeps (slice_get self.old.devices.items device) }
         requires moment { moment < end_of_moments }
@@ -126,7 +126,7 @@ impl Parts {
     }
 
     /// Pulls a device, one tick apart and the first time one tick after the greater of this moment and the greatest so far, until all
-    /// packets that are left for it in queues and heads came out. Answers these. Fault 1 where memory is refused.
+    /// packets that are left for it in queues and heads were emitted. Returns these. Fault 1 where an allocation fails.
     pub fn close(
         &mut self,
         alloc: Global,
@@ -151,7 +151,7 @@ impl Parts {
         session.close(alloc, &mut self.queues, left, moment)
     }
 
-    /// What the devices kept: their visits and the packets that came out of each. Fault 1 where memory is refused to the two lists.
+    /// What the devices kept: their visits and the packets that each emitted. Fault 1 where an allocation for the two lists fails.
     pub fn into_kept(self, alloc: Global) -> Result<(Vec<Vec<Visit>>, Vec<Vec<Packet>>), Fault>
         requires { AllByRecursion (KeepsAs self.keeps) self.devices.items }
         ensures visits { IfOk result (λ kept. self.keeps.visits ≡ true → map (λ l. l.items) kept.0.items ≡ map device_log self.devices.items) }
@@ -169,7 +169,7 @@ impl Parts {
     }
 }
 
-/// The devices that the packets of these queues go to. Fault 1 where memory is refused.
+/// The devices that the packets of these queues go to. Fault 1 where an allocation fails.
 fn paths_of(alloc: Global, specs: &[QueueSpec]) -> Result<Vec<u16>, Fault>
     ensures made { IfOk result (λ paths. paths.items ≡ map path_made (map queued specs.now)) }
     ensures fault { IsOkUnless result Fault.Memory }

@@ -12,7 +12,7 @@ use clk_packet::{Offered, Packet};
 use clk_tree::Plan;
 use std::marker::Model;
 
-/// All that has happened to a router, and over what, which contracts alone read: it takes no memory.
+/// All that has happened to a router, and over what, which contracts alone read: ghost state, which costs no memory.
 #[derive(Drop)]
 pub struct Past {
     /// What the router was made over.

@@ -22,13 +22,13 @@ const IDLE: u8 = 0;
 #[derive(Drop)]
 pub struct Queues {
     pub rings: Vec<Ring>,
-    // A mark for each, by which queues that hold nothing are passed over.
+    // A mark for each, by which queues that hold nothing are skipped.
     marks: Vec<u8>,
     ghost marked: { AreMarked rings.items marks.items },
 }
 
 impl Queues {
-    /// Empty queues of the kinds and capacities of these. Fault 1 where memory is refused.
+    /// Empty queues of the kinds and capacities of these. Fault 1 where an allocation fails.
     pub fn new(alloc: Global, specs: &[QueueSpec]) -> Result<Queues, Fault>
         requires capacities { AllByRecursion HasCapacity (map queued specs.now) }
         ensures made { IfOk result (λ queues. queues.rings.items ≡ map queue_made (map queued specs.now)) }
@@ -75,7 +75,7 @@ impl Ask for Queues {
 
     fn idle_from(&self, leaf: u16, count: u16) -> u16 {
         let number = usize::from(leaf);
-        // Most often the first may hold a packet, which is sooner seen than looked for.
+        // Most often the first may hold a packet, and to see that its mark says so takes less time than a search.
         if number >= self.marks.len() || self.marks[number] == FILLED {
             return 0;
         }

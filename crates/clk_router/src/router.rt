@@ -59,7 +59,7 @@ impl Router {
     ///
     /// # Errors
     ///
-    /// Fault 1 where memory is refused.
+    /// Fault 1 where an allocation fails.
     pub fn open(alloc: Global, plan: &Plan, keeps: Keeps) -> Result<Router, Fault>
         ensures opened { IfOk result (IsOpened plan.now keeps) }
         ensures fault { IsOkUnless result Fault.Memory }
@@ -138,7 +138,7 @@ impl Router {
         false
     }
 
-    /// The sender at this place offers its next packet, of this length in bytes, to its queue. Answers the packet, and what became of it.
+    /// The sender at this place offers its next packet, of this length in bytes, to its queue. Returns the packet, and what became of it.
     pub fn offer(&mut self, place: usize, length: u16) -> (Packet, Offered)
         requires can { CanOffer self.old place }
         requires has_length { 1 ≤ length }
@@ -169,7 +169,7 @@ impl Router {
     ///
     /// # Errors
     ///
-    /// Fault 1 where memory is refused to what the devices keep, which never comes where they keep nothing. Then nothing has happened.
+    /// Fault 1 where an allocation for what the devices keep fails, which never happens where they keep nothing. Then nothing has happened.
     pub fn pull(&mut self, device: u16, moment: u64) -> Result<Option<Packet>, Fault>
         requires can { CanPull self.old device moment }
         ensures pulled { IfOk result (IsPulled self.old self.new device moment) }
@@ -184,11 +184,11 @@ impl Router {
     }
 
     /// Closes a device: pulls it one tick apart and the first time one tick after the greater of this moment and the greatest so far,
-    /// until all that was accepted at it was evicted or came out. Answers what came out in the closing.
+    /// until all that was accepted at it was evicted or emitted. Returns what was emitted in the closing.
     ///
     /// # Errors
     ///
-    /// Fault 1 where memory is refused. Then it holds the pulls that were made.
+    /// Fault 1 where an allocation fails. Then it holds the pulls that were made.
     pub fn close(
         &mut self,
         alloc: Global,
@@ -243,7 +243,7 @@ impl Router {
         }
     }
 
-    /// How many packets are left for a device: accepted at it, and neither evicted nor come out.
+    /// How many packets are left for a device: accepted at it, and neither evicted nor emitted.
     pub fn left(&self, device: u16) -> u64
         requires { device < length self.now.setup.trees }
         ensures { accepted_at self.now device ≡ evicted_at self.now device + emitted_at self.now device + result }
@@ -271,12 +271,12 @@ impl Router {
         true
     }
 
-    /// What its devices kept: the visits of each, and the packets that came out of it, in order. Takes memory for two lists of as many
-    /// members as there are devices.
+    /// What its devices kept: the visits of each, and the packets that it emitted, in order. Allocates two lists of as many members as
+    /// there are devices.
     ///
     /// # Errors
     ///
-    /// Fault 1 where memory is refused.
+    /// Fault 1 where an allocation fails.
     pub fn into_kept(self, alloc: Global) -> Result<(Vec<Vec<Visit>>, Vec<Vec<Packet>>), Fault>
         ensures visits { IfOk result (λ kept. self.keeps.visits ≡ true → map (λ l. l.items) kept.0.items ≡ logs_of self.setup self.events) }
         ensures packets { IfOk result (λ kept. self.keeps.packets ≡ true → map (λ l. l.items) kept.1.items ≡ map emitted (logs_of self.setup self.events)) }
@@ -286,7 +286,7 @@ impl Router {
     }
 }
 
-/// The tree of each device of a plan. Fault 1 where memory is refused.
+/// The tree of each device of a plan. Fault 1 where an allocation fails.
 fn trees_of(alloc: Global, plan: &Plan) -> Result<Vec<Tree>, Fault>
     ensures trees { IfOk result (λ trees. AreTreesOf plan.now trees.items) }
     ensures each { IfOk result (λ trees. AllByRecursion CanStand trees.items) }

@@ -44,7 +44,7 @@ impl Sender {
     }
 }
 
-/// These senders, before they have sent anything. Fault 1 where memory is refused.
+/// These senders, before they have sent anything. Fault 1 where an allocation fails.
 pub fn senders_of(alloc: Global, specs: &[SenderSpec]) -> Result<Vec<Sender>, Fault>
     ensures made { IfOk result (λ senders. senders.items ≡ map sender_made specs.now) }
     ensures fault { IsOkUnless result Fault.Memory }
@@ -60,7 +60,7 @@ pub fn senders_of(alloc: Global, specs: &[SenderSpec]) -> Result<Vec<Sender>, Fa
     Ok(senders)
 }
 
-/// The numbers of these senders. Fault 1 where memory is refused.
+/// The numbers of these senders. Fault 1 where an allocation fails.
 pub fn numbers_of(alloc: Global, specs: &[SenderSpec]) -> Result<Vec<u16>, Fault>
     ensures made { IfOk result (λ numbers. numbers.items ≡ map number_of specs.now) }
     ensures fault { IsOkUnless result Fault.Memory }
