@@ -8,3 +8,5 @@ mod AfterOffer
 mod Fitting
 mod SoFar
 mod Openings
+mod Pulls
+mod Reclaims

@@ -4,4 +4,5 @@ pub mod Opening
 pub mod Taking
 pub mod Pulling
 pub mod Outcome
+pub mod Reclaiming
 pub mod inside

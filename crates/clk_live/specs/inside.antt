@@ -3,3 +3,5 @@ pub mod Kept
 pub mod Noted
 pub mod Room
 pub mod Opened
+pub mod Buffers
+pub mod Given

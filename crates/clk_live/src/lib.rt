@@ -4,9 +4,11 @@
 mod live;
 mod opening;
 mod pulling;
+mod reclaiming;
 mod taking;
 mod tokens;
 
 pub use live::Live;
 pub use pulling::Emitted;
+pub use reclaiming::Reclaimed;
 pub use taking::{Outcome, Taken};

@@ -13,10 +13,10 @@ pub struct Emitted {
 }
 
 impl Live {
-    ghost use Rattle.std.specs.Prelude.{◌≡◌};
+    ghost use Rattle.std.specs.Prelude.{◌≡◌, ◌<◌, ◌≤◌, length};
     ghost use Rattle.clk_router.specs.Course.{CanPull};
     ghost use Rattle.clk_live.specs.State.{seen};
-    ghost use Rattle.clk_live.specs.Pulling.{IsPulledLive};
+    ghost use Rattle.clk_live.specs.Pulling.{IsPulledLive, ArePulled};
 
     /// Pulls a device once, at this moment in ticks or, if that is earlier than its latest moment, at its latest.
     pub fn pull(&mut self, device: u16, moment: u64) -> Option<Emitted>
@@ -35,5 +35,26 @@ impl Live {
         let queue = self.router.accounts()[usize::from(place)].queue;
         let token = self.tokens[usize::from(queue)].pop_front().unwrap();
         Some(Emitted { packet, token })
+    }
+
+    /// Pulls a device at this moment until a pull emits no packet, or `emitted` is full. Returns how many packets were emitted. It also stops
+    /// if no more pulls can be made.
+    pub fn pull_many(&mut self, device: u16, moment: u64, emitted: &mut [Emitted]) -> usize
+        requires can { CanPull self.old.course device moment }
+        ensures pulled { ArePulled device moment (seen self.old) (seen self.new) emitted.old emitted.new result }
+        ensures unchanged { (self.new.outlets ≡ self.old.outlets) × (self.new.turn ≡ self.old.turn) }
+    {
+        let mut given = 0;
+        while given < emitted.len() {
+            let Some(one) = self.pull(device, moment) else {
+                return given;
+            };
+            emitted[given] = one;
+            given += 1;
+            if !self.router.can_pull(device, moment) {
+                return given;
+            }
+        }
+        given
     }
 }

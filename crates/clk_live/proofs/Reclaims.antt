@@ -1,0 +1,69 @@
+-- The tokens of all queues, one queue after another.
+use Rattle.std.proofs.Common.{◌≡◌, ℕ, zero, suc, ◌+◌, ◌<◌, ◌++◌, ◌∷◌, [], List, append_assoc, append-nil, length, map, drop, set, Option, Some, None, slice_get, refl, sym, ap, ap₂, ◌∙◌, subst, arith}
+use Rattle.std.specs.List.{flat_map, range_with_len, AllZip}
+use Rattle.std.proofs.lemmas.List.{drop-set-lt}
+use Rattle.std.proofs.lemmas.Option.{slice_get_within}
+use Rattle.circular_buffer.specs.Buffer.{Buffer, buffer}
+use Rattle.clk_packet.specs.declared.packet.Packet.{Packet}
+use Rattle.clk_inlet.specs.Halves.{taken}
+use Rattle.clk_inlet.specs.declared.outlet.Outlet.{Outlet}
+use Rattle.clk_router.specs.Course.{Course}
+use Rattle.clk_live.specs.State.{IsTokenOf}
+use Rattle.clk_live.specs.Reclaiming.{inside_at, all_inside, AreTokensInside}
+use Rattle.clk_live.specs.inside.Buffers.{buffer_items}
+use Rattle.clk_live.specs.inside.Kept.{IsKept}
+use Rattle.clk_live.proofs.Lists.{member, set-here}
+
+zip-join : {X Y : Type 0} (R : X → Y → Type 0) (xs us : List X) (ys vs : List Y) → AllZip R xs ys → AllZip R us vs → AllZip R (xs ++ us) (ys ++ vs)
+zip-join R [] us [] vs h k = k
+zip-join R [] us (y ∷ ys) vs h k = absurd h
+zip-join R (x ∷ xs) us [] vs h k = absurd h
+zip-join R (x ∷ xs) us (y ∷ ys) vs h k = (h.0, zip-join R xs us ys vs h.1 k)
+
+zip-flat : (R : Packet → ℕ → Type 0) (f : ℕ → List Packet) (bs : List (Buffer ℕ)) (k : ℕ) → ((i : ℕ) (b : Buffer ℕ) → slice_get bs i ≡ Some b → AllZip R (f (k + i)) b.items)
+    → AllZip R (flat_map f (range_with_len k (length bs))) (flat_map buffer_items bs)
+zip-flat R f [] k each = tt
+zip-flat R f (b ∷ bs) k each =
+    zip-join R (f k) (flat_map f (range_with_len (k + 1) (length bs))) b.items (flat_map buffer_items bs) (let first = each 0 b refl in let here : k + 0 ≡ k = omega arith in subst (λ n. AllZip R (f n) b.items) here first)
+    (zip-flat R f bs (k + 1) (λ i c at. let e : k + suc i ≡ k + 1 + i = omega arith in subst (λ n. AllZip R (f n) c.items) e (each (suc i) c at)))
+
+pub all-tokens : (c : Course) (outlets : List Outlet) (buffers : List (Buffer ℕ)) → IsKept c outlets buffers → AllZip (IsTokenOf c.setup (map taken outlets)) (all_inside c) (flat_map buffer_items buffers)
+all-tokens c outlets buffers kept =
+    subst (λ n. AllZip (IsTokenOf c.setup (map taken outlets)) (flat_map (λ q. inside_at c.setup c.events q (slice_get c.setup.queues q)) (range_with_len 0 n)) (flat_map buffer_items buffers)) kept.queues
+    (zip-flat (IsTokenOf c.setup (map taken outlets)) (λ q. inside_at c.setup c.events q (slice_get c.setup.queues q)) buffers 0 each)
+  where
+    each : (i : ℕ) (b : Buffer ℕ) → slice_get buffers i ≡ Some b → AllZip (IsTokenOf c.setup (map taken outlets)) (inside_at c.setup c.events (0 + i) (slice_get c.setup.queues (0 + i))) b.items
+    each i b at =
+        let within = slice_get_within buffers i b at in
+        let room = member c.setup.queues i (omega (arith, within, kept.queues)) in
+        let e : i ≡ 0 + i = omega arith in
+        subst (λ n. AllZip (IsTokenOf c.setup (map taken outlets)) (inside_at c.setup c.events n (slice_get c.setup.queues n)) b.items) e
+        (subst (λ o. AllZip (IsTokenOf c.setup (map taken outlets)) (inside_at c.setup c.events i o) b.items) (sym room.1) (kept.tokens i room.0 b room.1 at).tokens)
+
+-- the tokens from a queue on
+pub from-queue : (bs : List (Buffer ℕ)) (q : ℕ) (b : Buffer ℕ) → slice_get bs q ≡ Some b → flat_map buffer_items (drop q bs) ≡ b.items ++ flat_map buffer_items (drop (q + 1) bs)
+from-queue [] q b e = absurd (cc)
+from-queue (c ∷ bs) zero b e = let same : c ≡ b = cc in ap (λ (x : Buffer ℕ). x.items ++ flat_map buffer_items bs) same
+from-queue (c ∷ bs) (suc q) b e = let n : suc (q + 1) ≡ suc q + 1 = omega arith in from-queue bs q b e ∙ ap (λ k. b.items ++ flat_map buffer_items (drop k (c ∷ bs))) n
+
+after-set : (bs : List (Buffer ℕ)) (q : ℕ) (b : Buffer ℕ) → drop (q + 1) (set bs q b) ≡ drop (q + 1) bs
+after-set bs q b = drop-set-lt (q + 1) bs q b (omega arith)
+
+-- the first token of the queue is the next one
+pub next-token : (bs : List (Buffer ℕ)) (q : ℕ) (b left : Buffer ℕ) (token : ℕ) → slice_get bs q ≡ Some b → Some token ≡ slice_get b.items 0 → left ≡ buffer (drop 1 b.items) b.capacity
+    → flat_map buffer_items (drop q bs) ≡ token ∷ flat_map buffer_items (drop q (set bs q left))
+next-token bs q b left token at first is =
+    from-queue bs q b at ∙ ap (λ l. l ++ flat_map buffer_items (drop (q + 1) bs)) (begins b.items first)
+    ∙ ap (λ l. token ∷ l) (ap₂ (λ xs ys. xs ++ flat_map buffer_items ys) (sym (ap (λ (x : Buffer ℕ). x.items) is)) (sym (after-set bs q left)) ∙ sym (from-queue (set bs q left) q left (set-here bs q b left at)))
+  where
+    begins : (xs : List ℕ) → Some token ≡ slice_get xs 0 → xs ≡ token ∷ drop 1 xs
+    begins [] e = absurd (cc)
+    begins (x ∷ xs) e = let same : token ≡ x = cc in ap (λ y. y ∷ xs) (sym same)
+
+-- an empty queue has none
+pub next-queue : (bs : List (Buffer ℕ)) (q : ℕ) (b left : Buffer ℕ) → slice_get bs q ≡ Some b → None ≡ slice_get b.items 0 → flat_map buffer_items (drop q bs) ≡ flat_map buffer_items (drop (q + 1) (set bs q left))
+next-queue bs q b left at none = from-queue bs q b at ∙ ap (λ l. l ++ flat_map buffer_items (drop (q + 1) bs)) (empty b.items none) ∙ ap (flat_map buffer_items) (sym (after-set bs q left))
+  where
+    empty : (xs : List ℕ) → None ≡ slice_get xs 0 → xs ≡ []
+    empty [] e = refl
+    empty (x ∷ xs) e = absurd (cc)
