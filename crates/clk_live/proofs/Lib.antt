@@ -10,3 +10,4 @@ mod SoFar
 mod Openings
 mod Pulls
 mod Reclaims
+mod Drains

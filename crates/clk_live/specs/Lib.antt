@@ -3,6 +3,7 @@ pub mod State
 pub mod Opening
 pub mod Taking
 pub mod Pulling
+pub mod Draining
 pub mod Outcome
 pub mod Reclaiming
 pub mod inside

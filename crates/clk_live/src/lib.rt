@@ -1,6 +1,7 @@
 //! A router whose senders offer from threads of their own, through inlets.
 #![tactic(auto)]
 
+mod draining;
 mod live;
 mod opening;
 mod pulling;
@@ -8,6 +9,7 @@ mod reclaiming;
 mod taking;
 mod tokens;
 
+pub use draining::{Departed, DrainEnd};
 pub use live::Live;
 pub use pulling::Emitted;
 pub use reclaiming::Reclaimed;
