@@ -1,8 +1,8 @@
 -- The order of items: what follows from MayFollow.
-use Rattle.std.proofs.Common.{◌≡◌, ◌++◌, ◌∷◌, [], List, true, false, refl, sym, subst, arith}
-use Rattle.std.proofs.lemmas.List.{append_assoc, append-nil}
+use Rattle.std.proofs.Common.{◌≡◌, ℕ, zero, suc, ◌-◌, ◌≤◌, ◌||◌, Bool, ◌++◌, ◌∷◌, [], List, length, take, true, false, refl, sym, ap, ◌∙◌, subst, arith}
+use Rattle.std.proofs.lemmas.List.{append_assoc, append-nil, length-append}
 use Rattle.rtrb.specs.Fifo.{Allowed}
-use Rattle.clk_inlet.specs.Items.{MayFollow, has_end, IsWhole}
+use Rattle.clk_inlet.specs.Items.{MayFollow, has_end, is_end, IsWhole}
 use Rattle.clk_inlet.specs.declared.item.Item.{Item}
 
 module _ {T : Type 0} (allows : List T → T → Type 0) where
@@ -36,3 +36,23 @@ whole items ended (x ∷ more) h = let no : has_end items ≡ false = (second_pa
 -- none of the items before one that is allowed is the end
 pub none_before : (before ys zs : List Item) (y : Item) → Allowed MayFollow before (ys ++ y ∷ zs) → has_end (before ++ ys) ≡ false
 none_before before ys zs y h = (second_part MayFollow before ys (y ∷ zs) h).0.not_ended
+
+-- a front that reaches past the end has it
+has_through : (items more : List Item) (n : ℕ) → length items ≤ n → has_end items ≡ true → has_end (take n (items ++ more)) ≡ true
+has_through [] more n le h = absurd (grind arith)
+has_through (x ∷ items) more zero le h = absurd (omega (arith, le))
+has_through (x ∷ items) more (suc n) le h = by_test (is_end x) h (has_through items more n (omega (arith, le)))
+  where
+    by_test : (b : Bool) → (b || has_end items) ≡ true → (has_end items ≡ true → has_end (take n (items ++ more)) ≡ true) → (b || has_end (take n (items ++ more))) ≡ true
+    by_test true e rest = refl
+    by_test false e rest = rest e
+
+-- where nothing stands behind the end, what has the end is all
+pub all_at_end : (items more all : List Item) → items ++ more ≡ all → has_end (take (length all - 1) all) ≡ false → has_end items ≡ true → items ≡ all
+all_at_end items [] all e last ended = sym (append-nil items) ∙ e
+all_at_end items (x ∷ more) all e last ended =
+    let longer = length-append items (x ∷ more) in
+    let many = ap length e in
+    let through : has_end (take (length all - 1) (items ++ x ∷ more)) ≡ true = has_through items (x ∷ more) (length all - 1) (omega (arith, longer, many)) ended in
+    let no : has_end (take (length all - 1) all) ≡ true = ap (λ (l : List Item). has_end (take (length all - 1) l)) (sym e) ∙ through in
+    absurd (grind arith)

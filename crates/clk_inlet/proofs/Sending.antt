@@ -11,7 +11,7 @@ use Rattle.clk_inlet.proofs.Taking.{more}
 both : (before xs : List Item) → has_end before ≡ false → has_end xs ≡ false → has_end (before ++ xs) ≡ false
 both before xs b x = grind (arith, list_any-append is_end before xs, b, x)
 
-front : (xs : List Item) (i : ℕ) → has_end xs ≡ false → has_end (take i xs) ≡ false
+pub front : (xs : List Item) (i : ℕ) → has_end xs ≡ false → has_end (take i xs) ≡ false
 front xs i x = let e : has_end (take i xs ++ drop i xs) ≡ false = ap has_end (take-append-drop i xs) ∙ x in grind (arith, list_any-append is_end (take i xs) (drop i xs), e)
 
 grown : (before xs : List Item) → has_end before ≡ false → has_end xs ≡ false → length (packets (before ++ xs)) ≡ length (packets before) + length xs

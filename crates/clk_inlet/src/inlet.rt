@@ -1,6 +1,6 @@
 //! The sender's half of a ring.
 
-ghost use Rattle.std.specs.Prelude.{◌≡◌, ◌+◌, ◌<◌, ◌≤◌, true, false, length, take};
+ghost use Rattle.std.specs.Prelude.{◌≡◌, ◌+◌, ◌-◌, ◌<◌, ◌≤◌, true, false, length, take};
 ghost use Rattle.rtrb.specs.Ring.{sent, known_free};
 ghost use Rattle.clk_inlet.specs.Items.{has_end, packets};
 ghost use Rattle.clk_inlet.specs.Limits.{most_packets};
@@ -22,6 +22,8 @@ pub struct Inlet {
     ended: bool,
     ghost counted: { next ≡ length (packets (sent producer)) },
     ghost end_is_put: { ended ≡ has_end (sent producer) },
+    // Nothing stands behind the end.
+    ghost end_is_last: { has_end (take (length (sent producer) - 1) (sent producer)) ≡ false },
     // A slot is reserved for the end.
     ghost reserved: { ended ≡ false → free < known_free producer },
     ghost numbers_left: { next + free ≤ most_packets },

@@ -125,6 +125,7 @@ impl Outlet {
         ensures popped { popped self.new ≡ popped self.old }
         ensures seen { IsPrefix (seen self.old) (seen self.new) }
         ensures all { popped self.new ++ seen self.new ≡ pushed inlet.new }
+        ensures at_end { has_end (popped self.new) ≡ true → popped self.new ≡ pushed inlet.new }
         ensures halves { AreHalves inlet.new self.new }
     {
         self.consumer.slots_beside(&mut inlet.producer);

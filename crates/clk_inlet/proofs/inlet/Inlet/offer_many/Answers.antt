@@ -1,8 +1,8 @@
-use Rattle.std.proofs.Common.{◌∙◌, sym, ap, arith}
+use Rattle.std.proofs.Common.{◌-◌, ◌∙◌, length, sym, ap, arith}
 use Rattle.rtrb.specs.Ring.{sent}
 use Rattle.clk_inlet.specs.Items.{has_end}
 use Rattle.clk_inlet.proofs.Halves.{sender_stays}
-use Rattle.clk_inlet.proofs.Sending.{each_may_follow, sent_on, still_open}
+use Rattle.clk_inlet.proofs.Sending.{front, each_may_follow, sent_on, still_open}
 use Rattle.clk_inlet.proofs.inlet.Inlet.offer_many.Goals as goal
 
 pub push_entire_slice-requires : goal.push_entire_slice-requires
@@ -23,6 +23,7 @@ invariant_of-self c =
     record {
       counted = omega (arith, s.2, i.counted, c.split_at.ensures.front_len);
       end_is_put = open_yet ∙ sym s.0;
+      end_is_last = front (sent c.push_entire_slice.new.self) (length (sent c.push_entire_slice.new.self) - 1) s.0;
       reserved = λ _. let free = i.reserved open_yet in omega (arith, ok.1, free, r.ensures.room, c.split_at.ensures.front_len, c.packets_in-count.ensures.within);
       numbers_left = omega (arith, i.numbers_left, r.ensures.room, c.packets_in-count.ensures.within);
       full_at_end = λ ended. let none = i.full_at_end ended in omega (arith, none);
