@@ -11,3 +11,4 @@ mod Openings
 mod Pulls
 mod Reclaims
 mod Drains
+mod Meetings

@@ -1,5 +1,5 @@
 -- Lists with one member replaced, and lists side by side.
-use Rattle.std.proofs.Common.{◌≡◌, ℕ, zero, suc, ◌+◌, ◌<◌, ◌==◌, ◌⊎◌, inl, inr, Bool, true, false, List, [], ◌∷◌, ◌++◌, length, take, drop, set, Option, Some, None, MatchOption, slice_get, refl, sym, ap, subst, arith}
+use Rattle.std.proofs.Common.{◌≡◌, ℕ, zero, suc, ◌+◌, ◌<◌, ◌==◌, ◌⊎◌, inl, inr, Bool, true, false, List, [], ◌∷◌, ◌++◌, length, map, take, drop, set, Option, Some, None, MatchOption, slice_get, refl, sym, ap, ◌∙◌, subst, arith}
 use Rattle.std.specs.List.{AllZip}
 use Rattle.std.proofs.lemmas.Bool.Decides.{nat_tests}
 
@@ -103,3 +103,33 @@ zip-at R [] [] e each = tt
 zip-at R [] (y ∷ ys) e each = absurd (omega (arith, e))
 zip-at R (x ∷ xs) [] e each = absurd (omega (arith, e))
 zip-at R (x ∷ xs) (y ∷ ys) e each = (each 0 x y refl refl, zip-at R xs ys (omega (arith, e)) (λ i a b at here. each (suc i) a b at here))
+
+module _ {X Y : Type 0} (R : X → Y → Type 0) where
+  -- members at one place
+  pub zip-read : (xs : List X) (ys : List Y) (i : ℕ) (x : X) (y : Y) → AllZip R xs ys → slice_get xs i ≡ Some x → slice_get ys i ≡ Some y → R x y
+  zip-read [] ys i x y h e f = absurd (cc)
+  zip-read (a ∷ xs) [] i x y h e f = absurd h
+  zip-read (a ∷ xs) (b ∷ ys) zero x y h e f = let is : a ≡ x = cc in let its : b ≡ y = cc in subst (λ c. R c y) is (subst (R a) its h.0)
+  zip-read (a ∷ xs) (b ∷ ys) (suc i) x y h e f = zip-read xs ys i x y h.1 e f
+
+  -- both lists go on at one place
+  pub zip-both : (xs : List X) (ys : List Y) (i : ℕ) (x : X) (y : Y) → AllZip R xs ys → R x y → AllZip R (set xs i x) (set ys i y)
+  zip-both [] [] i x y h r = h
+  zip-both [] (b ∷ ys) i x y h r = absurd h
+  zip-both (a ∷ xs) [] i x y h r = absurd h
+  zip-both (a ∷ xs) (b ∷ ys) zero x y h r = (r, h.1)
+  zip-both (a ∷ xs) (b ∷ ys) (suc i) x y h r = (h.0, zip-both xs ys i x y h.1 r)
+
+-- a member is replaced by one of which a function says the same
+pub map-kept : {X Y : Type 0} (f : X → Y) (xs : List X) (i : ℕ) (x y : X) → slice_get xs i ≡ Some x → f y ≡ f x → map f (set xs i y) ≡ map f xs
+map-kept f [] i x y e same = absurd (cc)
+map-kept {X} {Y} f (z ∷ xs) zero x y e same = let is : z ≡ x = cc in ap (λ (u : Y). u ∷ map f xs) (same ∙ ap f (sym is))
+map-kept {X} {Y} f (z ∷ xs) (suc i) x y e same = ap (λ (us : List Y). f z ∷ us) (map-kept f xs i x y e same)
+
+-- lists of which a function says the same say the same at a place
+pub same-at : {X Y : Type 0} (f : X → Y) (xs ys : List X) (i : ℕ) (y : X) → map f ys ≡ map f xs → slice_get ys i ≡ Some y → (x : X) × (slice_get xs i ≡ Some x) × (f y ≡ f x)
+same-at f [] [] i y e at = absurd (cc)
+same-at f [] (b ∷ ys) i y e at = absurd (cc)
+same-at f (a ∷ xs) [] i y e at = absurd (cc)
+same-at f (a ∷ xs) (b ∷ ys) zero y e at = let is : b ≡ y = cc in let first : f b ≡ f a = cc in (a, refl, ap f (sym is) ∙ first)
+same-at f (a ∷ xs) (b ∷ ys) (suc i) y e at = let rest : map f ys ≡ map f xs = cc in same-at f xs ys i y rest at

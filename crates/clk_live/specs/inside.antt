@@ -5,3 +5,4 @@ pub mod Room
 pub mod Opened
 pub mod Buffers
 pub mod Given
+pub mod Met

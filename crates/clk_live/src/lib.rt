@@ -6,6 +6,7 @@ mod live;
 mod opening;
 mod pulling;
 mod reclaiming;
+mod settling;
 mod taking;
 mod tokens;
 

@@ -3,7 +3,7 @@
 ghost use Rattle.std.specs.Prelude.{◌≡◌, ◌≤◌, true, false, length, map};
 ghost use Rattle.clk_inlet.specs.Halves.{popped, taken};
 ghost use Rattle.clk_inlet.specs.Items.{has_end, IsWhole};
-ghost use Rattle.clk_router.specs.Settled.{IsDrained, IsCourseAccounted};
+ghost use Rattle.clk_router.specs.Settled.{IsDrained, IsCourseAccounted, AreOutOnce};
 ghost use Rattle.clk_router.specs.InsideQueues.{AreOutOrInside};
 ghost use Rattle.clk_router.specs.Events.{CanHappen};
 
@@ -55,6 +55,7 @@ impl Live {
         ensures happened { CanHappen self.now.course.setup self.now.course.events }
         ensures offered { AreAllOffered self.now.course (map taken self.now.outlets) }
         ensures accounted { IsCourseAccounted self.now.course.setup self.now.course.events }
+        ensures once { AreOutOnce self.now.course.setup self.now.course.events }
         ensures out_or_inside { AreOutOrInside self.now.course.setup self.now.course.events }
     {
         self.router.has_happened();

@@ -15,8 +15,7 @@ loop-self-preserved c =
     let left : HasLeft l.self.course d = (let some = c.loop-self-test.true in omega (arith, counted, some)) in
     let latest : c.moment-moment.result ≡ moment_at l.self.course d = subst (λ (s : LiveState). c.moment-moment.result ≡ moment_at s.course d) c.self.view_is c.moment-moment.ensures.moment in
     let low : l.given < length l.departed = grind arith in
-    let setup = ap (λ (k : Course). length k.setup.trees) c.pull-got.ensures.pulled.pulled.goes_on in
-    (
+    let setup = ap (λ (k : Course). length k.setup.trees) c.pull-got.ensures.pulled.pulled.goes_on in (
       drained-more d (seen c.args.self.now) (seen l.self) (seen c.pull-got.new.self) c.args.departed.now l.departed c.note-given.new.departed l.made l.given c.note-given.result pull low l.invariant.0
           (record { left = left; moment = ap (λ n. n + 1) latest; pulled = c.pull-got.ensures.pulled }) c.note-given.auto.departed c.note-given.ensures.within c.note-given.ensures.filled c.note-given.ensures.others,
       (let there = l.invariant.1 in omega (arith, there, setup)),
