@@ -58,8 +58,8 @@ pub added-every : {X : Type 0} (items : X → List SeatLists) (queues : List Lea
     → AreAddingEach items queues before seats added place rest → added ≡ before ++ flat_map items seats
 added-every items queues before seats added place rest none h = sym (append-nil added) ∙ ap (λ xs. added ++ flat_map items xs) (sym none) ∙ h.all
 
--- Inlets were made of the first so many queues, and the taps of the others are to come.
-pub record AreInlets (queues : List LeafQueue) (taps : List TapLists) (made : List LineLists) (place : ℕ) (rest : List TapLists) : Type 0 where
+-- Open lines were made of the first so many queues, and the taps of the others are to come.
+pub record AreOpenLines (queues : List LeafQueue) (taps : List TapLists) (made : List LineLists) (place : ℕ) (rest : List TapLists) : Type 0 where
   pub left : AreTapsOf (drop place queues) rest
   pub all : made ++ lines_from (drop place queues) rest ≡ lines_from queues taps
 
@@ -79,23 +79,23 @@ taps-place zero (q ∷ queues) t rest h = record { within = omega arith; here = 
 taps-place (suc place) [] t rest h = absurd h
 taps-place (suc place) (q ∷ queues) t rest h = let later = taps-place place queues t rest h in record { within = let lt = later.within in omega (arith, lt); here = later.here; later = later.later; lines = later.lines }
 
-pub inlet-place : (queues : List LeafQueue) (taps : List TapLists) (made : List LineLists) (place : ℕ) (rest more : List TapLists) (t : TapLists) → rest ≡ t ∷ more → AreInlets queues taps made place rest → IsTapsPlace queues place t more
-inlet-place queues taps made place rest more t next h = taps-place place queues t more (subst (AreTapsOf (drop place queues)) next h.left)
+pub open_line-place : (queues : List LeafQueue) (taps : List TapLists) (made : List LineLists) (place : ℕ) (rest more : List TapLists) (t : TapLists) → rest ≡ t ∷ more → AreOpenLines queues taps made place rest → IsTapsPlace queues place t more
+open_line-place queues taps made place rest more t next h = taps-place place queues t more (subst (AreTapsOf (drop place queues)) next h.left)
 
-pub made-inlet : (queues : List LeafQueue) (taps : List TapLists) (made : List LineLists) (place : ℕ) (rest more : List TapLists) (t : TapLists) (q : LeafQueue) → rest ≡ t ∷ more → q ≡ get_or queues place q → AreInlets queues taps made place rest
-    → AreInlets queues taps (made ++ line_at q t ∷ []) (place + 1) more
-made-inlet queues taps made place rest more t q next is h =
-    let at = inlet-place queues taps made place rest more t next h in
+pub made-open_line : (queues : List LeafQueue) (taps : List TapLists) (made : List LineLists) (place : ℕ) (rest more : List TapLists) (t : TapLists) (q : LeafQueue) → rest ≡ t ∷ more → q ≡ get_or queues place q → AreOpenLines queues taps made place rest
+    → AreOpenLines queues taps (made ++ line_at q t ∷ []) (place + 1) more
+made-open_line queues taps made place rest more t q next is h =
+    let at = open_line-place queues taps made place rest more t next h in
     let lines : lines_from (drop place queues) rest ≡ line_at q t ∷ lines_from (drop (suc place) queues) more =
     ap (lines_from (drop place queues)) next ∙ at.lines q ∙ (λ i. line_at (sym is i) t ∷ lines_from (drop (suc place) queues) more) in
-    subst (λ (n : ℕ). AreInlets queues taps (made ++ line_at q t ∷ []) n more) (sym (add-one place))
+    subst (λ (n : ℕ). AreOpenLines queues taps (made ++ line_at q t ∷ []) n more) (sym (add-one place))
     record { left = at.later; all = goes-on made (line_at q t) (lines_from (drop (suc place) queues) more) (lines_from (drop place queues) rest) lines ∙ h.all }
 
 lines-none : (queues : List LeafQueue) → lines_from queues [] ≡ []
 lines-none [] = refl
 lines-none (q ∷ queues) = refl
 
-pub made-all : (queues : List LeafQueue) (taps : List TapLists) (made : List LineLists) (place : ℕ) (rest : List TapLists) → rest ≡ [] → AreInlets queues taps made place rest → made ≡ lines_from queues taps
+pub made-all : (queues : List LeafQueue) (taps : List TapLists) (made : List LineLists) (place : ℕ) (rest : List TapLists) → rest ≡ [] → AreOpenLines queues taps made place rest → made ≡ lines_from queues taps
 made-all queues taps made place rest none h = sym (append-nil made) ∙ ap (λ ls. made ++ ls) (sym (ap (lines_from (drop place queues)) none ∙ lines-none (drop place queues))) ∙ h.all
 
 -- The parts of the first so many devices were handed out, and those of the others are to come.

@@ -6,4 +6,5 @@ pub mod Pulling
 pub mod Draining
 pub mod Outcome
 pub mod Reclaiming
+pub mod Examples
 pub mod inside

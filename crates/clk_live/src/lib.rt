@@ -2,6 +2,7 @@
 #![tactic(auto)]
 
 mod draining;
+mod examples;
 mod live;
 mod opening;
 mod pulling;
@@ -11,6 +12,7 @@ mod taking;
 mod tokens;
 
 pub use draining::{Departed, DrainEnd};
+pub use examples::{pulled_examples, taken_examples, token_examples};
 pub use live::Live;
 pub use pulling::Emitted;
 pub use reclaiming::Reclaimed;

@@ -3,7 +3,7 @@
 use crate::device::DeviceSession;
 use crate::gate::Gate;
 use crate::running::course::Course;
-use crate::running::inlets::Inlets;
+use crate::running::open_lines::OpenLines;
 use clk_packet::Fault;
 use std::marker::Model;
 use std::sync::Wait;
@@ -12,12 +12,12 @@ use std::thread;
 /// How often a consumer that found nothing yields to other threads before it looks again.
 const YIELDS: u32 = 64;
 
-/// A device's session, with the inlets over which it is pulled.
+/// A device's session, with the open lines over which it is pulled.
 #[derive(Drop)]
 pub struct Consumer<'a, W: Wait> {
     pub device: u16,
     pub session: DeviceSession,
-    pub inlets: Inlets<'a, W>,
+    pub open_lines: OpenLines<'a, W>,
 }
 
 impl<'a, W: Wait> Model for Consumer<'a, W> {
@@ -29,7 +29,7 @@ impl<'a, W: Wait> Model for Consumer<'a, W> {
 
     ghost coded = { Prim.hlevel (codes, tree_code) };
 
-    ghost view = { λ c. record { session = c.session.session; visits = c.session.visits; lines = c.inlets } };
+    ghost view = { λ c. record { session = c.session.session; visits = c.session.visits; lines = c.open_lines } };
 }
 
 impl<'a, W: Wait> Consumer<'a, W> {
@@ -71,7 +71,7 @@ impl<'a, W: Wait> Consumer<'a, W> {
         ensures fault { IsOkUnless result Fault.Memory }
     {
         let moment = course.moment(number);
-        let got = self.inlets.pull(&mut self.session, moment)?;
+        let got = self.open_lines.pull(&mut self.session, moment)?;
         course.gate.pulled(self.device, u64::from(number));
         if got.is_none() {
             yield_to_others();

@@ -7,7 +7,7 @@ ghost use Rattle.clk_ruled.specs.Closing.{AreSeatsOf};
 ghost use Rattle.clk_drain.specs.inside.Handed.{FitQueues, FitsQueues, AreTapsOf, AreSeatsOfEach, lines_from, seats_given, feed_from, feeds_from};
 
 use crate::running::consumer::Consumer;
-use crate::running::inlets::{Inlet, Inlets};
+use crate::running::open_lines::{OpenLine, OpenLines};
 use crate::running::opening::{Ends, LeafQueue};
 use crate::running::producer::Producer;
 use clk_packet::Fault;
@@ -69,38 +69,38 @@ fn hand_out_device<'a, W: Wait>(
         taps,
         seats,
     } = ends;
-    let inlets = inlets_for(alloc, queues, taps)?;
+    let open_lines = open_lines_for(alloc, queues, taps)?;
     add_producers(&mut handed.producers, queues, seats)?;
     handed.consumers.push(Consumer {
         device,
         session,
-        inlets: Inlets::new(wait, inlets),
+        open_lines: OpenLines::new(wait, open_lines),
     })?;
     Ok(())
 }
 
-// The inlets of queues, in order.
-fn inlets_for<'a>(
+// The open lines of queues, in order.
+fn open_lines_for<'a>(
     alloc: Global,
     queues: &'a [LeafQueue],
     taps: Vec<BareTap>,
-) -> Result<Vec<Inlet<'a>>, Fault>
+) -> Result<Vec<OpenLine<'a>>, Fault>
     requires taps { AreTapsOf queues.now taps.items }
-    ensures inlets { IfOk result (λ inlets. inlets.items ≡ lines_from queues.now taps.items) }
+    ensures open_lines { IfOk result (λ open_lines. open_lines.items ≡ lines_from queues.now taps.items) }
     ensures fault { IsOkUnless result Fault.Memory }
 {
-    let mut inlets = Vec::with_capacity(alloc, queues.len())?;
+    let mut open_lines = Vec::with_capacity(alloc, queues.len())?;
     let mut place = 0;
     for tap in taps {
         let LeafQueue { leaf, queue, .. } = &queues[place];
-        inlets.push(Inlet {
+        open_lines.push(OpenLine {
             leaf: *leaf,
             queue,
             tap,
         })?;
         place += 1;
     }
-    Ok(inlets)
+    Ok(open_lines)
 }
 
 // Adds a producer for each seat, by queue.

@@ -147,12 +147,12 @@ fn pulled_by<W: Wait>(alloc: Global, consumers: Vec<Consumer<W>>) -> Result<Vec<
     let mut pulled = Vec::with_capacity(alloc, consumers.len())?;
     for Consumer {
         session,
-        inlets,
+        open_lines,
         ..
     } in consumers {
         pulled.push(Pulled {
             session,
-            taps: inlets.into_taps(alloc)?,
+            taps: open_lines.into_taps(alloc)?,
         })?;
     }
     Ok(pulled)

@@ -15,13 +15,13 @@ use std::sync::Wait;
 
 /// The tap of a shared queue, at the leaf where the queue stands. Contracts see a line that has no seats yet.
 #[derive(Drop)]
-pub struct Inlet<'a> {
+pub struct OpenLine<'a> {
     pub leaf: u16,
     pub queue: &'a RuledQueue,
     pub tap: BareTap,
 }
 
-impl<'a> Model for Inlet<'a> {
+impl<'a> Model for OpenLine<'a> {
     ghost use Rattle.std.specs.Prelude.{[]};
     ghost use Rattle.clk_ruled.specs.Queue.{IsTapOf};
     ghost use Rattle.clk_drain.specs.Line.{LineLists};
@@ -33,7 +33,7 @@ impl<'a> Model for Inlet<'a> {
     ghost invariant = { λ i. IsTapOf i.queue.now i.tap };
 }
 
-impl<'a> Inlet<'a> {
+impl<'a> OpenLine<'a> {
     ghost use Rattle.std.specs.Prelude.{◌≡◌};
     ghost use Rattle.clk_drain.specs.Line.{pulling, packets_of};
 
@@ -60,14 +60,14 @@ impl<'a> Inlet<'a> {
     }
 }
 
-/// Inlets, of rising leaves, over which a session is pulled.
+/// Open lines, of rising leaves, over which a session is pulled.
 #[derive(Drop)]
-pub struct Inlets<'a, W: Wait> {
+pub struct OpenLines<'a, W: Wait> {
     wait: &'a W,
-    each: Vec<Inlet<'a>>,
+    each: Vec<OpenLine<'a>>,
 }
 
-impl<'a, W: Wait> Model for Inlets<'a, W> {
+impl<'a, W: Wait> Model for OpenLines<'a, W> {
     ghost use Rattle.std.specs.Prelude.{List};
     ghost use Rattle.clk_packet.specs.Lists.{AreRising};
     ghost use Rattle.clk_drain.specs.Line.{LineLists, leaves_of};
@@ -79,7 +79,7 @@ impl<'a, W: Wait> Model for Inlets<'a, W> {
     ghost invariant = { λ i. AreRising (leaves_of i.each.items) };
 }
 
-impl<'a, W: Wait> Inlets<'a, W> {
+impl<'a, W: Wait> OpenLines<'a, W> {
     ghost use Rattle.std.specs.Prelude.{◌≡◌, ◌<◌, false, map, IfOk, OnOk, IsOkUnless};
     ghost use Rattle.clk_packet.specs.declared.fault.Fault.TheVariants.{Memory};
     ghost use Rattle.clk_sched.specs.Kinds.{pulls_made};
@@ -89,15 +89,15 @@ impl<'a, W: Wait> Inlets<'a, W> {
     ghost use Rattle.clk_packet.specs.Lists.{AreRising};
     ghost use Rattle.clk_drain.specs.Line.{LineLists, AreLinesOf, leaves_of, pulling_all};
 
-    /// Inlets of rising leaves. `wait` is what their queues wait by.
-    pub fn new(wait: &'a W, each: Vec<Inlet<'a>>) -> Inlets<'a, W>
+    /// Open lines of rising leaves. `wait` is what their queues wait by.
+    pub fn new(wait: &'a W, each: Vec<OpenLine<'a>>) -> OpenLines<'a, W>
         requires rise { AreRising (leaves_of each.items) }
         ensures { result ≡ each.entry.items }
     {
-        Inlets { wait, each }
+        OpenLines { wait, each }
     }
 
-    /// Pulls a device's session over its inlets once, as `Session::pull` does.
+    /// Pulls a device's session over its open lines once, as `Session::pull` does.
     ///
     /// # Errors
     ///
@@ -129,14 +129,14 @@ impl<'a, W: Wait> Inlets<'a, W> {
         ensures fault { IsOkUnless result Fault.Memory }
     {
         let mut taps = Vec::with_capacity(alloc, self.each.len())?;
-        for inlet in self.each {
-            taps.push(inlet.into_tap())?;
+        for open_line in self.each {
+            taps.push(open_line.into_tap())?;
         }
         Ok(taps)
     }
 }
 
-impl<'a, W: Wait> Ask for Inlets<'a, W> {
+impl<'a, W: Wait> Ask for OpenLines<'a, W> {
     ghost use Rattle.clk_drain.specs.Line.{PullsAt, has_line};
 
     ghost has = { has_line };
@@ -150,26 +150,26 @@ impl<'a, W: Wait> Ask for Inlets<'a, W> {
         match place_of(self.each.as_slice(), leaf) {
             Some(place) => {
                 let wait = self.wait;
-                let inlet = &mut self.each[place];
-                inlet.pull(wait)
+                let open_line = &mut self.each[place];
+                open_line.pull(wait)
             }
             None => None,
         }
     }
 }
 
-// Where the inlet of a leaf stands, if there is one. The place of its leaf's number is looked at first, as for lines.
-fn place_of(inlets: &[Inlet], leaf: u16) -> Option<usize>
-    requires { AreRising (leaves_of inlets.now) }
-    ensures { MatchOption result (has_line inlets.now leaf ≡ false) (IsPlaceOf inlets.now leaf) }
+// Where the open line of a leaf stands, if there is one. The place of its leaf's number is looked at first, as for lines.
+fn place_of(open_lines: &[OpenLine], leaf: u16) -> Option<usize>
+    requires { AreRising (leaves_of open_lines.now) }
+    ensures { MatchOption result (has_line open_lines.now leaf ≡ false) (IsPlaceOf open_lines.now leaf) }
 {
     let place = usize::from(leaf);
-    if let Some(inlet) = inlets.get(place) {
-        if inlet.leaf() == leaf {
+    if let Some(open_line) = open_lines.get(place) {
+        if open_line.leaf() == leaf {
             return Some(place);
         }
     }
-    match inlets.binary_search_by_key(&leaf, |inlet| inlet.leaf()) {
+    match open_lines.binary_search_by_key(&leaf, |open_line| open_line.leaf()) {
         Ok(place) => Some(place),
         Err(_) => None,
     }

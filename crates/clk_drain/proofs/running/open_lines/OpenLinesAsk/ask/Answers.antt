@@ -1,12 +1,12 @@
 use Rattle.std.proofs.Common.{set, true≢false, sym, ◌∙◌}
 use Rattle.clk_drain.proofs.Placing.{IsAsked, unanswered, asked-at}
-use Rattle.clk_drain.proofs.running.inlets.InletsAsk.ask.Given as given
-use Rattle.clk_drain.proofs.running.inlets.InletsAsk.ask.Goals as goal
+use Rattle.clk_drain.proofs.running.open_lines.OpenLinesAsk.ask.Given as given
+use Rattle.clk_drain.proofs.running.open_lines.OpenLinesAsk.ask.Goals as goal
 
 -- the line of the leaf was found, and pulled
 asked : (g : given.Over) (c : goal.After-self-1 g) → IsAsked c.args.self.now c.args.leaf c.pull.result (set c.self.inside.each.items c.in-Some.place c.pull.new.self)
 asked g c =
-    asked-at c.self.inside.each.items c.args.self.now c.args.leaf c.pull.result c.in-Some.place c.index_mut-inlet.result.now c.pull.new.self c.self.view_is c.self.invariant (rw c.as_slice.ensures.value at c.in-Some.ensures) c.index_mut-inlet.ensures.value c.pull.ensures
+    asked-at c.self.inside.each.items c.args.self.now c.args.leaf c.pull.result c.in-Some.place c.index_mut-open_line.result.now c.pull.new.self c.self.view_is c.self.invariant (rw c.as_slice.ensures.value at c.in-Some.ensures) c.index_mut-open_line.ensures.value c.pull.ensures
 
 pub invariant_of-self : goal.invariant_of-self
 invariant_of-self g c = (asked g c).rise

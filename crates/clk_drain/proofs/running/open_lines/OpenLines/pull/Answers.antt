@@ -1,6 +1,6 @@
 use Rattle.clk_sched.specs.Session.{newly}
 use Rattle.clk_drain.proofs.PulledLines.{lines-pulled, lines-taken, session-same}
-use Rattle.clk_drain.proofs.running.inlets.Inlets.pull.Goals as goal
+use Rattle.clk_drain.proofs.running.open_lines.OpenLines.pull.Goals as goal
 
 pub returns-clause-lines : goal.returns-clause-lines
 returns-clause-lines g c =

@@ -1,0 +1,50 @@
+-- Worked states of a live router over two devices, and what is told of a take and of a pull.
+use Rattle.std.specs.Prelude.{ℕ, List, [], ◌∷◌, Option, Some, None}
+use Rattle.clk_packet.specs.declared.packet.Packet.{Packet}
+use Rattle.clk_packet.specs.declared.packet.Offered.TheVariants as offer
+use Rattle.clk_sched.specs.Examples.Priority.{p0_0, p1_0}
+use Rattle.clk_inlet.specs.Items.{packet_item}
+use Rattle.clk_inlet.specs.declared.item.Item.{Item}
+use Rattle.clk_router.specs.Events.{Event, offered}
+use Rattle.clk_router.specs.SettledExamples.{course_of, emits, p0_1, p1_1}
+use Rattle.clk_live.specs.declared.pulling.Emitted.{Emitted}
+use Rattle.clk_live.specs.declared.taking.Outcome.{Outcome}
+use Rattle.clk_live.specs.declared.taking.Outcome.TheVariants.{Accepted, Refused, Evicted}
+use Rattle.clk_live.specs.declared.taking.Taken.{Taken}
+use Rattle.clk_live.specs.State.{Seen}
+
+-- the packets taken from two senders: two of sender 0, with tokens 7 and 8, and one of sender 1, with token 9
+abbrev pub two_and_one : List (List Item)
+two_and_one = (packet_item 100 7 ∷ packet_item 100 8 ∷ []) ∷ (packet_item 50 9 ∷ []) ∷ []
+
+-- a state in which these events happened, and these packets were taken from senders 0 and 1
+abbrev pub state : List Event → (of_0 of_1 : List Item) → Seen
+state events of_0 of_1 = record { course = course_of events; items = of_0 ∷ of_1 ∷ [] }
+
+-- before and after the first packet of sender 0 was taken, with token 7
+abbrev pub nothing_taken : Seen
+nothing_taken = state [] [] []
+
+abbrev pub one_taken : Seen
+one_taken = state (offered p0_0 offer.Accepted ∷ []) (packet_item 100 7 ∷ []) []
+
+-- the packet was taken, but not offered
+abbrev pub one_kept : Seen
+one_kept = state [] (packet_item 100 7 ∷ []) []
+
+abbrev pub told : Packet → ℕ → Outcome → Taken
+told p token outcome = record { packet = p; token = token; outcome = outcome }
+
+-- before and after a packet of sender 1 was taken, with token 6, and evicted another, which came with token 5
+abbrev pub before_eviction : Seen
+before_eviction = state (offered p1_0 offer.Accepted ∷ []) [] (packet_item 50 5 ∷ [])
+
+abbrev pub after_eviction : Seen
+after_eviction = state (offered p1_0 offer.Accepted ∷ offered p1_1 (offer.Evicted p1_0) ∷ []) [] (packet_item 50 5 ∷ packet_item 50 6 ∷ [])
+
+-- after device 0 emitted the packet
+abbrev pub one_emitted : Seen
+one_emitted = state (offered p0_0 offer.Accepted ∷ emits 0 0 p0_0 ∷ []) (packet_item 100 7 ∷ []) []
+
+abbrev pub emitted_with : ℕ → Option Emitted
+emitted_with token = Some (record { packet = p0_0; token = token })
