@@ -1,10 +1,9 @@
 -- How many packets senders offered: so few that each can offer the next one that comes.
-use Rattle.std.proofs.Common.{◌≡◌, ℕ, zero, suc, ◌+◌, ◌*◌, ◌^◌, ◌<◌, ◌≤◌, ◌==◌, ◌||◌, Bool, true, false, if◌then◌else◌, List, [], ◌∷◌, ◌++◌, length, map, filter, Option, Some, None, slice_get, get_or, refl, sym, ap, ◌∙◌, subst, arith}
-use Rattle.std.specs.Bool.{⊤}
+use Rattle.std.proofs.Common.{◌≡◌, ℕ, suc, ◌+◌, ◌*◌, ◌<◌, ◌≤◌, ◌==◌, ◌||◌, Bool, true, false, if◌then◌else◌, List, [], ◌∷◌, ◌++◌, length, Some, None, slice_get, get_or, refl, sym, ap, ◌∙◌, subst, arith}
 use Rattle.std.specs.List.{filter_map, cons_option, list_any, range_with_len, AllByRecursion}
 use Rattle.std.proofs.lemmas.Bool.{false≢true}
 use Rattle.std.proofs.lemmas.Bool.Decides.{nat_tests}
-use Rattle.std.proofs.lemmas.List.{length-append, length-map, append-nil, map-append}
+use Rattle.std.proofs.lemmas.List.{length-append, length-map, append-nil}
 use Rattle.std.proofs.lemmas.List.Elements.{filter-append, filter_map-append}
 use Rattle.std.proofs.lemmas.List.FromFn.{get_or-range_with_len}
 use Rattle.std.proofs.lemmas.Option.{slice_get_within}
@@ -18,11 +17,11 @@ use Rattle.clk_inlet.specs.Limits.{most_packets}
 use Rattle.clk_inlet.specs.declared.outlet.Outlet.{Outlet}
 use Rattle.circular_buffer.specs.Buffer.{Buffer}
 use Rattle.clk_tree.specs.PlanParts.{number_of}
-use Rattle.clk_router.specs.Course.{Course, sender_at, accepted_at, evicted_at, end_of_packets, CanOffer}
-use Rattle.clk_router.specs.Events.{Setup, Event, offered, pulled, sender_numbers, number_from, numbers_of, happens_at, events_at, accepted_in, evicted_in, IsOfSender, CanHappen}
+use Rattle.clk_router.specs.Course.{Course, sender_at, CanOffer}
+use Rattle.clk_router.specs.Events.{Setup, Event, offered, pulled, sender_numbers, number_from, numbers_of, happens_at, events_at, accepted_in, IsOfSender, CanHappen}
 use Rattle.clk_router.specs.Settled.{offered_in, offered_of}
 use Rattle.clk_live.specs.Outcome.{item_length, packet_length}
-use Rattle.clk_live.specs.inside.Kept.{AreOffered, IsKept}
+use Rattle.clk_live.specs.inside.Kept.{IsKept}
 use Rattle.clk_live.proofs.Lists.{member}
 
 -- a sender offered as many packets as it numbered

@@ -3,7 +3,6 @@ use Rattle.std.proofs.Common.{◌≡◌, ℕ, ◌+◌, ◌-◌, ◌<◌, ◌≤�
 use Rattle.std.proofs.lemmas.Bool.Decides.{nat_tests}
 use Rattle.std.proofs.lemmas.List.{length-take-le, take-append-le, take_all, drop-drop}
 use Rattle.clk_router.proofs.Callers.Chains.{chain-more}
-use Rattle.clk_router.specs.Chains.{IsChain}
 use Rattle.clk_live.specs.declared.draining.Departed.{Departed}
 use Rattle.clk_live.specs.declared.pulling.Emitted.{Emitted}
 use Rattle.clk_live.specs.State.{Seen}

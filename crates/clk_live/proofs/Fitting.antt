@@ -1,11 +1,9 @@
 -- A queue that is not full accepts what is offered.
-use Rattle.std.proofs.Common.{◌≡◌, ℕ, ◌++◌, ◌∷◌, [], List, length, map, Option, Some, None, MatchOption, slice_get, get_or, refl, sym, ap, ◌∙◌, subst, arith}
+use Rattle.std.proofs.Common.{◌≡◌, ℕ, ◌++◌, ◌∷◌, [], Option, Some, None, slice_get, refl, sym, ap, ◌∙◌, subst}
 use Rattle.std.specs.Option.{IfSome}
-use Rattle.clk_packet.specs.declared.packet.Offered.{Offered}
 use Rattle.clk_packet.specs.declared.packet.Offered.TheVariants as offer
-use Rattle.clk_ring.specs.QueueHistory.{held}
-use Rattle.clk_router.specs.Course.{Course, after}
-use Rattle.clk_router.specs.Events.{offered, history, CanHappen}
+use Rattle.clk_router.specs.Course.{Course}
+use Rattle.clk_router.specs.Events.{offered, CanHappen}
 use Rattle.clk_router.specs.InsideQueues.{QueueGoesOn, QueuesGoOn}
 use Rattle.clk_live.specs.declared.taking.Outcome.{Outcome}
 use Rattle.clk_live.specs.declared.taking.Outcome.TheVariants.{Accepted, Refused, Evicted}

@@ -1,17 +1,16 @@
 -- Halves that meet, one pair after another, and what a live router is then known to have settled.
-use Rattle.std.proofs.Common.{◌≡◌, ℕ, ◌+◌, ◌<◌, ◌==◌, ◌⊎◌, inl, inr, false, true, List, [], ◌∷◌, length, map, set, Some, slice_get, refl, sym, ap, ap₂, ◌∙◌, subst, arith}
-use Rattle.std.specs.List.{AllByRecursion, AllZip}
+use Rattle.std.proofs.Common.{◌≡◌, ℕ, ◌+◌, ◌<◌, ◌==◌, ◌⊎◌, inl, inr, false, List, [], ◌∷◌, length, map, set, Some, slice_get, refl, sym, ap, ap₂, ◌∙◌, subst, arith}
+use Rattle.std.specs.List.{AllZip}
 use Rattle.std.proofs.lemmas.Bool.Decides.{nat_tests}
 use Rattle.std.proofs.lemmas.List.{length-map}
 use Rattle.circular_buffer.specs.Buffer.{Buffer}
-use Rattle.clk_inlet.specs.Halves.{pushed, offered, popped, taken}
+use Rattle.clk_inlet.specs.Halves.{offered, popped, taken}
 use Rattle.clk_inlet.specs.Items.{packets, has_end}
 use Rattle.clk_inlet.specs.declared.inlet.Inlet.{Inlet}
 use Rattle.clk_inlet.specs.declared.item.Item.{Item}
 use Rattle.clk_inlet.specs.declared.outlet.Outlet.{Outlet}
 use Rattle.clk_router.specs.Course.{Course}
-use Rattle.clk_live.specs.Outcome.{item_length, AreOffersOf, AreAllEnded}
-use Rattle.clk_live.specs.State.{IsTokenOf}
+use Rattle.clk_live.specs.Outcome.{item_length, AreAllEnded}
 use Rattle.clk_live.specs.inside.Kept.{AreTokens, IsKept}
 use Rattle.clk_live.specs.inside.Met.{HaveMet}
 use Rattle.clk_live.proofs.Lists.{set-cases, same-at}

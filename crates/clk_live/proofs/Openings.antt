@@ -1,28 +1,24 @@
 -- The parts of a live router, as they are opened.
-use Rattle.std.proofs.Common.{◌≡◌, ℕ, zero, suc, ◌+◌, ◌<◌, ◌≤◌, ◌^◌, ◌⊎◌, inl, inr, List, [], ◌∷◌, ◌++◌, length, map, Option, Some, None, slice_get, get_or, refl, sym, ap, ◌∙◌, subst, arith}
+use Rattle.std.proofs.Common.{◌≡◌, ℕ, zero, suc, ◌+◌, ◌<◌, ◌≤◌, ◌^◌, ◌⊎◌, inl, inr, List, [], ◌∷◌, ◌++◌, length, map, Some, slice_get, refl, sym, ap, ◌∙◌, subst, arith}
 use Rattle.std.specs.List.{AllByRecursion, AllZip}
-use Rattle.std.specs.Option.{option_map}
 use Rattle.std.proofs.lemmas.List.{length-append, length-map}
-use Rattle.std.proofs.lemmas.Option.{slice_get-map, slice_get_within, get_or_from_slice_get}
 use Rattle.circular_buffer.specs.Buffer.{Buffer, buffer}
 use Rattle.clk_packet.specs.Lists.{AreRising}
 use Rattle.clk_sched.specs.Kinds.{keeps_nothing}
 use Rattle.clk_sched.specs.Tree.{Tree, root}
 use Rattle.clk_sched.specs.FewHeads.{drrs_above}
-use Rattle.clk_tree.specs.declared.plan.parts.SenderSpec.{SenderSpec}
 use Rattle.clk_tree.specs.Plan.{Planned}
 use Rattle.clk_tree.specs.PlanParts.{Queued, SendsWithin, queues_of, senders_of}
 use Rattle.clk_tree.specs.Shares.{AreTreesOf}
 use Rattle.clk_tree.specs.Drrs.{AreDrrsAbove}
 use Rattle.clk_inlet.specs.Halves.{popped, taken}
 use Rattle.clk_inlet.specs.Items.{packets}
-use Rattle.clk_inlet.specs.declared.item.Item.{Item}
 use Rattle.clk_inlet.specs.declared.outlet.Outlet.{Outlet}
 use Rattle.clk_router.specs.Course.{Course, IsOpened}
-use Rattle.clk_router.specs.Events.{Room, room_of, Setup, plan_setup}
+use Rattle.clk_router.specs.Events.{Room, room_of, plan_setup}
 use Rattle.clk_live.specs.State.{IsTokenOf}
-use Rattle.clk_live.specs.Outcome.{item_length, packet_length}
-use Rattle.clk_live.specs.inside.Kept.{drrs_in, most_inside, IsKept}
+use Rattle.clk_live.specs.Outcome.{item_length}
+use Rattle.clk_live.specs.inside.Kept.{drrs_in, IsKept}
 use Rattle.clk_live.specs.inside.Opened.{AreRoomy}
 
 -- numbers that rise are no less than their places

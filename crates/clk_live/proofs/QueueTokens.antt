@@ -1,7 +1,7 @@
 -- The tokens of one queue, as a packet is offered or a device pulled.
-use Rattle.std.proofs.Common.{◌≡◌, ℕ, ◌+◌, ◌-◌, ◌<◌, ◌≤◌, ◌==◌, Bool, true, false, if◌then◌else◌, List, [], ◌∷◌, ◌++◌, length, length-append, append_assoc, take, drop, filter, Option, Some, None, MatchOption, slice_get, refl, sym, ap, ◌∙◌, subst, arith}
-use Rattle.std.specs.List.{cons_option, AllZip}
-use Rattle.circular_buffer.specs.Buffer.{Buffer, buffer}
+use Rattle.std.proofs.Common.{◌≡◌, ℕ, ◌+◌, ◌-◌, ◌≤◌, true, false, List, [], ◌∷◌, ◌++◌, length, length-append, append_assoc, take, drop, Some, slice_get, sym, ap, ◌∙◌, subst, arith}
+use Rattle.std.specs.List.{AllZip}
+use Rattle.circular_buffer.specs.Buffer.{Buffer}
 use Rattle.clk_packet.specs.declared.packet.Packet.{Packet}
 use Rattle.clk_packet.specs.declared.packet.Offered.{Offered}
 use Rattle.clk_packet.specs.declared.packet.Offered.TheVariants as offer
@@ -9,13 +9,11 @@ use Rattle.clk_ring.specs.QueueHistory.{held}
 use Rattle.clk_sched.specs.declared.visit.Visit.{Visit}
 use Rattle.clk_sched.specs.Tree.{Tree, root}
 use Rattle.clk_sched.specs.FewHeads.{drrs_above}
-use Rattle.clk_inlet.specs.declared.outlet.Outlet.{Outlet}
-use Rattle.clk_router.specs.Events.{Room, Setup, Event, offered, pulled, history, emitted_in, CanHappen}
-use Rattle.clk_router.specs.InsideQueues.{is_of_queue, heads_of, inside_of, emitted_from, QueueGoesOn, QueuesGoOn, IsEvictedInside}
+use Rattle.clk_router.specs.Events.{Room, Setup, Event, offered, pulled, history, CanHappen}
+use Rattle.clk_router.specs.InsideQueues.{is_of_queue, heads_of, inside_of, emitted_from, QueueGoesOn, QueuesGoOn}
 use Rattle.clk_live.specs.declared.taking.Outcome.{Outcome}
-use Rattle.clk_live.specs.declared.taking.Outcome.TheVariants.{Accepted, Refused, Evicted}
-use Rattle.clk_live.specs.State.{IsTokenOf}
-use Rattle.clk_live.specs.inside.Kept.{drrs_in, most_inside, AreTokens}
+use Rattle.clk_live.specs.declared.taking.Outcome.TheVariants.{Evicted}
+use Rattle.clk_live.specs.inside.Kept.{drrs_in, most_inside}
 use Rattle.clk_live.specs.inside.Noted.{CanNote, IsNoted}
 use Rattle.clk_live.proofs.Lists.{there, zip-length, zip-push, zip-out}
 

@@ -1,5 +1,5 @@
 -- The tokens of all queues, one queue after another.
-use Rattle.std.proofs.Common.{◌≡◌, ℕ, zero, suc, ◌+◌, ◌<◌, ◌++◌, ◌∷◌, [], List, append_assoc, append-nil, length, map, drop, set, Option, Some, None, slice_get, refl, sym, ap, ap₂, ◌∙◌, subst, arith}
+use Rattle.std.proofs.Common.{◌≡◌, ℕ, zero, suc, ◌+◌, ◌++◌, ◌∷◌, [], List, length, map, drop, set, Some, None, slice_get, refl, sym, ap, ap₂, ◌∙◌, subst, arith}
 use Rattle.std.specs.List.{flat_map, range_with_len, AllZip}
 use Rattle.std.proofs.lemmas.List.{drop-set-lt}
 use Rattle.std.proofs.lemmas.Option.{slice_get_within}
@@ -9,7 +9,7 @@ use Rattle.clk_inlet.specs.Halves.{taken}
 use Rattle.clk_inlet.specs.declared.outlet.Outlet.{Outlet}
 use Rattle.clk_router.specs.Course.{Course}
 use Rattle.clk_live.specs.State.{IsTokenOf}
-use Rattle.clk_live.specs.Reclaiming.{inside_at, all_inside, AreTokensInside}
+use Rattle.clk_live.specs.Reclaiming.{inside_at, all_inside}
 use Rattle.clk_live.specs.inside.Buffers.{buffer_items}
 use Rattle.clk_live.specs.inside.Kept.{IsKept}
 use Rattle.clk_live.proofs.Lists.{member, set-here}

@@ -1,5 +1,5 @@
 -- What a live router keeps, as packets are offered and devices pulled.
-use Rattle.std.proofs.Common.{◌≡◌, ℕ, zero, suc, ◌+◌, ◌<◌, ◌≤◌, ◌==◌, ◌&&◌, ◌||◌, ◌⊎◌, inl, inr, Bool, true, false, if◌then◌else◌, List, [], ◌∷◌, ◌++◌, length, map, set, drop, filter, Option, Some, None, MatchOption, slice_get, get_or, refl, sym, ap, ◌∙◌, subst, arith}
+use Rattle.std.proofs.Common.{◌≡◌, ℕ, zero, suc, ◌<◌, ◌==◌, ◌&&◌, ◌||◌, ◌⊎◌, inl, inr, Bool, true, false, if◌then◌else◌, List, [], ◌∷◌, ◌++◌, length, map, set, drop, filter, Option, Some, None, MatchOption, slice_get, get_or, refl, sym, ap, ◌∙◌, subst, arith}
 use Rattle.std.specs.Bool.{⊤}
 use Rattle.std.specs.List.{cons_option, list_any, AllByRecursion, AllZip}
 use Rattle.std.specs.Option.{option_map, IsSome}
@@ -23,16 +23,16 @@ use Rattle.clk_inlet.specs.declared.outlet.Outlet.{Outlet}
 use Rattle.clk_router.specs.declared.accounts.Account.{Account}
 use Rattle.clk_router.specs.Accounts.{account_after}
 use Rattle.clk_router.specs.Course.{Course, after, sender_at, IsPulled}
-use Rattle.clk_router.specs.Events.{Room, Setup, Event, offered, pulled, sender_numbers, sends_to, emitted_in, CanHappen}
+use Rattle.clk_router.specs.Events.{Room, Setup, Event, offered, pulled, sender_numbers, sends_to, CanHappen}
 use Rattle.clk_router.specs.InsideQueues.{is_of_queue, inside_of, emitted_from, QueuesGoOn}
 use Rattle.clk_router.specs.Settled.{offered_of}
 use Rattle.clk_router.proofs.Callers.Apart.{one-queue}
 use Rattle.clk_live.specs.declared.taking.Outcome.{Outcome}
 use Rattle.clk_live.specs.State.{IsTokenOf}
 use Rattle.clk_live.specs.Outcome.{item_length, packet_length}
-use Rattle.clk_live.specs.inside.Kept.{AreOffered, most_inside, AreTokens, IsKept}
+use Rattle.clk_live.specs.inside.Kept.{AreOffered, AreTokens, IsKept}
 use Rattle.clk_live.specs.inside.Noted.{CanNote, IsNoted}
-use Rattle.clk_live.proofs.Lists.{member, set-cases, set-here, zip-widened}
+use Rattle.clk_live.proofs.Lists.{member, set-cases, zip-widened}
 use Rattle.clk_live.proofs.Outlets.{token-stays, token-comes}
 use Rattle.clk_live.proofs.Counts.{offers-one, offers-other, offers-pull, number-is, taken-many}
 use Rattle.clk_live.proofs.QueueTokens.{EvictedHas, Notes, can-note, notes, inside-same, inside-pulled}

@@ -1,15 +1,14 @@
 -- Worked states of a live router over two devices, and what is told of a take and of a pull.
-use Rattle.std.specs.Prelude.{ℕ, List, [], ◌∷◌, Option, Some, None}
+use Rattle.std.specs.Prelude.{ℕ, List, [], ◌∷◌, Option, Some}
 use Rattle.clk_packet.specs.declared.packet.Packet.{Packet}
 use Rattle.clk_packet.specs.declared.packet.Offered.TheVariants as offer
 use Rattle.clk_sched.specs.Examples.Priority.{p0_0, p1_0}
 use Rattle.clk_inlet.specs.Items.{packet_item}
 use Rattle.clk_inlet.specs.declared.item.Item.{Item}
 use Rattle.clk_router.specs.Events.{Event, offered}
-use Rattle.clk_router.specs.SettledExamples.{course_of, emits, p0_1, p1_1}
+use Rattle.clk_router.specs.SettledExamples.{course_of, emits, p1_1}
 use Rattle.clk_live.specs.declared.pulling.Emitted.{Emitted}
 use Rattle.clk_live.specs.declared.taking.Outcome.{Outcome}
-use Rattle.clk_live.specs.declared.taking.Outcome.TheVariants.{Accepted, Refused, Evicted}
 use Rattle.clk_live.specs.declared.taking.Taken.{Taken}
 use Rattle.clk_live.specs.State.{Seen}
 

@@ -1,5 +1,5 @@
 -- What is seen of a live router: the course of its router and its outlets. And the token of each packet that was taken.
-use Rattle.std.specs.Prelude.{◌≡◌, ℕ, List, [], ◌++◌, length, map, Some, slice_get}
+use Rattle.std.specs.Prelude.{◌≡◌, ℕ, List, [], ◌++◌, map, Some, slice_get}
 use mathlib.Core.List.{IsPrefix}
 use Rattle.std.specs.List.{AllZip}
 use Rattle.std.proofs.Common.{refl}

@@ -1,8 +1,7 @@
 -- What the parts of a live router have to do with each other, at any time.
-use Rattle.std.specs.Prelude.{◌≡◌, ℕ, ◌+◌, ◌<◌, ◌≤◌, ◌^◌, List, length, map, Option, Some, None, slice_get}
+use Rattle.std.specs.Prelude.{◌≡◌, ℕ, ◌+◌, ◌≤◌, ◌^◌, List, length, map, Option, Some, None, slice_get}
 use Rattle.std.specs.List.{AllByRecursion, AllZip}
 use Rattle.circular_buffer.specs.Buffer.{Buffer}
-use Rattle.clk_packet.specs.declared.packet.Packet.{Packet}
 use Rattle.clk_inlet.specs.Halves.{taken}
 use Rattle.clk_inlet.specs.Limits.{most_packets}
 use Rattle.clk_inlet.specs.declared.item.Item.{Item}
@@ -13,7 +12,6 @@ use Rattle.clk_tree.specs.PlanParts.{SendsWithin}
 use Rattle.clk_router.specs.Course.{Course, sender_at}
 use Rattle.clk_router.specs.Events.{Room, Setup, Event}
 use Rattle.clk_router.specs.InsideQueues.{inside_of}
-use Rattle.clk_router.specs.Settled.{offered_of}
 use Rattle.clk_live.specs.Outcome.{AreOffersOf}
 use Rattle.clk_live.specs.State.{IsTokenOf}
 

@@ -1,4 +1,4 @@
-use Rattle.std.proofs.Common.{◌≡◌, ◌<◌, ◌+◌, ◌∙◌, length, sym, ap, subst, arith}
+use Rattle.std.proofs.Common.{◌≡◌, ◌<◌, ◌+◌, ◌∙◌, length, ap, subst, arith}
 use Rattle.clk_router.specs.Course.{Course, accepted_at, evicted_at, emitted_at, moment_at}
 use Rattle.clk_live.specs.State.{LiveState, seen}
 use Rattle.clk_live.specs.Draining.{DrainPull, HasLeft}

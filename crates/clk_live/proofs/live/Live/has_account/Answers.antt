@@ -1,4 +1,4 @@
-use Rattle.std.proofs.Common.{◌≡◌, ◌∙◌, length, map, sym, subst, refl}
+use Rattle.std.proofs.Common.{◌∙◌, map, sym, subst}
 use Rattle.std.proofs.lemmas.List.{length-map}
 use Rattle.clk_inlet.specs.Halves.{taken}
 use Rattle.clk_router.specs.Events.{sender_numbers}

@@ -1,7 +1,5 @@
-use Rattle.std.proofs.Common.{◌≡◌, ◌<◌, length, Some, slice_get, get_or, sym, ap, ◌∙◌, subst, arith, false}
+use Rattle.std.proofs.Common.{◌≡◌, ◌<◌, length, slice_get, sym, ap, ◌∙◌, subst, arith}
 use Rattle.std.proofs.lemmas.Bool.Decides.{nat_tests}
-use Rattle.clk_router.specs.Course.{Course}
-use Rattle.clk_router.specs.Accounts.{account_after}
 use Rattle.clk_live.specs.State.{LiveState}
 use Rattle.clk_live.specs.inside.Room.{HasRoomFor}
 use Rattle.clk_live.proofs.Steps.{no_account, account-queue, sends-within}

@@ -1,7 +1,7 @@
 use Rattle.std.proofs.Common.{◌≡◌, ◌∙◌, List, map, refl, sym, ap, subst}
 use Rattle.clk_inlet.specs.Halves.{offered, taken}
 use Rattle.clk_inlet.specs.declared.item.Item.{Item}
-use Rattle.clk_live.specs.State.{LiveState, Seen, seen}
+use Rattle.clk_live.specs.State.{LiveState, seen}
 use Rattle.clk_live.specs.Outcome.{AreAllEnded, IsLiveOutcome}
 use Rattle.clk_live.proofs.Meetings.{all-same, ended-same, items-same, kept-looked}
 use Rattle.clk_live.proofs.live.Live.is_settled.Goals as goal

@@ -1,5 +1,5 @@
-use Rattle.std.proofs.Common.{◌≡◌, map, Some, refl, sym, ap, get_or, ◌∙◌, subst, arith}
-use Rattle.clk_router.specs.Course.{Course, IsPulled, sender_at}
+use Rattle.std.proofs.Common.{◌≡◌, map, Some, refl, ap, get_or, ◌∙◌, subst, arith}
+use Rattle.clk_router.specs.Course.{sender_at}
 use Rattle.clk_inlet.specs.Halves.{taken}
 use Rattle.clk_live.specs.State.{LiveState, seen}
 use Rattle.clk_live.specs.Pulling.{IsPulledLive}

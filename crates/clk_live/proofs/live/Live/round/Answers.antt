@@ -1,4 +1,4 @@
-use Rattle.std.proofs.Common.{◌≡◌, ◌∙◌, length, sym, subst, arith}
+use Rattle.std.proofs.Common.{◌≡◌, ◌∙◌, length, subst, arith}
 use Rattle.clk_live.specs.State.{LiveState, seen, GoesOn}
 use Rattle.clk_live.proofs.Lists.{zip-length}
 use Rattle.clk_live.proofs.Outlets.{all-same, all-then}

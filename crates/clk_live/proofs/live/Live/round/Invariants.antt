@@ -1,4 +1,4 @@
-use Rattle.std.proofs.Common.{◌≡◌, ◌-◌, ◌≤◌, true, length, take}
+use Rattle.std.proofs.Common.{◌≡◌, ◌-◌, true, length, take}
 use Rattle.clk_live.specs.State.{seen, AllGoOn}
 use Rattle.clk_live.specs.Taking.{AreTaken, AllAccepted}
 use Rattle.clk_live.proofs.live.Live.round.Given as goal
