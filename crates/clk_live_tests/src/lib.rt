@@ -1,0 +1,11 @@
+//! Tests of clk_live, by its public calls alone: worked rows on one thread, senders on threads, and failed allocations.
+#![tactic(auto)]
+
+#[cfg(test)]
+mod bench;
+#[cfg(test)]
+mod rounds;
+#[cfg(test)]
+mod rows;
+#[cfg(test)]
+mod steps;

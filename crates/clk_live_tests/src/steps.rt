@@ -1,0 +1,62 @@
+//! The steps of a worked row, and the tokens of its packets.
+
+use clk_live::{Outcome, Taken};
+use clk_packet::Packet;
+
+/// A packet of a row: its sender, its number and its length in bytes.
+pub type Sent = (u16, u32, u16);
+
+/// A step of a row, with what it comes to.
+#[derive(Clone, Copy, Debug)]
+pub enum Step {
+    /// The packet's sender offers it to its inlet, which accepts it.
+    Offers(Sent),
+    /// A sender ends its inlet.
+    Ends(u16),
+    /// The packet is taken from its inlet, and its queue accepts it.
+    Accepted(Sent),
+    /// The packet is taken from its inlet, and its queue refuses it.
+    Refused(Sent),
+    /// The first packet is taken from its inlet, and its queue accepts it and evicts the second.
+    Evicts(Sent, Sent),
+    /// No packet is taken from the inlet of this sender.
+    NoneWaits(u16),
+    /// A round takes at most the first number from each sender, and at most the second from all. These are taken, and accepted.
+    TakesIn(usize, usize, &'static [Sent]),
+    /// A round that takes only what fits takes at most the first number from each sender, and at most the second from all.
+    TakesFitting(usize, usize, &'static [Sent]),
+    /// A pull emits this packet.
+    Emits(Sent),
+    /// A pull emits no packet.
+    EmitsNone,
+    /// Whether all inlets have ended.
+    IsEnded(bool),
+    /// Whether no packet is left inside.
+    IsDrained(bool),
+    /// How many packets of a sender were accepted, refused, evicted and emitted.
+    Counts(u16, [u64; 4]),
+}
+
+/// A tree and the steps over it, under the name of what it shows.
+#[derive(Clone, Copy)]
+pub struct Row {
+    pub name: &'static str,
+    pub tree: &'static str,
+    pub steps: &'static [Step],
+}
+
+/// The token that comes with a packet: its sender and its number.
+pub fn token_of(sender: u16, number: u32) -> u64 {
+    (u64::from(sender) << 32) | u64::from(number)
+}
+
+/// What a slot holds before a packet is taken into it.
+pub const EMPTY_SLOT: Taken = Taken {
+    packet: Packet {
+        number: 0,
+        sender: 0,
+        length: 1,
+    },
+    token: 0,
+    outcome: Outcome::Refused,
+};
