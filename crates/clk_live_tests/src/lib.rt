@@ -8,4 +8,10 @@ mod rounds;
 #[cfg(test)]
 mod rows;
 #[cfg(test)]
+mod seen;
+#[cfg(test)]
+mod senders;
+#[cfg(test)]
 mod steps;
+#[cfg(test)]
+mod threads;

@@ -1,0 +1,107 @@
+//! What the thread of a live router takes and emits, and whether it is all that was sent.
+
+use crate::senders::{SENDERS, length_of};
+use crate::steps::{EMPTY_SLOT, token_of};
+use clk_live::{Emitted, Live, Outcome, Taken};
+use clk_packet::Packet;
+use std::alloc::{AllocError, Global};
+use std::process::Abort;
+use std::sync::Wait;
+use std::thread;
+
+/// What was taken from inlets, and what was emitted.
+#[derive(Drop)]
+pub struct Seen {
+    pub taken: Vec<Taken>,
+    pub emitted: Vec<Emitted>,
+}
+
+impl Seen {
+    /// Nothing as yet.
+    pub fn none(alloc: Global) -> Seen {
+        Seen {
+            taken: Vec::new(alloc),
+            emitted: Vec::new(alloc),
+        }
+    }
+}
+
+/// Takes and pulls in turn, until all senders have ended and no packet is left, or until so many packets were emitted.
+pub fn take_and_pull(
+    rt: &impl Wait,
+    live: &mut Live,
+    only_fitting: bool,
+    most: usize,
+    seen: &mut Seen,
+) -> Result<(), AllocError> {
+    let mut slots = [EMPTY_SLOT; 6];
+    for _ in rt.forever() {
+        if seen.emitted.len() >= most || (live.is_ended() && live.is_drained()) {
+            break;
+        }
+        let count = if only_fitting {
+            live.take_in_fitting(2, &mut slots)
+        } else {
+            live.take_in(2, &mut slots)
+        };
+        seen.taken.extend_from_slice(&slots[..count])?;
+        if !live.router().can_pull(0, 0) {
+            break;
+        }
+        match live.pull(0, 0) {
+            Some(emitted) => seen.emitted.push(emitted)?,
+            None if count == 0 => thread::yield_now(),
+            None => {}
+        }
+    }
+    Ok(())
+}
+
+// Fails unless this is the packet that came with this token, of the length that its sender gave it. It returns the token.
+fn assert_token(rt: &impl Abort, packet: Packet, token: u64) -> u64 {
+    assert_eq!(rt; token, token_of(packet.sender, packet.number));
+    assert_eq!(rt; packet.length, length_of(packet.number));
+    token
+}
+
+// The tokens of all packets that were refused, evicted or emitted, by rising sender and number.
+fn tokens_out(rt: &impl Abort, alloc: Global, seen: &Seen) -> Result<Vec<u64>, AllocError> {
+    let mut tokens = Vec::new(alloc);
+    for one in &seen.taken {
+        let token = assert_token(rt, one.packet, one.token);
+        match one.outcome {
+            Outcome::Accepted => {}
+            Outcome::Refused => tokens.push(token)?,
+            Outcome::Evicted { packet, token } => tokens.push(assert_token(rt, packet, token))?,
+        }
+    }
+    for one in &seen.emitted {
+        tokens.push(assert_token(rt, one.packet, one.token))?;
+    }
+    tokens.sort_unstable();
+    Ok(tokens)
+}
+
+// The tokens of all packets that the senders send, by rising sender and number.
+fn tokens_sent(alloc: Global) -> Result<Vec<u64>, AllocError> {
+    let mut tokens = Vec::new(alloc);
+    for (sender, packets) in SENDERS {
+        for number in 0..packets {
+            tokens.push(token_of(sender, number))?;
+        }
+    }
+    Ok(tokens)
+}
+
+/// Fails unless each token came back once, and the packets of each sender were emitted in order.
+pub fn assert_settled(rt: &impl Abort, alloc: Global, seen: &Seen) -> Result<(), AllocError> {
+    assert_eq!(rt; tokens_out(rt, alloc, seen)?, tokens_sent(alloc)?);
+    for (sender, _) in SENDERS {
+        let its = seen
+            .emitted
+            .iter()
+            .filter(|one| one.packet.sender == sender);
+        assert!(rt; its.is_sorted_by_key(|one| one.packet.number));
+    }
+    Ok(())
+}
