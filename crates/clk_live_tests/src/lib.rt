@@ -4,6 +4,8 @@
 #[cfg(test)]
 mod bench;
 #[cfg(test)]
+mod calling;
+#[cfg(test)]
 mod memory;
 #[cfg(test)]
 mod rounds;
