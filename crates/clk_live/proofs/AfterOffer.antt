@@ -27,7 +27,7 @@ use Rattle.clk_live.specs.Taking.{offer_outcome, HasToken}
 use Rattle.clk_live.specs.inside.Kept.{IsKept}
 use Rattle.clk_live.specs.inside.Noted.{CanNote, IsNoted}
 use Rattle.clk_live.proofs.QueueTokens.{EvictedHas}
-use Rattle.clk_live.proofs.Steps.{ItsQueue, its-queue, no_account, account-queue, read-is, number, is-item, room-for, evicted-has, kept-offered}
+use Rattle.clk_live.proofs.Steps.{ItsQueue, its-queue, no_account, account-queue, read-is, number, is-item, its-token, room-for, evicted-has, kept-offered}
 
 -- what was noted is what became of the offer
 noted-outcome : (p : Packet) (b : Buffer ℕ) (capacity token : ℕ) (outcome : Offered) (noted : Outcome) (left : Buffer ℕ) → IsNoted b capacity token outcome noted left → NamesItsOffer (offered p outcome) → outcome ≡ offer_outcome p noted
@@ -61,6 +61,10 @@ module _ (old : Course) (outlets : List Outlet) (buffers : List (Buffer ℕ)) (k
   items-are =
       map-set taken outlets place taker
       ∙ ap (set (map taken outlets) place) (grows ∙ ap (λ (y : Item). taken o ++ y ∷ []) (is-item old outlets buffers kept law rising can place o taker its x grows few p outcome sender bytes more))
+
+  pub token-is : IsTokenOf new.setup (map taken (set outlets place taker)) p x.token
+  token-is =
+      subst (λ (c : Course). IsTokenOf c.setup (map taken (set outlets place taker)) p x.token) (sym goes) (its-token old outlets buffers kept law rising can place o taker its x grows few p outcome sender bytes more)
 
   module _ (accounts : List Account) (are : accounts ≡ map (account_after new.events) new.setup.senders) where
     queue-is : (get_or accounts place no_account).queue ≡ queue.spec.queue

@@ -12,3 +12,4 @@ mod Pulls
 mod Reclaims
 mod Drains
 mod Meetings
+mod Rounds

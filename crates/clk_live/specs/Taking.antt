@@ -1,5 +1,5 @@
 -- What takes packets from inlets.
-use Rattle.std.specs.Prelude.{◌≡◌, ℕ, ◌≤◌, false, List, [], ◌∷◌, ◌++◌, length, slice_set as set, take, drop, ⊤, Some, slice_get}
+use Rattle.std.specs.Prelude.{◌≡◌, ℕ, filter, ◌==◌, ◌≤◌, false, List, [], ◌∷◌, ◌++◌, length, slice_set as set, take, drop, ⊤, Some, slice_get}
 use Rattle.std.specs.List.{AllByRecursion}
 use Rattle.clk_packet.specs.declared.packet.Packet.{Packet}
 use Rattle.clk_packet.specs.declared.packet.Offered.{Offered}
@@ -55,6 +55,14 @@ HasNone old new place = (o n : Outlet) → slice_get old place ≡ Some o → sl
 -- these packets are of the sender at a place
 abbrev pub AreOf : Setup → ℕ → List Taken → Type 0
 AreOf setup place taken = AllByRecursion (λ (t : Taken). sender_at setup place ≡ Some t.packet.sender) taken
+
+-- how many of these packets are of a sender
+abbrev pub count_of : ℕ → List Taken → ℕ
+count_of s taken = length (filter (λ (t : Taken). t.packet.sender == s) taken)
+
+-- at most so many of these packets are of each sender
+abbrev pub AreAtMost : ℕ → List Taken → Type 0
+AreAtMost most taken = (s : ℕ) → count_of s taken ≤ most
 
 -- each of these packets was accepted, and no other was evicted for it
 abbrev pub AllAccepted : List Taken → Type 0

@@ -6,3 +6,4 @@ pub mod Opened
 pub mod Buffers
 pub mod Given
 pub mod Met
+pub mod Each

@@ -36,14 +36,16 @@ pub struct Taken {
 impl Live {
     ghost use Rattle.std.specs.Prelude.{◌≡◌, ◌<◌, ◌≤◌, ℕ, List, true, false, None, length, take, drop, slice_get, IfSome};
     ghost use Rattle.clk_router.specs.Course.{sender_at};
-    ghost use Rattle.clk_live.specs.State.{Seen, seen, AllGoOn};
-    ghost use Rattle.clk_live.specs.Taking.{IsTaken, AreTaken, AreOf, AllAccepted, HasNone};
+    ghost use Rattle.clk_live.specs.State.{Seen, seen, IsTokenOf, AllGoOn};
+    ghost use Rattle.clk_live.specs.Taking.{IsTaken, AreTaken, AreOf, AreAtMost, AllAccepted, HasNone};
+    ghost use Rattle.clk_live.specs.inside.Each.{AreEach};
 
     /// Takes the next packet from the inlet of the sender at this place, and offers it to the sender's queue. Returns `None` if no packet
     /// waits there.
     pub fn take(&mut self, place: usize) -> Option<Taken>
         requires there { place < length self.old.outlets }
         ensures taken { IfSome result (λ t. IsTaken place (seen self.old) t (seen self.new)) }
+        ensures token { IfSome result (λ t. IsTokenOf self.new.course.setup (seen self.new).items t.packet t.token) }
         ensures none { result ≡ None → seen self.new ≡ seen self.old }
         ensures none_waits { result ≡ None → HasNone self.old.outlets self.new.outlets place }
         ensures outlets { AllGoOn self.old.outlets self.new.outlets }
@@ -127,6 +129,7 @@ impl Live {
         ensures count { (from ≤ result) × (result ≤ most) }
         ensures taken { (old : Seen) (before : List Taken) → AreTaken old (seen self.old) before taken.old from → AreTaken old (seen self.new) before taken.new result }
         ensures of_sender { AreOf self.old.course.setup place (drop from (take result taken.new)) }
+        ensures front { take from taken.new ≡ take from taken.old }
         ensures accepted { only_fitting ≡ true → AllAccepted (take from taken.old) → AllAccepted (take result taken.new) }
         ensures outlets { AllGoOn self.old.outlets self.new.outlets }
         ensures unchanged { (self.new.turn ≡ self.old.turn) × (self.new.course.setup ≡ self.old.course.setup) }
@@ -159,6 +162,7 @@ impl Live {
     /// sender's queue. Returns how many. The round ends early if `taken` is full, and the next round starts at the next sender.
     pub fn take_in(&mut self, each: usize, taken: &mut [Taken]) -> usize
         ensures taken { AreTaken (seen self.old) (seen self.new) taken.old taken.new result }
+        ensures each { AreAtMost each (take result taken.new) }
         ensures outlets { AllGoOn self.old.outlets self.new.outlets }
     {
         self.round(false, each, taken)
@@ -168,6 +172,7 @@ impl Live {
     /// senders: no packet is refused, and none is evicted.
     pub fn take_in_fitting(&mut self, each: usize, taken: &mut [Taken]) -> usize
         ensures taken { AreTaken (seen self.old) (seen self.new) taken.old taken.new result }
+        ensures each { AreAtMost each (take result taken.new) }
         ensures accepted { AllAccepted (take result taken.new) }
         ensures outlets { AllGoOn self.old.outlets self.new.outlets }
     {
@@ -177,23 +182,47 @@ impl Live {
     // Takes packets from all inlets in one round, of those that fit if only these are wanted.
     fn round(&mut self, only_fitting: bool, each: usize, taken: &mut [Taken]) -> usize
         ensures taken { AreTaken (seen self.old) (seen self.new) taken.old taken.new result }
+        ensures each { AreAtMost each (take result taken.new) }
         ensures accepted { only_fitting ≡ true → AllAccepted (take result taken.new) }
         ensures outlets { AllGoOn self.old.outlets self.new.outlets }
     {
         let places = self.outlets.len();
-        let mut place = self.turn;
-        let mut count = 0;
-        let mut visited = 0;
-        while visited < places && count < taken.len() {
-            if place >= places {
-                place = 0;
-            }
+        let start = self.turn.min(places);
+        let (count, next) = self.sweep(start, places, only_fitting, each, taken, 0);
+        let (count, again) = self.sweep(0, start, only_fitting, each, taken, count);
+        self.turn = if next < places { next } else { again };
+        count
+    }
+
+    // Takes packets of the senders from place `first` up to `end` into `taken`, from its place `from` on, at most `each` from each. Returns how
+    // many are filled in then, and the place after the last one visited.
+    fn sweep(
+        &mut self,
+        first: usize,
+        end: usize,
+        only_fitting: bool,
+        each: usize,
+        taken: &mut [Taken],
+        from: usize,
+    ) -> (usize, usize)
+        requires there { (first ≤ end) × (end ≤ length self.old.outlets) }
+        requires within { from ≤ length taken.old }
+        ensures count { (from ≤ result.0) × (result.0 ≤ length taken.old) }
+        ensures taken { (old : Seen) (before : List Taken) → AreTaken old (seen self.old) before taken.old from → AreTaken old (seen self.new) before taken.new result.0 }
+        ensures each { AreEach self.old.course.setup first end each (take from taken.old) (take result.0 taken.new) }
+        ensures accepted { only_fitting ≡ true → AllAccepted (take from taken.old) → AllAccepted (take result.0 taken.new) }
+        ensures outlets { AllGoOn self.old.outlets self.new.outlets }
+        ensures setup { self.new.course.setup ≡ self.old.course.setup }
+    {
+        // The numbers of senders rise, so that each stands at one place.
+        let _ = self.router.senders();
+        let mut count = from;
+        let mut place = first;
+        while place < end && count < taken.len() {
             let most = count + each.min(taken.len() - count);
             count = self.fill(place, only_fitting, taken, count, most);
             place += 1;
-            visited += 1;
         }
-        self.turn = place;
-        count
+        (count, place)
     }
 }

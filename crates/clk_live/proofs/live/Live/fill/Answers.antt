@@ -1,5 +1,5 @@
 use Rattle.std.proofs.Common.{◌≡◌, ◌<◌, length, Some, refl, sym, ap, ◌∙◌, subst, arith}
-use Rattle.std.proofs.lemmas.List.{length-set}
+use Rattle.std.proofs.lemmas.List.{length-set, take-set-le}
 use Rattle.clk_router.specs.Course.{Course, sender_at}
 use Rattle.clk_live.specs.declared.taking.Taken.{Taken}
 use Rattle.clk_live.specs.declared.taking.Outcome.TheVariants.{Accepted}
@@ -13,7 +13,7 @@ use Rattle.clk_live.proofs.live.Live.fill.Goals as goal
 pub loop-count-init : goal.loop-count-init
 loop-count-init c =
     let within = c.requires.within in
-    ((omega arith, within.0, refl, c.requires.there), (λ old before h. h), none-from (λ (t : Taken). sender_at c.args.self.now.course.setup c.args.place ≡ Some t.packet.sender) c.args.taken.now c.args.from (omega (arith, within)), (λ only h. h), all-same c.args.self.now.outlets, (refl, refl))
+    ((omega arith, within.0, refl, c.requires.there), (λ old before h. h), none-from (λ (t : Taken). sender_at c.args.self.now.course.setup c.args.place ≡ Some t.packet.sender) c.args.taken.now c.args.from (omega (arith, within)), (λ only h. h), all-same c.args.self.now.outlets, (refl, refl), refl)
 
 pub returns-in_default-clause-taken : goal.returns-in_default-clause-taken
 returns-in_default-clause-taken c = λ old before h. subst (λ (s : Seen). AreTaken old s before c.loop-count.taken c.loop-count.count) (sym (c.take_one.ensures.none c.in_default.is)) (c.loop-count.invariant.1 old before h)
@@ -36,4 +36,5 @@ loop-count-preserved c =
       (λ only h. all-taken (λ (t : Taken). t.outcome ≡ Accepted) l.taken l.count one low (inv.3 only h) (c.in-Some.ensures.accepted only)),
       all-then c.args.self.now.outlets l.self.outlets c.take_one.new.self.outlets inv.4 c.take_one.ensures.outlets,
       (c.take_one.ensures.turn ∙ inv.5.0, setup ∙ inv.5.1),
+      take-set-le c.args.from l.taken l.count one inv.0.0 ∙ inv.6,
     )

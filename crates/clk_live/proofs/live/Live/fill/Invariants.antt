@@ -15,3 +15,4 @@ invariant-loop-count l =
     × (l.only_fitting ≡ true → AllAccepted (take l.from l.initial.taken) → AllAccepted (take l.count l.taken))
     × AllGoOn l.initial.self.outlets l.self.outlets
     × ((l.self.turn ≡ l.initial.self.turn) × (l.self.course.setup ≡ l.initial.self.course.setup))
+    × (take l.from l.taken ≡ take l.from l.initial.taken)

@@ -1,21 +1,24 @@
-use Rattle.std.proofs.Common.{◌≡◌, ◌∙◌, length, subst, arith}
-use Rattle.clk_live.specs.State.{LiveState, seen, GoesOn}
-use Rattle.clk_live.proofs.Lists.{zip-length}
-use Rattle.clk_live.proofs.Outlets.{all-same, all-then}
+use Rattle.std.proofs.Common.{◌≡◌, ◌≤◌, ◌∙◌, [], length, take, sym, ap, subst, arith}
+use Rattle.std.proofs.lemmas.List.{length-map}
+use Rattle.clk_router.specs.Events.{Setup, sender_numbers}
+use Rattle.clk_tree.specs.PlanParts.{number_of}
+use Rattle.clk_live.specs.State.{LiveState, seen, AllGoOn}
+use Rattle.clk_live.specs.Taking.{AreTaken}
+use Rattle.clk_live.specs.inside.Each.{AreEach}
+use Rattle.clk_live.proofs.Outlets.{all-then}
 use Rattle.clk_live.proofs.SoFar.{taken-none}
+use Rattle.clk_live.proofs.Rounds.{round-each}
 use Rattle.clk_live.proofs.live.Live.round.Goals as goal
 
-pub loop-visited-init : goal.loop-visited-init
-loop-visited-init c =
-    let places : c.len-places.result ≡ length c.self.inside.outlets.items = (let many = c.len-places.ensures in omega (arith, many)) in
-    (subst (λ (l : LiveState). c.len-places.result ≡ length l.outlets) c.self.view_is places, taken-none (seen c.args.self.now) c.args.taken.now, (λ only. tt), all-same c.args.self.now.outlets)
+pub returns-clause-taken : goal.returns-clause-taken
+returns-clause-taken c =
+    let a = c.sweep-count in
+    let b = c.sweep-count-2 in
+    subst (λ (l : LiveState). AreTaken (seen c.args.self.now) (seen l) c.args.taken.now b.new.taken b.result.0) (sym c.self-2.view_is)
+    (b.ensures.taken (seen c.args.self.now) c.args.taken.now (a.ensures.taken (seen c.args.self.now) c.args.taken.now (taken-none (seen c.args.self.now) c.args.taken.now)))
 
-pub loop-visited-preserved : goal.loop-visited-preserved
-loop-visited-preserved c =
-    let l = c.loop-visited in
-    let f = c.fill-count in (
-      l.invariant.0 ∙ zip-length GoesOn l.self.outlets f.new.self.outlets f.ensures.outlets,
-      f.ensures.taken (seen c.args.self.now) c.args.taken.now l.invariant.1,
-      (λ only. f.ensures.accepted only (l.invariant.2 only)),
-      all-then c.args.self.now.outlets l.self.outlets f.new.self.outlets l.invariant.3 f.ensures.outlets,
-    )
+pub returns-clause-outlets : goal.returns-clause-outlets
+returns-clause-outlets c =
+    let a = c.sweep-count in
+    let b = c.sweep-count-2 in
+    subst (λ (l : LiveState). AllGoOn c.args.self.now.outlets l.outlets) (sym c.self-2.view_is) (all-then c.args.self.now.outlets a.new.self.outlets b.new.self.outlets a.ensures.outlets b.ensures.outlets)

@@ -10,7 +10,7 @@ use Rattle.clk_router.specs.Course.{after}
 use Rattle.clk_router.specs.Events.{offered}
 use Rattle.clk_live.specs.declared.taking.Taken.{Taken}
 use Rattle.clk_live.specs.Taking.{IsTaken, HasNone}
-use Rattle.clk_live.proofs.AfterOffer.{its-items, number-is, items-are, queue-there, tokens-there, can-note-it, evicted-token, outcome-is, has-token, kept-taken}
+use Rattle.clk_live.proofs.AfterOffer.{its-items, number-is, items-are, queue-there, tokens-there, can-note-it, evicted-token, outcome-is, token-is, has-token, kept-taken}
 use Rattle.clk_live.proofs.Lists.{set-here}
 use Rattle.clk_live.proofs.Outlets.{one-goes}
 use Rattle.clk_live.proofs.Steps.{kept-untaken, none-changes}
@@ -110,6 +110,16 @@ invariant_of-self-2 c =
     let may = c.in_ok-item.ensures.packet in
     kept-taken i.router i.outlets.items i.tokens.items c.self.invariant c.queues_go_on.ensures (rw c.senders.ensures.numbers at c.senders.ensures.rising) c.has_happened.ensures c.args.place o c.take.new.self its c.in_ok-item.item
     c.in_ok-item.ensures.taken (may.1.numbered may.0) c.offer-outcome.result.0 c.offer-outcome.result.1 c.offer-outcome.ensures.sender c.offer-outcome.ensures.length c.offer-outcome.new.self c.offer-outcome.ensures.goes_on c.has_happened-2.ensures c.accounts.result.now c.accounts.ensures c.from.result c.from.ensures c.queue-capacity.result c.queue-capacity.ensures.state c.index_mut-tokens.result.now c.index_mut-tokens.ensures.value c.note_offer-outcome.result c.note_offer-outcome.new.tokens c.note_offer-outcome.ensures
+
+pub returns-clause-token : goal.returns-clause-token
+returns-clause-token c =
+    let i = c.self.inside in
+    let there : c.args.place < length i.outlets.items = rw (← c.self.view_is) at c.requires.there in
+    let o = c.index_mut.result.now in
+    let its : slice_get i.outlets.items c.args.place ≡ Some o = slice_get_read i.outlets.items _ c.args.place o refl there c.index_mut.ensures.value in
+    let may = c.in_ok-item.ensures.packet in
+    token-is i.router i.outlets.items i.tokens.items c.self.invariant c.queues_go_on.ensures (rw c.senders.ensures.numbers at c.senders.ensures.rising) c.has_happened.ensures c.args.place o c.take.new.self its c.in_ok-item.item
+    c.in_ok-item.ensures.taken (may.1.numbered may.0) c.offer-outcome.result.0 c.offer-outcome.result.1 c.offer-outcome.ensures.sender c.offer-outcome.ensures.length c.offer-outcome.new.self c.offer-outcome.ensures.goes_on c.has_happened-2.ensures
 
 pub returns-clause-taken : goal.returns-clause-taken
 returns-clause-taken c =

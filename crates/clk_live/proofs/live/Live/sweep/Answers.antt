@@ -1,0 +1,51 @@
+use Rattle.std.proofs.Common.{◌≡◌, ◌+◌, ◌<◌, ◌≤◌, ◌∙◌, length, take, drop, refl, sym, ap, subst, arith}
+use Rattle.std.proofs.lemmas.List.{length-map}
+use Rattle.clk_packet.specs.Lists.{AreRising}
+use Rattle.clk_router.specs.Events.{Setup, sender_numbers}
+use Rattle.clk_tree.specs.PlanParts.{number_of}
+use Rattle.clk_live.specs.State.{LiveState, seen, GoesOn}
+use Rattle.clk_live.specs.Taking.{AreOf}
+use Rattle.clk_live.proofs.Lists.{member, zip-length}
+use Rattle.clk_live.proofs.Outlets.{all-same, all-then}
+use Rattle.clk_live.proofs.Rounds.{each-none, each-more}
+use Rattle.clk_live.proofs.live.Live.sweep.Goals as goal
+
+pub loop-place-init : goal.loop-place-init
+loop-place-init c =
+    let there = c.requires.there in
+    (
+      (omega arith, there.0, there.1),
+      (omega arith, c.requires.within, refl),
+      (λ old before h. h),
+      each-none c.args.self.now.course.setup c.args.first c.args.each (take c.args.from c.args.taken.now),
+      (λ only h. h),
+      all-same c.args.self.now.outlets,
+      refl,
+    )
+
+pub loop-place-preserved : goal.loop-place-preserved
+loop-place-preserved c =
+    let l = c.loop-place in
+    let inv = l.invariant in
+    let f = c.fill-count in
+    let old = c.args.self.now in
+    let rising : AreRising (sender_numbers old.course.setup) = subst (λ (s : LiveState). AreRising (sender_numbers s.course.setup)) c.self.view_is (rw c.senders.ensures.numbers at c.senders.ensures.rising) in
+    let places : length old.outlets ≡ length old.course.setup.senders = subst (λ (s : LiveState). length s.outlets ≡ length s.course.setup.senders) c.self.view_is c.self.invariant.places in
+    let same = zip-length GoesOn old.outlets l.self.outlets inv.5 in
+    let later = zip-length GoesOn l.self.outlets f.new.self.outlets f.ensures.outlets in
+    let numbers = length-map old.course.setup.senders number_of in
+    let test = c.loop-place-test.true in
+    let n = member (sender_numbers old.course.setup) l.place (let end = inv.0.2 in omega (arith, end, same, places, numbers, test)) in
+    let of : AreOf old.course.setup l.place (drop l.count (take f.result f.new.taken)) = subst (λ (s : Setup). AreOf s l.place (drop l.count (take f.result f.new.taken))) inv.6 f.ensures.of_sender in
+    let length_same : length f.new.taken ≡ length l.taken = f.auto.taken in
+    let within : f.result ≤ length f.new.taken = (let count = f.ensures.count in let room = c.min.ensures in let low = inv.1.1 in omega (arith, count, room, low, length_same)) in
+    let few : f.result ≤ l.count + c.args.each = (let count = f.ensures.count in let room = c.min.ensures in omega (arith, count, room)) in
+    (
+      (omega (arith, inv.0.0), omega (arith, test), (let end = inv.0.2 in omega (arith, end, later))),
+      (omega (arith, inv.1.0, f.ensures.count), within, length_same ∙ inv.1.2),
+      (λ start before h. f.ensures.taken start before (inv.2 start before h)),
+      each-more old.course.setup c.args.first l.place n.0 c.args.each l.count f.result (take c.args.from c.args.taken.now) l.taken f.new.taken rising inv.0.0 n.1 f.ensures.front f.ensures.count.0 within few of inv.3,
+      (λ only h. f.ensures.accepted only (inv.4 only h)),
+      all-then old.outlets l.self.outlets f.new.self.outlets inv.5 f.ensures.outlets,
+      f.ensures.unchanged.1 ∙ inv.6,
+    )

@@ -1,0 +1,17 @@
+-- How many packets a sweep over senders takes from each.
+use Rattle.std.specs.Prelude.{◌≡◌, ℕ, ◌+◌, ◌<◌, ◌≤◌, ◌⊎◌, List, Some}
+use Rattle.clk_live.specs.declared.taking.Taken.{Taken}
+use Rattle.clk_live.specs.Taking.{count_of}
+use Rattle.clk_router.specs.Course.{sender_at}
+use Rattle.clk_router.specs.Events.{Setup}
+
+-- of a sender at a visited place so many packets more at most, and of one at another place none more
+pub record IsEach (first end each place : ℕ) (old new : ℕ) : Type 0 where
+  pub most : new ≤ old + each
+  pub others : (place < first) ⊎ (end ≤ place) → new ≡ old
+
+-- for each sender of the setup, where these packets became those; and of a stranger none more
+abbrev pub AreEach : Setup → (first end each : ℕ) → List Taken → List Taken → Type 0
+AreEach setup first end each old new =
+    ((place s : ℕ) → sender_at setup place ≡ Some s → IsEach first end each place (count_of s old) (count_of s new))
+    × ((s : ℕ) → ((place : ℕ) → sender_at setup place ≡ Some s → ⊥) → count_of s new ≡ count_of s old)
