@@ -49,6 +49,7 @@ impl Outlet {
         ensures ended { has_end (popped self.old) ≡ true → popped self.new ≡ popped self.old }
         ensures none_seen { result ≡ None → has_end (popped self.new) ≡ false → seen self.old ≡ [] }
         ensures grows { IsPrefix (popped self.old ++ seen self.old) (popped self.new ++ seen self.new) }
+        ensures keeps { IsPrefix (popped self.old) (popped self.new) }
         ensures allowed { Allowed MayFollow [] (popped self.old) → Allowed MayFollow [] (popped self.new) }
         ensures halves { (i : Inlet) → AreHalves i self.old → AreHalves i self.new }
     {

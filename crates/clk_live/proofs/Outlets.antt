@@ -1,18 +1,21 @@
 -- Tokens as one outlet takes more packets.
-use Rattle.std.proofs.Common.{◌≡◌, ℕ, ◌==◌, Bool, true, false, List, [], ◌∷◌, ◌++◌, append-nil, append_assoc, length, map, set, Some, slice_get, refl, sym, ap, ◌∙◌}
+use Rattle.std.proofs.Common.{◌≡◌, ℕ, ◌==◌, Bool, true, false, List, [], ◌∷◌, ◌++◌, append-nil, append_assoc, length, map, set, Some, slice_get, refl, sym, ap, ◌∙◌, arith}
 use Rattle.std.specs.Option.{option_map}
 use Rattle.std.proofs.lemmas.Bool.{eqb-true}
 use Rattle.std.proofs.lemmas.List.{map-set}
-use Rattle.std.proofs.lemmas.Option.{slice_get-map}
+use Rattle.std.proofs.lemmas.List.Folds.{list_any-append}
+use Rattle.std.proofs.lemmas.Option.{slice_get-map, slice_get_within}
+use mathlib.Core.List.{IsPrefix}
 use Rattle.clk_packet.specs.declared.packet.Packet.{Packet}
 use Rattle.clk_inlet.specs.Halves.{popped, taken, seen as waiting}
-use Rattle.clk_inlet.specs.Items.{packet_item}
+use Rattle.clk_inlet.specs.Items.{packet_item, has_end, is_end}
 use Rattle.clk_inlet.specs.declared.item.Item.{Item}
 use Rattle.clk_inlet.specs.declared.outlet.Outlet.{Outlet}
 use Rattle.clk_router.specs.Course.{sender_at}
 use Rattle.clk_router.specs.Events.{Setup}
 use Rattle.clk_live.specs.State.{IsTokenOf, GoesOn, AllGoOn}
-use Rattle.clk_live.proofs.Lists.{set-here, set-other, in-front, at-end, zip-same, zip-one, zip-then}
+use Rattle.clk_live.specs.Taking.{HasNone, GaveAll}
+use Rattle.clk_live.proofs.Lists.{set-here, set-other, in-front, at-end, zip-same, zip-one, zip-then, member, zip-length, zip-read}
 
 module _ (setup : Setup) (outlets : List Outlet) (i : ℕ) (old new : Outlet) (its : slice_get outlets i ≡ Some old) (more : List Item) (grows : taken new ≡ taken old ++ more) where
   -- each packet keeps its token
@@ -50,14 +53,19 @@ token-comes setup outlets i old new its p token sender grows number = record {
   item = ap (λ l. slice_get l p.number) grows ∙ ap (slice_get (taken old ++ packet_item p.length token ∷ [])) number ∙ at-end (taken old) (packet_item p.length token);
 }
 
+-- a list that begins with another begins with what that begins with
+pub prefix-then : (xs ys zs : List Item) → IsPrefix xs ys → IsPrefix ys zs → IsPrefix xs zs
+prefix-then xs ys zs h k = (h.0 ++ k.0, sym (append_assoc xs h.0 k.0) ∙ ap (λ l. l ++ k.0) h.1 ∙ k.1)
+
 -- outlets go on
 pub goes-same : (o : Outlet) → GoesOn o o
-goes-same o = record { halves = λ i h. h; in_order = λ h. h; grows = ([], append-nil (popped o ++ waiting o)) }
+goes-same o = record { halves = λ i h. h; in_order = λ h. h; keeps = ([], append-nil (popped o)); grows = ([], append-nil (popped o ++ waiting o)) }
 
 pub goes-then : (o p q : Outlet) → GoesOn o p → GoesOn p q → GoesOn o q
 goes-then o p q h k = record {
   halves = λ i a. k.halves i (h.halves i a);
   in_order = λ a. k.in_order (h.in_order a);
+  keeps = prefix-then (popped o) (popped p) (popped q) h.keeps k.keeps;
   grows = (h.grows.0 ++ k.grows.0, sym (append_assoc (popped o ++ waiting o) h.grows.0 k.grows.0) ∙ ap (λ l. l ++ k.grows.0) h.grows.1 ∙ k.grows.1);
 }
 
@@ -69,3 +77,33 @@ all-then = zip-then GoesOn goes-then
 
 pub one-goes : (os : List Outlet) (i : ℕ) (o p : Outlet) → slice_get os i ≡ Some o → GoesOn o p → AllGoOn os (set os i p)
 one-goes = zip-one GoesOn goes-same
+
+-- what ended later had not ended before
+pub not-ended : (xs ys : List Item) → IsPrefix xs ys → has_end ys ≡ false → has_end xs ≡ false
+not-ended xs ys h open_yet =
+    let e : has_end (xs ++ h.0) ≡ false = ap has_end h.1 ∙ open_yet in
+    grind (arith, list_any-append is_end xs h.0, e)
+
+-- an outlet in whose ring nothing was seen any more gave all
+pub gave-all : (start mid new : List Outlet) (place : ℕ) → AllGoOn start mid → AllGoOn mid new → HasNone mid new place → GaveAll start new place
+gave-all start mid new place before after none = λ o n at now open_yet.
+    (let m = member mid place (let many = zip-length GoesOn start mid before in let within = slice_get_within start place o at in omega (arith, many, within)) in
+    let h = zip-read GoesOn start mid place o m.0 before at m.1 in
+    let k = zip-read GoesOn mid new place m.0 n after m.1 now in
+    let nothing : waiting m.0 ≡ [] = none m.0 n m.1 now open_yet in
+    let all : IsPrefix (popped o ++ waiting o) (popped m.0) = (h.grows.0, h.grows.1 ∙ ap (λ l. popped m.0 ++ l) nothing ∙ append-nil (popped m.0)) in
+    prefix-then (popped o ++ waiting o) (popped m.0) (popped n) all k.keeps)
+
+-- and has given all later on
+pub gave-later : (start mid new : List Outlet) (place : ℕ) → AllGoOn start mid → AllGoOn mid new → GaveAll start mid place → GaveAll start new place
+gave-later start mid new place before after gave = λ o n at now open_yet.
+    (let m = member mid place (let many = zip-length GoesOn start mid before in let within = slice_get_within start place o at in omega (arith, many, within)) in
+    let k = zip-read GoesOn mid new place m.0 n after m.1 now in
+    prefix-then (popped o ++ waiting o) (popped m.0) (popped n) (gave o m.0 at m.1 (not-ended (popped m.0) (popped n) k.keeps open_yet)) k.keeps)
+
+-- from an earlier state on
+pub gave-before : (start mid new : List Outlet) (place : ℕ) → AllGoOn start mid → AllGoOn mid new → GaveAll mid new place → GaveAll start new place
+gave-before start mid new place before after gave = λ o n at now open_yet.
+    (let m = member mid place (let many = zip-length GoesOn start mid before in let within = slice_get_within start place o at in omega (arith, many, within)) in
+    let h = zip-read GoesOn start mid place o m.0 before at m.1 in
+    prefix-then (popped o ++ waiting o) (popped m.0 ++ waiting m.0) (popped n) h.grows (gave m.0 n m.1 now open_yet))

@@ -43,10 +43,12 @@ pub record IsTokenOf (setup : Setup) (items : List (List Item)) (p : Packet) (to
   pub its : slice_get items place ≡ Some its_items
   pub item : slice_get its_items p.number ≡ Some (packet_item p.length token)
 
--- How an outlet goes on: it stays the other half of its inlet, what was popped stays in order, and what was seen in the ring stays next.
+-- How an outlet goes on: it stays the other half of its inlet, what was popped stays and stays in order, and what was seen in the ring stays
+-- next.
 pub record GoesOn (old new : Outlet) : Type 0 where
   pub halves : (i : Inlet) → AreHalves i old → AreHalves i new
   pub in_order : Allowed MayFollow [] (popped old) → Allowed MayFollow [] (popped new)
+  pub keeps : IsPrefix (popped old) (popped new)
   pub grows : IsPrefix (popped old ++ waiting old) (popped new ++ waiting new)
 
 abbrev pub AllGoOn : List Outlet → List Outlet → Type 0

@@ -1,6 +1,7 @@
 -- What takes packets from inlets.
-use Rattle.std.specs.Prelude.{◌≡◌, ℕ, filter, ◌==◌, ◌≤◌, false, List, [], ◌∷◌, ◌++◌, length, slice_set as set, take, drop, ⊤, Some, slice_get}
+use Rattle.std.specs.Prelude.{◌≡◌, ℕ, ◌⊎◌, filter, ◌==◌, ◌≤◌, false, List, [], ◌∷◌, ◌++◌, length, slice_set as set, take, drop, ⊤, Some, slice_get}
 use Rattle.std.specs.List.{AllByRecursion}
+use mathlib.Core.List.{IsPrefix}
 use Rattle.clk_packet.specs.declared.packet.Packet.{Packet}
 use Rattle.clk_packet.specs.declared.packet.Offered.{Offered}
 use Rattle.clk_packet.specs.declared.packet.Offered.TheVariants as offer
@@ -52,6 +53,11 @@ pub record AreTaken (old new : Seen) (before filled : List Taken) (count : ℕ) 
 abbrev pub HasNone : List Outlet → List Outlet → ℕ → Type 0
 HasNone old new place = (o n : Outlet) → slice_get old place ≡ Some o → slice_get new place ≡ Some n → has_end (popped n) ≡ false → waiting o ≡ []
 
+-- A sender's outlet gave all: unless it has ended, what was seen in its ring before was popped.
+abbrev pub GaveAll : List Outlet → List Outlet → ℕ → Type 0
+GaveAll old new place =
+    (o n : Outlet) → slice_get old place ≡ Some o → slice_get new place ≡ Some n → has_end (popped n) ≡ false → IsPrefix (popped o ++ waiting o) (popped n)
+
 -- these packets are of the sender at a place
 abbrev pub AreOf : Setup → ℕ → List Taken → Type 0
 AreOf setup place taken = AllByRecursion (λ (t : Taken). sender_at setup place ≡ Some t.packet.sender) taken
@@ -63,6 +69,10 @@ count_of s taken = length (filter (λ (t : Taken). t.packet.sender == s) taken)
 -- at most so many of these packets are of each sender
 abbrev pub AreAtMost : ℕ → List Taken → Type 0
 AreAtMost most taken = (s : ℕ) → count_of s taken ≤ most
+
+-- Each sender gave so many of these packets, or gave all that was seen in its ring.
+abbrev pub AreShares : Setup → ℕ → List Outlet → List Outlet → List Taken → Type 0
+AreShares setup each old new taken = (place s : ℕ) → sender_at setup place ≡ Some s → (count_of s taken ≡ each) ⊎ GaveAll old new place
 
 -- each of these packets was accepted, and no other was evicted for it
 abbrev pub AllAccepted : List Taken → Type 0

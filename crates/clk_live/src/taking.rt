@@ -37,8 +37,8 @@ impl Live {
     ghost use Rattle.std.specs.Prelude.{◌≡◌, ◌<◌, ◌≤◌, ℕ, List, true, false, None, length, take, drop, slice_get, IfSome};
     ghost use Rattle.clk_router.specs.Course.{sender_at};
     ghost use Rattle.clk_live.specs.State.{Seen, seen, IsTokenOf, AllGoOn};
-    ghost use Rattle.clk_live.specs.Taking.{IsTaken, AreTaken, AreOf, AreAtMost, AllAccepted, HasNone};
-    ghost use Rattle.clk_live.specs.inside.Each.{AreEach};
+    ghost use Rattle.clk_live.specs.Taking.{IsTaken, AreTaken, AreOf, AreAtMost, AreShares, AllAccepted, HasNone, GaveAll};
+    ghost use Rattle.clk_live.specs.inside.Each.{AreEach, GaveShares};
 
     /// Takes the next packet from the inlet of the sender at this place, and offers it to the sender's queue. Returns `None` if no packet
     /// waits there.
@@ -84,6 +84,7 @@ impl Live {
         requires there { place < length self.old.outlets }
         ensures taken { IfSome result (λ t. IsTaken place (seen self.old) t (seen self.new)) }
         ensures none { result ≡ None → seen self.new ≡ seen self.old }
+        ensures none_waits { only_fitting ≡ false → result ≡ None → HasNone self.old.outlets self.new.outlets place }
         ensures accepted { only_fitting ≡ true → IfSome result (λ t. t.outcome ≡ Outcome.Accepted) }
         ensures outlets { AllGoOn self.old.outlets self.new.outlets }
         ensures turn { self.new.turn ≡ self.old.turn }
@@ -130,6 +131,7 @@ impl Live {
         ensures taken { (old : Seen) (before : List Taken) → AreTaken old (seen self.old) before taken.old from → AreTaken old (seen self.new) before taken.new result }
         ensures of_sender { AreOf self.old.course.setup place (drop from (take result taken.new)) }
         ensures front { take from taken.new ≡ take from taken.old }
+        ensures gave_all { only_fitting ≡ false → result < most → GaveAll self.old.outlets self.new.outlets place }
         ensures accepted { only_fitting ≡ true → AllAccepted (take from taken.old) → AllAccepted (take result taken.new) }
         ensures outlets { AllGoOn self.old.outlets self.new.outlets }
         ensures unchanged { (self.new.turn ≡ self.old.turn) × (self.new.course.setup ≡ self.old.course.setup) }
@@ -151,6 +153,7 @@ impl Live {
         requires there { place < length self.old.outlets }
         ensures taken { AreTaken (seen self.old) (seen self.new) taken.old taken.new result }
         ensures of_sender { AreOf self.old.course.setup place (take result taken.new) }
+        ensures gave_all { result < length taken.old → GaveAll self.old.outlets self.new.outlets place }
         ensures outlets { AllGoOn self.old.outlets self.new.outlets }
         ensures turn { self.new.turn ≡ self.old.turn }
     {
@@ -163,6 +166,7 @@ impl Live {
     pub fn take_in(&mut self, each: usize, taken: &mut [Taken]) -> usize
         ensures taken { AreTaken (seen self.old) (seen self.new) taken.old taken.new result }
         ensures each { AreAtMost each (take result taken.new) }
+        ensures shares { result < length taken.old → AreShares self.old.course.setup each self.old.outlets self.new.outlets (take result taken.new) }
         ensures outlets { AllGoOn self.old.outlets self.new.outlets }
     {
         self.round(false, each, taken)
@@ -183,6 +187,7 @@ impl Live {
     fn round(&mut self, only_fitting: bool, each: usize, taken: &mut [Taken]) -> usize
         ensures taken { AreTaken (seen self.old) (seen self.new) taken.old taken.new result }
         ensures each { AreAtMost each (take result taken.new) }
+        ensures shares { only_fitting ≡ false → result < length taken.old → AreShares self.old.course.setup each self.old.outlets self.new.outlets (take result taken.new) }
         ensures accepted { only_fitting ≡ true → AllAccepted (take result taken.new) }
         ensures outlets { AllGoOn self.old.outlets self.new.outlets }
     {
@@ -210,6 +215,7 @@ impl Live {
         ensures count { (from ≤ result.0) × (result.0 ≤ length taken.old) }
         ensures taken { (old : Seen) (before : List Taken) → AreTaken old (seen self.old) before taken.old from → AreTaken old (seen self.new) before taken.new result.0 }
         ensures each { AreEach self.old.course.setup first end each (take from taken.old) (take result.0 taken.new) }
+        ensures shares { only_fitting ≡ false → result.0 < length taken.old → GaveShares self.old.course.setup first end each self.old.outlets self.new.outlets (take from taken.old) (take result.0 taken.new) }
         ensures accepted { only_fitting ≡ true → AllAccepted (take from taken.old) → AllAccepted (take result.0 taken.new) }
         ensures outlets { AllGoOn self.old.outlets self.new.outlets }
         ensures setup { self.new.course.setup ≡ self.old.course.setup }

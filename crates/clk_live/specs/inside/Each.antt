@@ -1,7 +1,8 @@
 -- How many packets a sweep over senders takes from each.
 use Rattle.std.specs.Prelude.{◌≡◌, ℕ, ◌+◌, ◌<◌, ◌≤◌, ◌⊎◌, List, Some}
 use Rattle.clk_live.specs.declared.taking.Taken.{Taken}
-use Rattle.clk_live.specs.Taking.{count_of}
+use Rattle.clk_inlet.specs.declared.outlet.Outlet.{Outlet}
+use Rattle.clk_live.specs.Taking.{count_of, GaveAll}
 use Rattle.clk_router.specs.Course.{sender_at}
 use Rattle.clk_router.specs.Events.{Setup}
 
@@ -15,3 +16,8 @@ abbrev pub AreEach : Setup → (first end each : ℕ) → List Taken → List Ta
 AreEach setup first end each old new =
     ((place s : ℕ) → sender_at setup place ≡ Some s → IsEach first end each place (count_of s old) (count_of s new))
     × ((s : ℕ) → ((place : ℕ) → sender_at setup place ≡ Some s → ⊥) → count_of s new ≡ count_of s old)
+
+-- each sender at a visited place gave so many packets more, or all that was seen in its ring
+abbrev pub GaveShares : Setup → (first end each : ℕ) → List Outlet → List Outlet → List Taken → List Taken → Type 0
+GaveShares setup first end each outlets outlets_now old new =
+    (place s : ℕ) → first ≤ place → place < end → sender_at setup place ≡ Some s → (count_of s new ≡ count_of s old + each) ⊎ GaveAll outlets outlets_now place

@@ -6,7 +6,7 @@ use Rattle.clk_live.specs.declared.taking.Outcome.TheVariants.{Accepted}
 use Rattle.clk_live.specs.State.{Seen, seen, GoesOn}
 use Rattle.clk_live.specs.Taking.{AreTaken}
 use Rattle.clk_live.proofs.Lists.{zip-length}
-use Rattle.clk_live.proofs.Outlets.{all-same, all-then}
+use Rattle.clk_live.proofs.Outlets.{all-same, all-then, gave-all}
 use Rattle.clk_live.proofs.SoFar.{taken-more, all-taken, all-from, none-from}
 use Rattle.clk_live.proofs.live.Live.fill.Goals as goal
 
@@ -38,3 +38,8 @@ loop-count-preserved c =
       (c.take_one.ensures.turn ∙ inv.5.0, setup ∙ inv.5.1),
       take-set-le c.args.from l.taken l.count one inv.0.0 ∙ inv.6,
     )
+
+pub returns-in_default-clause-gave_all : goal.returns-in_default-clause-gave_all
+returns-in_default-clause-gave_all c =
+    λ all fewer.
+    gave-all c.args.self.now.outlets c.loop-count.self.outlets c.take_one.new.self.outlets c.args.place c.loop-count.invariant.4 c.take_one.ensures.outlets (c.take_one.ensures.none_waits all c.in_default.is)

@@ -1,4 +1,4 @@
-use Rattle.std.proofs.Common.{◌≡◌, ◌+◌, ◌<◌, ◌≤◌, ◌∙◌, length, take, drop, refl, sym, ap, subst, arith}
+use Rattle.std.proofs.Common.{◌≡◌, ℕ, ◌+◌, ◌-◌, ◌<◌, ◌≤◌, ◌∙◌, ◌⊎◌, inl, inr, min, length, take, drop, refl, sym, ap, subst, arith}
 use Rattle.std.proofs.lemmas.List.{length-map}
 use Rattle.clk_packet.specs.Lists.{AreRising}
 use Rattle.clk_router.specs.Events.{Setup, sender_numbers}
@@ -7,13 +7,17 @@ use Rattle.clk_live.specs.State.{LiveState, seen, GoesOn}
 use Rattle.clk_live.specs.Taking.{AreOf}
 use Rattle.clk_live.proofs.Lists.{member, zip-length}
 use Rattle.clk_live.proofs.Outlets.{all-same, all-then}
-use Rattle.clk_live.proofs.Rounds.{each-none, each-more}
+use Rattle.clk_live.proofs.Rounds.{lt-or, each-none, each-more, shares-none, shares-more}
 use Rattle.clk_live.proofs.live.Live.sweep.Goals as goal
+
+-- a sender at whose place a sweep had room for all gave as many as it may, or fewer than were asked of it
+share : (each size from room result : ℕ) → (result < from + room) ⊎ (from + room ≤ result) → result ≤ from + room → room ≡ min each (size - from) → result < size → (result ≡ from + each) ⊎ (result < from + room)
+share each size from room result (inl fewer) most room_is open_yet = inr fewer
+share each size from room result (inr all) most room_is open_yet = inl (omega (arith, all, most, room_is, open_yet))
 
 pub loop-place-init : goal.loop-place-init
 loop-place-init c =
-    let there = c.requires.there in
-    (
+    let there = c.requires.there in (
       (omega arith, there.0, there.1),
       (omega arith, c.requires.within, refl),
       (λ old before h. h),
@@ -21,6 +25,7 @@ loop-place-init c =
       (λ only h. h),
       all-same c.args.self.now.outlets,
       refl,
+      (λ all fewer. shares-none c.args.self.now.course.setup c.args.first c.args.each c.args.self.now.outlets c.args.self.now.outlets (take c.args.from c.args.taken.now) (take c.args.from c.args.taken.now)),
     )
 
 pub loop-place-preserved : goal.loop-place-preserved
@@ -39,8 +44,7 @@ loop-place-preserved c =
     let of : AreOf old.course.setup l.place (drop l.count (take f.result f.new.taken)) = subst (λ (s : Setup). AreOf s l.place (drop l.count (take f.result f.new.taken))) inv.6 f.ensures.of_sender in
     let length_same : length f.new.taken ≡ length l.taken = f.auto.taken in
     let within : f.result ≤ length f.new.taken = (let count = f.ensures.count in let room = c.min.ensures in let low = inv.1.1 in omega (arith, count, room, low, length_same)) in
-    let few : f.result ≤ l.count + c.args.each = (let count = f.ensures.count in let room = c.min.ensures in omega (arith, count, room)) in
-    (
+    let few : f.result ≤ l.count + c.args.each = (let count = f.ensures.count in let room = c.min.ensures in omega (arith, count, room)) in (
       (omega (arith, inv.0.0), omega (arith, test), (let end = inv.0.2 in omega (arith, end, later))),
       (omega (arith, inv.1.0, f.ensures.count), within, length_same ∙ inv.1.2),
       (λ start before h. f.ensures.taken start before (inv.2 start before h)),
@@ -48,4 +52,8 @@ loop-place-preserved c =
       (λ only h. f.ensures.accepted only (inv.4 only h)),
       all-then old.outlets l.self.outlets f.new.self.outlets inv.5 f.ensures.outlets,
       f.ensures.unchanged.1 ∙ inv.6,
+      (λ all fewer.
+          shares-more old.course.setup c.args.first l.place n.0 c.args.each l.count f.result (l.count + c.min.result) (take c.args.from c.args.taken.now) l.taken f.new.taken old.outlets l.self.outlets f.new.self.outlets rising inv.0.0 n.1 f.ensures.front f.ensures.count.0
+          within few of inv.5 f.ensures.outlets (f.ensures.gave_all all) (share c.args.each (length l.taken) l.count c.min.result f.result (lt-or f.result (l.count + c.min.result)) f.ensures.count.1 c.min.ensures (let low = fewer in omega (arith, low, length_same))) inv.3
+          (inv.7 all c.if-count-taken.true)),
     )

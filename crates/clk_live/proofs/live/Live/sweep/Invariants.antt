@@ -1,8 +1,8 @@
-use Rattle.std.proofs.Common.{◌≡◌, ◌-◌, ◌≤◌, true, List, length, take}
+use Rattle.std.proofs.Common.{◌≡◌, ◌-◌, ◌<◌, ◌≤◌, true, false, List, length, take}
 use Rattle.clk_live.specs.declared.taking.Taken.{Taken}
 use Rattle.clk_live.specs.State.{Seen, seen, AllGoOn}
 use Rattle.clk_live.specs.Taking.{AreTaken, AllAccepted}
-use Rattle.clk_live.specs.inside.Each.{AreEach}
+use Rattle.clk_live.specs.inside.Each.{AreEach, GaveShares}
 use Rattle.clk_live.proofs.live.Live.sweep.Given as goal
 
 abbrev pub decreases-loop-place : goal.decreases-loop-place
@@ -17,3 +17,4 @@ invariant-loop-place l =
     × (l.only_fitting ≡ true → AllAccepted (take l.from l.initial.taken) → AllAccepted (take l.count l.taken))
     × AllGoOn l.initial.self.outlets l.self.outlets
     × (l.self.course.setup ≡ l.initial.self.course.setup)
+    × (l.only_fitting ≡ false → l.count < length l.taken → GaveShares l.initial.self.course.setup l.first l.place l.each l.initial.self.outlets l.self.outlets (take l.from l.initial.taken) (take l.count l.taken))

@@ -56,7 +56,7 @@ returns-in_err-item-clause-outlets c =
     let there : c.args.place < length i.outlets.items = rw (← c.self.view_is) at c.requires.there in
     let o = c.index_mut.result.now in
     let its : slice_get i.outlets.items c.args.place ≡ Some o = slice_get_read i.outlets.items _ c.args.place o refl there c.index_mut.ensures.value in
-    let goes : GoesOn o c.take.new.self = record { halves = λ inlet. c.take.ensures.halves inlet; in_order = c.take.ensures.allowed; grows = c.take.ensures.grows } in
+    let goes : GoesOn o c.take.new.self = record { halves = λ inlet. c.take.ensures.halves inlet; in_order = c.take.ensures.allowed; keeps = c.take.ensures.keeps; grows = c.take.ensures.grows } in
     subst (λ (l : LiveState). AllGoOn l.outlets (set i.outlets.items c.args.place c.take.new.self)) c.self.view_is (one-goes i.outlets.items c.args.place o c.take.new.self its goes)
 
 pub offer-outcome-requires-clause-can : goal.offer-outcome-requires-clause-can
@@ -158,5 +158,5 @@ returns-clause-outlets c =
     let there : c.args.place < length i.outlets.items = rw (← c.self.view_is) at c.requires.there in
     let o = c.index_mut.result.now in
     let its : slice_get i.outlets.items c.args.place ≡ Some o = slice_get_read i.outlets.items _ c.args.place o refl there c.index_mut.ensures.value in
-    let goes : GoesOn o c.take.new.self = record { halves = λ inlet. c.take.ensures.halves inlet; in_order = c.take.ensures.allowed; grows = c.take.ensures.grows } in
+    let goes : GoesOn o c.take.new.self = record { halves = λ inlet. c.take.ensures.halves inlet; in_order = c.take.ensures.allowed; keeps = c.take.ensures.keeps; grows = c.take.ensures.grows } in
     subst (λ (l : LiveState). AllGoOn l.outlets (set i.outlets.items c.args.place c.take.new.self)) c.self.view_is (one-goes i.outlets.items c.args.place o c.take.new.self its goes)
