@@ -1,19 +1,21 @@
 -- How many packets a sweep over senders takes from each.
-use Rattle.std.proofs.Common.{◌≡◌, ℕ, zero, suc, ◌+◌, ◌<◌, ◌≤◌, ◌==◌, nat_lt, ◌⊎◌, inl, inr, Bool, true, false, if◌then◌else◌, List, [], ◌∷◌, ◌++◌, length, length-append, map, take, drop, take-append-drop, filter, Some, slice_get, refl, sym, ap, ◌∙◌, subst, arith}
+use Rattle.std.proofs.Common.{◌≡◌, ℕ, zero, suc, ◌+◌, ◌<◌, ◌≤◌, ◌==◌, nat_lt, ◌⊎◌, inl, inr, Bool, true, false, if◌then◌else◌, List, [], ◌∷◌, ◌++◌, length, length-append, take, drop, take-append-drop, filter, Some, slice_get, refl, sym, ap, ◌∙◌, subst, arith, ◌-◌, Option, None, MatchOption, get_or, ap₂}
 use Rattle.std.specs.List.{AllByRecursion}
 use Rattle.std.proofs.lemmas.Bool.{eqb-true}
 use Rattle.std.proofs.lemmas.Bool.Decides.{nat_tests}
-use Rattle.std.proofs.lemmas.List.{take-take, length-take-le}
+use Rattle.std.proofs.lemmas.List.{take-take, length-take-le, take_all, length-drop}
 use Rattle.std.proofs.lemmas.List.Elements.{filter-append}
-use Rattle.std.proofs.lemmas.Option.{slice_get_within}
+use Rattle.std.proofs.lemmas.Option.{slice_get_within, slice_get-get_or}
 use Rattle.clk_packet.specs.Lists.{AreRising}
 use Rattle.clk_router.specs.Course.{sender_at}
 use Rattle.clk_router.specs.Events.{Setup, sender_numbers}
+use Rattle.clk_sched.specs.Examples.Priority.{p0_0}
+use Rattle.clk_live.specs.declared.taking.Outcome.TheVariants.{Refused}
 use Rattle.clk_live.specs.declared.taking.Taken.{Taken}
 use Rattle.clk_inlet.specs.declared.outlet.Outlet.{Outlet}
-use Rattle.clk_live.specs.State.{AllGoOn}
-use Rattle.clk_live.specs.Taking.{AreOf, AreAtMost, AreShares, GaveAll, count_of}
-use Rattle.clk_live.specs.inside.Each.{IsEach, AreEach, GaveShares}
+use Rattle.clk_live.specs.State.{LiveState, starts_at, AllGoOn}
+use Rattle.clk_live.specs.Taking.{AreOf, AreAtMost, AreShares, StartsNext, after_place, GaveAll, count_of}
+use Rattle.clk_live.specs.inside.Each.{IsEach, AreEach, GaveShares, IsLast}
 use Rattle.clk_live.proofs.Outlets.{gave-before, gave-later}
 use Rattle.clk_live.proofs.Steps.{one-place}
 
@@ -165,6 +167,10 @@ shares-more setup first place n each from result most start old new os ms ns ris
         by_place true e = mine (eqb-true k place e) share
         by_place false e = theirs e (shares k s from_first (let other = e in grind (arith, nat_tests)) its)
 
+-- what a read of a slot gives where none is
+no_taken : Taken
+no_taken = record { packet = p0_0; token = 0; outcome = Refused }
+
 -- whether a number stands in a list
 stands-or-not : (ns : List ℕ) (s : ℕ) → ((i : ℕ) × (slice_get ns i ≡ Some s)) ⊎ ((i : ℕ) → slice_get ns i ≡ Some s → ⊥)
 stands-or-not [] s = inr (λ i e. cc)
@@ -206,3 +212,129 @@ round-shares setup start places each mid new os ms ns many before after first se
         now : (count_of s mid ≡ count_of s [] + each) ⊎ GaveAll os ms place → (count_of s new ≡ each) ⊎ GaveAll os ns place
         now (inl e) = let stays = (second.0 place s at).others (inr x) in inl (omega (arith, e, stays))
         now (inr g) = inr (gave-later os ms ns place before after g)
+
+-- what all of these packets have, the last of them has
+last-has : (P : Taken → Type 0) (ts : List Taken) (t : Taken) (n : ℕ) → AllByRecursion P ts → length ts ≡ n + 1 → slice_get ts n ≡ Some t → P t
+last-has P [] t n h many e = absurd (omega (arith, many))
+last-has P (u ∷ ts) t zero h many e = let is : u ≡ t = cc in subst P is h.0
+last-has P (u ∷ ts) t (suc n) h many e = last-has P ts t n h.1 (omega (arith, many)) e
+
+drop-get : (from n : ℕ) (ts : List Taken) → slice_get (drop from ts) n ≡ slice_get ts (from + n)
+drop-get zero n ts = let e : n ≡ 0 + n = omega arith in ap (slice_get ts) e
+drop-get (suc from) n [] = refl
+drop-get (suc from) n (t ∷ ts) = let e : suc from + n ≡ suc (from + n) = omega arith in drop-get from n ts ∙ sym (ap (slice_get (t ∷ ts)) e)
+
+-- the last slot of those that a sender filled has a packet of the sender
+pub last-of : (setup : Setup) (place from count : ℕ) (filled : List Taken) (t : Taken) → from < count → count ≡ length filled → AreOf setup place (drop from (take count filled)) → slice_get filled (count - 1) ≡ Some t → sender_at setup place ≡ Some t.packet.sender
+last-of setup place from count filled t some all of at =
+    let whole : take count filled ≡ filled = take_all count filled (omega (arith, all)) in
+    let of_rest : AreOf setup place (drop from filled) = subst (λ l. AreOf setup place (drop from l)) whole of in
+    let many : length (drop from filled) ≡ count - 1 - from + 1 = (let parts = length-drop from filled in omega (arith, parts, some, all)) in
+    let e : from + (count - 1 - from) ≡ count - 1 = omega (arith, some) in
+    last-has (λ (u : Taken). sender_at setup place ≡ Some u.packet.sender) (drop from filled) t (count - 1 - from) of_rest many (drop-get from (count - 1 - from) filled ∙ ap (slice_get filled) e ∙ at)
+
+-- the next round starts where it should
+pub starts-next : (old new : LiveState) (places start next again from size count : ℕ) (mid filled : List Taken) → AreRising (sender_numbers old.course.setup) → places ≡ length old.outlets → length new.outlets ≡ length old.outlets → start ≡ starts_at old → start ≤ places
+    → (from < size → next ≡ places) → (count < size → again ≡ start) → from ≤ count → count ≤ size → length filled ≡ size → (from ≡ size → IsLast old.course.setup start 0 mid from next) → (count ≡ size → IsLast old.course.setup 0 from filled count again)
+    → (from ≡ size → filled ≡ mid) → next ≤ places → again ≤ start → new.turn ≡ (if nat_lt next places then next else again) → StartsNext old new size count (slice_get filled (count - 1))
+starts-next old new places start next again from size count mid filled rising many same_many start_is low first_ended second_ended up most sizes first_last second_last untouched next_low again_low turn_is = record { same = same; next = ran_out }
+  where
+    start_low : (start < places) ⊎ (start ≡ 0)
+    start_low = by_test (nat_lt old.turn (length old.outlets)) refl
+      where
+        by_test : (b : Bool) → nat_lt old.turn (length old.outlets) ≡ b → (start < places) ⊎ (start ≡ 0)
+        by_test true e = inl (let is = start_is ∙ ap (λ t. if t then old.turn else 0) e in let lt : old.turn < length old.outlets = grind (arith, nat_tests) in omega (arith, is, lt, many))
+        by_test false e = inr (start_is ∙ ap (λ t. if t then old.turn else 0) e)
+
+    -- a turn below the number of places is where a round starts
+    at-turn : (t : ℕ) → new.turn ≡ t → (t < places) ⊎ (t ≡ 0) → starts_at new ≡ t
+    at-turn t is (inl lt) =
+        let yes : nat_lt new.turn (length new.outlets) ≡ true = (let below : new.turn < length new.outlets = omega (arith, is, lt, many, same_many) in grind (arith, nat_tests)) in
+        ap (λ b. if b then new.turn else 0) yes ∙ is
+    at-turn t is (inr zero_is) = by_test (nat_lt new.turn (length new.outlets))
+      where
+        by_test : (b : Bool) → (if b then new.turn else 0) ≡ t
+        by_test true = is
+        by_test false = sym zero_is
+
+    turn-if : (b : Bool) → nat_lt next places ≡ b → new.turn ≡ (if b then next else again)
+    turn-if b e = turn_is ∙ ap (λ t. if t then next else again) e
+
+    same : count < size → starts_at new ≡ starts_at old
+    same fewer =
+        let whole : next ≡ places = first_ended (omega (arith, fewer, up)) in
+        let no_more : nat_lt next places ≡ false = grind (arith, nat_tests) in
+        let is : new.turn ≡ start = turn-if false no_more ∙ second_ended fewer in
+        at-turn start is start_low ∙ start_is
+
+    at-last : (t : Taken) → count ≡ size → slice_get filled (count - 1) ≡ Some t → (place : ℕ) → sender_at old.course.setup place ≡ Some t.packet.sender → starts_at new ≡ after_place place (length old.outlets)
+    at-last t full at place its = by_from (lt-or from count)
+      where
+        within : place < places → (after : ℕ) → after ≡ place + 1 → new.turn ≡ (if nat_lt after places then after else 0) → starts_at new ≡ after_place place (length old.outlets)
+        within low_place after is turns = by_test (nat_lt (place + 1) (length old.outlets)) refl
+          where
+            by_test : (b : Bool) → nat_lt (place + 1) (length old.outlets) ≡ b → starts_at new ≡ (if b then place + 1 else 0)
+            by_test true e =
+                let below : nat_lt after places ≡ true = ap₂ nat_lt is many ∙ e in
+                let lt : place + 1 < places = (let l : place + 1 < length old.outlets = grind (arith, nat_tests) in omega (arith, l, many)) in
+                at-turn (place + 1) (turns ∙ ap (λ b. if b then after else 0) below ∙ is) (inl lt)
+            by_test false e =
+                let above : nat_lt after places ≡ false = ap₂ nat_lt is many ∙ e in
+                at-turn 0 (turns ∙ ap (λ b. if b then after else 0) above) (inr refl)
+
+        below-places : place < length (sender_numbers old.course.setup)
+        below-places = slice_get_within (sender_numbers old.course.setup) place t.packet.sender its
+
+        by_from : (from < count) ⊎ (count ≤ from) → starts_at new ≡ after_place place (length old.outlets)
+        by_from (inl more) =
+            let last = (second_last full).some more t at in
+            let here = one-place (sender_numbers old.course.setup) (again - 1) place t.packet.sender rising last.1 its in
+            let after : again ≡ place + 1 = (let positive = last.0 in omega (arith, here, positive)) in
+            let whole : next ≡ places = first_ended (omega (arith, more, full)) in
+            let no_more : nat_lt next places ≡ false = grind (arith, nat_tests) in
+            within (omega (arith, after, again_low, low)) again after (turn-if false no_more ∙ again-is (nat_lt again places) refl)
+          where
+            again-is : (b : Bool) → nat_lt again places ≡ b → again ≡ (if b then again else 0)
+            again-is true e = refl
+            again-is false e = let le : places ≤ again = grind (arith, nat_tests) in at-zero start_low le
+              where
+                at-zero : (start < places) ⊎ (start ≡ 0) → places ≤ again → again ≡ 0
+                at-zero (inl lt) le = absurd (omega (arith, lt, le, again_low))
+                at-zero (inr z) le = omega (arith, z, again_low)
+        by_from (inr all) =
+            let filled_first : from ≡ size = omega (arith, all, up, full) in
+            let none : again ≡ 0 = (second_last full).none (omega (arith, all, up)) in
+            let at_mid : slice_get mid (from - 1) ≡ Some t = ap (λ l. slice_get l (from - 1)) (sym (untouched filled_first)) ∙ ap (λ n. slice_get filled (n - 1)) (omega (arith, all, up)) ∙ at in
+            let some : 0 < from = positive (lt-or 0 from) at_mid (untouched filled_first) in
+            let last = (first_last filled_first).some some t at_mid in
+            let here = one-place (sender_numbers old.course.setup) (next - 1) place t.packet.sender rising last.1 its in
+            let after : next ≡ place + 1 = (let above = last.0 in omega (arith, here, above)) in
+            within (omega (arith, after, next_low)) next after (turn_is ∙ ap (λ n. if nat_lt next places then next else n) none)
+          where
+            positive : (0 < from) ⊎ (from ≤ 0) → slice_get mid (from - 1) ≡ Some t → filled ≡ mid → 0 < from
+            positive (inl lt) e f = lt
+            positive (inr le) e f = let within_mid = slice_get_within mid (from - 1) t e in let same_size = ap length f in let filled_first : from ≡ size = omega (arith, all, up, full) in absurd (omega (arith, within_mid, same_size, sizes, filled_first, le))
+
+    ran_out : count ≡ size → MatchOption (slice_get filled (count - 1)) (starts_at new ≡ starts_at old) (λ t. (place : ℕ) → sender_at old.course.setup place ≡ Some t.packet.sender → starts_at new ≡ after_place place (length old.outlets))
+    ran_out full = by_last (slice_get filled (count - 1)) refl
+      where
+        by_last : (o : Option Taken) → slice_get filled (count - 1) ≡ o → MatchOption o (starts_at new ≡ starts_at old) (λ t. (place : ℕ) → sender_at old.course.setup place ≡ Some t.packet.sender → starts_at new ≡ after_place place (length old.outlets))
+        by_last (Some t) e = at-last t full e
+        by_last None e = none-filled (lt-or 0 size)
+          where
+            none-filled : (0 < size) ⊎ (size ≤ 0) → starts_at new ≡ starts_at old
+            none-filled (inl some) = let there = slice_get-get_or filled (count - 1) no_taken (omega (arith, some, full, sizes)) in let no : None ≡ Some (get_or filled (count - 1) no_taken) = sym e ∙ there in absurd (cc)
+            none-filled (inr none) =
+                let nothing_first : from ≡ size = omega (arith, none, up, most) in
+                let nothing_second : from ≡ count = omega (arith, none, up, full) in
+                let next_is : next ≡ start = (first_last nothing_first).none (omega (arith, none, nothing_first)) in
+                let again_is : again ≡ 0 = (second_last full).none nothing_second in
+                by_start start_low next_is again_is
+              where
+                by_start : (start < places) ⊎ (start ≡ 0) → next ≡ start → again ≡ 0 → starts_at new ≡ starts_at old
+                by_start (inl lt) n a = let below : nat_lt next places ≡ true = grind (arith, nat_tests) in at-turn start (turn-if true below ∙ n) (inl lt) ∙ start_is
+                by_start (inr z) n a = at-turn start (by_test (nat_lt next places) refl) (inr z) ∙ start_is
+                  where
+                    by_test : (b : Bool) → nat_lt next places ≡ b → new.turn ≡ start
+                    by_test true e = turn-if true e ∙ n
+                    by_test false e = turn-if false e ∙ a ∙ sym z

@@ -1,5 +1,5 @@
 -- What is seen of a live router: the course of its router and its outlets. And the token of each packet that was taken.
-use Rattle.std.specs.Prelude.{◌≡◌, ℕ, List, [], ◌++◌, map, Some, slice_get}
+use Rattle.std.specs.Prelude.{◌≡◌, ℕ, List, [], ◌++◌, map, Some, slice_get, nat_lt, if◌then◌else◌, length}
 use mathlib.Core.List.{IsPrefix}
 use Rattle.std.specs.List.{AllZip}
 use Rattle.std.proofs.Common.{refl}
@@ -16,7 +16,7 @@ use Rattle.clk_router.specs.Course.{Course, sender_at}
 use Rattle.clk_router.specs.Events.{Setup}
 use Rattle.clk_router.specs.Stored.{course_code}
 
--- what is seen of a live router: the course of its router, the outlet of each sender, by place, and the place at which the next round starts
+-- what is seen of a live router: the course of its router, the outlet of each sender, by place, and where the next round starts
 pub record LiveState : Type 0 where
   pub course : Course
   pub outlets : List Outlet
@@ -42,6 +42,10 @@ pub record IsTokenOf (setup : Setup) (items : List (List Item)) (p : Packet) (to
   pub sender : sender_at setup place ≡ Some p.sender
   pub its : slice_get items place ≡ Some its_items
   pub item : slice_get its_items p.number ≡ Some (packet_item p.length token)
+
+-- the place of the sender at which the next round starts
+abbrev pub starts_at : LiveState → ℕ
+starts_at l = if nat_lt l.turn (length l.outlets) then l.turn else 0
 
 -- How an outlet goes on: it stays the other half of its inlet, what was popped stays and stays in order, and what was seen in the ring stays
 -- next.

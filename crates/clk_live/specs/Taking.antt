@@ -1,5 +1,5 @@
 -- What takes packets from inlets.
-use Rattle.std.specs.Prelude.{◌≡◌, ℕ, ◌⊎◌, filter, ◌==◌, ◌≤◌, false, List, [], ◌∷◌, ◌++◌, length, slice_set as set, take, drop, ⊤, Some, slice_get}
+use Rattle.std.specs.Prelude.{◌≡◌, ℕ, ◌⊎◌, filter, ◌==◌, ◌≤◌, false, List, [], ◌∷◌, ◌++◌, length, slice_set as set, take, drop, ⊤, Some, slice_get, ◌+◌, ◌<◌, nat_lt, if◌then◌else◌, Option, MatchOption}
 use Rattle.std.specs.List.{AllByRecursion}
 use mathlib.Core.List.{IsPrefix}
 use Rattle.clk_packet.specs.declared.packet.Packet.{Packet}
@@ -15,7 +15,7 @@ use Rattle.clk_router.specs.Events.{Setup, offered}
 use Rattle.clk_live.specs.declared.taking.Outcome.{Outcome}
 use Rattle.clk_live.specs.declared.taking.Outcome.TheVariants.{Accepted, Refused, Evicted}
 use Rattle.clk_live.specs.declared.taking.Taken.{Taken}
-use Rattle.clk_live.specs.State.{Seen, IsTokenOf}
+use Rattle.clk_live.specs.State.{LiveState, Seen, starts_at, IsTokenOf}
 
 -- the outcome of the packet's offer, without tokens
 abbrev pub offer_outcome : Packet → Outcome → Offered
@@ -73,6 +73,16 @@ AreAtMost most taken = (s : ℕ) → count_of s taken ≤ most
 -- Each sender gave so many of these packets, or gave all that was seen in its ring.
 abbrev pub AreShares : Setup → ℕ → List Outlet → List Outlet → List Taken → Type 0
 AreShares setup each old new taken = (place s : ℕ) → sender_at setup place ≡ Some s → (count_of s taken ≡ each) ⊎ GaveAll old new place
+
+-- the place after this one among so many, the first after the last
+abbrev pub after_place : ℕ → ℕ → ℕ
+after_place place many = if nat_lt (place + 1) many then place + 1 else 0
+
+-- After a round that filled `places` slots, the last with `last`, the next one starts at the sender after the last packet's. After one that
+-- left slots free it starts where this one did.
+pub record StartsNext (old new : LiveState) (places count : ℕ) (last : Option Taken) : Type 0 where
+  pub same : count < places → starts_at new ≡ starts_at old
+  pub next : count ≡ places → MatchOption last (starts_at new ≡ starts_at old) (λ t. (place : ℕ) → sender_at old.course.setup place ≡ Some t.packet.sender → starts_at new ≡ after_place place (length old.outlets))
 
 -- each of these packets was accepted, and no other was evicted for it
 abbrev pub AllAccepted : List Taken → Type 0

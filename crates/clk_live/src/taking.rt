@@ -34,11 +34,11 @@ pub struct Taken {
 }
 
 impl Live {
-    ghost use Rattle.std.specs.Prelude.{◌≡◌, ◌<◌, ◌≤◌, ℕ, List, true, false, None, length, take, drop, slice_get, IfSome};
+    ghost use Rattle.std.specs.Prelude.{◌≡◌, ◌-◌, ◌<◌, ◌≤◌, ℕ, List, true, false, None, length, take, drop, slice_get, IfSome};
     ghost use Rattle.clk_router.specs.Course.{sender_at};
-    ghost use Rattle.clk_live.specs.State.{Seen, seen, IsTokenOf, AllGoOn};
-    ghost use Rattle.clk_live.specs.Taking.{IsTaken, AreTaken, AreOf, AreAtMost, AreShares, AllAccepted, HasNone, GaveAll};
-    ghost use Rattle.clk_live.specs.inside.Each.{AreEach, GaveShares};
+    ghost use Rattle.clk_live.specs.State.{Seen, seen, starts_at, IsTokenOf, AllGoOn};
+    ghost use Rattle.clk_live.specs.Taking.{IsTaken, AreTaken, AreOf, AreAtMost, AreShares, StartsNext, AllAccepted, HasNone, GaveAll};
+    ghost use Rattle.clk_live.specs.inside.Each.{AreEach, GaveShares, IsLast};
 
     /// Takes the next packet from the inlet of the sender at this place, and offers it to the sender's queue. Returns `None` if no packet
     /// waits there.
@@ -167,6 +167,7 @@ impl Live {
         ensures taken { AreTaken (seen self.old) (seen self.new) taken.old taken.new result }
         ensures each { AreAtMost each (take result taken.new) }
         ensures shares { result < length taken.old → AreShares self.old.course.setup each self.old.outlets self.new.outlets (take result taken.new) }
+        ensures turn { StartsNext self.old self.new (length taken.old) result (slice_get taken.new (result - 1)) }
         ensures outlets { AllGoOn self.old.outlets self.new.outlets }
     {
         self.round(false, each, taken)
@@ -178,6 +179,7 @@ impl Live {
         ensures taken { AreTaken (seen self.old) (seen self.new) taken.old taken.new result }
         ensures each { AreAtMost each (take result taken.new) }
         ensures accepted { AllAccepted (take result taken.new) }
+        ensures turn { StartsNext self.old self.new (length taken.old) result (slice_get taken.new (result - 1)) }
         ensures outlets { AllGoOn self.old.outlets self.new.outlets }
     {
         self.round(true, each, taken)
@@ -189,14 +191,29 @@ impl Live {
         ensures each { AreAtMost each (take result taken.new) }
         ensures shares { only_fitting ≡ false → result < length taken.old → AreShares self.old.course.setup each self.old.outlets self.new.outlets (take result taken.new) }
         ensures accepted { only_fitting ≡ true → AllAccepted (take result taken.new) }
+        ensures turn { StartsNext self.old self.new (length taken.old) result (slice_get taken.new (result - 1)) }
         ensures outlets { AllGoOn self.old.outlets self.new.outlets }
     {
+        // The numbers of senders rise, so that each stands at one place.
+        let _ = self.router.senders();
         let places = self.outlets.len();
-        let start = self.turn.min(places);
+        let start = self.starts_at();
         let (count, next) = self.sweep(start, places, only_fitting, each, taken, 0);
         let (count, again) = self.sweep(0, start, only_fitting, each, taken, count);
         self.turn = if next < places { next } else { again };
         count
+    }
+
+    // The place of the sender at which the next round starts.
+    fn starts_at(&self) -> usize
+        ensures value { result ≡ starts_at self.now }
+        ensures within { result ≤ length self.now.outlets }
+    {
+        if self.turn < self.outlets.len() {
+            self.turn
+        } else {
+            0
+        }
     }
 
     // Takes packets of the senders from place `first` up to `end` into `taken`, from its place `from` on, at most `each` from each. Returns how
@@ -212,10 +229,13 @@ impl Live {
     ) -> (usize, usize)
         requires there { (first ≤ end) × (end ≤ length self.old.outlets) }
         requires within { from ≤ length taken.old }
-        ensures count { (from ≤ result.0) × (result.0 ≤ length taken.old) }
+        ensures count { (from ≤ result.0) × (result.0 ≤ length taken.old) × (result.1 ≤ end) }
         ensures taken { (old : Seen) (before : List Taken) → AreTaken old (seen self.old) before taken.old from → AreTaken old (seen self.new) before taken.new result.0 }
+        ensures front { take from taken.new ≡ take from taken.old }
         ensures each { AreEach self.old.course.setup first end each (take from taken.old) (take result.0 taken.new) }
         ensures shares { only_fitting ≡ false → result.0 < length taken.old → GaveShares self.old.course.setup first end each self.old.outlets self.new.outlets (take from taken.old) (take result.0 taken.new) }
+        ensures ended { result.0 < length taken.old → result.1 ≡ end }
+        ensures last { result.0 ≡ length taken.old → IsLast self.old.course.setup first from taken.new result.0 result.1 }
         ensures accepted { only_fitting ≡ true → AllAccepted (take from taken.old) → AllAccepted (take result.0 taken.new) }
         ensures outlets { AllGoOn self.old.outlets self.new.outlets }
         ensures setup { self.new.course.setup ≡ self.old.course.setup }

@@ -1,5 +1,5 @@
 -- How many packets a sweep over senders takes from each.
-use Rattle.std.specs.Prelude.{◌≡◌, ℕ, ◌+◌, ◌<◌, ◌≤◌, ◌⊎◌, List, Some}
+use Rattle.std.specs.Prelude.{◌≡◌, ℕ, ◌+◌, ◌-◌, ◌<◌, ◌≤◌, ◌⊎◌, List, Some, slice_get}
 use Rattle.clk_live.specs.declared.taking.Taken.{Taken}
 use Rattle.clk_inlet.specs.declared.outlet.Outlet.{Outlet}
 use Rattle.clk_live.specs.Taking.{count_of, GaveAll}
@@ -21,3 +21,9 @@ AreEach setup first end each old new =
 abbrev pub GaveShares : Setup → (first end each : ℕ) → List Outlet → List Outlet → List Taken → List Taken → Type 0
 GaveShares setup first end each outlets outlets_now old new =
     (place s : ℕ) → first ≤ place → place < end → sender_at setup place ≡ Some s → (count_of s new ≡ count_of s old + each) ⊎ GaveAll outlets outlets_now place
+
+-- A sweep that began at place `first` with slot `from` filled all slots, `count` in all, and would go on at place `place`. If it filled none,
+-- that is where it began. Otherwise it is the place after the last packet's sender.
+pub record IsLast (setup : Setup) (first from : ℕ) (filled : List Taken) (count place : ℕ) : Type 0 where
+  pub none : from ≡ count → place ≡ first
+  pub some : from < count → (t : Taken) → slice_get filled (count - 1) ≡ Some t → (first < place) × (sender_at setup (place - 1) ≡ Some t.packet.sender)

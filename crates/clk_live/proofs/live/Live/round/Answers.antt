@@ -1,13 +1,17 @@
-use Rattle.std.proofs.Common.{◌≡◌, ◌≤◌, ◌∙◌, [], length, take, sym, ap, subst, arith}
-use Rattle.std.proofs.lemmas.List.{length-map}
+use Rattle.std.proofs.Common.{◌≡◌, ◌≤◌, nat_lt, true, false, if◌then◌else◌, ◌∙◌, length, take, sym, ap, subst, arith}
+use Rattle.std.proofs.lemmas.List.{length-map, take_all}
+use Rattle.std.proofs.lemmas.Bool.Decides.{nat_tests}
+use Rattle.clk_packet.specs.Lists.{AreRising}
+use Rattle.clk_live.proofs.Lists.{zip-length}
 use Rattle.clk_router.specs.Events.{Setup, sender_numbers}
 use Rattle.clk_tree.specs.PlanParts.{number_of}
-use Rattle.clk_live.specs.State.{LiveState, seen, AllGoOn}
+use Rattle.clk_live.specs.State.{LiveState, seen, GoesOn, AllGoOn}
 use Rattle.clk_live.specs.Taking.{AreTaken, AreShares}
-use Rattle.clk_live.specs.inside.Each.{AreEach, GaveShares}
+use Rattle.clk_live.specs.inside.Each.{AreEach, GaveShares, IsLast}
 use Rattle.clk_live.proofs.Outlets.{all-then}
 use Rattle.clk_live.proofs.SoFar.{taken-none}
-use Rattle.clk_live.proofs.Rounds.{round-each, round-shares}
+use Rattle.clk_live.proofs.Rounds.{round-shares, starts-next}
+use Rattle.clk_live.proofs.live.Live.round.Goals.{then-next-places, else-next-places}
 use Rattle.clk_live.proofs.live.Live.round.Goals as goal
 
 pub returns-clause-taken : goal.returns-clause-taken
@@ -36,6 +40,33 @@ returns-clause-shares c =
     (let first = a.ensures.shares all (let up = b.ensures.count.0 in let same = a.auto.taken in omega (arith, up, fewer)) in
     let second = b.ensures.shares all (let same = a.auto.taken in omega (arith, fewer, same)) in
     subst (λ (l : LiveState). AreShares old.course.setup c.args.each old.outlets l.outlets (take b.result.0 b.new.taken)) (sym c.self-2.view_is)
-    (round-shares old.course.setup c.min-start.result c.len-places.result c.args.each (take a.result.0 a.new.taken) (take b.result.0 b.new.taken) old.outlets a.new.self.outlets b.new.self.outlets places a.ensures.outlets b.ensures.outlets a.ensures.each
-    (subst (λ (s : Setup). AreEach s 0 c.min-start.result c.args.each (take a.result.0 a.new.taken) (take b.result.0 b.new.taken)) a.ensures.setup b.ensures.each) first
-    (subst (λ (s : Setup). GaveShares s 0 c.min-start.result c.args.each a.new.self.outlets b.new.self.outlets (take a.result.0 a.new.taken) (take b.result.0 b.new.taken)) a.ensures.setup second)))
+    (round-shares old.course.setup c.starts_at-start.result c.len-places.result c.args.each (take a.result.0 a.new.taken) (take b.result.0 b.new.taken) old.outlets a.new.self.outlets b.new.self.outlets places a.ensures.outlets b.ensures.outlets a.ensures.each
+    (subst (λ (s : Setup). AreEach s 0 c.starts_at-start.result c.args.each (take a.result.0 a.new.taken) (take b.result.0 b.new.taken)) a.ensures.setup b.ensures.each) first
+    (subst (λ (s : Setup). GaveShares s 0 c.starts_at-start.result c.args.each a.new.self.outlets b.new.self.outlets (take a.result.0 a.new.taken) (take b.result.0 b.new.taken)) a.ensures.setup second)))
+
+pub returns-clause-turn : goal.returns-clause-turn
+returns-clause-turn c =
+    let a = c.sweep-count in
+    let b = c.sweep-count-2 in
+    let old = c.args.self.now in
+    let rising : AreRising (sender_numbers old.course.setup) = subst (λ (l : LiveState). AreRising (sender_numbers l.course.setup)) c.self.view_is (rw c.senders.ensures.numbers at c.senders.ensures.rising) in
+    let places : c.len-places.result ≡ length old.outlets = subst (λ (l : LiveState). c.len-places.result ≡ length l.outlets) c.self.view_is (let many = c.len-places.ensures in omega (arith, many)) in
+    let first = zip-length GoesOn old.outlets a.new.self.outlets a.ensures.outlets in
+    let second = zip-length GoesOn a.new.self.outlets b.new.self.outlets b.ensures.outlets in
+    let same_many : length c.self-2.inside.outlets.items ≡ length old.outlets = subst (λ (l : LiveState). length l.outlets ≡ length old.outlets) (sym c.self-2.view_is) (omega (arith, first, second)) in
+    let size : length b.new.taken ≡ length c.args.taken.now = b.auto.taken ∙ a.auto.taken in
+    let low : c.starts_at-start.result ≤ c.len-places.result = (let within = c.starts_at-start.ensures.within in omega (arith, within, places)) in
+    let turn : c.if-next-places.self ≡ (if nat_lt a.result.1 c.len-places.result then a.result.1 else b.result.1) =
+    elim c.if-next-places.branch [
+      | then-next-places w ↦
+          let below : nat_lt a.result.1 c.len-places.result ≡ true = (let lt = w.if-next-places.true in grind (arith, nat_tests)) in
+          w.self-is ∙ sym (ap (λ t. if t then a.result.1 else b.result.1) below)
+      | else-next-places w ↦
+          let above : nat_lt a.result.1 c.len-places.result ≡ false = (let le = w.if-next-places.false in grind (arith, nat_tests)) in
+          w.self-is ∙ sym (ap (λ t. if t then a.result.1 else b.result.1) above)
+    ]
+    in
+    starts-next old (record { course = c.self-2.inside.router; outlets = c.self-2.inside.outlets.items; turn = c.if-next-places.self }) c.len-places.result c.starts_at-start.result a.result.1 b.result.1 a.result.0 (length c.args.taken.now) b.result.0 a.new.taken b.new.taken rising
+    places same_many c.starts_at-start.ensures.value low a.ensures.ended (λ fewer. b.ensures.ended (let same = a.auto.taken in omega (arith, fewer, same))) b.ensures.count.0 (let most = b.ensures.count.1 in let same = a.auto.taken in omega (arith, most, same)) size a.ensures.last
+    (λ full. subst (λ (s : Setup). IsLast s 0 a.result.0 b.new.taken b.result.0 b.result.1) a.ensures.setup (b.ensures.last (let same = a.auto.taken in omega (arith, full, same))))
+    (λ full. sym (take_all a.result.0 b.new.taken (omega (arith, full, size))) ∙ b.ensures.front ∙ take_all a.result.0 a.new.taken (let same = a.auto.taken in omega (arith, full, same))) a.ensures.count.2 b.ensures.count.2 turn

@@ -1,13 +1,14 @@
 use Rattle.std.proofs.Common.{◌≡◌, ℕ, ◌+◌, ◌-◌, ◌<◌, ◌≤◌, ◌∙◌, ◌⊎◌, inl, inr, min, length, take, drop, refl, sym, ap, subst, arith}
-use Rattle.std.proofs.lemmas.List.{length-map}
+use Rattle.std.proofs.lemmas.List.{length-map, take-take}
 use Rattle.clk_packet.specs.Lists.{AreRising}
+use Rattle.clk_router.specs.Course.{sender_at}
 use Rattle.clk_router.specs.Events.{Setup, sender_numbers}
 use Rattle.clk_tree.specs.PlanParts.{number_of}
-use Rattle.clk_live.specs.State.{LiveState, seen, GoesOn}
+use Rattle.clk_live.specs.State.{LiveState, GoesOn}
 use Rattle.clk_live.specs.Taking.{AreOf}
 use Rattle.clk_live.proofs.Lists.{member, zip-length}
 use Rattle.clk_live.proofs.Outlets.{all-same, all-then}
-use Rattle.clk_live.proofs.Rounds.{lt-or, each-none, each-more, shares-none, shares-more}
+use Rattle.clk_live.proofs.Rounds.{lt-or, each-none, each-more, shares-none, shares-more, last-of}
 use Rattle.clk_live.proofs.live.Live.sweep.Goals as goal
 
 -- a sender at whose place a sweep had room for all gave as many as it may, or fewer than were asked of it
@@ -26,6 +27,8 @@ loop-place-init c =
       all-same c.args.self.now.outlets,
       refl,
       (λ all fewer. shares-none c.args.self.now.course.setup c.args.first c.args.each c.args.self.now.outlets c.args.self.now.outlets (take c.args.from c.args.taken.now) (take c.args.from c.args.taken.now)),
+      (λ full. record { none = λ e. refl; some = λ more t at. absurd (omega (arith, more)) }),
+      refl,
     )
 
 pub loop-place-preserved : goal.loop-place-preserved
@@ -56,4 +59,13 @@ loop-place-preserved c =
           shares-more old.course.setup c.args.first l.place n.0 c.args.each l.count f.result (l.count + c.min.result) (take c.args.from c.args.taken.now) l.taken f.new.taken old.outlets l.self.outlets f.new.self.outlets rising inv.0.0 n.1 f.ensures.front f.ensures.count.0
           within few of inv.5 f.ensures.outlets (f.ensures.gave_all all) (share c.args.each (length l.taken) l.count c.min.result f.result (lt-or f.result (l.count + c.min.result)) f.ensures.count.1 c.min.ensures (let low = fewer in omega (arith, low, length_same))) inv.3
           (inv.7 all c.if-count-taken.true)),
+      (λ full. record {
+        none = λ e. (let fewer = c.if-count-taken.true in let up = inv.1.0 in absurd (omega (arith, e, full, fewer, up, length_same)));
+        some = λ more t at. (
+          omega (arith, inv.0.0),
+          (let here : l.place + 1 - 1 ≡ l.place = omega arith in
+              ap (sender_at old.course.setup) here ∙ last-of old.course.setup l.place l.count f.result f.new.taken t (let fewer = c.if-count-taken.true in omega (arith, fewer, full, length_same)) full of at),
+        );
+      }),
+      sym (take-take c.args.from l.count f.new.taken inv.1.0) ∙ ap (take c.args.from) f.ensures.front ∙ take-take c.args.from l.count l.taken inv.1.0 ∙ inv.9,
     )
