@@ -2,9 +2,9 @@
 
 ghost use Rattle.std.specs.Prelude.{◌<◌, length};
 
-use crate::steps::{EMPTY_SLOT, Row, Sent, Step, token_of};
+use crate::steps::{EMPTY_SLOT, NONE_DEPARTED, NONE_EMITTED, Row, Sent, Step, token_of};
 use clk_inlet::Inlet;
-use clk_live::{Emitted, Live, Outcome, Taken};
+use clk_live::{DrainEnd, Emitted, Live, Outcome, Taken};
 use clk_packet::{Fault, Packet};
 use clk_tree::Plan;
 use std::alloc::Global;
@@ -26,6 +26,15 @@ fn is_evicted(outcome: Outcome, sent: Sent) -> bool {
         Outcome::Evicted { packet, token } => is_sent(packet, token, sent),
         _ => false,
     }
+}
+
+// Whether these are the packets that were sent, in order, and all were accepted.
+fn are_accepted(taken: &[Taken], expected: &[Sent]) -> bool {
+    taken.len() == expected.len()
+        && taken
+            .iter()
+            .zip(expected)
+            .all(|(one, sent)| is_accepted(one, *sent))
 }
 
 /// A live router and its inlets.
@@ -88,18 +97,49 @@ impl Bench {
         } else {
             self.live.take_in(each, taken)
         };
-        let taken = &taken[..count];
-        count == expected.len()
-            && taken
-                .iter()
-                .zip(expected)
-                .all(|(one, sent)| is_accepted(one, *sent))
+        are_accepted(&taken[..count], expected)
+    }
+
+    // Whether so many places are filled with these packets of a sender, and all are accepted.
+    fn takes_many(&mut self, rt: &impl Abort, sender: u16, room: usize, expected: &[Sent]) -> bool {
+        let place = self.place_of(rt, sender);
+        let mut slots = [EMPTY_SLOT; 8];
+        let taken = &mut slots[..room.min(8)];
+        let count = self.live.take_many(place, taken);
+        are_accepted(&taken[..count], expected)
     }
 
     // Pulls the one device.
     fn pull(&mut self, rt: &impl Abort) -> Option<Emitted> {
         assert!(rt; self.live.router().can_pull(0, 0));
         self.live.pull(0, 0)
+    }
+
+    // Whether pulls of the one device fill so many places at most, with these packets.
+    fn pulls_many(&mut self, rt: &impl Abort, room: usize, expected: &[Sent]) -> bool {
+        assert!(rt; self.live.router().can_pull(0, 0));
+        let mut places = [NONE_EMITTED; 8];
+        let emitted = &mut places[..room.min(8)];
+        let count = self.live.pull_many(0, 0, emitted);
+        count == expected.len()
+            && emitted[..count]
+                .iter()
+                .zip(expected)
+                .all(|(one, sent)| is_sent(one.packet, one.token, *sent))
+    }
+
+    // Whether a drain of the one device emits these packets at these moments, and ends so.
+    fn drains(&mut self, room: usize, pulls: u64, expected: &[(u64, Sent)], end: DrainEnd) -> bool {
+        // There is a device.
+        let _ = self.live.router().devices();
+        let mut places = [NONE_DEPARTED; 8];
+        let departed = &mut places[..room.min(8)];
+        let (count, ended) = self.live.drain(0, departed, pulls);
+        ended == end
+            && count == expected.len()
+            && departed[..count].iter().zip(expected).all(|(one, (moment, sent))| {
+                one.moment == *moment && is_sent(one.packet, one.token, *sent)
+            })
     }
 
     // Whether so many packets of a sender were accepted, refused, evicted and emitted.
@@ -140,22 +180,38 @@ impl Bench {
             Step::NoneWaits(sender) => self.take(rt, sender).is_none(),
             Step::TakesIn(each, room, sent) => self.takes(false, each, room, sent),
             Step::TakesFitting(each, room, sent) => self.takes(true, each, room, sent),
+            Step::TakesMany(sender, room, sent) => self.takes_many(rt, sender, room, sent),
             Step::Emits(sent) => self
                 .pull(rt)
                 .is_some_and(|one| is_sent(one.packet, one.token, sent)),
             Step::EmitsNone => self.pull(rt).is_none(),
+            Step::EmitsMany(room, sent) => self.pulls_many(rt, room, sent),
+            Step::Drains(room, pulls, sent, end) => self.drains(room, pulls, sent, end),
             Step::IsEnded(expected) => self.live.is_ended() == expected,
             Step::IsDrained(expected) => self.live.is_drained() == expected,
             Step::Counts(sender, expected) => self.counts(rt, sender, expected),
         }
     }
+
+    /// Gives up the router. Returns whether the tokens of these packets are reclaimed, in order, and no others.
+    pub fn reclaims(self, inside: &[(u16, u32)]) -> bool {
+        let Bench { live, inlets: _ } = self;
+        let mut reclaimed = live.reclaim();
+        for (sender, number) in inside {
+            if reclaimed.take() != Some(token_of(*sender, *number)) {
+                return false;
+            }
+        }
+        reclaimed.take().is_none() && reclaimed.take().is_none()
+    }
 }
 
-/// Fails unless each step of each row comes to what it says.
+/// Fails unless each step of each row comes to what it says, and the packets that are inside after them are reclaimed.
 pub fn assert_rows(rt: &impl Abort, alloc: Global, rows: &[Row]) {
     for row in rows {
         let mut bench = Bench::open(alloc, row.tree).expect(rt, "a live router");
         assert_steps(rt, &mut bench, row.name, row.steps);
+        assert!(rt; bench.reclaims(row.inside), "{}, inside", row.name);
     }
 }
 

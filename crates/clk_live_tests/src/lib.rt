@@ -6,6 +6,8 @@ mod bench;
 #[cfg(test)]
 mod calling;
 #[cfg(test)]
+mod many;
+#[cfg(test)]
 mod memory;
 #[cfg(test)]
 mod rounds;

@@ -27,6 +27,17 @@ const ROUNDS: Row = Row {
         TakesIn(2, 8, &[(3, 2, 82), (2, 2, 72)]),
         TakesIn(2, 8, &[]),
     ],
+    inside: &[
+        (1, 0),
+        (1, 1),
+        (2, 0),
+        (3, 0),
+        (3, 1),
+        (1, 2),
+        (2, 1),
+        (3, 2),
+        (2, 2),
+    ],
 };
 
 /// With only what fits, a packet waits in its inlet while its queue is full. So none is refused or evicted.
@@ -53,6 +64,7 @@ const FITTING: Row = Row {
         Counts(1, [2, 0, 0, 2]),
         Counts(2, [3, 0, 0, 3]),
     ],
+    inside: &[],
 };
 
 /// A live router has ended once the end of each inlet is taken, and is drained once no packet is left inside.
@@ -83,6 +95,7 @@ const ENDING: Row = Row {
         Counts(1, [2, 1, 0, 2]),
         Counts(2, [0, 0, 0, 0]),
     ],
+    inside: &[],
 };
 
 /// What rounds take, and when a live router has ended.

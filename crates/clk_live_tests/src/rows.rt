@@ -30,6 +30,7 @@ const PRIORITY: Row = Row {
         Emits((2, 1, 61)),
         EmitsNone,
     ],
+    inside: &[],
 };
 
 /// A full Queue refuses the packet that arrives, and accepts the next once there is room again.
@@ -48,6 +49,7 @@ const TAIL_DROP: Row = Row {
         EmitsNone,
         Counts(7, [2, 1, 0, 2]),
     ],
+    inside: &[],
 };
 
 /// A full FrontDropQueue evicts the packet at its front, here of another sender.
@@ -67,6 +69,7 @@ const FRONT_DROP: Row = Row {
         Counts(3, [2, 0, 2, 0]),
         Counts(5, [1, 0, 0, 1]),
     ],
+    inside: &[],
 };
 
 /// A DRRSched holds a head of 1,200 bytes, for which its input needs three quanta of 500. The queue behind it is full and evicts meanwhile:
@@ -92,6 +95,7 @@ const HELD_HEAD: Row = Row {
         IsDrained(true),
         Counts(1, [3, 0, 1, 2]),
     ],
+    inside: &[],
 };
 
 /// Inputs have their turns, and one that has no packet is passed over.
@@ -117,6 +121,7 @@ const ROUND_ROBIN: Row = Row {
         Emits((2, 1, 71)),
         EmitsNone,
     ],
+    inside: &[],
 };
 
 /// What queues and schedulers do.

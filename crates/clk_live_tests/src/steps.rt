@@ -1,6 +1,6 @@
 //! The steps of a worked row, and the tokens of its packets.
 
-use clk_live::{Outcome, Taken};
+use clk_live::{Departed, DrainEnd, Emitted, Outcome, Taken};
 use clk_packet::Packet;
 
 /// A packet of a row: its sender, its number and its length in bytes.
@@ -25,10 +25,16 @@ pub enum Step {
     TakesIn(usize, usize, &'static [Sent]),
     /// A round that takes only what fits takes at most the first number from each sender, and at most the second from all.
     TakesFitting(usize, usize, &'static [Sent]),
+    /// At most so many packets of a sender are taken. These are, and accepted.
+    TakesMany(u16, usize, &'static [Sent]),
     /// A pull emits this packet.
     Emits(Sent),
     /// A pull emits no packet.
     EmitsNone,
+    /// Pulls that fill at most so many places emit these packets.
+    EmitsMany(usize, &'static [Sent]),
+    /// A drain with so many places makes at most so many pulls. These packets are emitted at these moments, and the drain ends so.
+    Drains(usize, u64, &'static [(u64, Sent)], DrainEnd),
     /// Whether all inlets have ended.
     IsEnded(bool),
     /// Whether no packet is left inside.
@@ -37,12 +43,13 @@ pub enum Step {
     Counts(u16, [u64; 4]),
 }
 
-/// A tree and the steps over it, under the name of what it shows.
+/// A tree, the steps over it, and the senders and numbers of the packets that are inside after them. Its name says what it shows.
 #[derive(Clone, Copy)]
 pub struct Row {
     pub name: &'static str,
     pub tree: &'static str,
     pub steps: &'static [Step],
+    pub inside: &'static [(u16, u32)],
 }
 
 /// The token that comes with a packet: its sender and its number.
@@ -50,13 +57,29 @@ pub fn token_of(sender: u16, number: u32) -> u64 {
     (u64::from(sender) << 32) | u64::from(number)
 }
 
+// The packet in a slot that is empty.
+const NO_PACKET: Packet = Packet {
+    number: 0,
+    sender: 0,
+    length: 1,
+};
+
 /// What a slot holds before a packet is taken into it.
 pub const EMPTY_SLOT: Taken = Taken {
-    packet: Packet {
-        number: 0,
-        sender: 0,
-        length: 1,
-    },
+    packet: NO_PACKET,
     token: 0,
     outcome: Outcome::Refused,
+};
+
+/// What a place holds before a pull emits a packet into it.
+pub const NONE_EMITTED: Emitted = Emitted {
+    packet: NO_PACKET,
+    token: 0,
+};
+
+/// What a place holds before a drain emits a packet into it.
+pub const NONE_DEPARTED: Departed = Departed {
+    moment: 0,
+    packet: NO_PACKET,
+    token: 0,
 };
