@@ -18,6 +18,8 @@ mod seen;
 #[cfg(test)]
 mod senders;
 #[cfg(test)]
+mod settling;
+#[cfg(test)]
 mod steps;
 #[cfg(test)]
 mod threads;

@@ -1,0 +1,2 @@
+-- Lemmas on a live router and its inlets.
+pub mod Halves
