@@ -15,3 +15,4 @@ pub mod Made
 pub mod CanGoOn
 pub mod DeviceBlock
 pub mod WorkedPulls
+pub mod EmitsDue

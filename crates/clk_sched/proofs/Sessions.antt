@@ -3,3 +3,4 @@ pub mod Held
 pub mod SessionPull
 pub mod Departed
 pub mod SessionDrain
+pub mod Due

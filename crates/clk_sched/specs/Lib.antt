@@ -23,4 +23,5 @@ pub mod Choice
 pub mod Conservation
 pub mod FewHeads
 pub mod Closing
+pub mod Due
 pub mod inside

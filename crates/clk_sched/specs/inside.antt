@@ -1,5 +1,6 @@
 -- What the code's own parts say to one another: no contract of a public call stands on it.
 pub mod Drrs
+pub mod Due
 pub mod Falls
 pub mod Held
 pub mod Holds

@@ -8,6 +8,7 @@ ghost use Rattle.clk_sched.specs.Conservation.{ConservesPackets, ConservesCounts
 ghost use Rattle.clk_sched.specs.FewHeads.{HoldsFewHeads};
 ghost use Rattle.clk_sched.specs.Service.{SharesOut};
 ghost use Rattle.clk_sched.specs.Closing.{BoundIsEnough};
+ghost use Rattle.clk_sched.specs.Due.{EmitsOnceDue};
 
 /// How a run of a tree begins, and goes on by one pull.
 pub fn runs_go_on()
@@ -45,4 +46,9 @@ pub fn runs_share_out()
 /// closing bound.
 pub fn closing_bound_is_enough()
     ensures { (tree : _) → IsSound (root tree) → leaves_distinct tree ≡ true → BoundIsEnough tree }
+{}
+
+/// No pull of a run emits a packet at a moment at which none could be emitted, as things stood.
+pub fn pulls_emit_once_due()
+    ensures { (tree : _) → EmitsOnceDue tree }
 {}

@@ -3,6 +3,7 @@
 mod all;
 pub(crate) mod departures;
 mod drr;
+mod due;
 mod emitted;
 mod heads;
 mod idle;

@@ -1,6 +1,7 @@
 //! A session that keeps no log: contracts alone know it, so that it can go on for ever.
 
 use crate::ask::Ask;
+use crate::backlog::Backlog;
 use crate::session::keeps::Keeps;
 use crate::session::kernel::Kernel;
 use crate::tree::Tree;
@@ -46,6 +47,7 @@ impl Unlogged {
     ghost use Rattle.clk_sched.specs.Closing.{LosesNothing, left_in};
     ghost use Rattle.clk_sched.specs.Session.{IsPulledOnce, GivesAll, StopsShort, counted_moment, elements, newly};
     ghost use Rattle.clk_sched.specs.Kinds.{pulls_made};
+    ghost use Rattle.clk_sched.specs.Due.{IsDue, tree_could_emit};
 
     /// A session of this tree, in which no queue stands twice, before its first pull.
     ///
@@ -138,6 +140,14 @@ impl Unlogged {
         ensures { result ≡ length (emitted self.now.log) }
     {
         self.kernel.count_emitted()
+    }
+
+    /// The earliest moment, in ticks, at which a pull could emit a packet, as things stand: the counted moment, or a later one if every packet
+    /// is below a Shaper that has no room for it yet. `None` if no queue of the tree is backlogged and no head is held.
+    pub fn due<B: Backlog>(&self, queues: &B) -> Option<u64>
+        ensures due { IsDue (tree_could_emit self.now.tree self.now.log (B.backlogged queues.now)) (counted_moment self.now) result }
+    {
+        self.kernel.due(queues)
     }
 
     /// The packets held as heads, by node and then by input.

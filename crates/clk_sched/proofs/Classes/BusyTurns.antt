@@ -45,7 +45,7 @@ busy-tells tell step stays (t ∷ ts) = by_visits t.moment t.visits (busy-tells 
     by_visits moment [] e = e ∙ sym (stays moment ts)
     by_visits moment (v ∷ visits) e = step (as_turn moment (v ∷ visits)) (busy ts) ts e
 
-busy-visits : (ts : List Turn) → visits_before (busy ts) ≡ visits_before ts
+pub busy-visits : (ts : List Turn) → visits_before (busy ts) ≡ visits_before ts
 busy-visits = busy-tells visits_before (λ t us ts e. ap (λ vs. reverse t.visits ++ vs) e) (λ moment ts. refl)
 
 pub busy-beginning : (inputs : ℕ) (ts : List Turn) → beginning inputs (busy ts) ≡ beginning inputs ts

@@ -145,15 +145,15 @@ made-whole (node class inputs row) now history above first next made pull h (suc
     ∙ made-whole row now history above (suc first) (suc (next + nodes inputs)) made pull (made-after_node now history above first next class inputs row made pull h) i v m f (omega (arith, e))
 
 -- Earlier pulls, in which node `above` is pulled: in them the nodes of a row have their visits, and the turns of a history.
-record ArePast (history : History) (above first next : ℕ) (row : Row) (earlier : List (List Visit)) : Type 0 where
-  owns : (y : ℕ) → next ≤ y → y < next + nodes row → (p : List Visit) → In p earlier → Owns y p above first next row
-  turns : (y : ℕ) → next ≤ y → y < next + nodes row → history y ≡ busy (map (turn y) earlier)
+pub record ArePast (history : History) (above first next : ℕ) (row : Row) (earlier : List (List Visit)) : Type 0 where
+  pub owns : (y : ℕ) → next ≤ y → y < next + nodes row → (p : List Visit) → In p earlier → Owns y p above first next row
+  pub turns : (y : ℕ) → next ≤ y → y < next + nodes row → history y ≡ busy (map (turn y) earlier)
 
-past-after_leaf : (history : History) (above first next q : ℕ) (row : Row) (earlier : List (List Visit)) → ArePast history above first next (leaf q row) earlier
+pub past-after_leaf : (history : History) (above first next q : ℕ) (row : Row) (earlier : List (List Visit)) → ArePast history above first next (leaf q row) earlier
     → ArePast history above (suc first) next row earlier
 past-after_leaf history above first next q row earlier h = record { owns = λ y l k p m. owns-after_leaf y p above first next q row (h.owns y l k p m); turns = h.turns }
 
-past-after_node : (history : History) (above first next : ℕ) (class : Class) (inputs row : Row) (earlier : List (List Visit)) → ArePast history above first next (node class inputs row) earlier
+pub past-after_node : (history : History) (above first next : ℕ) (class : Class) (inputs row : Row) (earlier : List (List Visit)) → ArePast history above first next (node class inputs row) earlier
     → ArePast history above (suc first) (suc (next + nodes inputs)) row earlier
 past-after_node history above first next class inputs row earlier h =
     record {
@@ -162,11 +162,11 @@ past-after_node history above first next class inputs row earlier h =
     }
 
 -- of a scheduler at the first input, and of those below it, in the pulls in which it is asked
-record IsPast (history : History) (above first next : ℕ) (inputs : Row) (earlier : List (List Visit)) : Type 0 where
-  here : history next ≡ busy (map (turn next) (pulls_below above first earlier))
-  below : ArePast history next 0 (suc next) inputs (pulls_below above first earlier)
+pub record IsPast (history : History) (above first next : ℕ) (inputs : Row) (earlier : List (List Visit)) : Type 0 where
+  pub here : history next ≡ busy (map (turn next) (pulls_below above first earlier))
+  pub below : ArePast history next 0 (suc next) inputs (pulls_below above first earlier)
 
-past-inputs : (history : History) (above first next : ℕ) (class : Class) (inputs row : Row) (earlier : List (List Visit)) → ArePast history above first next (node class inputs row) earlier
+pub past-inputs : (history : History) (above first next : ℕ) (class : Class) (inputs row : Row) (earlier : List (List Visit)) → ArePast history above first next (node class inputs row) earlier
     → IsPast history above first next inputs earlier
 past-inputs history above first next class inputs row earlier h =
     record {
@@ -216,6 +216,17 @@ each-allows (node class inputs row) now history above first next earlier made pu
     result : (v : Visit) → In v (visits_of above pull) → asks first v ≡ true → v.got ≡ result_of (visits_of next pull)
     result v m t = let k = here v m t in k.block.result ∙ ap result_of (sym (block-own now history next class inputs (made v.input) v.got pull k))
 
+-- the pulls of a run are past
+pub are-past : (tree : Tree) (log : List Visit) → IsRun tree log → ArePast (history_of (reverse (pulls log))) 0 0 1 (root tree) (reverse (pulls log))
+are-past tree log run =
+    record {
+      owns = λ y l k p m. (pulled-root tree log run).owns y l k p (back p m);
+      turns = λ y l k. history-busy (reverse (pulls log)) y;
+    }
+  where
+    back : (p : List Visit) → In p (reverse (pulls log)) → In p (pulls log)
+    back p m = of-all (λ r. In r (pulls log)) p (reverse (pulls log)) (all-reverse (λ r. In r (pulls log)) (pulls log) (to-all (λ r. In r (pulls log)) (pulls log) (λ r k. k))) m
+
 -- a pull may follow a run, at the moment of the one that is made, and the device got its result
 pub record IsNextOf (tree : Tree) (log : List Visit) (now : Now) (pull : List Visit) (got : Option Packet) : Type 0 where
   pub next : IsNextPull tree log pull
@@ -233,7 +244,7 @@ next-pull tree log pull now got run number moments b =
         one_moment = all-weaker (IsVisitBelow now 0 whole_row 0) (λ (v : Visit). v.moment ≡ moment_of pull) pull (λ v h. h.moment ∙ sym at_moment) all;
         moments = subst (NeverFalls 0) (sym (map-append moment_of (pulls log) (pull ∷ []) ∙ ap (λ m. map moment_of (pulls log) ++ m ∷ []) at_moment)) moments;
         device = device;
-        below = each-allows (root tree) now history 0 0 1 (reverse (pulls log)) b.made pull past at_moment made;
+        below = each-allows (root tree) now history 0 0 1 (reverse (pulls log)) b.made pull (are-past tree log run) at_moment made;
       };
       at_moment = at_moment;
       result = b.result ∙ ap result_of (sym own);
@@ -270,13 +281,3 @@ next-pull tree log pull now got run number moments b =
 
     at_moment : moment_of pull ≡ now.moment
     at_moment = first-moment pull (device-visit (visits_of 0 pull) device) all
-
-    past : ArePast history 0 0 1 (root tree) (reverse (pulls log))
-    past =
-        record {
-          owns = λ y l k p m. (pulled-root tree log run).owns y l k p (back p m);
-          turns = λ y l k. history-busy (reverse (pulls log)) y;
-        }
-      where
-        back : (p : List Visit) → In p (reverse (pulls log)) → In p (pulls log)
-        back p m = of-all (λ r. In r (pulls log)) p (reverse (pulls log)) (all-reverse (λ r. In r (pulls log)) (pulls log) (to-all (λ r. In r (pulls log)) (pulls log) (λ r k. k))) m

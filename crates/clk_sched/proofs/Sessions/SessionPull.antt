@@ -66,6 +66,20 @@ all-of-map : (ps : List (List Visit)) (moment : ℕ) → AllByRecursion (λ n. n
 all-of-map [] moment h = tt
 all-of-map (p ∷ ps) moment h = (h.0, all-of-map ps moment h.1)
 
+-- no turn of a history is after a moment that is no earlier than those of a run
+runs-before : (tree : Tree) (log : List Visit) (moment : ℕ) → IsRun tree log → latest_moment (reverse (pulls log)) ≤ moment → (y : ℕ) → AreBefore moment (history_of (reverse (pulls log)) y)
+runs-before tree log moment run past y = history-before moment (reverse (pulls log)) y early
+  where
+    early : AllByRecursion (λ p. moment_of p ≤ moment) (reverse (pulls log))
+    early =
+        all-reverse (λ p. moment_of p ≤ moment) (pulls log)
+        (all-of-map (pulls log) moment
+        (all-weaker (λ n. n ≤ latest 0 (map moment_of (pulls log))) (λ n. n ≤ moment) (map moment_of (pulls log)) (λ n l. let g = latest-pulls (pulls log) in omega (arith, past, g, l))
+        (never-all 0 (map moment_of (pulls log)) run.shape.moments)))
+
+pub run-before : (tree : Tree) (n : Nodes) → IsAfterRun tree n → (y : ℕ) → AreBefore n.moment (history_of (reverse (pulls n.log.items)) y)
+run-before tree n run = runs-before tree n.log.items n.moment run.run (let e = run.moment in omega (arith, e))
+
 -- the session's view of its nodes
 abbrev pub progress : Tree → Nodes → Progress
 progress tree n = record { tree = tree; log = n.log.items }
@@ -134,13 +148,10 @@ session-pulled tree a ready pulled moment most got run readied keeps pull =
     falls : NeverFalls 0 (map moment_of before)
     falls = run.run.shape.moments
 
-    early : AllByRecursion (λ p. moment_of p ≤ ready.moment) (reverse before)
-    early = all-reverse (λ p. moment_of p ≤ ready.moment) before (all-of-map before ready.moment (all-weaker (λ n. n ≤ latest 0 (map moment_of before)) (λ n. n ≤ ready.moment) (map moment_of before) (λ n l. omega (arith, past)) (never-all 0 (map moment_of before) falls)))
-
     done : HasPulled ready pulled (history_of (reverse before)) 0 prio (root tree) got
     done =
         pull prio (root tree) (history_of (reverse before)) (subst (λ t. StandsIn t 0 (root tree)) (sym readied.inputs) run.stands)
-        (subst (λ s. NodeHolds s (history_of (reverse before)) 0 prio (root tree)) (sym readied.states) run.holds) (λ y. history-before ready.moment (reverse before) y early)
+        (subst (λ s. NodeHolds s (history_of (reverse before)) 0 prio (root tree)) (sym readied.states) run.holds) (runs-before tree a.log.items ready.moment run.run (let g = latest-pulls before in omega (arith, past, g)))
 
     next : IsNextOf tree a.log.items (now_of ready) visits got
     next = next-pull tree a.log.items visits (now_of ready) got run.run (readied.pull ∙ run.pull) (never-more 0 (map moment_of before) ready.moment falls past) done.block

@@ -1,5 +1,5 @@
 -- DRRScheds above the queues of trees, as they are counted one tree after another.
-use Rattle.std.proofs.Common.{◌≡◌, ℕ, ◌+◌, ◌<◌, ◌≤◌, ◌||◌, Bool, true, false, if◌then◌else◌, List, [], ◌∷◌, ◌++◌, length, get_or, suc, max, refl, sym, ap, ◌∙◌, subst, append-nil, arith, eq-eqb}
+use Rattle.std.proofs.Common.{◌≡◌, ℕ, ◌+◌, ◌<◌, ◌≤◌, ◌||◌, Bool, true, false, if◌then◌else◌, List, ◌∷◌, ◌++◌, length, get_or, suc, max, refl, sym, ap, ◌∙◌, subst, append-nil, arith, eq-eqb}
 use Rattle.std.proofs.lemmas.Bool.{false≢true}
 use Rattle.clk_packet.specs.Limits.{most_levels}
 use Rattle.clk_packet.specs.Lists.{stands_in, are_distinct}
@@ -8,7 +8,7 @@ use Rattle.clk_sched.specs.Built.{row, levels}
 use Rattle.clk_sched.specs.FewHeads.{most_heads, drrs_above}
 use Rattle.clk_sched.specs.inside.Drrs.{HasPlaces, IsCounted}
 use Rattle.clk_sched.proofs.Trees.Distinct.{or-neither, stands-neither, distinct-parts}
-use Rattle.clk_sched.proofs.Trees.TreeLemmas.{stands_in-append, rest, rest-cons}
+use Rattle.clk_sched.proofs.Trees.TreeLemmas.{stands_in-append}
 
 or_true : (b : Bool) → (b || true) ≡ true
 or_true true = refl
@@ -66,11 +66,6 @@ drrs-low q (node class inputs r) = by_test (stands_in q (leaves inputs)) (most-o
 
 pub drrs-within : (q : ℕ) (t : Tree) → levels t ≤ most_levels → drrs_above q (root t) ≤ most_levels
 drrs-within q t low = omega (arith, low, height-root t, drrs-low q (root t))
-
--- the first of some trees and the others
-pub first-rest : (trees : List Tree) (first : Tree) → 1 ≤ length trees → first ≡ get_or trees 0 first → trees ≡ first ∷ rest trees
-first-rest [] first some e = absurd (omega arith)
-first-rest (t ∷ trees) first some e = rw (e, rest-cons t trees) refl
 
 -- what a count of a row needs
 pub record CanCount (above : ℕ) (table : List ℕ) (r : Row) : Type 0 where

@@ -43,12 +43,16 @@ pub stands_in-append : (q : ℕ) (ps rs : List ℕ) → stands_in q (ps ++ rs) �
 stands_in-append q [] rs = refl
 stands_in-append q (p ∷ ps) rs = rw (stands_in-append q ps rs, or_assoc (p == q) (stands_in q ps) (stands_in q rs)) refl
 
--- the trees after the first, as code takes them
-abbrev pub rest : List Tree → List Tree
-rest trees = take (length trees - 1) (drop 1 trees)
+-- what stands after the first of a list, as code takes it
+abbrev pub rest : {X : Type 0} → List X → List X
+rest xs = take (length xs - 1) (drop 1 xs)
 
-pub rest-cons : (t : Tree) (trees : List Tree) → rest (t ∷ trees) ≡ trees
-rest-cons t trees = let e : length (t ∷ trees) - 1 ≡ length trees = omega arith in rw e (take_all (length trees) trees (omega arith))
+pub rest-cons : {X : Type 0} (x : X) (xs : List X) → rest (x ∷ xs) ≡ xs
+rest-cons x xs = let e : length (x ∷ xs) - 1 ≡ length xs = omega arith in rw e (take_all (length xs) xs (omega arith))
+
+pub first-rest : {X : Type 0} (xs : List X) (first : X) → 1 ≤ length xs → first ≡ get_or xs 0 first → xs ≡ first ∷ rest xs
+first-rest [] first some e = absurd (omega arith)
+first-rest (x ∷ xs) first some e = rw (e, rest-cons x xs) refl
 
 -- the queues of the first tree and of the others, after more
 pub leaves-row : (before : List ℕ) (trees : List Tree) (first : Tree) → 1 ≤ length trees → first ≡ get_or trees 0 first → (before ++ leaves_of first) ++ leaves (row (rest trees)) ≡ before ++ leaves (row trees)

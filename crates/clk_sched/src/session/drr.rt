@@ -79,8 +79,8 @@ impl Served {
 }
 
 impl Deficits {
-    ghost use Rattle.std.specs.Prelude.{◌%◌, ◌++◌, ℕ, List, [], ◌∷◌, IsSome, IfSome};
-    ghost use Rattle.std.specs.List.{AllByRecursion};
+    ghost use Rattle.std.specs.Prelude.{◌%◌, ◌++◌, ℕ, List, [], ◌∷◌, is_some, IsSome, IfSome};
+    ghost use Rattle.std.specs.List.{AllByRecursion, list_any};
     ghost use Rattle.clk_packet.specs.Limits.{most_length};
     ghost use Rattle.clk_sched.specs.declared.visit.Visit.{Visit};
     ghost use Rattle.clk_sched.specs.Heads.{head_at, is_covered};
@@ -114,6 +114,16 @@ impl Deficits {
         ensures law { (quanta : List ℕ) (inputs : ℕ) (before : List Visit) → HoldsDeficits quanta inputs before self.now → result ≡ head_at (next_input inputs before) before }
     {
         self.at_cursor().head
+    }
+
+    /// Whether a head is held.
+    pub fn holds_head(&self) -> bool
+        ensures { result ≡ list_any (λ (s : Served). is_some s.head) self.now.row.items }
+    {
+        self.row
+            .as_slice()
+            .iter()
+            .any(|served| served.head.is_some())
     }
 
     /// Adds the heads held, by input, to other packets.

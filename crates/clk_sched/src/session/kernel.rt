@@ -1,6 +1,7 @@
 //! What every session is: a tree that is pulled. What it keeps of the past is chosen when it is made.
 
 use crate::ask::Ask;
+use crate::backlog::Backlog;
 use crate::session::departures::{Departure, Departures};
 use crate::session::emitted::Emitted;
 use crate::session::heads::held_heads;
@@ -68,6 +69,7 @@ impl Kernel {
     ghost use Rattle.clk_sched.specs.Departures.{departures_in, pulls_since, IsAddedTo};
     ghost use Rattle.clk_sched.specs.declared.session.departures.Departures.TheVariants.{Dropped};
     ghost use Rattle.clk_sched.specs.Kinds.{progress_of, pulls_made, keeps_nothing, keeps_visits, IsEndless};
+    ghost use Rattle.clk_sched.specs.Due.{IsDue, tree_could_emit};
 
     /// A session of this tree, in which no queue stands twice, before its first pull.
     ///
@@ -319,6 +321,15 @@ impl Kernel {
         }
         let packets = log.emitted(alloc)?;
         Ok((log, packets))
+    }
+
+    /// The earliest moment, in ticks, at which a pull could emit a packet, as things stand: the counted moment, or a later one if every packet
+    /// is below a Shaper that has no room for it yet. `None` if no queue of the tree is backlogged and no head is held.
+    pub fn due<B: Backlog>(&self, queues: &B) -> Option<u64>
+        ensures due { IsDue (tree_could_emit self.now.tree self.now.log (B.backlogged queues.now)) (counted_moment (progress_of self.now)) result }
+    {
+        let inputs = &self.nodes.inputs[DEVICE as usize].each;
+        self.nodes.due_among(queues, DEVICE, inputs)
     }
 
     /// The packets held as heads, by node and then by input.

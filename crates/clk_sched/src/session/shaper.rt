@@ -29,6 +29,7 @@ impl Bucket {
     ghost use Rattle.std.specs.Prelude.{◌≡◌, ℕ, ◌+◌, ◌-◌, ◌^◌, nat_lt, List, [], length, slice_get, Some, IfSome, IsSome, true, MatchBool};
     ghost use Rattle.clk_sched.specs.Turns.{Turn};
     ghost use Rattle.clk_sched.specs.Laws.Shaper.{has_room};
+    ghost use Rattle.clk_sched.specs.Due.{IsDue};
     ghost use Rattle.clk_sched.specs.inside.Holds.Shaper.{AreBefore, HoldsBucket, IsTaken, IsGivenBack, tokens_at};
     ghost use Rattle.clk_sched.specs.declared.session.inputs.Input.TheVariants.{Scheduler};
     ghost use Rattle.clk_sched.specs.inside.Holds.OfClass.{IsShaper};
@@ -72,6 +73,20 @@ impl Bucket {
         ensures { IsGivenBack self.old self.new }
     {
         self.tokens = (self.tokens + 1).min(self.burst);
+    }
+
+    /// The earliest moment from this one on, in ticks, at which there is room for a packet: this one if the bucket has a token, else the next,
+    /// since at least one token is added each tick.
+    pub fn opens_at(&self, moment: u64) -> u64
+        requires { moment < end_of_moments }
+        ensures room { (rate burst : ℕ) (turns : List Turn) → HoldsBucket rate burst turns self.now → AreBefore moment turns → IsDue (λ m. has_room rate burst m turns) moment (Some result) }
+        ensures soon { result ≤ moment + 1 }
+    {
+        if self.tokens_at(moment) > 0 {
+            moment
+        } else {
+            moment + 1
+        }
     }
 
     /// The tokens at this moment, in ticks: what doesn't fit is lost. With one at least there is room for a packet.

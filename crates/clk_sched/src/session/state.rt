@@ -1,5 +1,7 @@
 //! What the nodes of a tree hold from pull to pull.
 
+ghost use Rattle.std.specs.Prelude.{◌+◌, ◌<◌, ◌≤◌};
+
 use crate::session::drr::Deficits;
 use crate::session::round_robin::Beginning;
 use crate::session::shaper::Bucket;
@@ -18,6 +20,8 @@ pub enum State {
 
 impl State {
     ghost use Rattle.std.specs.Prelude.{◌≡◌, ◌↔◌, true};
+    ghost use Rattle.clk_sched.specs.Limits.{end_of_moments};
+    ghost use Rattle.clk_sched.specs.inside.Due.{OpensAt, HoldsHead};
     ghost use Rattle.clk_sched.specs.declared.session.state.State.TheVariants.{Prio};
 
     /// Whether it is that of a PrioSched, which holds nothing.
@@ -26,6 +30,28 @@ impl State {
     {
         match self {
             State::Prio => true,
+            _ => false,
+        }
+    }
+
+    /// The earliest moment from this one on, in ticks, at which a node with this state lets a packet through.
+    pub fn opens_at(&self, moment: u64) -> u64
+        requires { moment < end_of_moments }
+        ensures opens { OpensAt self.now moment result }
+        ensures soon { result ≤ moment + 1 }
+    {
+        match self {
+            State::Shaper(bucket) => bucket.opens_at(moment),
+            _ => moment,
+        }
+    }
+
+    /// Whether a node with this state holds a head.
+    pub fn holds_head(&self) -> bool
+        ensures { HoldsHead self.now result }
+    {
+        match self {
+            State::Drr(deficits) => deficits.holds_head(),
             _ => false,
         }
     }

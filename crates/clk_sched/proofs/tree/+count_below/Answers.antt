@@ -3,8 +3,8 @@ use Rattle.clk_sched.specs.Tree.{queue}
 use Rattle.clk_sched.specs.Built.{row}
 use Rattle.clk_sched.specs.inside.Kept.{kept}
 use Rattle.clk_sched.specs.inside.Drrs.{IsCounted}
-use Rattle.clk_sched.proofs.Trees.TreeLemmas.{rest, elements-row}
-use Rattle.clk_sched.proofs.Trees.Drrs.{CanCount, first-rest, can-first, can-later, leaf-place, counted-cons}
+use Rattle.clk_sched.proofs.Trees.TreeLemmas.{rest, first-rest, elements-row}
+use Rattle.clk_sched.proofs.Trees.Drrs.{CanCount, can-first, can-later, leaf-place, counted-cons}
 use Rattle.clk_sched.proofs.tree.+count_below.Goals as goal
 
 pub Tree::count_below-bounds-counts-from : goal.Tree::count_below-bounds-counts-from
