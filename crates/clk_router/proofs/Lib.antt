@@ -11,4 +11,5 @@ mod PlanLemmas
 mod RouterLemmas
 mod AskLemmas
 mod AccountLemmas
+mod DueLemmas
 mod Settled

@@ -7,6 +7,7 @@ pub mod Course
 pub mod Chains
 pub mod Settled
 pub mod InsideQueues
+pub mod Due
 pub mod Examples
 pub mod SettledExamples
 pub mod inside

@@ -46,6 +46,7 @@ impl CountingRouter {
     ghost use Rattle.clk_router.specs.Course.{after, sender_at, accepted_at, evicted_at, emitted_at, moment_at, CanOffer, CanPull, IsOpened, IsPulled, IsQueueState};
     ghost use Rattle.clk_router.specs.Events.{offered, sender_numbers, CanHappen};
     ghost use Rattle.clk_router.specs.InsideQueues.{QueuesGoOn, AreOutOrInside};
+    ghost use Rattle.clk_router.specs.Due.{IsDeviceDue, EmitsNoneBefore};
     ghost use Rattle.clk_router.specs.Settled.{IsCourseAccounted, IsCourseSettled, AreOutOnce, AreAllOut, IsDrained};
 
     /// The router of a plan, before anything has happened.
@@ -159,6 +160,17 @@ impl CountingRouter {
         let got = self.router.pull(device, moment).unwrap();
         count_given(&mut self.accounts, self.router.senders(), got);
         got
+    }
+
+    /// The earliest moment, in ticks, at which a pull of a device could emit a packet, as things stand: the greatest moment at which the device
+    /// was pulled, or a later one if every packet is below a Shaper that has no room for it yet. `None` if no packet is left for the device. No
+    /// pull before that moment emits a packet. A pull at that moment may still emit none, while a DRRSched saves up for the packet.
+    pub fn due(&self, device: u16) -> Option<u64>
+        requires { device < length self.now.setup.trees }
+        ensures due { IsDeviceDue self.now device result }
+        ensures before { EmitsNoneBefore self.now device result }
+    {
+        self.router.due(device)
     }
 
     /// The greatest moment at which a device was pulled, in ticks, and 0 before its first pull.

@@ -38,7 +38,7 @@ impl Parts {
     ghost use Rattle.clk_sched.specs.Results.{emitted};
     ghost use Rattle.clk_tree.specs.PlanParts.{queued, HasCapacity};
     ghost use Rattle.clk_router.specs.Events.{Setup, Event, offered, setup_of};
-    ghost use Rattle.clk_router.specs.inside.Parts.{CanStand, CanOfferAt, CanPullAt, CanCloseAt, CanCount, Counts, CountsLeft, IsAt, IsWhole, KeepsAs, LeadsOnByPull, LeadsOnByPulls, ClosesBy, Stand, device_log, device_emitted};
+    ghost use Rattle.clk_router.specs.inside.Parts.{CanStand, CanOfferAt, CanPullAt, CanCloseAt, CanCount, Counts, CountsLeft, IsAt, IsWhole, KeepsAs, LeadsOnByPull, LeadsOnByPulls, ClosesBy, Stand, device_log, device_emitted, IsSessionDue};
 
     /// The parts of a router before anything has happened, whose devices keep this of the past. Fault 1 where an allocation fails.
     pub fn new(
@@ -123,6 +123,14 @@ impl Parts {
     {
         let device = &self.devices[usize::from(device)];
         device.kept - device.session.count_emitted()
+    }
+
+    /// The earliest moment, in ticks, at which a pull of a device could emit a packet, as things stand.
+    pub fn due(&self, device: u16) -> Option<u64>
+        requires { device < length self.now.devices.items }
+        ensures { (its : _) → slice_get self.now.devices.items device ≡ Some its → IsSessionDue its.session self.now.queues.rings.items result }
+    {
+        self.devices[usize::from(device)].session.due(&self.queues)
     }
 
     /// Pulls a device, one tick apart and the first time one tick after the greater of this moment and the greatest so far, until all

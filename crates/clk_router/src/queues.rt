@@ -8,7 +8,7 @@ ghost use Rattle.clk_router.specs.inside.Queues.{packets_at, AreMarked, queue_ma
 
 use clk_packet::{Fault, Offered, Packet};
 use clk_ring::Ring;
-use clk_sched::Ask;
+use clk_sched::{Ask, Backlog};
 use clk_tree::QueueSpec;
 use memchr::memchr;
 use std::alloc::Global;
@@ -81,6 +81,17 @@ impl Ask for Queues {
         }
         let end = self.marks.len().min(number + usize::from(count));
         count_idle(&self.marks[number..end]) as u16
+    }
+}
+
+impl Backlog for Queues {
+    ghost backlogged = { λ s leaf. nat_lt 0 (length (packets_at s.rings.items leaf)) };
+
+    fn is_backlogged(&self, leaf: u16) -> bool {
+        match self.rings.get(usize::from(leaf)) {
+            Some(ring) => !ring.is_empty(),
+            None => false,
+        }
     }
 }
 

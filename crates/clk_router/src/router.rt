@@ -13,7 +13,8 @@ use crate::past::Past;
 use crate::queue_state::QueueState;
 use clk_packet::{Fault, Offered, Packet};
 use clk_sched::{
-    Departure, END_OF_MOMENTS, END_OF_PULLS, Keeps, Tree, Visit, runs_conserve_packets, runs_go_on,
+    Departure, END_OF_MOMENTS, END_OF_PULLS, Keeps, Tree, Visit, pulls_emit_once_due,
+    runs_conserve_packets, runs_go_on,
 };
 use clk_tree::Plan;
 use std::alloc::Global;
@@ -52,6 +53,7 @@ impl Router {
     ghost use Rattle.clk_router.specs.Course.{after, events_of, sender_at, accepted_at, evicted_at, emitted_at, moment_at, CanOffer, CanPull, CanClose, IsOpened, IsPulled, IsClosed, IsQueueState};
     ghost use Rattle.clk_router.specs.Events.{offered, sender_numbers, CanHappen, closing_pulls, logs_of};
     ghost use Rattle.clk_router.specs.InsideQueues.{QueuesGoOn, AreOutOrInside};
+    ghost use Rattle.clk_router.specs.Due.{IsDeviceDue, EmitsNoneBefore};
     ghost use Rattle.clk_router.specs.Settled.{IsCourseAccounted, IsCourseSettled, AreOutOnce, AreAllOut, IsDrained};
 
     /// The router of a plan, before anything has happened, whose devices keep this of the past. Visits that they keep packed can't be had
@@ -181,6 +183,19 @@ impl Router {
         self.past
             .pulled(&device, &moment, &self.parts.devices[usize::from(device)]);
         Ok(got)
+    }
+
+    /// The earliest moment, in ticks, at which a pull of a device could emit a packet, as things stand: the greatest moment at which the device
+    /// was pulled, or a later one if every packet is below a Shaper that has no room for it yet. `None` if no packet is left for the device. No
+    /// pull before that moment emits a packet. A pull at that moment may still emit none, while a DRRSched saves up for the packet.
+    pub fn due(&self, device: u16) -> Option<u64>
+        requires { device < length self.now.setup.trees }
+        ensures due { IsDeviceDue self.now device result }
+        ensures before { EmitsNoneBefore self.now device result }
+    {
+        // No pull emits a packet at a moment at which it could emit none, by this law, which does nothing.
+        pulls_emit_once_due();
+        self.parts.due(device)
     }
 
     /// Closes a device: pulls it one tick apart and the first time one tick after the greater of this moment and the greatest so far,

@@ -1,5 +1,5 @@
 -- The packets inside a queue after an offer, and after a pull.
-use Rattle.std.proofs.Common.{◌≡◌, ℕ, ◌==◌, Bool, true, false, if◌then◌else◌, List, [], ◌∷◌, ◌++◌, length, drop, map, filter, append-nil, append_assoc, Option, Some, None, MatchOption, slice_get, refl, sym, ap, ap₂, ◌∙◌, subst, arith}
+use Rattle.std.proofs.Common.{◌≡◌, ℕ, ◌==◌, Bool, true, false, if◌then◌else◌, List, [], ◌∷◌, ◌++◌, length, drop, map, filter, append-nil, append_assoc, Some, MatchOption, slice_get, refl, sym, ap, ap₂, ◌∙◌, subst, arith}
 use Rattle.std.specs.Bool.{⊤}
 use Rattle.std.specs.List.{filter_map, cons_option, AllByRecursion}
 use Rattle.std.proofs.lemmas.Bool.{eqb-true}
@@ -11,16 +11,16 @@ use Rattle.clk_packet.specs.declared.packet.Packet.{Packet}
 use Rattle.clk_packet.specs.declared.packet.Kind.{Kind}
 use Rattle.clk_packet.specs.declared.packet.Offered.{Offered}
 use Rattle.clk_packet.specs.declared.packet.Offered.TheVariants.{Accepted, Refused, Evicted}
-use Rattle.clk_ring.specs.QueueHistory.{QueueEvent, accept, refuse, evict, give, empty, accepted, gone, held, IsInOrder, EachStands, offer_events, pull_event}
+use Rattle.clk_ring.specs.QueueHistory.{QueueEvent, accept, refuse, evict, accepted, gone, held, IsInOrder, EachStands, offer_events}
 use Rattle.clk_sched.specs.declared.visit.Visit.{Visit}
 use Rattle.clk_sched.specs.Laws.Device.{IsDeviceTurn}
 use Rattle.clk_sched.specs.Log.{visits_of, turn, result_of}
 use Rattle.clk_sched.specs.Tree.{Tree, leaves_distinct}
-use Rattle.clk_sched.specs.Results.{emitted, asks_queue}
+use Rattle.clk_sched.specs.Results.{emitted}
 use Rattle.clk_sched.specs.Conservation.{ConservesPackets, MakesNothing}
 use Rattle.clk_sched.proofs.Callers.Emitted.{emitted-append, result-passed}
 use Rattle.clk_sched.proofs.Callers.Lists.{all-split}
-use Rattle.clk_router.specs.Events.{Room, Setup, Event, offered, pulled, happens_at, sends_to, events_at, visits_in, log_of, pull_in, answers_in, at_queue, history, IsOfDevice, RunsTree, CanHappen}
+use Rattle.clk_router.specs.Events.{Room, Setup, Event, offered, pulled, happens_at, sends_to, events_at, visits_in, log_of, pull_in, at_queue, history, IsOfDevice, RunsTree, CanHappen}
 use Rattle.clk_router.specs.Settled.{emitted_by}
 use Rattle.clk_router.specs.InsideQueues.{given_by, is_of_queue, given_of, emitted_of, heads_of, inside_of, emitted_from, IsEvictedInside}
 use Rattle.clk_router.specs.inside.Closable.{IsClosable}
@@ -29,29 +29,9 @@ use Rattle.clk_router.proofs.QueueCounts.{stands-rest}
 use Rattle.clk_router.proofs.PartsLemmas.{history-with}
 use Rattle.clk_router.proofs.Callers.Events.{events-here, events-elsewhere, log-pulled}
 use Rattle.clk_router.proofs.Settled.Dealt.{member-there}
-use Rattle.clk_router.proofs.Settled.QueuePackets.{accepted_by, accepted-is, history-in_order, none-answered}
+use Rattle.clk_router.proofs.Settled.QueuePackets.{accepted-more, gone-more, history-in_order, held-before}
 use Rattle.clk_router.proofs.Settled.Accounted.{has-history}
 use Rattle.clk_router.proofs.Settled.Inside.{given-is, none-emitted}
-
--- the packet that is gone by an event
-abbrev gone_by : QueueEvent → Option Packet
-gone_by (evict p) = Some p
-gone_by (give p) = Some p
-gone_by event = None
-
-gone-is : (events : List QueueEvent) → gone events ≡ filter_map gone_by events
-gone-is [] = refl
-gone-is (accept p ∷ events) = gone-is events
-gone-is (refuse p ∷ events) = gone-is events
-gone-is (evict p ∷ events) = ap (λ l. p ∷ l) (gone-is events)
-gone-is (give p ∷ events) = ap (λ l. p ∷ l) (gone-is events)
-gone-is (empty ∷ events) = gone-is events
-
-accepted-more : (xs ys : List QueueEvent) → accepted (xs ++ ys) ≡ accepted xs ++ accepted ys
-accepted-more xs ys = accepted-is (xs ++ ys) ∙ filter_map-append accepted_by xs ys ∙ ap₂ (λ a b. a ++ b) (sym (accepted-is xs)) (sym (accepted-is ys))
-
-gone-more : (xs ys : List QueueEvent) → gone (xs ++ ys) ≡ gone xs ++ gone ys
-gone-more xs ys = gone-is (xs ++ ys) ∙ filter_map-append gone_by xs ys ∙ ap₂ (λ a b. a ++ b) (sym (gone-is xs)) (sym (gone-is ys))
 
 -- what a queue holds after it accepted a packet, refused one, or evicted one for another
 held-taken : (capacity : ℕ) (past : List QueueEvent) (p : Packet) → IsInOrder capacity past → held (past ++ accept p ∷ []) ≡ held past ++ p ∷ []
@@ -212,34 +192,11 @@ module _ (conserves : (tree : Tree) → leaves_distinct tree ≡ true → Conser
       its_past : history setup q more ≡ history setup q events ++ answers
       its_past = history-with setup q events (pulled c m visits)
 
-      pull_none : (o : Option Packet) → accepted_by (pull_event o) ≡ None
-      pull_none None = refl
-      pull_none (Some p) = refl
-
-      gone-given : (o : Option Tree) (vs : List Visit) → gone (answers_in o q vs) ≡ filter_map given_by (answers_in o q vs)
-      gone-given None vs = refl
-      gone-given (Some t) [] = refl
-      gone-given (Some t) (v ∷ vs) = by_test (asks_queue t q v) v.got (gone-given (Some t) vs)
-        where
-          by_test : (b : Bool) (o : Option Packet) → gone (answers_in (Some t) q vs) ≡ filter_map given_by (answers_in (Some t) q vs)
-              → gone ((if b then pull_event o ∷ [] else []) ++ answers_in (Some t) q vs) ≡ filter_map given_by ((if b then pull_event o ∷ [] else []) ++ answers_in (Some t) q vs)
-          by_test false o rest = rest
-          by_test true None rest = rest
-          by_test true (Some p) rest = ap (λ l. p ∷ l) rest
-
       -- what the queue held is what it gave, and then what it holds now
       held_was : held (history setup q events) ≡ given ++ held (history setup q more)
       held_was =
-          let next = (history-in_order room.kind room.capacity (history setup q more) (has-history conserves makes setup whole closable more goes_on q room its_room)).order in
-          let took : accepted (history setup q more) ≡ accepted (history setup q events) =
-          ap accepted its_past ∙ accepted-more (history setup q events) answers
-          ∙ ap (λ l. accepted (history setup q events) ++ l) (accepted-is answers ∙ none-answered accepted_by pull_none (slice_get setup.trees c) q visits) ∙ append-nil (accepted (history setup q events))
-          in
-          let went : gone (history setup q more) ≡ gone (history setup q events) ++ given =
-          ap gone its_past ∙ gone-more (history setup q events) answers ∙ ap (λ l. gone (history setup q events) ++ l) (gone-given (slice_get setup.trees c) visits)
-          in
-          append_cancel_left (gone (history setup q events)) (held (history setup q events)) (given ++ held (history setup q more))
-          (sym order.order ∙ sym took ∙ next ∙ ap (λ l. l ++ held (history setup q more)) went ∙ append_assoc (gone (history setup q events)) given (held (history setup q more)))
+          held-before setup q room.capacity events c m visits order
+          (history-in_order room.kind room.capacity (history setup q more) (has-history conserves makes setup whole closable more goes_on q room its_room))
 
       given_more : given_of setup q more ≡ given_of setup q events ++ given
       given_more = ap (filter_map given_by) its_past ∙ filter_map-append given_by (history setup q events) answers

@@ -1,5 +1,5 @@
 -- What a pull emits is of a sender of the setup.
-use Rattle.std.proofs.Common.{◌≡◌, ℕ, ◌==◌, ◌&&◌, ◌||◌, Bool, true, false, List, [], ◌∷◌, ◌++◌, length, map, Option, Some, None, MatchOption, slice_get, refl, sym, ◌∙◌, subst, arith}
+use Rattle.std.proofs.Common.{◌≡◌, ℕ, ◌==◌, ◌&&◌, ◌||◌, Bool, true, false, List, [], ◌∷◌, ◌++◌, length, map, Option, Some, None, MatchOption, slice_get, refl, sym, subst, arith}
 use Rattle.std.specs.Bool.{⊤}
 use Rattle.std.specs.List.{cons_option, list_any, AllByRecursion}
 use Rattle.std.proofs.lemmas.Bool.{false≢true}
@@ -14,7 +14,7 @@ use Rattle.clk_sched.proofs.Callers.Lists.{all-split}
 use Rattle.clk_sched.proofs.Callers.Traced.{CameOf, emitted-traced}
 use Rattle.clk_tree.specs.declared.plan.parts.SenderSpec.{SenderSpec}
 use Rattle.clk_tree.specs.PlanParts.{number_of}
-use Rattle.clk_router.specs.Events.{Setup, sender_numbers, Event, pulled, happens_at, sends_to, events_at, log_of, emitted_in, IsOfDevice, RunsTree, CanHappen}
+use Rattle.clk_router.specs.Events.{Setup, Event, pulled, sends_to, events_at, log_of, emitted_in, IsOfDevice, RunsTree, CanHappen}
 use Rattle.clk_router.specs.Settled.{emitted_by}
 use Rattle.clk_router.specs.inside.Closable.{IsClosable}
 use Rattle.clk_router.specs.inside.Parts.{IsWhole}

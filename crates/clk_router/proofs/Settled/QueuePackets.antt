@@ -1,8 +1,9 @@
 -- The packets of a queue's history, by what events offered and what a device's log shows.
-use Rattle.std.proofs.Common.{◌≡◌, inl, inr, ℕ, ◌==◌, Bool, true, false, if◌then◌else◌, List, [], ◌∷◌, ◌++◌, append-nil, Option, Some, None, slice_get, refl, sym, ap, ap₂, ◌∙◌, subst}
+use Rattle.std.proofs.Common.{◌≡◌, inl, inr, ℕ, ◌==◌, Bool, true, false, if◌then◌else◌, List, [], ◌∷◌, ◌++◌, append-nil, append_assoc, Option, Some, None, slice_get, refl, sym, ap, ap₂, ◌∙◌, subst}
 use Rattle.std.specs.Bool.{⊤}
 use Rattle.std.specs.List.{filter_map, cons_option, AllByRecursion}
 use Rattle.std.proofs.lemmas.Bool.{false≢true}
+use Rattle.std.proofs.lemmas.List.{append_cancel_left}
 use Rattle.std.proofs.lemmas.List.Elements.{filter-append, filter_map-append}
 use Rattle.clk_packet.specs.declared.packet.Packet.{Packet}
 use Rattle.clk_packet.specs.declared.packet.Kind.{Kind}
@@ -18,6 +19,7 @@ use Rattle.clk_sched.proofs.Callers.Lists.{all-split}
 use Rattle.clk_packet.specs.Dealt.{IsDealt}
 use Rattle.clk_router.specs.Events.{Setup, Event, offered, pulled, sends_to, answers_in, at_queue, history}
 use Rattle.clk_router.specs.InsideQueues.{given_by}
+use Rattle.clk_router.proofs.PartsLemmas.{history-with}
 use Rattle.clk_router.proofs.QueueCounts.{stands-first, stands-rest}
 
 -- the packet that an event of a queue accepted, refused or evicted
@@ -100,6 +102,73 @@ none-answered g pull (Some tree) q (v ∷ visits) = by_test (asks_queue tree q v
     by_test : (b : Bool) → filter_map g (answers_in (Some tree) q visits) ≡ [] → filter_map g ((if b then pull_event v.got ∷ [] else []) ++ answers_in (Some tree) q visits) ≡ []
     by_test true rest = rw (pull v.got) rest
     by_test false rest = rest
+
+-- the packet that is gone by an event
+abbrev gone_by : QueueEvent → Option Packet
+gone_by (evict p) = Some p
+gone_by (give p) = Some p
+gone_by event = None
+
+gone-is : (events : List QueueEvent) → gone events ≡ filter_map gone_by events
+gone-is [] = refl
+gone-is (accept p ∷ events) = gone-is events
+gone-is (refuse p ∷ events) = gone-is events
+gone-is (evict p ∷ events) = ap (λ l. p ∷ l) (gone-is events)
+gone-is (give p ∷ events) = ap (λ l. p ∷ l) (gone-is events)
+gone-is (empty ∷ events) = gone-is events
+
+pub accepted-more : (xs ys : List QueueEvent) → accepted (xs ++ ys) ≡ accepted xs ++ accepted ys
+accepted-more xs ys = accepted-is (xs ++ ys) ∙ filter_map-append accepted_by xs ys ∙ ap₂ (λ a b. a ++ b) (sym (accepted-is xs)) (sym (accepted-is ys))
+
+pub gone-more : (xs ys : List QueueEvent) → gone (xs ++ ys) ≡ gone xs ++ gone ys
+gone-more xs ys = gone-is (xs ++ ys) ∙ filter_map-append gone_by xs ys ∙ ap₂ (λ a b. a ++ b) (sym (gone-is xs)) (sym (gone-is ys))
+
+-- the packets that are gone by a pull are those that it was given
+gone-given : (o : Option Tree) (q : ℕ) (visits : List Visit) → gone (answers_in o q visits) ≡ filter_map given_by (answers_in o q visits)
+gone-given None q visits = refl
+gone-given (Some tree) q [] = refl
+gone-given (Some tree) q (v ∷ visits) = by_test (asks_queue tree q v) v.got (gone-given (Some tree) q visits)
+  where
+    by_test : (b : Bool) (o : Option Packet) → gone (answers_in (Some tree) q visits) ≡ filter_map given_by (answers_in (Some tree) q visits)
+        → gone ((if b then pull_event o ∷ [] else []) ++ answers_in (Some tree) q visits) ≡ filter_map given_by ((if b then pull_event o ∷ [] else []) ++ answers_in (Some tree) q visits)
+    by_test false o rest = rest
+    by_test true None rest = rest
+    by_test true (Some p) rest = ap (λ l. p ∷ l) rest
+
+-- What a queue held before a pull is what it gave in the pull, and then what it holds after it.
+pub held-before : (setup : Setup) (q capacity : ℕ) (events : List Event) (device moment : ℕ) (visits : List Visit) → IsInOrder capacity (history setup q events)
+    → IsInOrder capacity (history setup q (events ++ pulled device moment visits ∷ []))
+    → held (history setup q events) ≡ filter_map given_by (at_queue setup q (pulled device moment visits)) ++ held (history setup q (events ++ pulled device moment visits ∷ []))
+held-before setup q capacity events device moment visits order next =
+    append_cancel_left (gone past) (held past) (given ++ held more)
+    (sym order.order ∙ sym took ∙ next.order ∙ ap (λ l. l ++ held more) went ∙ append_assoc (gone past) given (held more))
+  where
+    past : List QueueEvent
+    past = history setup q events
+
+    more : List QueueEvent
+    more = history setup q (events ++ pulled device moment visits ∷ [])
+
+    answers : List QueueEvent
+    answers = at_queue setup q (pulled device moment visits)
+
+    given : List Packet
+    given = filter_map given_by answers
+
+    goes_on : more ≡ past ++ answers
+    goes_on = history-with setup q events (pulled device moment visits)
+
+    pull_none : (o : Option Packet) → accepted_by (pull_event o) ≡ None
+    pull_none None = refl
+    pull_none (Some p) = refl
+
+    took : accepted more ≡ accepted past
+    took =
+        ap accepted goes_on ∙ accepted-more past answers
+        ∙ ap (λ l. accepted past ++ l) (accepted-is answers ∙ none-answered accepted_by pull_none (slice_get setup.trees device) q visits) ∙ append-nil (accepted past)
+
+    went : gone more ≡ gone past ++ given
+    went = ap gone goes_on ∙ gone-more past answers ∙ ap (λ l. gone past ++ l) (gone-given (slice_get setup.trees device) q visits)
 
 -- an event of another queue has no packet of the sender
 abbrev pub IsOwn : (Event → Option Packet) → Setup → ℕ → ℕ → Event → Type 0

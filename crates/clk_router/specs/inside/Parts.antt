@@ -1,5 +1,5 @@
 -- What the router's parts do, in the words of the definitions.
-use Rattle.std.specs.Prelude.{◌≡◌, ℕ, ◌+◌, ◌<◌, ◌≤◌, ◌^◌, List, [], ◌++◌, length, map, fold, max, true, false, ◌==◌, ⊤, Option, Some, None, slice_get}
+use Rattle.std.specs.Prelude.{◌≡◌, ℕ, ◌+◌, ◌<◌, ◌≤◌, ◌^◌, nat_lt, List, [], ◌++◌, length, map, fold, max, true, false, ◌==◌, ⊤, Option, Some, None, slice_get}
 use Rattle.std.specs.List.{filter_map, range_with_len, AllByRecursion}
 use Rattle.clk_packet.specs.declared.packet.Packet.{Packet}
 use Rattle.clk_packet.specs.declared.packet.Offered.{Offered}
@@ -12,6 +12,7 @@ use Rattle.clk_sched.specs.declared.visit.Visit.{Visit}
 use Rattle.clk_sched.specs.declared.session.departures.Departure.{Departure}
 use Rattle.clk_sched.specs.declared.session.keeps.Keeps.{Keeps}
 use Rattle.clk_sched.specs.Departures.{departures_in}
+use Rattle.clk_sched.specs.Due.{IsDue, tree_could_emit}
 use Rattle.clk_sched.specs.Kinds.{AnySession, progress_of, pulls_made}
 use Rattle.clk_sched.specs.Limits.{most_left, end_of_drains, end_of_pulls, end_of_drained_pulls}
 use Rattle.clk_sched.specs.Log.{visits_of, moment_of, result_of}
@@ -26,6 +27,7 @@ use Rattle.clk_router.specs.declared.devices.Device.{Device}
 use Rattle.clk_router.specs.declared.parts.Parts.{Parts}
 use Rattle.clk_router.specs.inside.Closable.{IsClosable}
 use Rattle.clk_router.specs.Course.{room_device, end_of_packets}
+use Rattle.clk_router.specs.inside.Queues.{packets_at}
 use Rattle.clk_router.specs.inside.Past.{visits_shown, pull_shown, pulls_shown}
 use Rattle.clk_router.specs.Events.{Room, Setup, Event, CanHappen, numbers_of, moment_in, accepted_in, evicted_in, history, log_of, events_at, sender_numbers, Closes}
 
@@ -212,3 +214,7 @@ pub record Stand (setup : Setup) (events : List Event) (parts : Parts) : Type 0 
   pub at : IsAt setup events parts
   pub whole : IsWhole setup
   pub closable : IsClosable setup
+
+-- A session is due at a moment, over queues of which some hold packets.
+abbrev pub IsSessionDue : AnySession → List Queue → Option ℕ → Type 0
+IsSessionDue session queues due = IsDue (tree_could_emit session.tree session.log (λ q. nat_lt 0 (length (packets_at queues q)))) (counted_moment (progress_of session)) due
