@@ -11,6 +11,7 @@ pub mod Shaper
 pub mod Nested
 pub mod Draining
 pub mod Largest
+pub mod Due
 
 -- a visit of pull k at moment t, by node x to input i
 abbrev pub look : (k t x i : ℕ) → Bool → Option Packet → Bool → Visit

@@ -1,7 +1,7 @@
 //! What the definitions say of worked examples: which logs are runs and which are none, what went in and came out, and what a
 //! session's pull and its drain are. Each function does nothing.
 
-ghost use Rattle.std.specs.Prelude.{◌≡◌, [], ◌∷◌, map, reverse, take, Some, None};
+ghost use Rattle.std.specs.Prelude.{◌≡◌, true, false, [], ◌∷◌, map, reverse, take, Some, None};
 ghost use Rattle.clk_sched.specs.Tree.{root};
 ghost use Rattle.clk_sched.specs.Log.{visits_of, in_pull};
 ghost use Rattle.clk_sched.specs.Run.{IsRun};
@@ -22,6 +22,8 @@ ghost use Rattle.clk_sched.specs.Examples.Shaper.{burst_of_two, late_burst, belo
 ghost use Rattle.clk_sched.specs.Examples.Nested.{p0_0_5, p1_0_10, p2_0_5, p2_1, two_levels, two_levels_tree, outer_first, inner_disobeys, made_from_nothing, last_result_lost, last_disobeys, three_heads, three_heads_tree, number_skipped, last_gives, last_of_five, last_of_five_tree, each_holds, each_holds_tree, passed_later, passed_later_tree, side_by_side_tree, uneven_tree, turned_tree};
 ghost use Rattle.clk_sched.specs.Examples.Draining.{never_pulled, pulled_twice, pulls_turned, pulled_again, pulled_at_greatest, other_tree_pulled, pulled_without_prio, drained, other_tree_drained, drained_without_prio, drained_at_once, drained_late, drain_pauses, drain_goes_on, drained_past_bound, stopped_at_first, stopped_at_bound, stopped_past_bound, CountFollows};
 ghost use Rattle.clk_sched.specs.Examples.Largest.{largest, larger};
+ghost use Rattle.clk_sched.specs.Due.{tree_could_emit, IsDue, GetsFromBacklogged};
+ghost use Rattle.clk_sched.specs.Examples.Due.{none, first, second, each, just_let_through, beside_a_queue, from_three, never};
 
 /// Which logs of a worked example of the device are runs.
 pub fn device_examples()
@@ -117,6 +119,30 @@ pub fn shaper_examples()
     ensures not_fills_without_cap { ¬ (IsRun late_burst_tree fills_without_cap) }
     ensures not_asks_without_room { ¬ (IsRun late_burst_tree asks_without_room) }
     ensures not_rate_above { ¬ (IsRun burst_of_two_tree rate_above) }
+{}
+
+/// Whether a pull could emit a packet after worked logs: a Shaper needs room, a head counts as a packet, and what stands beside a Shaper
+/// needs no room of it. Which moments are due moments, and which are none.
+pub fn due_examples()
+    ensures burst_left { tree_could_emit burst_of_two_tree (first_pulls 1 burst_of_two) each 0 ≡ true }
+    ensures burst_used { tree_could_emit burst_of_two_tree (first_pulls 2 burst_of_two) each 0 ≡ false }
+    ensures next_tick { tree_could_emit burst_of_two_tree (first_pulls 2 burst_of_two) each 1 ≡ true }
+    ensures no_packet { tree_could_emit burst_of_two_tree (first_pulls 2 burst_of_two) none 1 ≡ false }
+    ensures held_head { tree_could_emit two_deficits_tree (first_pulls 1 two_deficits) none 0 ≡ true }
+    ensures no_head_left { tree_could_emit nested_tree nested none 0 ≡ false }
+    ensures below_the_shaper { tree_could_emit beside_a_queue just_let_through first 4 ≡ false }
+    ensures below_it_a_tick_later { tree_could_emit beside_a_queue just_let_through first 5 ≡ true }
+    ensures beside_the_shaper { tree_could_emit beside_a_queue just_let_through second 4 ≡ true }
+    ensures is_due { IsDue from_three 0 (Some 3) }
+    ensures is_due_at_once { IsDue from_three 5 (Some 5) }
+    ensures is_never_due { IsDue never 0 None }
+    ensures not_due_early { ¬ (IsDue from_three 0 (Some 2)) }
+    ensures not_due_late { ¬ (IsDue from_three 0 (Some 4)) }
+    ensures not_due_never { ¬ (IsDue from_three 0 None) }
+    ensures not_due_in_the_past { ¬ (IsDue from_three 5 (Some 3)) }
+    ensures not_due_at_all { ¬ (IsDue never 0 (Some 0)) }
+    ensures gets_from_backlogged { GetsFromBacklogged burst_of_two_tree first (first_pulls 1 burst_of_two) }
+    ensures not_gets_from_empty { ¬ (GetsFromBacklogged burst_of_two_tree none (first_pulls 1 burst_of_two)) }
 {}
 
 /// Which logs of worked examples of schedulers below schedulers are runs.

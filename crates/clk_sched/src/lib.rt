@@ -14,9 +14,9 @@ mod visit;
 pub use ask::Ask;
 pub use backlog::Backlog;
 pub use examples::{
-    deficit_examples, device_examples, drain_examples, full_drain_examples, nested_examples,
-    priority_examples, pull_examples, refusal_examples, result_examples, round_robin_examples,
-    shaper_examples, short_drain_examples, stride_examples,
+    deficit_examples, device_examples, drain_examples, due_examples, full_drain_examples,
+    nested_examples, priority_examples, pull_examples, refusal_examples, result_examples,
+    round_robin_examples, shaper_examples, short_drain_examples, stride_examples,
 };
 pub use laws::{
     closing_bound_is_enough, pulls_emit_once_due, runs_can_go_on, runs_conserve_packets,
