@@ -63,7 +63,7 @@ impl Plan {
     ghost use Rattle.clk_syntax.specs.Reading.{HasFault};
     ghost use Rattle.clk_tree.specs.Plan.{Denotes};
     ghost use Rattle.clk_tree.specs.PlanTree.{device_count, IsTreeOf};
-    ghost use Rattle.clk_tree.specs.PlanParts.{queued, leads_to, number_of, senders_of, queues_of, HasCapacity, SendsWithin};
+    ghost use Rattle.clk_tree.specs.PlanParts.{queued, leads_to, number_of, senders_of, queues_of, HasCapacity, HasNumber, SendsWithin};
     ghost use Rattle.clk_tree.specs.Shares.{AreTreesOf, AreSharedOut};
     ghost use Rattle.clk_tree.specs.Drrs.{AreDrrsAbove};
     ghost use Rattle.clk_tree.specs.Canonical.{canonical_text};
@@ -176,10 +176,11 @@ impl Plan {
         let _elements = &self.elements;
     }
 
-    /// The senders of the plan, by rising number.
+    /// The senders of the plan, by rising number. Each number is at most 65,535, the greatest that a text may give a sender.
     pub fn senders(&self) -> &[SenderSpec]
         ensures senders { result.now ≡ senders_of self.now }
         ensures rising { AreRising (map number_of result.now) }
+        ensures numbers { AllByRecursion HasNumber result.now }
         ensures wired { AllByRecursion (SendsWithin (length (queues_of self.now))) result.now }
     {
         &self.senders

@@ -14,7 +14,7 @@ use Rattle.clk_syntax.specs.Reading.{elements_of, wires_of}
 use Rattle.clk_tree.specs.declared.plan.parts.SenderSpec.{SenderSpec}
 use Rattle.clk_tree.specs.Plan.{Planned, all_known, planned_from, plan_of, Denotes}
 use Rattle.clk_tree.specs.PlanTree.{is_queue, queue_count}
-use Rattle.clk_tree.specs.PlanParts.{queue_fed, sender_of, senders_from, placed, by_number, senders_of, number_of, queue_of, queues_from, queues_of, HasCapacity, SendsWithin}
+use Rattle.clk_tree.specs.PlanParts.{queue_fed, sender_of, senders_from, placed, by_number, senders_of, number_of, queue_of, queues_from, queues_of, HasCapacity, HasNumber, SendsWithin}
 use Rattle.clk_tree.proofs.Building.PartSteps.{fed-here}
 use Rattle.clk_tree.proofs.Sound.SoundClasses.{HasLimits, class-limits}
 use Rattle.clk_tree.proofs.Sound.SoundNodes.{known_as}
@@ -32,6 +32,12 @@ plan-limits count links i (x ∷ elements) = by_case (class_of x) (class-limits 
     by_case None limits here later = here
     by_case (Some class) limits here later = (limits class refl, later)
 
+plan-within : (text : List ℕ) (plan : List Planned) → Denotes text plan → AllByRecursion (λ (e : Planned). HasLimits e.class) plan
+plan-within text plan d =
+    let elements = elements_of text d.faultless.statements in
+    let links = links_of elements (wires_of text d.faultless.statements) in
+    subst (AllByRecursion (λ (e : Planned). HasLimits e.class)) (sym d.is) (plan-limits (length (all_known elements)) links 0 elements)
+
 queues-within : (plan : List Planned) (i : ℕ) (rest : List Planned) → AllByRecursion (λ (e : Planned). HasLimits e.class) rest → AllByRecursion HasCapacity (queues_from plan i rest)
 queues-within plan i [] limits = tt
 queues-within plan i (e ∷ more) limits = by_class e.class limits.0 (queues-within plan (i + 1) more limits.1)
@@ -42,10 +48,7 @@ queues-within plan i (e ∷ more) limits = by_class e.class limits.0 (queues-wit
     by_class class has later = later
 
 pub queues-capacities : (text : List ℕ) (plan : List Planned) → Denotes text plan → AllByRecursion HasCapacity (queues_of plan)
-queues-capacities text plan d =
-    let elements = elements_of text d.faultless.statements in
-    let links = links_of elements (wires_of text d.faultless.statements) in
-    queues-within plan 0 plan (subst (AllByRecursion (λ (e : Planned). HasLimits e.class)) (sym d.is) (plan-limits (length (all_known elements)) links 0 elements))
+queues-capacities text plan d = queues-within plan 0 plan (plan-within text plan d)
 
 -- what is so of senders is so of them in order of their numbers
 all-placed : (P : SenderSpec → Type 0) (s : SenderSpec) (senders : List SenderSpec) → P s → AllByRecursion P senders → AllByRecursion P (placed s senders)
@@ -169,3 +172,16 @@ senders-wired text plan d =
     sent = subst (λ p. (s : ℕ) → IsSenderAt p s → queue_fed p s < queue_count p) (sym d.is) (λ s at.
         let to = sender-sent (elements_of text d.faultless.statements) (wires_of text d.faultless.statements) d.faultless.sound s at in
         fed-within (plan_of (elements_of text d.faultless.statements) (wires_of text d.faultless.statements)) to.place s to.element to.at to.is to.among)
+
+-- the number of each sender is within the limits
+senders-within : (plan : List Planned) (i : ℕ) (rest : List Planned) → AllByRecursion (λ (e : Planned). HasLimits e.class) rest → AllByRecursion HasNumber (senders_from plan i rest)
+senders-within plan i [] limits = tt
+senders-within plan i (e ∷ more) limits = by_class e.class limits.0 (senders-within plan (i + 1) more limits.1)
+  where
+    by_class : (class : Class) → HasLimits class → AllByRecursion HasNumber (senders_from plan (i + 1) more)
+        → AllByRecursion HasNumber (cons_option (sender_of plan i class) (senders_from plan (i + 1) more))
+    by_class (sender n) has later = (has, later)
+    by_class class has later = later
+
+pub senders-numbers : (text : List ℕ) (plan : List Planned) → Denotes text plan → AllByRecursion HasNumber (senders_of plan)
+senders-numbers text plan d = all-by_number HasNumber (senders_from plan 0 plan) (senders-within plan 0 plan (plan-within text plan d))
