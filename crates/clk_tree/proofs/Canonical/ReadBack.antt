@@ -14,7 +14,8 @@ use Rattle.clk_syntax.specs.Faults.{links_of, fault_of}
 use Rattle.clk_tree.specs.Plan.{Planned, all_known, planned_from, sources_of, plan_of}
 use Rattle.clk_tree.specs.Canonical.{class_text, arguments_of}
 use Rattle.clk_tree.proofs.Canonical.CanonicalSource.{IsReadBack}
-use Rattle.clk_tree.proofs.Canonical.NumberWords.{number-again, numbers-again}
+use Rattle.clk_tree.proofs.Callers.Numbers.{number-again}
+use Rattle.clk_tree.proofs.Canonical.NumberWords.{numbers-again}
 use Rattle.clk_tree.proofs.Sound.SoundClasses.{HasLimits, class-limits}
 use Rattle.clk_tree.proofs.Sound.SoundNodes.{known_as}
 
