@@ -22,7 +22,7 @@ impl Live {
         ensures outcome { result ≡ true → IsLiveOutcome self.new.course (map offered inlets.new) }
         ensures no { result ≡ false → AreAllEnded self.old.outlets → IsDrained self.old.course → ⊥ }
         ensures halves { AllZip AreHalves inlets.new self.new.outlets }
-        ensures unchanged { (seen self.new ≡ seen self.old) × (map pushed inlets.new ≡ map pushed inlets.old) }
+        ensures unchanged { (seen self.new ≡ seen self.old) × (self.new.turn ≡ self.old.turn) × (map pushed inlets.new ≡ map pushed inlets.old) }
     {
         if !self.is_ended() {
             return false;

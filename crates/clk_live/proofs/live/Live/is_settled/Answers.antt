@@ -23,5 +23,6 @@ returns-clause-unchanged c =
     let i = c.self.inside in
     let same = items-same i.router i.outlets.items c.look_beside.new.outlets.items i.tokens.items c.self.invariant c.look_beside.ensures.popped in (
       subst (λ (l : LiveState). record { course = i.router; items = map taken c.look_beside.new.outlets.items } ≡ seen l) c.self.view_is (ap (λ (items : List (List Item)). record { course = i.router; items = items }) same),
+      subst (λ (l : LiveState). i.turn ≡ l.turn) c.self.view_is refl,
       c.look_beside.ensures.pushed,
     )
