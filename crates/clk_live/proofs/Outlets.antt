@@ -84,17 +84,14 @@ not-ended xs ys h open_yet =
     let e : has_end (xs ++ h.0) ≡ false = ap has_end h.1 ∙ open_yet in
     grind (arith, list_any-append is_end xs h.0, e)
 
--- an outlet in whose ring nothing was seen any more gave all
-pub gave-all : (start mid new : List Outlet) (place : ℕ) → AllGoOn start mid → AllGoOn mid new → HasNone mid new place → GaveAll start new place
-gave-all start mid new place before after none = λ o n at now open_yet.
-    (let m = member mid place (let many = zip-length GoesOn start mid before in let within = slice_get_within start place o at in omega (arith, many, within)) in
-    let h = zip-read GoesOn start mid place o m.0 before at m.1 in
-    let k = zip-read GoesOn mid new place m.0 n after m.1 now in
-    let nothing : waiting m.0 ≡ [] = none m.0 n m.1 now open_yet in
-    let all : IsPrefix (popped o ++ waiting o) (popped m.0) = (h.grows.0, h.grows.1 ∙ ap (λ l. popped m.0 ++ l) nothing ∙ append-nil (popped m.0)) in
-    prefix-then (popped o ++ waiting o) (popped m.0) (popped n) all k.keeps)
+-- an outlet in whose ring nothing was seen gave all
+pub gave-none : (old new : List Outlet) (place : ℕ) → AllGoOn old new → HasNone old new place → GaveAll old new place
+gave-none old new place goes none = λ o n at now open_yet.
+    (let k = zip-read GoesOn old new place o n goes at now in
+    let nothing : waiting o ≡ [] = none o n at now open_yet in
+    (k.keeps.0, ap (λ l. l ++ k.keeps.0) (ap (λ l. popped o ++ l) nothing ∙ append-nil (popped o)) ∙ k.keeps.1))
 
--- and has given all later on
+-- an outlet that gave all has given it later on
 pub gave-later : (start mid new : List Outlet) (place : ℕ) → AllGoOn start mid → AllGoOn mid new → GaveAll start mid place → GaveAll start new place
 gave-later start mid new place before after gave = λ o n at now open_yet.
     (let m = member mid place (let many = zip-length GoesOn start mid before in let within = slice_get_within start place o at in omega (arith, many, within)) in

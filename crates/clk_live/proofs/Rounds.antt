@@ -12,11 +12,9 @@ use Rattle.clk_router.specs.Events.{Setup, sender_numbers}
 use Rattle.clk_sched.specs.Examples.Priority.{p0_0}
 use Rattle.clk_live.specs.declared.taking.Outcome.TheVariants.{Refused}
 use Rattle.clk_live.specs.declared.taking.Taken.{Taken}
-use Rattle.clk_inlet.specs.declared.outlet.Outlet.{Outlet}
-use Rattle.clk_live.specs.State.{LiveState, starts_at, AllGoOn}
-use Rattle.clk_live.specs.Taking.{AreOf, AreAtMost, AreShares, StartsNext, after_place, GaveAll, count_of}
-use Rattle.clk_live.specs.inside.Each.{IsEach, AreEach, GaveShares, IsLast}
-use Rattle.clk_live.proofs.Outlets.{gave-before, gave-later}
+use Rattle.clk_live.specs.State.{LiveState, starts_at}
+use Rattle.clk_live.specs.Taking.{AreOf, AreAtMost, AreSharesOr, StartsNext, after_place, count_of}
+use Rattle.clk_live.specs.inside.Each.{IsEach, AreEach, GaveSharesOr, IsLast}
 use Rattle.clk_live.proofs.Steps.{one-place}
 
 count-both : (s : ℕ) (xs ys : List Taken) → count_of s (xs ++ ys) ≡ count_of s xs + count_of s ys
@@ -60,6 +58,16 @@ module _ (setup : Setup) (place n from result each : ℕ) (old new : List Taken)
       let front_many = length-take-le from new (omega (arith, up, low)) in
       omega (arith, split, most, many, parts, both, taken, front_many, few)
 
+-- senders at two places are two senders
+two-senders : (setup : Setup) (place n k s : ℕ) → AreRising (sender_numbers setup) → sender_at setup place ≡ Some n → sender_at setup k ≡ Some s → (k == place) ≡ false → (n == s) ≡ false
+two-senders setup place n k s rising at its apart = by_test (n == s) refl
+  where
+    by_test : (b : Bool) → (n == s) ≡ b → b ≡ false
+    by_test false e = refl
+    by_test true e =
+        let same = one-place (sender_numbers setup) place k s rising (at ∙ ap Some (eqb-true n s e)) its in
+        absurd (grind (arith, nat_tests))
+
 pub each-none : (setup : Setup) (first each : ℕ) (ts : List Taken) → AreEach setup first first each ts ts
 each-none setup first each ts = ((λ place s at. record { most = omega arith; others = λ where_it_is. refl }), (λ s stranger. refl))
 
@@ -89,13 +97,7 @@ each-more setup first place n each from result start old new rising low at front
         by_place false e h = record { most = (let stays = others s other in let le = h.most in omega (arith, stays, le)); others = λ w. others s other ∙ h.others (outside w) }
           where
             other : (n == s) ≡ false
-            other = not_its (n == s) refl
-              where
-                not_its : (b : Bool) → (n == s) ≡ b → b ≡ false
-                not_its false f = refl
-                not_its true f =
-                    let same = one-place (sender_numbers setup) place k s rising (at ∙ ap Some (eqb-true n s f)) its in
-                    absurd (grind (arith, nat_tests))
+            other = two-senders setup place n k s rising at its e
 
             outside : (k < first) ⊎ (place + 1 ≤ k) → (k < first) ⊎ (place ≤ k)
             outside (inl x) = inl x
@@ -127,19 +129,19 @@ lt-or a b = by_test (nat_lt a b) refl
     by_test true e = inl (grind (arith, nat_tests))
     by_test false e = inr (grind (arith, nat_tests))
 
-pub shares-none : (setup : Setup) (first each : ℕ) (os ms : List Outlet) (old new : List Taken) → GaveShares setup first first each os ms old new
-shares-none setup first each os ms old new = λ place s low high at. absurd (omega (arith, low, high))
+pub shares-none : (Otherwise : ℕ → Type 0) (setup : Setup) (first each : ℕ) (ts : List Taken) → GaveSharesOr Otherwise setup first first each ts ts
+shares-none Otherwise setup first each ts = λ place s low high at. absurd (omega (arith, low, high))
 
-pub shares-more : (setup : Setup) (first place n each from result most : ℕ) (start old new : List Taken) (os ms ns : List Outlet) → AreRising (sender_numbers setup) → first ≤ place → sender_at setup place ≡ Some n → take from new ≡ take from old → from ≤ result
-    → result ≤ length new → result ≤ from + each → AreOf setup place (drop from (take result new)) → AllGoOn os ms → AllGoOn ms ns → (result < most → GaveAll ms ns place) → (result ≡ from + each) ⊎ (result < most)
-    → AreEach setup first place each start (take from old) → GaveShares setup first place each os ms start (take from old) → GaveShares setup first (place + 1) each os ns start (take result new)
-shares-more setup first place n each from result most start old new os ms ns rising low at front up within few of before after gave share counted shares = each-place
+pub shares-more : (Was Now : ℕ → Type 0) (setup : Setup) (first place n each from result most : ℕ) (start old new : List Taken) → ((k : ℕ) → Was k → Now k) → AreRising (sender_numbers setup) → first ≤ place → sender_at setup place ≡ Some n → take from new ≡ take from old
+    → from ≤ result → result ≤ length new → result ≤ from + each → AreOf setup place (drop from (take result new)) → (result < most → Now place) → (result ≡ from + each) ⊎ (result < most)
+    → AreEach setup first place each start (take from old) → GaveSharesOr Was setup first place each start (take from old) → GaveSharesOr Now setup first (place + 1) each start (take result new)
+shares-more Was Now setup first place n each from result most start old new later rising low at front up within few of gave share counted shares = each-place
   where
-    each-place : (k s : ℕ) → first ≤ k → k < place + 1 → sender_at setup k ≡ Some s → (count_of s (take result new) ≡ count_of s start + each) ⊎ GaveAll os ns k
+    each-place : (k s : ℕ) → first ≤ k → k < place + 1 → sender_at setup k ≡ Some s → (count_of s (take result new) ≡ count_of s start + each) ⊎ Now k
     each-place k s from_first to_last its = by_place (k == place) refl
       where
-        mine : k ≡ place → (result ≡ from + each) ⊎ (result < most) → (count_of s (take result new) ≡ count_of s start + each) ⊎ GaveAll os ns k
-        mine here (inr fewer) = inr (subst (GaveAll os ns) (sym here) (gave-before os ms ns place before after (gave fewer)))
+        mine : k ≡ place → (result ≡ from + each) ⊎ (result < most) → (count_of s (take result new) ≡ count_of s start + each) ⊎ Now k
+        mine here (inr fewer) = inr (subst Now (sym here) (gave fewer))
         mine here (inl all) =
             let both : Some n ≡ Some s = sym at ∙ ap (sender_at setup) (sym here) ∙ its in
             let named : n ≡ s = cc both in
@@ -153,17 +155,11 @@ shares-more setup first place n each from result most start old new os ms ns ris
             let front_many = length-take-le from new (omega (arith, up, within)) in
             inl (omega (arith, all, ours, parts, was, many, both_parts, sum, taken, front_many))
 
-        theirs : (k == place) ≡ false → (count_of s (take from old) ≡ count_of s start + each) ⊎ GaveAll os ms k → (count_of s (take result new) ≡ count_of s start + each) ⊎ GaveAll os ns k
-        theirs e (inr x) = inr (gave-later os ms ns k before after x)
-        theirs e (inl x) = inl (fill-others setup place n from result each old new at front up within few of s (not_its (n == s) refl) ∙ x)
-          where
-            not_its : (b : Bool) → (n == s) ≡ b → b ≡ false
-            not_its false f = refl
-            not_its true f =
-                let same = one-place (sender_numbers setup) place k s rising (at ∙ ap Some (eqb-true n s f)) its in
-                absurd (grind (arith, nat_tests))
+        theirs : (k == place) ≡ false → (count_of s (take from old) ≡ count_of s start + each) ⊎ Was k → (count_of s (take result new) ≡ count_of s start + each) ⊎ Now k
+        theirs e (inr x) = inr (later k x)
+        theirs e (inl x) = inl (fill-others setup place n from result each old new at front up within few of s (two-senders setup place n k s rising at its e) ∙ x)
 
-        by_place : (b : Bool) → (k == place) ≡ b → (count_of s (take result new) ≡ count_of s start + each) ⊎ GaveAll os ns k
+        by_place : (b : Bool) → (k == place) ≡ b → (count_of s (take result new) ≡ count_of s start + each) ⊎ Now k
         by_place true e = mine (eqb-true k place e) share
         by_place false e = theirs e (shares k s from_first (let other = e in grind (arith, nat_tests)) its)
 
@@ -197,21 +193,21 @@ round-each setup start places each mid new low many first second = λ s. by_send
         by_place (inl x) = let a = (first.0 i s at).others (inl x) in let b = (second.0 i s at).most in omega (arith, a, b)
         by_place (inr x) = let a = (first.0 i s at).most in let b = (second.0 i s at).others (inr x) in omega (arith, a, b)
 
-pub round-shares : (setup : Setup) (start places each : ℕ) (mid new : List Taken) (os ms ns : List Outlet) → places ≡ length (sender_numbers setup) → AllGoOn os ms → AllGoOn ms ns → AreEach setup start places each [] mid → AreEach setup 0 start each mid new
-    → GaveShares setup start places each os ms [] mid → GaveShares setup 0 start each ms ns mid new → AreShares setup each os ns new
-round-shares setup start places each mid new os ms ns many before after first second shares more = λ place s at. by_place place s at (lt-or place start)
+pub round-shares : (First Second Now : ℕ → Type 0) (setup : Setup) (start places each : ℕ) (mid new : List Taken) → ((k : ℕ) → First k → Now k) → ((k : ℕ) → Second k → Now k) → places ≡ length (sender_numbers setup)
+    → AreEach setup start places each [] mid → AreEach setup 0 start each mid new → GaveSharesOr First setup start places each [] mid → GaveSharesOr Second setup 0 start each mid new → AreSharesOr Now setup each new
+round-shares First Second Now setup start places each mid new of_first of_second many first second shares more = λ place s at. by_place place s at (lt-or place start)
   where
-    by_place : (place s : ℕ) → sender_at setup place ≡ Some s → (place < start) ⊎ (start ≤ place) → (count_of s new ≡ each) ⊎ GaveAll os ns place
+    by_place : (place s : ℕ) → sender_at setup place ≡ Some s → (place < start) ⊎ (start ≤ place) → (count_of s new ≡ each) ⊎ Now place
     by_place place s at (inl x) = now (more place s (omega arith) x at)
       where
-        now : (count_of s new ≡ count_of s mid + each) ⊎ GaveAll ms ns place → (count_of s new ≡ each) ⊎ GaveAll os ns place
+        now : (count_of s new ≡ count_of s mid + each) ⊎ Second place → (count_of s new ≡ each) ⊎ Now place
         now (inl e) = let none = (first.0 place s at).others (inl x) in inl (omega (arith, e, none))
-        now (inr g) = inr (gave-before os ms ns place before after g)
+        now (inr g) = inr (of_second place g)
     by_place place s at (inr x) = now (shares place s x (let within = slice_get_within (sender_numbers setup) place s at in omega (arith, within, many)) at)
       where
-        now : (count_of s mid ≡ count_of s [] + each) ⊎ GaveAll os ms place → (count_of s new ≡ each) ⊎ GaveAll os ns place
+        now : (count_of s mid ≡ count_of s [] + each) ⊎ First place → (count_of s new ≡ each) ⊎ Now place
         now (inl e) = let stays = (second.0 place s at).others (inr x) in inl (omega (arith, e, stays))
-        now (inr g) = inr (gave-later os ms ns place before after g)
+        now (inr g) = inr (of_first place g)
 
 -- what all of these packets have, the last of them has
 last-has : (P : Taken → Type 0) (ts : List Taken) (t : Taken) (n : ℕ) → AllByRecursion P ts → length ts ≡ n + 1 → slice_get ts n ≡ Some t → P t

@@ -1,14 +1,16 @@
--- Worked states of a live router over two devices, and what is told of a take and of a pull.
+-- Worked states of a live router over two devices, before and after takes, pulls and rounds.
 use Rattle.std.specs.Prelude.{ℕ, List, [], ◌∷◌, Option, Some}
 use Rattle.clk_packet.specs.declared.packet.Packet.{Packet}
 use Rattle.clk_packet.specs.declared.packet.Offered.TheVariants as offer
 use Rattle.clk_sched.specs.Examples.Priority.{p0_0, p1_0}
 use Rattle.clk_inlet.specs.Items.{packet_item}
 use Rattle.clk_inlet.specs.declared.item.Item.{Item}
+use Rattle.clk_router.specs.Course.{Course}
 use Rattle.clk_router.specs.Events.{Event, offered}
-use Rattle.clk_router.specs.SettledExamples.{course_of, emits, p1_1}
+use Rattle.clk_router.specs.SettledExamples.{course_of, emits, p0_1, p1_1}
 use Rattle.clk_live.specs.declared.pulling.Emitted.{Emitted}
 use Rattle.clk_live.specs.declared.taking.Outcome.{Outcome}
+use Rattle.clk_live.specs.declared.taking.Outcome.TheVariants.{Accepted}
 use Rattle.clk_live.specs.declared.taking.Taken.{Taken}
 use Rattle.clk_live.specs.State.{Seen}
 
@@ -31,6 +33,7 @@ one_taken = state (offered p0_0 offer.Accepted ∷ []) (packet_item 100 7 ∷ []
 abbrev pub one_kept : Seen
 one_kept = state [] (packet_item 100 7 ∷ []) []
 
+-- what a take returns
 abbrev pub told : Packet → ℕ → Outcome → Taken
 told p token outcome = record { packet = p; token = token; outcome = outcome }
 
@@ -47,3 +50,27 @@ one_emitted = state (offered p0_0 offer.Accepted ∷ emits 0 0 p0_0 ∷ []) (pac
 
 abbrev pub emitted_with : ℕ → Option Emitted
 emitted_with token = Some (record { packet = p0_0; token = token })
+
+-- the queue of sender 0, with room for two packets, holds one, or two, or one after the other was emitted
+abbrev pub one_held : Course
+one_held = course_of (offered p0_0 offer.Accepted ∷ [])
+
+abbrev pub two_held : Course
+two_held = course_of (offered p0_0 offer.Accepted ∷ offered p0_1 offer.Accepted ∷ [])
+
+abbrev pub one_left : Course
+one_left = course_of (offered p0_0 offer.Accepted ∷ offered p0_1 offer.Accepted ∷ emits 0 0 p0_0 ∷ [])
+
+-- a round took one packet of each sender, or two of sender 0 and one of sender 1
+abbrev pub one_of_each : List Taken
+one_of_each = told p0_0 7 Accepted ∷ told p1_1 9 Accepted ∷ []
+
+abbrev pub two_of_first : List Taken
+two_of_first = told p0_0 7 Accepted ∷ told p0_1 8 Accepted ∷ told p1_1 9 Accepted ∷ []
+
+-- after the second round: its last packet filled the queue of sender 1, or left room in it since an earlier packet was emitted
+abbrev pub filled : Course
+filled = course_of (offered p1_0 offer.Accepted ∷ offered p0_0 offer.Accepted ∷ offered p0_1 offer.Accepted ∷ offered p1_1 offer.Accepted ∷ [])
+
+abbrev pub with_room : Course
+with_room = course_of (offered p1_0 offer.Accepted ∷ emits 1 0 p1_0 ∷ offered p0_0 offer.Accepted ∷ offered p0_1 offer.Accepted ∷ offered p1_1 offer.Accepted ∷ [])

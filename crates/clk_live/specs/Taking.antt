@@ -5,13 +5,15 @@ use mathlib.Core.List.{IsPrefix}
 use Rattle.clk_packet.specs.declared.packet.Packet.{Packet}
 use Rattle.clk_packet.specs.declared.packet.Offered.{Offered}
 use Rattle.clk_packet.specs.declared.packet.Offered.TheVariants as offer
+use Rattle.clk_ring.specs.QueueHistory.{held}
+use Rattle.clk_tree.specs.declared.plan.parts.SenderSpec.{SenderSpec}
 use Rattle.clk_inlet.specs.Halves.{popped, seen as waiting}
 use Rattle.clk_inlet.specs.Items.{packet_item, has_end}
 use Rattle.clk_inlet.specs.declared.item.Item.{Item}
 use Rattle.clk_inlet.specs.declared.outlet.Outlet.{Outlet}
 use Rattle.clk_router.specs.Chains.{IsChain}
-use Rattle.clk_router.specs.Course.{after, sender_at}
-use Rattle.clk_router.specs.Events.{Setup, offered}
+use Rattle.clk_router.specs.Course.{Course, after, sender_at}
+use Rattle.clk_router.specs.Events.{Room, Setup, offered, history}
 use Rattle.clk_live.specs.declared.taking.Outcome.{Outcome}
 use Rattle.clk_live.specs.declared.taking.Outcome.TheVariants.{Accepted, Refused, Evicted}
 use Rattle.clk_live.specs.declared.taking.Taken.{Taken}
@@ -58,6 +60,18 @@ abbrev pub GaveAll : List Outlet → List Outlet → ℕ → Type 0
 GaveAll old new place =
     (o n : Outlet) → slice_get old place ≡ Some o → slice_get new place ≡ Some n → has_end (popped n) ≡ false → IsPrefix (popped o ++ waiting o) (popped n)
 
+-- The queue of the sender at a place is full: it holds as many packets as it may.
+pub record IsQueueFull (c : Course) (place : ℕ) : Type 0 where
+  pub spec : SenderSpec
+  pub room : Room
+  pub sender : slice_get c.setup.senders place ≡ Some spec
+  pub queue : slice_get c.setup.queues spec.queue ≡ Some room
+  pub full : length (held (history c.setup spec.queue c.events)) ≡ room.capacity
+
+-- A sender gave all that was seen in its ring, or its queue is full now.
+abbrev pub GaveAllThatFits : LiveState → LiveState → ℕ → Type 0
+GaveAllThatFits old new place = GaveAll old.outlets new.outlets place ⊎ IsQueueFull new.course place
+
 -- these packets are of the sender at a place
 abbrev pub AreOf : Setup → ℕ → List Taken → Type 0
 AreOf setup place taken = AllByRecursion (λ (t : Taken). sender_at setup place ≡ Some t.packet.sender) taken
@@ -70,9 +84,9 @@ count_of s taken = length (filter (λ (t : Taken). t.packet.sender == s) taken)
 abbrev pub AreAtMost : ℕ → List Taken → Type 0
 AreAtMost most taken = (s : ℕ) → count_of s taken ≤ most
 
--- Each sender gave so many of these packets, or gave all that was seen in its ring.
-abbrev pub AreShares : Setup → ℕ → List Outlet → List Outlet → List Taken → Type 0
-AreShares setup each old new taken = (place s : ℕ) → sender_at setup place ≡ Some s → (count_of s taken ≡ each) ⊎ GaveAll old new place
+-- Each sender gave so many of these packets, or this holds of its place.
+abbrev pub AreSharesOr : (ℕ → Type 0) → Setup → ℕ → List Taken → Type 0
+AreSharesOr Otherwise setup each taken = (place s : ℕ) → sender_at setup place ≡ Some s → (count_of s taken ≡ each) ⊎ Otherwise place
 
 -- the place after this one among so many, the first after the last
 abbrev pub after_place : ℕ → ℕ → ℕ

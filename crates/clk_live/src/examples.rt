@@ -1,13 +1,13 @@
-//! What the definitions of tokens, takes and pulls say of worked examples. The functions do nothing.
+//! What the definitions of tokens, takes, pulls and rounds say of worked examples. The functions do nothing.
 
 ghost use Rattle.std.specs.Prelude.{[], None};
 ghost use Rattle.clk_sched.specs.Examples.Priority.{p0_0, p1_0};
 ghost use Rattle.clk_router.specs.SettledExamples.{two_devices, p0_1, p1_1, p7_0};
 ghost use Rattle.clk_live.specs.declared.taking.Outcome.TheVariants.{Accepted, Refused, Evicted};
 ghost use Rattle.clk_live.specs.State.{IsTokenOf};
-ghost use Rattle.clk_live.specs.Taking.{IsTaken};
+ghost use Rattle.clk_live.specs.Taking.{IsTaken, IsQueueFull, AreSharesOr};
 ghost use Rattle.clk_live.specs.Pulling.{IsPulledLive};
-ghost use Rattle.clk_live.specs.Examples.{two_and_one, nothing_taken, one_taken, one_kept, told, before_eviction, after_eviction, one_emitted, emitted_with};
+ghost use Rattle.clk_live.specs.Examples.{two_and_one, nothing_taken, one_taken, one_kept, told, before_eviction, after_eviction, one_emitted, emitted_with, one_held, two_held, one_left, one_of_each, two_of_first, filled, with_room};
 
 /// A token came with the packet whose number is its place, and with no other: not with the next packet, not with another sender's, not with
 /// one of an unknown sender, and not with one that was not taken.
@@ -21,8 +21,8 @@ pub fn token_examples()
     ensures not_untaken { ¬ (IsTokenOf two_devices two_and_one p1_1 9) }
 {}
 
-/// What is told of a packet that was taken is its sender's next packet, its own token, and what became of it. It is not told with another
-/// token, number or outcome, nor of another inlet, nor if the packet was not offered. An evicted packet is told with its own token.
+/// A take returns its sender's next packet, with the packet's own token and outcome. It does not return another token, number or outcome, a
+/// packet of another inlet, or one that was not offered. An evicted packet comes with its own token.
 pub fn taken_examples()
     ensures taken { IsTaken 0 nothing_taken (told p0_0 7 Accepted) one_taken }
     ensures evicted { IsTaken 1 before_eviction (told p1_1 6 (Evicted p1_0 5)) after_eviction }
@@ -34,10 +34,29 @@ pub fn taken_examples()
     ensures not_evicted_with_own { ¬ (IsTaken 1 before_eviction (told p1_1 6 (Evicted p1_0 6)) after_eviction) }
 {}
 
-/// A pull tells the packet that was emitted with its own token. It does not tell another token, nothing, or a packet that was not emitted.
+/// A pull returns the packet that the device emitted, with the packet's own token. It does not return another token, `None`, or a packet that
+/// was not emitted.
 pub fn pulled_examples()
     ensures emitted { IsPulledLive 0 0 one_taken (emitted_with 7) one_emitted }
     ensures not_other_token { ¬ (IsPulledLive 0 0 one_taken (emitted_with 8) one_emitted) }
     ensures not_nothing { ¬ (IsPulledLive 0 0 one_taken None one_emitted) }
     ensures not_without_pull { ¬ (IsPulledLive 0 0 one_taken (emitted_with 7) one_taken) }
+{}
+
+/// A sender's queue is full if it holds as many packets as it may. It is not full with fewer, after one was emitted, or if another sender's
+/// queue is full.
+pub fn full_examples()
+    ensures full { IsQueueFull two_held 0 }
+    ensures not_with_one { ¬ (IsQueueFull one_held 0) }
+    ensures not_after_pull { ¬ (IsQueueFull one_left 0) }
+    ensures not_of_other_sender { ¬ (IsQueueFull two_held 1) }
+{}
+
+/// In a round each sender gives its share, or its queue is full. It does not give fewer packets while its queue has room, and never more.
+pub fn share_examples()
+    ensures shares { AreSharesOr (λ place. ⊥) two_devices 1 one_of_each }
+    ensures or_full { AreSharesOr (IsQueueFull filled) two_devices 2 two_of_first }
+    ensures not_fewer { ¬ (AreSharesOr (λ place. ⊥) two_devices 2 two_of_first) }
+    ensures not_more { ¬ (AreSharesOr (λ place. ⊥) two_devices 1 two_of_first) }
+    ensures not_with_room { ¬ (AreSharesOr (IsQueueFull with_room) two_devices 2 two_of_first) }
 {}

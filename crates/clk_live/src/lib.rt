@@ -12,7 +12,9 @@ mod taking;
 mod tokens;
 
 pub use draining::{Departed, DrainEnd};
-pub use examples::{pulled_examples, taken_examples, token_examples};
+pub use examples::{
+    full_examples, pulled_examples, share_examples, taken_examples, token_examples,
+};
 pub use live::Live;
 pub use pulling::Emitted;
 pub use reclaiming::Reclaimed;

@@ -1,7 +1,5 @@
 //! Taking packets from inlets.
 
-ghost use Rattle.clk_live.specs.inside.Room.{HasRoomFor};
-
 use crate::live::Live;
 use crate::tokens::note_offer;
 use clk_packet::Packet;
@@ -37,8 +35,9 @@ impl Live {
     ghost use Rattle.std.specs.Prelude.{◌≡◌, ◌-◌, ◌<◌, ◌≤◌, ℕ, List, true, false, None, length, take, drop, slice_get, IfSome};
     ghost use Rattle.clk_router.specs.Course.{sender_at};
     ghost use Rattle.clk_live.specs.State.{Seen, seen, starts_at, IsTokenOf, AllGoOn};
-    ghost use Rattle.clk_live.specs.Taking.{IsTaken, AreTaken, AreOf, AreAtMost, AreShares, StartsNext, AllAccepted, HasNone, GaveAll};
-    ghost use Rattle.clk_live.specs.inside.Each.{AreEach, GaveShares, IsLast};
+    ghost use Rattle.clk_live.specs.Taking.{IsTaken, AreTaken, AreOf, AreAtMost, AreSharesOr, StartsNext, AllAccepted, HasNone, GaveAll, GaveAllThatFits, IsQueueFull};
+    ghost use Rattle.clk_live.specs.inside.Each.{AreEach, GaveAllWanted, GaveSharesOr, IsLast};
+    ghost use Rattle.clk_live.specs.inside.Room.{StayFull};
 
     /// Takes the next packet from the inlet of the sender at this place, and offers it to the sender's queue. Returns `None` if no packet
     /// waits there.
@@ -72,7 +71,8 @@ impl Live {
     // Whether the queue of the sender at this place is full.
     fn is_full(&self, place: usize) -> bool
         requires there { place < length self.now.outlets }
-        ensures { result ≡ false → HasRoomFor self.now.course place }
+        ensures full { result ≡ true → IsQueueFull self.now.course place }
+        ensures not_full { result ≡ false → IsQueueFull self.now.course place → ⊥ }
     {
         let queue = self.router.accounts()[place].queue;
         let state = self.router.queue(queue);
@@ -84,31 +84,33 @@ impl Live {
         requires there { place < length self.old.outlets }
         ensures taken { IfSome result (λ t. IsTaken place (seen self.old) t (seen self.new)) }
         ensures none { result ≡ None → seen self.new ≡ seen self.old }
-        ensures none_waits { only_fitting ≡ false → result ≡ None → HasNone self.old.outlets self.new.outlets place }
+        ensures gave_all { result ≡ None → GaveAllWanted only_fitting self.old self.new place }
         ensures accepted { only_fitting ≡ true → IfSome result (λ t. t.outcome ≡ Outcome.Accepted) }
+        ensures full { StayFull self.old.course self.new.course }
         ensures outlets { AllGoOn self.old.outlets self.new.outlets }
         ensures turn { self.new.turn ≡ self.old.turn }
     {
         if !only_fitting {
-            return self.take(place);
+            return self.take_next(place);
         }
         if self.is_full(place) {
             return None;
         }
-        self.take_fitting(place)
+        self.take_next(place)
     }
 
-    // Takes the next packet of the sender at a place, whose queue is not full.
-    fn take_fitting(&mut self, place: usize) -> Option<Taken>
+    // Takes the next packet of the sender at a place. A queue that is not full accepts it, and a full queue stays full.
+    fn take_next(&mut self, place: usize) -> Option<Taken>
         requires there { place < length self.old.outlets }
-        requires room { HasRoomFor self.old.course place }
         ensures taken { IfSome result (λ t. IsTaken place (seen self.old) t (seen self.new)) }
         ensures none { result ≡ None → seen self.new ≡ seen self.old }
-        ensures accepted { IfSome result (λ t. t.outcome ≡ Outcome.Accepted) }
+        ensures gave_all { result ≡ None → GaveAll self.old.outlets self.new.outlets place }
+        ensures accepted { (IsQueueFull self.old.course place → ⊥) → IfSome result (λ t. t.outcome ≡ Outcome.Accepted) }
+        ensures full { StayFull self.old.course self.new.course }
         ensures outlets { AllGoOn self.old.outlets self.new.outlets }
         ensures turn { self.new.turn ≡ self.old.turn }
     {
-        // Only a full queue refuses or evicts, by these laws, which do nothing.
+        // Only a full queue refuses or evicts, and an offer leaves it full, by these laws, which do nothing.
         self.router.queues_go_on();
         self.router.has_happened();
         let taken = self.take(place);
@@ -131,8 +133,9 @@ impl Live {
         ensures taken { (old : Seen) (before : List Taken) → AreTaken old (seen self.old) before taken.old from → AreTaken old (seen self.new) before taken.new result }
         ensures of_sender { AreOf self.old.course.setup place (drop from (take result taken.new)) }
         ensures front { take from taken.new ≡ take from taken.old }
-        ensures gave_all { only_fitting ≡ false → result < most → GaveAll self.old.outlets self.new.outlets place }
+        ensures gave_all { result < most → GaveAllWanted only_fitting self.old self.new place }
         ensures accepted { only_fitting ≡ true → AllAccepted (take from taken.old) → AllAccepted (take result taken.new) }
+        ensures full { StayFull self.old.course self.new.course }
         ensures outlets { AllGoOn self.old.outlets self.new.outlets }
         ensures unchanged { (self.new.turn ≡ self.old.turn) × (self.new.course.setup ≡ self.old.course.setup) }
     {
@@ -166,7 +169,7 @@ impl Live {
     pub fn take_in(&mut self, each: usize, taken: &mut [Taken]) -> usize
         ensures taken { AreTaken (seen self.old) (seen self.new) taken.old taken.new result }
         ensures each { AreAtMost each (take result taken.new) }
-        ensures shares { result < length taken.old → AreShares self.old.course.setup each self.old.outlets self.new.outlets (take result taken.new) }
+        ensures shares { result < length taken.old → AreSharesOr (GaveAll self.old.outlets self.new.outlets) self.old.course.setup each (take result taken.new) }
         ensures turn { StartsNext self.old self.new (length taken.old) result (slice_get taken.new (result - 1)) }
         ensures outlets { AllGoOn self.old.outlets self.new.outlets }
     {
@@ -178,6 +181,7 @@ impl Live {
     pub fn take_in_fitting(&mut self, each: usize, taken: &mut [Taken]) -> usize
         ensures taken { AreTaken (seen self.old) (seen self.new) taken.old taken.new result }
         ensures each { AreAtMost each (take result taken.new) }
+        ensures shares { result < length taken.old → AreSharesOr (GaveAllThatFits self.old self.new) self.old.course.setup each (take result taken.new) }
         ensures accepted { AllAccepted (take result taken.new) }
         ensures turn { StartsNext self.old self.new (length taken.old) result (slice_get taken.new (result - 1)) }
         ensures outlets { AllGoOn self.old.outlets self.new.outlets }
@@ -189,7 +193,7 @@ impl Live {
     fn round(&mut self, only_fitting: bool, each: usize, taken: &mut [Taken]) -> usize
         ensures taken { AreTaken (seen self.old) (seen self.new) taken.old taken.new result }
         ensures each { AreAtMost each (take result taken.new) }
-        ensures shares { only_fitting ≡ false → result < length taken.old → AreShares self.old.course.setup each self.old.outlets self.new.outlets (take result taken.new) }
+        ensures shares { result < length taken.old → AreSharesOr (GaveAllWanted only_fitting self.old self.new) self.old.course.setup each (take result taken.new) }
         ensures accepted { only_fitting ≡ true → AllAccepted (take result taken.new) }
         ensures turn { StartsNext self.old self.new (length taken.old) result (slice_get taken.new (result - 1)) }
         ensures outlets { AllGoOn self.old.outlets self.new.outlets }
@@ -233,7 +237,8 @@ impl Live {
         ensures taken { (old : Seen) (before : List Taken) → AreTaken old (seen self.old) before taken.old from → AreTaken old (seen self.new) before taken.new result.0 }
         ensures front { take from taken.new ≡ take from taken.old }
         ensures each { AreEach self.old.course.setup first end each (take from taken.old) (take result.0 taken.new) }
-        ensures shares { only_fitting ≡ false → result.0 < length taken.old → GaveShares self.old.course.setup first end each self.old.outlets self.new.outlets (take from taken.old) (take result.0 taken.new) }
+        ensures shares { result.0 < length taken.old → GaveSharesOr (GaveAllWanted only_fitting self.old self.new) self.old.course.setup first end each (take from taken.old) (take result.0 taken.new) }
+        ensures full { StayFull self.old.course self.new.course }
         ensures ended { result.0 < length taken.old → result.1 ≡ end }
         ensures last { result.0 ≡ length taken.old → IsLast self.old.course.setup first from taken.new result.0 result.1 }
         ensures accepted { only_fitting ≡ true → AllAccepted (take from taken.old) → AllAccepted (take result.0 taken.new) }

@@ -40,7 +40,8 @@ const ROUNDS: Row = Row {
     ],
 };
 
-/// With only what fits, a packet waits in its inlet while its queue is full. So none is refused or evicted.
+/// With only what fits, a packet waits in its inlet while its queue is full. So none is refused or evicted. A sender whose queue has room
+/// gives as many as it may, also while another sender's queue is full.
 const FITTING: Row = Row {
     name: "only what fits",
     tree: "a :: Sender(1); b :: Sender(2); q :: Queue(1); f :: FrontDropQueue(2); x :: PrioSched;
@@ -51,7 +52,8 @@ const FITTING: Row = Row {
         Offers((2, 0, 70)),
         Offers((2, 1, 71)),
         Offers((2, 2, 72)),
-        TakesFitting(4, 8, &[(1, 0, 60), (2, 0, 70), (2, 1, 71)]),
+        TakesFitting(1, 8, &[(1, 0, 60), (2, 0, 70)]),
+        TakesFitting(4, 8, &[(2, 1, 71)]),
         TakesFitting(4, 8, &[]),
         Emits((1, 0, 60)),
         TakesFitting(4, 8, &[(1, 1, 61)]),

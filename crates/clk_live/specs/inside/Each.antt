@@ -1,8 +1,8 @@
 -- How many packets a sweep over senders takes from each.
-use Rattle.std.specs.Prelude.{◌≡◌, ℕ, ◌+◌, ◌-◌, ◌<◌, ◌≤◌, ◌⊎◌, List, Some, slice_get}
+use Rattle.std.specs.Prelude.{◌≡◌, ℕ, ◌+◌, ◌-◌, ◌<◌, ◌≤◌, ◌⊎◌, Bool, true, false, List, Some, slice_get}
 use Rattle.clk_live.specs.declared.taking.Taken.{Taken}
-use Rattle.clk_inlet.specs.declared.outlet.Outlet.{Outlet}
-use Rattle.clk_live.specs.Taking.{count_of, GaveAll}
+use Rattle.clk_live.specs.State.{LiveState}
+use Rattle.clk_live.specs.Taking.{count_of, GaveAll, GaveAllThatFits}
 use Rattle.clk_router.specs.Course.{sender_at}
 use Rattle.clk_router.specs.Events.{Setup}
 
@@ -17,10 +17,15 @@ AreEach setup first end each old new =
     ((place s : ℕ) → sender_at setup place ≡ Some s → IsEach first end each place (count_of s old) (count_of s new))
     × ((s : ℕ) → ((place : ℕ) → sender_at setup place ≡ Some s → ⊥) → count_of s new ≡ count_of s old)
 
--- each sender at a visited place gave so many packets more, or all that was seen in its ring
-abbrev pub GaveShares : Setup → (first end each : ℕ) → List Outlet → List Outlet → List Taken → List Taken → Type 0
-GaveShares setup first end each outlets outlets_now old new =
-    (place s : ℕ) → first ≤ place → place < end → sender_at setup place ≡ Some s → (count_of s new ≡ count_of s old + each) ⊎ GaveAll outlets outlets_now place
+-- A sender gave all that was wanted of it: all that was seen in its ring or, if only packets that fit are wanted, all of these.
+abbrev pub GaveAllWanted : (only_fitting : Bool) → LiveState → LiveState → ℕ → Type 0
+GaveAllWanted false old new place = GaveAll old.outlets new.outlets place
+GaveAllWanted true old new place = GaveAllThatFits old new place
+
+-- each sender at a visited place gave so many packets more, or this holds of its place
+abbrev pub GaveSharesOr : (ℕ → Type 0) → Setup → (first end each : ℕ) → List Taken → List Taken → Type 0
+GaveSharesOr Otherwise setup first end each old new =
+    (place s : ℕ) → first ≤ place → place < end → sender_at setup place ≡ Some s → (count_of s new ≡ count_of s old + each) ⊎ Otherwise place
 
 -- A sweep that began at place `first` with slot `from` filled all slots, `count` in all, and would go on at place `place`. If it filled none,
 -- that is where it began. Otherwise it is the place after the last packet's sender.

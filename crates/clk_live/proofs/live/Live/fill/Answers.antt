@@ -6,14 +6,15 @@ use Rattle.clk_live.specs.declared.taking.Outcome.TheVariants.{Accepted}
 use Rattle.clk_live.specs.State.{Seen, seen, GoesOn}
 use Rattle.clk_live.specs.Taking.{AreTaken}
 use Rattle.clk_live.proofs.Lists.{zip-length}
-use Rattle.clk_live.proofs.Outlets.{all-same, all-then, gave-all}
+use Rattle.clk_live.proofs.Fitting.{wanted-before}
+use Rattle.clk_live.proofs.Outlets.{all-same, all-then}
 use Rattle.clk_live.proofs.SoFar.{taken-more, all-taken, all-from, none-from}
 use Rattle.clk_live.proofs.live.Live.fill.Goals as goal
 
 pub loop-count-init : goal.loop-count-init
 loop-count-init c =
     let within = c.requires.within in
-    ((omega arith, within.0, refl, c.requires.there), (λ old before h. h), none-from (λ (t : Taken). sender_at c.args.self.now.course.setup c.args.place ≡ Some t.packet.sender) c.args.taken.now c.args.from (omega (arith, within)), (λ only h. h), all-same c.args.self.now.outlets, (refl, refl), refl)
+    ((omega arith, within.0, refl, c.requires.there), (λ old before h. h), none-from (λ (t : Taken). sender_at c.args.self.now.course.setup c.args.place ≡ Some t.packet.sender) c.args.taken.now c.args.from (omega (arith, within)), (λ only h. h), all-same c.args.self.now.outlets, (refl, refl), refl, (λ place is. is))
 
 pub returns-in_default-clause-taken : goal.returns-in_default-clause-taken
 returns-in_default-clause-taken c = λ old before h. subst (λ (s : Seen). AreTaken old s before c.loop-count.taken c.loop-count.count) (sym (c.take_one.ensures.none c.in_default.is)) (c.loop-count.invariant.1 old before h)
@@ -37,9 +38,13 @@ loop-count-preserved c =
       all-then c.args.self.now.outlets l.self.outlets c.take_one.new.self.outlets inv.4 c.take_one.ensures.outlets,
       (c.take_one.ensures.turn ∙ inv.5.0, setup ∙ inv.5.1),
       take-set-le c.args.from l.taken l.count one inv.0.0 ∙ inv.6,
+      (λ place is. c.take_one.ensures.full place (inv.7 place is)),
     )
 
 pub returns-in_default-clause-gave_all : goal.returns-in_default-clause-gave_all
 returns-in_default-clause-gave_all c =
-    λ all fewer.
-    gave-all c.args.self.now.outlets c.loop-count.self.outlets c.take_one.new.self.outlets c.args.place c.loop-count.invariant.4 c.take_one.ensures.outlets (c.take_one.ensures.none_waits all c.in_default.is)
+    λ fewer.
+    wanted-before c.args.self.now c.loop-count.self c.take_one.new.self c.loop-count.invariant.4 c.take_one.ensures.outlets c.args.only_fitting c.args.place (c.take_one.ensures.gave_all c.in_default.is)
+
+pub returns-in_default-clause-full : goal.returns-in_default-clause-full
+returns-in_default-clause-full c = λ place is. c.take_one.ensures.full place (c.loop-count.invariant.7 place is)

@@ -2,6 +2,7 @@ use Rattle.std.proofs.Common.{◌≡◌, ◌-◌, ◌<◌, ◌≤◌, true, List
 use Rattle.clk_live.specs.declared.taking.Taken.{Taken}
 use Rattle.clk_live.specs.State.{Seen, seen, AllGoOn}
 use Rattle.clk_live.specs.Taking.{AreTaken, AreOf, AllAccepted}
+use Rattle.clk_live.specs.inside.Room.{StayFull}
 use Rattle.clk_live.proofs.live.Live.fill.Given as goal
 
 abbrev pub decreases-loop-count : goal.decreases-loop-count
@@ -16,3 +17,4 @@ invariant-loop-count l =
     × AllGoOn l.initial.self.outlets l.self.outlets
     × ((l.self.turn ≡ l.initial.self.turn) × (l.self.course.setup ≡ l.initial.self.course.setup))
     × (take l.from l.taken ≡ take l.from l.initial.taken)
+    × StayFull l.initial.self.course l.self.course

@@ -6,8 +6,9 @@ use Rattle.clk_live.proofs.Lists.{zip-length}
 use Rattle.clk_router.specs.Events.{Setup, sender_numbers}
 use Rattle.clk_tree.specs.PlanParts.{number_of}
 use Rattle.clk_live.specs.State.{LiveState, seen, GoesOn, AllGoOn}
-use Rattle.clk_live.specs.Taking.{AreTaken, AreShares}
-use Rattle.clk_live.specs.inside.Each.{AreEach, GaveShares, IsLast}
+use Rattle.clk_live.specs.Taking.{AreTaken, AreSharesOr}
+use Rattle.clk_live.specs.inside.Each.{AreEach, GaveAllWanted, GaveSharesOr, IsLast}
+use Rattle.clk_live.proofs.Fitting.{wanted-later, wanted-before, wanted-turn}
 use Rattle.clk_live.proofs.Outlets.{all-then}
 use Rattle.clk_live.proofs.SoFar.{taken-none}
 use Rattle.clk_live.proofs.Rounds.{round-shares, starts-next}
@@ -36,13 +37,18 @@ returns-clause-shares c =
     subst (λ (l : LiveState). c.len-places.result ≡ length (sender_numbers l.course.setup)) c.self.view_is
     (let many = c.len-places.ensures in let same = c.self.invariant.places in let numbers = length-map c.self.inside.router.setup.senders number_of in omega (arith, many, same, numbers))
     in
-    λ all fewer.
-    (let first = a.ensures.shares all (let up = b.ensures.count.0 in let same = a.auto.taken in omega (arith, up, fewer)) in
-    let second = b.ensures.shares all (let same = a.auto.taken in omega (arith, fewer, same)) in
-    subst (λ (l : LiveState). AreShares old.course.setup c.args.each old.outlets l.outlets (take b.result.0 b.new.taken)) (sym c.self-2.view_is)
-    (round-shares old.course.setup c.starts_at-start.result c.len-places.result c.args.each (take a.result.0 a.new.taken) (take b.result.0 b.new.taken) old.outlets a.new.self.outlets b.new.self.outlets places a.ensures.outlets b.ensures.outlets a.ensures.each
+    let flag = c.args.only_fitting in
+    let turn = c.if-next-places.self in
+    λ fewer.
+    (let first = a.ensures.shares (let up = b.ensures.count.0 in let same = a.auto.taken in omega (arith, up, fewer)) in
+    let second = b.ensures.shares (let same = a.auto.taken in omega (arith, fewer, same)) in
+    let new : LiveState = record { course = b.new.self.course; outlets = b.new.self.outlets; turn = c.if-next-places.self } in
+    subst (λ (l : LiveState). AreSharesOr (GaveAllWanted flag old (record { course = l.course; outlets = l.outlets; turn = turn })) old.course.setup c.args.each (take b.result.0 b.new.taken)) (sym c.self-2.view_is)
+    (round-shares (GaveAllWanted flag old a.new.self) (GaveAllWanted flag a.new.self b.new.self) (GaveAllWanted flag old new) old.course.setup c.starts_at-start.result c.len-places.result c.args.each (take a.result.0 a.new.taken) (take b.result.0 b.new.taken)
+    (λ place gave. wanted-turn flag old b.new.self turn place (wanted-later old a.new.self b.new.self a.ensures.outlets b.ensures.outlets flag b.ensures.full place gave))
+    (λ place gave. wanted-turn flag old b.new.self turn place (wanted-before old a.new.self b.new.self a.ensures.outlets b.ensures.outlets flag place gave)) places a.ensures.each
     (subst (λ (s : Setup). AreEach s 0 c.starts_at-start.result c.args.each (take a.result.0 a.new.taken) (take b.result.0 b.new.taken)) a.ensures.setup b.ensures.each) first
-    (subst (λ (s : Setup). GaveShares s 0 c.starts_at-start.result c.args.each a.new.self.outlets b.new.self.outlets (take a.result.0 a.new.taken) (take b.result.0 b.new.taken)) a.ensures.setup second)))
+    (subst (λ (s : Setup). GaveSharesOr (GaveAllWanted flag a.new.self b.new.self) s 0 c.starts_at-start.result c.args.each (take a.result.0 a.new.taken) (take b.result.0 b.new.taken)) a.ensures.setup second)))
 
 pub returns-clause-turn : goal.returns-clause-turn
 returns-clause-turn c =

@@ -6,6 +6,8 @@ use Rattle.clk_router.specs.Events.{Setup, sender_numbers}
 use Rattle.clk_tree.specs.PlanParts.{number_of}
 use Rattle.clk_live.specs.State.{LiveState, GoesOn}
 use Rattle.clk_live.specs.Taking.{AreOf}
+use Rattle.clk_live.specs.inside.Each.{GaveAllWanted}
+use Rattle.clk_live.proofs.Fitting.{wanted-later, wanted-before}
 use Rattle.clk_live.proofs.Lists.{member, zip-length}
 use Rattle.clk_live.proofs.Outlets.{all-same, all-then}
 use Rattle.clk_live.proofs.Rounds.{lt-or, each-none, each-more, shares-none, shares-more, last-of}
@@ -26,9 +28,10 @@ loop-place-init c =
       (λ only h. h),
       all-same c.args.self.now.outlets,
       refl,
-      (λ all fewer. shares-none c.args.self.now.course.setup c.args.first c.args.each c.args.self.now.outlets c.args.self.now.outlets (take c.args.from c.args.taken.now) (take c.args.from c.args.taken.now)),
+      (λ fewer. shares-none (GaveAllWanted c.args.only_fitting c.args.self.now c.args.self.now) c.args.self.now.course.setup c.args.first c.args.each (take c.args.from c.args.taken.now)),
       (λ full. record { none = λ e. refl; some = λ more t at. absurd (omega (arith, more)) }),
       refl,
+      (λ place is. is),
     )
 
 pub loop-place-preserved : goal.loop-place-preserved
@@ -55,10 +58,11 @@ loop-place-preserved c =
       (λ only h. f.ensures.accepted only (inv.4 only h)),
       all-then old.outlets l.self.outlets f.new.self.outlets inv.5 f.ensures.outlets,
       f.ensures.unchanged.1 ∙ inv.6,
-      (λ all fewer.
-          shares-more old.course.setup c.args.first l.place n.0 c.args.each l.count f.result (l.count + c.min.result) (take c.args.from c.args.taken.now) l.taken f.new.taken old.outlets l.self.outlets f.new.self.outlets rising inv.0.0 n.1 f.ensures.front f.ensures.count.0
-          within few of inv.5 f.ensures.outlets (f.ensures.gave_all all) (share c.args.each (length l.taken) l.count c.min.result f.result (lt-or f.result (l.count + c.min.result)) f.ensures.count.1 c.min.ensures (let low = fewer in omega (arith, low, length_same))) inv.3
-          (inv.7 all c.if-count-taken.true)),
+      (λ fewer.
+          shares-more (GaveAllWanted c.args.only_fitting old l.self) (GaveAllWanted c.args.only_fitting old f.new.self) old.course.setup c.args.first l.place n.0 c.args.each l.count f.result (l.count + c.min.result) (take c.args.from c.args.taken.now) l.taken f.new.taken
+          (wanted-later old l.self f.new.self inv.5 f.ensures.outlets c.args.only_fitting f.ensures.full) rising inv.0.0 n.1 f.ensures.front f.ensures.count.0 within few of
+          (λ less. wanted-before old l.self f.new.self inv.5 f.ensures.outlets c.args.only_fitting l.place (f.ensures.gave_all less))
+          (share c.args.each (length l.taken) l.count c.min.result f.result (lt-or f.result (l.count + c.min.result)) f.ensures.count.1 c.min.ensures (let low = fewer in omega (arith, low, length_same))) inv.3 (inv.7 c.if-count-taken.true)),
       (λ full. record {
         none = λ e. (let fewer = c.if-count-taken.true in let up = inv.1.0 in absurd (omega (arith, e, full, fewer, up, length_same)));
         some = λ more t at. (
@@ -68,4 +72,5 @@ loop-place-preserved c =
         );
       }),
       sym (take-take c.args.from l.count f.new.taken inv.1.0) ∙ ap (take c.args.from) f.ensures.front ∙ take-take c.args.from l.count l.taken inv.1.0 ∙ inv.9,
+      (λ place is. f.ensures.full place (inv.10 place is)),
     )

@@ -1,8 +1,9 @@
-use Rattle.std.proofs.Common.{◌≡◌, ◌-◌, ◌<◌, ◌≤◌, true, false, List, length, take}
+use Rattle.std.proofs.Common.{◌≡◌, ◌-◌, ◌<◌, ◌≤◌, true, List, length, take}
 use Rattle.clk_live.specs.declared.taking.Taken.{Taken}
 use Rattle.clk_live.specs.State.{Seen, seen, AllGoOn}
 use Rattle.clk_live.specs.Taking.{AreTaken, AllAccepted}
-use Rattle.clk_live.specs.inside.Each.{AreEach, GaveShares, IsLast}
+use Rattle.clk_live.specs.inside.Each.{AreEach, GaveAllWanted, GaveSharesOr, IsLast}
+use Rattle.clk_live.specs.inside.Room.{StayFull}
 use Rattle.clk_live.proofs.live.Live.sweep.Given as goal
 
 abbrev pub decreases-loop-place : goal.decreases-loop-place
@@ -17,6 +18,7 @@ invariant-loop-place l =
     × (l.only_fitting ≡ true → AllAccepted (take l.from l.initial.taken) → AllAccepted (take l.count l.taken))
     × AllGoOn l.initial.self.outlets l.self.outlets
     × (l.self.course.setup ≡ l.initial.self.course.setup)
-    × (l.only_fitting ≡ false → l.count < length l.taken → GaveShares l.initial.self.course.setup l.first l.place l.each l.initial.self.outlets l.self.outlets (take l.from l.initial.taken) (take l.count l.taken))
+    × (l.count < length l.taken → GaveSharesOr (GaveAllWanted l.only_fitting l.initial.self l.self) l.initial.self.course.setup l.first l.place l.each (take l.from l.initial.taken) (take l.count l.taken))
     × (l.count ≡ length l.taken → IsLast l.initial.self.course.setup l.first l.from l.taken l.count l.place)
     × (take l.from l.taken ≡ take l.from l.initial.taken)
+    × StayFull l.initial.self.course l.self.course
