@@ -100,7 +100,23 @@ zip-first : {X Y : Type 0} (R : X → Y → Type 0) (x : X) (xs : List X) (ys : 
 zip-first R x xs [] h = absurd h
 zip-first R x xs (y ∷ ys) h = (y, refl, h.0, h.1)
 
-module _ (old : Course) (outlets : List Outlet) (buffers : List (Buffer ℕ)) (kept : IsKept old outlets buffers) (law : QueuesGoOn old.setup) (rising : AreRising (sender_numbers old.setup)) (can : CanHappen old.setup old.events) where
+-- What is known of the parts of a live router before an offer or a pull.
+pub record Stands (old : Course) (outlets : List Outlet) (buffers : List (Buffer ℕ)) : Type 0 where
+  pub kept : IsKept old outlets buffers
+  pub law : QueuesGoOn old.setup
+  pub rising : AreRising (sender_numbers old.setup)
+  pub can : CanHappen old.setup old.events
+
+-- The next packet of an outlet was taken and offered.
+pub record TookNext (old : Course) (outlets : List Outlet) (place : ℕ) (o taker : Outlet) (x : Item) (p : Packet) (outcome : Offered) : Type 0 where
+  pub its : slice_get outlets place ≡ Some o
+  pub grows : taken taker ≡ taken o ++ x ∷ []
+  pub few : length (taken o) < most_packets
+  pub sender : sender_at old.setup place ≡ Some p.sender
+  pub bytes : p.length ≡ x.length
+  pub more : CanHappen old.setup (old.events ++ offered p outcome ∷ [])
+
+module _ {old : Course} {outlets : List Outlet} {buffers : List (Buffer ℕ)} (stand : Stands old outlets buffers) where
   -- the queue of the sender at a place
   pub record ItsQueue (place s : ℕ) : Type 0 where
     pub spec : SenderSpec
@@ -115,9 +131,9 @@ module _ (old : Course) (outlets : List Outlet) (buffers : List (Buffer ℕ)) (k
   pub its-queue : (place s : ℕ) → sender_at old.setup place ≡ Some s → ItsQueue place s
   its-queue place s sender =
       let x = spec-at old.setup.senders place s sender in
-      let within = sends-within (length old.setup.queues) old.setup.senders place x.0 kept.wired x.1 in
+      let within = sends-within (length old.setup.queues) old.setup.senders place x.0 stand.kept.wired x.1 in
       let room = member old.setup.queues x.0.queue within in
-      let b = member buffers x.0.queue (omega (arith, within, kept.queues)) in
+      let b = member buffers x.0.queue (omega (arith, within, stand.kept.queues)) in
       record {
         spec = x.0;
         at = x.1;
@@ -137,21 +153,21 @@ module _ (old : Course) (outlets : List Outlet) (buffers : List (Buffer ℕ)) (k
         → ((q : ℕ) (room : Room) (b : Buffer ℕ) → slice_get old.setup.queues q ≡ Some room → slice_get new q ≡ Some b → AreTokens old.setup (old.events ++ pulled d m visits ∷ []) (map taken outlets) q room b)
         → IsKept (after old (pulled d m visits ∷ [])) outlets new
     with_buffers new same tokens = record {
-      places = kept.places;
-      few_places = kept.few_places;
-      wired = kept.wired;
+      places = stand.kept.places;
+      few_places = stand.kept.few_places;
+      wired = stand.kept.wired;
       offers = λ place o s its at.
-          (let h = kept.offers place o s its at in
+          (let h = stand.kept.offers place o s its at in
           record { lengths = h.lengths ∙ ap (map packet_length) (sym (offers-pull old.events d m visits s)); few = h.few });
-      queues = same ∙ kept.queues;
+      queues = same ∙ stand.kept.queues;
       tokens = tokens;
     }
 
     -- the tokens of a queue of which nothing was emitted
     stay : (q : ℕ) (room : Room) (b : Buffer ℕ) → slice_get old.setup.queues q ≡ Some room → slice_get buffers q ≡ Some b → emitted_from old.setup q (pulled d m visits) ≡ [] → AreTokens old.setup (old.events ++ pulled d m visits ∷ []) (map taken outlets) q room b
     stay q room b is at none =
-        let h = kept.tokens q room b is at in
-        let same : inside_of old.setup room.device q old.events ≡ inside_of old.setup room.device q (old.events ++ pulled d m visits ∷ []) = inside-pulled old.setup law q room is old.events can d m visits more ∙ ap (λ l. l ++ inside_of old.setup room.device q (old.events ++ pulled d m visits ∷ [])) none in
+        let h = stand.kept.tokens q room b is at in
+        let same : inside_of old.setup room.device q old.events ≡ inside_of old.setup room.device q (old.events ++ pulled d m visits ∷ []) = inside-pulled old.setup stand.law q room is old.events stand.can d m visits more ∙ ap (λ l. l ++ inside_of old.setup room.device q (old.events ++ pulled d m visits ∷ [])) none in
         record { tokens = subst (λ l. AllZip (IsTokenOf old.setup (map taken outlets)) l b.items) same h.tokens; capacity = h.capacity }
 
     pub kept-none : result_of (visits_of 0 visits) ≡ None → IsKept (after old (pulled d m visits ∷ [])) outlets buffers
@@ -166,10 +182,10 @@ module _ (old : Course) (outlets : List Outlet) (buffers : List (Buffer ℕ)) (k
     pub kept-some : (p : Packet) (place : ℕ) (i : ItsQueue place p.sender) → result_of (visits_of 0 visits) ≡ Some p → Popped p i.spec.queue i.b
     kept-some p place i got =
         let q = i.spec.queue in
-        let h = kept.tokens q i.room i.b i.queue i.tokens in
+        let h = stand.kept.tokens q i.room i.b i.queue i.tokens in
         let emits : emitted_from old.setup q (pulled d m visits) ≡ p ∷ [] = ap (λ o. filter (is_of_queue old.setup q) (cons_option o [])) got ∙ ap (λ t. if t then p ∷ [] else []) i.own in
         let first : inside_of old.setup i.room.device q old.events ≡ p ∷ inside_of old.setup i.room.device q (old.events ++ pulled d m visits ∷ []) =
-        inside-pulled old.setup law q i.room i.queue old.events can d m visits more ∙ ap (λ l. l ++ inside_of old.setup i.room.device q (old.events ++ pulled d m visits ∷ [])) emits
+        inside-pulled old.setup stand.law q i.room i.queue old.events stand.can d m visits more ∙ ap (λ l. l ++ inside_of old.setup i.room.device q (old.events ++ pulled d m visits ∷ [])) emits
         in
         let z = zip-first (IsTokenOf old.setup (map taken outlets)) p (inside_of old.setup i.room.device q (old.events ++ pulled d m visits ∷ [])) i.b.items (subst (λ l. AllZip (IsTokenOf old.setup (map taken outlets)) l i.b.items) first h.tokens) in
         record {
@@ -188,44 +204,43 @@ module _ (old : Course) (outlets : List Outlet) (buffers : List (Buffer ℕ)) (k
             subst (λ n. AreTokens old.setup (old.events ++ pulled d m visits ∷ []) (map taken outlets) n room b) (sym same)
             (subst (λ (r : Room). AreTokens old.setup (old.events ++ pulled d m visits ∷ []) (map taken outlets) i.spec.queue r b) its
             (subst (AreTokens old.setup (old.events ++ pulled d m visits ∷ []) (map taken outlets) i.spec.queue i.room) (sym is ∙ new_is)
-            (record { tokens = rest; capacity = (kept.tokens i.spec.queue i.room i.b i.queue i.tokens).capacity })))
+            (record { tokens = rest; capacity = (stand.kept.tokens i.spec.queue i.room i.b i.queue i.tokens).capacity })))
         by_queue new is rest k room b at (inr (other, here)) =
-            let none : sends_to old.setup.senders p.sender k ≡ false = other-queue old.setup.senders p.sender i.spec.queue k rising i.own other in
+            let none : sends_to old.setup.senders p.sender k ≡ false = other-queue old.setup.senders p.sender i.spec.queue k stand.rising i.own other in
             stay k room b at here (ap (λ o. filter (is_of_queue old.setup k) (cons_option o [])) got ∙ ap (λ t. if t then p ∷ [] else []) none)
 
-  module _ (place : ℕ) (o taker : Outlet) (its : slice_get outlets place ≡ Some o) (x : Item) (grows : taken taker ≡ taken o ++ x ∷ []) (few : length (taken o) < most_packets) (p : Packet) (outcome : Offered) (sender : sender_at old.setup place ≡ Some p.sender)
-      (bytes : p.length ≡ x.length) (more : CanHappen old.setup (old.events ++ offered p outcome ∷ [])) where
+  module _ {place : ℕ} {o taker : Outlet} {x : Item} {p : Packet} {outcome : Offered} (took : TookNext old outlets place o taker x p outcome) where
     pub number : p.number ≡ length (taken o)
-    number = number-is old.setup old.events p outcome more ∙ taken-many old outlets buffers kept can place p.sender o its sender
+    number = number-is old.setup old.events p outcome took.more ∙ taken-many old outlets buffers stand.kept stand.can place p.sender o took.its took.sender
 
     pub is-item : x ≡ packet_item p.length x.token
-    is-item = λ k. record { token = x.token; length = sym bytes k }
+    is-item = λ k. record { token = x.token; length = sym took.bytes k }
 
     pub its-token : IsTokenOf old.setup (map taken (set outlets place taker)) p x.token
-    its-token = token-comes old.setup outlets place o taker its p x.token sender (grows ∙ ap (λ (y : Item). taken o ++ y ∷ []) is-item) number
+    its-token = token-comes old.setup outlets place o taker took.its p x.token took.sender (took.grows ∙ ap (λ (y : Item). taken o ++ y ∷ []) is-item) number
 
     stays : (r : Packet) (token : ℕ) → IsTokenOf old.setup (map taken outlets) r token → IsTokenOf old.setup (map taken (set outlets place taker)) r token
-    stays = token-stays old.setup outlets place o taker its (x ∷ []) grows
+    stays = token-stays old.setup outlets place o taker took.its (x ∷ []) took.grows
 
     offers-more : (k : ℕ) (u : Outlet) (s : ℕ) → slice_get (set outlets place taker) k ≡ Some u → sender_at old.setup k ≡ Some s → AreOffered (old.events ++ offered p outcome ∷ []) s u
     offers-more k u s here at = by_place (set-cases outlets place k taker u here)
       where
         by_place : ((k ≡ place) × (taker ≡ u)) ⊎ (((k == place) ≡ false) × (slice_get outlets k ≡ Some u)) → AreOffered (old.events ++ offered p outcome ∷ []) s u
         by_place (inl (same, is)) =
-            let numbers : Some p.sender ≡ Some s = sym sender ∙ ap (sender_at old.setup) (sym same) ∙ at in
+            let numbers : Some p.sender ≡ Some s = sym took.sender ∙ ap (sender_at old.setup) (sym same) ∙ at in
             let named : p.sender ≡ s = cc numbers in
             let own : (p.sender == s) ≡ true = grind (arith, nat_tests, named) in
-            let h = kept.offers place o s its (ap (sender_at old.setup) (sym same) ∙ at) in
+            let h = stand.kept.offers place o s took.its (ap (sender_at old.setup) (sym same) ∙ at) in
             let longer = length-append (taken o) (x ∷ []) in
-            let many = ap length grows in
+            let many = ap length took.grows in
             subst (AreOffered (old.events ++ offered p outcome ∷ []) s) is
             (record {
-              lengths = ap (map item_length) grows ∙ map-append item_length (taken o) (x ∷ []) ∙ ap (λ l. l ++ x.length ∷ []) h.lengths ∙ ap (λ n. map packet_length (offered_of old.events s) ++ n ∷ []) (sym bytes)
+              lengths = ap (map item_length) took.grows ∙ map-append item_length (taken o) (x ∷ []) ∙ ap (λ l. l ++ x.length ∷ []) h.lengths ∙ ap (λ n. map packet_length (offered_of old.events s) ++ n ∷ []) (sym took.bytes)
                   ∙ sym (map-append packet_length (offered_of old.events s) (p ∷ [])) ∙ ap (map packet_length) (sym (offers-one old.events p outcome s own));
-              few = omega (arith, longer, many, few);
+              few = omega (arith, longer, many, took.few);
             })
         by_place (inr (other, there)) =
-            let h = kept.offers k u s there at in
+            let h = stand.kept.offers k u s there at in
             let not_its : (p.sender == s) ≡ false = not-its (p.sender == s) refl in
             record { lengths = h.lengths ∙ ap (map packet_length) (sym (offers-other old.events p outcome s not_its)); few = h.few }
           where
@@ -233,7 +248,7 @@ module _ (old : Course) (outlets : List Outlet) (buffers : List (Buffer ℕ)) (k
             not-its false e = refl
             not-its true e =
                 let named : p.sender ≡ s = eqb-true p.sender s e in
-                let same = one-place (sender_numbers old.setup) place k s rising (sender ∙ ap Some named) at in
+                let same = one-place (sender_numbers old.setup) place k s stand.rising (took.sender ∙ ap Some named) at in
                 absurd (grind (arith, nat_tests))
 
     module _ (i : ItsQueue place p.sender) where
@@ -241,18 +256,18 @@ module _ (old : Course) (outlets : List Outlet) (buffers : List (Buffer ℕ)) (k
       q = i.spec.queue
 
       was : AreTokens old.setup old.events (map taken outlets) i.spec.queue i.room i.b
-      was = kept.tokens i.spec.queue i.room i.b i.queue i.tokens
+      was = stand.kept.tokens i.spec.queue i.room i.b i.queue i.tokens
 
       tokens : AllZip (IsTokenOf old.setup (map taken (set outlets place taker))) (inside_of old.setup i.room.device i.spec.queue old.events) i.b.items
       tokens = zip-widened (IsTokenOf old.setup (map taken outlets)) (IsTokenOf old.setup (map taken (set outlets place taker))) stays (inside_of old.setup i.room.device i.spec.queue old.events) i.b.items was.tokens
 
       -- there is room for the token
       pub room-for : CanNote i.b i.room.capacity outcome
-      room-for = can-note old.setup law i.spec.queue i.room i.queue (IsTokenOf old.setup (map taken (set outlets place taker))) old.events can p i.own i.b tokens was.capacity outcome more
+      room-for = can-note old.setup stand.law i.spec.queue i.room i.queue (IsTokenOf old.setup (map taken (set outlets place taker))) old.events stand.can p i.own i.b tokens was.capacity outcome took.more
 
       module _ (noted : Outcome) (new : Buffer ℕ) (is : IsNoted i.b i.room.capacity x.token outcome noted new) where
         after-offer : Notes (IsTokenOf old.setup (map taken (set outlets place taker))) (inside_of old.setup i.room.device i.spec.queue (old.events ++ offered p outcome ∷ [])) i.b.capacity noted new
-        after-offer = notes old.setup law i.spec.queue i.room i.queue (IsTokenOf old.setup (map taken (set outlets place taker))) old.events can p i.own i.b tokens was.capacity x.token its-token outcome noted new more is
+        after-offer = notes old.setup stand.law i.spec.queue i.room i.queue (IsTokenOf old.setup (map taken (set outlets place taker))) old.events stand.can p i.own i.b tokens was.capacity x.token its-token outcome noted new took.more is
 
         pub evicted-has : EvictedHas (IsTokenOf old.setup (map taken (set outlets place taker))) noted
         evicted-has = after-offer.evicted
@@ -267,9 +282,9 @@ module _ (old : Course) (outlets : List Outlet) (buffers : List (Buffer ℕ)) (k
             (subst (AreTokens old.setup (old.events ++ offered p outcome ∷ []) (map taken (set outlets place taker)) i.spec.queue i.room) new_is
             (record { tokens = after-offer.tokens; capacity = after-offer.same ∙ was.capacity })))
         by_queue k room b at (inr (other, here)) =
-            let h = kept.tokens k room b at here in
-            let none : sends_to old.setup.senders p.sender k ≡ false = other-queue old.setup.senders p.sender i.spec.queue k rising i.own other in
-            let same = inside-same old.setup law k room at old.events can p outcome none in
+            let h = stand.kept.tokens k room b at here in
+            let none : sends_to old.setup.senders p.sender k ≡ false = other-queue old.setup.senders p.sender i.spec.queue k stand.rising i.own other in
+            let same = inside-same old.setup stand.law k room at old.events stand.can p outcome none in
             record {
               tokens = subst (λ l. AllZip (IsTokenOf old.setup (map taken (set outlets place taker))) l b.items) (sym same) (zip-widened (IsTokenOf old.setup (map taken outlets)) (IsTokenOf old.setup (map taken (set outlets place taker))) stays (inside_of old.setup room.device k old.events) b.items h.tokens);
               capacity = h.capacity;
@@ -277,11 +292,11 @@ module _ (old : Course) (outlets : List Outlet) (buffers : List (Buffer ℕ)) (k
 
         pub kept-offered : IsKept (after old (offered p outcome ∷ [])) (set outlets place taker) (set buffers i.spec.queue new)
         kept-offered = record {
-          places = length-set outlets place taker ∙ kept.places;
-          few_places = (let same = length-set outlets place taker in omega (arith, same, kept.few_places));
-          wired = kept.wired;
+          places = length-set outlets place taker ∙ stand.kept.places;
+          few_places = (let same = length-set outlets place taker in omega (arith, same, stand.kept.few_places));
+          wired = stand.kept.wired;
           offers = offers-more;
-          queues = length-set buffers i.spec.queue new ∙ kept.queues;
+          queues = length-set buffers i.spec.queue new ∙ stand.kept.queues;
           tokens = λ k room b at here. by_queue k room b at (set-cases buffers i.spec.queue k new b here);
         }
 
@@ -303,66 +318,78 @@ found setup s (Some place) missing at = search
 pub read-is : (buffers : List (Buffer ℕ)) (n q : ℕ) (b read : Buffer ℕ) → n ≡ q → slice_get buffers q ≡ Some b → read ≡ get_or buffers n read → read ≡ b
 read-is buffers n q b read same at is = is ∙ ap (λ k. get_or buffers k read) same ∙ get_or_from_slice_get buffers q b read at
 
-module _ (old : Course) (outlets : List Outlet) (buffers : List (Buffer ℕ)) (kept : IsKept old outlets buffers) (law : QueuesGoOn old.setup) (rising : AreRising (sender_numbers old.setup)) (can : CanHappen old.setup old.events)
-    (new : Course) (d m : ℕ) (got : Option Packet) (pull : IsPulled old new d m got) (can_new : CanHappen new.setup new.events) where
-  goes : CanHappen old.setup (old.events ++ pulled d m pull.visits ∷ [])
-  goes = subst (λ (c : Course). CanHappen c.setup c.events) pull.goes_on can_new
+-- The sender of the packet that was emitted stands at this place, and these are the accounts of all senders.
+pub record FoundSender (new : Course) (got : Option Packet) (p : Packet) (place : ℕ) (accounts : List Account) : Type 0 where
+  pub gave : got ≡ Some p
+  pub at : sender_at new.setup place ≡ Some p.sender
+  pub are : accounts ≡ map (account_after new.events) new.setup.senders
+
+-- A device was pulled once.
+pub record PullsOnce (old new : Course) (outlets : List Outlet) (buffers : List (Buffer ℕ)) (d m : ℕ) (got : Option Packet) : Type 0 where
+  pub stand : Stands old outlets buffers
+  pub pull : IsPulled old new d m got
+  pub can_new : CanHappen new.setup new.events
+
+module _ {old new : Course} {outlets : List Outlet} {buffers : List (Buffer ℕ)} {d m : ℕ} {got : Option Packet} (h : PullsOnce old new outlets buffers d m got) where
+  goes : CanHappen old.setup (old.events ++ pulled d m h.pull.visits ∷ [])
+  goes = subst (λ (c : Course). CanHappen c.setup c.events) h.pull.goes_on h.can_new
 
   pub pulled-none : got ≡ None → IsKept new outlets buffers
-  pulled-none none = subst (λ (c : Course). IsKept c outlets buffers) (sym pull.goes_on) (kept-none old outlets buffers kept law rising can d m pull.visits goes (pull.result ∙ none))
+  pulled-none none = subst (λ (c : Course). IsKept c outlets buffers) (sym h.pull.goes_on) (kept-none h.stand d m h.pull.visits goes (h.pull.result ∙ none))
 
   module _ (p : Packet) (gave : got ≡ Some p) where
     known : (i : ℕ) × (sender_at new.setup i ≡ Some p.sender)
     known =
-        subst (λ (c : Course). (i : ℕ) × (sender_at c.setup i ≡ Some p.sender)) (sym pull.goes_on)
+        subst (λ (c : Course). (i : ℕ) × (sender_at c.setup i ≡ Some p.sender)) (sym h.pull.goes_on)
         (stands-at (sender_numbers old.setup) p.sender
-        (subst (λ o. MatchOption o ⊤ (λ (r : Packet). list_any (λ n. n == r.sender) (sender_numbers old.setup) ≡ true)) (pull.result ∙ gave) (law.of_senders old.events d m pull.visits goes)))
+        (subst (λ o. MatchOption o ⊤ (λ (r : Packet). list_any (λ n. n == r.sender) (sender_numbers old.setup) ≡ true)) (h.pull.result ∙ gave) (h.stand.law.of_senders old.events d m h.pull.visits goes)))
 
     -- the sender of the packet is found
     pub sender-found : (o : Option ℕ) → (o ≡ None → (place : ℕ) → sender_at new.setup place ≡ Some p.sender → ⊥) → IsSome o
     sender-found o missing = found new.setup p.sender o missing known
 
-    module _ (place : ℕ) (at : sender_at new.setup place ≡ Some p.sender) (accounts : List Account) (are : accounts ≡ map (account_after new.events) new.setup.senders) where
-      queue : ItsQueue old outlets buffers kept law rising can place p.sender
-      queue = its-queue old outlets buffers kept law rising can place p.sender (subst (λ (c : Course). sender_at c.setup place ≡ Some p.sender) pull.goes_on at)
+  -- its sender was found
+  module _ {p : Packet} {place : ℕ} {accounts : List Account} (f : FoundSender new got p place accounts) where
+    queue : ItsQueue h.stand place p.sender
+    queue = its-queue h.stand place p.sender (subst (λ (c : Course). sender_at c.setup place ≡ Some p.sender) h.pull.goes_on f.at)
 
-      same_accounts : accounts ≡ map (account_after new.events) old.setup.senders
-      same_accounts = are ∙ ap (λ (c : Course). map (account_after new.events) c.setup.senders) pull.goes_on
+    same_accounts : accounts ≡ map (account_after new.events) old.setup.senders
+    same_accounts = f.are ∙ ap (λ (c : Course). map (account_after new.events) c.setup.senders) h.pull.goes_on
 
-      pub account-there : place < length accounts
-      account-there =
-          let within = slice_get_within old.setup.senders place queue.spec queue.at in
-          let many = ap length same_accounts ∙ length-map old.setup.senders (account_after new.events) in
-          omega (arith, within, many)
+    pub account-there : place < length accounts
+    account-there =
+        let within = slice_get_within old.setup.senders place queue.spec queue.at in
+        let many = ap length same_accounts ∙ length-map old.setup.senders (account_after new.events) in
+        omega (arith, within, many)
 
-      module _ (n : ℕ) (default : Account) (told : n ≡ (get_or accounts place default).queue) where
-        queue-is : n ≡ queue.spec.queue
-        queue-is = told ∙ account-queue new.events old.setup.senders accounts place queue.spec default same_accounts queue.at
+    module _ (n : ℕ) (told : n ≡ (get_or accounts place no_account).queue) where
+      queue-is : n ≡ queue.spec.queue
+      queue-is = told ∙ account-queue new.events old.setup.senders accounts place queue.spec no_account same_accounts queue.at
 
-        pub tokens-there : n < length buffers
-        tokens-there = let within = slice_get_within buffers queue.spec.queue queue.b queue.tokens in omega (arith, within, queue-is)
+      pub tokens-there : n < length buffers
+      tokens-there = let within = slice_get_within buffers queue.spec.queue queue.b queue.tokens in omega (arith, within, queue-is)
 
-        module _ (read : Buffer ℕ) (is : read ≡ get_or buffers n read) where
-          own : read ≡ queue.b
-          own = read-is buffers n queue.spec.queue queue.b read queue-is queue.tokens is
+      module _ (read : Buffer ℕ) (is : read ≡ get_or buffers n read) where
+        own : read ≡ queue.b
+        own = read-is buffers n queue.spec.queue queue.b read queue-is queue.tokens is
 
-          popped : Popped old outlets buffers kept law rising can d m pull.visits goes p queue.spec.queue queue.b
-          popped = kept-some old outlets buffers kept law rising can d m pull.visits goes p place queue (pull.result ∙ gave)
+        popped : Popped h.stand d m h.pull.visits goes p queue.spec.queue queue.b
+        popped = kept-some h.stand d m h.pull.visits goes p place queue (h.pull.result ∙ f.gave)
 
-          first : slice_get read.items 0 ≡ Some popped.token
-          first = ap (λ (b : Buffer ℕ). slice_get b.items 0) own ∙ popped.first
+        first : slice_get read.items 0 ≡ Some popped.token
+        first = ap (λ (b : Buffer ℕ). slice_get b.items 0) own ∙ popped.first
 
-          pub token-there : (o : Option ℕ) → o ≡ slice_get read.items 0 → IsSome o
-          token-there o e = subst IsSome (sym (e ∙ first)) search
+        pub token-there : (o : Option ℕ) → o ≡ slice_get read.items 0 → IsSome o
+        token-there o e = subst IsSome (sym (e ∙ first)) search
 
-          pub token-is : (o : Option ℕ) (token : ℕ) → o ≡ slice_get read.items 0 → o ≡ Some token → IsTokenOf old.setup (map taken outlets) p token
-          token-is o token e some = let same : Some popped.token ≡ Some token = sym first ∙ sym e ∙ some in let one : popped.token ≡ token = cc same in subst (IsTokenOf old.setup (map taken outlets) p) one popped.its
+        pub token-is : (o : Option ℕ) (token : ℕ) → o ≡ slice_get read.items 0 → o ≡ Some token → IsTokenOf old.setup (map taken outlets) p token
+        token-is o token e some = let same : Some popped.token ≡ Some token = sym first ∙ sym e ∙ some in let one : popped.token ≡ token = cc same in subst (IsTokenOf old.setup (map taken outlets) p) one popped.its
 
-          pub pulled-some : (left : Buffer ℕ) → left ≡ buffer (drop 1 read.items) read.capacity → IsKept new outlets (set buffers n left)
-          pulled-some left e =
-              subst (λ k. IsKept new outlets (set buffers k left)) (sym queue-is)
-              (subst (λ (c : Course). IsKept c outlets (set buffers queue.spec.queue left)) (sym pull.goes_on)
-              (popped.goes_on left (e ∙ ap (λ (b : Buffer ℕ). buffer (drop 1 b.items) b.capacity) own)))
+        pub pulled-some : (left : Buffer ℕ) → left ≡ buffer (drop 1 read.items) read.capacity → IsKept new outlets (set buffers n left)
+        pulled-some left e =
+            subst (λ k. IsKept new outlets (set buffers k left)) (sym queue-is)
+            (subst (λ (c : Course). IsKept c outlets (set buffers queue.spec.queue left)) (sym h.pull.goes_on)
+            (popped.goes_on left (e ∙ ap (λ (b : Buffer ℕ). buffer (drop 1 b.items) b.capacity) own)))
 
 module _ (old : Course) (outlets : List Outlet) (buffers : List (Buffer ℕ)) (kept : IsKept old outlets buffers) (place : ℕ) (o taker : Outlet) (its : slice_get outlets place ≡ Some o) where
   -- the outlet took no packet
