@@ -1,4 +1,5 @@
--- Lemmas on what a live router keeps.
+-- Lemmas on what a live router keeps, of which `Callers` has those that crates above may cite too.
+pub mod Callers
 mod Lists
 mod Outlets
 mod Counts

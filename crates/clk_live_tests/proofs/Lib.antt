@@ -1,2 +1,2 @@
--- Lemmas on a live router and its inlets.
-pub mod Halves
+-- Lemmas on inlets that come back to a live router.
+pub mod Sending

@@ -10,6 +10,8 @@ mod many;
 #[cfg(test)]
 mod memory;
 #[cfg(test)]
+mod returning;
+#[cfg(test)]
 mod rounds;
 #[cfg(test)]
 mod rows;

@@ -1,5 +1,8 @@
 //! What the thread of a live router takes and emits, and whether it is all that was sent.
 
+ghost use Rattle.std.specs.Prelude.{◌≤◌, length};
+ghost use Rattle.clk_live.specs.State.{AllGoOn};
+
 use crate::senders::{SENDERS, length_of};
 use crate::steps::{EMPTY_SLOT, token_of};
 use clk_live::{Emitted, Live, Outcome, Taken};
@@ -26,6 +29,47 @@ impl Seen {
     }
 }
 
+// Takes a round of at most two packets of each sender.
+fn take_round(live: &mut Live, only_fitting: bool, slots: &mut [Taken]) -> usize
+    ensures count { result ≤ length slots.new }
+    ensures outlets { AllGoOn live.old.outlets live.new.outlets }
+{
+    if only_fitting {
+        return live.take_in_fitting(2, slots);
+    }
+    live.take_in(2, slots)
+}
+
+// What a round and a pull came to.
+enum Turn {
+    Moved,
+    Idle,
+    // No pull is left.
+    AtEnd,
+}
+
+// Takes a round, and pulls once.
+fn take_turn(live: &mut Live, only_fitting: bool, seen: &mut Seen) -> Result<Turn, AllocError>
+    ensures outlets { AllGoOn live.old.outlets live.new.outlets }
+{
+    let mut slots = [EMPTY_SLOT; 6];
+    let count = take_round(live, only_fitting, &mut slots);
+    seen.taken.extend_from_slice(&slots[..count])?;
+    if !live.router().can_pull(0, 0) {
+        return Ok(Turn::AtEnd);
+    }
+    if let Some(emitted) = live.pull(0, 0) {
+        seen.emitted.push(emitted)?;
+        return Ok(Turn::Moved);
+    }
+    Ok(if count > 0 { Turn::Moved } else { Turn::Idle })
+}
+
+// Whether all senders have ended and no packet is left.
+fn is_over(live: &Live) -> bool {
+    live.is_ended() && live.is_drained()
+}
+
 /// Takes and pulls in turn, until all senders have ended and no packet is left, or until so many packets were emitted.
 pub fn take_and_pull(
     rt: &impl Wait,
@@ -33,25 +77,17 @@ pub fn take_and_pull(
     only_fitting: bool,
     most: usize,
     seen: &mut Seen,
-) -> Result<(), AllocError> {
-    let mut slots = [EMPTY_SLOT; 6];
+) -> Result<(), AllocError>
+    ensures outlets { AllGoOn live.old.outlets live.new.outlets }
+{
     for _ in rt.forever() {
-        if seen.emitted.len() >= most || (live.is_ended() && live.is_drained()) {
+        if seen.emitted.len() >= most || is_over(live) {
             break;
         }
-        let count = if only_fitting {
-            live.take_in_fitting(2, &mut slots)
-        } else {
-            live.take_in(2, &mut slots)
-        };
-        seen.taken.extend_from_slice(&slots[..count])?;
-        if !live.router().can_pull(0, 0) {
-            break;
-        }
-        match live.pull(0, 0) {
-            Some(emitted) => seen.emitted.push(emitted)?,
-            None if count == 0 => thread::yield_now(),
-            None => {}
+        match take_turn(live, only_fitting, seen)? {
+            Turn::Moved => {}
+            Turn::Idle => thread::yield_now(),
+            Turn::AtEnd => break,
         }
     }
     Ok(())

@@ -42,7 +42,7 @@ fn send_at(rt: &impl Abort, live: &Live, inlets: &mut [Inlet], place: usize)
 }
 
 // Takes the next packet of the sender at this place, and says whether one was there.
-#[tactic(auto, using(crate::proofs::Halves::all_go_on))]
+#[tactic(auto, using(clk_live::proofs::Callers::Halves::all_go_on))]
 fn takes(rt: &impl Abort, live: &mut Live, inlets: &[Inlet], place: usize) -> bool
     requires halves { AllZip AreHalves inlets.now live.old.outlets }
     ensures halves { AllZip AreHalves inlets.now live.new.outlets }

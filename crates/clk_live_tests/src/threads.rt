@@ -12,8 +12,8 @@ use std::test::Fail;
 use std::thread;
 use std::thread::Threads;
 
-// Queues that are soon full, of which one refuses and another evicts, below a DRRSched that holds heads.
-const LOSSY: &str = "a :: Sender(2); b :: Sender(4); c :: Sender(6); e :: Sender(8);
+/// Queues that are soon full, of which one refuses and another evicts, below a DRRSched that holds heads.
+pub const LOSSY: &str = "a :: Sender(2); b :: Sender(4); c :: Sender(6); e :: Sender(8);
     q :: Queue(4); f :: FrontDropQueue(3); g :: Queue(2);
     x :: DRRSched(500); y :: PrioSched; d :: ToDevice(link);
     a -> q -> [0] x; b -> f -> [1] x; c -> f; e -> g -> [1] y; x -> [0] y; y -> d;";

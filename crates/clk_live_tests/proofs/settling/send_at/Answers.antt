@@ -1,6 +1,6 @@
 use Rattle.std.proofs.Common.{get_or}
 use Rattle.std.proofs.lemmas.Option.{slice_get-get_or}
-use Rattle.clk_live_tests.proofs.Halves.{one_goes_on}
+use Rattle.clk_live.proofs.Callers.Halves.{one_goes_on}
 use Rattle.clk_live_tests.proofs.settling.send_at.Goals as goal
 
 pub returns : goal.returns

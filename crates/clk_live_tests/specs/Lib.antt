@@ -1,0 +1,2 @@
+-- What tests say of senders on threads.
+pub mod Sending
