@@ -3,6 +3,7 @@ mod FieldLemmas
 mod NumberLemmas
 mod LineLemmas
 mod PlainLines
+mod Record
 mod Alike
 mod RecorderLemmas
 mod DrainLemmas

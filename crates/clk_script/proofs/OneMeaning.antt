@@ -2,7 +2,7 @@
 use Rattle.std.proofs.Common.{◌≡◌, ℕ, ◌+◌, ◌≤◌, ◌<◌, ◌==◌, ◌&&◌, ◌||◌, is_some, Bool, true, false, List, [], ◌∷◌, ◌++◌, length, map, max, fold, if◌then◌else◌, Option, Some, None, IsSome, IfSome, MatchOption, slice_get, zero, suc, refl, sym, ap, ap₂, ◌∙◌, subst, zero-add, arith}
 use Rattle.std.specs.Bool.{⊤}
 use Rattle.std.specs.Option.{option_or}
-use Rattle.std.specs.List.{flat_map, filter_map, cons_option, range_with_len, AllByRecursion, list_any}
+use Rattle.std.specs.List.{filter_map, cons_option, range_with_len, AllByRecursion, list_any}
 use Rattle.std.proofs.lemmas.Bool.{false≢true}
 use Rattle.std.proofs.lemmas.Bool.Decides.{nat_tests}
 use Rattle.std.proofs.lemmas.List.{append_assoc, append-nil}
@@ -20,14 +20,14 @@ use Rattle.clk_sched.specs.Results.{asks_queue}
 use Rattle.clk_sched.specs.Choice.{answers_of, GoAlike, PullsLeaveNoChoice}
 use Rattle.clk_tree.specs.declared.plan.parts.SenderSpec.{SenderSpec}
 use Rattle.clk_tree.specs.PlanParts.{number_of}
-use Rattle.clk_router.specs.Events.{Room, Setup, sender_numbers, Event, offered, pulled, events_at, number_from, numbers_of, pull_in, moment_in, sends_to, answers_in, at_queue, history, IsOfDevice, NamesItsOffer, RunsTree, CanHappen, pulls_from, closing_pulls, Closes}
-use Rattle.clk_script.specs.Meaning.{names_of, has_several, command_of, event_text, closing_text, CloseFirst, IsClosed, ending_text, Writes}
+use Rattle.clk_router.specs.Events.{Room, Setup, sender_numbers, Event, offered, pulled, events_at, number_from, numbers_of, pull_in, moment_in, sends_to, answers_in, at_queue, history, IsOfDevice, NamesItsOffer, RunsTree, CanHappen, pulls_from, closing_pulls, Closes, logs_of}
+use Rattle.clk_script.specs.Meaning.{names_of, command_of, course_text, CloseFirst, IsClosed, Writes, MeansWith}
 use Rattle.clk_script.specs.declared.script.Command.{Command}
 use Rattle.clk_script.specs.Script.{commands_of, closing_moment}
 use Rattle.clk_script.specs.Examples.{two_queues}
 use Rattle.clk_script.specs.inside.Recorder.{IsSound}
 use Rattle.clk_router.specs.Setups.{IsWired}
-use Rattle.clk_script.specs.OneMeaning.{HasAtMostOneMeaning}
+use Rattle.clk_script.specs.OneMeaning.{HasAtMostOneLog, HasAtMostOneMeaning}
 use Rattle.clk_script.proofs.Alike.{member-between, packet-same, pulls-alike, its-moment, events-at-pull, number-at}
 use Rattle.clk_script.proofs.ScriptLemmas.{each-command-sound}
 
@@ -282,14 +282,11 @@ same-closed setup wired law runs None events one other a b can happens = a ∙ s
 same-closed setup wired law runs (Some moment) events one other a b can happens =
     same-first setup wired law runs moment (length setup.trees) events one other [] [] a b (rw append-nil can) (rw append-nil happens)
 
-same-writing : (setup : Setup) → IsWired setup → HistoriesLeaveNoChoice → ((tree : Tree) → PullsLeaveNoChoice tree) → (commands : List Command) → AllByRecursion (IsSound (names_of setup)) commands
-    → (drain : Option ℕ) (one other : List ℕ) (logs others : List (List Visit)) → Writes setup commands drain one logs → Writes setup commands drain other others → one ≡ other
-same-writing setup wired law runs commands sound drain one other logs others a b =
-    a.lines ∙ ap₂ text events closed ∙ sym b.lines
+-- two writings of the same commands have the same events and the same closing
+same-course : (setup : Setup) → IsWired setup → HistoriesLeaveNoChoice → ((tree : Tree) → PullsLeaveNoChoice tree) → (commands : List Command) → AllByRecursion (IsSound (names_of setup)) commands
+    → (drain : Option ℕ) (one other : List ℕ) (logs others : List (List Visit)) (a : Writes setup commands drain one logs) (b : Writes setup commands drain other others) → (a.events ≡ b.events) × (a.closed ≡ b.closed)
+same-course setup wired law runs commands sound drain one other logs others a b = (events, closed)
   where
-    text : List Event → List Event → List ℕ
-    text es cs = flat_map (event_text (has_several setup)) es ++ (flat_map (closing_text (has_several setup)) cs ++ ending_text setup drain (es ++ cs))
-
     events : a.events ≡ b.events
     events =
         same-events setup wired law runs [] a.events b.events a.closed b.closed a.can_happen b.can_happen (a.theirs ∙ sym b.theirs)
@@ -300,9 +297,21 @@ same-writing setup wired law runs commands sound drain one other logs others a b
         same-closed setup wired law runs drain a.events a.closed b.closed a.closes (subst (λ es. IsClosed setup drain es b.closed) (sym events) b.closes) a.can_happen
         (subst (λ es. CanHappen setup (es ++ b.closed)) (sym events) b.can_happen)
 
+-- so have two meanings of a script
+same-meanings : (setup : Setup) → IsWired setup → HistoriesLeaveNoChoice → ((tree : Tree) → PullsLeaveNoChoice tree) → (script one other : List ℕ) (logs others : List (List Visit)) (a : MeansWith setup script one logs)
+    (b : MeansWith setup script other others) → (a.written.events ≡ b.written.events) × (a.written.closed ≡ b.written.closed)
+same-meanings setup wired law runs script one other logs others a b =
+    same-course setup wired law runs (commands_of script) (each-command-sound (names_of setup) script a.sound) (closing_moment script) one other logs others a.written b.written
+
 pub has-one_meaning : (setup : Setup) → IsWired setup → HistoriesLeaveNoChoice → ((tree : Tree) → PullsLeaveNoChoice tree) → HasAtMostOneMeaning setup
 has-one_meaning setup wired law runs script one other a b =
-    same-writing setup wired law runs (commands_of script) (each-command-sound (names_of setup) script a.1.sound) (closing_moment script) one other a.0 b.0 a.1.written b.1.written
+    let same = same-meanings setup wired law runs script one other a.0 b.0 a.1 b.1 in
+    a.1.written.lines ∙ ap₂ (course_text setup (closing_moment script)) same.0 same.1 ∙ sym b.1.written.lines
+
+pub has-one_log : (setup : Setup) → IsWired setup → HistoriesLeaveNoChoice → ((tree : Tree) → PullsLeaveNoChoice tree) → HasAtMostOneLog setup
+has-one_log setup wired law runs script one other logs others a b =
+    let same = same-meanings setup wired law runs script one other logs others a b in
+    a.written.logged ∙ ap₂ (λ events closed. logs_of setup (events ++ closed)) same.0 same.1 ∙ sym b.written.logged
 
 -- the queues of the examples are there
 pub two_queues-wired : IsWired two_queues

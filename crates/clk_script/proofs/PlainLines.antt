@@ -1,10 +1,12 @@
 -- Lines that are as they are written without need: a word, and numbers each after one space, up to a line feed.
-use Rattle.std.proofs.Common.{◌≡◌, ℕ, ◌-◌, ◌==◌, Bool, true, false, zero, suc, List, [], ◌∷◌, ◌++◌, length, filter, map, codes, slice_index, refl, sym, ap, ◌∙◌, append_assoc, arith}
-use Rattle.std.specs.List.{slice_split, All}
+use Rattle.std.proofs.Common.{◌≡◌, ℕ, ◌-◌, ◌==◌, Bool, true, false, nat_lt, List, [], ◌∷◌, ◌++◌, length, filter, map, codes, slice_index, refl, sym, ap, ◌∙◌, append_assoc, arith}
+use Rattle.std.specs.List.{slice_split, list_all, All, AllByRecursion}
 use Rattle.std.specs.Char.{is_ascii_digit}
 use Rattle.std.specs.Str.{all_ascii_digits}
 use Rattle.std.specs.Str.Lines.{lines, lines_of_parts, strip_carriage_return}
+use Rattle.std.proofs.lemmas.Bool.{and_parts}
 use Rattle.std.proofs.lemmas.Bool.Decides.{nat_tests}
+use Rattle.std.proofs.lemmas.List.Elements.{All-nil, All-cons, All-append}
 use Rattle.std.proofs.lemmas.List.Splits.{slice_split_at, slice_split_none, length-slice_split}
 use Rattle.clk_packet.specs.Limits.{most_sender, most_length}
 use Rattle.clk_script.specs.declared.script.Command.TheVariants.{Send, Pull}
@@ -13,37 +15,61 @@ use Rattle.clk_packet.specs.Numbers.{BeginsWithNumber, has_bytes}
 use Rattle.clk_packet.proofs.Callers.Numbers.{AreDigits, number-digits}
 use Rattle.clk_script.specs.Script.{is_blank, fields, line_of_fields, line_of, lines_of, most_moment}
 
--- each digit fails a test that no digit passes
-each-fails : (p : ℕ → Bool) → ((d : ℕ) → is_ascii_digit d ≡ true → p d ≡ false) → (digits : List ℕ) → all_ascii_digits digits ≡ true → All (λ d. p d ≡ false) digits
-each-fails p fails [] all = λ k d l. absurd (omega (arith, l))
-each-fails p fails (byte ∷ digits) all = by_digit (is_ascii_digit byte) refl (each-fails p fails digits)
-  where
-    by_digit : (b : Bool) → is_ascii_digit byte ≡ b → (all_ascii_digits digits ≡ true → All (λ d. p d ≡ false) digits) → All (λ d. p d ≡ false) (byte ∷ digits)
-    by_digit true f rest = at
-      where
-        at : All (λ d. p d ≡ false) (byte ∷ digits)
-        at zero d l = fails byte f
-        at (suc k) d l = rest (rw f at all) k d (omega (arith, l))
-    by_digit false f rest = let no = rw f at all in absurd (cc)
+-- a byte above the space, as those of words and numbers: it is no blank, and ends no line
+abbrev is_visible : ℕ → Bool
+is_visible byte = nat_lt 32 byte
 
-no-blank : (d : ℕ) → is_ascii_digit d ≡ true → is_blank d ≡ false
-no-blank d e = grind (arith, nat_tests)
+-- the bytes of a field
+pub record IsField (bytes : List ℕ) : Type 0 where
+  pub some : has_bytes bytes ≡ true
+  pub all : list_all is_visible bytes ≡ true
 
-no-feed : (d : ℕ) → is_ascii_digit d ≡ true → (d == 10) ≡ false
-no-feed d e = grind (arith, nat_tests)
+no-blank : (byte : ℕ) → is_visible byte ≡ true → is_blank byte ≡ false
+no-blank byte e = grind (arith, nat_tests)
 
--- what fails at each byte of two lists fails at each of both
-all-cons : (p : ℕ → Bool) (x : ℕ) (xs : List ℕ) → p x ≡ false → All (λ d. p d ≡ false) xs → All (λ d. p d ≡ false) (x ∷ xs)
-all-cons p x xs e h zero d l = e
-all-cons p x xs e h (suc k) d l = h k d (omega (arith, l))
+no-feed : (byte : ℕ) → is_visible byte ≡ true → (byte == 10) ≡ false
+no-feed byte e = grind (arith, nat_tests)
 
-all-append : (p : ℕ → Bool) (xs ys : List ℕ) → All (λ d. p d ≡ false) xs → All (λ d. p d ≡ false) ys → All (λ d. p d ≡ false) (xs ++ ys)
-all-append p [] ys h k = k
-all-append p (x ∷ xs) ys h k = all-cons p x (xs ++ ys) (h 0 0 (omega arith)) (all-append p xs ys (λ i d l. h (suc i) d (omega (arith, l))) k)
+no-return : (byte : ℕ) → is_visible byte ≡ true → (byte == 13) ≡ false
+no-return byte e = grind (arith, nat_tests)
 
--- four bytes and a space, or four bytes
-all-four : (p : ℕ → Bool) (a b c d : ℕ) → p a ≡ false → p b ≡ false → p c ≡ false → p d ≡ false → All (λ x. p x ≡ false) (a ∷ b ∷ c ∷ d ∷ [])
-all-four p a b c d e f g h = all-cons p a (b ∷ c ∷ d ∷ []) e (all-cons p b (c ∷ d ∷ []) f (all-cons p c (d ∷ []) g (all-cons p d [] h (λ k x l. absurd (omega (arith, l))))))
+digit-visible : (d : ℕ) → is_ascii_digit d ≡ true → is_visible d ≡ true
+digit-visible d e = grind (arith, nat_tests)
+
+digits-visible : (digits : List ℕ) → all_ascii_digits digits ≡ true → list_all is_visible digits ≡ true
+digits-visible [] all = refl
+digits-visible (d ∷ digits) all =
+    let parts = and_parts (is_ascii_digit d) (all_ascii_digits digits) all in
+    rw (digit-visible d parts.0) (digits-visible digits parts.1)
+
+-- the digits of a number are a field
+pub digits-field : (digits : List ℕ) → AreDigits digits → IsField digits
+digits-field digits are = record { some = are.some; all = digits-visible digits are.all }
+
+-- each byte of a field fails a test that no visible byte passes
+each-fails : (p : ℕ → Bool) → ((byte : ℕ) → is_visible byte ≡ true → p byte ≡ false) → (bytes : List ℕ) → list_all is_visible bytes ≡ true → All (λ d. p d ≡ false) bytes
+each-fails p fails [] all = All-nil (λ d. p d ≡ false)
+each-fails p fails (byte ∷ bytes) all =
+    let parts = and_parts (is_visible byte) (list_all is_visible bytes) all in
+    All-cons (λ d. p d ≡ false) byte bytes (fails byte parts.0) (each-fails p fails bytes parts.1)
+
+-- fields, each after one space but the first
+abbrev pub spaced : List ℕ → List (List ℕ) → List ℕ
+spaced field [] = field
+spaced field (next ∷ more) = field ++ 32 ∷ spaced next more
+
+spaced-fails : (p : ℕ → Bool) → ((byte : ℕ) → is_visible byte ≡ true → p byte ≡ false) → p 32 ≡ false → (field : List ℕ) (more : List (List ℕ)) → IsField field → AllByRecursion IsField more
+    → All (λ d. p d ≡ false) (spaced field more)
+spaced-fails p fails space field [] is are = each-fails p fails field is.all
+spaced-fails p fails space field (next ∷ more) is are =
+    All-append (λ d. p d ≡ false) field (32 ∷ spaced next more) (each-fails p fails field is.all)
+    (All-cons (λ d. p d ≡ false) 32 (spaced next more) space (spaced-fails p fails space next more are.0 are.1))
+
+fields-spaced : (field : List ℕ) (more : List (List ℕ)) → IsField field → AllByRecursion IsField more → fields (spaced field more) ≡ field ∷ more
+fields-spaced field [] is are = ap (filter has_bytes) (slice_split_none is_blank field (each-fails is_blank no-blank field is.all)) ∙ rw is.some refl
+fields-spaced field (next ∷ more) is are =
+    ap (filter has_bytes) (slice_split_at is_blank field 32 (spaced next more) (each-fails is_blank no-blank field is.all) refl)
+    ∙ rw is.some (ap (λ l. field ∷ l) (fields-spaced next more are.0 are.1))
 
 -- a line before a line feed, in which there is no other and no carriage return
 split-more : (line rest : List ℕ) (parts : List (List ℕ)) → slice_split (λ byte. byte == 10) rest ≡ parts → lines_of_parts (line ∷ slice_split (λ byte. byte == 10) rest) ≡ strip_carriage_return line ∷ lines rest
@@ -58,63 +84,35 @@ lines-plain : (xs rest : List ℕ) → All (λ d. (d == 10) ≡ false) xs → Al
 lines-plain xs rest feeds returns =
     ap lines_of_parts (slice_split_at (λ byte. byte == 10) xs 10 rest feeds refl) ∙ split-more xs rest (slice_split (λ byte. byte == 10) rest) refl ∙ ap (λ l. l ∷ lines rest) (keeps-end xs returns)
 
-no-return : (d : ℕ) → is_ascii_digit d ≡ true → (d == 13) ≡ false
-no-return d e = grind (arith, nat_tests)
-
--- the fields of a word and one number, and of a word and two
-fields-one : (a b c d : ℕ) (digits : List ℕ) → is_blank a ≡ false → is_blank b ≡ false → is_blank c ≡ false → is_blank d ≡ false → AreDigits digits
-    → fields (a ∷ b ∷ c ∷ d ∷ 32 ∷ digits) ≡ (a ∷ b ∷ c ∷ d ∷ []) ∷ digits ∷ []
-fields-one a b c d digits e f g h are =
-    ap (filter has_bytes)
-    (slice_split_at is_blank (a ∷ b ∷ c ∷ d ∷ []) 32 digits (all-four is_blank a b c d e f g h) refl
-    ∙ ap (λ l. (a ∷ b ∷ c ∷ d ∷ []) ∷ l) (slice_split_none is_blank digits (each-fails is_blank no-blank digits are.all)))
-    ∙ rw are.some refl
-
-fields-two : (a b c d : ℕ) (first second : List ℕ) → is_blank a ≡ false → is_blank b ≡ false → is_blank c ≡ false → is_blank d ≡ false → AreDigits first → AreDigits second
-    → fields (a ∷ b ∷ c ∷ d ∷ 32 ∷ (first ++ 32 ∷ second)) ≡ (a ∷ b ∷ c ∷ d ∷ []) ∷ first ∷ second ∷ []
-fields-two a b c d first second e f g h are also =
-    ap (filter has_bytes)
-    (slice_split_at is_blank (a ∷ b ∷ c ∷ d ∷ []) 32 (first ++ 32 ∷ second) (all-four is_blank a b c d e f g h) refl
-    ∙ ap (λ l. (a ∷ b ∷ c ∷ d ∷ []) ∷ l)
-    (slice_split_at is_blank first 32 second (each-fails is_blank no-blank first are.all) refl ∙ ap (λ l. first ∷ l) (slice_split_none is_blank second (each-fails is_blank no-blank second also.all))))
-    ∙ rw (are.some, also.some) refl
+-- fields with a space between two, and a line feed, are the line that they say
+pub line-spaced : (field : List ℕ) (more : List (List ℕ)) (rest : List ℕ) → IsField field → AllByRecursion IsField more → lines_of (spaced field more ++ 10 ∷ rest) ≡ line_of_fields (field ∷ more) ∷ lines_of rest
+line-spaced field more rest is are =
+    ap (map line_of) (lines-plain (spaced field more) rest (spaced-fails (λ b. b == 10) no-feed refl field more is are) (spaced-fails (λ b. b == 13) no-return refl field more is are))
+    ∙ ap (λ l. line_of_fields l ∷ lines_of rest) (fields-spaced field more is are)
 
 -- `pull M` and a line feed
 pub plain-pull : (text : List ℕ) (moment : ℕ) (rest : List ℕ) → BeginsWithNumber text 10 0 most_moment moment rest → lines_of (codes "pull " ++ text) ≡ line.Command (Pull 0 moment) ∷ lines_of rest
 plain-pull text moment rest h =
-    ap (λ t. lines_of (codes "pull " ++ t)) h.text_is ∙ ap (map line_of) (lines-plain (codes "pull " ++ h.digits) rest (word-fails (λ b. b == 10) refl refl refl refl refl no-feed) (word-fails (λ b. b == 13) refl refl refl refl refl no-return))
-    ∙ ap (λ l. l ∷ lines_of rest) is
+    ap (λ t. lines_of (codes "pull " ++ t)) h.text_is ∙ line-spaced (codes "pull") (h.digits ∷ []) rest (record { some = refl; all = refl }) (digits, tt) ∙ ap (λ l. l ∷ lines_of rest) is
   where
-    digits : AreDigits h.digits
-    digits = number-digits 0 most_moment h.digits moment h.number_is
+    digits : IsField h.digits
+    digits = digits-field h.digits (number-digits 0 most_moment h.digits moment h.number_is)
 
-    word-fails : (p : ℕ → Bool) → p 112 ≡ false → p 117 ≡ false → p 108 ≡ false → p 108 ≡ false → p 32 ≡ false → ((d : ℕ) → is_ascii_digit d ≡ true → p d ≡ false) → All (λ x. p x ≡ false) (codes "pull " ++ h.digits)
-    word-fails p a b c d e fails = all-append p (codes "pull") (32 ∷ h.digits) (all-four p 112 117 108 108 a b c d) (all-cons p 32 h.digits e (each-fails p fails h.digits digits.all))
-
-    is : line_of (codes "pull " ++ h.digits) ≡ line.Command (Pull 0 moment)
-    is = ap line_of_fields (fields-one 112 117 108 108 h.digits refl refl refl refl digits) ∙ rw h.number_is refl
+    is : line_of_fields (codes "pull" ∷ h.digits ∷ []) ≡ line.Command (Pull 0 moment)
+    is = rw h.number_is refl
 
 -- `send S L` and a line feed
 pub plain-send : (text middle rest : List ℕ) (sender size : ℕ) → BeginsWithNumber text 32 0 most_sender sender middle → BeginsWithNumber middle 10 1 most_length size rest
     → lines_of (codes "send " ++ text) ≡ line.Command (Send sender size) ∷ lines_of rest
 plain-send text middle rest sender size h k =
     ap (λ t. lines_of (codes "send " ++ t)) (h.text_is ∙ ap (λ t. h.digits ++ 32 ∷ t) k.text_is ∙ sym (append_assoc h.digits (32 ∷ k.digits) (10 ∷ rest)))
-    ∙ ap (map line_of) (lines-plain (codes "send " ++ both) rest (word-fails (λ b. b == 10) refl refl refl refl refl no-feed) (word-fails (λ b. b == 13) refl refl refl refl refl no-return))
-    ∙ ap (λ l. l ∷ lines_of rest) is
+    ∙ line-spaced (codes "send") (h.digits ∷ k.digits ∷ []) rest (record { some = refl; all = refl }) (first, (second, tt)) ∙ ap (λ l. l ∷ lines_of rest) is
   where
-    both : List ℕ
-    both = h.digits ++ 32 ∷ k.digits
+    first : IsField h.digits
+    first = digits-field h.digits (number-digits 0 most_sender h.digits sender h.number_is)
 
-    first : AreDigits h.digits
-    first = number-digits 0 most_sender h.digits sender h.number_is
+    second : IsField k.digits
+    second = digits-field k.digits (number-digits 1 most_length k.digits size k.number_is)
 
-    second : AreDigits k.digits
-    second = number-digits 1 most_length k.digits size k.number_is
-
-    word-fails : (p : ℕ → Bool) → p 115 ≡ false → p 101 ≡ false → p 110 ≡ false → p 100 ≡ false → p 32 ≡ false → ((d : ℕ) → is_ascii_digit d ≡ true → p d ≡ false) → All (λ x. p x ≡ false) (codes "send " ++ both)
-    word-fails p a b c d e fails =
-        all-append p (codes "send") (32 ∷ both) (all-four p 115 101 110 100 a b c d)
-        (all-cons p 32 both e (all-append p h.digits (32 ∷ k.digits) (each-fails p fails h.digits first.all) (all-cons p 32 k.digits e (each-fails p fails k.digits second.all))))
-
-    is : line_of (codes "send " ++ both) ≡ line.Command (Send sender size)
-    is = ap line_of_fields (fields-two 115 101 110 100 h.digits k.digits refl refl refl refl first second) ∙ rw (h.number_is, k.number_is) refl
+    is : line_of_fields (codes "send" ∷ h.digits ∷ k.digits ∷ []) ≡ line.Command (Send sender size)
+    is = rw (h.number_is, k.number_is) refl

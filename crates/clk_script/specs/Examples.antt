@@ -120,6 +120,21 @@ closed_last_first = pulled 1 5 (asking 0 5 0 0 (Some p1_0) ∷ []) ∷ pulled 0 
 abbrev pub closed_on : List Event
 closed_on = pulled 0 5 (asking 0 5 0 0 (Some p0_0) ∷ []) ∷ pulled 1 6 (asking 0 6 0 0 (Some p1_0) ∷ []) ∷ []
 
+-- Over `two_devices`: sender 1 offers a packet, the first device gives none, and the second gives that packet, at this moment.
+abbrev pub pulled_at : ℕ → List Event
+pulled_at moment = offered p1_0 Accepted ∷ pulled 0 3 (asking 0 3 0 0 None ∷ []) ∷ pulled 1 moment (asking 0 moment 0 0 (Some p1_0) ∷ []) ∷ []
+
+-- a queue of two packets whose one sender has a number that no line can hold, and a packet of that sender
+abbrev pub great_sender : Setup
+great_sender = record {
+  trees = queue 0 ∷ [];
+  queues = record { kind = TailDrop; capacity = 2; device = 0 } ∷ [];
+  senders = record { number = 65536; queue = 0 } ∷ [];
+}
+
+abbrev pub from_great : List Event
+from_great = offered (packet 65536 0 100 (lit≤ tt) (lit≤ tt)) Accepted ∷ []
+
 -- a call fails
 abbrev pub failed : Fault → Result (Unit {0}) Fault
 failed fault = Err fault

@@ -1,6 +1,7 @@
 -- What a script and its answer are.
 pub mod Script
 pub mod Meaning
+pub mod Record
 pub mod OneMeaning
 pub mod OneDevice
 pub mod Examples

@@ -90,6 +90,11 @@ abbrev pub ending_text : Setup → Option ℕ → List Event → List ℕ
 ending_text setup None events = []
 ending_text setup (Some moment) events = report_text (flat_map emitted (logs_of setup events)) (map (tally_after events) (sender_numbers setup))
 
+-- The lines of events and of their closing pulls, in order, and then the report if there is a drain.
+abbrev pub course_text : Setup → Option ℕ → List Event → List Event → List ℕ
+course_text setup drain events closed =
+    flat_map (event_text (has_several setup)) events ++ (flat_map (closing_text (has_several setup)) closed ++ ending_text setup drain (events ++ closed))
+
 -- The commands, and the closing drain if there is one, write the text: it is the lines of some events that are the commands', of the
 -- closing pulls, and of the report. All these can happen one after another, and each device's log holds the visits of all its pulls, in order.
 pub record Writes (setup : Setup) (commands : List Command) (drain : Option ℕ) (text : List ℕ) (logs : List (List Visit)) : Type 0 where
@@ -98,7 +103,7 @@ pub record Writes (setup : Setup) (commands : List Command) (drain : Option ℕ)
   pub closed : List Event
   pub closes : IsClosed setup drain events closed
   pub can_happen : CanHappen setup (events ++ closed)
-  pub lines : text ≡ flat_map (event_text (has_several setup)) events ++ (flat_map (closing_text (has_several setup)) closed ++ ending_text setup drain (events ++ closed))
+  pub lines : text ≡ course_text setup drain events closed
   pub logged : logs ≡ logs_of setup (events ++ closed)
 
 -- The text is the meaning of the script over the setup, with these logs: nothing is wrong with the script, and it writes the text.

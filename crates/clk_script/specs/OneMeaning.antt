@@ -1,11 +1,16 @@
 -- That a script has at most one meaning, and that devices stand apart.
 use Rattle.std.specs.Prelude.{◌≡◌, ℕ, List, map}
+use Rattle.clk_sched.specs.declared.visit.Visit.{Visit}
 use Rattle.clk_router.specs.Events.{Setup, Event, events_at, CanHappen}
-use Rattle.clk_script.specs.Meaning.{command_of, IsMeaning}
+use Rattle.clk_script.specs.Meaning.{command_of, IsMeaning, MeansWith}
 
 -- Two texts that are meanings of the same script over a setup are the same text.
 abbrev pub HasAtMostOneMeaning : Setup → Type 0
 HasAtMostOneMeaning setup = (script one other : List ℕ) → IsMeaning setup script one → IsMeaning setup script other → one ≡ other
+
+-- Two meanings of the same script over a setup have the same logs.
+abbrev pub HasAtMostOneLog : Setup → Type 0
+HasAtMostOneLog setup = (script one other : List ℕ) (logs others : List (List Visit)) → MeansWith setup script one logs → MeansWith setup script other others → logs ≡ others
 
 -- What happens at a device follows from the commands of its own, whatever is sent to the others and pulled at them.
 abbrev pub DevicesAreApart : Setup → Type 0

@@ -1,28 +1,34 @@
 //! What the definitions of scripts say: each law is a function that does nothing and whose contract is the law.
 
-ghost use Rattle.std.specs.Prelude.{◌≡◌, ℕ, List, [], ◌∷◌, Some, codes};
+ghost use Rattle.std.specs.Prelude.{◌≡◌, ℕ, ◌≤◌, ◌<◌, List, [], ◌∷◌, ◌++◌, length, map, None, Some, codes};
+ghost use Rattle.std.specs.List.{AllByRecursion};
 ghost use Rattle.clk_packet.specs.Bytes.{Takes, AppendsFront};
 ghost use Rattle.clk_packet.specs.declared.fault.Fault.TheVariants.{Memory, TooLarge, Write};
 ghost use Rattle.clk_packet.specs.Examples.{text, first_byte, second_byte, success};
+ghost use Rattle.clk_sched.specs.declared.visit.Visit.{Visit};
 ghost use Rattle.clk_sched.specs.Tree.{Tree};
 ghost use Rattle.clk_tree.specs.Shares.{AreTreesOf};
 ghost use Rattle.clk_packet.specs.Written.{WroteWhat};
-ghost use Rattle.clk_router.specs.Events.{CanHappen, Closes, plan_setup};
-ghost use Rattle.clk_script.specs.Meaning.{CloseFirst, IsMeaning, MeansOver, Explains, ExplainsPlan, names_of};
+ghost use Rattle.clk_router.specs.Events.{Setup, Event, pulled, CanHappen, Closes, plan_setup};
+ghost use Rattle.clk_script.specs.declared.script.Command.{Command};
+ghost use Rattle.clk_script.specs.Script.{most_lines, most_moment};
+ghost use Rattle.clk_script.specs.Meaning.{CloseFirst, IsMeaning, MeansOver, MeansOverWith, Explains, ExplainsPlan, names_of, command_of};
 ghost use Rattle.clk_router.specs.Setups.{IsWired, IsApart};
-ghost use Rattle.clk_script.specs.OneMeaning.{HasAtMostOneMeaning, DevicesAreApart};
+ghost use Rattle.clk_script.specs.OneMeaning.{HasAtMostOneMeaning, HasAtMostOneLog, DevicesAreApart};
+ghost use Rattle.clk_script.specs.Record.{command_text, drain_text, record_text, FitsLimits, FitsScript, RecordsMeanTheirCourse, PlanRecordsMeanTheirCourse, IsSmall, OnlyFittingRecordsMean};
 ghost use Rattle.clk_script.specs.OneDevice.{HasOneDevice, IsMeaningAlone};
-ghost use Rattle.clk_script.specs.Examples.{two_queues, two_devices, shaped, moment_not_counted, moment_ahead, second_first, number_left_out, refused_early, never_sent, other_refused, swapped, moment_shared, no_device, one_left, closed_at_once, closed_without_a_pull, closed_a_tick_early, closed_a_pull_late, one_at_each, closed_in_turn, closed_last_first, closed_on, failed};
+ghost use Rattle.clk_script.specs.Examples.{two_queues, two_devices, shaped, moment_not_counted, moment_ahead, second_first, number_left_out, refused_early, never_sent, other_refused, swapped, moment_shared, no_device, one_left, closed_at_once, closed_without_a_pull, closed_a_tick_early, closed_a_pull_late, one_at_each, closed_in_turn, closed_last_first, closed_on, pulled_at, great_sender, from_great, failed};
 
 use clk_ring::histories_leave_no_choice;
 use clk_sched::{runs_go_on, runs_leave_no_choice};
 use clk_tree::Plan;
 
 /// A script has at most one meaning over a setup whose senders send to queues that are there, and whose trees stand over such:
-/// what its commands make happen follows, one after another, and so does the text. Two queues with a sender each, below a
+/// what its commands make happen follows, one after another, and so do the text and the logs. Two queues with a sender each, below a
 /// PrioSched, are such a setup.
 pub fn scripts_have_at_most_one_meaning()
     ensures wired { (setup : _) → IsWired setup → HasAtMostOneMeaning setup }
+    ensures logs { (setup : _) → IsWired setup → HasAtMostOneLog setup }
     ensures two_queues { HasAtMostOneMeaning two_queues }
 {
     // By the laws of what the meaning is made of, which do nothing.
@@ -30,16 +36,45 @@ pub fn scripts_have_at_most_one_meaning()
     runs_leave_no_choice();
 }
 
-/// A script has at most one meaning over a plan, since that has one tree for each device. What `run_script` writes, where it succeeds,
-/// is therefore settled by the script and the plan.
+/// A script has at most one meaning over a plan, since that has one tree for each device. If `run_script` and `run_script_logged` succeed,
+/// the script and the plan therefore settle the text that they write and the logs that the latter returns.
 pub fn plans_have_at_most_one_meaning(plan: &Plan)
-    ensures { (script one other : List ℕ) → MeansOver plan.now script one → MeansOver plan.now script other → one ≡ other }
+    ensures texts { (script one other : List ℕ) → MeansOver plan.now script one → MeansOver plan.now script other → one ≡ other }
+    ensures logs { (script one other : List ℕ) (logs others : List (List Visit)) → MeansOverWith plan.now script one logs → MeansOverWith plan.now script other others → logs ≡ others }
 {
     // Its senders send to its queues, which its trees share out.
     let _senders = plan.senders();
     plan.trees_share_queues();
     scripts_have_at_most_one_meaning();
 }
+
+/// The record of events that happened, and of the drain that closed them if there was one, is a script that means just that: the lines
+/// of the events, of their closing and of the report, with the logs of the devices. Only events that fit a script have such a record.
+pub fn records_mean_their_course()
+    ensures course { (setup : _) → RecordsMeanTheirCourse setup }
+    ensures fitting { (setup : _) → OnlyFittingRecordsMean setup }
+{}
+
+/// Over a plan the senders and the devices of all that can happen fit a script. Its record means it if no moment is 2^40 or later, and the
+/// record has at most 1,000,000 lines.
+pub fn records_of_plans_mean_their_course(plan: &Plan)
+    ensures { (trees : List Tree) → AreTreesOf plan.now trees → PlanRecordsMeanTheirCourse plan.now trees }
+{
+    // Its devices are few, and a line can hold the numbers of its senders.
+    let _devices = plan.devices();
+    let _senders = plan.senders();
+    records_mean_their_course();
+}
+
+/// A record grows line by line: a command adds its line, and so does the drain at the end. What fits goes on fitting while a line is left.
+pub fn records_grow()
+    ensures command { (commands : List Command) (command : Command) → record_text (commands ++ command ∷ []) None ≡ record_text commands None ++ command_text command }
+    ensures drain { (commands : List Command) (moment : ℕ) → record_text commands (Some moment) ≡ record_text commands None ++ drain_text (Some moment) }
+    ensures fits { (setup : Setup) (events : List Event) (event : Event) → FitsScript setup events None → FitsScript setup (event ∷ []) None → length events < most_lines → FitsScript setup (events ++ event ∷ []) None }
+    ensures fits_drain { (setup : Setup) (events : List Event) (moment : ℕ) → FitsScript setup events None → moment ≤ most_moment → length events < most_lines → FitsScript setup events (Some moment) }
+    ensures limits { (events : List Event) (event : Event) → FitsLimits events None → FitsLimits (event ∷ []) None → length events < most_lines → FitsLimits (events ++ event ∷ []) None }
+    ensures limits_drain { (events : List Event) (moment : ℕ) → FitsLimits events None → moment ≤ most_moment → length events < most_lines → FitsLimits events (Some moment) }
+{}
 
 /// Over one device, as over two queues below a PrioSched, a script means what it does without numbers of devices: its pulls are a run
 /// of the one tree, and their lines are `pull M: ..`.
@@ -110,3 +145,26 @@ pub fn word_examples()
     ensures not_too_large { ¬ (Explains (names_of two_queues) (Some (codes "pull 0\n")) TooLarge) }
     ensures not_too_large_over_a_plan { (plan : _) → ¬ (ExplainsPlan plan (Some (codes "pull 0\n")) TooLarge) }
 {}
+
+/// A record byte for byte, events that fit at the greatest moments, and near misses: a sender that is not there, a sender or a device above
+/// 65,535, a pull or a drain at 2^40, and line 1,000,001. The record of each near miss means nothing.
+pub fn record_examples()
+    ensures lines { record_text (map command_of (pulled_at 3)) (Some 4) ≡ codes "send 1 50\npull 3\npull 3 1\ndrain 4\n" }
+    ensures fits { FitsScript two_devices (pulled_at 1099511627775) (Some 1099511627775) }
+    ensures not_unknown_sender { ¬ (FitsScript shaped one_left None) }
+    ensures no_unknown_sender { (text : List ℕ) → ¬ (IsMeaning shaped (record_text (map command_of one_left) None) text) }
+    ensures not_great_sender { ¬ (FitsScript great_sender from_great None) }
+    ensures no_great_sender { (text : List ℕ) → ¬ (IsMeaning great_sender (record_text (map command_of from_great) None) text) }
+    ensures not_great_device { (setup : Setup) → ¬ (FitsScript setup (pulled 65536 0 [] ∷ []) None) }
+    ensures no_great_device { (setup : Setup) (text : List ℕ) → ¬ (IsMeaning setup (record_text (map command_of (pulled 65536 0 [] ∷ [])) None) text) }
+    ensures not_late { ¬ (FitsScript two_devices (pulled_at 1099511627776) None) }
+    ensures no_late { (text : List ℕ) → ¬ (IsMeaning two_devices (record_text (map command_of (pulled_at 1099511627776)) None) text) }
+    ensures not_drained_late { ¬ (FitsScript two_devices (pulled_at 3) (Some 1099511627776)) }
+    ensures no_drained_late { (text : List ℕ) → ¬ (IsMeaning two_devices (record_text (map command_of (pulled_at 3)) (Some 1099511627776)) text) }
+    ensures not_long { (setup : Setup) (events : List Event) → length events ≡ 1000001 → ¬ (FitsScript setup events None) }
+    ensures no_long { (setup : Setup) (events : List Event) (text : List ℕ) → AllByRecursion IsSmall (map command_of events) → length events ≡ 1000001 → ¬ (IsMeaning setup (record_text (map command_of events) None) text) }
+    ensures not_drained_long { (setup : Setup) (events : List Event) (moment : ℕ) → length events ≡ 1000000 → ¬ (FitsScript setup events (Some moment)) }
+{
+    // By this law, which does nothing, only what fits means anything.
+    records_mean_their_course();
+}

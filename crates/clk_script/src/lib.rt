@@ -19,7 +19,8 @@ mod writing;
 
 pub use laws::{
     closing_examples, devices_of_plans_stand_apart, devices_stand_apart,
-    one_device_needs_no_number, plans_have_at_most_one_meaning, script_examples,
+    one_device_needs_no_number, plans_have_at_most_one_meaning, record_examples, records_grow,
+    records_mean_their_course, records_of_plans_mean_their_course, script_examples,
     scripts_have_at_most_one_meaning, word_examples,
 };
 pub use limits::{MAX_DEVICE, MAX_LINES, MAX_MOMENT, MAX_SCRIPT_BYTES};

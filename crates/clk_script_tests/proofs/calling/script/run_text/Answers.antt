@@ -25,6 +25,6 @@ returns-clause-written g c =
     on_ok_weaker c.run_script.result
     (λ whole text means.
     let written = subst (IsWritten c.args.plan.now old new) c.new-reader.ensures.remaining whole in
-    let same = c.plans_have_at_most_one_meaning.ensures c.args.script.now written.0 text written.1 means in
+    let same = c.plans_have_at_most_one_meaning.ensures.texts c.args.script.now written.0 text written.1 means in
     subst (λ (t : List ℕ). Appends old new t) same written.2)
     c.run_script.ensures.wrote.whole
