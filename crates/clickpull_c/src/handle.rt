@@ -5,11 +5,10 @@ ghost use Rattle.std.specs.Borrow.{sem};
 ghost use Rattle.clk_router.specs.declared.counting.CountingRouter.{CountingRouter};
 ghost use Rattle.clickpull_c.specs.inside.Handle.{handle_owns, router_coded};
 
-mod parts;
 mod place;
 
+use crate::parts::Parts;
 use clk_router::CountingRouter;
-use parts::Parts;
 pub use place::Place;
 use std::alloc::Global;
 use std::marker::Model;

@@ -7,6 +7,7 @@ mod examples;
 mod handle;
 mod offering;
 mod opening;
+mod parts;
 mod pulling;
 mod statuses;
 mod telling;

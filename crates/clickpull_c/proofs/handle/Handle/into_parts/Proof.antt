@@ -7,7 +7,7 @@ use denote.Triple.Table.{entered}
 use Rattle.clk_router.specs.contracts.counting.CountingRouter as Value
 use Rattle.clk_router.proofs.counting.CountingRouter.TheLaws as value
 use Rattle.clickpull_c.proofs.Handles.{Moves}
-use Rattle.clickpull_c.specs.contracts.handle.parts.Parts as Parts
+use Rattle.clickpull_c.specs.contracts.parts.Parts as Parts
 use Rattle.std_heap.specs.contracts.Global as Heap
 use Rattle.std_heap.specs.contracts.GlobalAllocator.TheImpl.{ghosts}
 use Rattle.clickpull_c.specs.contracts.handle.Handle as Handle

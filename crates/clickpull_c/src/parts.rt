@@ -1,4 +1,4 @@
-//! A box with its fields in sight of the module above.
+//! A box whose fields the handles see.
 
 ghost use Rattle.std.specs.Prelude.{◌≡◌};
 ghost use Rattle.std.specs.Box.Ownership.{box_owns};
@@ -7,8 +7,8 @@ use std::alloc::Allocator;
 use std::marker::Model;
 
 pub struct Parts<T, A: Allocator> {
-    pub(super) ptr: *mut T,
-    pub(super) alloc: A,
+    pub(crate) ptr: *mut T,
+    pub(crate) alloc: A,
     pub ghost value: { T },
 }
 
