@@ -3,3 +3,4 @@ pub mod Follows
 pub mod Handle
 pub mod Place
 pub mod SoFar
+pub mod inlets

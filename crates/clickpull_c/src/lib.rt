@@ -1,10 +1,11 @@
-//! A router of pull schedulers for C: a static library of one export a call.
+//! A router of pull schedulers, and the inlets of its senders, for C: a static library of one export a call.
 // What C users call are the functions of include/clickpull.h, which test their pointers, and hand on to these.
 #![tactic(auto)]
 
 mod draining;
 mod examples;
 mod handle;
+mod inlets;
 mod offering;
 mod opening;
 mod parts;
@@ -15,4 +16,5 @@ mod values;
 
 pub use examples::call_examples;
 pub use handle::{Handle, Place};
+pub use inlets::{InletHandle, InletPlace};
 pub use values::{CAccount, CDeparture, CFault, COffer, COffered, CPacket, CQueue, CTotal};

@@ -1,0 +1,5 @@
+//! Inlets in the hands of C.
+
+mod handle;
+
+pub use handle::{InletHandle, InletPlace};
