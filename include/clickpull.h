@@ -67,15 +67,16 @@ extern "C" {
 typedef enum clk_status {
     CLK_OK = 0,             /* it is done */
     CLK_NONE = 1,           /* the pull was made and gave no packet; the drain isn't at its end */
-    CLK_SHUT = 2,           /* the router is shut: clk_close had it, or clk_open had a fault */
+    CLK_SHUT = 2,           /* the router or the inlet is shut: it was closed, or clk_open had a fault */
     CLK_NULL = 3,           /* a pointer is null */
     CLK_UNKNOWN_SENDER = 4, /* the tree has no sender with this number, or at this place */
     CLK_UNKNOWN_DEVICE = 5, /* the tree has no device with this number */
-    CLK_NO_LENGTH = 6,      /* a packet has 1 byte at least */
+    CLK_BAD_LENGTH = 6,     /* the length of a packet is not from 1 to 65,535 */
     CLK_AT_END = 7,         /* the sender has offered 4,294,967,295 packets; the moment is 2^44 ticks or more; or the device was pulled
                              * as often as it may be, 2^63 times */
     CLK_UNKNOWN_QUEUE = 8,  /* the tree has no queue with this number */
-    CLK_FAULT = 9           /* the text makes no router, or memory was refused: see the fault */
+    CLK_FAULT = 9,          /* the text makes no router, or memory was refused: see the fault */
+    CLK_FULL = 10           /* the inlet has no room for the packet now */
 } clk_status;
 
 /* What became of a packet that was offered. */
@@ -155,6 +156,20 @@ typedef struct clk_queue {
     uint16_t front_drop; /* 1 for a FrontDropQueue, 0 for a Queue */
 } clk_queue;
 
+/* An inlet, or none where `at` is null. `at` is the library's; a caller copies it at most. */
+typedef struct clk_inlet {
+    void *at;
+} clk_inlet;
+
+/* What a variable holds that has no inlet yet: clk_inlet inlet = CLK_NO_INLET; */
+#define CLK_NO_INLET {NULL}
+
+/* A packet for an inlet, of many. */
+typedef struct clk_item {
+    uint64_t token;  /* a value of the caller's, which goes with the packet */
+    uint32_t length; /* the packet's length in bytes, 1 to 65,535 */
+} clk_item;
+
 /* ------------------------------------------------------------------------------------------------------------ exports */
 
 /* What the library exports. The functions below them test what they are handed and are what to call. An array is handed over as its
@@ -176,6 +191,10 @@ extern uint32_t clk_router_account(clk_router *router, size_t place, clk_account
 extern size_t clk_router_queues(clk_router *router);
 extern uint32_t clk_router_queue(clk_router *router, uint16_t number, clk_queue *queue);
 extern size_t clk_router_devices(clk_router *router);
+extern uint32_t clk_raw_inlet_offer(clk_inlet *inlet, uint32_t length, uint64_t token, uint32_t *number);
+extern uint32_t clk_raw_inlet_offer_many(clk_inlet *inlet, const clk_item *items, size_t items_length, size_t *done);
+extern size_t clk_raw_inlet_room(clk_inlet *inlet);
+extern void clk_raw_inlet_close(clk_inlet inlet);
 
 /* Casts, which C++ has under names of their own. */
 #ifdef __cplusplus
@@ -219,7 +238,7 @@ static inline void clk_close(clk_router *router) {
  * offered, also where they are refused.
  *
  * CLK_OK  `offered` says what became of it. That it was refused is an outcome, and no failure of the call.
- * CLK_NO_LENGTH, CLK_UNKNOWN_SENDER, CLK_AT_END, CLK_SHUT, CLK_NULL  nothing was offered. */
+ * CLK_BAD_LENGTH, CLK_UNKNOWN_SENDER, CLK_AT_END, CLK_SHUT, CLK_NULL  nothing was offered. */
 static inline clk_status clk_offer(clk_router *router, uint16_t sender, uint16_t length, clk_offered *offered) {
     if (!router || !offered)
         return CLK_NULL;
@@ -233,7 +252,7 @@ static inline clk_status clk_offer(clk_router *router, uint16_t sender, uint16_t
  * filled, and the others are as they were.
  *
  * CLK_OK              all were offered.
- * CLK_UNKNOWN_SENDER, CLK_NO_LENGTH, CLK_AT_END  offers[*done] can't be, and neither it nor one after it was offered.
+ * CLK_UNKNOWN_SENDER, CLK_BAD_LENGTH, CLK_AT_END  offers[*done] can't be, and neither it nor one after it was offered.
  * CLK_SHUT, CLK_NULL  none was offered. */
 static inline clk_status clk_offer_many(clk_router *router, const clk_offer_of *offers, size_t count, clk_offered *offered, size_t *done) {
     if (!done)
@@ -378,6 +397,103 @@ static inline clk_status clk_queue_at(const clk_router *router, uint16_t number,
     return CLK_STATUS(clk_router_queue(&same, number, queue));
 }
 
+/* ------------------------------------------------------------------------------------------------------------ inlets
+ *
+ * An inlet carries the packets of one sender to a router, from a thread of the sender's own. It is a ring, and has room for as many packets
+ * as it was opened with. No call on an inlet waits, allocates memory or takes a lock.
+ *
+ *     while (next_packet(&buffer)) {
+ *         while (clk_inlet_offer(&inlet, buffer->length, (uint64_t)(uintptr_t)buffer, NULL) == CLK_FULL)
+ *             pause_for_a_while();
+ *     }
+ *     clk_inlet_close(&inlet);
+ *
+ * TOKENS. A token is any value of 64 bits: a pointer, an index, or 0. The library doesn't read it, and gives it back with the packet.
+ * What a token points to is the router's side's to free once the packet was accepted, and still the sender's if it was not.
+ *
+ * BACK PRESSURE. CLK_FULL says that the router's thread is behind. Pause before the next try: sleep, or do other work. A sender that
+ * tries again at once reads memory that the router's thread writes, and slows it down.
+ *
+ * WHO OWNS WHAT. Whoever holds an inlet closes it, once. A clk_inlet may be copied, as a pointer may: the copies are one inlet.
+ *
+ * WHAT THE CALLER OWES. These no test can find:
+ *
+ *   - Calls on one inlet come one after the other. Calls on other inlets, and on the router, may run at the same time.
+ *   - An inlet may move to another thread. The last call on the one thread happens before the first on the other: by the start or the
+ *     join of a thread, by a lock of the caller's, or by a sequentially consistent atomic operation.
+ *   - An inlet that was closed isn't used again through a copy of its clk_inlet.
+ *   - Every inlet is closed in the end, also where its sender never offered a packet. Of one that is never closed the memory is lost, and
+ *     the router cannot tell that no packet follows. */
+
+/* Offers the sender's next packet, of `length` bytes, with a token. `number` may be null where it isn't wanted.
+ *
+ * CLK_OK          the inlet accepted the packet. `number` is its number: how many packets the inlet accepted before it.
+ * CLK_FULL        there is no room now. The packet may be offered again, once the router's thread has taken packets.
+ * CLK_BAD_LENGTH  `length` is not from 1 to 65,535.
+ * CLK_AT_END      the inlet has accepted 4,294,967,295 packets, and accepts no more.
+ * CLK_SHUT        the inlet was closed.
+ * CLK_NULL        `inlet` is null.
+ *
+ * Where it isn't CLK_OK nothing was sent, and `number` is as it was. */
+static inline clk_status clk_inlet_offer(clk_inlet *inlet, uint32_t length, uint64_t token, uint32_t *number) {
+    uint32_t unwanted = 0;
+    if (!inlet)
+        return CLK_NULL;
+    if (!inlet->at)
+        return CLK_SHUT;
+    return CLK_STATUS(clk_raw_inlet_offer(inlet, length, token, number ? number : &unwanted));
+}
+
+/* Offers `count` packets in the order of `items`, up to the first that isn't accepted. `items` has `count` elements, and may be null where
+ * that is 0. `done` is how many were accepted: the first `*done` elements of `items`. Their numbers follow one another. One call takes less
+ * time than as many calls of clk_inlet_offer. The router's thread sees the packets in groups of at most 64.
+ *
+ * CLK_OK                                all were accepted.
+ * CLK_FULL, CLK_BAD_LENGTH, CLK_AT_END  items[*done] was not accepted, for the reason that clk_inlet_offer has, and none after it was
+ *                                       offered.
+ * CLK_SHUT, CLK_NULL                    none was offered. */
+static inline clk_status clk_inlet_offer_many(clk_inlet *inlet, const clk_item *items, size_t count, size_t *done) {
+    if (!done)
+        return CLK_NULL;
+    *done = 0;
+    if (!inlet || (count != 0 && !items))
+        return CLK_NULL;
+    if (!inlet->at)
+        return CLK_SHUT;
+    if (count == 0)
+        return CLK_OK;
+    return CLK_STATUS(clk_raw_inlet_offer_many(inlet, items, count, done));
+}
+
+/* How many packets are sure to fit now: so many offers will not return CLK_FULL. There may be more room at once, since the router's thread
+ * goes on. 0 once the inlet has accepted 4,294,967,295 packets.
+ *
+ * CLK_OK  `room` is the number. CLK_SHUT, CLK_NULL. */
+static inline clk_status clk_inlet_room(clk_inlet *inlet, size_t *room) {
+    if (!inlet || !room)
+        return CLK_NULL;
+    if (!inlet->at)
+        return CLK_SHUT;
+    *room = clk_raw_inlet_room(inlet);
+    return CLK_OK;
+}
+
+/* Says that no packet follows, and frees the inlet. It leaves `inlet` shut. Packets that are still in the ring stay there, and the router's
+ * thread takes them. It never waits, and never fails where there is an inlet: the ring keeps a place for the end, also when it is full.
+ *
+ * CLK_OK    the inlet is closed.
+ * CLK_SHUT  it was closed before.
+ * CLK_NULL  `inlet` is null. */
+static inline clk_status clk_inlet_close(clk_inlet *inlet) {
+    if (!inlet)
+        return CLK_NULL;
+    if (!inlet->at)
+        return CLK_SHUT;
+    clk_raw_inlet_close(*inlet);
+    inlet->at = NULL;
+    return CLK_OK;
+}
+
 /* ------------------------------------------------------------------------------------------------------------ names */
 
 /* The name of a fault that clk_open can have, as `clickpull` prints it, and "" for any other number. */
@@ -422,21 +538,23 @@ static inline const char *clk_status_text(clk_status status) {
     case CLK_NONE:
         return "no packet";
     case CLK_SHUT:
-        return "the router is shut";
+        return "the router or the inlet is shut";
     case CLK_NULL:
         return "a pointer is null";
     case CLK_UNKNOWN_SENDER:
         return "there is no such sender";
     case CLK_UNKNOWN_DEVICE:
         return "there is no such device";
-    case CLK_NO_LENGTH:
-        return "a packet has one byte at least";
+    case CLK_BAD_LENGTH:
+        return "the length of a packet is not from 1 to 65,535";
     case CLK_AT_END:
         return "numbers or moments are at their end";
     case CLK_UNKNOWN_QUEUE:
         return "there is no such queue";
     case CLK_FAULT:
         return "the text makes no router, or memory was refused";
+    case CLK_FULL:
+        return "the inlet is full";
     }
     return "no answer of this library";
 }
@@ -476,6 +594,8 @@ CLK_ASSERT(sizeof(clk_departure) == 16, "clk_departure has 16 bytes");
 CLK_ASSERT(sizeof(clk_total) == 16, "clk_total has 16 bytes");
 CLK_ASSERT(sizeof(clk_account) == 72, "clk_account has 72 bytes");
 CLK_ASSERT(sizeof(clk_queue) == 24, "clk_queue has 24 bytes");
+CLK_ASSERT(sizeof(clk_inlet) == sizeof(void *), "clk_inlet is a pointer");
+CLK_ASSERT(sizeof(clk_item) == 16, "clk_item has 16 bytes");
 #undef CLK_ASSERT
 #undef CLK_STATUS
 #undef CLK_BYTES

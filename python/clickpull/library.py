@@ -11,7 +11,7 @@ NAME = "libclickpull.so"
 VARIABLE = "CLICKPULL_LIBRARY"
 
 # Answers.
-OK, NONE, SHUT, NULL, UNKNOWN_SENDER, UNKNOWN_DEVICE, NO_LENGTH, AT_END, UNKNOWN_QUEUE, FAULT = range(10)
+OK, NONE, SHUT, NULL, UNKNOWN_SENDER, UNKNOWN_DEVICE, BAD_LENGTH, AT_END, UNKNOWN_QUEUE, FAULT, FULL = range(11)
 
 
 class RouterHandle(Structure):
@@ -100,7 +100,23 @@ class Queue(Structure):
     front_drop: int
 
 
+class InletHandle(Structure):
+    """An inlet in the library's hands, or none where `at` is null."""
+
+    _fields_ = [("at", c_void_p)]
+    at: int | None
+
+
+class Item(Structure):
+    """A packet for an inlet, of many."""
+
+    _fields_ = [("token", c_uint64), ("length", c_uint32)]
+    token: int
+    length: int
+
+
 ROUTER = POINTER(RouterHandle)
+INLET = POINTER(InletHandle)
 COUNT = POINTER(c_size_t)
 
 # What each call takes and answers.
@@ -119,6 +135,10 @@ CALLS = {
     "clk_router_queues": ([ROUTER], c_size_t),
     "clk_router_queue": ([ROUTER, c_uint16, POINTER(Queue)], c_uint32),
     "clk_router_devices": ([ROUTER], c_size_t),
+    "clk_raw_inlet_offer": ([INLET, c_uint32, c_uint64, POINTER(c_uint32)], c_uint32),
+    "clk_raw_inlet_offer_many": ([INLET, POINTER(Item), c_size_t, COUNT], c_uint32),
+    "clk_raw_inlet_room": ([INLET], c_size_t),
+    "clk_raw_inlet_close": ([InletHandle], None),
 }
 
 

@@ -45,7 +45,7 @@ static void what_cannot_be_offered(void) {
     clk_offered it = {{1, 2, 3}, {4, 5, 6}, 7}, before = it;
     CHECK(clk_offer(&router, 2, 1, &it) == CLK_UNKNOWN_SENDER);
     CHECK(clk_offer(&router, 65535, 1, &it) == CLK_UNKNOWN_SENDER);
-    CHECK(clk_offer(&router, 3, 0, &it) == CLK_NO_LENGTH);
+    CHECK(clk_offer(&router, 3, 0, &it) == CLK_BAD_LENGTH);
     CHECK(memcmp(&it, &before, sizeof it) == 0);
     CHECK(left(&router, 0) == 0);
     CHECK(is_packet(offered(&router, 3, 65535).packet, 3, 0, 65535));
@@ -78,7 +78,7 @@ static void no_length_ends_many(void) {
     static const clk_offer_of OFFERS[] = {{0, 0}, {0, 1}};
     clk_offered it[2];
     size_t done = 99;
-    CHECK(clk_offer_many(&router, OFFERS, 2, it, &done) == CLK_NO_LENGTH && done == 0);
+    CHECK(clk_offer_many(&router, OFFERS, 2, it, &done) == CLK_BAD_LENGTH && done == 0);
     CHECK(left(&router, 0) == 0);
     clk_close(&router);
 }

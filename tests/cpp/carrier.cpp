@@ -53,7 +53,7 @@ static void an_evicted_value_stands_behind_held_ones() {
 
 static void what_cannot_be_offered_leaves_no_value() {
     Carrier<int> carrier("a :: Sender(0); q :: Queue(1); d :: ToDevice(link); a -> q -> d;");
-    CHECK(thrown_by([&] { carrier.offer(0, 0, 5); }) == CLK_NO_LENGTH);
+    CHECK(thrown_by([&] { carrier.offer(0, 0, 5); }) == CLK_BAD_LENGTH);
     CHECK(thrown_by([&] { carrier.offer(1, 1, 5); }) == CLK_UNKNOWN_SENDER);
     CHECK(carrier.kept(0) == 0);
     Carrier<int> other(std::move(carrier));

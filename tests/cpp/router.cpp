@@ -87,7 +87,7 @@ static void a_drain_ends_with_moments() {
 static void what_cannot_be_is_thrown() {
     Router router(ONE);
     CHECK(thrown_by([&] { router.offer(5, 1); }) == CLK_UNKNOWN_SENDER);
-    CHECK(thrown_by([&] { router.offer(4, 0); }) == CLK_NO_LENGTH);
+    CHECK(thrown_by([&] { router.offer(4, 0); }) == CLK_BAD_LENGTH);
     CHECK(thrown_by([&] { router.pull(1, 0); }) == CLK_UNKNOWN_DEVICE);
     CHECK(thrown_by([&] { router.pull(0, CLK_END_OF_MOMENTS); }) == CLK_AT_END);
     CHECK(thrown_by([&] { router.left(1); }) == CLK_UNKNOWN_DEVICE);

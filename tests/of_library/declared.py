@@ -9,7 +9,8 @@ from of_library.checks import Check, Failed, LeftOut, Setting, compare, need, ru
 from of_library.module import environment, python
 
 COMMENT = re.compile(r"/\*.*?\*/", re.DOTALL)
-DECLARED = re.compile(r"extern (\w+) (clk_router_\w+)\(([^;]*)\);")
+EXPORTED = ("clk_router_", "clk_raw_")
+DECLARED = re.compile(rf"extern (\w+) ((?:{'|'.join(EXPORTED)})\w+)\(([^;]*)\);")
 STRUCT = re.compile(r"typedef struct (\w+) \{(.*?)\} \1;", re.DOTALL)
 FIELD = re.compile(r"(\w+ \*?)(\w+(?:, \w+)*);")
 
@@ -59,7 +60,7 @@ def names_are_exported(setting: Setting) -> str:
     """The header declares the calls that the archive and the shared library export, and no others."""
     wanted = sorted(header_of(setting).calls)
     # The archive has names besides by which its parts find one another.
-    compare("the archive's exports", [it for it in exported(setting.archive) if it.startswith("clk_router_")], wanted)
+    compare("the archive's exports", [it for it in exported(setting.archive) if it.startswith(EXPORTED)], wanted)
     compare("the shared library's exports", exported(setting.shared, "-D"), wanted)
     return f"{len(wanted)} calls"
 
@@ -172,7 +173,7 @@ print(json.dumps({
 """
 
 # Names of structs in Python that aren't C's without its prefix.
-OTHER_NAMES = {"clk_router": "RouterHandle"}
+OTHER_NAMES = {"clk_router": "RouterHandle", "clk_inlet": "InletHandle"}
 
 
 def name_in_python(name: str) -> str:

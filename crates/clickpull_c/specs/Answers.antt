@@ -1,8 +1,13 @@
 -- When calls are refused, and what they answer then.
 use Rattle.std.specs.Prelude.{◌≡◌, ℕ, ◌<◌, ◌≤◌, Some}
+use Rattle.clk_packet.specs.Limits.{most_length}
 use Rattle.clk_router.specs.Course.{Course, sender_at, CanOffer, CanPull}
 use Rattle.clickpull_c.specs.Counts.{device_count, sender_count, queue_count}
-use Rattle.clickpull_c.specs.declared.statuses.TheConstants.{UNKNOWN_SENDER, UNKNOWN_DEVICE, UNKNOWN_QUEUE, NO_LENGTH, AT_END}
+use Rattle.clickpull_c.specs.declared.statuses.TheConstants.{UNKNOWN_SENDER, UNKNOWN_DEVICE, UNKNOWN_QUEUE, BAD_LENGTH, AT_END}
+
+-- a packet has 1 to 65,535 bytes
+abbrev pub IsLength : ℕ → Type 0
+IsLength length = (1 ≤ length) × (length ≤ most_length)
 
 -- no sender has this number
 abbrev pub IsUnknown : Course → ℕ → Type 0
@@ -16,7 +21,7 @@ pub record HasEnded (c : Course) (sender : ℕ) : Type 0 where
 
 -- An offer is refused: it has no length; or else its sender is unknown; or else its sender can't offer another packet.
 pub data RefusesOffer (c : Course) (sender length status : ℕ) : Type 0 where
-  no_length : status ≡ NO_LENGTH → length ≡ 0 → RefusesOffer c sender length status
+  no_length : status ≡ BAD_LENGTH → length ≡ 0 → RefusesOffer c sender length status
   unknown_sender : status ≡ UNKNOWN_SENDER → 1 ≤ length → IsUnknown c sender → RefusesOffer c sender length status
   at_end : status ≡ AT_END → 1 ≤ length → HasEnded c sender → RefusesOffer c sender length status
 

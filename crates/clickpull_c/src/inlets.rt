@@ -1,5 +1,6 @@
 //! Inlets in the hands of C.
 
 mod handle;
+mod offering;
 
 pub use handle::{InletHandle, InletPlace};

@@ -17,4 +17,4 @@ mod values;
 pub use examples::call_examples;
 pub use handle::{Handle, Place};
 pub use inlets::{InletHandle, InletPlace};
-pub use values::{CAccount, CDeparture, CFault, COffer, COffered, CPacket, CQueue, CTotal};
+pub use values::{CAccount, CDeparture, CFault, CItem, COffer, COffered, CPacket, CQueue, CTotal};

@@ -6,7 +6,7 @@ ghost use Rattle.clickpull_c.specs.Calls.{EndsOffers, IsOffered, IsOfferedSoFar}
 ghost use Rattle.clickpull_c.specs.declared.statuses.TheConstants.{OK};
 
 use crate::handle::Handle;
-use crate::statuses::{AT_END, NO_LENGTH, OK, UNKNOWN_SENDER};
+use crate::statuses::{AT_END, BAD_LENGTH, OK, UNKNOWN_SENDER};
 use crate::values::{COffer, COffered, offered_for_c};
 use clk_router::CountingRouter;
 
@@ -78,7 +78,7 @@ fn offer(router: &mut CountingRouter, sender: u16, length: u16) -> Result<COffer
     ensures unchanged { OnErr result (router.new ≡ router.old) }
 {
     if length == 0 {
-        return Err(NO_LENGTH);
+        return Err(BAD_LENGTH);
     }
     let Some(place) = router.place_of(sender) else {
         return Err(UNKNOWN_SENDER);

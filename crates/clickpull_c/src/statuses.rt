@@ -1,4 +1,4 @@
-//! What calls return. Two statuses are the header's alone: 2, for a router that is shut, and 3, for a null pointer.
+//! What calls return. Two statuses are the header's alone: 2, for a router or an inlet that is shut, and 3, for a null pointer.
 
 /// It is done.
 pub const OK: u32 = 0;
@@ -12,10 +12,10 @@ pub const UNKNOWN_SENDER: u32 = 4;
 /// The tree has no device of this number.
 pub const UNKNOWN_DEVICE: u32 = 5;
 
-/// A packet has 1 byte at least.
-pub const NO_LENGTH: u32 = 6;
+/// The length of a packet is not from 1 to 65,535.
+pub const BAD_LENGTH: u32 = 6;
 
-/// The packets of a sender, the moments or the pulls of a device are at their end.
+/// The packets of a sender or of an inlet, the moments or the pulls of a device are at their end.
 pub const AT_END: u32 = 7;
 
 /// The tree has no queue of this number.
@@ -23,6 +23,9 @@ pub const UNKNOWN_QUEUE: u32 = 8;
 
 /// The text makes no router, or an allocation failed.
 pub const FAULT: u32 = 9;
+
+/// The inlet has no room for the packet now.
+pub const FULL: u32 = 10;
 
 /// The packet was accepted.
 pub const ACCEPTED: u32 = 0;

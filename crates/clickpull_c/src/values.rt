@@ -1,6 +1,7 @@
 //! The values that C hands in and is given.
 
-ghost use Rattle.std.specs.Prelude.{◌≡◌};
+ghost use Rattle.std.specs.Prelude.{◌≡◌, None, IfSome};
+ghost use Rattle.clickpull_c.specs.Answers.{IsLength};
 ghost use Rattle.clickpull_c.specs.Values.{packet_in_c, offered_in_c, fault_in_c, total_in_c, account_in_c, queue_in_c};
 
 use crate::statuses::{ACCEPTED, EVICTED, REFUSED};
@@ -39,6 +40,16 @@ pub struct COffer {
     pub sender: u16,
     /// The packet's length in bytes, from 1 to 65,535.
     pub length: u16,
+}
+
+/// A packet that a sender offers to its inlet. In C it is the struct `clk_item`.
+#[repr(C)]
+#[derive(Clone, Copy)]
+pub struct CItem {
+    /// A value of the caller's, which goes with the packet.
+    pub token: u64,
+    /// The packet's length in bytes, from 1 to 65,535.
+    pub length: u32,
 }
 
 /// A packet that was emitted in a drain. In C it is the struct `clk_departure`.
@@ -101,6 +112,17 @@ pub struct CFault {
     pub number: u32,
     /// At which byte of the text, from 0; 0 where the fault has no place.
     pub offset: u32,
+}
+
+/// The length of a packet in bytes, if it is from 1 to 65,535.
+pub fn length_of(length: u32) -> Option<u16>
+    ensures some { IfSome result (λ bytes. (bytes ≡ length) × IsLength length) }
+    ensures none { result ≡ None → IsLength length → ⊥ }
+{
+    match u16::try_from(length) {
+        Ok(bytes) if bytes > 0 => Some(bytes),
+        _ => None,
+    }
 }
 
 /// A packet, as C sees it.
