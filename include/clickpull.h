@@ -121,8 +121,8 @@ typedef struct clk_offered {
 
 /* An offer, of many. */
 typedef struct clk_offer_of {
-    uint16_t sender; /* the sender's number */
-    uint16_t length; /* the packet's length in bytes, 1 to 65,535 */
+    uint32_t sender; /* the sender's number */
+    uint32_t length; /* the packet's length in bytes, 1 to 65,535 */
 } clk_offer_of;
 
 /* A packet that came out in a drain. */
@@ -176,7 +176,7 @@ typedef struct clk_item {
  * pointer and then its length. Those that only look at a router take it like the others; they change nothing. */
 extern uint32_t clk_router_open(const uint8_t *text, size_t length, clk_router *router, clk_fault *fault);
 extern void clk_router_close(clk_router router);
-extern uint32_t clk_router_offer(clk_router *router, uint16_t sender, uint16_t length, clk_offered *offered);
+extern uint32_t clk_router_offer(clk_router *router, uint32_t sender, uint32_t length, clk_offered *offered);
 extern uint32_t clk_router_offer_many(clk_router *router, const clk_offer_of *offers, size_t offers_length, clk_offered *offered,
                                       size_t offered_length, size_t *done);
 extern uint32_t clk_router_pull(clk_router *router, uint16_t device, uint64_t moment, clk_packet *packet);
@@ -237,9 +237,14 @@ static inline void clk_close(clk_router *router) {
 /* The sender with this number offers its next packet, of `length` bytes, to its queue. Its packets are numbered from 0 as they are
  * offered, also where they are refused.
  *
- * CLK_OK  `offered` says what became of it. That it was refused is an outcome, and no failure of the call.
- * CLK_BAD_LENGTH, CLK_UNKNOWN_SENDER, CLK_AT_END, CLK_SHUT, CLK_NULL  nothing was offered. */
-static inline clk_status clk_offer(clk_router *router, uint16_t sender, uint16_t length, clk_offered *offered) {
+ * CLK_OK              `offered` says what became of it. That it was refused is an outcome, and no failure of the call.
+ * CLK_BAD_LENGTH      `length` is not from 1 to 65,535. This is tested first.
+ * CLK_UNKNOWN_SENDER  no sender has this number.
+ * CLK_AT_END          the sender has offered 4,294,967,295 packets.
+ * CLK_SHUT, CLK_NULL
+ *
+ * Where it isn't CLK_OK nothing was offered. */
+static inline clk_status clk_offer(clk_router *router, uint32_t sender, uint32_t length, clk_offered *offered) {
     if (!router || !offered)
         return CLK_NULL;
     if (!router->at)
@@ -589,7 +594,7 @@ CLK_ASSERT(sizeof(clk_router) == sizeof(void *), "clk_router is a pointer");
 CLK_ASSERT(sizeof(clk_fault) == 8, "clk_fault has 8 bytes");
 CLK_ASSERT(sizeof(clk_packet) == 8, "clk_packet has 8 bytes");
 CLK_ASSERT(sizeof(clk_offered) == 20, "clk_offered has 20 bytes");
-CLK_ASSERT(sizeof(clk_offer_of) == 4, "clk_offer_of has 4 bytes");
+CLK_ASSERT(sizeof(clk_offer_of) == 8, "clk_offer_of has 8 bytes");
 CLK_ASSERT(sizeof(clk_departure) == 16, "clk_departure has 16 bytes");
 CLK_ASSERT(sizeof(clk_total) == 16, "clk_total has 16 bytes");
 CLK_ASSERT(sizeof(clk_account) == 72, "clk_account has 72 bytes");

@@ -9,8 +9,8 @@
 //         transmit(it->value);
 //
 // A `Router` carries packets, and a `Carrier<T>` with each a value of the caller's. Both are moved and not copied, and shut their router
-// where they end. A call that can't be made throws: `Error`, where the router is shut, a sender, device or queue is unknown, a packet has
-// no length or a number is at its end; `TextFault`, where a text makes no router; std::bad_alloc where memory is refused. A call that
+// where they end. A call that can't be made throws: `Error`, where the router is shut, a sender, device or queue is unknown, a length is
+// not from 1 to 65,535 or a number is at its end; `TextFault`, where a text makes no router; std::bad_alloc where memory is refused. A call that
 // throws leaves all as it was, but for a drain at the end of moments, which keeps the pulls that it made before. That a packet is refused,
 // or that none comes, is no error, and no exception.
 #ifndef CLICKPULL_HPP
@@ -146,7 +146,7 @@ public:
     bool is_open() const noexcept { return router_.at != nullptr; }
 
     // The sender offers its next packet, of so many bytes.
-    Offered offer(std::uint16_t sender, std::uint16_t length) {
+    Offered offer(std::uint32_t sender, std::uint32_t length) {
         clk_offered it{};
         need(clk_offer(&router_, sender, length, &it));
         return {it.packet, it.outcome != CLK_REFUSED, it.outcome == CLK_EVICTED ? std::optional<Packet>(it.evicted) : std::nullopt};
@@ -274,7 +274,7 @@ public:
     }
 
     // The sender offers its next packet, of so many bytes, with this value.
-    Offer offer(std::uint16_t sender, std::uint16_t length, T value) {
+    Offer offer(std::uint32_t sender, std::uint32_t length, T value) {
         List &list = list_of(sender);
         // It is put into the list first, so that no memory is asked for once the packet was offered.
         list.push_back({0, std::move(value)});
@@ -332,7 +332,7 @@ public:
     }
 
     // How many values of a sender are here: in its queue, or held by a scheduler.
-    std::size_t kept(std::uint16_t sender) { return list_of(sender).size(); }
+    std::size_t kept(std::uint32_t sender) { return list_of(sender).size(); }
 
     // The router, to ask about it.
     const Router &router() const noexcept { return router_; }
@@ -346,7 +346,7 @@ private:
     using List = std::deque<Own>;
 
     // Places go by rising numbers of senders. Throws CLK_UNKNOWN_SENDER, or CLK_SHUT where it was moved from.
-    List &list_of(std::uint16_t sender) {
+    List &list_of(std::uint32_t sender) {
         if (!router_.is_open())
             throw Error(CLK_SHUT);
         const auto place = std::lower_bound(places_.begin(), places_.end(), sender);
@@ -374,7 +374,7 @@ private:
     }
 
     Router router_;
-    std::vector<std::uint16_t> places_;
+    std::vector<std::uint32_t> places_;
     std::vector<List> lists_;
 };
 

@@ -29,7 +29,7 @@ static void stop(const char *what) {
     exit(1);
 }
 
-static void offer(clk_router *router, uint16_t sender, uint16_t length) {
+static void offer(clk_router *router, uint32_t sender, uint32_t length) {
     clk_offered it;
     if (clk_offer(router, sender, length, &it) != CLK_OK || it.outcome != CLK_ACCEPTED)
         stop("an offer isn't accepted");
@@ -125,7 +125,7 @@ static void begin(struct bench *bench, const struct tree *tree) {
     for (unsigned queue = 0; queue < tree->queues; queue++)
         for (unsigned i = 0; i < FILL && is_busy(tree, queue); i++) {
             // Lengths as on a link: short ones and full ones.
-            offer(&bench->router, (uint16_t)queue, i % 2 == 0 ? 64 : 1500);
+            offer(&bench->router, queue, i % 2 == 0 ? 64 : 1500);
             put_own(bench, (uint16_t)queue, &bench->own[queue]);
         }
 }

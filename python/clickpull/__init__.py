@@ -17,7 +17,7 @@ Any thread may use a router, or a `Carrier` with its router, but one call at a t
 Python's global lock.
 """
 from clickpull.carrier import Carried, Carrier, Evicted, Offer
-from clickpull.errors import AtEnd, Error, NoLength, Shut, TextFault, UnknownDevice, UnknownSender
+from clickpull.errors import AtEnd, Error, BadLength, Shut, TextFault, UnknownDevice, UnknownSender
 from clickpull.router import END_OF_MOMENTS, Router
 from clickpull.values import Account, Departure, Offered, Outcome, Packet, Queue, Total
 
@@ -30,7 +30,7 @@ __all__ = [
     "Departure",
     "Error",
     "Evicted",
-    "NoLength",
+    "BadLength",
     "Offer",
     "Offered",
     "Outcome",

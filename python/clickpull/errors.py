@@ -34,7 +34,7 @@ class UnknownDevice(Error, LookupError):
     """The tree has no such device."""
 
 
-class NoLength(Error, ValueError):
+class BadLength(Error, ValueError):
     """A packet has 1 to 65,535 bytes."""
 
 

@@ -50,7 +50,7 @@ class Offered(Structure):
 class OfferOf(Structure):
     """An offer, of many."""
 
-    _fields_ = [("sender", c_uint16), ("length", c_uint16)]
+    _fields_ = [("sender", c_uint32), ("length", c_uint32)]
     sender: int
     length: int
 
@@ -123,7 +123,7 @@ COUNT = POINTER(c_size_t)
 CALLS = {
     "clk_router_open": ([POINTER(c_uint8), c_size_t, ROUTER, POINTER(Fault)], c_uint32),
     "clk_router_close": ([RouterHandle], None),
-    "clk_router_offer": ([ROUTER, c_uint16, c_uint16, POINTER(Offered)], c_uint32),
+    "clk_router_offer": ([ROUTER, c_uint32, c_uint32, POINTER(Offered)], c_uint32),
     "clk_router_offer_many": ([ROUTER, POINTER(OfferOf), c_size_t, POINTER(Offered), c_size_t, COUNT], c_uint32),
     "clk_router_pull": ([ROUTER, c_uint16, c_uint64, POINTER(Packet)], c_uint32),
     "clk_router_pull_many": ([ROUTER, c_uint16, c_uint64, POINTER(Packet), c_size_t, COUNT], c_uint32),

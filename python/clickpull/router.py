@@ -6,7 +6,7 @@ from types import TracebackType
 from typing import NoReturn
 
 from clickpull import library
-from clickpull.errors import AtEnd, Error, NoLength, Shut, TextFault, UnknownDevice, UnknownSender
+from clickpull.errors import AtEnd, Error, BadLength, Shut, TextFault, UnknownDevice, UnknownSender
 from clickpull.library import LIBRARY
 from clickpull.values import Account, Departure, Offered, Outcome, Packet, Queue, Total
 
@@ -206,7 +206,7 @@ class Router:
         if not 0 <= sender < _END_OF_NUMBERS:
             raise UnknownSender(f"there is no sender {sender}")
         if not 1 <= length < _END_OF_NUMBERS:
-            raise NoLength(f"a packet has 1 to 65,535 bytes, and not {length}")
+            raise BadLength(f"a packet has 1 to 65,535 bytes, and not {length}")
 
     @staticmethod
     def _need_device(device: int) -> None:

@@ -4,7 +4,7 @@ from collections.abc import Callable
 
 import pytest
 
-from clickpull import Carried, Carrier, Evicted, NoLength, Packet, Shut, UnknownSender
+from clickpull import Carried, Carrier, Evicted, BadLength, Packet, Shut, UnknownSender
 
 
 def test_values_come_out_in_order() -> None:
@@ -40,7 +40,7 @@ def test_an_evicted_value_stands_behind_held_ones() -> None:
 
 def test_what_cannot_be_offered_is_not_kept() -> None:
     with Carrier[int]("a :: Sender(0); q :: Queue(1); d :: ToDevice(link); a -> q -> d;") as carrier:
-        with pytest.raises(NoLength):
+        with pytest.raises(BadLength):
             carrier.offer(0, 0, 5)
         with pytest.raises(UnknownSender):
             carrier.offer(1, 1, 5)

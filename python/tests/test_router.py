@@ -12,7 +12,7 @@ from clickpull import (
     AtEnd,
     Departure,
     Error,
-    NoLength,
+    BadLength,
     Outcome,
     Packet,
     Queue,
@@ -75,7 +75,7 @@ def test_where_one_of_many_cannot_be_none_is_offered() -> None:
     with Router(ONE) as router:
         with pytest.raises(UnknownSender):
             router.offer_many([(4, 10), (5, 11)])
-        with pytest.raises(NoLength):
+        with pytest.raises(BadLength):
             router.offer_many([(4, 10), (4, 0)])
         assert router.left() == 0
 
@@ -131,8 +131,8 @@ def test_an_unknown_sender(sender: int) -> None:
 
 
 @pytest.mark.parametrize("length", [0, -1, 65536])
-def test_no_length(length: int) -> None:
-    with Router(ONE) as router, pytest.raises(NoLength):
+def test_a_bad_length(length: int) -> None:
+    with Router(ONE) as router, pytest.raises(BadLength):
         router.offer(4, length)
 
 

@@ -19,7 +19,7 @@ int is_packet(clk_packet packet, unsigned sender, unsigned number, unsigned leng
 
 clk_offered offered(clk_router *router, unsigned sender, unsigned length) {
     clk_offered it = {{0, 0, 0}, {0, 0, 0}, 0};
-    CHECK(clk_offer(router, (uint16_t)sender, (uint16_t)length, &it) == CLK_OK);
+    CHECK(clk_offer(router, sender, length, &it) == CLK_OK);
     CHECK(it.packet.sender == sender && it.packet.length == length);
     return it;
 }

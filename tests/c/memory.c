@@ -78,7 +78,7 @@ static void use(clk_router *router) {
     uint64_t number;
     size_t count;
     for (uint64_t i = 0; i < 300; i++) {
-        check(clk_offer(router, 0, (uint16_t)(1 + i), offered) == CLK_OK, "an offer is made");
+        check(clk_offer(router, 0, (uint32_t)(1 + i), offered) == CLK_OK, "an offer is made");
         check(clk_offer_many(router, offers, 2, offered, &count) == CLK_OK, "offers are made");
         check(clk_pull(router, 0, i, packets) <= CLK_NONE, "a pull is made");
         check(clk_pull_many(router, 0, i, packets, 2, &count) <= CLK_NONE, "pulls are made");

@@ -46,6 +46,12 @@ static void what_cannot_be_offered(void) {
     CHECK(clk_offer(&router, 2, 1, &it) == CLK_UNKNOWN_SENDER);
     CHECK(clk_offer(&router, 65535, 1, &it) == CLK_UNKNOWN_SENDER);
     CHECK(clk_offer(&router, 3, 0, &it) == CLK_BAD_LENGTH);
+    CHECK(clk_offer(&router, 3, 65536, &it) == CLK_BAD_LENGTH);
+    CHECK(clk_offer(&router, 3, 70000, &it) == CLK_BAD_LENGTH);
+    CHECK(clk_offer(&router, 3, UINT32_MAX, &it) == CLK_BAD_LENGTH);
+    CHECK(clk_offer(&router, 65536 + 3, 1, &it) == CLK_UNKNOWN_SENDER);
+    CHECK(clk_offer(&router, UINT32_MAX, 1, &it) == CLK_UNKNOWN_SENDER);
+    CHECK(clk_offer(&router, 65536 + 3, 0, &it) == CLK_BAD_LENGTH);
     CHECK(memcmp(&it, &before, sizeof it) == 0);
     CHECK(left(&router, 0) == 0);
     CHECK(is_packet(offered(&router, 3, 65535).packet, 3, 0, 65535));
@@ -73,14 +79,26 @@ static void many_are_offered(void) {
     clk_close(&router);
 }
 
-static void no_length_ends_many(void) {
-    clk_router router = opened("a :: Sender(0); q :: Queue(2); d :: ToDevice(link); a -> q -> d;");
-    static const clk_offer_of OFFERS[] = {{0, 0}, {0, 1}};
-    clk_offered it[2];
-    size_t done = 99;
-    CHECK(clk_offer_many(&router, OFFERS, 2, it, &done) == CLK_BAD_LENGTH && done == 0);
-    CHECK(left(&router, 0) == 0);
-    clk_close(&router);
+/* Each of these second offers ends the many. Nothing of it is filled in, and what stands behind it isn't offered. */
+static void an_offer_out_of_range_ends_many(void) {
+    static const struct {
+        clk_offer_of offer;
+        clk_status status;
+    } ENDS[] = {{{0, 0}, CLK_BAD_LENGTH},          {{0, 65536}, CLK_BAD_LENGTH},      {{0, 70000}, CLK_BAD_LENGTH},
+                {{65536, 0}, CLK_BAD_LENGTH},      {{65536, 1}, CLK_UNKNOWN_SENDER},  {{UINT32_MAX, 1}, CLK_UNKNOWN_SENDER}};
+    for (size_t i = 0; i < sizeof ENDS / sizeof *ENDS; i++) {
+        clk_router router = opened("a :: Sender(0); q :: Queue(4); d :: ToDevice(link); a -> q -> d;");
+        const clk_offer_of offers[] = {{0, 65535}, ENDS[i].offer, {0, 1}};
+        clk_offered it[3];
+        size_t done = 99;
+        memset(it, 0x5a, sizeof it);
+        CHECK(clk_offer_many(&router, offers, 3, it, &done) == ENDS[i].status && done == 1);
+        CHECK(is_packet(it[0].packet, 0, 0, 65535) && it[0].outcome == CLK_ACCEPTED);
+        CHECK(it[1].outcome == 0x5a5a5a5a && it[2].outcome == 0x5a5a5a5a);
+        CHECK(left(&router, 0) == 1);
+        CHECK(is_packet(offered(&router, 0, 1).packet, 0, 1, 1));
+        clk_close(&router);
+    }
 }
 
 void test_offers(void) {
@@ -88,5 +106,5 @@ void test_offers(void) {
     a_full_front_drop_queue_evicts();
     what_cannot_be_offered();
     many_are_offered();
-    no_length_ends_many();
+    an_offer_out_of_range_ends_many();
 }

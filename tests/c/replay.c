@@ -54,7 +54,7 @@ static void print_packet(clk_packet packet) {
 
 static void send(clk_router *router, unsigned sender, unsigned length) {
     clk_offered offered;
-    need(clk_offer(router, (uint16_t)sender, (uint16_t)length, &offered));
+    need(clk_offer(router, sender, length, &offered));
     print_packet(offered.packet);
     printf(offered.outcome == CLK_REFUSED ? " refused" : " accepted");
     if (offered.outcome == CLK_EVICTED)

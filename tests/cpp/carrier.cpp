@@ -86,8 +86,8 @@ static void many_values_keep_their_packets() {
     unsigned numbers[3] = {0, 0, 0};
     const auto fits = [](const auto &it) { return it.value.first == it.packet.sender && it.value.second == it.packet.number; };
     for (std::uint64_t moment = 0; moment < 4000; moment++) {
-        const auto sender = static_cast<std::uint16_t>(random() % 3);
-        const auto length = static_cast<std::uint16_t>(1 + random() % 1500);
+        const auto sender = static_cast<std::uint32_t>(random() % 3);
+        const auto length = static_cast<std::uint32_t>(1 + random() % 1500);
         const auto it = carrier.offer(sender, length, {sender, numbers[sender]++});
         CHECK(!it.evicted || fits(*it.evicted));
         const auto out = carrier.pull(0, moment);

@@ -29,7 +29,7 @@ static void packets_are_offered_and_pulled() {
     Router router(ONE);
     CHECK(!router.pull(0, 0));
     for (unsigned i = 0; i < 2; i++) {
-        const auto it = router.offer(4, static_cast<std::uint16_t>(10 + i));
+        const auto it = router.offer(4, 10 + i);
         CHECK(is_packet(it.packet, 4, i, 10 + i) && it.accepted && !it.evicted);
     }
     const auto it = router.offer(4, 12);
@@ -88,6 +88,8 @@ static void what_cannot_be_is_thrown() {
     Router router(ONE);
     CHECK(thrown_by([&] { router.offer(5, 1); }) == CLK_UNKNOWN_SENDER);
     CHECK(thrown_by([&] { router.offer(4, 0); }) == CLK_BAD_LENGTH);
+    CHECK(thrown_by([&] { router.offer(4, 65536); }) == CLK_BAD_LENGTH);
+    CHECK(thrown_by([&] { router.offer(65536 + 4, 1); }) == CLK_UNKNOWN_SENDER);
     CHECK(thrown_by([&] { router.pull(1, 0); }) == CLK_UNKNOWN_DEVICE);
     CHECK(thrown_by([&] { router.pull(0, CLK_END_OF_MOMENTS); }) == CLK_AT_END);
     CHECK(thrown_by([&] { router.left(1); }) == CLK_UNKNOWN_DEVICE);

@@ -19,11 +19,11 @@ pub record HasEnded (c : Course) (sender : ℕ) : Type 0 where
   pub is_at : sender_at c.setup place ≡ Some sender
   pub ended : CanOffer c place → ⊥
 
--- An offer is refused: it has no length; or else its sender is unknown; or else its sender can't offer another packet.
+-- An offer is refused: its length is out of range; or else its sender is unknown; or else its sender can't offer another packet.
 pub data RefusesOffer (c : Course) (sender length status : ℕ) : Type 0 where
-  no_length : status ≡ BAD_LENGTH → length ≡ 0 → RefusesOffer c sender length status
-  unknown_sender : status ≡ UNKNOWN_SENDER → 1 ≤ length → IsUnknown c sender → RefusesOffer c sender length status
-  at_end : status ≡ AT_END → 1 ≤ length → HasEnded c sender → RefusesOffer c sender length status
+  bad_length : status ≡ BAD_LENGTH → (IsLength length → ⊥) → RefusesOffer c sender length status
+  unknown_sender : status ≡ UNKNOWN_SENDER → IsLength length → IsUnknown c sender → RefusesOffer c sender length status
+  at_end : status ≡ AT_END → IsLength length → HasEnded c sender → RefusesOffer c sender length status
 
 -- A pull is refused: the device is unknown; or else it can't be pulled at this moment.
 pub data RefusesPull (c : Course) (device moment status : ℕ) : Type 0 where

@@ -1,21 +1,22 @@
 //! Offers of packets.
 
-ghost use Rattle.std.specs.Prelude.{◌≡◌, ◌≤◌, ◌⊎◌, length, IfOk, IfErr, OnErr};
-ghost use Rattle.clickpull_c.specs.Answers.{RefusesOffer};
+ghost use Rattle.std.specs.Prelude.{◌≡◌, ◌<◌, ◌≤◌, ◌⊎◌, ◌^◌, None, Some, length, slice_get, IfSome, IfOk, IfErr, OnErr};
+ghost use Rattle.clk_router.specs.Course.{sender_at};
+ghost use Rattle.clickpull_c.specs.Answers.{IsUnknown, RefusesOffer};
 ghost use Rattle.clickpull_c.specs.Calls.{EndsOffers, IsOffered, IsOfferedSoFar};
 ghost use Rattle.clickpull_c.specs.declared.statuses.TheConstants.{OK};
 
 use crate::handle::Handle;
 use crate::statuses::{AT_END, BAD_LENGTH, OK, UNKNOWN_SENDER};
-use crate::values::{COffer, COffered, offered_for_c};
+use crate::values::{COffer, COffered, length_of, offered_for_c};
 use clk_router::CountingRouter;
 
 /// The sender with this number offers its next packet, of this length in bytes, to its queue. What became of it is filled in.
 #[unsafe(no_mangle)]
 pub extern "C" fn clk_router_offer(
     router: &mut Handle,
-    sender: u16,
-    length: u16,
+    sender: u32,
+    length: u32,
     offered: &mut COffered,
 ) -> u32
     ensures answer { ((result ≡ OK) × IsOffered router.old.router router.new.router sender length offered.new) ⊎ (RefusesOffer router.old.router sender length result × (router.new.router ≡ router.old.router) × (offered.new ≡ offered.old)) }
@@ -72,15 +73,15 @@ fn offer_each(
 }
 
 /// Makes one offer to this router. Returns what became of it, or the status that says why it can't be made.
-fn offer(router: &mut CountingRouter, sender: u16, length: u16) -> Result<COffered, u32>
+fn offer(router: &mut CountingRouter, sender: u32, length: u32) -> Result<COffered, u32>
     ensures offered { IfOk result (IsOffered router.old router.new sender length) }
     ensures refused { IfErr result (RefusesOffer router.old sender length) }
     ensures unchanged { OnErr result (router.new ≡ router.old) }
 {
-    if length == 0 {
+    let Some(length) = length_of(length) else {
         return Err(BAD_LENGTH);
-    }
-    let Some(place) = router.place_of(sender) else {
+    };
+    let Some(place) = place_of(router, sender) else {
         return Err(UNKNOWN_SENDER);
     };
     let place = usize::from(place);
@@ -90,3 +91,22 @@ fn offer(router: &mut CountingRouter, sender: u16, length: u16) -> Result<COffer
     let (packet, outcome) = router.offer(place, length);
     Ok(offered_for_c(packet, outcome))
 }
+
+/// The place of the sender with this number, if there is one.
+fn place_of(router: &CountingRouter, sender: u32) -> Option<u16>
+    ensures found { IfSome result (λ place. sender_at router.now.setup place ≡ Some sender) }
+    ensures missing { result ≡ None → IsUnknown router.now sender }
+{
+    match u16::try_from(sender) {
+        Ok(number) => router.place_of(number),
+        Err(_) => {
+            are_small(router.senders());
+            None
+        }
+    }
+}
+
+/// No number of 16 bits is above 65,535: a law, which does nothing.
+fn are_small(numbers: &[u16])
+    ensures { (place number : _) → slice_get numbers.now place ≡ Some number → number < 2 ^ 16 }
+{}

@@ -37,9 +37,9 @@ pub struct COffered {
 #[derive(Clone, Copy)]
 pub struct COffer {
     /// The sender's number.
-    pub sender: u16,
+    pub sender: u32,
     /// The packet's length in bytes, from 1 to 65,535.
-    pub length: u16,
+    pub length: u32,
 }
 
 /// A packet that a sender offers to its inlet. In C it is the struct `clk_item`.
