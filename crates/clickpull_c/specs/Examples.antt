@@ -1,4 +1,4 @@
--- What pulls and drains do to a router, and what they do not: each of the latter makes one pull too many.
+-- What pulls and drains do to a router, and what they do not: each of the latter makes one pull too many. And items for an inlet.
 use Rattle.std.specs.Prelude.{List, [], ◌∷◌, Some, None, true, false}
 use Rattle.std.proofs.Common.{lit≤}
 use Rattle.clk_packet.specs.Packets.{packet}
@@ -13,6 +13,7 @@ use Rattle.clk_router.specs.Events.{Setup, offered, pulled}
 use Rattle.clk_router.specs.Course.{Course, after}
 use Rattle.clickpull_c.specs.declared.values.CPacket.{CPacket}
 use Rattle.clickpull_c.specs.declared.values.CDeparture.{CDeparture}
+use Rattle.clickpull_c.specs.declared.values.CItem.{CItem}
 use Rattle.clickpull_c.specs.Values.{no_packet, packet_in_c}
 
 abbrev pub p0_0 : Packet
@@ -72,3 +73,10 @@ departure_before = record { moment = 0; packet = no_packet } ∷ []
 
 abbrev pub departure_filled : List CDeparture
 departure_filled = record { moment = 1; packet = packet_in_c p0_0 } ∷ []
+
+-- one item for an inlet, of a length that is right, and of one that is too long
+abbrev pub one_item : List CItem
+one_item = record { token = 7; length = 100 } ∷ []
+
+abbrev pub too_long : List CItem
+too_long = record { token = 7; length = 65536 } ∷ []

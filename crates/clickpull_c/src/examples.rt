@@ -1,9 +1,13 @@
-//! What the definitions of pulls and of drains say of worked examples: where they end, and that one more pull is none of theirs. The
-//! function does nothing.
+//! What the definitions of calls say of worked examples. The functions do nothing.
 
+ghost use Rattle.std.specs.Prelude.{[]};
+ghost use Rattle.clk_inlet.specs.Halves.{next_number};
+ghost use Rattle.clk_inlet.specs.declared.inlet.Inlet.{Inlet};
+ghost use Rattle.clickpull_c.specs.Answers.{RefusesOffer};
 ghost use Rattle.clickpull_c.specs.Calls.{IsDrained, IsPulledOften};
-ghost use Rattle.clickpull_c.specs.Examples.{fresh, fresh_pulled, one_waits, one_out, one_out_pulled, two_wait, first_out, first_out_pulled, packet_before, packet_filled, departure_before, departure_filled};
-ghost use Rattle.clickpull_c.specs.declared.statuses.TheConstants.{OK, NONE};
+ghost use Rattle.clickpull_c.specs.Inlets.{Accepts, AcceptsMany, EndsBatch, RefusesPacket};
+ghost use Rattle.clickpull_c.specs.Examples.{fresh, fresh_pulled, one_waits, one_out, one_out_pulled, two_wait, first_out, first_out_pulled, packet_before, packet_filled, departure_before, departure_filled, one_item, too_long};
+ghost use Rattle.clickpull_c.specs.declared.statuses.TheConstants.{OK, NONE, BAD_LENGTH, UNKNOWN_SENDER, FULL};
 
 /// A drain pulls neither where nothing is left nor once its one place is filled, though it may pull five times; and pulls at one moment
 /// end once their one place is filled.
@@ -14,4 +18,31 @@ pub fn call_examples()
     ensures not_pulled_with_no_place { ¬ (IsDrained two_wait first_out_pulled 0 5 departure_before departure_filled 1 NONE) }
     ensures pulls_one { IsPulledOften one_waits one_out 0 1 packet_before packet_filled 1 }
     ensures not_pulled_once_more { ¬ (IsPulledOften one_waits one_out_pulled 0 1 packet_before packet_filled 1) }
+{}
+
+/// Which status an offer is refused with: its length is tested first, and neither it nor the sender's number is cut to 16 bits.
+pub fn refusal_examples()
+    ensures too_long { RefusesOffer fresh 0 65536 BAD_LENGTH }
+    ensures length_first { RefusesOffer fresh 1 0 BAD_LENGTH }
+    ensures not_sender_first { ¬ (RefusesOffer fresh 1 0 UNKNOWN_SENDER) }
+    ensures not_longest { ¬ (RefusesOffer fresh 0 65535 BAD_LENGTH) }
+    ensures not_shortest { ¬ (RefusesOffer fresh 0 1 BAD_LENGTH) }
+    ensures unknown { RefusesOffer fresh 65536 1 UNKNOWN_SENDER }
+    ensures not_known { ¬ (RefusesOffer fresh 0 1 UNKNOWN_SENDER) }
+{}
+
+/// What an inlet accepts and refuses: its length is tested first, what was not pushed is not accepted, and a batch ends with its last item
+/// or with one that is refused.
+pub fn inlet_examples()
+    ensures too_long { (i : Inlet) → RefusesPacket i 65536 BAD_LENGTH }
+    ensures not_longest { (i : Inlet) → ¬ (RefusesPacket i 65535 BAD_LENGTH) }
+    ensures not_shortest { (i : Inlet) → ¬ (RefusesPacket i 1 BAD_LENGTH) }
+    ensures length_first { (i : Inlet) → ¬ (RefusesPacket i 0 FULL) }
+    ensures not_pushed { (i : Inlet) → ¬ (Accepts i i 100 7 (next_number i)) }
+    ensures none_pushed { (i : Inlet) → AcceptsMany i i one_item 0 }
+    ensures not_one_pushed { (i : Inlet) → ¬ (AcceptsMany i i one_item 1) }
+    ensures ended { (i : Inlet) → EndsBatch i one_item 1 OK }
+    ensures not_ended_early { (i : Inlet) → ¬ (EndsBatch i one_item 0 OK) }
+    ensures ended_by_length { (i : Inlet) → EndsBatch i too_long 0 BAD_LENGTH }
+    ensures not_ended_by_good_length { (i : Inlet) → ¬ (EndsBatch i one_item 0 BAD_LENGTH) }
 {}

@@ -14,7 +14,7 @@ mod statuses;
 mod telling;
 mod values;
 
-pub use examples::call_examples;
+pub use examples::{call_examples, inlet_examples, refusal_examples};
 pub use handle::{Handle, Place};
 pub use inlets::{InletHandle, InletPlace};
 pub use values::{CAccount, CDeparture, CFault, CItem, COffer, COffered, CPacket, CQueue, CTotal};
