@@ -404,42 +404,43 @@ static inline clk_status clk_queue_at(const clk_router *router, uint16_t number,
 
 /* ------------------------------------------------------------------------------------------------------------ inlets
  *
- * An inlet carries the packets of one sender to a router, from a thread of the sender's own. It is a ring, and has room for as many packets
- * as it was opened with. No call on an inlet waits, allocates memory or takes a lock.
+ * An inlet carries the packets of one sender to a router that runs on another thread. It is a ring with room for a fixed number of packets.
+ * No call on an inlet waits, allocates memory or takes a lock.
  *
- *     while (next_packet(&buffer)) {
+ *     while ((buffer = next_packet()) != NULL)
  *         while (clk_inlet_offer(&inlet, buffer->length, (uint64_t)(uintptr_t)buffer, NULL) == CLK_FULL)
  *             pause_for_a_while();
- *     }
  *     clk_inlet_close(&inlet);
  *
- * TOKENS. A token is any value of 64 bits: a pointer, an index, or 0. The library doesn't read it, and gives it back with the packet.
- * What a token points to is the router's side's to free once the packet was accepted, and still the sender's if it was not.
+ * TOKENS. A token is any value of 64 bits: a pointer, an index, or 0. The library never reads what it points to, and returns it with the
+ * packet. The thread that takes a packet sees all that the sender wrote before it offered the packet.
  *
- * BACK PRESSURE. CLK_FULL says that the router's thread is behind. Pause before the next try: sleep, or do other work. A sender that
- * tries again at once reads memory that the router's thread writes, and slows it down.
+ * BACK PRESSURE. CLK_FULL means that the router's thread is behind. Pause before the next try: sleep, or do other work. A sender that tries
+ * again at once reads memory that the router's thread writes, and slows that thread down.
  *
- * WHO OWNS WHAT. Whoever holds an inlet closes it, once. A clk_inlet may be copied, as a pointer may: the copies are one inlet.
+ * WHO OWNS WHAT. Whoever holds an inlet closes it, once. A clk_inlet may be copied, as a pointer may: the copies are one inlet. Once a
+ * packet is accepted, what its token points to belongs to the router's side. The sender keeps it if the packet is not accepted. An inlet
+ * may outlive its router. Then nobody takes packets: offers return CLK_OK until the ring is full, and CLK_FULL from then on.
  *
- * WHAT THE CALLER OWES. These no test can find:
+ * WHAT THE CALLER OWES. No test can find these:
  *
  *   - Calls on one inlet come one after the other. Calls on other inlets, and on the router, may run at the same time.
- *   - An inlet may move to another thread. The last call on the one thread happens before the first on the other: by the start or the
- *     join of a thread, by a lock of the caller's, or by a sequentially consistent atomic operation.
- *   - An inlet that was closed isn't used again through a copy of its clk_inlet.
- *   - Every inlet is closed in the end, also where its sender never offered a packet. Of one that is never closed the memory is lost, and
- *     the router cannot tell that no packet follows. */
+ *   - An inlet may move to another thread. The hand-over is ordered: by the start or the join of a thread, by a lock of the caller's, or by
+ *     a sequentially consistent atomic operation.
+ *   - After an inlet is closed, no copy of its clk_inlet is used.
+ *   - Every inlet is closed in the end, even if its sender never offered a packet. The memory of one that is never closed is lost, and the
+ *     router never learns that its sender has ended. */
 
 /* Offers the sender's next packet, of `length` bytes, with a token. `number` may be null where it isn't wanted.
  *
  * CLK_OK          the inlet accepted the packet. `number` is its number: how many packets the inlet accepted before it.
- * CLK_FULL        there is no room now. The packet may be offered again, once the router's thread has taken packets.
+ * CLK_FULL        there is no room now. Offer the packet again later.
  * CLK_BAD_LENGTH  `length` is not from 1 to 65,535.
  * CLK_AT_END      the inlet has accepted 4,294,967,295 packets, and accepts no more.
  * CLK_SHUT        the inlet was closed.
  * CLK_NULL        `inlet` is null.
  *
- * Where it isn't CLK_OK nothing was sent, and `number` is as it was. */
+ * If the status isn't CLK_OK, nothing was sent, and `number` is unchanged. */
 static inline clk_status clk_inlet_offer(clk_inlet *inlet, uint32_t length, uint64_t token, uint32_t *number) {
     uint32_t unwanted = 0;
     if (!inlet)
@@ -470,8 +471,8 @@ static inline clk_status clk_inlet_offer_many(clk_inlet *inlet, const clk_item *
     return CLK_STATUS(clk_raw_inlet_offer_many(inlet, items, count, done));
 }
 
-/* How many packets are sure to fit now: so many offers will not return CLK_FULL. There may be more room at once, since the router's thread
- * goes on. 0 once the inlet has accepted 4,294,967,295 packets.
+/* How many packets are sure to fit: none of the next `*room` offers returns CLK_FULL. More may fit a moment later, since the router's
+ * thread takes packets meanwhile. It is 0 once the inlet has accepted 4,294,967,295 packets.
  *
  * CLK_OK  `room` is the number. CLK_SHUT, CLK_NULL. */
 static inline clk_status clk_inlet_room(clk_inlet *inlet, size_t *room) {
@@ -483,8 +484,8 @@ static inline clk_status clk_inlet_room(clk_inlet *inlet, size_t *room) {
     return CLK_OK;
 }
 
-/* Says that no packet follows, and frees the inlet. It leaves `inlet` shut. Packets that are still in the ring stay there, and the router's
- * thread takes them. It never waits, and never fails where there is an inlet: the ring keeps a place for the end, also when it is full.
+/* Ends the sender's packets, frees the inlet and leaves `inlet` shut. The router's thread still takes the packets that are in the ring, and
+ * then learns that no more follow. Closing never waits. An open inlet can always be closed: even a full ring has a place for the end.
  *
  * CLK_OK    the inlet is closed.
  * CLK_SHUT  it was closed before.

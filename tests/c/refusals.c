@@ -8,7 +8,10 @@ static clk_packet packet;
 static clk_departure departure;
 static clk_account account;
 static clk_queue queue;
+static clk_inlet inlet = CLK_NO_INLET;
+static clk_item item = {7, 1};
 static uint64_t number;
+static uint32_t place;
 static size_t count;
 
 static void a_shut_router_is_told(void) {
@@ -57,6 +60,25 @@ static void nulls_are_told(clk_router *router) {
     CHECK(clk_queue_at(router, 0, NULL) == CLK_NULL);
 }
 
+/* An inlet that is shut or null, and nulls beside it. */
+static void no_inlet_is_told(void) {
+    place = 5;
+    CHECK(clk_inlet_offer(&inlet, 1, 7, &place) == CLK_SHUT && place == 5);
+    CHECK(clk_inlet_offer(NULL, 1, 7, &place) == CLK_NULL && place == 5);
+    count = 5;
+    CHECK(clk_inlet_offer_many(&inlet, &item, 1, &count) == CLK_SHUT && count == 0);
+    count = 5;
+    CHECK(clk_inlet_offer_many(NULL, &item, 1, &count) == CLK_NULL && count == 0);
+    CHECK(clk_inlet_offer_many(&inlet, NULL, 1, &count) == CLK_NULL);
+    CHECK(clk_inlet_offer_many(&inlet, &item, 1, NULL) == CLK_NULL);
+    count = 5;
+    CHECK(clk_inlet_room(&inlet, &count) == CLK_SHUT && count == 5);
+    CHECK(clk_inlet_room(NULL, &count) == CLK_NULL && count == 5);
+    CHECK(clk_inlet_room(&inlet, NULL) == CLK_NULL);
+    CHECK(clk_inlet_close(&inlet) == CLK_SHUT && inlet.at == NULL);
+    CHECK(clk_inlet_close(NULL) == CLK_NULL);
+}
+
 /* A text that is null is none, and leaves the router shut. */
 static void a_null_text_is_told(void) {
     clk_router router = CLK_NO_ROUTER;
@@ -84,6 +106,7 @@ void test_refusals(void) {
     a_shut_router_is_told();
     no_router_is_told();
     nulls_are_told(&router);
+    no_inlet_is_told();
     a_null_text_is_told();
     nothing_needs_no_array(&router);
     nothing_was_done(&router);
