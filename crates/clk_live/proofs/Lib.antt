@@ -1,5 +1,7 @@
 -- Lemmas on what a live router keeps, of which `Callers` has those that crates above may cite too.
 pub mod Callers
+-- Lemmas on what a live router keeps. Crates above may cite those that are public.
+pub mod Crosses
 mod Lists
 mod Outlets
 mod Counts
@@ -9,8 +11,8 @@ mod AfterOffer
 mod Fitting
 mod SoFar
 mod Openings
-mod Pulls
+pub mod Pulls
 mod Reclaims
-mod Drains
+pub mod Drains
 mod Meetings
 mod Rounds

@@ -2,6 +2,7 @@
 
 use crate::live::Live;
 use circular_buffer::HeapCircularBuffer;
+use std::alloc::Global;
 use std::marker::Model;
 
 /// The tokens of the packets that were inside a live router when it was given up.
@@ -25,6 +26,16 @@ impl Model for Reclaimed {
 
 impl Reclaimed {
     ghost use Rattle.std.specs.Prelude.{◌≡◌, [], ◌∷◌, None, IfSome};
+
+    /// No tokens. It allocates nothing.
+    pub fn none(alloc: Global) -> Reclaimed
+        ensures { result ≡ [] }
+    {
+        Reclaimed {
+            tokens: Vec::new(alloc),
+            queue: 0,
+        }
+    }
 
     /// Takes out the next token. Returns `None` once there is none left.
     pub fn take(&mut self) -> Option<u64>
