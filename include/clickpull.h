@@ -66,7 +66,7 @@ extern "C" {
  * counts `done` and `given` of calls for many, which are always set where the call gets them. */
 typedef enum clk_status {
     CLK_OK = 0,             /* it is done */
-    CLK_NONE = 1,           /* the pull was made and gave no packet; the drain isn't at its end */
+    CLK_NONE = 1,           /* the pull was made and gave no packet; the drain isn't at its end; or what was asked for isn't so yet */
     CLK_SHUT = 2,           /* the router or the inlet is shut: it was closed, or clk_open had a fault */
     CLK_NULL = 3,           /* a pointer is null */
     CLK_UNKNOWN_SENDER = 4, /* the tree has no sender with this number, or at this place */
@@ -76,7 +76,10 @@ typedef enum clk_status {
                              * as often as it may be, 2^63 times */
     CLK_UNKNOWN_QUEUE = 8,  /* the tree has no queue with this number */
     CLK_FAULT = 9,          /* the text makes no router, or memory was refused: see the fault */
-    CLK_FULL = 10           /* the inlet has no room for the packet now */
+    CLK_FULL = 10,          /* the inlet has no room for the packet now */
+    CLK_BAD_ROOM = 11,      /* the room of inlets is not from 1 to 16,777,216 */
+    CLK_HANDED_OUT = 12,    /* the inlet of this sender was handed out before */
+    CLK_RECLAIMED = 13      /* the tokens of the live router were reclaimed: only clk_live_close and clk_live_reclaim are left */
 } clk_status;
 
 /* What became of a packet that was offered. */
@@ -170,6 +173,42 @@ typedef struct clk_item {
     uint32_t length; /* the packet's length in bytes, 1 to 65,535 */
 } clk_item;
 
+/* A live router, or none where `at` is null. `at` is the library's; a caller copies it at most. */
+typedef struct clk_live {
+    void *at;
+} clk_live;
+
+/* What a variable holds that has no live router yet: clk_live live = CLK_NO_LIVE; */
+#define CLK_NO_LIVE {NULL}
+
+/* The greatest room of an inlet, in packets. */
+#define CLK_MOST_ROOM (UINT32_C(1) << 24)
+
+/* How many packets one call of clk_live_take, clk_live_take_in or clk_live_take_what_fits takes at most. */
+#define CLK_MOST_TAKEN 64
+
+/* A packet that was taken from its inlet and offered to its queue, and what became of it. */
+typedef struct clk_taken {
+    clk_packet packet;      /* the packet, with its number */
+    uint64_t token;         /* the token that came with it */
+    clk_packet evicted;     /* the packet that was evicted for it, maybe of another sender; all zero unless the outcome is CLK_EVICTED */
+    uint64_t evicted_token; /* the token that came with the evicted packet, 0 unless the outcome is CLK_EVICTED */
+    uint32_t outcome;       /* a clk_outcome */
+} clk_taken;
+
+/* A packet that a device of a live router emitted. */
+typedef struct clk_emitted {
+    clk_packet packet;
+    uint64_t token; /* the token that came with it */
+} clk_emitted;
+
+/* A packet that a drain of a live router emitted. */
+typedef struct clk_departed {
+    uint64_t moment; /* when it was emitted, in ticks */
+    clk_packet packet;
+    uint64_t token; /* the token that came with it */
+} clk_departed;
+
 /* ------------------------------------------------------------------------------------------------------------ exports */
 
 /* What the library exports. The functions below them test what they are handed and are what to call. An array is handed over as its
@@ -195,6 +234,27 @@ extern uint32_t clk_raw_inlet_offer(clk_inlet *inlet, uint32_t length, uint64_t 
 extern uint32_t clk_raw_inlet_offer_many(clk_inlet *inlet, const clk_item *items, size_t items_length, size_t *done);
 extern size_t clk_raw_inlet_room(clk_inlet *inlet);
 extern void clk_raw_inlet_close(clk_inlet inlet);
+extern uint32_t clk_raw_live_open(const uint8_t *text, size_t length, uint32_t room, clk_live *live, clk_fault *fault);
+extern void clk_raw_live_close(clk_live live);
+extern uint32_t clk_raw_live_inlet(clk_live *live, uint32_t sender, clk_inlet *inlet);
+extern uint32_t clk_raw_live_take(clk_live *live, uint32_t sender, clk_taken *taken, size_t taken_length, size_t *given);
+extern uint32_t clk_raw_live_take_in(clk_live *live, size_t each, clk_taken *taken, size_t taken_length, size_t *given);
+extern uint32_t clk_raw_live_take_what_fits(clk_live *live, size_t each, clk_taken *taken, size_t taken_length, size_t *given);
+extern uint32_t clk_raw_live_pull(clk_live *live, uint16_t device, uint64_t moment, clk_emitted *packet);
+extern uint32_t clk_raw_live_pull_many(clk_live *live, uint16_t device, uint64_t moment, clk_emitted *packets, size_t packets_length,
+                                       size_t *given);
+extern uint32_t clk_raw_live_drain(clk_live *live, uint16_t device, clk_departed *departures, size_t departures_length, uint64_t pulls,
+                                   size_t *given);
+extern uint32_t clk_raw_live_ended(clk_live *live);
+extern uint32_t clk_raw_live_drained(clk_live *live);
+extern uint32_t clk_raw_live_reclaim(clk_live *live, uint64_t *tokens, size_t tokens_length, size_t *given);
+extern uint32_t clk_raw_live_moment(clk_live *live, uint16_t device, uint64_t *moment);
+extern uint32_t clk_raw_live_left(clk_live *live, uint16_t device, uint64_t *packets);
+extern size_t clk_raw_live_senders(clk_live *live);
+extern uint32_t clk_raw_live_account(clk_live *live, size_t place, clk_account *account);
+extern size_t clk_raw_live_queues(clk_live *live);
+extern uint32_t clk_raw_live_queue(clk_live *live, uint16_t number, clk_queue *queue);
+extern size_t clk_raw_live_devices(clk_live *live);
 
 /* Casts, which C++ has under names of their own. */
 #ifdef __cplusplus
@@ -500,6 +560,307 @@ static inline clk_status clk_inlet_close(clk_inlet *inlet) {
     return CLK_OK;
 }
 
+/* ------------------------------------------------------------------------------------------------------------ live routers
+ *
+ * A live router is a router whose senders offer from threads of their own. Each sender has an inlet. One thread owns the live router: it
+ * takes packets from the inlets, offers them to the queues, and pulls the devices. Each packet travels with its token.
+ *
+ *     clk_live live;
+ *     clk_inlet inlet;
+ *     if (clk_live_open(text, strlen(text), 1024, &live, &fault) != CLK_OK)
+ *         return 1;
+ *     clk_live_inlet(&live, 0, &inlet);                                            // for each sender
+ *     start_thread(sender_0, inlet);                                               // which closes the inlet at its end
+ *     while (clk_live_ended(&live) != CLK_OK || clk_live_drained(&live) != CLK_OK) {
+ *         clk_live_take_in(&live, 16, taken, 64, &given);
+ *         for (size_t i = 0; i < given; i++)
+ *             drop_lost(&taken[i]);                                                // refused: its token; evicted: evicted_token
+ *         while (clk_live_pull(&live, 0, now(), &emitted) == CLK_OK)
+ *             transmit((struct buffer *)(uintptr_t)emitted.token);
+ *     }
+ *     clk_live_close(&live);
+ *
+ * TOKENS. A token comes back once: from a pull that emits its packet, from a take that tells that the packet was refused, from a take that
+ * tells that it was evicted for another, or from clk_live_reclaim.
+ *
+ * WHEN A SENDER IS FASTER than the owner takes, its inlet fills up, and its offers return CLK_FULL. No packet is lost there. With
+ * clk_live_take and clk_live_take_in full queues refuse or evict, as Click's do. With clk_live_take_what_fits a full queue holds back its
+ * senders, and no packet is refused or evicted.
+ *
+ * WHEN AN INLET IS NEVER CLOSED, or was never asked for, clk_live_ended never returns CLK_OK. All other calls go on.
+ *
+ * WHEN THE OWNER CLOSES FIRST, nothing tells the senders. Their inlets stay good, fill up, and then return CLK_FULL; each is still closed by
+ * its holder. Tokens that wait in the inlets don't come back. So close the inlets first, take what is in them, and then close the router.
+ *
+ * No call waits, and no call but clk_live_open allocates memory. An owner that finds nothing to take and nothing to pull should pause, or
+ * wait for a signal of its own: the library wakes nobody.
+ *
+ * WHAT THE CALLER OWES. These no test can find:
+ *
+ *   - Calls on one live router come one after the other. They may come from several threads, if each call happens before the next: by a
+ *     lock of the caller's, by the start or the join of a thread, or by a sequentially consistent atomic operation. Calls on its inlets may
+ *     run at the same time.
+ *   - A live router that was closed isn't used again through a copy of its clk_live.
+ *   - A clk_live is filled by clk_live_open or clk_live_close, or is CLK_NO_LIVE, before another call gets it. One that is open isn't opened
+ *     over: its memory would be lost. The same holds of the clk_inlet that clk_live_inlet fills. */
+
+/* Opens a live router over the tree in `text`, `length` bytes, with an inlet for each sender that has room for `room` packets, from 1 to
+ * CLK_MOST_ROOM. All memory that the router and its inlets will ever use is allocated here: 16 bytes for each packet that an inlet has
+ * room for, and 16 for each that the queues can hold. `fault` may be null where it isn't wanted.
+ *
+ * CLK_OK        `live` is the router. The caller closes it.
+ * CLK_BAD_ROOM  `room` is out of range.
+ * CLK_FAULT     `fault` says why: 1 where an allocation failed, else the first fault of the text.
+ * CLK_NULL      `live` is null, or `text` is and `length` isn't 0.
+ *
+ * Where it isn't CLK_OK, `live` is shut (if it isn't null), and nothing is to be closed. */
+static inline clk_status clk_live_open(const char *text, size_t length, uint32_t room, clk_live *live, clk_fault *fault) {
+    clk_fault unwanted = {0, 0};
+    if (!live)
+        return CLK_NULL;
+    live->at = NULL;
+    if (!text && length != 0)
+        return CLK_NULL;
+    return CLK_STATUS(clk_raw_live_open(CLK_BYTES(text ? text : ""), length, room, live, fault ? fault : &unwanted));
+}
+
+/* Frees all that the router has, with the inlets that were not handed out, and leaves `live` shut. A null or a shut router is left as it
+ * is. The tokens of packets inside don't come back: clk_live_reclaim returns them before. */
+static inline void clk_live_close(clk_live *live) {
+    if (live && live->at) {
+        clk_raw_live_close(*live);
+        live->at = NULL;
+    }
+}
+
+/* Hands out the inlet of the sender with this number, once. It may be used from another thread, and is closed by clk_inlet_close.
+ *
+ * CLK_OK  `inlet` is the inlet.
+ * CLK_UNKNOWN_SENDER, CLK_HANDED_OUT, CLK_RECLAIMED, CLK_SHUT, CLK_NULL  there is none, and `inlet` is shut (if it isn't null). */
+static inline clk_status clk_live_inlet(clk_live *live, uint32_t sender, clk_inlet *inlet) {
+    if (!inlet)
+        return CLK_NULL;
+    inlet->at = NULL;
+    if (!live)
+        return CLK_NULL;
+    if (!live->at)
+        return CLK_SHUT;
+    return CLK_STATUS(clk_raw_live_inlet(live, sender, inlet));
+}
+
+/* Takes packets from the inlet of the sender with this number, as many as wait there and find a place, and offers each to the sender's
+ * queue, in order. `taken` has `count` elements, and may be null where it is 0. One call takes CLK_MOST_TAKEN packets at most. `given` is
+ * how many were taken: so many elements are filled. If fewer were taken than `count` and CLK_MOST_TAKEN, no more were seen in the inlet.
+ *
+ * CLK_OK    one was taken at least, or `count` is 0.
+ * CLK_NONE  none waits there.
+ * CLK_UNKNOWN_SENDER, CLK_RECLAIMED, CLK_SHUT, CLK_NULL  none was taken. */
+static inline clk_status clk_live_take(clk_live *live, uint32_t sender, clk_taken *taken, size_t count, size_t *given) {
+    clk_taken unused = {{0, 0, 0}, 0, {0, 0, 0}, 0, 0};
+    if (!given)
+        return CLK_NULL;
+    *given = 0;
+    if (!live || (count != 0 && !taken))
+        return CLK_NULL;
+    if (!live->at)
+        return CLK_SHUT;
+    return CLK_STATUS(clk_raw_live_take(live, sender, taken ? taken : &unused, count, given));
+}
+
+/* Takes packets in one round over all senders, at most `each` from each, and offers each to its sender's queue. Otherwise as clk_live_take.
+ * If the call takes as many as it can, the round ends early, and the next one starts at the next sender: so each sender has its turn.
+ *
+ * CLK_OK    one was taken at least, or `count` is 0.
+ * CLK_NONE  none was taken.
+ * CLK_RECLAIMED, CLK_SHUT, CLK_NULL  none was taken. */
+static inline clk_status clk_live_take_in(clk_live *live, size_t each, clk_taken *taken, size_t count, size_t *given) {
+    clk_taken unused = {{0, 0, 0}, 0, {0, 0, 0}, 0, 0};
+    if (!given)
+        return CLK_NULL;
+    *given = 0;
+    if (!live || (count != 0 && !taken))
+        return CLK_NULL;
+    if (!live->at)
+        return CLK_SHUT;
+    return CLK_STATUS(clk_raw_live_take_in(live, each, taken ? taken : &unused, count, given));
+}
+
+/* Does what clk_live_take_in does, but leaves a packet in its inlet while its queue is full. So each packet that is taken is accepted, and
+ * none is evicted. */
+static inline clk_status clk_live_take_what_fits(clk_live *live, size_t each, clk_taken *taken, size_t count, size_t *given) {
+    clk_taken unused = {{0, 0, 0}, 0, {0, 0, 0}, 0, 0};
+    if (!given)
+        return CLK_NULL;
+    *given = 0;
+    if (!live || (count != 0 && !taken))
+        return CLK_NULL;
+    if (!live->at)
+        return CLK_SHUT;
+    return CLK_STATUS(clk_raw_live_take_what_fits(live, each, taken ? taken : &unused, count, given));
+}
+
+/* Pulls the device once, at this moment in ticks, as clk_pull does. The packet that is emitted is filled in with its token.
+ *
+ * CLK_OK    `packet` is the packet that was emitted.
+ * CLK_NONE  none was emitted.
+ * CLK_UNKNOWN_DEVICE, CLK_AT_END, CLK_RECLAIMED, CLK_SHUT, CLK_NULL  no pull was made. */
+static inline clk_status clk_live_pull(clk_live *live, uint16_t device, uint64_t moment, clk_emitted *packet) {
+    if (!live || !packet)
+        return CLK_NULL;
+    if (!live->at)
+        return CLK_SHUT;
+    return CLK_STATUS(clk_raw_live_pull(live, device, moment, packet));
+}
+
+/* Pulls the device at this moment up to `count` times, as clk_pull_many does, with tokens. */
+static inline clk_status clk_live_pull_many(clk_live *live, uint16_t device, uint64_t moment, clk_emitted *packets, size_t count,
+                                            size_t *given) {
+    clk_emitted unused = {{0, 0, 0}, 0};
+    if (!given)
+        return CLK_NULL;
+    *given = 0;
+    if (!live || (count != 0 && !packets))
+        return CLK_NULL;
+    if (!live->at)
+        return CLK_SHUT;
+    return CLK_STATUS(clk_raw_live_pull_many(live, device, moment, packets ? packets : &unused, count, given));
+}
+
+/* Pulls the device one tick apart while packets are left for it, as clk_drain does, with tokens. What waits in the inlets is not drained:
+ * take it before. */
+static inline clk_status clk_live_drain(clk_live *live, uint16_t device, clk_departed *departures, size_t count, uint64_t pulls,
+                                        size_t *given) {
+    clk_departed unused = {0, {0, 0, 0}, 0};
+    if (!given)
+        return CLK_NULL;
+    *given = 0;
+    if (!live || (count != 0 && !departures))
+        return CLK_NULL;
+    if (!live->at)
+        return CLK_SHUT;
+    return CLK_STATUS(clk_raw_live_drain(live, device, departures ? departures : &unused, count, pulls, given));
+}
+
+/* Whether every inlet was closed, and every packet that was ever accepted by one was taken.
+ *
+ * CLK_OK    it is so, and stays so: no more packets come.
+ * CLK_NONE  it isn't so yet.
+ * CLK_RECLAIMED, CLK_SHUT, CLK_NULL. */
+static inline clk_status clk_live_ended(const clk_live *live) {
+    if (!live)
+        return CLK_NULL;
+    if (!live->at)
+        return CLK_SHUT;
+    clk_live same = *live;
+    return CLK_STATUS(clk_raw_live_ended(&same));
+}
+
+/* Whether no packet is left inside: not in a queue, and not held by a scheduler. Then each packet that was taken was refused, evicted or
+ * emitted, once.
+ *
+ * CLK_OK    it is so.
+ * CLK_NONE  packets are left.
+ * CLK_RECLAIMED, CLK_SHUT, CLK_NULL. */
+static inline clk_status clk_live_drained(const clk_live *live) {
+    if (!live)
+        return CLK_NULL;
+    if (!live->at)
+        return CLK_SHUT;
+    clk_live same = *live;
+    return CLK_STATUS(clk_raw_live_drained(&same));
+}
+
+/* Gives up the router, and fills in the tokens of the packets that are inside it: queue by queue, and in each queue the packet first that
+ * would have been emitted first. It fills in `count` tokens at most, and goes on when it is called again. `given` is how many it filled in.
+ * After the first call other calls return CLK_RECLAIMED, and only clk_live_close is left. Tokens that wait in the inlets don't come back:
+ * close and take from these before.
+ *
+ * CLK_OK    there are no more tokens, and `given` is below `count`.
+ * CLK_NONE  all `count` tokens are filled in: call again.
+ * CLK_SHUT, CLK_NULL  nothing was given up. */
+static inline clk_status clk_live_reclaim(clk_live *live, uint64_t *tokens, size_t count, size_t *given) {
+    uint64_t unused = 0;
+    if (!given)
+        return CLK_NULL;
+    *given = 0;
+    if (!live || (count != 0 && !tokens))
+        return CLK_NULL;
+    if (!live->at)
+        return CLK_SHUT;
+    return CLK_STATUS(clk_raw_live_reclaim(live, tokens ? tokens : &unused, count, given));
+}
+
+/* The latest moment that was handed in at the device so far, in ticks. 0 before the first pull.
+ *
+ * CLK_OK  `moment` is it. CLK_UNKNOWN_DEVICE, CLK_RECLAIMED, CLK_SHUT, CLK_NULL. */
+static inline clk_status clk_live_moment(const clk_live *live, uint16_t device, uint64_t *moment) {
+    if (!live || !moment)
+        return CLK_NULL;
+    if (!live->at)
+        return CLK_SHUT;
+    clk_live same = *live;
+    return CLK_STATUS(clk_raw_live_moment(&same, device, moment));
+}
+
+/* How many packets are left for the device inside the router. What waits in the inlets is not among them.
+ *
+ * CLK_OK  `packets` is the number. CLK_UNKNOWN_DEVICE, CLK_RECLAIMED, CLK_SHUT, CLK_NULL. */
+static inline clk_status clk_live_left(const clk_live *live, uint16_t device, uint64_t *packets) {
+    if (!live || !packets)
+        return CLK_NULL;
+    if (!live->at)
+        return CLK_SHUT;
+    clk_live same = *live;
+    return CLK_STATUS(clk_raw_live_left(&same, device, packets));
+}
+
+/* How many senders, queues and devices the tree has. 0 for a null, a shut and a reclaimed router. */
+static inline size_t clk_live_senders(const clk_live *live) {
+    clk_live same = CLK_NO_LIVE;
+    if (live)
+        same = *live;
+    return same.at ? clk_raw_live_senders(&same) : 0;
+}
+
+static inline size_t clk_live_queues(const clk_live *live) {
+    clk_live same = CLK_NO_LIVE;
+    if (live)
+        same = *live;
+    return same.at ? clk_raw_live_queues(&same) : 0;
+}
+
+static inline size_t clk_live_devices(const clk_live *live) {
+    clk_live same = CLK_NO_LIVE;
+    if (live)
+        same = *live;
+    return same.at ? clk_raw_live_devices(&same) : 0;
+}
+
+/* What became of all packets that were taken from the sender at this place. Places go from 0 to clk_live_senders - 1, by rising numbers of
+ * senders.
+ *
+ * CLK_OK  `account` says it. CLK_UNKNOWN_SENDER (no such place), CLK_RECLAIMED, CLK_SHUT, CLK_NULL. */
+static inline clk_status clk_live_account_at(const clk_live *live, size_t place, clk_account *account) {
+    if (!live || !account)
+        return CLK_NULL;
+    if (!live->at)
+        return CLK_SHUT;
+    clk_live same = *live;
+    return CLK_STATUS(clk_raw_live_account(&same, place, account));
+}
+
+/* The queue with this number, from 0 to clk_live_queues - 1 in order of declaration.
+ *
+ * CLK_OK  `queue` is it. CLK_UNKNOWN_QUEUE, CLK_RECLAIMED, CLK_SHUT, CLK_NULL. */
+static inline clk_status clk_live_queue_at(const clk_live *live, uint16_t number, clk_queue *queue) {
+    if (!live || !queue)
+        return CLK_NULL;
+    if (!live->at)
+        return CLK_SHUT;
+    clk_live same = *live;
+    return CLK_STATUS(clk_raw_live_queue(&same, number, queue));
+}
+
 /* ------------------------------------------------------------------------------------------------------------ names */
 
 /* The name of a fault that clk_open can have, as `clickpull` prints it, and "" for any other number. */
@@ -561,6 +922,12 @@ static inline const char *clk_status_text(clk_status status) {
         return "the text makes no router, or memory was refused";
     case CLK_FULL:
         return "the inlet is full";
+    case CLK_BAD_ROOM:
+        return "the room of inlets is not from 1 to 16,777,216";
+    case CLK_HANDED_OUT:
+        return "the inlet was handed out before";
+    case CLK_RECLAIMED:
+        return "the tokens of the router were reclaimed";
     }
     return "no answer of this library";
 }
@@ -602,6 +969,10 @@ CLK_ASSERT(sizeof(clk_account) == 72, "clk_account has 72 bytes");
 CLK_ASSERT(sizeof(clk_queue) == 24, "clk_queue has 24 bytes");
 CLK_ASSERT(sizeof(clk_inlet) == sizeof(void *), "clk_inlet is a pointer");
 CLK_ASSERT(sizeof(clk_item) == 16, "clk_item has 16 bytes");
+CLK_ASSERT(sizeof(clk_live) == sizeof(void *), "clk_live is a pointer");
+CLK_ASSERT(sizeof(clk_taken) == 40, "clk_taken has 40 bytes");
+CLK_ASSERT(sizeof(clk_emitted) == 16, "clk_emitted has 16 bytes");
+CLK_ASSERT(sizeof(clk_departed) == 24, "clk_departed has 24 bytes");
 #undef CLK_ASSERT
 #undef CLK_STATUS
 #undef CLK_BYTES

@@ -11,7 +11,7 @@ NAME = "libclickpull.so"
 VARIABLE = "CLICKPULL_LIBRARY"
 
 # Answers.
-OK, NONE, SHUT, NULL, UNKNOWN_SENDER, UNKNOWN_DEVICE, BAD_LENGTH, AT_END, UNKNOWN_QUEUE, FAULT, FULL = range(11)
+OK, NONE, SHUT, NULL, UNKNOWN_SENDER, UNKNOWN_DEVICE, BAD_LENGTH, AT_END, UNKNOWN_QUEUE, FAULT, FULL, BAD_ROOM, HANDED_OUT, RECLAIMED = range(14)
 
 
 class RouterHandle(Structure):
@@ -115,8 +115,44 @@ class Item(Structure):
     length: int
 
 
+class LiveHandle(Structure):
+    """A live router in the library's hands, or none where `at` is null."""
+
+    _fields_ = [("at", c_void_p)]
+    at: int | None
+
+
+class Taken(Structure):
+    """A packet that was taken from its inlet, and what became of it."""
+
+    _fields_ = [("packet", Packet), ("token", c_uint64), ("evicted", Packet), ("evicted_token", c_uint64), ("outcome", c_uint32)]
+    packet: Packet
+    token: int
+    evicted: Packet
+    evicted_token: int
+    outcome: int
+
+
+class Emitted(Structure):
+    """A packet that a device of a live router emitted."""
+
+    _fields_ = [("packet", Packet), ("token", c_uint64)]
+    packet: Packet
+    token: int
+
+
+class Departed(Structure):
+    """A packet that a drain of a live router emitted."""
+
+    _fields_ = [("moment", c_uint64), ("packet", Packet), ("token", c_uint64)]
+    moment: int
+    packet: Packet
+    token: int
+
+
 ROUTER = POINTER(RouterHandle)
 INLET = POINTER(InletHandle)
+LIVE = POINTER(LiveHandle)
 COUNT = POINTER(c_size_t)
 
 # What each call takes and answers.
@@ -139,6 +175,25 @@ CALLS = {
     "clk_raw_inlet_offer_many": ([INLET, POINTER(Item), c_size_t, COUNT], c_uint32),
     "clk_raw_inlet_room": ([INLET], c_size_t),
     "clk_raw_inlet_close": ([InletHandle], None),
+    "clk_raw_live_open": ([POINTER(c_uint8), c_size_t, c_uint32, LIVE, POINTER(Fault)], c_uint32),
+    "clk_raw_live_close": ([LiveHandle], None),
+    "clk_raw_live_inlet": ([LIVE, c_uint32, INLET], c_uint32),
+    "clk_raw_live_take": ([LIVE, c_uint32, POINTER(Taken), c_size_t, COUNT], c_uint32),
+    "clk_raw_live_take_in": ([LIVE, c_size_t, POINTER(Taken), c_size_t, COUNT], c_uint32),
+    "clk_raw_live_take_what_fits": ([LIVE, c_size_t, POINTER(Taken), c_size_t, COUNT], c_uint32),
+    "clk_raw_live_pull": ([LIVE, c_uint16, c_uint64, POINTER(Emitted)], c_uint32),
+    "clk_raw_live_pull_many": ([LIVE, c_uint16, c_uint64, POINTER(Emitted), c_size_t, COUNT], c_uint32),
+    "clk_raw_live_drain": ([LIVE, c_uint16, POINTER(Departed), c_size_t, c_uint64, COUNT], c_uint32),
+    "clk_raw_live_ended": ([LIVE], c_uint32),
+    "clk_raw_live_drained": ([LIVE], c_uint32),
+    "clk_raw_live_reclaim": ([LIVE, POINTER(c_uint64), c_size_t, COUNT], c_uint32),
+    "clk_raw_live_moment": ([LIVE, c_uint16, POINTER(c_uint64)], c_uint32),
+    "clk_raw_live_left": ([LIVE, c_uint16, POINTER(c_uint64)], c_uint32),
+    "clk_raw_live_senders": ([LIVE], c_size_t),
+    "clk_raw_live_account": ([LIVE, c_size_t, POINTER(Account)], c_uint32),
+    "clk_raw_live_queues": ([LIVE], c_size_t),
+    "clk_raw_live_queue": ([LIVE, c_uint16, POINTER(Queue)], c_uint32),
+    "clk_raw_live_devices": ([LIVE], c_size_t),
 }
 
 

@@ -43,5 +43,6 @@ void test_draining(void);
 void test_tables(void);
 void test_carrying(void);
 void test_threads(void);
+void test_live(void);
 
 #endif

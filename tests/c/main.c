@@ -46,6 +46,7 @@ int main(void) {
     test_tables();
     test_carrying();
     test_threads();
+    test_live();
     printf("%d checks, %d failed\n", checked, failed);
     return failed != 0;
 }

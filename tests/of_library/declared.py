@@ -173,7 +173,7 @@ print(json.dumps({
 """
 
 # Names of structs in Python that aren't C's without its prefix.
-OTHER_NAMES = {"clk_router": "RouterHandle", "clk_inlet": "InletHandle"}
+OTHER_NAMES = {"clk_router": "RouterHandle", "clk_inlet": "InletHandle", "clk_live": "LiveHandle"}
 
 
 def name_in_python(name: str) -> str:

@@ -3,5 +3,9 @@ pub mod Handles
 pub mod HandleLends
 pub mod HandleSend
 mod AccountsTold
+mod Fills
+pub mod LiveCrosses
+mod LiveLoops
+mod LiveSteps
 mod Batches
 pub mod SoFar

@@ -2,8 +2,10 @@ pub mod Answers
 pub mod Calls
 pub mod Counts
 pub mod Examples
+pub mod Filled
 pub mod Inlets
 pub mod Opens
 pub mod Tells
 pub mod Values
 pub mod inside
+pub mod live

@@ -4,3 +4,4 @@ pub mod Handle
 pub mod Place
 pub mod SoFar
 pub mod inlets
+pub mod live

@@ -93,7 +93,7 @@ fn offer(router: &mut CountingRouter, sender: u32, length: u32) -> Result<COffer
 }
 
 /// The place of the sender with this number, if there is one.
-fn place_of(router: &CountingRouter, sender: u32) -> Option<u16>
+pub(crate) fn place_of(router: &CountingRouter, sender: u32) -> Option<u16>
     ensures found { IfSome result (λ place. sender_at router.now.setup place ≡ Some sender) }
     ensures missing { result ≡ None → IsUnknown router.now sender }
 {

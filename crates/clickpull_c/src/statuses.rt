@@ -1,5 +1,8 @@
 //! What calls return. Two statuses are the header's alone: 2, for a router or an inlet that is shut, and 3, for a null pointer.
 
+ghost use Rattle.std.specs.Prelude.{◌≡◌};
+ghost use Rattle.clickpull_c.specs.Calls.{pulls_status};
+
 /// It is done.
 pub const OK: u32 = 0;
 
@@ -27,6 +30,15 @@ pub const FAULT: u32 = 9;
 /// The inlet has no room for the packet now.
 pub const FULL: u32 = 10;
 
+/// Inlets have room for 1 to 16,777,216 packets.
+pub const BAD_ROOM: u32 = 11;
+
+/// The inlet of this sender was handed out before.
+pub const HANDED_OUT: u32 = 12;
+
+/// The tokens of the router were reclaimed, and it can only be closed.
+pub const RECLAIMED: u32 = 13;
+
 /// The packet was accepted.
 pub const ACCEPTED: u32 = 0;
 
@@ -35,3 +47,10 @@ pub const REFUSED: u32 = 1;
 
 /// The packet was accepted, and another was evicted for it.
 pub const EVICTED: u32 = 2;
+
+/// What a call returns that filled in `given` of so many places.
+pub(crate) fn given_status(given: usize, places: usize) -> u32
+    ensures { result ≡ pulls_status given places }
+{
+    if given == 0 && places > 0 { NONE } else { OK }
+}

@@ -1,0 +1,25 @@
+-- `into_parts` moves two fields, and what they own goes with them.
+use mathlib.Core.Path.{refl}
+use prog.Wp.{Tables}
+use contract.Running.{tables, tables_of}
+use denote.Triple.Spec.{triple_of}
+use denote.Triple.Table.{entered}
+use Rattle.clickpull_c.specs.contracts.live.router.LiveRouter as Value
+use Rattle.clickpull_c.proofs.live.router.LiveRouter.TheLaws as value
+use Rattle.clickpull_c.proofs.Handles.{Moves}
+use Rattle.clickpull_c.specs.contracts.parts.Parts as Parts
+use Rattle.std_heap.specs.contracts.Global as Heap
+use Rattle.std_heap.specs.contracts.GlobalAllocator.TheImpl.{ghosts}
+use Rattle.clickpull_c.specs.contracts.live.handle.LiveHandle as Handle
+use Rattle.clickpull_c.specs.contracts.live.handle.LiveHandle.into_parts as F
+use Rattle.clickpull_c.specs.contracts.live.handle.LiveHandle.into_parts.Key.{name as #self}
+use Rattle.clickpull_c.proofs.live.handle.LiveHandle.into_parts.Statement as stated
+use Rattle.clickpull_c.proofs.live.handle.LiveHandle.into_parts.Code as code
+
+pub into_parts_spec : {M : Type 1} → stated.statement M
+unfolding tables_of
+into_parts_spec 𝓤 𝓛 𝓜 𝓡 wired =
+    let 𝓣 : Tables 𝓤 𝓛.H = tables_of 𝓤 𝓛.H 𝓜 (tables 𝓤 𝓛.H 𝓜 𝓡 𝓡.env) in
+    entered 𝓤 𝓛.H (triple_of 𝓛 F.signature (F.spec 𝓛 𝓜.mem 𝓡.returns)) 𝓣.C 𝓣.Λ #self code.function (code.unfolded 𝓤 𝓛.H 𝓜 𝓡 wired)
+    (Moves Value.the_row value.the_row_laws Handle.the_row (Parts.the_row Value.the_row Heap.the_row ghosts) (λ h. record { ptr = h.at; alloc = h.alloc; value = h.router }) (λ d vs. refl)
+    (λ v. record { ptr = v.ptr; alloc = v.alloc; value = v.value }) (λ v vs. refl) Value.the_row.Denot (λ h. h.router) (λ p. p.value) (λ d. refl) Handle.the_type.name (Parts.the_type Value.the_row Heap.the_row ghosts).name 𝓛 𝓣)

@@ -1,0 +1,24 @@
+-- `of` moves two fields, and what they own goes with them.
+use Rattle.std.specs.Prelude.{Option, Some}
+use mathlib.Core.Path.{refl}
+use prog.Wp.{Tables}
+use contract.Running.{tables, tables_of}
+use denote.Triple.Spec.{triple_of}
+use denote.Triple.Table.{entered}
+use Rattle.clickpull_c.specs.contracts.live.router.LiveRouter as Value
+use Rattle.clickpull_c.proofs.live.router.LiveRouter.TheLaws as value
+use Rattle.clickpull_c.proofs.Handles.{Moves}
+use Rattle.clickpull_c.specs.contracts.live.handle.LiveHandle as Handle
+use Rattle.clickpull_c.specs.contracts.live.handle.place.LivePlace as Place
+use Rattle.clickpull_c.specs.contracts.live.handle.place.LivePlace.of as F
+use Rattle.clickpull_c.specs.contracts.live.handle.place.LivePlace.of.Key.{name as #self}
+use Rattle.clickpull_c.proofs.live.handle.place.LivePlace.of.Statement as stated
+use Rattle.clickpull_c.proofs.live.handle.place.LivePlace.of.Code as code
+
+pub of_spec : {M : Type 1} → stated.statement M
+unfolding tables_of
+of_spec 𝓤 𝓛 𝓜 𝓡 wired =
+    let 𝓣 : Tables 𝓤 𝓛.H = tables_of 𝓤 𝓛.H 𝓜 (tables 𝓤 𝓛.H 𝓜 𝓡 𝓡.env) in
+    entered 𝓤 𝓛.H (triple_of 𝓛 F.signature (F.spec 𝓛 𝓜.mem 𝓡.returns)) 𝓣.C 𝓣.Λ #self code.function (code.unfolded 𝓤 𝓛.H 𝓜 𝓡 wired)
+    (Moves Value.the_row value.the_row_laws Handle.the_row Place.the_row (λ h. record { ptr = h.at; alloc = h.alloc; value = h.router }) (λ d vs. refl)
+    (λ v. record { at = v.ptr; alloc = v.alloc; router = Some v.value }) (λ v vs. refl) (Option Value.the_row.Denot) (λ h. Some h.router) (λ p. p.router) (λ d. refl) Handle.the_type.name Place.the_type.name 𝓛 𝓣)

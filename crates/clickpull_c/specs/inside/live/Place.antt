@@ -1,0 +1,16 @@
+-- What a place for a live router owns: what the handle of its router does, if it has one.
+use base.Fml.{Fml, ftrue}
+use base.Stored.{Coded}
+use denote.RawPtr.{Ptr}
+use Rattle.std.specs.Prelude.{Option, Some, None}
+use Rattle.std.specs.Coded.{coded_option}
+use Rattle.std.specs.Global.{Global}
+use Rattle.clickpull_c.specs.contracts.live.router.LiveRouter.{the_row}
+use Rattle.clickpull_c.specs.inside.live.Handle.{live_handle_owns}
+
+abbrev pub live_place_owns : Global → Ptr → Option the_row.Denot → Fml
+live_place_owns alloc at None = ftrue
+live_place_owns alloc at (Some router) = live_handle_owns alloc at router
+
+abbrev pub live_place_coded : Coded (Option the_row.Denot)
+live_place_coded = coded_option the_row.coded

@@ -1,0 +1,116 @@
+//! Pulls of devices of a live router.
+
+ghost use Rattle.std.specs.Prelude.{◌≡◌, ◌<◌, None, IfSome};
+ghost use Rattle.clk_router.specs.Course.{CanPull};
+ghost use Rattle.clickpull_c.specs.Answers.{RefusesPull};
+ghost use Rattle.clickpull_c.specs.live.Pulls.{AnswersOnePull, AnswersPulls, PullsMany};
+
+use super::handle::LiveHandle;
+use super::router::LiveRouter;
+use super::values::{CEmitted, emitted_for_c};
+use crate::statuses::{AT_END, NONE, OK, RECLAIMED, UNKNOWN_DEVICE, given_status};
+use clk_live::Live;
+use clk_router::CountingRouter;
+
+/// Pulls the device with this number once, at this moment in ticks or, if that is earlier than its latest moment, at its latest. The packet
+/// that is emitted is filled in, with its token.
+#[unsafe(no_mangle)]
+pub extern "C" fn clk_raw_live_pull(
+    live: &mut LiveHandle,
+    device: u16,
+    moment: u64,
+    packet: &mut CEmitted,
+) -> u32
+    ensures answer { AnswersOnePull live.old.router live.new.router device moment packet.old packet.new result }
+{
+    pull(live.get_mut(), device, moment, packet)
+}
+
+/// Pulls the device with this number at this moment in ticks until a pull emits no packet, or all places are filled. How many packets were
+/// emitted is filled in.
+#[unsafe(no_mangle)]
+pub extern "C" fn clk_raw_live_pull_many(
+    live: &mut LiveHandle,
+    device: u16,
+    moment: u64,
+    packets: &mut [CEmitted],
+    given: &mut usize,
+) -> u32
+    ensures answer { AnswersPulls live.old.router live.new.router device moment packets.old packets.new given.new result }
+{
+    let (emitted, status) = pull_many(live.get_mut(), device, moment, packets);
+    *given = emitted;
+    status
+}
+
+// Pulls a device once, if it can be pulled. Returns the status.
+fn pull(router: &mut LiveRouter, device: u16, moment: u64, packet: &mut CEmitted) -> u32
+    ensures { AnswersOnePull router.old router.new device moment packet.old packet.new result }
+{
+    let Some(live) = &mut router.live else {
+        return RECLAIMED;
+    };
+    if let Some(status) = refusal(live.router(), device, moment) {
+        return status;
+    }
+    match live.pull(device, moment) {
+        Some(one) => {
+            *packet = emitted_for_c(one);
+            OK
+        }
+        None => NONE,
+    }
+}
+
+// Pulls a device again and again, if it can be pulled. Returns how many packets were emitted, and the status.
+fn pull_many(
+    router: &mut LiveRouter,
+    device: u16,
+    moment: u64,
+    packets: &mut [CEmitted],
+) -> (usize, u32)
+    ensures { AnswersPulls router.old router.new device moment packets.old packets.new result.0 result.1 }
+{
+    let Some(live) = &mut router.live else {
+        return (0, RECLAIMED);
+    };
+    if let Some(status) = refusal(live.router(), device, moment) {
+        return (0, status);
+    }
+    let places = packets.len();
+    let given = pull_on(live, device, moment, packets);
+    (given, given_status(given, places))
+}
+
+// Pulls a device that can be pulled at this moment again and again. Returns how many packets were emitted.
+fn pull_on(live: &mut Live, device: u16, moment: u64, packets: &mut [CEmitted]) -> usize
+    requires can { CanPull live.old.course device moment }
+    ensures { PullsMany device moment live.old live.new packets.old packets.new result }
+{
+    let mut given = 0;
+    while given < packets.len() {
+        let Some(one) = live.pull(device, moment) else {
+            return given;
+        };
+        packets[given] = emitted_for_c(one);
+        given += 1;
+        if !live.router().can_pull(device, moment) {
+            return given;
+        }
+    }
+    given
+}
+
+// Why a device can't be pulled at this moment, if it can't.
+fn refusal(router: &CountingRouter, device: u16, moment: u64) -> Option<u32>
+    ensures refused { IfSome result (RefusesPull router.now device moment) }
+    ensures can { result ≡ None → CanPull router.now device moment }
+{
+    if usize::from(device) >= router.devices() {
+        return Some(UNKNOWN_DEVICE);
+    }
+    if !router.can_pull(device, moment) {
+        return Some(AT_END);
+    }
+    None
+}

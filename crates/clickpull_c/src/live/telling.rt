@@ -1,0 +1,201 @@
+//! What there is in a live router: calls that change nothing.
+
+ghost use Rattle.std.specs.Prelude.{◌≡◌};
+ghost use Rattle.clickpull_c.specs.Answers.{HasNoDevice, HasNoPlace, HasNoQueue};
+ghost use Rattle.clickpull_c.specs.Counts.{device_count, queue_count, sender_count};
+ghost use Rattle.clickpull_c.specs.Tells.{TellsAccount, TellsLeft, TellsMoment, TellsQueue};
+ghost use Rattle.clickpull_c.specs.live.State.{IsUnchanged};
+ghost use Rattle.clickpull_c.specs.live.Tells.{AnswersTold, IsCount, TellsDrained, TellsEnded};
+
+// These calls too take a router as one that changes, since no export takes a struct that lends what it owns.
+use super::handle::LiveHandle;
+use super::router::LiveRouter;
+use crate::statuses::{NONE, OK, RECLAIMED, UNKNOWN_DEVICE, UNKNOWN_QUEUE, UNKNOWN_SENDER};
+use crate::values::{CAccount, CQueue, account_for_c, queue_for_c};
+
+/// Whether every inlet has ended, and every packet that was ever sent through it was taken.
+#[unsafe(no_mangle)]
+pub extern "C" fn clk_raw_live_ended(live: &mut LiveHandle) -> u32
+    ensures answer { AnswersTold live.old.router live.new.router result (λ s. TellsEnded s result) (λ s. ⊥) (result ≡ result) }
+{
+    ended(live.get_mut())
+}
+
+/// Whether no packet is left inside.
+#[unsafe(no_mangle)]
+pub extern "C" fn clk_raw_live_drained(live: &mut LiveHandle) -> u32
+    ensures answer { AnswersTold live.old.router live.new.router result (λ s. TellsDrained s result) (λ s. ⊥) (result ≡ result) }
+{
+    drained(live.get_mut())
+}
+
+/// How many senders the router has. 0 once it was reclaimed.
+#[unsafe(no_mangle)]
+pub extern "C" fn clk_raw_live_senders(live: &mut LiveHandle) -> usize
+    ensures senders { IsCount live.old.router sender_count result }
+    ensures unchanged { IsUnchanged live.old.router live.new.router }
+{
+    senders(live.get_mut())
+}
+
+/// How many queues the router has. 0 once it was reclaimed.
+#[unsafe(no_mangle)]
+pub extern "C" fn clk_raw_live_queues(live: &mut LiveHandle) -> usize
+    ensures queues { IsCount live.old.router queue_count result }
+    ensures unchanged { IsUnchanged live.old.router live.new.router }
+{
+    queues(live.get_mut())
+}
+
+/// How many devices the router has. 0 once it was reclaimed.
+#[unsafe(no_mangle)]
+pub extern "C" fn clk_raw_live_devices(live: &mut LiveHandle) -> usize
+    ensures devices { IsCount live.old.router device_count result }
+    ensures unchanged { IsUnchanged live.old.router live.new.router }
+{
+    devices(live.get_mut())
+}
+
+/// The latest moment in ticks that was handed in at the device with this number, 0 before the first pull, is filled in.
+#[unsafe(no_mangle)]
+pub extern "C" fn clk_raw_live_moment(live: &mut LiveHandle, device: u16, moment: &mut u64) -> u32
+    ensures answer { AnswersTold live.old.router live.new.router result (λ s. TellsMoment s.course device moment.new result) (λ s. HasNoDevice s.course device result) (moment.new ≡ moment.old) }
+{
+    tell_moment(live.get_mut(), device, moment)
+}
+
+/// How many packets are left for the device with this number, accepted there and neither evicted nor emitted, is filled in. What waits in
+/// the inlets is not among them.
+#[unsafe(no_mangle)]
+pub extern "C" fn clk_raw_live_left(live: &mut LiveHandle, device: u16, packets: &mut u64) -> u32
+    ensures answer { AnswersTold live.old.router live.new.router result (λ s. TellsLeft s.course device packets.new result) (λ s. HasNoDevice s.course device result) (packets.new ≡ packets.old) }
+{
+    tell_left(live.get_mut(), device, packets)
+}
+
+/// What became of all that the sender at this place offered is filled in. Places go from 0 on, by rising numbers of senders.
+#[unsafe(no_mangle)]
+pub extern "C" fn clk_raw_live_account(
+    live: &mut LiveHandle,
+    place: usize,
+    account: &mut CAccount,
+) -> u32
+    ensures answer { AnswersTold live.old.router live.new.router result (λ s. TellsAccount s.course place account.new result) (λ s. HasNoPlace s.course place result) (account.new ≡ account.old) }
+{
+    tell_account(live.get_mut(), place, account)
+}
+
+/// What the queue with this number is like is filled in.
+#[unsafe(no_mangle)]
+pub extern "C" fn clk_raw_live_queue(live: &mut LiveHandle, number: u16, queue: &mut CQueue) -> u32
+    ensures answer { AnswersTold live.old.router live.new.router result (λ s. TellsQueue s.course number queue.new result) (λ s. HasNoQueue s.course number result) (queue.new ≡ queue.old) }
+{
+    tell_queue(live.get_mut(), number, queue)
+}
+
+// The functions below do the same to the router of a handle.
+
+fn ended(router: &mut LiveRouter) -> u32
+    ensures { AnswersTold router.old router.new result (λ s. TellsEnded s result) (λ s. ⊥) (result ≡ result) }
+{
+    let Some(live) = &router.live else {
+        return RECLAIMED;
+    };
+    if live.is_ended() { OK } else { NONE }
+}
+
+fn drained(router: &mut LiveRouter) -> u32
+    ensures { AnswersTold router.old router.new result (λ s. TellsDrained s result) (λ s. ⊥) (result ≡ result) }
+{
+    let Some(live) = &router.live else {
+        return RECLAIMED;
+    };
+    if live.is_drained() { OK } else { NONE }
+}
+
+fn senders(router: &mut LiveRouter) -> usize
+    ensures senders { IsCount router.old sender_count result }
+    ensures unchanged { IsUnchanged router.old router.new }
+{
+    let Some(live) = &router.live else {
+        return 0;
+    };
+    live.router().accounts().len()
+}
+
+fn queues(router: &mut LiveRouter) -> usize
+    ensures queues { IsCount router.old queue_count result }
+    ensures unchanged { IsUnchanged router.old router.new }
+{
+    let Some(live) = &router.live else {
+        return 0;
+    };
+    live.router().queues()
+}
+
+fn devices(router: &mut LiveRouter) -> usize
+    ensures devices { IsCount router.old device_count result }
+    ensures unchanged { IsUnchanged router.old router.new }
+{
+    let Some(live) = &router.live else {
+        return 0;
+    };
+    live.router().devices()
+}
+
+fn tell_moment(router: &mut LiveRouter, device: u16, moment: &mut u64) -> u32
+    ensures { AnswersTold router.old router.new result (λ s. TellsMoment s.course device moment.new result) (λ s. HasNoDevice s.course device result) (moment.new ≡ moment.old) }
+{
+    let Some(live) = &router.live else {
+        return RECLAIMED;
+    };
+    let router = live.router();
+    if usize::from(device) >= router.devices() {
+        return UNKNOWN_DEVICE;
+    }
+    *moment = router.moment(device);
+    OK
+}
+
+fn tell_left(router: &mut LiveRouter, device: u16, packets: &mut u64) -> u32
+    ensures { AnswersTold router.old router.new result (λ s. TellsLeft s.course device packets.new result) (λ s. HasNoDevice s.course device result) (packets.new ≡ packets.old) }
+{
+    let Some(live) = &router.live else {
+        return RECLAIMED;
+    };
+    let router = live.router();
+    if usize::from(device) >= router.devices() {
+        return UNKNOWN_DEVICE;
+    }
+    *packets = router.left(device);
+    OK
+}
+
+fn tell_account(router: &mut LiveRouter, place: usize, account: &mut CAccount) -> u32
+    ensures { AnswersTold router.old router.new result (λ s. TellsAccount s.course place account.new result) (λ s. HasNoPlace s.course place result) (account.new ≡ account.old) }
+{
+    let Some(live) = &router.live else {
+        return RECLAIMED;
+    };
+    match live.router().accounts().get(place) {
+        Some(found) => {
+            *account = account_for_c(found);
+            OK
+        }
+        None => UNKNOWN_SENDER,
+    }
+}
+
+fn tell_queue(router: &mut LiveRouter, number: u16, queue: &mut CQueue) -> u32
+    ensures { AnswersTold router.old router.new result (λ s. TellsQueue s.course number queue.new result) (λ s. HasNoQueue s.course number result) (queue.new ≡ queue.old) }
+{
+    let Some(live) = &router.live else {
+        return RECLAIMED;
+    };
+    let router = live.router();
+    if usize::from(number) >= router.queues() {
+        return UNKNOWN_QUEUE;
+    }
+    *queue = queue_for_c(router.queue(number));
+    OK
+}
