@@ -1,6 +1,5 @@
--- Lemmas on what a live router keeps, of which `Callers` has those that crates above may cite too.
-pub mod Callers
 -- Lemmas on what a live router keeps. Crates above may cite those that are public.
+pub mod Callers
 pub mod Crosses
 mod Lists
 mod Outlets
