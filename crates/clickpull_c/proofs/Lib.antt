@@ -6,6 +6,7 @@ mod AccountsTold
 mod Fills
 pub mod LiveCrosses
 mod LiveLoops
+mod LiveTakes
 mod LiveSteps
 mod Batches
 pub mod SoFar

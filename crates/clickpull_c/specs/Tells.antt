@@ -1,12 +1,13 @@
 -- What calls tell of a router.
-use Rattle.std.specs.Prelude.{◌≡◌, ℕ, ◌+◌, ◌<◌, Some, slice_get}
+use Rattle.std.specs.Prelude.{◌≡◌, ℕ, ◌+◌, ◌<◌, Option, Some, None, slice_get}
 use Rattle.clk_tree.specs.declared.plan.parts.SenderSpec.{SenderSpec}
 use Rattle.clk_router.specs.Accounts.{account_after}
 use Rattle.clk_router.specs.declared.queue_state.QueueState.{QueueState}
 use Rattle.clk_router.specs.Course.{Course, moment_at, accepted_at, evicted_at, emitted_at, IsQueueState}
+use Rattle.clk_router.specs.Due.{IsDeviceDue, EmitsNoneBefore}
 use Rattle.clickpull_c.specs.declared.values.CAccount.{CAccount}
 use Rattle.clickpull_c.specs.declared.values.CQueue.{CQueue}
-use Rattle.clickpull_c.specs.declared.statuses.TheConstants.{OK}
+use Rattle.clickpull_c.specs.declared.statuses.TheConstants.{OK, NONE}
 use Rattle.clickpull_c.specs.Counts.{device_count}
 use Rattle.clickpull_c.specs.Values.{account_in_c, queue_in_c}
 
@@ -21,6 +22,19 @@ pub record TellsLeft (c : Course) (device filled status : ℕ) : Type 0 where
   pub answers : status ≡ OK
   pub there : device < device_count c
   pub filled_is : accepted_at c device ≡ evicted_at c device + emitted_at c device + filled
+
+-- what a call fills in and returns of a due moment, which there may be
+abbrev pub FillsDue : (before filled status : ℕ) → Option ℕ → Type 0
+FillsDue before filled status None = (status ≡ NONE) × (filled ≡ before)
+FillsDue before filled status (Some moment) = (status ≡ OK) × (filled ≡ moment)
+
+-- the earliest moment at which a device could emit a packet was filled in, if one is left for it
+pub record TellsDue (c : Course) (device before filled status : ℕ) : Type 0 where
+  pub there : device < device_count c
+  pub due : Option ℕ
+  pub is : IsDeviceDue c device due
+  pub before_is : EmitsNoneBefore c device due
+  pub fills : FillsDue before filled status due
 
 -- what became of the packets of the sender at a place was filled in
 pub record TellsAccount (c : Course) (place : ℕ) (filled : CAccount) (status : ℕ) : Type 0 where

@@ -3,11 +3,11 @@
 ghost use Rattle.std.specs.Prelude.{◌≡◌, ◌⊎◌};
 ghost use Rattle.clickpull_c.specs.Answers.{HasNoDevice, HasNoPlace, HasNoQueue};
 ghost use Rattle.clickpull_c.specs.Counts.{device_count, queue_count, sender_count};
-ghost use Rattle.clickpull_c.specs.Tells.{TellsAccount, TellsLeft, TellsMoment, TellsQueue};
+ghost use Rattle.clickpull_c.specs.Tells.{TellsAccount, TellsDue, TellsLeft, TellsMoment, TellsQueue};
 
 // These calls too take a router as one that changes, since no export takes a struct that lends what it owns.
 use crate::handle::Handle;
-use crate::statuses::{OK, UNKNOWN_DEVICE, UNKNOWN_QUEUE, UNKNOWN_SENDER};
+use crate::statuses::{NONE, OK, UNKNOWN_DEVICE, UNKNOWN_QUEUE, UNKNOWN_SENDER};
 use crate::values::{CAccount, CQueue, account_for_c, queue_for_c};
 
 /// How many senders the router has.
@@ -49,6 +49,26 @@ pub extern "C" fn clk_router_moment(router: &mut Handle, device: u16, moment: &m
     }
     *moment = router.moment(device);
     OK
+}
+
+/// The earliest moment in ticks at which a pull of the device with this number could emit a packet, as things stand, is filled in. If no packet
+/// is left for the device there is none.
+#[unsafe(no_mangle)]
+pub extern "C" fn clk_router_due(router: &mut Handle, device: u16, moment: &mut u64) -> u32
+    ensures answer { TellsDue router.old.router device moment.old moment.new result ⊎ (HasNoDevice router.old.router device result × (moment.new ≡ moment.old)) }
+    ensures unchanged { router.new.router ≡ router.old.router }
+{
+    let router = router.get_mut();
+    if usize::from(device) >= router.devices() {
+        return UNKNOWN_DEVICE;
+    }
+    match router.due(device) {
+        Some(due) => {
+            *moment = due;
+            OK
+        }
+        None => NONE,
+    }
 }
 
 /// How many packets are left for the device with this number, accepted there and neither evicted for later ones nor emitted, is filled in.

@@ -2,7 +2,7 @@
 use Rattle.std.specs.Prelude.{◌≡◌, ℕ, ◌-◌, ◌<◌, List, length, map, take, min, Some, slice_get}
 use Rattle.clk_router.specs.Course.{Course, sender_at}
 use Rattle.clk_live.specs.State.{LiveState, seen, AllGoOn}
-use Rattle.clk_live.specs.Taking.{AreTaken, AreOf, GaveAll, AreAtMost, AreShares, StartsNext, AllAccepted}
+use Rattle.clk_live.specs.Taking.{AreTaken, AreOf, GaveAll, GaveAllThatFits, AreAtMost, AreSharesOr, StartsNext, AllAccepted}
 use Rattle.clk_live.specs.declared.taking.Taken.{Taken}
 use Rattle.clickpull_c.specs.declared.live.router.LiveRouter.{LiveRouter}
 use Rattle.clickpull_c.specs.declared.live.taking.TheConstants.{MOST_TAKEN}
@@ -42,17 +42,19 @@ pub record TakesRound (each : ℕ) (old new : LiveState) (before filled : List C
   pub at_most : AreAtMost each (take given gave)
   pub turn : StartsNext old new (most_into before) given (slice_get gave (given - 1))
 
--- of each sender so many, or all that wait in its inlet, unless the call took as many as it takes at most
+-- Of each sender so many were taken, or all that wait in its inlet, unless the call took as many as it takes at most.
 pub record TakesIn (each : ℕ) (old new : LiveState) (before filled : List CTaken) (given : ℕ) : Type 0 where
   pub gave : List Taken
   pub round : TakesRound each old new before filled given gave
-  pub shares : given < most_into before → AreShares old.course.setup each old.outlets new.outlets (take given gave)
+  pub shares : given < most_into before → AreSharesOr (GaveAll old.outlets new.outlets) old.course.setup each (take given gave)
 
--- and each of them was accepted, and no other was evicted for it
+-- Each of them was accepted, and no other was evicted for it. Of each sender so many were taken, or all that wait in its inlet, or its queue is
+-- full now, unless the call took as many as it takes at most.
 pub record TakesWhatFits (each : ℕ) (old new : LiveState) (before filled : List CTaken) (given : ℕ) : Type 0 where
   pub gave : List Taken
   pub round : TakesRound each old new before filled given gave
   pub accepted : AllAccepted (take given gave)
+  pub shares : given < most_into before → AreSharesOr (GaveAllThatFits old new) old.course.setup each (take given gave)
 
 -- A call is refused, since no sender has this number.
 pub record HasNoSender (c : Course) (sender status : ℕ) : Type 0 where

@@ -3,7 +3,7 @@
 ghost use Rattle.std.specs.Prelude.{◌≡◌};
 ghost use Rattle.clickpull_c.specs.Answers.{HasNoDevice, HasNoPlace, HasNoQueue};
 ghost use Rattle.clickpull_c.specs.Counts.{device_count, queue_count, sender_count};
-ghost use Rattle.clickpull_c.specs.Tells.{TellsAccount, TellsLeft, TellsMoment, TellsQueue};
+ghost use Rattle.clickpull_c.specs.Tells.{TellsAccount, TellsDue, TellsLeft, TellsMoment, TellsQueue};
 ghost use Rattle.clickpull_c.specs.live.State.{IsUnchanged};
 ghost use Rattle.clickpull_c.specs.live.Tells.{AnswersTold, IsCount, TellsDrained, TellsEnded};
 
@@ -62,6 +62,15 @@ pub extern "C" fn clk_raw_live_moment(live: &mut LiveHandle, device: u16, moment
     ensures answer { AnswersTold live.old.router live.new.router result (λ s. TellsMoment s.course device moment.new result) (λ s. HasNoDevice s.course device result) (moment.new ≡ moment.old) }
 {
     tell_moment(live.get_mut(), device, moment)
+}
+
+/// The earliest moment in ticks at which a pull of the device with this number could emit a packet, as things stand, is filled in. If no packet
+/// is left for the device there is none.
+#[unsafe(no_mangle)]
+pub extern "C" fn clk_raw_live_due(live: &mut LiveHandle, device: u16, moment: &mut u64) -> u32
+    ensures answer { AnswersTold live.old.router live.new.router result (λ s. TellsDue s.course device moment.old moment.new result) (λ s. HasNoDevice s.course device result) (moment.new ≡ moment.old) }
+{
+    tell_due(live.get_mut(), device, moment)
 }
 
 /// How many packets are left for the device with this number, accepted there and neither evicted nor emitted, is filled in. What waits in
@@ -155,6 +164,25 @@ fn tell_moment(router: &mut LiveRouter, device: u16, moment: &mut u64) -> u32
     }
     *moment = router.moment(device);
     OK
+}
+
+fn tell_due(router: &mut LiveRouter, device: u16, moment: &mut u64) -> u32
+    ensures { AnswersTold router.old router.new result (λ s. TellsDue s.course device moment.old moment.new result) (λ s. HasNoDevice s.course device result) (moment.new ≡ moment.old) }
+{
+    let Some(live) = &router.live else {
+        return RECLAIMED;
+    };
+    let router = live.router();
+    if usize::from(device) >= router.devices() {
+        return UNKNOWN_DEVICE;
+    }
+    match router.due(device) {
+        Some(due) => {
+            *moment = due;
+            OK
+        }
+        None => NONE,
+    }
 }
 
 fn tell_left(router: &mut LiveRouter, device: u16, packets: &mut u64) -> u32

@@ -1,4 +1,4 @@
-use Rattle.std.proofs.Common.{◌≡◌, ℕ, ◌+◌, ◌<◌, ◌≤◌, ◌⊎◌, inl, inr, List, length, slice_set, refl, sym, ap, ◌∙◌, subst, arith}
+use Rattle.std.proofs.Common.{◌≡◌, ℕ, ◌+◌, ◌<◌, ◌≤◌, ◌⊎◌, inl, inr, List, length, refl, sym, ap, subst, arith}
 use Rattle.clk_router.specs.Course.{Course, accepted_at, evicted_at, emitted_at, moment_at, CanPull}
 use Rattle.clk_live.specs.declared.draining.DrainEnd.TheVariants.{MoreLeft, AtEnd}
 use Rattle.clk_live.specs.Draining.{HasLeft}

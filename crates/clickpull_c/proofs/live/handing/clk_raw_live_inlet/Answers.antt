@@ -1,4 +1,4 @@
-use Rattle.std.proofs.Common.{inl, inr, refl, subst}
+use Rattle.std.proofs.Common.{inr, refl, subst}
 use Rattle.clickpull_c.specs.declared.live.router.LiveRouter.{LiveRouter}
 use Rattle.clickpull_c.specs.live.Handing.{RefusesInlet}
 use Rattle.clickpull_c.specs.live.State.{IsUnchanged}

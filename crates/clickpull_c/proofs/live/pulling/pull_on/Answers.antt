@@ -2,7 +2,6 @@ use Rattle.std.proofs.Common.{◌<◌, length, refl, subst, arith}
 use Rattle.clk_router.specs.Course.{Course, CanPull}
 use Rattle.clk_live.specs.State.{seen}
 use Rattle.clk_live.specs.Pulling.{at_end}
-use Rattle.clickpull_c.proofs.Fills.{filled-length}
 use Rattle.clickpull_c.proofs.LiveLoops.{pulled-none, pulled-more}
 use Rattle.clickpull_c.proofs.live.pulling.pull_on.Goals as goal
 

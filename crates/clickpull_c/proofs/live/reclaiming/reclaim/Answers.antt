@@ -1,4 +1,4 @@
-use Rattle.std.proofs.Common.{◌≡◌, ◌+◌, ◌<◌, ◌∷◌, ◌++◌, [], length, take, drop, slice_set, sym, ap, ◌∙◌, subst, arith}
+use Rattle.std.proofs.Common.{◌<◌, length, take, slice_set, sym, ◌∙◌, subst, arith}
 use Rattle.clickpull_c.specs.Filled.{IsFilled}
 use Rattle.clickpull_c.proofs.Fills.{fill-more, next-of}
 use Rattle.clickpull_c.proofs.live.reclaiming.reclaim.Goals as goal

@@ -1,5 +1,4 @@
 use Rattle.std.proofs.Common.{◌≡◌, ℕ, refl}
-use Rattle.clk_live.specs.State.{LiveState}
 use Rattle.clickpull_c.specs.live.Tells.{TellsDrained, drained, not_drained}
 use Rattle.clickpull_c.proofs.LiveSteps.{told}
 use Rattle.clickpull_c.proofs.live.telling.drained.Goals as goal

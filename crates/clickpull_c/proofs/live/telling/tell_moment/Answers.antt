@@ -1,4 +1,4 @@
-use Rattle.std.proofs.Common.{◌≡◌, ◌<◌, ◌≤◌, refl, sym, subst, arith}
+use Rattle.std.proofs.Common.{◌≡◌, ◌<◌, ◌≤◌, refl, subst, arith}
 use Rattle.clk_router.specs.Course.{Course}
 use Rattle.clickpull_c.specs.Answers.{HasNoDevice}
 use Rattle.clickpull_c.specs.Tells.{TellsMoment}
