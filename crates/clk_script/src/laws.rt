@@ -1,6 +1,6 @@
 //! What the definitions of scripts say: each law is a function that does nothing and whose contract is the law.
 
-ghost use Rattle.std.specs.Prelude.{◌≡◌, ℕ, ◌≤◌, ◌<◌, List, [], ◌∷◌, ◌++◌, length, map, None, Some, codes};
+ghost use Rattle.std.specs.Prelude.{◌≡◌, ℕ, ◌≤◌, ◌<◌, ◌^◌, List, [], ◌∷◌, ◌++◌, length, map, None, Some, codes};
 ghost use Rattle.std.specs.List.{AllByRecursion};
 ghost use Rattle.clk_packet.specs.Bytes.{Takes, AppendsFront};
 ghost use Rattle.clk_packet.specs.declared.fault.Fault.TheVariants.{Memory, TooLarge, Write};
@@ -36,8 +36,8 @@ pub fn scripts_have_at_most_one_meaning()
     runs_leave_no_choice();
 }
 
-/// A script has at most one meaning over a plan, since that has one tree for each device. If `run_script` and `run_script_logged` succeed,
-/// the script and the plan therefore settle the text that they write and the logs that the latter returns.
+/// A script has at most one meaning over a plan, since a plan has one tree for each device. So the script and the plan settle the text that
+/// `run_script` writes if it succeeds, and the logs that `run_script_logged` returns.
 pub fn plans_have_at_most_one_meaning(plan: &Plan)
     ensures texts { (script one other : List ℕ) → MeansOver plan.now script one → MeansOver plan.now script other → one ≡ other }
     ensures logs { (script one other : List ℕ) (logs others : List (List Visit)) → MeansOverWith plan.now script one logs → MeansOverWith plan.now script other others → logs ≡ others }
@@ -48,19 +48,19 @@ pub fn plans_have_at_most_one_meaning(plan: &Plan)
     scripts_have_at_most_one_meaning();
 }
 
-/// The record of events that happened, and of the drain that closed them if there was one, is a script that means just that: the lines
-/// of the events, of their closing and of the report, with the logs of the devices. Only events that fit a script have such a record.
+/// The record of what happened, with the drain that closed it if there was one, is a script that means just that: the lines of the events,
+/// of their closing and of the report, with the logs of the devices. Only events that fit a script have a record that means anything.
 pub fn records_mean_their_course()
     ensures course { (setup : _) → RecordsMeanTheirCourse setup }
     ensures fitting { (setup : _) → OnlyFittingRecordsMean setup }
 {}
 
-/// Over a plan the senders and the devices of all that can happen fit a script. Its record means it if no moment is 2^40 or later, and the
-/// record has at most 1,000,000 lines.
+/// The record of what happened over a plan means just that, if no moment is 2^40 or later and the record has at most 1,000,000 lines. A
+/// script can name each sender and each device of a plan.
 pub fn records_of_plans_mean_their_course(plan: &Plan)
     ensures { (trees : List Tree) → AreTreesOf plan.now trees → PlanRecordsMeanTheirCourse plan.now trees }
 {
-    // Its devices are few, and a line can hold the numbers of its senders.
+    // A line can hold the number of each of its devices and senders.
     let _devices = plan.devices();
     let _senders = plan.senders();
     records_mean_their_course();
@@ -147,7 +147,7 @@ pub fn word_examples()
 {}
 
 /// A record byte for byte, events that fit at the greatest moments, and near misses: a sender that is not there, a sender or a device above
-/// 65,535, a pull or a drain at 2^40, and line 1,000,001. The record of each near miss means nothing.
+/// 65,535, a pull or a drain at 2^40, and line 1,000,001. The record of each near miss means nothing, though that pull can happen.
 pub fn record_examples()
     ensures lines { record_text (map command_of (pulled_at 3)) (Some 4) ≡ codes "send 1 50\npull 3\npull 3 1\ndrain 4\n" }
     ensures fits { FitsScript two_devices (pulled_at 1099511627775) (Some 1099511627775) }
@@ -157,6 +157,7 @@ pub fn record_examples()
     ensures no_great_sender { (text : List ℕ) → ¬ (IsMeaning great_sender (record_text (map command_of from_great) None) text) }
     ensures not_great_device { (setup : Setup) → ¬ (FitsScript setup (pulled 65536 0 [] ∷ []) None) }
     ensures no_great_device { (setup : Setup) (text : List ℕ) → ¬ (IsMeaning setup (record_text (map command_of (pulled 65536 0 [] ∷ [])) None) text) }
+    ensures late_can_happen { CanHappen two_devices (pulled_at 1099511627776) }
     ensures not_late { ¬ (FitsScript two_devices (pulled_at 1099511627776) None) }
     ensures no_late { (text : List ℕ) → ¬ (IsMeaning two_devices (record_text (map command_of (pulled_at 1099511627776)) None) text) }
     ensures not_drained_late { ¬ (FitsScript two_devices (pulled_at 3) (Some 1099511627776)) }
@@ -164,6 +165,7 @@ pub fn record_examples()
     ensures not_long { (setup : Setup) (events : List Event) → length events ≡ 1000001 → ¬ (FitsScript setup events None) }
     ensures no_long { (setup : Setup) (events : List Event) (text : List ℕ) → AllByRecursion IsSmall (map command_of events) → length events ≡ 1000001 → ¬ (IsMeaning setup (record_text (map command_of events) None) text) }
     ensures not_drained_long { (setup : Setup) (events : List Event) (moment : ℕ) → length events ≡ 1000000 → ¬ (FitsScript setup events (Some moment)) }
+    ensures no_drained_long { (setup : Setup) (events : List Event) (moment : ℕ) (text : List ℕ) → AllByRecursion IsSmall (map command_of events) → moment < 2 ^ 64 → length events ≡ 1000000 → ¬ (IsMeaning setup (record_text (map command_of events) (Some moment)) text) }
 {
     // By this law, which does nothing, only what fits means anything.
     records_mean_their_course();

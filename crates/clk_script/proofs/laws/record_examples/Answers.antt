@@ -46,3 +46,9 @@ returns-clause-no_long c setup events text small many means =
     let fits = c.records_mean_their_course.ensures.fitting setup events None text small tt means in
     let few = fits.limits.few in
     absurd (omega (arith, few, many))
+
+pub returns-clause-no_drained_long : goal.returns-clause-no_drained_long
+returns-clause-no_drained_long c setup events moment text small ends many means =
+    let fits = c.records_mean_their_course.ensures.fitting setup events (Some moment) text small ends means in
+    let few = fits.limits.few in
+    absurd (omega (arith, few, many))
