@@ -1,8 +1,8 @@
 /* Has each request for memory refused in turn. It stands outside what is proved.
  *
  * The linker hands the library's malloc, calloc, realloc and free to the functions below (--wrap). With the n-th request refused, for n from
- * 1 on, a router can't be opened: fault 1, a shut router, and nothing is kept. Once it opens, no call takes memory, and closing gives all
- * back. */
+ * 1 on, a router can't be opened, live or not: fault 1, a shut router, and nothing is kept. Once it opens, no call takes memory, and closing
+ * gives all back. */
 #include "clickpull.h"
 
 #include <stdint.h>
@@ -114,10 +114,62 @@ static long refuse_each(const char *tree) {
     }
 }
 
+/* Every call on a live router and its inlets, while no memory is to be had. */
+static void use_live(clk_live *router) {
+    clk_inlet inlet;
+    clk_taken taken[4];
+    clk_emitted packets[2];
+    clk_departed departed[2];
+    clk_account account;
+    clk_queue queue;
+    uint64_t number;
+    size_t count;
+    check(clk_live_inlet(router, 0, &inlet) == CLK_OK, "an inlet is handed out");
+    for (uint64_t i = 0; i < 300; i++) {
+        check(clk_inlet_offer(&inlet, (uint32_t)(1 + i), i, NULL) == CLK_OK, "a packet is accepted");
+        check((i % 2 ? clk_live_take_in(router, 2, taken, 4, &count) : clk_live_take(router, 0, taken, 4, &count)) == CLK_OK, "it is taken");
+        check(count == 1 && taken[0].token == i, "it comes with its token");
+        check(clk_live_pull(router, 0, i, packets) <= CLK_NONE, "a pull is made");
+        check(clk_live_pull_many(router, 0, i, packets, 2, &count) <= CLK_NONE, "pulls are made");
+    }
+    check(clk_live_take_what_fits(router, 2, taken, 4, &count) == CLK_NONE, "nothing is left in an inlet");
+    check(clk_live_account_at(router, 0, &account) == CLK_OK, "an account is told");
+    check(clk_live_queue_at(router, 0, &queue) == CLK_OK, "a queue is told");
+    check(clk_live_moment(router, 0, &number) == CLK_OK && clk_live_left(router, 0, &number) == CLK_OK, "numbers are told");
+    while (clk_live_drain(router, 0, departed, 2, 5, &count) == CLK_NONE)
+        ;
+    check(clk_live_drained(router) == CLK_OK && clk_live_ended(router) == CLK_NONE, "all is drained, and an inlet is open");
+    check(clk_inlet_offer(&inlet, 1, 7, NULL) == CLK_OK && clk_live_take(router, 0, taken, 4, &count) == CLK_OK, "one more is taken");
+    check(clk_live_reclaim(router, &number, 1, &count) == CLK_NONE && count == 1 && number == 7, "its token is reclaimed");
+    clk_inlet_close(&inlet);
+}
+
+/* The same of a live router and its inlets. */
+static long refuse_each_live(const char *tree) {
+    for (long n = 1;; n++) {
+        clk_live router = CLK_NO_LIVE;
+        clk_fault fault = {0, 0};
+        asked = 0, refused = n, live = 0, from_then_on = 0;
+        clk_status status = clk_live_open(tree, strlen(tree), 4, &router, &fault);
+        if (asked < n) {
+            check(status == CLK_OK, "it opens");
+            refused = asked, from_then_on = 1;
+            use_live(&router);
+            check(asked == refused, "no call but clk_live_open takes memory");
+            clk_live_close(&router);
+            check(live == 0, "closing gives all back");
+            return n - 1;
+        }
+        check(status == CLK_FAULT && fault.number == 1 && fault.offset == 0, "it is fault 1");
+        check(router.at == NULL, "the router is shut");
+        check(live == 0, "nothing is kept");
+    }
+}
+
 int main(void) {
     long all = 0;
     for (size_t i = 0; i < sizeof TREES / sizeof *TREES; i++)
-        all += refuse_each(TREES[i]);
+        all += refuse_each(TREES[i]) + refuse_each_live(TREES[i]);
     printf("%ld requests refused\n", all);
     return failed;
 }

@@ -1,5 +1,6 @@
 -- What calls do to a live router, and what they fill in.
 pub mod Drains
+pub mod Examples
 pub mod Handing
 pub mod Opens
 pub mod Pulls

@@ -18,5 +18,5 @@ mod values;
 pub use examples::{call_examples, inlet_examples, refusal_examples};
 pub use handle::{Handle, Place};
 pub use inlets::{InletHandle, InletPlace};
-pub use live::{CDeparted, CEmitted, CTaken, LiveHandle, LivePlace, LiveRouter};
+pub use live::{CDeparted, CEmitted, CTaken, LiveHandle, LivePlace, LiveRouter, filled_examples};
 pub use values::{CAccount, CDeparture, CFault, CItem, COffer, COffered, CPacket, CQueue, CTotal};
