@@ -11,6 +11,9 @@
  * Senders offer packets to their queues, and each device pulls through its tree. The library carries of a packet its sender, its number
  * and its length, and no contents; "Packets of your own", below, says how a caller keeps these.
  *
+ * A clk_router takes one call at a time, offers too. A clk_live ("live routers", below) has an inlet for each sender: the sender offers
+ * from a thread of its own, without a lock, and each packet travels with a token of the caller's.
+ *
  * Use it so, and link with -lclickpull (pkg-config clickpull):
  *
  *     clk_router router;
@@ -32,8 +35,8 @@
  *
  * WHO OWNS WHAT. clk_open makes a router, which the caller holds as a clk_router and gives back with clk_close. It may be copied, as a
  * pointer may: the copies are one router, and only one of them is closed. All else that is handed in stays the caller's; the library
- * reads or fills it while the call runs and keeps no pointer to it. The text isn't needed after clk_open. No call but clk_open takes
- * memory, and none but clk_close gives any back.
+ * reads or fills it while the call runs and keeps no pointer to it. The text isn't needed after clk_open. No call on a router but
+ * clk_open takes memory, and none but clk_close gives any back.
  *
  * WHAT THE CALLER OWES. What a test can find is an answer: a null pointer, a shut router, a number out of range, an unknown sender or
  * device. These no test can find, and they are the caller's to keep:
