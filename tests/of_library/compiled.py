@@ -14,8 +14,8 @@ CPP = ["-std=c++17", *BUILT]
 # The compilers of C, each with that of C++ beside it.
 COMPILERS = {"gcc": "g++", "clang": "clang++"}
 
-# A program that stands alone, and so is no part of the tests of calls.
-ALONE = ("replay.c", "memory.c")
+# Programs that stand alone, and so are no part of the tests of calls.
+ALONE = ("replay.c", "memory.c", "sleeping.c", "at_length.c", "live_calls.c")
 
 # The requests for memory that tests/c/memory.c answers.
 WRAPPED = [f"-Wl,--wrap={it}" for it in ("malloc", "calloc", "realloc", "free")]
