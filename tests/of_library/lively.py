@@ -1,0 +1,523 @@
+"""Calls on live routers by chance, beside a model of them by the rules of clickpull.h. It stands outside what is proved."""
+import random
+import re
+import shutil
+from collections import deque
+from collections.abc import Callable, Iterator
+from concurrent.futures import ThreadPoolExecutor
+from dataclasses import dataclass, field
+from pathlib import Path
+from typing import Any
+
+from of_library.chance import tree_and_script
+from of_library.checks import Check, Failed, Setting, compare, need, run
+from of_library.compiled import C, heap
+from run_rules import KEPT, Deficit, Packet, Queue, Scheduler, queues_below
+
+# Of clickpull.h: statuses, outcomes, and limits.
+OK, NONE, SHUT, UNKNOWN_SENDER, UNKNOWN_DEVICE, BAD_LENGTH, AT_END, UNKNOWN_QUEUE = 0, 1, 2, 4, 5, 6, 7, 8
+FULL, HANDED_OUT, RECLAIMED = 10, 12, 13
+ACCEPTED, REFUSED, EVICTED = 0, 1, 2
+MOST_TAKEN, LONGEST, END_OF_MOMENTS = 64, 65_535, 1 << 44
+
+# How many scripts run under valgrind too.
+CHECKED = 4
+
+# What stands where a call has filled in no number.
+UNFILLED = 7
+
+# How many trees are tried unless more are asked for, and how many characters of a line are told if it is wrong.
+TREES, TOLD = 60, 500
+
+# Answers of a call: numbers, and packets as live_calls.c prints them.
+Answer = list[int | str]
+
+NOBODY = Packet(0, 0, 0)
+
+
+def trees_of(text: str) -> list[Queue | Scheduler]:
+    """What stands below each device of a text as tests/of_library/chance.py makes it: one declaration or connection at a time."""
+    declared = re.findall(r"(\w+) :: (\w+)\(?([\d, ]*)\w*\)?;", text)
+    wired = {(to, int(port or 0)): start for start, port, to in re.findall(r"(\w+) -> (?:\[(\d+)\] )?(\w+);", text)}
+    senders = {(name, int(numbers)) for name, kind, numbers in declared if kind == "Sender"}
+    feeds = re.findall(r"(\w+) -> (\w+);", text)
+    kinds = {name: (kind, [int(it) for it in numbers.split(",") if it.strip()]) for name, kind, numbers in declared}
+    numbers = {name: at for at, name in enumerate(it for it, kind, _ in declared if kind in ("Queue", "FrontDropQueue"))}
+
+    def below(name: str) -> Queue | Scheduler:
+        kind, arguments = kinds[name]
+        if name in numbers:
+            mine = [number for sender, number in senders if (sender, name) in feeds]
+            return Queue(numbers[name], kind == "FrontDropQueue", arguments[0], mine)
+        inputs = [below(wired[name, port]) for port in range(sum(to == name for to, _ in wired))]
+        if kind == "DRRSched" and len(arguments) == 1:
+            arguments = arguments * len(inputs)
+        return Scheduler(kind, arguments, inputs)
+
+    return [below(wired[name, 0]) for name, kind, _ in declared if kind == "ToDevice"]
+
+
+class Tree:
+    """What stands below a device: pulled by the rules of each scheduler."""
+
+    def __init__(self, top: Queue | Scheduler, held: dict[int, deque[Packet]]):
+        self.top, self.held, self.moment = top, held, 0
+        self.kept: dict[int, Any] = {}
+        self.prepare(top)
+
+    def prepare(self, top: Queue | Scheduler) -> None:
+        """Gives each scheduler what it starts with."""
+        if isinstance(top, Scheduler):
+            self.kept[id(top)] = KEPT[top.name](top)
+            for it in top.inputs:
+                self.prepare(it)
+
+    def pull(self, moment: int) -> Packet | None:
+        """What a pull at this moment emits."""
+        self.moment = max(self.moment, moment)
+        return self.result(self.top)
+
+    def result(self, top: Queue | Scheduler) -> Packet | None:
+        """What a queue or a scheduler gives when it is asked."""
+        if isinstance(top, Queue):
+            return self.held[top.number].popleft() if self.held[top.number] else None
+        kept = self.kept[id(top)]
+        if isinstance(kept, Deficit):
+            for _ in top.inputs:
+                at = kept.turn
+                got = kept.heads[at] or self.result(top.inputs[at])
+                if kept.settle(got):
+                    return got
+            return None
+        order = list(kept.order(self.moment))
+        for place, at in enumerate(order):
+            if got := self.result(top.inputs[at]):
+                kept.gave(order, place, self.moment)
+                return got
+        return None
+
+
+@dataclass
+class Line:
+    """A sender: its queue, its inlet, and what became of its packets, by the words of an account."""
+
+    number: int
+    queue: Queue
+    device: int
+    waiting: deque[tuple[int, int] | None] = field(default_factory=deque)
+    accepted_by_inlet: int = 0
+    taken: int = 0
+    is_handed_out: bool = False
+    is_open: bool = False
+    has_ended: bool = False
+    account: dict[str, list[int]] = field(default_factory=lambda: {it: [0, 0] for it in ("accepted", "refused", "evicted", "emitted")})
+
+    def note(self, word: str, packet: Packet) -> None:
+        """Counts a packet."""
+        self.account[word][0] += 1
+        self.account[word][1] += packet.length
+
+
+class Model:
+    """A live router and its inlets. Each call has a method, which returns what the call does."""
+
+    def __init__(self, text: str, room: int):
+        tops = trees_of(text)
+        queues = sorted(((queue, device) for device, top in enumerate(tops) for queue in queues_below(top)), key=lambda it: it[0].number)
+        self.room, self.turn, self.state = room, 0, OK
+        self.queues = queues
+        self.held: dict[int, deque[Packet]] = {queue.number: deque() for queue, _ in queues}
+        # All packets inside, in the order in which each queue accepted them, with their tokens.
+        self.inside: dict[int, dict[Packet, int]] = {queue.number: {} for queue, _ in queues}
+        self.trees = [Tree(top, self.held) for top in tops]
+        lines = [Line(sender, queue, device) for queue, device in queues for sender in queue.senders]
+        self.lines = sorted(lines, key=lambda it: it.number)
+        self.by_number = {it.number: it for it in lines}
+        self.reclaimed: deque[int] = deque()
+
+    # Inlets.
+
+    def inlet(self, sender: int) -> Answer:
+        if self.state != OK:
+            return [self.state, 0]
+        line = self.by_number.get(sender)
+        if line is None:
+            return [UNKNOWN_SENDER, 0]
+        if line.is_handed_out:
+            return [HANDED_OUT, 0]
+        line.is_handed_out = line.is_open = True
+        return [OK, 1]
+
+    def refusal(self, sender: int, length: int) -> int:
+        """Why an offer is refused, or OK."""
+        line = self.by_number.get(sender)
+        if line is None or not line.is_open:
+            return SHUT
+        if not 1 <= length <= LONGEST:
+            return BAD_LENGTH
+        return FULL if len(line.waiting) == self.room else OK
+
+    def put(self, sender: int, length: int, token: int) -> None:
+        line = self.by_number[sender]
+        line.waiting.append((length, token))
+        line.accepted_by_inlet += 1
+
+    def offer(self, sender: int, length: int, token: int) -> Answer:
+        status = self.refusal(sender, length)
+        if status != OK:
+            return [status, UNFILLED]
+        self.put(sender, length, token)
+        return [OK, self.by_number[sender].accepted_by_inlet - 1]
+
+    def offer_many(self, sender: int, count: int, *items: int) -> Answer:
+        if self.refusal(sender, 1) == SHUT:
+            return [SHUT, 0]
+        for done in range(count):
+            length, token = items[2 * done], items[2 * done + 1]
+            status = self.refusal(sender, length)
+            if status != OK:
+                return [status, done]
+            self.put(sender, length, token)
+        return [OK, count]
+
+    def room_of(self, sender: int) -> Answer:
+        if self.refusal(sender, 1) == SHUT:
+            return [SHUT, UNFILLED]
+        return [OK, self.room - len(self.by_number[sender].waiting)]
+
+    def close(self, sender: int) -> Answer:
+        if self.refusal(sender, 1) == SHUT:
+            return [SHUT]
+        self.by_number[sender].is_open = False
+        self.by_number[sender].waiting.append(None)
+        return [OK]
+
+    # Takes.
+
+    def take_one(self, line: Line) -> Answer | None:
+        """Takes a sender's next packet, and offers it to its queue. At the end of its packets it takes that, and returns none."""
+        if not line.waiting:
+            return None
+        item = line.waiting.popleft()
+        if item is None:
+            line.has_ended = True
+            return None
+        length, token = item
+        packet = Packet(line.number, line.taken, length)
+        line.taken += 1
+        held, inside = self.held[line.queue.number], self.inside[line.queue.number]
+        is_full = len(held) == line.queue.capacity
+        if is_full and not line.queue.drops_front:
+            line.note("refused", packet)
+            return [shown(packet, token), REFUSED, shown(NOBODY, 0)]
+        evicted, evicted_token = NOBODY, 0
+        if is_full:
+            evicted = held.popleft()
+            evicted_token = inside.pop(evicted)
+            self.by_number[evicted.sender].note("evicted", evicted)
+        held.append(packet)
+        inside[packet] = token
+        line.note("accepted", packet)
+        return [shown(packet, token), EVICTED if is_full else ACCEPTED, shown(evicted, evicted_token)]
+
+    def take(self, sender: int, count: int) -> Answer:
+        if self.state != OK:
+            return [self.state, 0]
+        line = self.by_number.get(sender)
+        if line is None:
+            return [UNKNOWN_SENDER, 0]
+        taken: list[Answer] = []
+        while len(taken) < min(count, MOST_TAKEN) and (one := self.take_one(line)):
+            taken.append(one)
+        return given(taken, count)
+
+    def take_in(self, each: int, count: int, only_fitting: bool = False) -> Answer:
+        if self.state != OK:
+            return [self.state, 0]
+        taken: list[Answer] = []
+        most = min(count, MOST_TAKEN)
+        for _ in self.lines:
+            if len(taken) == most:
+                break
+            line = self.lines[self.turn]
+            for _ in range(min(each, most - len(taken))):
+                if only_fitting and len(self.held[line.queue.number]) == line.queue.capacity:
+                    break
+                one = self.take_one(line)
+                if one is None:
+                    break
+                taken.append(one)
+            self.turn = (self.turn + 1) % len(self.lines)
+        return given(taken, count)
+
+    def take_what_fits(self, each: int, count: int) -> Answer:
+        return self.take_in(each, count, True)
+
+    # Pulls.
+
+    def refused_pull(self, device: int, moment: int) -> int:
+        if self.state != OK:
+            return self.state
+        if device >= len(self.trees):
+            return UNKNOWN_DEVICE
+        return OK if max(moment, self.trees[device].moment) < END_OF_MOMENTS and moment < END_OF_MOMENTS else AT_END
+
+    def emit(self, device: int, moment: int) -> str | None:
+        packet = self.trees[device].pull(moment)
+        if packet is None:
+            return None
+        line = self.by_number[packet.sender]
+        line.note("emitted", packet)
+        return shown(packet, self.inside[line.queue.number].pop(packet))
+
+    def pull(self, device: int, moment: int) -> Answer:
+        status = self.refused_pull(device, moment)
+        if status != OK:
+            return [status, 0]
+        one = self.emit(device, moment)
+        return [OK, 1, one] if one else [NONE, 0]
+
+    def pull_many(self, device: int, moment: int, count: int) -> Answer:
+        status = self.refused_pull(device, moment)
+        if status != OK:
+            return [status, 0]
+        emitted: list[Answer] = []
+        while len(emitted) < count and (one := self.emit(device, moment)):
+            emitted.append([one])
+        return given(emitted, count)
+
+    def left_for(self, device: int) -> int:
+        return sum(len(self.inside[queue.number]) for queue, at in self.queues if at == device)
+
+    def drain(self, device: int, count: int, pulls: int) -> Answer:
+        status = self.refused_pull(device, 0)
+        departed: Answer = []
+        while status == OK and self.left_for(device) > 0:
+            moment = self.trees[device].moment + 1
+            if len(departed) // 2 == count or pulls == 0:
+                status = NONE
+            elif moment == END_OF_MOMENTS:
+                status = AT_END
+            else:
+                pulls -= 1
+                if one := self.emit(device, moment):
+                    departed += [moment, one]
+        return [status, len(departed) // 2, *departed]
+
+    # What is told.
+
+    def ended(self) -> Answer:
+        return [self.state or (OK if all(it.has_ended for it in self.lines) else NONE)]
+
+    def drained(self) -> Answer:
+        return [self.state or (NONE if any(self.inside.values()) else OK)]
+
+    def told_of(self, device: int, value: Callable[[], int]) -> Answer:
+        if self.state != OK:
+            return [self.state, UNFILLED]
+        return [OK, value()] if device < len(self.trees) else [UNKNOWN_DEVICE, UNFILLED]
+
+    def moment(self, device: int) -> Answer:
+        return self.told_of(device, lambda: self.trees[device].moment)
+
+    def left(self, device: int) -> Answer:
+        return self.told_of(device, lambda: self.left_for(device))
+
+    def account(self, place: int) -> Answer:
+        if self.state != OK:
+            return [self.state]
+        if place >= len(self.lines):
+            return [UNKNOWN_SENDER]
+        line = self.lines[place]
+        return [OK, line.number, line.queue.number, *(it for total in line.account.values() for it in total)]
+
+    def queue(self, number: int) -> Answer:
+        if self.state != OK:
+            return [self.state]
+        if number >= len(self.queues):
+            return [UNKNOWN_QUEUE]
+        queue, device = self.queues[number]
+        return [OK, queue.capacity, len(self.held[number]), device, int(queue.drops_front)]
+
+    def counts(self) -> Answer:
+        return [0, 0, 0] if self.state != OK else [len(self.lines), len(self.queues), len(self.trees)]
+
+    # The end.
+
+    def reclaim(self, count: int) -> Answer:
+        if self.state == SHUT:
+            return [SHUT, 0]
+        if self.state == OK:
+            self.reclaimed.extend(token for queue, _ in self.queues for token in self.inside[queue.number].values())
+        self.state = RECLAIMED
+        tokens = [self.reclaimed.popleft() for _ in range(min(count, len(self.reclaimed)))]
+        return [OK if len(tokens) < count else NONE, len(tokens), *tokens]
+
+    def shut(self) -> Answer:
+        self.state = SHUT
+        return [1]
+
+    def carry_out(self, line: str) -> str:
+        """What the program prints of a line."""
+        word, *numbers = line.split()
+        call = getattr(self, {"room": "room_of"}.get(word, word))
+        return " ".join(map(str, [word, *call(*map(int, numbers))]))
+
+
+def shown(packet: Packet, token: int) -> str:
+    """A packet as the program prints it."""
+    return f"{packet.sender}#{packet.number} {packet.length} {token}"
+
+
+def given(filled: list[Answer], count: int) -> Answer:
+    """What a call for up to `count` packets returns and fills in."""
+    return [NONE if count and not filled else OK, len(filled), *(it for one in filled for it in one)]
+
+
+# Calls by chance.
+
+
+def number_of(chance: random.Random, known: list[int]) -> int:
+    """A number that is known, and now and then another."""
+    return chance.choice(known) if known and chance.random() < 0.97 else chance.choice([0, 3, 600, 65_535])
+
+
+def items(chance: random.Random, count: int) -> str:
+    """Lengths and tokens of packets."""
+    lengths = [chance.choice([1, 40, 500, 1500, 1500, LONGEST]) for _ in range(count)]
+    if count and chance.random() < 0.1:
+        lengths[chance.randrange(count)] = chance.choice([0, LONGEST + 1, 1 << 17, (1 << 32) - 1])
+    return " ".join(f"{length} {chance.getrandbits(64)}" for length in lengths)
+
+
+class Maker:
+    """Makes lines of calls for a router with these senders and so many queues and devices."""
+
+    def __init__(self, chance: random.Random, model: Model):
+        self.chance = chance
+        self.senders = [it.number for it in model.lines]
+        self.queues = list(range(len(model.queues)))
+        self.devices = list(range(len(model.trees)))
+        self.moment = 0
+        # In some scripts inlets stay open, routers stay whole, and moments stay low.
+        self.rare = chance.choice([0, 0, 0.01, 0.05])
+
+    def call(self) -> str:
+        """A call."""
+        chance = self.chance
+        if chance.random() < self.rare:
+            return self.rare_call()
+        return chance.choices([self.of_inlet, self.of_take, self.of_pull, self.of_look], [5, 3, 3, 1])[0]()
+
+    def of_inlet(self) -> str:
+        chance, sender = self.chance, number_of(self.chance, self.senders)
+        if chance.random() < 0.3:
+            count = chance.choice([0, 1, 3, 10, 64, 65, 90])
+            return f"offer_many {sender} {count} {items(chance, count)}".strip()
+        return f"offer {sender} {items(chance, 1)}" if chance.random() < 0.9 else f"room {sender}"
+
+    def of_take(self) -> str:
+        chance, count = self.chance, self.chance.choice([0, 1, 1, 2, 5, 63, 64, 65, 100])
+        if chance.random() < 0.3:
+            return f"take {number_of(chance, self.senders)} {count}"
+        return f"{chance.choice(['take_in', 'take_what_fits'])} {chance.choice([0, 1, 1, 2, 5, 64, 200])} {count}"
+
+    def of_pull(self) -> str:
+        chance, device = self.chance, number_of(self.chance, self.devices)
+        self.moment = max(0, self.moment + chance.choice([-3, 0, 0, 0, 1, 1, 2, 30]))
+        if chance.random() < 0.1:
+            return f"drain {device} {chance.choice([0, 1, 4, 100])} {chance.choice([0, 1, 3, 50])}"
+        if chance.random() < 0.5:
+            return f"pull_many {device} {self.moment} {chance.choice([0, 1, 2, 5, 20, 100])}"
+        return f"pull {device} {self.moment}"
+
+    def of_look(self) -> str:
+        chance = self.chance
+        word = chance.choice(["ended", "drained", "moment", "left", "account", "queue", "counts"])
+        if word in ("moment", "left"):
+            return f"{word} {number_of(chance, self.devices)}"
+        known = {"account": list(range(len(self.senders))), "queue": self.queues}.get(word)
+        return word if known is None else f"{word} {number_of(chance, known)}"
+
+    def rare_call(self) -> str:
+        chance = self.chance
+        moment = chance.choice([END_OF_MOMENTS - 1, END_OF_MOMENTS, END_OF_MOMENTS + 1, (1 << 64) - 1])
+        return chance.choices(
+            [f"close {number_of(chance, self.senders)}", f"inlet {number_of(chance, self.senders)}", f"pull 0 {moment}", f"reclaim {chance.choice([0, 1, 3, 100])}", "shut"],
+            [20, 10, 2, 1, 1],
+        )[0]
+
+    def lines(self) -> Iterator[str]:
+        """The lines of a script: inlets are handed out, calls are made, and then, in most scripts, the router comes to its end."""
+        chance = self.chance
+        for sender in self.senders:
+            if chance.random() < 0.9:
+                yield f"inlet {sender}"
+        for _ in range(chance.choice([5, 40, 150])):
+            yield self.call()
+        if chance.random() < 0.3:
+            yield from (f"reclaim {it}" for it in chance.choice([(), (0, 1, 2, 50, 100), (100, 100)]))
+            return
+        yield from (f"close {it}" for it in self.senders if chance.random() < 0.95)
+        for _ in range(chance.choice([1, 5, 20])):
+            yield f"take_in {chance.choice([1, 64])} 64"
+        yield "ended"
+        yield from (f"drain {it} 100 1000" for it in self.devices)
+        yield "drained"
+        yield from (f"account {it}" for it in range(len(self.senders)))
+        yield from (f"reclaim {it}" for it in chance.choice([(), (2, 2, 100), (100,)]))
+
+
+def script_of(seed: str) -> tuple[str, int, list[str], str]:
+    """A tree, the room of its inlets, calls, and what these print."""
+    chance = random.Random(seed)
+    tree = tree_and_script(chance)[0]
+    room = chance.choice([1, 1, 2, 3, 7, 64, 200])
+    model = Model(tree, room)
+    calls = list(Maker(chance, model).lines())
+    return tree, room, calls, "".join(f"{model.carry_out(it)}\n" for it in calls)
+
+
+def built(setting: Setting) -> Path:
+    """The program that makes calls."""
+    need("cc")
+    program = setting.made / "live-calls"
+    source = setting.root / "tests" / "c" / "live_calls.c"
+    run(["cc", *C, "-I", setting.include, source, "-o", program, setting.archive, heap()])
+    return program
+
+
+def compared(program: Path, folder: Path, seed: int, number: int) -> int:
+    """Compares what the calls of a script return with the model. Returns how many calls it has."""
+    tree, room, calls, wanted = script_of(f"{seed} live {number}")
+    paths = folder / f"{number}.click", folder / f"{number}.calls"
+    for path, text in zip(paths, (tree, "".join(f"{it}\n" for it in calls))):
+        path.write_text(text)
+    is_checked = number < CHECKED and shutil.which("valgrind") is not None
+    checker = ["valgrind", "-q", "--error-exitcode=9", "--leak-check=full", "--show-leak-kinds=all"] if is_checked else []
+    found = run([*checker, program, paths[0], str(room), paths[1]])
+    for at, (line, other) in enumerate(zip(found.splitlines(), wanted.splitlines())):
+        if line != other:
+            before = "\n".join(calls[: at + 1])
+            what = f"script {number} of seed {seed}: call {at + 1} prints {line[:TOLD]!r}, where it has to be {other[:TOLD]!r}"
+            raise Failed(f"{what}\n{tree}\nroom {room}\n{before}")
+    compare(f"script {number} of seed {seed}: lines", found.count("\n"), len(calls))
+    return len(calls)
+
+
+def calls_agree(count: int, seed: int) -> Callable[[Setting], str]:
+    """Calls by chance return what the model says."""
+
+    def check(setting: Setting) -> str:
+        program, folder = built(setting), setting.made / "live"
+        folder.mkdir()
+        with ThreadPoolExecutor() as pool:
+            calls = sum(pool.map(lambda it: compared(program, folder, seed, it), range(count)))
+        return f"{calls} calls on {count} routers"
+
+    return check
+
+
+def checks(count: int, seed: int) -> list[Check]:
+    """The check of so many routers, and no fewer than TREES."""
+    return [Check("live calls that chance brings", calls_agree(max(count, TREES), seed))]
