@@ -32,6 +32,19 @@ def compiled(part: str, language: str, compiler: str, standard: str) -> Callable
     return check
 
 
+def threads_are_right(setting: Setting) -> str:
+    """What the page shows of a program on threads stands in it, and the program prints what the page says."""
+    need("cc")
+    parts, answer = shown(setting, "Producers on threads", "c")
+    source, made = setting.root / "examples" / "threads" / "first.c", setting.made / "first"
+    for part in parts.split("\n\n"):
+        if part.strip("\n") not in source.read_text():
+            raise Failed(f"docs/LIBRARY.md shows what isn't in {source}:\n{part}")
+    run(["cc", "-std=gnu11", "-pthread", *WARNINGS, "-I", setting.include, source, "-o", made, setting.archive, heap()])
+    compare("what the program on threads prints", run([made]), answer)
+    return f"{len(parts.splitlines())} lines"
+
+
 def python_is_right(setting: Setting) -> str:
     """The program in Python prints what the page says."""
     program, answer = shown(setting, "In Python", "python")
@@ -43,6 +56,7 @@ def python_is_right(setting: Setting) -> str:
 
 CHECKS = [
     Check("C in docs/LIBRARY.md", compiled("In C", "c", "cc", "-std=c11")),
+    Check("threads in docs/LIBRARY.md", threads_are_right),
     Check("C++ in docs/LIBRARY.md", compiled("In C++", "cpp", "c++", "-std=c++17")),
     Check("Python in docs/LIBRARY.md", python_is_right),
 ]
