@@ -14,6 +14,12 @@
  * waiter_prepare sets a flag, and then the consumer looks once more. waiter_notify reads the flag after the packet was put. On each side a
  * sequentially consistent fence stands between the two steps. So the consumer sees the packet, or the producer sees the flag.
  *
+ * No producer wakes the consumer for packets that it has taken and not yet pulled. While there are any (clk_live_drained isn't CLK_OK), it
+ * sleeps no longer than to its next pull.
+ *
+ * A producer that waits while its inlet is full does the same with a waiter of its own: it prepares, offers once more, and waits. The
+ * consumer takes, and then notifies (tests/c/sleeping.c).
+ *
  * One thread waits, and any number of threads notify. waiter_cond.c waits on a condition variable. waiter_eventfd.c waits on an eventfd of
  * Linux. Link one of them. */
 #ifndef WAITER_H
