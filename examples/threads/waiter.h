@@ -41,8 +41,8 @@ void waiter_prepare(struct waiter *waiter);
 /* Says that this thread does not wait after all. */
 void waiter_cancel(struct waiter *waiter);
 
-/* Waits until another thread notifies, or for so many milliseconds; without end if that is negative. Returns false if the time is up. It may
- * return true though nobody has notified since waiter_prepare: look for work again in any case. */
+/* Waits until another thread notifies, or for so many milliseconds; without end if that is negative. Returns false if the time is up. It
+ * may return true though nobody has notified since waiter_prepare: look for work again in any case. */
 bool waiter_wait(struct waiter *waiter, int milliseconds);
 
 /* Wakes the thread that waits or is about to. Costs a fence and a read if there is none. Call it after a packet or a batch of packets was

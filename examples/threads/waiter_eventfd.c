@@ -10,8 +10,8 @@
 #include <sys/eventfd.h>
 #include <unistd.h>
 
-/* Whoever clears the flag for another thread writes to the eventfd. So while the thread waits, the flag is set, or the eventfd is readable or
- * soon will be. What is left in the eventfd after a waiter_cancel ends the next wait early. */
+/* Whoever clears the flag for another thread writes to the eventfd. So while the thread waits, the flag is set, or the eventfd is readable
+ * or soon will be. What is left in the eventfd after a waiter_cancel ends the next wait early. */
 struct waiter {
     atomic_bool is_waiting;
     int event;

@@ -1,7 +1,7 @@
 /* Tests of live routers with many packets on threads: at_length [PACKETS [SEED]]
  *
- * Of each packet its number, length and token are compared. Each is out once, and those of a sender keep their order. It stands outside what
- * is proved. */
+ * Of each packet its number, length and token are compared. Each is out once, and those of a sender keep their order. It stands outside
+ * what is proved. */
 #define _POSIX_C_SOURCE 200809L
 #include "clickpull.h"
 
@@ -17,8 +17,8 @@ enum { MOST = 8, MANY = CLK_MOST_TAKEN, OWNERS = 4, LEG = 100 };
 
 /* Eight senders in five queues of both kinds, below three schedulers. */
 static const char TREE[] = "s0 :: Sender(0); s1 :: Sender(1); s2 :: Sender(2); s3 :: Sender(3); s4 :: Sender(4); s5 :: Sender(5);"
-                           "s6 :: Sender(6); s7 :: Sender(7); p, q :: Queue(40); r :: FrontDropQueue(40); t :: FrontDropQueue(1); u :: Queue(1);"
-                           "x :: DRRSched(1500, 500); y :: StrideSched(3, 2, 1); z :: RoundRobinSched; d :: ToDevice(link);"
+                           "s6 :: Sender(6); s7 :: Sender(7); p, q :: Queue(40); r :: FrontDropQueue(40); t :: FrontDropQueue(1);"
+                           "u :: Queue(1); x :: DRRSched(1500, 500); y :: StrideSched(3, 2, 1); z :: RoundRobinSched; d :: ToDevice(link);"
                            "s0 -> p -> x; s1 -> q -> [1] x; s2 -> r -> y; s3 -> t -> [1] y; s4 -> u -> [2] y; s5 -> p; s6 -> r; s7 -> t;"
                            "x -> z; y -> [1] z; z -> d;";
 

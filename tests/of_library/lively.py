@@ -441,11 +441,10 @@ class Maker:
 
     def rare_call(self) -> str:
         chance = self.chance
+        sender = number_of(chance, self.senders)
         moment = chance.choice([END_OF_MOMENTS - 1, END_OF_MOMENTS, END_OF_MOMENTS + 1, (1 << 64) - 1])
-        return chance.choices(
-            [f"close {number_of(chance, self.senders)}", f"inlet {number_of(chance, self.senders)}", f"pull 0 {moment}", f"reclaim {chance.choice([0, 1, 3, 100])}", "shut"],
-            [20, 10, 2, 1, 1],
-        )[0]
+        calls = {f"close {sender}": 20, f"inlet {sender}": 10, f"pull 0 {moment}": 2, f"reclaim {chance.choice([0, 1, 3, 100])}": 1, "shut": 1}
+        return chance.choices(list(calls), list(calls.values()))[0]
 
     def lines(self) -> Iterator[str]:
         """The lines of a script: inlets are handed out, calls are made, and then, in most scripts, the router comes to its end."""

@@ -24,7 +24,7 @@ def built(setting: Setting, compiler: str, source: str, waiter: str | None = Non
 
 
 def checked(program: Path, *words: str) -> str:
-    """What a program prints under valgrind's memcheck. Its helgrind and drd do not know the library's atomic operations, and are no use here."""
+    """What a program prints under valgrind's memcheck. Its helgrind and drd take a plain xchg for no synchronization, and are no use here."""
     return run(["valgrind", "-q", "--error-exitcode=9", "--leak-check=full", "--show-leak-kinds=all", program, *words])
 
 
