@@ -443,8 +443,8 @@ class Maker:
         chance = self.chance
         sender = number_of(chance, self.senders)
         moment = chance.choice([END_OF_MOMENTS - 1, END_OF_MOMENTS, END_OF_MOMENTS + 1, (1 << 64) - 1])
-        calls = {f"close {sender}": 20, f"inlet {sender}": 10, f"pull 0 {moment}": 2, f"reclaim {chance.choice([0, 1, 3, 100])}": 1, "shut": 1}
-        return chance.choices(list(calls), list(calls.values()))[0]
+        calls = [f"close {sender}", f"inlet {sender}", f"pull 0 {moment}", f"reclaim {chance.choice([0, 1, 3, 100])}", "shut"]
+        return chance.choices(calls, [20, 10, 2, 1, 1])[0]
 
     def lines(self) -> Iterator[str]:
         """The lines of a script: inlets are handed out, calls are made, and then, in most scripts, the router comes to its end."""
@@ -457,6 +457,8 @@ class Maker:
         if chance.random() < 0.3:
             yield from (f"reclaim {it}" for it in chance.choice([(), (0, 1, 2, 50, 100), (100, 100)]))
             return
+        if chance.random() < 0.2:
+            yield from (f"pull 0 {END_OF_MOMENTS + it}" for it in (0, -1, 0))
         yield from (f"close {it}" for it in self.senders if chance.random() < 0.95)
         for _ in range(chance.choice([1, 5, 20])):
             yield f"take_in {chance.choice([1, 64])} 64"
