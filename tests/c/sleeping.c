@@ -2,8 +2,8 @@
  *
  * A consumer waits, as examples/threads/waiter.h says, whenever it finds nothing, and an inlet has room for one packet. So a wake-up that
  * is lost leaves all threads waiting, and the test fails once a wait takes LONGEST. One and two producers offer. While the inlet is full
- * they yield, or wait by a waiter of their own that the consumer notifies. The rounds are repeated for so many seconds, and each runs once at
- * least. It is linked with either waiter, and stands outside what is proved. */
+ * they yield, or wait by a waiter of their own that the consumer notifies. The rounds are repeated for so many seconds, and each runs once
+ * at least. It is linked with either waiter, and stands outside what is proved. */
 #define _POSIX_C_SOURCE 200809L
 #include "clickpull.h"
 #include "waiter.h"

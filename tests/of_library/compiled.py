@@ -15,7 +15,7 @@ CPP = ["-std=c++17", *BUILT]
 COMPILERS = {"gcc": "g++", "clang": "clang++"}
 
 # Programs that stand alone, and so are no part of the tests of calls.
-ALONE = ("replay.c", "memory.c", "sleeping.c", "at_length.c", "live_calls.c")
+ALONE = ("replay.c", "memory.c", "sleeping.c", "at_length.c", "live_calls.c", "live_threads.c")
 
 # The requests for memory that tests/c/memory.c answers.
 WRAPPED = [f"-Wl,--wrap={it}" for it in ("malloc", "calloc", "realloc", "free")]

@@ -24,7 +24,7 @@ def built(setting: Setting, compiler: str, source: str, waiter: str | None = Non
 
 
 def checked(program: Path, *words: str) -> str:
-    """What a program prints under valgrind's memcheck. Its helgrind and drd don't know a plain xchg as a synchronization, so they can't help."""
+    """What a program prints under valgrind's memcheck. Its helgrind and drd see no synchronization in a plain xchg, so they can't help."""
     return run(["valgrind", "-q", "--error-exitcode=9", "--leak-check=full", "--show-leak-kinds=all", program, *words])
 
 
