@@ -16,10 +16,12 @@ impl Live {
     ghost use Rattle.clk_live.specs.Outcome.{AreAllEnded, IsLiveOutcome};
 
     /// Whether all inlets have ended and no packet is left inside, on a thread that has the inlets too. Then all that was sent through the
-    /// inlets is settled. The inlets stand by the places of their senders, as [`open`](Live::open) returned them.
+    /// inlets was taken, with its tokens, and is settled. The inlets stand by the places of their senders, as [`open`](Live::open)
+    /// returned them.
     pub fn is_settled(&mut self, inlets: &mut [Inlet]) -> bool
         requires halves { AllZip AreHalves inlets.old self.old.outlets }
         ensures outcome { result ≡ true → IsLiveOutcome self.new.course (map offered inlets.new) }
+        ensures taken { result ≡ true → (seen self.new).items ≡ map offered inlets.new }
         ensures no { result ≡ false → AreAllEnded self.old.outlets → IsDrained self.old.course → ⊥ }
         ensures halves { AllZip AreHalves inlets.new self.new.outlets }
         ensures unchanged { (seen self.new ≡ seen self.old) × (self.new.turn ≡ self.old.turn) × (map pushed inlets.new ≡ map pushed inlets.old) }

@@ -3,7 +3,7 @@
 ghost use Rattle.std.specs.Prelude.{◌≡◌, [], ◌∷◌, map, IfOk, IfSome};
 ghost use Rattle.std.specs.List.{AllByRecursion, AllZip};
 ghost use Rattle.clk_inlet.specs.Halves.{offered, AreHalves};
-ghost use Rattle.clk_live.specs.State.{AllGoOn};
+ghost use Rattle.clk_live.specs.State.{seen, AllGoOn};
 ghost use Rattle.clk_live.specs.Outcome.{IsLiveOutcome};
 ghost use Rattle.clk_live_tests.specs.Sending.{HasSent};
 
@@ -152,7 +152,7 @@ fn run<R: Threads + Wait + Abort + Sync>(
     )
 }
 
-// Sends all packets from threads. Returns `None` unless all of them are settled once the inlets are back.
+// Sends all packets from threads. Returns `None` unless all of them were taken, with their tokens, and are settled once the inlets are back.
 fn send_and_settle<R: Threads + Wait + Abort + Sync>(
     rt: &R,
     alloc: Global,
@@ -162,6 +162,7 @@ fn send_and_settle<R: Threads + Wait + Abort + Sync>(
     requires halves { AllZip AreHalves (map (λ sender. sender.inlet) senders.items) live.outlets }
     requires none { AllByRecursion (λ inlet. offered inlet ≡ []) (map (λ sender. sender.inlet) senders.items) }
     ensures outcome { IfOk result (λ settled. IfSome settled (λ r. IsLiveOutcome r.0.course (map (λ sender. sender.packets.items) senders.items))) }
+    ensures taken { IfOk result (λ settled. IfSome settled (λ r. (seen r.0).items ≡ map (λ sender. sender.packets.items) senders.items)) }
 {
     let Ended {
         mut live,

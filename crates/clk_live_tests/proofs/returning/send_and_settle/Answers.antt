@@ -29,4 +29,7 @@ returns g c =
     offered_same c.as_mut_slice.result.now c.is_settled.new.inlets pushed_so
     ∙ ap (λ (inlets : List Inlet). map offered inlets) c.as_mut_slice.ensures.value
     ∙ all_offered inlet_of packets_of c.args.senders.items ended.inlets.items c.requires.none c.in_ok-live.ensures.sent in
-    record { outcome = subst (λ (sent : List (List Item)). IsLiveOutcome c.is_settled.new.self.course sent) same (c.if-not-is_settled.ensures.outcome refl) }
+    record {
+      outcome = subst (λ (sent : List (List Item)). IsLiveOutcome c.is_settled.new.self.course sent) same (c.if-not-is_settled.ensures.outcome refl);
+      taken = c.if-not-is_settled.ensures.taken refl ∙ same;
+    }

@@ -18,6 +18,13 @@ returns-clause-outcome c =
     let same : map offered c.look_beside.new.inlets ≡ map taken i.outlets.items = all-same c.look_beside.new.inlets looked c.look_beside.ensures.met ended ∙ items-same i.router i.outlets.items looked i.tokens.items c.self.invariant c.look_beside.ensures.popped in
     λ yes. subst (IsLiveOutcome i.router) (sym same) outcome
 
+pub returns-clause-taken : goal.returns-clause-taken
+returns-clause-taken c =
+    let i = c.self.inside in
+    let looked = c.look_beside.new.outlets.items in
+    let ended = ended-same i.outlets.items looked c.look_beside.ensures.popped (subst (λ (l : LiveState). AreAllEnded l.outlets) (sym c.self.view_is) (c.if-not-is_ended.ensures.ended refl)) in
+    λ yes. sym (all-same c.look_beside.new.inlets looked c.look_beside.ensures.met ended)
+
 pub returns-clause-unchanged : goal.returns-clause-unchanged
 returns-clause-unchanged c =
     let i = c.self.inside in
