@@ -225,6 +225,7 @@ extern uint32_t clk_router_pull(clk_router *router, uint16_t device, uint64_t mo
 extern uint32_t clk_router_pull_many(clk_router *router, uint16_t device, uint64_t moment, clk_packet *packets, size_t packets_length,
                                      size_t *given);
 extern uint32_t clk_router_moment(clk_router *router, uint16_t device, uint64_t *moment);
+extern uint32_t clk_router_due(clk_router *router, uint16_t device, uint64_t *moment);
 extern uint32_t clk_router_left(clk_router *router, uint16_t device, uint64_t *packets);
 extern uint32_t clk_router_drain(clk_router *router, uint16_t device, clk_departure *departures, size_t departures_length,
                                  uint64_t pulls, size_t *given);
@@ -252,6 +253,7 @@ extern uint32_t clk_raw_live_ended(clk_live *live);
 extern uint32_t clk_raw_live_drained(clk_live *live);
 extern uint32_t clk_raw_live_reclaim(clk_live *live, uint64_t *tokens, size_t tokens_length, size_t *given);
 extern uint32_t clk_raw_live_moment(clk_live *live, uint16_t device, uint64_t *moment);
+extern uint32_t clk_raw_live_due(clk_live *live, uint16_t device, uint64_t *moment);
 extern uint32_t clk_raw_live_left(clk_live *live, uint16_t device, uint64_t *packets);
 extern size_t clk_raw_live_senders(clk_live *live);
 extern uint32_t clk_raw_live_account(clk_live *live, size_t place, clk_account *account);
@@ -381,6 +383,23 @@ static inline clk_status clk_moment(const clk_router *router, uint16_t device, u
         return CLK_SHUT;
     clk_router same = *router;
     return CLK_STATUS(clk_router_moment(&same, device, moment));
+}
+
+/* The earliest moment, in ticks, at which a pull of the device could emit a packet, as things stand: the greatest moment handed in so far, or a
+ * later one if every packet is below a Shaper that has no room for it yet. A pull at an earlier moment emits nothing, so a caller may sleep
+ * until then, or until a packet is offered. A pull at that moment may still emit nothing, while a DRRSched saves up for a long packet: pull
+ * again.
+ *
+ * CLK_OK    `moment` is it.
+ * CLK_NONE  no packet is left for the device.
+ * CLK_UNKNOWN_DEVICE, CLK_SHUT, CLK_NULL. */
+static inline clk_status clk_due(const clk_router *router, uint16_t device, uint64_t *moment) {
+    if (!router || !moment)
+        return CLK_NULL;
+    if (!router->at)
+        return CLK_SHUT;
+    clk_router same = *router;
+    return CLK_STATUS(clk_router_due(&same, device, moment));
 }
 
 /* How many packets are left for the device: accepted by its queues, and neither put out nor come out. They are in its queues or held by
@@ -803,6 +822,21 @@ static inline clk_status clk_live_moment(const clk_live *live, uint16_t device, 
         return CLK_SHUT;
     clk_live same = *live;
     return CLK_STATUS(clk_raw_live_moment(&same, device, moment));
+}
+
+/* The earliest moment, in ticks, at which a pull of the device could emit a packet, as clk_due has it. What waits in the inlets is not looked at:
+ * take first.
+ *
+ * CLK_OK    `moment` is it.
+ * CLK_NONE  no packet is left for the device inside the router.
+ * CLK_UNKNOWN_DEVICE, CLK_RECLAIMED, CLK_SHUT, CLK_NULL. */
+static inline clk_status clk_live_due(const clk_live *live, uint16_t device, uint64_t *moment) {
+    if (!live || !moment)
+        return CLK_NULL;
+    if (!live->at)
+        return CLK_SHUT;
+    clk_live same = *live;
+    return CLK_STATUS(clk_raw_live_due(&same, device, moment));
 }
 
 /* How many packets are left for the device inside the router. What waits in the inlets is not among them.

@@ -193,6 +193,12 @@ public:
         return it;
     }
 
+    // The earliest moment at which a pull of the device could emit a packet, in ticks, as things stand; none if no packet is left for it.
+    std::optional<std::uint64_t> due(std::uint16_t device) const {
+        std::uint64_t it = 0;
+        return is_none(clk_due(&router_, device, &it)) ? std::nullopt : std::optional(it);
+    }
+
     // How many packets are left for the device, in queues and held by schedulers.
     std::uint64_t left(std::uint16_t device) const {
         std::uint64_t it = 0;

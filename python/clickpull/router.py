@@ -158,6 +158,13 @@ class Router:
         """The greatest moment that was handed in at the device so far, in ticks; 0 before its first pull."""
         return self._number(LIBRARY.clk_router_moment, device)
 
+    def due(self, device: int = 0) -> int | None:
+        """The earliest moment at which a pull of the device could give a packet, in ticks, as things stand; None if none is left for it."""
+        self._need_open()
+        self._need_device(device)
+        it = ctypes.c_uint64()
+        return None if self._is_none(LIBRARY.clk_router_due(self._router, device, byref(it))) else it.value
+
     def left(self, device: int = 0) -> int:
         """How many packets are left for the device: in its queues, or held by its schedulers."""
         return self._number(LIBRARY.clk_router_left, device)

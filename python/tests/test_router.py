@@ -151,6 +151,21 @@ def test_an_unknown_device(device: int) -> None:
                 call(device)
 
 
+def test_when_a_shaper_has_room() -> None:
+    with Router(SHAPED) as router:
+        assert router.due() is None
+        router.offer(0, 1)
+        router.offer(0, 1)
+        assert router.due() == 0
+        assert router.pull(5) is not None
+        assert router.due() == 6
+        assert router.pull(5) is None
+        assert router.pull(6) is not None
+        assert router.due() is None
+        with pytest.raises(UnknownDevice):
+            router.due(1)
+
+
 @pytest.mark.parametrize("moment", [END_OF_MOMENTS, -1, 1 << 64])
 def test_a_moment_at_its_end(moment: int) -> None:
     with Router(ONE) as router:

@@ -60,6 +60,8 @@ static void packets_go_through(void) {
     clk_emitted one;
     CHECK(clk_live_pull(&live, 0, 7, &one) == CLK_OK && is_packet(one.packet, 3, 0, 100) && one.token == 30);
     CHECK(clk_live_moment(&live, 0, &number) == CLK_OK && number == 7);
+    number = 99;
+    CHECK(clk_live_due(&live, 0, &number) == CLK_OK && number == 7);
     clk_emitted many[4];
     CHECK(clk_live_pull_many(&live, 0, 8, many, 2, &given) == CLK_OK && given == 2);
     CHECK(is_packet(many[0].packet, 5, 1, 201) && many[0].token == 51);
@@ -67,7 +69,7 @@ static void packets_go_through(void) {
     CHECK(clk_live_drained(&live) == CLK_NONE);
     CHECK(clk_live_pull_many(&live, 0, 8, many, 4, &given) == CLK_OK && given == 1 && many[0].token == 52);
     CHECK(clk_live_pull_many(&live, 0, 8, many, 4, &given) == CLK_NONE && given == 0);
-    CHECK(clk_live_pull(&live, 0, 9, &one) == CLK_NONE);
+    CHECK(clk_live_pull(&live, 0, 9, &one) == CLK_NONE && clk_live_due(&live, 0, &number) == CLK_NONE && number == 7);
     CHECK(clk_live_drained(&live) == CLK_OK && clk_live_ended(&live) == CLK_NONE);
     clk_account account;
     CHECK(clk_live_account_at(&live, 0, &account) == CLK_OK && account.sender == 3);
@@ -224,6 +226,7 @@ static void what_cannot_be_has_a_status(void) {
     CHECK(clk_live_pull_many(&live, 0, CLK_END_OF_MOMENTS, &one, 1, &given) == CLK_AT_END && given == 0);
     CHECK(clk_live_pull_many(&live, 0, 0, NULL, 0, &given) == CLK_OK && given == 0);
     CHECK(clk_live_drain(&live, 1, &departed, 1, 1, &given) == CLK_UNKNOWN_DEVICE && given == 0);
+    CHECK(clk_live_due(&live, 1, &number) == CLK_UNKNOWN_DEVICE);
     CHECK(clk_live_left(&live, 1, &number) == CLK_UNKNOWN_DEVICE && clk_live_moment(&live, 1, &number) == CLK_UNKNOWN_DEVICE);
     CHECK(clk_live_account_at(&live, 2, &account) == CLK_UNKNOWN_SENDER && clk_live_queue_at(&live, 2, &queue) == CLK_UNKNOWN_QUEUE);
     CHECK(number == 99);

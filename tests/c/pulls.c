@@ -27,6 +27,24 @@ static void moments_count_upwards(void) {
     clk_close(&router);
 }
 
+static void shapers_tell_when_they_have_room(void) {
+    clk_router router = opened(SHAPED);
+    uint64_t due = 77;
+    CHECK(clk_due(&router, 0, &due) == CLK_NONE && due == 77);
+    for (unsigned i = 0; i < 4; i++)
+        offered(&router, 0, 100 + i);
+    CHECK(clk_due(&router, 0, &due) == CLK_OK && due == 0);
+    for (unsigned i = 0; i < 3; i++)
+        CHECK(is_packet(pulled(&router, 0, 10), 0, i, 100 + i));
+    CHECK(clk_due(&router, 0, &due) == CLK_OK && due == 11);
+    CHECK(pulled(&router, 0, 10).length == 0);
+    CHECK(clk_due(&router, 0, &due) == CLK_OK && due == 11);
+    CHECK(is_packet(pulled(&router, 0, due), 0, 3, 103));
+    due = 77;
+    CHECK(clk_due(&router, 0, &due) == CLK_NONE && due == 77);
+    clk_close(&router);
+}
+
 static void many_are_pulled(void) {
     clk_router router = opened(SHAPED);
     clk_packet packets[4] = {{9, 9, 9}, {9, 9, 9}, {9, 9, 9}, {9, 9, 9}};
@@ -56,6 +74,7 @@ static void what_cannot_be_pulled(void) {
     CHECK(clk_pull(&router, 0, UINT64_MAX, &packet) == CLK_AT_END);
     CHECK(clk_pull_many(&router, 0, CLK_END_OF_MOMENTS, &packet, 1, &given) == CLK_AT_END && given == 0);
     CHECK(clk_moment(&router, 1, &number) == CLK_UNKNOWN_DEVICE && number == 77);
+    CHECK(clk_due(&router, 1, &number) == CLK_UNKNOWN_DEVICE && number == 77);
     CHECK(clk_left(&router, 1, &number) == CLK_UNKNOWN_DEVICE && number == 77);
     CHECK(is_packet(packet, 2, 1, 3));
     CHECK(moment_of(&router, 0) == 0 && left(&router, 0) == 1);
@@ -91,6 +110,7 @@ static void bytes_are_shared(void) {
 
 void test_pulls(void) {
     moments_count_upwards();
+    shapers_tell_when_they_have_room();
     many_are_pulled();
     what_cannot_be_pulled();
     devices_have_moments_of_their_own();

@@ -22,6 +22,7 @@ static void a_shut_router_is_told(void) {
     count = 5;
     CHECK(clk_pull_many(&shut, 0, 0, &packet, 1, &count) == CLK_SHUT && count == 0);
     CHECK(clk_moment(&shut, 0, &number) == CLK_SHUT);
+    CHECK(clk_due(&shut, 0, &number) == CLK_SHUT);
     CHECK(clk_left(&shut, 0, &number) == CLK_SHUT);
     count = 5;
     CHECK(clk_drain(&shut, 0, &departure, 1, 1, &count) == CLK_SHUT && count == 0);
@@ -37,6 +38,7 @@ static void no_router_is_told(void) {
     CHECK(clk_pull(NULL, 0, 0, &packet) == CLK_NULL);
     CHECK(clk_pull_many(NULL, 0, 0, &packet, 1, &count) == CLK_NULL);
     CHECK(clk_moment(NULL, 0, &number) == CLK_NULL);
+    CHECK(clk_due(NULL, 0, &number) == CLK_NULL);
     CHECK(clk_left(NULL, 0, &number) == CLK_NULL);
     CHECK(clk_drain(NULL, 0, &departure, 1, 1, &count) == CLK_NULL);
     CHECK(clk_account_at(NULL, 0, &account) == CLK_NULL);
@@ -53,6 +55,7 @@ static void nulls_are_told(clk_router *router) {
     CHECK(clk_pull_many(router, 0, 0, NULL, 1, &count) == CLK_NULL);
     CHECK(clk_pull_many(router, 0, 0, &packet, 1, NULL) == CLK_NULL);
     CHECK(clk_moment(router, 0, NULL) == CLK_NULL);
+    CHECK(clk_due(router, 0, NULL) == CLK_NULL);
     CHECK(clk_left(router, 0, NULL) == CLK_NULL);
     CHECK(clk_drain(router, 0, NULL, 1, 1, &count) == CLK_NULL);
     CHECK(clk_drain(router, 0, &departure, 1, 1, NULL) == CLK_NULL);

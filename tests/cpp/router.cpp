@@ -28,6 +28,7 @@ static void a_fault_is_thrown() {
 static void packets_are_offered_and_pulled() {
     Router router(ONE);
     CHECK(!router.pull(0, 0));
+    CHECK(!router.due(0));
     for (unsigned i = 0; i < 2; i++) {
         const auto it = router.offer(4, 10 + i);
         CHECK(is_packet(it.packet, 4, i, 10 + i) && it.accepted && !it.evicted);
@@ -38,6 +39,7 @@ static void packets_are_offered_and_pulled() {
     const auto packet = router.pull(0, 7);
     CHECK(packet && is_packet(*packet, 4, 1, 11));
     CHECK(router.moment(0) == 7);
+    CHECK(router.due(0) == 7U);
 }
 
 static void a_full_queue_refuses() {
