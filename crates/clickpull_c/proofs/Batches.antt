@@ -1,10 +1,11 @@
 -- Items that an inlet accepted, one batch after another.
-use Rattle.std.proofs.Common.{◌≡◌, ℕ, ◌+◌, ◌<◌, ◌≤◌, List, [], ◌∷◌, ◌++◌, length, map, take, drop, get_or, sym, ap, ◌∙◌, arith}
+use Rattle.std.proofs.Common.{◌≡◌, ℕ, ◌+◌, ◌<◌, ◌≤◌, false, List, [], ◌∷◌, ◌++◌, length, map, take, drop, get_or, sym, ap, ◌∙◌, arith, take-append-drop}
 use Rattle.std.proofs.Math.Seq.{take-add}
 use Rattle.std.proofs.lemmas.List.{append_assoc, map-append, length-drop, take-map, take-take, take_more}
+use Rattle.std.proofs.lemmas.List.Folds.{list_any-append}
 use Rattle.clk_inlet.specs.declared.inlet.Inlet.{Inlet}
 use Rattle.clk_inlet.specs.declared.item.Item.{Item}
-use Rattle.clk_inlet.specs.Items.{packets}
+use Rattle.clk_inlet.specs.Items.{packets, is_end, has_end}
 use Rattle.clk_inlet.specs.Halves.{pushed, offered}
 use Rattle.clickpull_c.specs.declared.values.CItem.{CItem}
 use Rattle.clickpull_c.specs.Inlets.{AcceptsMany, ring_item}
@@ -54,3 +55,7 @@ accepts-same old mid new items done same first = record {
   pushes = same ∙ first.pushes;
   offers = ap packets same ∙ first.offers;
 }
+
+-- a front of packets has no end
+pub front-packets : (xs : List Item) (i : ℕ) → has_end xs ≡ false → has_end (take i xs) ≡ false
+front-packets xs i packets = let whole : has_end (take i xs ++ drop i xs) ≡ false = ap has_end (take-append-drop i xs) ∙ packets in grind (arith, list_any-append is_end (take i xs) (drop i xs), whole)

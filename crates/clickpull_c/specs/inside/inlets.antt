@@ -1,4 +1,5 @@
--- The handle of an inlet.
+-- The handle of an inlet, and where a batch stops.
 pub mod Follows
 pub mod Handle
 pub mod Place
+pub mod Stops

@@ -1,10 +1,11 @@
 //! What a sender does with its inlet: it offers packets, asks for the room, and ends.
 
-ghost use Rattle.std.specs.Prelude.{◌≡◌, ◌⊎◌, ◌+◌, ◌<◌, ◌≤◌, true, length, map, take, IsOk, IfOk, IfErr, OnErr};
+ghost use Rattle.std.specs.Prelude.{◌≡◌, ◌⊎◌, ◌+◌, ◌<◌, ◌≤◌, true, false, length, map, take, IsOk, IfOk, IfErr, OnErr};
 ghost use Rattle.clk_inlet.specs.Items.{has_end};
 ghost use Rattle.clk_inlet.specs.Halves.{pushed, fits, AreHalves};
 ghost use Rattle.clk_inlet.specs.declared.outlet.Outlet.{Outlet};
 ghost use Rattle.clickpull_c.specs.Answers.{IsLength};
+ghost use Rattle.clickpull_c.specs.inside.inlets.Stops.{HasBadLength, MayStop};
 ghost use Rattle.clickpull_c.specs.Inlets.{Accepts, AcceptsMany, EndsBatch, RefusesPacket, ring_item};
 ghost use Rattle.clickpull_c.specs.declared.statuses.TheConstants.{OK};
 
@@ -133,6 +134,7 @@ fn offer_each(inlet: &mut Inlet, items: &[CItem]) -> (usize, u32)
 // Offers the first of these items as one batch, as many as fit into `piece`. Returns how many were accepted.
 fn offer_piece(inlet: &mut Inlet, items: &[CItem], piece: &mut [Item]) -> usize
     ensures accepted { AcceptsMany inlet.old inlet.new items.now result }
+    ensures stops { result < length piece.old → MayStop inlet.new items.now result }
     ensures fits { fits inlet.old ≤ fits inlet.new + result }
     ensures halves { (o : Outlet) → AreHalves inlet.old o → AreHalves inlet.new o }
 {
@@ -144,7 +146,10 @@ fn offer_piece(inlet: &mut Inlet, items: &[CItem], piece: &mut [Item]) -> usize
 // Converts the first of these items, up to one whose length is out of range, and as many as fit into `piece`. Returns how many.
 fn convert(items: &[CItem], piece: &mut [Item]) -> usize
     ensures count { (result ≤ length items.now) × (result ≤ length piece.new) }
+    ensures room { length piece.new ≡ length piece.old }
     ensures converted { take result piece.new ≡ map ring_item (take result items.now) }
+    ensures packets { has_end (take result piece.new) ≡ false }
+    ensures stops { result < length piece.new → HasBadLength items.now result }
 {
     let mut count = 0;
     while count < items.len() && count < piece.len() {
