@@ -3,6 +3,7 @@
 
 mod closing;
 mod constructors;
+mod due;
 mod growths;
 mod heads;
 mod kinds;
@@ -11,9 +12,11 @@ mod memory;
 pub mod packed;
 pub mod pieces;
 mod queues;
+mod random;
 mod refusals;
 pub mod row;
 mod rows;
+pub mod shaped;
 mod strides;
 mod text;
 pub mod trees;

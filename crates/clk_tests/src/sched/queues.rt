@@ -1,7 +1,7 @@
 //! Queues that a row fills.
 
 use clk_packet::Packet;
-use clk_sched::Ask;
+use clk_sched::{Ask, Backlog};
 use std::alloc::{AllocError, Global};
 use std::collections::VecDeque;
 use std::process::Abort;
@@ -98,5 +98,20 @@ impl Ask for Queues {
     fn ask(&mut self, leaf: u16) -> Option<Packet> {
         let queue = self.0.get_mut(usize::from(leaf))?;
         queue.packets.pop_front()
+    }
+}
+
+impl Backlog for Queues {
+    ghost use Rattle.std.specs.Prelude.{length, nat_lt, slice_get};
+    ghost use Rattle.std.specs.List.{list_any};
+    ghost use Rattle.std.specs.Option.{option_to_list};
+
+    ghost backlogged = { λ s leaf. list_any (λ queue. nat_lt 0 (length queue.packets.items)) (option_to_list (slice_get s.0.items leaf)) };
+
+    fn is_backlogged(&self, leaf: u16) -> bool {
+        match self.0.get(usize::from(leaf)) {
+            Some(queue) => !queue.packets.is_empty(),
+            None => false,
+        }
     }
 }
