@@ -1,4 +1,4 @@
-//! Tests of clk_script, by its public calls alone: what scripts over trees write.
+//! Tests of clk_script and clk_router, by their public calls alone: what scripts over trees write, and when devices are due.
 #![tactic(auto)]
 
 #[cfg(test)]
@@ -9,6 +9,8 @@ mod closing;
 mod deficit;
 #[cfg(test)]
 mod devices;
+#[cfg(test)]
+mod due;
 #[cfg(test)]
 mod failures;
 #[cfg(test)]
@@ -21,6 +23,8 @@ mod logged;
 mod pieces;
 #[cfg(test)]
 mod queues;
+#[cfg(test)]
+mod random;
 #[cfg(test)]
 mod row;
 #[cfg(test)]
