@@ -2,7 +2,8 @@
  *
  * This thread makes calls by chance, and prints each with what it returned: the line of the call as live_calls.c has it, "=", and the answer.
  * Each sender offers up to so many packets. At the end lines "offered SENDER LENGTH TOKEN" say what the inlets accepted, in order. With an
- * odd SEED the tokens are reclaimed in the middle. tests/soak judges what it prints. It stands outside what is proved. */
+ * odd SEED the tokens are reclaimed in the middle, and with every other of these the router is then closed while the senders go on.
+ * tests/soak judges what it prints. It stands outside what is proved. */
 #define _POSIX_C_SOURCE 200809L
 #include "clickpull.h"
 
@@ -197,9 +198,13 @@ int main(int argc, char **argv) {
     for (size_t i = 0; i < count; i++)
         need(pthread_create(&senders[i].thread, NULL, sends, &senders[i]) == 0, "no thread");
     serve(seed % 2 == 1 ? chance(&state, 200) : UINT64_MAX);
-    is_over = true;
     if (seed % 2 == 1)
         reclaim();
+    if (seed % 4 == 3) {
+        clk_live_close(&live);
+        pause_for(500);
+    }
+    is_over = true;
     for (size_t i = 0; i < count; i++) {
         need(pthread_join(senders[i].thread, NULL) == 0, "no join");
         for (uint32_t k = 0; k < senders[i].accepted; k++)

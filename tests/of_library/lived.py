@@ -1,6 +1,7 @@
 """Judges what tests/c/live_threads.c prints, by the model of live routers. It stands outside what is proved."""
 import random
 import re
+import shutil
 from pathlib import Path
 
 from of_library.chance import tree_and_script
@@ -109,6 +110,9 @@ def are_judged(setting: Setting) -> str:
     program, folder = built(setting), setting.made / "lived"
     folder.mkdir()
     packets = sum(live_once(program, random.Random(f"library {it}"), folder) for it in range(ROUTERS))
+    if shutil.which("valgrind"):
+        for seed in ("2", "3"):
+            run(["valgrind", "-q", "--error-exitcode=9", "--leak-check=full", program, folder / "tree.click", "4", "60", seed])
     return f"{packets} packets through {ROUTERS} routers"
 
 
