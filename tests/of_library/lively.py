@@ -138,6 +138,7 @@ class Model:
     # Inlets.
 
     def inlet(self, sender: int) -> Answer:
+        """Hands out a sender's inlet."""
         if self.state != OK:
             return [self.state, 0]
         line = self.by_number.get(sender)
@@ -158,11 +159,13 @@ class Model:
         return FULL if len(line.waiting) == self.room else OK
 
     def put(self, sender: int, length: int, token: int) -> None:
+        """Has a packet wait in an inlet that has room."""
         line = self.by_number[sender]
         line.waiting.append((length, token))
         line.accepted_by_inlet += 1
 
     def offer(self, sender: int, length: int, token: int) -> Answer:
+        """Offers a packet, and returns its number."""
         status = self.refusal(sender, length)
         if status != OK:
             return [status, UNFILLED]
@@ -170,6 +173,7 @@ class Model:
         return [OK, self.by_number[sender].accepted_by_inlet - 1]
 
     def offer_many(self, sender: int, count: int, *items: int) -> Answer:
+        """Offers packets up to the first that is refused."""
         if self.refusal(sender, 1) == SHUT:
             return [SHUT, 0]
         for done in range(count):
@@ -181,11 +185,13 @@ class Model:
         return [OK, count]
 
     def room_of(self, sender: int) -> Answer:
+        """How many packets fit."""
         if self.refusal(sender, 1) == SHUT:
             return [SHUT, UNFILLED]
         return [OK, self.room - len(self.by_number[sender].waiting)]
 
     def close(self, sender: int) -> Answer:
+        """Closes an inlet."""
         if self.refusal(sender, 1) == SHUT:
             return [SHUT]
         self.by_number[sender].is_open = False
@@ -221,6 +227,7 @@ class Model:
         return [shown(packet, token), EVICTED if is_full else ACCEPTED, shown(evicted, evicted_token)]
 
     def take(self, sender: int, count: int) -> Answer:
+        """Takes packets of one sender."""
         if self.state != OK:
             return [self.state, 0]
         line = self.by_number.get(sender)
@@ -232,6 +239,7 @@ class Model:
         return given(taken, count)
 
     def take_in(self, each: int, count: int, only_fitting: bool = False) -> Answer:
+        """Takes packets in one round over the senders. If it fills all places, the next round starts at the next sender."""
         if self.state != OK:
             return [self.state, 0]
         taken: list[Answer] = []
@@ -251,11 +259,13 @@ class Model:
         return given(taken, count)
 
     def take_what_fits(self, each: int, count: int) -> Answer:
+        """The same, but leaves packets in their inlets while their queue is full."""
         return self.take_in(each, count, True)
 
     # Pulls.
 
     def refused_pull(self, device: int, moment: int) -> int:
+        """Why a pull can't be made, or OK."""
         if self.state != OK:
             return self.state
         if device >= len(self.trees):
@@ -263,6 +273,7 @@ class Model:
         return OK if max(moment, self.trees[device].moment) < END_OF_MOMENTS and moment < END_OF_MOMENTS else AT_END
 
     def emit(self, device: int, moment: int) -> str | None:
+        """Pulls a device, and counts what is emitted."""
         packet = self.trees[device].pull(moment)
         if packet is None:
             return None
@@ -271,6 +282,7 @@ class Model:
         return shown(packet, self.inside[line.queue.number].pop(packet))
 
     def pull(self, device: int, moment: int) -> Answer:
+        """Pulls a device once."""
         status = self.refused_pull(device, moment)
         if status != OK:
             return [status, 0]
@@ -278,6 +290,7 @@ class Model:
         return [OK, 1, one] if one else [NONE, 0]
 
     def pull_many(self, device: int, moment: int, count: int) -> Answer:
+        """Pulls a device until it emits none."""
         status = self.refused_pull(device, moment)
         if status != OK:
             return [status, 0]
@@ -287,9 +300,11 @@ class Model:
         return given(emitted, count)
 
     def left_for(self, device: int) -> int:
+        """How many packets are inside for a device."""
         return sum(len(self.inside[queue.number]) for queue, at in self.queues if at == device)
 
     def drain(self, device: int, count: int, pulls: int) -> Answer:
+        """Pulls a device one tick apart until nothing is left, or a limit is reached."""
         status = self.refused_pull(device, 0)
         departed: Answer = []
         while status == OK and self.left_for(device) > 0:
@@ -307,23 +322,29 @@ class Model:
     # What is told.
 
     def ended(self) -> Answer:
+        """Whether each inlet's end was taken."""
         return [self.state or (OK if all(it.has_ended for it in self.lines) else NONE)]
 
     def drained(self) -> Answer:
+        """Whether no packet is inside."""
         return [self.state or (NONE if any(self.inside.values()) else OK)]
 
     def told_of(self, device: int, value: Callable[[], int]) -> Answer:
+        """A number that is told of a device."""
         if self.state != OK:
             return [self.state, UNFILLED]
         return [OK, value()] if device < len(self.trees) else [UNKNOWN_DEVICE, UNFILLED]
 
     def moment(self, device: int) -> Answer:
+        """The latest moment of a device."""
         return self.told_of(device, lambda: self.trees[device].moment)
 
     def left(self, device: int) -> Answer:
+        """How many packets are left for a device."""
         return self.told_of(device, lambda: self.left_for(device))
 
     def account(self, place: int) -> Answer:
+        """What became of the packets of the sender at a place."""
         if self.state != OK:
             return [self.state]
         if place >= len(self.lines):
@@ -332,6 +353,7 @@ class Model:
         return [OK, line.number, line.queue.number, *(it for total in line.account.values() for it in total)]
 
     def queue(self, number: int) -> Answer:
+        """A queue: its capacity, what it holds, its device and its kind."""
         if self.state != OK:
             return [self.state]
         if number >= len(self.queues):
@@ -340,11 +362,13 @@ class Model:
         return [OK, queue.capacity, len(self.held[number]), device, int(queue.drops_front)]
 
     def counts(self) -> Answer:
+        """How many senders, queues and devices there are."""
         return [0, 0, 0] if self.state != OK else [len(self.lines), len(self.queues), len(self.trees)]
 
     # The end.
 
     def reclaim(self, count: int) -> Answer:
+        """Gives the router up, and returns the next tokens of packets inside."""
         if self.state == SHUT:
             return [SHUT, 0]
         if self.state == OK:
@@ -354,6 +378,7 @@ class Model:
         return [OK if len(tokens) < count else NONE, len(tokens), *tokens]
 
     def shut(self) -> Answer:
+        """Closes the router."""
         self.state = SHUT
         return [1]
 
@@ -410,6 +435,7 @@ class Maker:
         return chance.choices([self.of_inlet, self.of_take, self.of_pull, self.of_look], [5, 3, 3, 1])[0]()
 
     def of_inlet(self) -> str:
+        """A call on an inlet."""
         chance, sender = self.chance, number_of(self.chance, self.senders)
         if chance.random() < 0.3:
             count = chance.choice([0, 1, 3, 10, 64, 65, 90])
@@ -417,12 +443,14 @@ class Maker:
         return f"offer {sender} {items(chance, 1)}" if chance.random() < 0.9 else f"room {sender}"
 
     def of_take(self) -> str:
+        """A call that takes."""
         chance, count = self.chance, self.chance.choice([0, 1, 1, 2, 5, 63, 64, 65, 100])
         if chance.random() < 0.3:
             return f"take {number_of(chance, self.senders)} {count}"
         return f"{chance.choice(['take_in', 'take_what_fits'])} {chance.choice([0, 1, 1, 2, 5, 64, 200])} {count}"
 
     def of_pull(self) -> str:
+        """A call that pulls or drains."""
         chance, device = self.chance, number_of(self.chance, self.devices)
         self.moment = max(0, self.moment + chance.choice([-3, 0, 0, 0, 1, 1, 2, 30]))
         if chance.random() < 0.1:
@@ -432,6 +460,7 @@ class Maker:
         return f"pull {device} {self.moment}"
 
     def of_look(self) -> str:
+        """A call that changes nothing."""
         chance = self.chance
         word = chance.choice(["ended", "drained", "moment", "left", "account", "queue", "counts"])
         if word in ("moment", "left"):
@@ -440,6 +469,7 @@ class Maker:
         return word if known is None else f"{word} {number_of(chance, known)}"
 
     def rare_call(self) -> str:
+        """A call that changes what later calls can do."""
         chance = self.chance
         sender = number_of(chance, self.senders)
         moment = chance.choice([END_OF_MOMENTS - 1, END_OF_MOMENTS, END_OF_MOMENTS + 1, (1 << 64) - 1])
