@@ -1,6 +1,6 @@
 /* Makes calls on a live router, one a line, and prints what each returns: live_calls TREE ROOM CALLS
  *
- * It stands outside what is proved: it is there so that tests can compare the calls with a model of them (tests/of_library/lively.py, which
+ * It stands outside what is proved: it is there so that tests can compare the calls with a model of them (tests/of_library/model.py, which
  * has the words of the lines). All is on one thread. A line that is no call ends it with status 1. */
 #include "clickpull.h"
 

@@ -7,7 +7,7 @@ from pathlib import Path
 from of_library.chance import tree_and_script
 from of_library.checks import Check, Failed, Setting, need, run
 from of_library.compiled import C, heap
-from of_library.lively import Model
+from of_library.model import Model
 
 
 # How many routers tests/library runs; tests/soak --live runs as many as one likes.
@@ -85,7 +85,7 @@ def built(setting: Setting) -> Path:
 
 
 def live_once(program: Path, chance: random.Random, room: Path) -> int:
-    """Runs a live router at random, and judges it, and then what it printed with one number altered. Returns how many packets were taken."""
+    """Runs a live router at random, and judges what it prints as it is and with one number altered. Returns how many were taken."""
     tree = ""
     while "Sender" not in tree:
         tree = tree_and_script(chance)[0]
