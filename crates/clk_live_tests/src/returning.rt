@@ -144,8 +144,10 @@ fn run<R: Threads + Wait + Abort + Sync>(
         {
             let mut live = live;
             let mut seen = Seen::none(alloc);
-            let handles = start_all(rt, scope, alloc, senders)?;
+            // If a thread cannot be started, its inlet ends, and those that run are still served.
+            let handles = start_all(rt, scope, alloc, senders);
             take_and_pull(rt, &mut live, false, usize::MAX, &mut seen)?;
+            let handles = handles?;
             let inlets = join_all(rt, alloc, handles)?;
             Ok(Ended { live, inlets, seen })
         },
