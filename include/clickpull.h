@@ -385,10 +385,10 @@ static inline clk_status clk_moment(const clk_router *router, uint16_t device, u
     return CLK_STATUS(clk_router_moment(&same, device, moment));
 }
 
-/* The earliest moment, in ticks, at which a pull of the device could emit a packet, as things stand: the greatest moment handed in so far, or a
- * later one if every packet is below a Shaper that has no room for it yet. A pull at an earlier moment emits nothing, so a caller may sleep
- * until then, or until a packet is offered. A pull at that moment may still emit nothing, while a DRRSched saves up for a long packet: pull
- * again.
+/* The earliest moment, in ticks, at which a pull of the device could emit a packet, as things stand: the greatest moment handed in so far, or
+ * a later one if every packet is below a Shaper that has no room for it yet. A pull at an earlier moment emits nothing, so a caller may
+ * sleep until then, or until a packet is offered. A pull at that moment may still emit nothing, while a DRRSched saves up for a long packet:
+ * pull again.
  *
  * CLK_OK    `moment` is it.
  * CLK_NONE  no packet is left for the device.
@@ -517,7 +517,7 @@ static inline clk_status clk_queue_at(const clk_router *router, uint16_t number,
  *
  * CLK_OK          the inlet accepted the packet. `number` is its number: how many packets the inlet accepted before it.
  * CLK_FULL        there is no room now. Offer the packet again later.
- * CLK_BAD_LENGTH  `length` is not from 1 to 65,535.
+ * CLK_BAD_LENGTH  `length` is not from 1 to 65,535. This is tested first.
  * CLK_AT_END      the inlet has accepted 4,294,967,295 packets, and accepts no more.
  * CLK_SHUT        the inlet was closed.
  * CLK_NULL        `inlet` is null.
@@ -614,8 +614,21 @@ static inline clk_status clk_inlet_close(clk_inlet *inlet) {
  * WHEN THE OWNER CLOSES FIRST, nothing tells the senders. Their inlets stay good, fill up, and then return CLK_FULL; each is still closed by
  * its holder. Tokens that wait in the inlets don't come back. So close the inlets first, take what is in them, and then close the router.
  *
- * No call waits, and no call but clk_live_open allocates memory. An owner that finds nothing to take and nothing to pull should pause, or
- * wait for a signal of its own: the library wakes nobody.
+ * No call waits, and no call but clk_live_open allocates memory.
+ *
+ * SLEEPING. The library wakes nobody. An owner that finds nothing may pause, or sleep until a sender wakes it by means of the caller's own.
+ * If it sleeps, keep this order, or a wake-up can be lost:
+ *
+ *   - The owner sets an atomic flag of the caller's, executes a sequentially consistent fence, takes from all inlets once more, and asks
+ *     clk_live_ended. If nothing came, it sleeps until it is woken.
+ *   - A sender offers a packet or closes its inlet, executes a sequentially consistent fence, and reads the flag. If the flag is set, the
+ *     sender clears it and wakes the owner.
+ *
+ * So the owner sees the packet, or the sender sees the flag. While packets are left inside (clk_live_drained isn't CLK_OK), an owner sleeps
+ * no longer than to its next pull: no sender wakes it for these. clk_live_due tells the earliest moment at which a pull can emit one.
+ *
+ * A sender that sleeps while its inlet is full keeps the same order: it sets a flag of its own, offers once more, and then sleeps; the owner
+ * takes, and then reads that flag. The repository has this order in examples/threads/waiter.h, with a condition variable and with an eventfd.
  *
  * WHAT THE CALLER OWES. These no test can find:
  *
@@ -763,7 +776,8 @@ static inline clk_status clk_live_drain(clk_live *live, uint16_t device, clk_dep
     return CLK_STATUS(clk_raw_live_drain(live, device, departures ? departures : &unused, count, pulls, given));
 }
 
-/* Whether every inlet was closed, and every packet that was ever accepted by one was taken.
+/* Whether every inlet was closed, and every packet that was ever accepted by one was taken. A take finds out that an inlet was closed: take
+ * before asking. (clk_live_take_what_fits finds it out once the sender's queue has room.)
  *
  * CLK_OK    it is so, and stays so: no more packets come.
  * CLK_NONE  it isn't so yet.
@@ -824,8 +838,8 @@ static inline clk_status clk_live_moment(const clk_live *live, uint16_t device, 
     return CLK_STATUS(clk_raw_live_moment(&same, device, moment));
 }
 
-/* The earliest moment, in ticks, at which a pull of the device could emit a packet, as clk_due has it. What waits in the inlets is not looked at:
- * take first.
+/* The earliest moment, in ticks, at which a pull of the device could emit a packet, as clk_due has it. What waits in the inlets is not looked
+ * at: take first.
  *
  * CLK_OK    `moment` is it.
  * CLK_NONE  no packet is left for the device inside the router.
