@@ -20,6 +20,8 @@ pub struct Inlet {
     // How many packets are sure to fit.
     free: usize,
     ended: bool,
+    // Keeps what two inlets write on cache lines of their own, wherever they lie, also where a processor fetches lines in pairs.
+    _padding: [u64; 16],
     ghost counted: { next ≡ length (packets (sent producer)) },
     ghost end_is_put: { ended ≡ has_end (sent producer) },
     // Nothing stands behind the end.
@@ -65,6 +67,7 @@ impl Inlet {
             next: 0,
             free: room as usize,
             ended: false,
+            _padding: [0; 16],
         }
     }
 
@@ -187,6 +190,7 @@ impl Drop for Inlet {
             next: _,
             free: _,
             ended,
+            _padding: _,
         } = self;
         if !ended {
             producer.push_reserved(END);
