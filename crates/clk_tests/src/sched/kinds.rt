@@ -74,9 +74,12 @@ fn shown(
     queues: &mut Queues,
 ) -> Result<String, Fault> {
     let mut text = String::new(alloc);
+    assert_eq!(rt; session.due(queues), Some(0));
     show_got(&mut text, pull(rt, session, queues)?)?;
     text.push_str("\n")?;
+    assert_eq!(rt; session.due(queues), Some(5));
     show_departures(&mut text, &close(rt, alloc, session, queues)?)?;
+    assert_eq!(rt; session.due(queues), None);
     Ok(text)
 }
 
