@@ -142,6 +142,13 @@ impl Bench {
             })
     }
 
+    // From which moment on the one device could emit a packet.
+    fn due(&self) -> Option<u64> {
+        // There is a device.
+        let _ = self.live.router().devices();
+        self.live.router().due(0)
+    }
+
     // Whether so many packets of a sender were accepted, refused, evicted and emitted.
     fn counts(&self, rt: &impl Abort, sender: u16, expected: [u64; 4]) -> bool {
         let place = self.place_of(rt, sender);
@@ -187,6 +194,7 @@ impl Bench {
             Step::EmitsNone => self.pull(rt).is_none(),
             Step::EmitsMany(room, sent) => self.pulls_many(rt, room, sent),
             Step::Drains(room, pulls, sent, end) => self.drains(room, pulls, sent, end),
+            Step::IsDue(expected) => self.due() == expected,
             Step::IsEnded(expected) => self.live.is_ended() == expected,
             Step::IsDrained(expected) => self.live.is_drained() == expected,
             Step::Counts(sender, expected) => self.counts(rt, sender, expected),

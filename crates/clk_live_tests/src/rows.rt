@@ -3,7 +3,8 @@
 use crate::bench::assert_rows;
 use crate::steps::Row;
 use crate::steps::Step::{
-    Accepted, Counts, Emits, EmitsNone, Evicts, IsDrained, NoneWaits, Offers, Refused, TakesIn,
+    Accepted, Counts, Emits, EmitsNone, Evicts, IsDrained, IsDue, NoneWaits, Offers, Refused,
+    TakesIn,
 };
 
 /// Packets of the second sender are emitted only after the first's.
@@ -124,8 +125,30 @@ const ROUND_ROBIN: Row = Row {
     inside: &[],
 };
 
+/// A packet that waits in its inlet is not due. Once taken it is due when the Shaper has room: at once, and one tick after a packet was
+/// emitted.
+const DUE: Row = Row {
+    name: "due moments",
+    tree: "s :: Sender(1); q :: Queue; x :: Shaper(1, 1); d :: ToDevice(link); s -> q -> [0] x; x -> d;",
+    steps: &[
+        IsDue(None),
+        Offers((1, 0, 60)),
+        Offers((1, 1, 61)),
+        IsDue(None),
+        Accepted((1, 0, 60)),
+        IsDue(Some(0)),
+        Emits((1, 0, 60)),
+        IsDue(None),
+        Accepted((1, 1, 61)),
+        IsDue(Some(1)),
+        EmitsNone,
+        IsDue(Some(1)),
+    ],
+    inside: &[(1, 1)],
+};
+
 /// What queues and schedulers do.
-const ROWS: [Row; 5] = [PRIORITY, TAIL_DROP, FRONT_DROP, HELD_HEAD, ROUND_ROBIN];
+const ROWS: [Row; 6] = [PRIORITY, TAIL_DROP, FRONT_DROP, HELD_HEAD, ROUND_ROBIN, DUE];
 
 #[test]
 fn rows_are_met(rt: HostRuntime) {

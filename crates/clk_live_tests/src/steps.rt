@@ -35,6 +35,8 @@ pub enum Step {
     EmitsMany(usize, &'static [Sent]),
     /// A drain with so many places makes at most so many pulls. These packets are emitted at these moments, and the drain ends so.
     Drains(usize, u64, &'static [(u64, Sent)], DrainEnd),
+    /// From which moment on the one device could emit a packet, if it could.
+    IsDue(Option<u64>),
     /// Whether all inlets have ended.
     IsEnded(bool),
     /// Whether no packet is left inside.
