@@ -1,11 +1,11 @@
 /* Measures the inlets of live routers, alone and below producers on threads. This is C and no part of what is proved.
  *
- *     inlets PACKETS      prints a line for each measurement: its name, and what was measured
+ *     inlets PACKETS            prints a line for each measurement on one thread: its name, nanoseconds a packet
  *     inlets --threads PACKETS  prints a line for each number of producers: millions of packets a second
  *
- * In the first table one thread offers and takes in turns, and nothing else uses the inlet: nanoseconds a packet. In the second each producer
- * has a thread of its own and as many of the senders as the others. It pauses for 200 turns of a loop after CLK_FULL. One thread takes from all
- * inlets and pulls. The queues stand below a DRRSched over 8, and each token is added up on both sides. */
+ * On one thread nothing else uses the inlets, and offers are timed apart from takes and pulls. Each producer on a thread of its own has as many
+ * of the 8 senders as the others, and pauses for 200 turns of a loop after CLK_FULL. One thread takes from all inlets and pulls a DRRSched over
+ * 8 queues. The tokens that were sent and those that came back are added up. */
 #include "clickpull.h"
 #include "measure.h"
 
@@ -69,36 +69,39 @@ static uint64_t pass_on(clk_live *live, uint64_t *sum) {
 
 /* One thread. */
 
-static void offer_alone(void *at, uint64_t packets) {
-    struct bench *bench = at;
-    uint64_t sum = 0;
-    while (packets > 0) {
-        uint64_t some = packets < INLET_ROOM ? packets : INLET_ROOM;
-        for (uint64_t i = 0; i < some; i++)
-            need(clk_inlet_offer(&bench->inlets[0], 100, i, NULL) == CLK_OK, "an offer isn't accepted");
-        for (uint64_t came = 0; came < some;)
-            came += pass_on(&bench->live, &sum);
-        packets -= some;
-    }
+/* Offers as many packets as the inlet has room for, one by one. */
+static void offer_each(clk_inlet *inlet) {
+    for (uint64_t i = 0; i < INLET_ROOM; i++)
+        need(clk_inlet_offer(inlet, 100, i, NULL) == CLK_OK, "an offer isn't accepted");
 }
 
-static void offer_batches(void *at, uint64_t packets) {
-    struct bench *bench = at;
+/* Offers as many in batches. */
+static void offer_batches(clk_inlet *inlet) {
     clk_item items[BATCH];
-    uint64_t sum = 0;
     size_t done;
     for (size_t i = 0; i < BATCH; i++)
         items[i] = (clk_item){.token = i, .length = 100};
-    while (packets > 0) {
-        uint64_t some = packets < INLET_ROOM ? packets : INLET_ROOM;
-        for (uint64_t i = 0; i < some; i += done) {
-            size_t count = some - i < BATCH ? (size_t)(some - i) : BATCH;
-            need(clk_inlet_offer_many(&bench->inlets[0], items, count, &done) == CLK_OK, "a batch isn't accepted");
+    for (uint64_t i = 0; i < INLET_ROOM; i += BATCH)
+        need(clk_inlet_offer_many(inlet, items, BATCH, &done) == CLK_OK, "a batch isn't accepted");
+}
+
+/* Nanoseconds a packet of offers alone. What was offered is taken and pulled between them. */
+static double offers_alone(struct bench *bench, void (*offer)(clk_inlet *inlet), uint64_t packets) {
+    double least = 1e300;
+    uint64_t sum = 0;
+    for (int round = 0; round < ROUNDS; round++) {
+        double taken = 0;
+        for (uint64_t done = 0; done < packets; done += INLET_ROOM) {
+            double start = seconds();
+            offer(&bench->inlets[0]);
+            taken += seconds() - start;
+            for (uint64_t came = 0; came < INLET_ROOM;)
+                came += pass_on(&bench->live, &sum);
         }
-        for (uint64_t came = 0; came < some;)
-            came += pass_on(&bench->live, &sum);
-        packets -= some;
+        double it = taken * 1e9 / (double)((packets + INLET_ROOM - 1) / INLET_ROOM * INLET_ROOM);
+        least = it < least ? it : least;
     }
+    return least;
 }
 
 /* Each busy sender offers a packet, and then all are taken and pulled. */
@@ -115,18 +118,17 @@ static void round_by_round(void *at, uint64_t packets) {
     }
 }
 
-/* What an offer takes is told by the difference of two loops: offers one by one and in batches are taken and pulled alike. */
 static void alone(uint64_t packets) {
     struct bench bench = {.live = CLK_NO_LIVE, .each = 1};
     open_live(&bench, 1, "PrioSched");
-    printf("one sender: offered one by one, taken and pulled\t%.1f\n", nanoseconds(offer_alone, &bench, packets));
-    printf("one sender: offered in batches of 64, taken and pulled\t%.1f\n", nanoseconds(offer_batches, &bench, packets));
+    printf("an offer, one by one\t%.1f\n", offers_alone(&bench, offer_each, packets));
+    printf("an offer, in batches of 64\t%.1f\n", offers_alone(&bench, offer_batches, packets));
     close_live(&bench);
     static const uint32_t SENDERS[][2] = {{1, 1}, {8, 1}, {8, 4}, {64, 1}, {64, 32}};
     for (size_t i = 0; i < sizeof SENDERS / sizeof *SENDERS; i++) {
         bench.each = SENDERS[i][1];
         open_live(&bench, SENDERS[i][0], "DRRSched(1500)");
-        printf("%u senders, %s: a packet of each, taken and pulled\t%.1f\n", SENDERS[i][0], SENDERS[i][1] == 1 ? "all busy" : "few busy",
+        printf("an offer, a take and a pull, DRRSched over %u, %s\t%.1f\n", SENDERS[i][0], SENDERS[i][1] == 1 ? "busy" : "sparse",
                nanoseconds(round_by_round, &bench, packets));
         close_live(&bench);
     }
