@@ -1,19 +1,28 @@
 /* Measures rte_sched of DPDK 22.11: nanoseconds a packet, of its enqueue and its dequeue together. This is C and no part of what is proved.
  *
- *     dpdk EAL-WORDS -- PACKETS      prints a line for each setting: its name, one by one, in bursts of 32
+ *     dpdk EAL-WORDS -- PACKETS            prints a line for each setting: its name, one by one, in bursts of 32
+ *     dpdk EAL-WORDS -- --threads PACKETS  prints a line for each number of producers: millions of packets a second
  *
  * There is one subport, at a rate that never holds a packet back. Of 16 queues a pipe, 12 stand each in a strict priority of its own, and 4
- * share the lowest by weights. Busy queues hold 32 packets, and stay so: what was dequeued is enqueued again, with its place in the tree. */
+ * share the lowest by weights. Busy queues hold 32 packets, and stay so: what was dequeued is enqueued again, with its place in the tree.
+ *
+ * Each producer on a thread of its own puts packets into an rte_ring for one producer and one consumer. It pauses for 200 turns of a loop if the
+ * ring is full, and uses each packet again after so many others that it has left. One thread dequeues from the rings, enqueues to rte_sched with 8
+ * queues busy, and dequeues. */
+#define _GNU_SOURCE
 #include "measure.h"
 
+#include <pthread.h>
+#include <sched.h>
 #include <stdlib.h>
 #include <string.h>
 
 #include <rte_eal.h>
 #include <rte_mbuf.h>
+#include <rte_ring.h>
 #include <rte_sched.h>
 
-enum { FILL = 32, BEST_EFFORT = 12 };
+enum { FILL = 32, BEST_EFFORT = 12, RING_ROOM = 1024, OWN = 16384, BATCH = 64, PAUSE = 200, MOST_PRODUCERS = 4, BUSY = 8 };
 
 static const uint64_t RATE = 100000000000 / 8;
 
@@ -117,14 +126,118 @@ static void measure(const struct setting *setting, struct rte_mempool *pool, uin
     end(port);
 }
 
+/* Producers on threads. */
+
+struct producer {
+    struct rte_ring *ring;
+    struct rte_mbuf **own; /* OWN packets, more than wait anywhere */
+    uint64_t packets;
+};
+
+static void pause_for(unsigned turns) {
+    for (volatile unsigned i = 0; i < turns; i++)
+        ;
+}
+
+/* DPDK keeps its own thread on one processor. A thread that it starts may use any. */
+static void use_any_processor(void) {
+    cpu_set_t any;
+    CPU_ZERO(&any);
+    for (int i = 0; i < CPU_SETSIZE; i++)
+        CPU_SET(i, &any);
+    need(pthread_setaffinity_np(pthread_self(), sizeof any, &any) == 0, "a thread is held to one processor");
+}
+
+static void *produce(void *at) {
+    struct producer *me = at;
+    use_any_processor();
+    for (uint64_t i = 0; i < me->packets; i++)
+        while (rte_ring_sp_enqueue(me->ring, me->own[i % OWN]) != 0)
+            pause_for(PAUSE);
+    return NULL;
+}
+
+/* Packets of a producer, each with its place in the tree: the last 8 queues of the pipe, in turn. */
+static struct rte_mbuf **packets_of(struct rte_sched_port *port, struct rte_mempool *pool) {
+    struct rte_mbuf **own = calloc(OWN, sizeof *own);
+    need(own != NULL && rte_pktmbuf_alloc_bulk(pool, own, OWN) == 0, "no packets");
+    for (unsigned i = 0; i < OWN; i++) {
+        uint32_t queue = RTE_SCHED_QUEUES_PER_PIPE - BUSY + i % BUSY;
+        uint32_t class = queue < BEST_EFFORT ? queue : BEST_EFFORT;
+        own[i]->pkt_len = own[i]->data_len = (uint16_t)(64 + i % 1400);
+        rte_sched_port_pkt_write(port, own[i], 0, 0, class, queue - class, RTE_COLOR_GREEN);
+    }
+    return own;
+}
+
+/* Dequeues from all rings, and passes on what was there. Returns how many packets came out. */
+static uint64_t pass_on(struct rte_sched_port *port, struct producer *all, uint32_t producers) {
+    struct rte_mbuf *burst[BATCH];
+    uint64_t came = 0;
+    for (uint32_t i = 0; i < producers; i++) {
+        unsigned given = rte_ring_sc_dequeue_burst(all[i].ring, (void **)burst, BATCH, NULL);
+        if (given == 0)
+            continue;
+        enqueue(port, burst, given);
+        for (unsigned left = given; left > 0;)
+            left -= (unsigned)rte_sched_port_dequeue(port, burst, left);
+        came += given;
+    }
+    return came;
+}
+
+static double with_producers(struct rte_mempool *pool, uint32_t producers, uint64_t packets) {
+    static const struct setting SETTING = {"1 pipe, 8 queues busy", 1, 1, BUSY};
+    struct rte_sched_port *port = port_of(&SETTING);
+    struct producer all[MOST_PRODUCERS];
+    pthread_t threads[MOST_PRODUCERS];
+    for (uint32_t i = 0; i < producers; i++) {
+        char name[16];
+        snprintf(name, sizeof name, "ring%u", i);
+        all[i] = (struct producer){rte_ring_create(name, RING_ROOM, 0, RING_F_SP_ENQ | RING_F_SC_DEQ), packets_of(port, pool), packets / producers};
+        need(all[i].ring != NULL, "no ring");
+    }
+    double start = seconds();
+    for (uint32_t i = 0; i < producers; i++)
+        need(pthread_create(&threads[i], NULL, produce, &all[i]) == 0, "no thread");
+    uint64_t sent = packets / producers * producers;
+    for (uint64_t came = 0; came < sent;)
+        came += pass_on(port, all, producers);
+    double taken = seconds() - start;
+    for (uint32_t i = 0; i < producers; i++) {
+        pthread_join(threads[i], NULL);
+        rte_pktmbuf_free_bulk(all[i].own, OWN);
+        free(all[i].own);
+        rte_ring_free(all[i].ring);
+    }
+    end(port);
+    return (double)sent / taken / 1e6;
+}
+
+static void on_threads(struct rte_mempool *pool, uint64_t packets) {
+    for (uint32_t producers = 1; producers <= MOST_PRODUCERS; producers *= 2) {
+        double most = 0;
+        for (int round = 0; round < ROUNDS; round++) {
+            double it = with_producers(pool, producers, packets);
+            most = it > most ? it : most;
+        }
+        printf("%u\t%.1f\n", producers, most);
+        fflush(stdout);
+    }
+}
+
 int main(int argc, char **argv) {
     int words = rte_eal_init(argc, argv);
-    need(words >= 0 && argc - words == 2, "usage: dpdk EAL-WORDS -- PACKETS");
-    uint64_t packets = strtoull(argv[words + 1], NULL, 10);
+    int on_thread = words >= 0 && argc - words == 3 && strcmp(argv[words + 1], "--threads") == 0;
+    need(on_thread || (words >= 0 && argc - words == 2), "usage: dpdk EAL-WORDS -- [--threads] PACKETS");
+    uint64_t packets = strtoull(argv[argc - 1], NULL, 10);
     struct rte_mempool *pool = rte_pktmbuf_pool_create("packets", 262143, 256, 0, RTE_PKTMBUF_HEADROOM, 0);
     need(pool != NULL, "no pool of packets");
-    for (size_t i = 0; i < sizeof SETTINGS / sizeof *SETTINGS; i++)
-        measure(&SETTINGS[i], pool, packets);
+    if (on_thread)
+        on_threads(pool, packets);
+    else
+        for (size_t i = 0; i < sizeof SETTINGS / sizeof *SETTINGS; i++)
+            measure(&SETTINGS[i], pool, packets);
     rte_eal_cleanup();
     return 0;
 }
