@@ -26,7 +26,7 @@ Passes-failed old new f g fault held text holds w =
     record { passed = tt; front = cut.front; fault = cut.fault; succeeds = tt; fails = cut.fails }
 
 -- a front of a text, after one that was written
-front-after : (a b c : Option (List ℕ)) (written text : List ℕ) → Appends a b written → AppendsFront b c text → AppendsFront a c (written ++ text)
+pub front-after : (a b c : Option (List ℕ)) (written text : List ℕ) → Appends a b written → AppendsFront b c text → AppendsFront a c (written ++ text)
 front-after a b c written text h k = (written ++ k.0, k.1, ap (λ l. written ++ l) k.2 ∙ sym (append_assoc written k.0 k.1), Appends-append a b c written k.0 h k.3)
 
 -- A text after another that was passed on.
@@ -91,9 +91,9 @@ pub HasPassed-all : (a b : Option (List ℕ)) (f g : ℕ) (held text rest holds 
 HasPassed-all a b f g held text rest holds has none =
     subst (λ (l : List ℕ). Passes a b f g (Ok tt) held l holds) (sym (has.split ∙ ap (λ l. has.part ++ l) none ∙ append-nil has.part)) has.passes
 
--- What was passed on and then written.
-pub Wrote-passed : (a b c : Option (List ℕ)) (f g h : ℕ) (x : Unit {0}) (r : Result (Unit {0}) Fault) (text mid : List ℕ) → Passes a b f g (Ok x) [] text mid → Wrote b c g h r mid → Wrote a c f h r text
-Wrote-passed a b c f g h x (Ok y) text mid first w =
+-- What was held and a text were passed on, and what is held since was written.
+pub Wrote-passed : (a b c : Option (List ℕ)) (f g h : ℕ) (x : Unit {0}) (r : Result (Unit {0}) Fault) (held text mid : List ℕ) → Passes a b f g (Ok x) held text mid → Wrote b c g h r mid → Wrote a c f h r (held ++ text)
+Wrote-passed a b c f g h x (Ok y) held text mid first w =
     record {
       whole = subst (λ (l : List ℕ). Appends a c l) (sym first.passed.1) (Appends-append a b c first.passed.0 mid first.passed.2 w.whole);
       front = tt;
@@ -101,7 +101,7 @@ Wrote-passed a b c f g h x (Ok y) text mid first w =
       succeeds = w.succeeds ∙ first.succeeds;
       fails = tt;
     }
-Wrote-passed a b c f g h x (Err fault) text mid first w =
+Wrote-passed a b c f g h x (Err fault) held text mid first w =
     record {
       whole = tt;
       front = subst (λ (l : List ℕ). AppendsFront a c l) (sym first.passed.1) (front-after a b c first.passed.0 mid first.passed.2 w.front);
@@ -109,6 +109,10 @@ Wrote-passed a b c f g h x (Err fault) text mid first w =
       succeeds = tt;
       fails = w.fails ∙ ap (λ n. n + 1) first.succeeds;
     }
+
+-- What was held and a text were cut short as they were passed on.
+pub Wrote-short : (a b : Option (List ℕ)) (f g : ℕ) (fault : Fault) (held text holds : List ℕ) → Passes a b f g (Err fault) held text holds → Wrote a b f g (Err fault) (held ++ text)
+Wrote-short a b f g fault held text holds p = record { whole = tt; front = p.front; fault = p.fault; succeeds = tt; fails = p.fails }
 
 -- a text that was cut short as it was passed on
 pub Wrote-front : (a b : Option (List ℕ)) (f g : ℕ) (fault : Fault) (text rest holds : List ℕ) → Passes a b f g (Err fault) [] text holds → Wrote a b f g (Err fault) (text ++ rest)

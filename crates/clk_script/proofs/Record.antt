@@ -3,5 +3,6 @@ pub mod Lines
 pub mod Sound
 pub mod Fitting
 pub mod Growth
+pub mod Writing
 pub mod Plans
 pub mod Examples

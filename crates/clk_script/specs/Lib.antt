@@ -2,6 +2,7 @@
 pub mod Script
 pub mod Meaning
 pub mod Record
+pub mod Records
 pub mod OneMeaning
 pub mod OneDevice
 pub mod Examples

@@ -34,6 +34,16 @@ abbrev pub drain_count : Option ℕ → ℕ
 drain_count None = 0
 drain_count (Some moment) = 1
 
+-- the moment that a command hands in
+abbrev pub handed_in : Command → Option ℕ
+handed_in (Send sender size) = None
+handed_in (Pull device moment) = Some moment
+
+-- A record of so many lines may go on with a line of this moment.
+pub record HasRoom (lines : ℕ) (moment : Option ℕ) : Type 0 where
+  pub few : lines < most_lines
+  pub early : IfSome moment (λ m. m ≤ most_moment)
+
 -- Events and a drain are within the limits of a script: the moments handed in and that of the drain are in range, and there are no more
 -- lines than a script may have.
 pub record FitsLimits (events : List Event) (drain : Option ℕ) : Type 0 where

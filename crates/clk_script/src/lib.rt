@@ -15,6 +15,7 @@ mod rows;
 mod run;
 mod script;
 mod text;
+mod writer;
 mod writing;
 
 pub use laws::{
@@ -26,3 +27,4 @@ pub use laws::{
 pub use limits::{MAX_DEVICE, MAX_LINES, MAX_MOMENT, MAX_SCRIPT_BYTES};
 pub use run::{run_script, run_script_logged};
 pub use script::{Command, Line};
+pub use writer::ScriptWriter;

@@ -1,8 +1,10 @@
-//! The lines that a script writes. Each is put from its end to its front.
+//! The lines of a script's answer and of its record. Each is put from its end to its front.
 
-ghost use Rattle.std.specs.Prelude.{◌≡◌, ◌+◌, ◌≤◌, ◌++◌, drop, length};
+ghost use Rattle.std.specs.Prelude.{◌≡◌, ◌+◌, ◌≤◌, ◌++◌, drop, length, Some};
 ghost use Rattle.clk_script.specs.Meaning.{name_text, packet_text, outcome_text, result_text, device_text, pull_text, offer_text};
+ghost use Rattle.clk_script.specs.Record.{named_device, command_text, drain_text};
 
+use crate::script::Command;
 use clk_packet::{Offered, Packet};
 use clk_report::{put, put_number};
 
@@ -117,4 +119,57 @@ fn put_name(line: &mut [u8], packet: Packet, end: usize) -> usize
     let end = put_number(line, u64::from(packet.number), end);
     let end = put(line, b"#", end);
     put_number(line, u64::from(packet.sender), end)
+}
+
+/// Puts the line of a command before this place, and gives where it starts.
+#[inline(always)]
+pub fn put_command(line: &mut [u8], command: Command, end: usize) -> usize
+    requires room { 64 ≤ end }
+    requires within { end ≤ length line.old }
+    ensures piece { drop result line.new ≡ command_text command ++ drop end line.old }
+    ensures before { result ≤ end }
+{
+    let end = put(line, b"\n", end);
+    match command {
+        Command::Send { sender, length } => {
+            let end = put_number(line, u64::from(length), end);
+            let end = put(line, b" ", end);
+            let end = put_number(line, u64::from(sender), end);
+            put(line, b"send ", end)
+        }
+        Command::Pull { device, moment } => {
+            let end = put_named_device(line, device, end);
+            let end = put_number(line, moment, end);
+            put(line, b"pull ", end)
+        }
+    }
+}
+
+/// Puts the number of a device, unless that is 0.
+#[inline(always)]
+fn put_named_device(line: &mut [u8], device: u16, end: usize) -> usize
+    requires room { 21 ≤ end }
+    requires within { end ≤ length line.old }
+    ensures piece { drop result line.new ≡ named_device device ++ drop end line.old }
+    ensures near { end ≤ result + 21 }
+    ensures before { result ≤ end }
+{
+    if device == 0 {
+        return end;
+    }
+    let end = put_number(line, u64::from(device), end);
+    put(line, b" ", end)
+}
+
+/// Puts the line of a drain from this moment on, in ticks, before this place, and gives where it starts.
+#[inline(always)]
+pub fn put_drain(line: &mut [u8], moment: u64, end: usize) -> usize
+    requires room { 64 ≤ end }
+    requires within { end ≤ length line.old }
+    ensures piece { drop result line.new ≡ drain_text (Some moment) ++ drop end line.old }
+    ensures before { result ≤ end }
+{
+    let end = put(line, b"\n", end);
+    let end = put_number(line, moment, end);
+    put(line, b"drain ", end)
 }

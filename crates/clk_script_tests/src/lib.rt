@@ -26,6 +26,8 @@ mod queues;
 #[cfg(test)]
 mod random;
 #[cfg(test)]
+mod records;
+#[cfg(test)]
 mod row;
 #[cfg(test)]
 mod scripts;

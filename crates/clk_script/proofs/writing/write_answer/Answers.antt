@@ -1,4 +1,4 @@
-use Rattle.std.proofs.Common.{◌++◌, sym, append_assoc, append-nil}
+use Rattle.std.proofs.Common.{[], ◌++◌, sym, append_assoc, append-nil}
 use Rattle.std.proofs.lemmas.Result.{err_from_is_err_and}
 use Rattle.clk_packet.proofs.Callers.Bytes.{Wrote-then, Wrote-cut}
 use Rattle.clk_report.specs.Counts.{counts_text}
@@ -21,7 +21,7 @@ returns-in_default g c =
     let past = answer.past in
     let rows = rows_text (are_several past) answer.rows.items (given_of past) past.put_out.items in
     let passed = rw (c.new-lines.ensures, c.deref.ensures.value, c.deref-2.ensures.value, c.given_of.ensures, c.are_several-several.ensures) at c.in_ok-write_rows.ensures in
-    rw (c.in_default.is, append-nil rows) (Wrote-passed _ _ _ _ _ _ _ _ rows _ passed c.write.ensures.wrote)
+    rw (c.in_default.is, append-nil rows) (Wrote-passed _ _ _ _ _ _ _ _ [] rows _ passed c.write.ensures.wrote)
 
 pub returns-in_err-write_closings : goal.returns-in_err-write_closings
 returns-in_err-write_closings g c =
@@ -47,7 +47,7 @@ returns-in_err-write g c =
     let passed = rw (c.new-lines.ensures, c.deref.ensures.value, c.deref-2.ensures.value, c.given_of.ensures, c.are_several-several.ensures) at c.in_ok-write_rows.ensures in
     let more = rw (c.deref-3.ensures.value, c.are_several-several.ensures) at c.in_ok-write_closings.ensures in
     let all = Passes-then _ _ _ _ _ _ _ _ _ rows _ closings _ passed more in
-    rw (p.1, p.2, c.in-Some.is, sym (append_assoc rows closings report)) (Wrote-cut _ _ _ _ _ (rows ++ closings) report (Wrote-passed _ _ _ _ _ _ _ _ (rows ++ closings) _ all c.in_err-write.ensures.wrote))
+    rw (p.1, p.2, c.in-Some.is, sym (append_assoc rows closings report)) (Wrote-cut _ _ _ _ _ (rows ++ closings) report (Wrote-passed _ _ _ _ _ _ _ _ [] (rows ++ closings) _ all c.in_err-write.ensures.wrote))
 
 pub returns : goal.returns
 returns g c =
@@ -60,4 +60,4 @@ returns g c =
     let more = rw (c.deref-3.ensures.value, c.are_several-several.ensures) at c.in_ok-write_closings.ensures in
     let all = Passes-then _ _ _ _ _ _ _ _ _ rows _ closings _ passed more in
     let reported = rw (c.deref-4.ensures.value, c.deref-5.ensures.value) at c.report_counts.ensures in
-    rw (c.in-Some.is, sym (append_assoc rows closings report)) (Wrote-then _ _ _ _ _ _ _ _ (rows ++ closings) report (Wrote-passed _ _ _ _ _ _ _ _ (rows ++ closings) _ all c.in_ok-write.ensures.wrote) reported)
+    rw (c.in-Some.is, sym (append_assoc rows closings report)) (Wrote-then _ _ _ _ _ _ _ _ (rows ++ closings) report (Wrote-passed _ _ _ _ _ _ _ _ [] (rows ++ closings) _ all c.in_ok-write.ensures.wrote) reported)

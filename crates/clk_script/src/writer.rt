@@ -1,0 +1,127 @@
+//! The record of what happens, written as it happens.
+
+ghost use Rattle.std.specs.Prelude.{◌≡◌, ◌∷◌, [], ◌++◌, Option, List, ℕ, Some, None, true, false, OnOk, IfErr, IsErrOf, IsOkUnless};
+ghost use Rattle.std.specs.Io.KnownBytes.{Appends};
+ghost use Rattle.clk_packet.specs.declared.fault.Fault.TheVariants.{TooLarge, Write};
+ghost use Rattle.clk_packet.specs.Bytes.{AppendsFront, write_failures};
+ghost use Rattle.clk_script.specs.declared.script.Command.{Command};
+ghost use Rattle.clk_script.specs.Record.{record_text, handed_in, HasRoom};
+ghost use Rattle.clk_script.specs.Records.{Records};
+
+use crate::limits::{MAX_LINES, MAX_MOMENT};
+use crate::lines::Lines;
+use crate::script::Command;
+use crate::text::{LINE, put_command, put_drain};
+use clk_packet::{Fault, Sink};
+
+/// Writes the record of a router: the script of the commands that were carried out, line by line.
+///
+/// Lines are held until there are 16 KiB of them, and are then written at once. `finish` writes those that are left. No call allocates.
+#[derive(Drop)]
+pub struct ScriptWriter {
+    held: Lines,
+    /// How many lines the record has.
+    lines: u32,
+}
+
+impl ScriptWriter {
+    /// A record without a line.
+    pub fn new() -> ScriptWriter
+        ensures { (start : Option (List ℕ)) → Records start start [] result }
+    {
+        ScriptWriter {
+            held: Lines::new(),
+            lines: 0,
+        }
+    }
+
+    /// Adds the line of a command. After a fault 20 the record ends.
+    ///
+    /// # Errors
+    ///
+    /// Fault 18 if the record has as many lines as a script may have, or if the moment of a pull is 2^40 or later. Nothing changes then.
+    /// Fault 20 if the sink fails. It has then taken a front of the record.
+    pub fn record<W: Sink>(&mut self, command: Command, sink: &mut W) -> Result<(), Fault>
+        ensures records { OnOk result ((start : Option (List ℕ)) (commands : List Command) → Records start (W.Sink.taken sink.old) commands self.old
+            → Records start (W.Sink.taken sink.new) (commands ++ command ∷ []) self.new) }
+        ensures front { IsErrOf result Write → (start : Option (List ℕ)) (commands : List Command) → Records start (W.Sink.taken sink.old) commands self.old
+            → AppendsFront start (W.Sink.taken sink.new) (record_text (commands ++ command ∷ []) None) }
+        ensures too_large { IsErrOf result TooLarge → (self.new ≡ self.old) × (sink.new ≡ sink.old) }
+        ensures has_room { HasRoom self.old.lines (handed_in command) → IsOkUnless result Write }
+        ensures has_none { (HasRoom self.old.lines (handed_in command) → ⊥) → IsErrOf result TooLarge }
+        ensures failures { W.Sink.failures sink.new ≡ write_failures result (W.Sink.failures sink.old) }
+    {
+        if !self.has_room(handed_in(command)) {
+            return Err(Fault::TooLarge);
+        }
+        let mut line = [0; LINE];
+        let start = put_command(&mut line, command, LINE);
+        self.held.add(&line[start..], sink)?;
+        self.lines += 1;
+        Ok(())
+    }
+
+    /// Whether the record may go on with a line of this moment, in ticks, or of none.
+    fn has_room(&self, moment: Option<u64>) -> bool
+        ensures yes { result ≡ true → HasRoom self.now.lines moment }
+        ensures no { result ≡ false → HasRoom self.now.lines moment → ⊥ }
+    {
+        let is_early = match moment {
+            Some(moment) => moment <= MAX_MOMENT,
+            None => true,
+        };
+        is_early && self.lines < MAX_LINES
+    }
+
+    /// Ends the record without a drain: writes what is held.
+    ///
+    /// # Errors
+    ///
+    /// Fault 20 if the sink fails. It has then taken a front of the record.
+    pub fn finish<W: Sink>(self, sink: &mut W) -> Result<(), Fault>
+        ensures whole { OnOk result ((start : Option (List ℕ)) (commands : List Command) → Records start (W.Sink.taken sink.old) commands self
+            → Appends start (W.Sink.taken sink.new) (record_text commands None)) }
+        ensures front { IsErrOf result Write → (start : Option (List ℕ)) (commands : List Command) → Records start (W.Sink.taken sink.old) commands self
+            → AppendsFront start (W.Sink.taken sink.new) (record_text commands None) }
+        ensures fault { IsOkUnless result Write }
+        ensures failures { W.Sink.failures sink.new ≡ write_failures result (W.Sink.failures sink.old) }
+    {
+        let mut held = self.held;
+        held.write(sink)
+    }
+
+    /// Ends the record by the drain that closed the router from this moment on, in ticks: adds its line, and writes what is held.
+    ///
+    /// # Errors
+    ///
+    /// Fault 18 as for `record`, and nothing is written then. Fault 20 if the sink fails. It has then taken a front of the record.
+    pub fn finish_by_drain<W: Sink>(self, moment: u64, sink: &mut W) -> Result<(), Fault>
+        ensures whole { OnOk result ((start : Option (List ℕ)) (commands : List Command) → Records start (W.Sink.taken sink.old) commands self
+            → Appends start (W.Sink.taken sink.new) (record_text commands (Some moment))) }
+        ensures front { IsErrOf result Write → (start : Option (List ℕ)) (commands : List Command) → Records start (W.Sink.taken sink.old) commands self
+            → AppendsFront start (W.Sink.taken sink.new) (record_text commands (Some moment)) }
+        ensures too_large { IsErrOf result TooLarge → sink.new ≡ sink.old }
+        ensures has_room { HasRoom self.lines (Some moment) → IsOkUnless result Write }
+        ensures has_none { (HasRoom self.lines (Some moment) → ⊥) → IsErrOf result TooLarge }
+        ensures failures { W.Sink.failures sink.new ≡ write_failures result (W.Sink.failures sink.old) }
+    {
+        if !self.has_room(Some(moment)) {
+            return Err(Fault::TooLarge);
+        }
+        let mut held = self.held;
+        let mut line = [0; LINE];
+        let start = put_drain(&mut line, moment, LINE);
+        held.add(&line[start..], sink)?;
+        held.write(sink)
+    }
+}
+
+/// The moment that a command hands in, in ticks.
+fn handed_in(command: Command) -> Option<u64>
+    ensures { result ≡ handed_in command }
+{
+    match command {
+        Command::Send { .. } => None,
+        Command::Pull { moment, .. } => Some(moment),
+    }
+}
