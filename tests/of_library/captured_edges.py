@@ -1,0 +1,136 @@
+"""The shaper of captures where its files and words are wrong or unusual. It stands outside what is proved."""
+import os
+import re
+import shutil
+import struct
+import subprocess
+from collections.abc import Sequence
+from dataclasses import dataclass, replace
+from pathlib import Path
+from typing import IO
+
+from of_library.captured import MICROSECONDS, Frame, built, cleanly, frames_of, refused
+from of_library.checks import Check, Failed, LeftOut, Setting, compare, run
+from of_library.compiled import COMPILERS
+from of_library.module import python
+
+HEADER = struct.pack("<IHHiIII", 0xA1B2C3D4, 2, 4, 0, 0, 65535, 1)
+ONE_SENDER = "a :: Sender(0); q :: Queue(100); d :: ToDevice(x); a -> q -> d;"
+
+
+@dataclass(frozen=True)
+class Shaper:
+    """A built shaper, a folder for what it writes, and its example's words: tree, table, rate, IN and OUT."""
+
+    program: Path
+    folder: Path
+    tree: Path
+    table: Path
+    before: Path
+
+    @property
+    def after(self) -> Path:
+        """Where it writes."""
+        return self.folder / "after.pcap"
+
+    def words(self, **other: str | Path) -> list[str | Path]:
+        """The words of the example, of which these are others."""
+        usual: dict[str, str | Path] = {"tree": self.tree, "table": self.table, "rate": "8000000", "before": self.before, "after": self.after}
+        return list({**usual, **other}.values())
+
+    def refuses(self, told: str, **other: str | Path) -> None:
+        """Fails unless the shaper says this, with status 1, and writes no capture."""
+        self.after.unlink(missing_ok=True)
+        refused(self.program, self.words(**other), told)
+        compare(f"a capture after {told!r}", self.after.exists(), False)
+
+    def ends(self, words: Sequence[str | Path], stdout: int | IO[bytes] = subprocess.PIPE) -> subprocess.CompletedProcess[bytes]:
+        """The shaper, run with these words."""
+        return subprocess.run([self.program, *words], stdout=stdout, stderr=subprocess.PIPE)
+
+    def counts(self, tree: str, table: str, frames: list[Frame]) -> tuple[list[int], int]:
+        """How many frames of each sender came, and how many are left out."""
+        words = self.words(tree=text(self, "tree", tree), table=text(self, "table", table), before=capture(self, frames))
+        told = cleanly(self.program, words)
+        return list(map(int, re.findall(r"came (\d+)", told))), int(told.split("left out: ")[1])
+
+
+def text(shaper: Shaper, name: str, words: str) -> Path:
+    """A file with this text."""
+    path = shaper.folder / name
+    path.write_text(words)
+    return path
+
+
+def capture(shaper: Shaper, frames: list[Frame]) -> Path:
+    """A capture of these frames."""
+    path = shaper.folder / "made.pcap"
+    heads = [struct.pack("<IIII", it.time // MICROSECONDS, it.time % MICROSECONDS, len(it.kept), it.length) for it in frames]
+    path.write_bytes(HEADER + b"".join(head + it.kept for head, it in zip(heads, frames)))
+    return path
+
+
+def udp(port: int) -> bytes:
+    """A datagram to a port."""
+    return struct.pack("!HHHH", 9, port, 8, 0)
+
+
+def version_4(port: int) -> bytes:
+    """An Ethernet frame of UDP over IPv4 to a port."""
+    return bytes(12) + b"\x08\x00" + struct.pack("!BBHHHBBHII", 0x45, 0, 28, 0, 0, 64, 17, 0, 1, 2) + udp(port)
+
+
+def version_6(extensions: Sequence[int], port: int, fragment: int = 0) -> bytes:
+    """An Ethernet frame of UDP over IPv6 to a port, behind these extension headers. A fragment is the one at this offset."""
+    kinds = [*extensions, 17]
+    rest = b""
+    for kind, after in zip(extensions, kinds[1:]):
+        rest += struct.pack("!BBHI", after, 0, fragment << 3, 7) if kind == 44 else struct.pack("!BB", after, 1) + bytes(14)
+    rest += udp(port)
+    return bytes(12) + b"\x86\xdd" + struct.pack("!IHBB", 0x60000000, len(rest), kinds[0], 64) + bytes(32) + rest
+
+
+HOPS, ROUTING, FRAGMENT, TARGET = 0, 43, 44, 60
+
+
+def extensions_are_walked(shaper: Shaper) -> None:
+    """Ports are found behind extension headers of IPv6, but not in later fragments, nor in frames that are cut."""
+    chains: list[list[int]] = [[], [HOPS], [ROUTING], [TARGET], [FRAGMENT], [HOPS, TARGET, ROUTING, FRAGMENT, TARGET]]
+    found = [Frame(0, 500, version_6(it, 5004)) for it in chains]
+    compare("frames with ports", shaper.counts(ONE_SENDER, "0 * 5004\n", found), ([len(found)], 0))
+    cut = [Frame(0, 500, version_6([HOPS, FRAGMENT], 5004)[:size]) for size in range(54, 82)]
+    none = [*cut, Frame(0, 500, version_6([FRAGMENT], 5004, 1)), Frame(0, 500, version_6([TARGET] * 40, 5004))]
+    compare("frames without", shaper.counts(ONE_SENDER, "0 * 5004\n", none), ([0], len(none)))
+    compare("frames without, which have addresses", shaper.counts(ONE_SENDER, "0 :: *\n", none), ([len(none)], 0))
+
+
+EDGES = (
+    extensions_are_walked,
+)
+
+
+def made(setting: Setting) -> Shaper:
+    """A shaper, and a capture for it."""
+    folder = setting.made / "edges"
+    folder.mkdir()
+    compiler = next(filter(shutil.which, COMPILERS), None)
+    if compiler is None:
+        raise LeftOut("neither gcc nor clang is there")
+    example = setting.root / "examples" / "capture"
+    run([python(), example / "make", folder / "before.pcap"])
+    program = built(replace(setting, made=folder), compiler)
+    return Shaper(program, folder, example / "uplink.click", example / "senders.table", folder / "before.pcap")
+
+
+def edges_hold(setting: Setting) -> str:
+    """Each of these holds."""
+    shaper = made(setting)
+    for it in EDGES:
+        try:
+            it(shaper)
+        except Failed as why:
+            raise Failed(f"{it.__name__}: {why}") from None
+    return f"{len(EDGES)} of them"
+
+
+CHECKS = [Check("edges of the shaper of captures", edges_hold)]
