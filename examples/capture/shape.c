@@ -13,6 +13,7 @@
 #include "kept.h"
 #include "table.h"
 
+#include <errno.h>
 #include <inttypes.h>
 #include <stdarg.h>
 #include <stdio.h>
@@ -209,8 +210,10 @@ int main(int argc, char **argv) {
     if (shaper.rate == 0)
         stop("a rate is one bit a second at least");
     int wrong = read_table(argv[2], &shaper.table);
-    if (wrong != 0)
-        stop(wrong < 0 ? "%s can't be read" : "%s: line %d isn't SENDER ADDRESS PORT", argv[2], wrong);
+    if (wrong < 0)
+        stop("%s: %s", argv[2], strerror(errno));
+    if (wrong > 0)
+        stop("%s: line %d isn't SENDER ADDRESS PORT", argv[2], wrong);
     open_router(&shaper, argv[1]);
     open_captures(&shaper, argv[4], argv[5]);
     run(&shaper);
@@ -218,5 +221,6 @@ int main(int argc, char **argv) {
     pcap_dump_close(shaper.out);
     pcap_close(shaper.in);
     clk_close(&shaper.router);
+    free_table(&shaper.table);
     return 0;
 }

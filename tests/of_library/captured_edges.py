@@ -90,6 +90,18 @@ def version_6(extensions: Sequence[int], port: int, fragment: int = 0) -> bytes:
     return bytes(12) + b"\x86\xdd" + struct.pack("!IHBB", 0x60000000, len(rest), kinds[0], 64) + bytes(32) + rest
 
 
+def tables_have_any_length(shaper: Shaper) -> None:
+    """A table has any number of lines, of any length, and the wrong one is named."""
+    frames = [Frame(0, 100, version_4(5004))]
+    lines = [f"0 10.0.{it // 256}.{it % 256} *\n" for it in range(1000)]
+    compare("a frame of line 1001", shaper.counts(ONE_SENDER, "".join([*lines, "0 * 5004\n"]), frames), ([1], 0))
+    compare("a frame of a long line", shaper.counts(ONE_SENDER, f"{' ' * 999}0 * 5004 # {'comment ' * 999}\n", frames), ([1], 0))
+    compare("a last line without its end", shaper.counts(ONE_SENDER, "0 * 5004", frames), ([1], 0))
+    shaper.refuses("line 1001 isn't", table=text(shaper, "table", "".join([*lines, "x\n"])))
+    for wrong in ("1234510.0.0.1 *\n", "0 * *\0\n", "+0 * *\n"):
+        shaper.refuses("line 1 isn't", table=text(shaper, "table", wrong))
+
+
 HOPS, ROUTING, FRAGMENT, TARGET = 0, 43, 44, 60
 
 
@@ -105,6 +117,7 @@ def extensions_are_walked(shaper: Shaper) -> None:
 
 
 EDGES = (
+    tables_have_any_length,
     extensions_are_walked,
 )
 
