@@ -5,7 +5,7 @@
  *
  * RATE is that of the link, in bits a second. A tick of the tree is a microsecond, the first frame's being tick 0. The link takes a frame
  * as soon as it is through with the one before; a frame leaves when its last byte has gone, and that is its time in OUT. Frames that fit no
- * line of the table, or are no IP, are left out. The answer has a line for each sender: frames and bytes that came, were lost in its queue,
+ * line of the table, are no IP, or have length 0, are left out and counted. The answer has a line for each sender: frames and bytes that came, were lost in its queue,
  * and left, its share of the bytes that came and that left, in percent, and the longest that one of its frames was on its way, in
  * milliseconds. */
 #include "clickpull.h"
@@ -147,7 +147,7 @@ static void arrive(struct shaper *shaper, const struct pcap_pkthdr *header, cons
     struct ends ends;
     uint64_t came = time_of(shaper, header);
     int sender = read_ends(shaper->link, bytes, header->caplen, &ends) ? sender_of(&shaper->table, &ends) : -1;
-    if (sender < 0) {
+    if (sender < 0 || header->len == 0) {
         shaper->unsorted++;
         return;
     }

@@ -116,9 +116,16 @@ def extensions_are_walked(shaper: Shaper) -> None:
     compare("frames without, which have addresses", shaper.counts(ONE_SENDER, "0 :: *\n", none), ([len(none)], 0))
 
 
+def frames_without_length_are_left_out(shaper: Shaper) -> None:
+    """A frame whose length is 0 is left out and counted, and those around it are shaped."""
+    frames = [Frame(0, 100, version_4(5004)), Frame(1, 0, version_4(5004)), Frame(2, 100, version_4(5004))]
+    compare("frames around one of length 0", shaper.counts(ONE_SENDER, "0 * *\n", frames), ([2], 1))
+
+
 EDGES = (
     tables_have_any_length,
     extensions_are_walked,
+    frames_without_length_are_left_out,
 )
 
 
