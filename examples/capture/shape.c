@@ -3,14 +3,15 @@
  *
  *     shape TREE TABLE RATE IN OUT
  *
- * RATE is that of the link, in bits a second. A tick of the tree is a microsecond, the first frame's being tick 0. The link takes a frame
- * as soon as it is through with the one before; a frame leaves when its last byte has gone, and that is its time in OUT. Frames that fit no
- * line of the table, are no IP, or have length 0, are left out and counted. The answer has a line for each sender: frames and bytes that came, were lost in its queue,
- * and left, its share of the bytes that came and that left, in percent, and the longest that one of its frames was on its way, in
- * milliseconds. */
+ * RATE is that of the link, in bits a second, as 8000000, 8000k or 8M. A tick of the tree is a microsecond, the first frame's being tick 0.
+ * The link takes a frame as soon as it is through with the one before; a frame leaves when its last byte has gone, and that is its time in
+ * OUT. Frames that fit no line of the table, are no IP, or have length 0, are left out and counted. The report has a line for each sender:
+ * frames and bytes that came, were lost in its queue, and left, its share of the bytes that came and that left, in percent, and the longest
+ * that one of its frames was on its way, in milliseconds. */
 #include "clickpull.h"
 #include "ends.h"
 #include "kept.h"
+#include "rate.h"
 #include "table.h"
 
 #include <errno.h>
@@ -81,9 +82,9 @@ static uint64_t time_of(const struct shaper *shaper, const struct pcap_pkthdr *h
     return all < 0 ? 0 : (uint64_t)all;
 }
 
-/* How long a frame takes on the link. */
+/* How long a frame takes on the link, rounded up. It has one byte at least. */
 static uint64_t on_link(const struct shaper *shaper, uint64_t bytes) {
-    return (bytes * 8 * MICROSECONDS + shaper->rate - 1) / shaper->rate;
+    return (bytes * 8 * MICROSECONDS - 1) / shaper->rate + 1;
 }
 
 static void write_frame(struct shaper *shaper, struct frame *frame, uint64_t at) {
@@ -206,9 +207,8 @@ int main(int argc, char **argv) {
     static struct shaper shaper;
     if (argc != 6)
         stop("usage: shape TREE TABLE RATE IN OUT");
-    shaper.rate = strtoull(argv[3], NULL, 10);
-    if (shaper.rate == 0)
-        stop("a rate is one bit a second at least");
+    if (!read_rate(argv[3], &shaper.rate))
+        stop("'%s' isn't a rate: bits a second from 1 on, as 8000000, 8000k or 8M", argv[3]);
     int wrong = read_table(argv[2], &shaper.table);
     if (wrong < 0)
         stop("%s: %s", argv[2], strerror(errno));

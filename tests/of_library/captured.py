@@ -124,7 +124,6 @@ def what_is_wrong_is_told(program: Path, folder: Path, words: list[str | Path]) 
     for place in (0, 1, 3, 4):
         missing = [*words[:place], folder / "none" / "none", *words[place + 1 :]]
         refused(program, missing, "none")
-    refused(program, [words[0], words[1], "0", *words[3:]], "a rate is one bit a second at least")
     refused(program, [words[1], words[1], *words[2:]], "fault 2: BadText at byte 0")
 
 

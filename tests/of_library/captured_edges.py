@@ -90,6 +90,18 @@ def version_6(extensions: Sequence[int], port: int, fragment: int = 0) -> bytes:
     return bytes(12) + b"\x86\xdd" + struct.pack("!IHBB", 0x60000000, len(rest), kinds[0], 64) + bytes(32) + rest
 
 
+def rates_are_read(shaper: Shaper) -> None:
+    """A rate has a unit or none, and what isn't one is refused."""
+    shares = run([shaper.program, *shaper.words()])
+    for rate in ("8000k", "8M"):
+        compare(f"shares at {rate}", run([shaper.program, *shaper.words(rate=rate)]), shares)
+    fast = {run([shaper.program, *shaper.words(rate=rate)]) for rate in ("1G", "1000M", "1000000000")}
+    compare("shares at 1G", (len(fast), shares in fast), (1, False))
+    run([shaper.program, *shaper.words(rate="18446744073709551615")])
+    for wrong in ("8x", "", "-1", "+1", " 8", "8 M", "8MM", "8m", "M", "0", "0M", "18446744073709551616", "18446744073709552k", "18446744074G"):
+        shaper.refuses(f"'{wrong}' isn't a rate", rate=wrong)
+
+
 def tables_have_any_length(shaper: Shaper) -> None:
     """A table has any number of lines, of any length, and the wrong one is named."""
     frames = [Frame(0, 100, version_4(5004))]
@@ -123,6 +135,7 @@ def frames_without_length_are_left_out(shaper: Shaper) -> None:
 
 
 EDGES = (
+    rates_are_read,
     tables_have_any_length,
     extensions_are_walked,
     frames_without_length_are_left_out,
