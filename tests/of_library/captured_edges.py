@@ -20,7 +20,7 @@ ONE_SENDER = "a :: Sender(0); q :: Queue(100); d :: ToDevice(x); a -> q -> d;"
 
 @dataclass(frozen=True)
 class Shaper:
-    """A built shaper, a folder for what it writes, and its example's words: tree, table, rate, IN and OUT."""
+    """A built shaper, a folder for what it writes, and the example's words: tree, table and IN."""
 
     program: Path
     folder: Path
@@ -102,6 +102,38 @@ def rates_are_read(shaper: Shaper) -> None:
         shaper.refuses(f"'{wrong}' isn't a rate", rate=wrong)
 
 
+def captures_go_to_standard_output(shaper: Shaper) -> None:
+    """With OUT - the capture alone stands on standard output, and the report on standard error."""
+    shares = shaper.ends(shaper.words()).stdout
+    done = shaper.ends(shaper.words(after="-"))
+    compare("status, and the capture on standard output", (done.returncode, done.stdout == shaper.after.read_bytes()), (0, True))
+    compare("the report on standard error", done.stderr, shares)
+
+
+def cut_captures_are_reported(shaper: Shaper) -> None:
+    """Of a capture that is cut, what was read is shaped and reported, and then it is told."""
+    whole = capture(shaper, [Frame(100 * it, 100, version_4(5004)) for it in range(9)])
+    whole.write_bytes(whole.read_bytes()[:-5])
+    done = shaper.ends(shaper.words(tree=text(shaper, "tree", ONE_SENDER), table=text(shaper, "table", "0 * *\n"), before=whole))
+    compare("status", done.returncode, 1)
+    compare("report", done.stdout.startswith(b"sender 0: came 8 800, lost 0 0, left 8 800, "), True)
+    compare("what is told", f"shape: {whole}: it is cut or damaged after 8 frames: ".encode() in done.stderr, True)
+    compare("frames of OUT", len(frames_of(shaper.after)), 8)
+
+
+def files_are_named(shaper: Shaper) -> None:
+    """What is wrong with a file is told with its name."""
+    wrong = text(shaper, "wrong", "no capture, but long enough to be the header of one")
+    other = shaper.folder / "other.pcap"
+    other.write_bytes(HEADER[:20] + struct.pack("<I", 105))
+    shaper.refuses(f"{wrong}: unknown file format", before=wrong)
+    shaper.refuses(f"{other}: its frames are neither Ethernet nor bare IP", before=other)
+    for name in ("tree", "table", "before"):
+        for path, why in ((shaper.folder, "Is a directory"), (shaper.folder / "none", "No such file or directory")):
+            shaper.refuses(f"shape: {path}: " + ("" if (name, path) == ("before", shaper.folder) else why), **{name: path})
+    refused(shaper.program, shaper.words(after=shaper.folder), f"{shaper.folder}: Is a directory")
+
+
 def tables_have_any_length(shaper: Shaper) -> None:
     """A table has any number of lines, of any length, and the wrong one is named."""
     frames = [Frame(0, 100, version_4(5004))]
@@ -136,6 +168,9 @@ def frames_without_length_are_left_out(shaper: Shaper) -> None:
 
 EDGES = (
     rates_are_read,
+    captures_go_to_standard_output,
+    cut_captures_are_reported,
+    files_are_named,
     tables_have_any_length,
     extensions_are_walked,
     frames_without_length_are_left_out,

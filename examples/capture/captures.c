@@ -1,0 +1,74 @@
+/* Reads a capture and writes another, by libpcap. This is C and no part of what is proved. */
+#include "captures.h"
+#include "told.h"
+
+#include <errno.h>
+#include <inttypes.h>
+#include <string.h>
+
+int is_standard(const char *path) {
+    return strcmp(path, "-") == 0;
+}
+
+/* Opens a file, or takes the standard stream. */
+static FILE *open_file(const char *path, const char *mode, FILE *standard) {
+    FILE *file = is_standard(path) ? standard : fopen(path, mode);
+    if (!file)
+        stop("%s: %s", path, strerror(errno));
+    return file;
+}
+
+void open_in(struct captures *captures, const char *path) {
+    char why[PCAP_ERRBUF_SIZE];
+    captures->in_name = is_standard(path) ? "standard input" : path;
+    captures->in = pcap_fopen_offline(open_file(path, "rb", stdin), why);
+    if (!captures->in)
+        stop("%s: %s", captures->in_name, why);
+    int link = pcap_datalink(captures->in);
+    if (link != DLT_EN10MB && link != DLT_RAW)
+        stop("%s: its frames are neither Ethernet nor bare IP", captures->in_name);
+    captures->link = link == DLT_EN10MB ? ETHERNET : BARE;
+}
+
+void open_out(struct captures *captures, const char *path) {
+    captures->out_name = is_standard(path) ? "standard output" : path;
+    captures->out = pcap_dump_fopen(captures->in, open_file(path, "wb", stdout));
+    if (!captures->out)
+        stop("%s: %s", captures->out_name, pcap_geterr(captures->in));
+}
+
+/* The time of a frame, in microseconds from the first on. One that is before it counts as that. */
+static uint64_t time_of(const struct captures *captures, const struct pcap_pkthdr *header) {
+    int64_t whole = (int64_t)header->ts.tv_sec - captures->first.tv_sec;
+    int64_t all = whole * MICROSECONDS + header->ts.tv_usec - captures->first.tv_usec;
+    return all < 0 ? 0 : (uint64_t)all;
+}
+
+int read_frame(struct captures *captures, struct pcap_pkthdr **header, const u_char **bytes, uint64_t *came) {
+    int got = pcap_next_ex(captures->in, header, bytes);
+    captures->is_cut = got == PCAP_ERROR;
+    if (got != 1)
+        return 0;
+    if (captures->frames++ == 0)
+        captures->first = (*header)->ts;
+    *came = time_of(captures, *header);
+    return 1;
+}
+
+void write_frame(struct captures *captures, struct frame *frame, uint64_t left) {
+    uint64_t all = (uint64_t)captures->first.tv_usec + left;
+    frame->header.ts.tv_sec = captures->first.tv_sec + (time_t)(all / MICROSECONDS);
+    frame->header.ts.tv_usec = (suseconds_t)(all % MICROSECONDS);
+    pcap_dump((u_char *)captures->out, &frame->header, frame->bytes);
+}
+
+void close_out(struct captures *captures) {
+    pcap_dump_close(captures->out);
+}
+
+int close_in(struct captures *captures) {
+    if (captures->is_cut)
+        complain("%s: it is cut or damaged after %" PRIu64 " frames: %s", captures->in_name, captures->frames, pcap_geterr(captures->in));
+    pcap_close(captures->in);
+    return captures->is_cut;
+}
