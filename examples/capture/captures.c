@@ -60,9 +60,12 @@ void write_frame(struct captures *captures, struct frame *frame, uint64_t left) 
     frame->header.ts.tv_sec = captures->first.tv_sec + (time_t)(all / MICROSECONDS);
     frame->header.ts.tv_usec = (suseconds_t)(all % MICROSECONDS);
     pcap_dump((u_char *)captures->out, &frame->header, frame->bytes);
+    if (ferror(pcap_dump_file(captures->out)))
+        stop("%s: %s", captures->out_name, strerror(errno));
 }
 
 void close_out(struct captures *captures) {
+    stop_unless_stored(pcap_dump_file(captures->out), captures->out_name);
     pcap_dump_close(captures->out);
 }
 

@@ -27,10 +27,10 @@ void open_out(struct captures *captures, const char *path);
 /* Reads a frame, and when it came, in microseconds from the first frame on. Returns 0 at the end, also where IN is cut. */
 int read_frame(struct captures *captures, struct pcap_pkthdr **header, const u_char **bytes, uint64_t *came);
 
-/* Writes a frame that left at this time, in microseconds from the first frame on. */
+/* Writes a frame that left at this time, in microseconds from the first frame on. Stops if it can't be written. */
 void write_frame(struct captures *captures, struct frame *frame, uint64_t left);
 
-/* Closes OUT. */
+/* Closes OUT. Stops if not all of it is stored. */
 void close_out(struct captures *captures);
 
 /* Closes IN. Returns 0, or 1 where IN is cut, which it tells. */

@@ -149,6 +149,7 @@ static void run(struct shaper *shaper) {
 static void tell(const struct shaper *shaper, int is_taken) {
     FILE *file = is_taken ? stderr : stdout;
     report(file, &shaper->router, shaper->slowest, shaper->unsorted);
+    stop_unless_stored(file, is_taken ? "standard error" : "standard output");
 }
 
 int main(int argc, char **argv) {

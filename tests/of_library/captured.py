@@ -134,15 +134,15 @@ def refused(program: Path, words: list[str | Path], told: str) -> None:
         raise Failed(f"{' '.join(map(str, words))}: status {done.returncode} and {done.stderr!r}, where {told!r} has to be told")
 
 
-def built(setting: Setting, compiler: str) -> Path:
-    """The shaper."""
+def built(setting: Setting, compiler: str, *more: str) -> Path:
+    """The shaper, of its sources and more words for the compiler."""
     need("pkg-config")
     if subprocess.run(["pkg-config", "--exists", "libpcap"]).returncode != 0:
         raise LeftOut("libpcap-dev is missing")
     program = setting.made / f"shape-{compiler}"
     sources = map(str, sorted((setting.root / "examples" / "capture").glob("*.c")))
     flags = ["-std=c11", "-D_DEFAULT_SOURCE", *BUILT, "-I", str(setting.include)]
-    run([compiler, *flags, *sources, "-o", str(program), str(setting.archive), str(heap()), "-lpcap"])
+    run([compiler, *flags, *sources, *more, "-o", str(program), str(setting.archive), str(heap()), "-lpcap"])
     return program
 
 

@@ -20,9 +20,10 @@ ONE_SENDER = "a :: Sender(0); q :: Queue(100); d :: ToDevice(x); a -> q -> d;"
 
 @dataclass(frozen=True)
 class Shaper:
-    """A built shaper, a folder for what it writes, and the example's words: tree, table and IN."""
+    """A built shaper, one that can't close a file, a folder for what they write, and the example's words: tree, table and IN."""
 
     program: Path
+    unclosing: Path
     folder: Path
     tree: Path
     table: Path
@@ -88,6 +89,29 @@ def version_6(extensions: Sequence[int], port: int, fragment: int = 0) -> bytes:
         rest += struct.pack("!BBHI", after, 0, fragment << 3, 7) if kind == 44 else struct.pack("!BB", after, 1) + bytes(14)
     rest += udp(port)
     return bytes(12) + b"\x86\xdd" + struct.pack("!IHBB", 0x60000000, len(rest), kinds[0], 64) + bytes(32) + rest
+
+
+def full_disks_are_told(shaper: Shaper) -> None:
+    """A capture or a report that doesn't fit on the disk is told, and no report says that frames left."""
+    if not Path("/dev/full").exists():
+        return
+    few = capture(shaper, [Frame(0, 100, version_4(5004))])
+    for before in (shaper.before, few):
+        done = shaper.ends(shaper.words(before=before, after="/dev/full"))
+        compare("/dev/full as OUT", (done.returncode, done.stdout), (1, b""))
+        compare("what is told of it", b"/dev/full: No space left on device" in done.stderr, True)
+    with open("/dev/full", "wb") as full:
+        done = shaper.ends(shaper.words(), full)
+        compare("a report on /dev/full", (done.returncode, b"standard output: No space left" in done.stderr), (1, True))
+        done = shaper.ends(shaper.words(after="-"), full)
+        compare("- on /dev/full", (done.returncode, b"standard output: No space left" in done.stderr, b"came" in done.stderr), (1, True, False))
+
+
+def failed_closes_are_told(shaper: Shaper) -> None:
+    """What the system couldn't store is told, also if it says so only at the close."""
+    done = subprocess.run([shaper.unclosing, *shaper.words()], capture_output=True)
+    compare("a close that fails", (done.returncode, done.stdout), (1, b""))
+    compare("what is told of it", done.stderr, f"shape: {shaper.after}: Disk quota exceeded\n".encode())
 
 
 def rates_are_read(shaper: Shaper) -> None:
@@ -167,6 +191,8 @@ def frames_without_length_are_left_out(shaper: Shaper) -> None:
 
 
 EDGES = (
+    full_disks_are_told,
+    failed_closes_are_told,
     rates_are_read,
     captures_go_to_standard_output,
     cut_captures_are_reported,
@@ -175,6 +201,22 @@ EDGES = (
     extensions_are_walked,
     frames_without_length_are_left_out,
 )
+
+
+# A close that fails as it does where a file system finds out late that there is no room.
+UNCLOSING = """#include <errno.h>
+int __wrap_close(int file);
+int __wrap_close(int file) { return file < 0 ? 0 : (errno = EDQUOT, -1); }
+"""
+
+
+def unclosing(setting: Setting, compiler: str) -> Path:
+    """A shaper whose calls of close fail."""
+    folder = setting.made / "unclosing"
+    folder.mkdir()
+    source = folder / "close.c"
+    source.write_text(UNCLOSING)
+    return built(replace(setting, made=folder), compiler, str(source), "-Wl,--wrap=close")
 
 
 def made(setting: Setting) -> Shaper:
@@ -187,7 +229,7 @@ def made(setting: Setting) -> Shaper:
     example = setting.root / "examples" / "capture"
     run([python(), example / "make", folder / "before.pcap"])
     program = built(replace(setting, made=folder), compiler)
-    return Shaper(program, folder, example / "uplink.click", example / "senders.table", folder / "before.pcap")
+    return Shaper(program, unclosing(setting, compiler), folder, example / "uplink.click", example / "senders.table", folder / "before.pcap")
 
 
 def edges_hold(setting: Setting) -> str:
