@@ -5,6 +5,7 @@
 #include <errno.h>
 #include <inttypes.h>
 #include <string.h>
+#include <sys/stat.h>
 
 int is_standard(const char *path) {
     return strcmp(path, "-") == 0;
@@ -30,8 +31,27 @@ void open_in(struct captures *captures, const char *path) {
     captures->link = link == DLT_EN10MB ? ETHERNET : BARE;
 }
 
-void open_out(struct captures *captures, const char *path) {
+/* Stops if two names are of one file: opening it to write would empty it. Devices and pipes are no such files. */
+static void stop_if_same(const struct stat *out, const char *out_name, const struct stat *read, const char *read_name) {
+    if (S_ISREG(out->st_mode) && out->st_dev == read->st_dev && out->st_ino == read->st_ino)
+        stop("%s: it is also %s, which is read", out_name, read_name);
+}
+
+/* Stops if OUT is IN or another file that is read. */
+static void stop_if_read(const struct captures *captures, const char *path, char **read, int count) {
+    struct stat out, it;
+    if ((is_standard(path) ? fstat(fileno(stdout), &out) : stat(path, &out)) != 0)
+        return;
+    if (fstat(fileno(pcap_file(captures->in)), &it) == 0)
+        stop_if_same(&out, captures->out_name, &it, captures->in_name);
+    for (int i = 0; i < count; i++)
+        if (stat(read[i], &it) == 0)
+            stop_if_same(&out, captures->out_name, &it, read[i]);
+}
+
+void open_out(struct captures *captures, const char *path, char **read, int count) {
     captures->out_name = is_standard(path) ? "standard output" : path;
+    stop_if_read(captures, path, read, count);
     captures->out = pcap_dump_fopen(captures->in, open_file(path, "wb", stdout));
     if (!captures->out)
         stop("%s: %s", captures->out_name, pcap_geterr(captures->in));

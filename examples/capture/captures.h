@@ -21,8 +21,8 @@ struct captures {
 /* Opens IN, where - is standard input. Stops if it can't be read. */
 void open_in(struct captures *captures, const char *path);
 
-/* Opens OUT, where - is standard output. Stops if it can't be written. */
-void open_out(struct captures *captures, const char *path);
+/* Opens OUT, where - is standard output. Stops if it can't be written, or is IN or one of `count` files that are read too. */
+void open_out(struct captures *captures, const char *path, char **read, int count);
 
 /* Reads a frame, and when it came, in microseconds from the first frame on. Returns 0 at the end, also where IN is cut. */
 int read_frame(struct captures *captures, struct pcap_pkthdr **header, const u_char **bytes, uint64_t *came);

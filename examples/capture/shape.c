@@ -161,7 +161,7 @@ int main(int argc, char **argv) {
     open_table(&shaper, argv[2]);
     open_router(&shaper, argv[1]);
     open_in(&shaper.captures, argv[4]);
-    open_out(&shaper.captures, argv[5]);
+    open_out(&shaper.captures, argv[5], argv + 1, 2);
     run(&shaper);
     close_out(&shaper.captures);
     tell(&shaper, is_standard(argv[5]));

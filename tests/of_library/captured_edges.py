@@ -114,6 +114,26 @@ def failed_closes_are_told(shaper: Shaper) -> None:
     compare("what is told of it", done.stderr, f"shape: {shaper.after}: Disk quota exceeded\n".encode())
 
 
+def inputs_are_kept(shaper: Shaper) -> None:
+    """OUT is no file that is read: not by its name, nor by another name or a link."""
+    files = {name: shaper.folder / f"read.{name}" for name in ("tree", "table", "before")}
+    for name, path in files.items():
+        shutil.copy(shaper.words()[("tree", "table", "", "before").index(name)], path)
+        bytes_before = path.read_bytes()
+        hard, soft = path.with_suffix(".hard"), path.with_suffix(".soft")
+        os.link(path, hard)
+        soft.symlink_to(path)
+        for other in (path, path.parent / "." / ".." / path.parent.name / path.name, hard, soft):
+            refused(shaper.program, [*shaper.words(**{name: path})[:4], other], f"{other}: it is also {path}, which is read")
+            compare(f"bytes of {path.name}", path.read_bytes() == bytes_before, True)
+        hard.unlink()
+        soft.unlink()
+    with files["before"].open("rb") as source:
+        done = subprocess.run([shaper.program, *shaper.words(before="-", after=files["before"])], stdin=source, capture_output=True)
+    compare("standard input as OUT", (done.returncode, b"it is also standard input, which is read" in done.stderr), (1, True))
+    compare("its bytes", files["before"].read_bytes() == shaper.before.read_bytes(), True)
+
+
 def rates_are_read(shaper: Shaper) -> None:
     """A rate has a unit or none, and what isn't one is refused."""
     shares = run([shaper.program, *shaper.words()])
@@ -193,6 +213,7 @@ def frames_without_length_are_left_out(shaper: Shaper) -> None:
 EDGES = (
     full_disks_are_told,
     failed_closes_are_told,
+    inputs_are_kept,
     rates_are_read,
     captures_go_to_standard_output,
     cut_captures_are_reported,
