@@ -146,6 +146,15 @@ def rates_are_read(shaper: Shaper) -> None:
         shaper.refuses(f"'{wrong}' isn't a rate", rate=wrong)
 
 
+def devices_are_links(shaper: Shaper) -> None:
+    """Each device is a link of its own, and frames stand in OUT in the order in which they left."""
+    tree = "a :: Sender(0); b :: Sender(1); p, q :: Queue(9); c :: ToDevice(x); d :: ToDevice(y); b -> q -> d; a -> p -> c;"
+    frames = [Frame(0, 1500, version_4(1)), Frame(10, 100, version_4(2)), Frame(10, 200, version_4(2)), Frame(20, 1000, version_4(1))]
+    compare("frames of two devices", shaper.counts(tree, "0 * 1\n1 * 2\n", frames), ([2, 2], 0))
+    left = [(it.time, it.length) for it in frames_of(shaper.after)]
+    compare("what left two links of 8 Mbit/s", left, [(110, 100), (310, 200), (1500, 1500), (2500, 1000)])
+
+
 def captures_go_to_standard_output(shaper: Shaper) -> None:
     """With OUT - the capture alone stands on standard output, and the report on standard error."""
     shares = shaper.ends(shaper.words()).stdout
@@ -215,6 +224,7 @@ EDGES = (
     failed_closes_are_told,
     inputs_are_kept,
     rates_are_read,
+    devices_are_links,
     captures_go_to_standard_output,
     cut_captures_are_reported,
     files_are_named,
