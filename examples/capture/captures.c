@@ -7,7 +7,8 @@
 #include <string.h>
 #include <sys/stat.h>
 
-int is_standard(const char *path) {
+/* Whether a word names standard input or output. */
+static int is_standard(const char *path) {
     return strcmp(path, "-") == 0;
 }
 
@@ -31,9 +32,13 @@ void open_in(struct captures *captures, const char *path) {
     captures->link = link == DLT_EN10MB ? ETHERNET : BARE;
 }
 
-/* Stops if two names are of one file: opening it to write would empty it. Devices and pipes are no such files. */
+static int is_same(const struct stat *one, const struct stat *other) {
+    return one->st_dev == other->st_dev && one->st_ino == other->st_ino;
+}
+
+/* Stops if a file is OUT too: opening that to write would empty it. Devices and pipes are no such files. */
 static void stop_if_same(const struct stat *out, const char *out_name, const struct stat *read, const char *read_name) {
-    if (S_ISREG(out->st_mode) && out->st_dev == read->st_dev && out->st_ino == read->st_ino)
+    if (S_ISREG(out->st_mode) && is_same(out, read))
         stop("%s: it is also %s, which is read", out_name, read_name);
 }
 
@@ -49,10 +54,17 @@ static void stop_if_read(const struct captures *captures, const char *path, char
             stop_if_same(&out, captures->out_name, &it, read[i]);
 }
 
+static int is_standard_output(FILE *file) {
+    struct stat it, standard;
+    return fstat(fileno(file), &it) == 0 && fstat(fileno(stdout), &standard) == 0 && is_same(&it, &standard);
+}
+
 void open_out(struct captures *captures, const char *path, char **read, int count) {
     captures->out_name = is_standard(path) ? "standard output" : path;
     stop_if_read(captures, path, read, count);
-    captures->out = pcap_dump_fopen(captures->in, open_file(path, "wb", stdout));
+    FILE *file = open_file(path, "wb", stdout);
+    captures->is_standard = is_standard_output(file);
+    captures->out = pcap_dump_fopen(captures->in, file);
     if (!captures->out)
         stop("%s: %s", captures->out_name, pcap_geterr(captures->in));
 }

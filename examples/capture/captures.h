@@ -16,6 +16,7 @@ struct captures {
     uint64_t frames;      /* how many were read */
     struct timeval first; /* the time of the first one */
     int is_cut;           /* whether reading ended with an error */
+    int is_standard;      /* whether OUT is where standard output goes, under whatever name */
 };
 
 /* Opens IN, where - is standard input. Stops if it can't be read. */
@@ -35,8 +36,5 @@ void close_out(struct captures *captures);
 
 /* Closes IN. Returns 0, or 1 where IN is cut, which it tells. */
 int close_in(struct captures *captures);
-
-/* Whether a word names standard input or output. */
-int is_standard(const char *path);
 
 #endif

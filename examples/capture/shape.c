@@ -10,7 +10,7 @@
  *
  * The report has a line for each sender: frames and bytes that came, were lost in its queue, and left, its share of the bytes that came and
  * that left, in percent, and the longest that one of its frames was on its way, in milliseconds. It goes to standard output, or to standard
- * error where OUT is -. Exit status 1 says that something is wrong, or that IN is cut. */
+ * error where the capture goes to standard output. Exit status 1 says that something is wrong, or that IN is cut. */
 #include "captures.h"
 #include "clickpull.h"
 #include "ends.h"
@@ -89,7 +89,8 @@ static void run(struct shaper *shaper) {
 }
 
 /* Writes the report to standard output, unless the capture went there. */
-static void tell(const struct shaper *shaper, int is_taken) {
+static void tell(const struct shaper *shaper) {
+    int is_taken = shaper->captures.is_standard;
     FILE *file = is_taken ? stderr : stdout;
     report(file, &shaper->router, shaper->links.slowest, shaper->left_out);
     stop_unless_stored(file, is_taken ? "standard error" : "standard output");
@@ -109,7 +110,7 @@ int main(int argc, char **argv) {
     open_links(&shaper.links, &shaper.router, &shaper.captures, rate);
     run(&shaper);
     close_out(&shaper.captures);
-    tell(&shaper, is_standard(argv[5]));
+    tell(&shaper);
     clk_close(&shaper.router);
     free_table(&shaper.table);
     return close_in(&shaper.captures);

@@ -156,22 +156,30 @@ def devices_are_links(shaper: Shaper) -> None:
 
 
 def captures_go_to_standard_output(shaper: Shaper) -> None:
-    """With OUT - the capture alone stands on standard output, and the report on standard error."""
+    """With OUT - the capture alone stands on standard output, and the report on standard error. So it is with another name of that."""
     shares = shaper.ends(shaper.words()).stdout
-    done = shaper.ends(shaper.words(after="-"))
-    compare("status, and the capture on standard output", (done.returncode, done.stdout == shaper.after.read_bytes()), (0, True))
-    compare("the report on standard error", done.stderr, shares)
+    for name in ("-", "/dev/stdout"):
+        done = shaper.ends(shaper.words(after=name))
+        compare(f"status, and the capture on {name}", (done.returncode, done.stdout == shaper.after.read_bytes()), (0, True))
+        compare("the report on standard error", done.stderr, shares)
+    other = shaper.folder / "standard.pcap"
+    with other.open("wb") as standard:
+        compare("the report beside a file", shaper.ends(shaper.words(after=other), standard).stderr, shares)
+    compare("that file", other.read_bytes() == shaper.after.read_bytes(), True)
 
 
 def cut_captures_are_reported(shaper: Shaper) -> None:
     """Of a capture that is cut, what was read is shaped and reported, and then it is told."""
-    whole = capture(shaper, [Frame(100 * it, 100, version_4(5004)) for it in range(9)])
-    whole.write_bytes(whole.read_bytes()[:-5])
-    done = shaper.ends(shaper.words(tree=text(shaper, "tree", ONE_SENDER), table=text(shaper, "table", "0 * *\n"), before=whole))
-    compare("status", done.returncode, 1)
-    compare("report", done.stdout.startswith(b"sender 0: came 8 800, lost 0 0, left 8 800, "), True)
-    compare("what is told", f"shape: {whole}: it is cut or damaged after 8 frames: ".encode() in done.stderr, True)
-    compare("frames of OUT", len(frames_of(shaper.after)), 8)
+    tree, table = text(shaper, "tree", ONE_SENDER), text(shaper, "table", "0 * *\n")
+    last = 16 + len(version_4(5004))
+    for missing in (1, last - 17, last - 16, last - 1):
+        before = capture(shaper, [Frame(100 * it, 100, version_4(5004)) for it in range(9)])
+        before.write_bytes(before.read_bytes()[:-missing])
+        done = shaper.ends(shaper.words(tree=tree, table=table, before=before))
+        compare(f"status without {missing} bytes", done.returncode, 1)
+        compare("report", done.stdout.startswith(b"sender 0: came 8 800, lost 0 0, left 8 800, "), True)
+        compare("what is told", f"shape: {before}: it is cut or damaged after 8 frames: ".encode() in done.stderr, True)
+        compare("frames of OUT", len(frames_of(shaper.after)), 8)
 
 
 def files_are_named(shaper: Shaper) -> None:
