@@ -13,8 +13,8 @@ static double percent(uint64_t part, uint64_t whole) {
 
 static void report_one(FILE *file, const clk_account *it, uint64_t in, uint64_t out, uint64_t slowest) {
     clk_total came = plus(it->accepted, it->refused), lost = plus(it->refused, it->evicted);
-    fprintf(file, "sender %u: came %" PRIu64 " %" PRIu64 ", lost %" PRIu64 " %" PRIu64 ", left %" PRIu64 " %" PRIu64, it->sender, came.packets,
-            came.bytes, lost.packets, lost.bytes, it->emitted.packets, it->emitted.bytes);
+    fprintf(file, "sender %u: came %" PRIu64 " %" PRIu64 ", lost %" PRIu64 " %" PRIu64 ", left %" PRIu64 " %" PRIu64, it->sender,
+            came.packets, came.bytes, lost.packets, lost.bytes, it->emitted.packets, it->emitted.bytes);
     fprintf(file, ", share in %.1f, out %.1f, slowest %.1f\n", percent(came.bytes, in), percent(it->emitted.bytes, out),
             (double)slowest / 1000);
 }

@@ -36,7 +36,8 @@ class Shaper:
 
     def words(self, **other: str | Path) -> list[str | Path]:
         """The words of the example, of which these are others."""
-        usual: dict[str, str | Path] = {"tree": self.tree, "table": self.table, "rate": "8000000", "before": self.before, "after": self.after}
+        usual: dict[str, str | Path] = {"tree": self.tree, "table": self.table, "rate": "8000000"}
+        usual.update(before=self.before, after=self.after)
         return list({**usual, **other}.values())
 
     def refuses(self, told: str, **other: str | Path) -> None:
@@ -104,7 +105,7 @@ def full_disks_are_told(shaper: Shaper) -> None:
         done = shaper.ends(shaper.words(), full)
         compare("a report on /dev/full", (done.returncode, b"standard output: No space left" in done.stderr), (1, True))
         done = shaper.ends(shaper.words(after="-"), full)
-        compare("- on /dev/full", (done.returncode, b"standard output: No space left" in done.stderr, b"came" in done.stderr), (1, True, False))
+        compare("- on /dev/full", (done.returncode, done.stderr), (1, b"shape: standard output: No space left on device\n"))
 
 
 def failed_closes_are_told(shaper: Shaper) -> None:
@@ -142,7 +143,8 @@ def rates_are_read(shaper: Shaper) -> None:
     fast = {run([shaper.program, *shaper.words(rate=rate)]) for rate in ("1G", "1000M", "1000000000")}
     compare("shares at 1G", (len(fast), shares in fast), (1, False))
     run([shaper.program, *shaper.words(rate="18446744073709551615")])
-    for wrong in ("8x", "", "-1", "+1", " 8", "8 M", "8MM", "8m", "M", "0", "0M", "18446744073709551616", "18446744073709552k", "18446744074G"):
+    past = ("18446744073709551616", "18446744073709552k", "18446744074G")
+    for wrong in ("8x", "", "-1", "+1", " 8", "8 M", "8MM", "8m", "M", "0", "0M", *past):
         shaper.refuses(f"'{wrong}' isn't a rate", rate=wrong)
 
 
@@ -268,7 +270,8 @@ def made(setting: Setting) -> Shaper:
     example = setting.root / "examples" / "capture"
     run([python(), example / "make", folder / "before.pcap"])
     program = built(replace(setting, made=folder), compiler)
-    return Shaper(program, unclosing(setting, compiler), folder, example / "uplink.click", example / "senders.table", folder / "before.pcap")
+    tree, table = example / "uplink.click", example / "senders.table"
+    return Shaper(program, unclosing(setting, compiler), folder, tree, table, folder / "before.pcap")
 
 
 def edges_hold(setting: Setting) -> str:
