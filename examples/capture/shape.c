@@ -58,6 +58,17 @@ static void open_router(struct shaper *shaper, const char *path) {
         stop("%s: fault %u: %s at byte %u", path, fault.number, clk_fault_name(fault.number), fault.offset);
 }
 
+/* Stops if the table has a sender that the tree lacks. */
+static void match_senders(const struct shaper *shaper, const char *tree, const char *table) {
+    static char is_in_tree[NUMBERS];
+    clk_account it;
+    for (size_t place = 0; clk_account_at(&shaper->router, place, &it) == CLK_OK; place++)
+        is_in_tree[it.sender] = 1;
+    for (size_t i = 0; i < shaper->table.length; i++)
+        if (!is_in_tree[shaper->table.lines[i].sender])
+            stop("%s: sender %u isn't in %s", table, shaper->table.lines[i].sender, tree);
+}
+
 /* The number of a frame's sender; -1 if the frame is left out. */
 static int sender_of_frame(const struct shaper *shaper, const struct pcap_pkthdr *header, const u_char *bytes) {
     struct ends ends;
@@ -105,6 +116,7 @@ int main(int argc, char **argv) {
         stop("'%s' isn't a rate: bits a second from 1 on, as 8000000, 8000k or 8M", argv[3]);
     open_table(&shaper, argv[2]);
     open_router(&shaper, argv[1]);
+    match_senders(&shaper, argv[1], argv[2]);
     open_in(&shaper.captures, argv[4]);
     open_out(&shaper.captures, argv[5], argv + 1, 2);
     open_links(&shaper.links, &shaper.router, &shaper.captures, rate);

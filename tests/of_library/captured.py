@@ -111,7 +111,7 @@ WRONG = {
     "# a comment\n\n65536 * *\n": "line 3 isn't",
     "0 *\n": "line 1 isn't",
     "0 * * *\n": "line 1 isn't",
-    "9 * *\n": "an offer of sender 9: there is no such sender",
+    "9 * *\n": "sender 9 isn't in",
 }
 
 

@@ -197,6 +197,12 @@ def files_are_named(shaper: Shaper) -> None:
     refused(shaper.program, shaper.words(after=shaper.folder), f"{shaper.folder}: Is a directory")
 
 
+def senders_are_in_the_tree(shaper: Shaper) -> None:
+    """A table with a sender that the tree lacks is told before OUT is opened, by the names of both."""
+    table = text(shaper, "table", "0 * 1\n9 * *\n")
+    shaper.refuses(f"{table}: sender 9 isn't in {shaper.tree}", table=table)
+
+
 def tables_have_any_length(shaper: Shaper) -> None:
     """A table has any number of lines, of any length, and the wrong one is named."""
     frames = [Frame(0, 100, version_4(5004))]
@@ -238,6 +244,7 @@ EDGES = (
     captures_go_to_standard_output,
     cut_captures_are_reported,
     files_are_named,
+    senders_are_in_the_tree,
     tables_have_any_length,
     extensions_are_walked,
     frames_without_length_are_left_out,
