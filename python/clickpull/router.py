@@ -34,6 +34,15 @@ def _departure(it: library.Departure) -> Departure:
     return Departure(it.moment, _packet(it.packet))
 
 
+def _code(text: str | bytes) -> bytes:
+    """A text as the library takes it."""
+    if isinstance(text, str):
+        return text.encode()
+    if not isinstance(text, (bytes, bytearray, memoryview)):
+        raise TypeError(f"a text is str or bytes, and not {type(text).__name__}")
+    return bytes(text)
+
+
 class Router:
     """The router of a tree in Click's language.
 
@@ -43,9 +52,9 @@ class Router:
 
     def __init__(self, text: str | bytes) -> None:
         """Makes a router of a text. Raises `TextFault` where it has one, and `MemoryError`."""
+        code = _code(text)
         self._handle = library.RouterHandle(None)
         self._router = byref(self._handle)
-        code = text.encode() if isinstance(text, str) else bytes(text)
         fault = library.Fault()
         array = (ctypes.c_uint8 * max(len(code), 1)).from_buffer_copy(code or b"\0")
         if LIBRARY.clk_router_open(array, len(code), self._router, byref(fault)) != library.OK:
@@ -122,13 +131,19 @@ class Router:
         return _packet(packet)
 
     def pull_many(self, moment: int, count: int, device: int = 0) -> list[Packet]:
-        """Pulls the device up to `count` times at this moment, up to the first pull that gives none, and answers the packets."""
+        """Pulls the device up to `count` times at this moment, up to the first pull that gives none, and answers the packets.
+
+        A `count` above what is left for the device allocates no more than one below it. A negative one raises `ValueError`.
+        """
+        if count < 0:
+            raise ValueError(f"a count of pulls is 0 or more, and not {count}")
         self._need_open()
-        self._need_device(device)
         self._need_moment(moment)
-        packets = (library.Packet * max(count, 1))()
+        # One pull more than packets are left gives none, and is the last.
+        most = min(count, self.left(device) + 1)
+        packets = (library.Packet * max(most, 1))()
         given = ctypes.c_size_t()
-        self._is_none(LIBRARY.clk_router_pull_many(self._router, device, moment, packets, max(count, 0), byref(given)))
+        self._is_none(LIBRARY.clk_router_pull_many(self._router, device, moment, packets, most, byref(given)))
         return [_packet(packets[i]) for i in range(given.value)]
 
     def pulls(self, moment: int, device: int = 0) -> Iterator[Packet]:
@@ -140,10 +155,12 @@ class Router:
         """Pulls the device one tick apart, from one tick after the counted moment, until all that is left for it came out.
 
         The pulls are made as packets are asked for. Where `pulls` is given it is how many are made in a row that give none, before
-        the iterator ends with some left.
+        the iterator ends with some left; one that isn't from 0 to 2^64 - 1 raises `ValueError`.
         """
+        return self._drained(device, self._most_pulls(pulls))
+
+    def _drained(self, device: int, most: int) -> Iterator[Departure]:
         departure, given = library.Departure(), ctypes.c_size_t()
-        most = _ALL_PULLS if pulls is None else pulls
         while True:
             self._need_open()
             self._need_device(device)
@@ -219,6 +236,14 @@ class Router:
     def _need_device(device: int) -> None:
         if not 0 <= device < _END_OF_NUMBERS:
             raise UnknownDevice(f"there is no device {device}")
+
+    @staticmethod
+    def _most_pulls(pulls: int | None) -> int:
+        if pulls is None:
+            return _ALL_PULLS
+        if not 0 <= pulls <= _ALL_PULLS:
+            raise ValueError(f"a count of pulls is from 0 to {_ALL_PULLS}, and not {pulls}")
+        return pulls
 
     @staticmethod
     def _need_moment(moment: int) -> None:

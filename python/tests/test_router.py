@@ -4,6 +4,7 @@ import gc
 import pickle
 from collections.abc import Callable
 from concurrent.futures import ThreadPoolExecutor
+from typing import Any
 
 import pytest
 
@@ -44,6 +45,12 @@ def test_a_text_is_refused(text: str | bytes, number: int) -> None:
     assert raised.value.number == number
 
 
+@pytest.mark.parametrize("text", [5, None, [97], object()])
+def test_a_text_is_str_or_bytes(text: Any) -> None:
+    with pytest.raises(TypeError, match="a text is str or bytes"):
+        Router(text)
+
+
 def test_packets_are_offered_and_pulled() -> None:
     with Router(ONE) as router:
         assert router.pull(0) is None
@@ -78,6 +85,32 @@ def test_where_one_of_many_cannot_be_none_is_offered() -> None:
         with pytest.raises(BadLength):
             router.offer_many([(4, 10), (4, 0)])
         assert router.left() == 0
+
+
+@pytest.mark.parametrize("count", [3, 1 << 40, 1 << 70])
+def test_a_count_may_be_more_than_is_left(count: int) -> None:
+    with Router(ONE) as router:
+        router.offer_many([(4, 10), (4, 11)])
+        assert [it.length for it in router.pull_many(0, count)] == [10, 11]
+        assert router.pull_many(5, count) == [] and router.moment() == 5
+
+
+def test_a_count_may_not_be_negative() -> None:
+    with Router(ONE) as router, pytest.raises(ValueError):
+        router.pull_many(0, -1)
+
+
+@pytest.mark.parametrize("pulls", [-1, 1 << 64])
+def test_a_count_of_pulls_out_of_range(pulls: int) -> None:
+    with Router(ONE) as router, pytest.raises(ValueError):
+        router.drain(0, pulls)
+
+
+def test_counts_of_pulls_in_range() -> None:
+    with Router(ONE) as router:
+        router.offer(4, 10)
+        assert list(router.drain(0, 0)) == []
+        assert [it.moment for it in router.drain(0, (1 << 64) - 1)] == [1]
 
 
 def test_pulls_go_up_to_none() -> None:
