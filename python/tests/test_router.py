@@ -8,6 +8,7 @@ from typing import Any
 
 import pytest
 
+import interrupts
 from clickpull import (
     END_OF_MOMENTS,
     AtEnd,
@@ -24,6 +25,7 @@ from clickpull import (
     UnknownDevice,
     UnknownSender,
 )
+from clickpull.library import LIBRARY, RouterHandle
 
 ONE = "a :: Sender(4); q :: FrontDropQueue(2); d :: ToDevice(link); a -> q -> d;"
 SHAPED = "a :: Sender(0); q :: Queue(9); s :: Shaper(1); d :: ToDevice(link); a -> q -> s -> d;"
@@ -247,6 +249,63 @@ def test_threads_may_share_a_router() -> None:
         numbers = [it for given in pool.map(offer_all, range(threads)) for it in given]
         assert sorted(numbers) == list(range(threads * packets))
         assert [it.number for it in router.pulls(0)] == list(range(threads * packets))
+
+
+@pytest.fixture
+def shut(monkeypatch: pytest.MonkeyPatch) -> list[int]:
+    """Where the routers stood that the library was told to close, instead of which it keeps them."""
+    closed: list[int] = []
+
+    def close(handle: RouterHandle) -> None:
+        assert handle.at
+        closed.append(handle.at)
+
+    monkeypatch.setattr(LIBRARY, "clk_router_close", close)
+    return closed
+
+
+def test_a_router_may_be_shut_while_it_is_called(shut: list[int]) -> None:
+    """At each bytecode of a call another thread may shut the router. The library closes it when no call will use it any more."""
+    calls: list[Callable[[Router], object]] = [
+        lambda it: it.offer(4, 10),
+        lambda it: it.offer_many([(4, 10)]),
+        lambda it: it.pull(0),
+        lambda it: it.pull_many(0, 2),
+        lambda it: list(it.drain()),
+        Router.due,
+        Router.left,
+        Router.accounts,
+        Router.queues,
+    ]
+    for call in calls:
+        for at in interrupts.each(lambda: router.close()):
+            router = Router(ONE)
+            shut.clear()
+            with at:
+                try:
+                    call(router)
+                except Shut:
+                    assert at.done
+            router.close()
+            assert len(shut) == 1
+
+
+@pytest.mark.filterwarnings("ignore::pytest.PytestUnraisableExceptionWarning")
+def test_a_router_is_closed_once(shut: list[int]) -> None:
+    """An interrupt at any bytecode of closing, after which a caller closes again, closes no router twice."""
+    for at in interrupts.each(interrupts.interrupt):
+        router = Router(ONE)
+        shut.clear()
+        try:
+            with at:
+                router.close()
+        except KeyboardInterrupt:
+            pass
+        router.close()
+        assert router.closed
+        del router
+        assert len(shut) <= 1
+    assert len(shut) == 1
 
 
 def test_routers_are_let_go_of() -> None:
