@@ -1,222 +1,129 @@
-/* Shapes a capture: reads its frames, sorts them to the senders of a tree, offers each at its time, pulls the tree at the rate of a link,
- * and writes a capture with the times at which they left. This is C over libpcap, and no part of what is proved.
+/* Shapes a capture: reads its frames, sorts them to the senders of a tree, offers each at its time, pulls each device at the rate of its
+ * link, and writes a capture with the times at which they left. This is C over libpcap, and no part of what is proved.
  *
  *     shape TREE TABLE RATE IN OUT
  *
- * RATE is that of the link, in bits a second. A tick of the tree is a microsecond, the first frame's being tick 0. The link takes a frame
- * as soon as it is through with the one before; a frame leaves when its last byte has gone, and that is its time in OUT. Frames that fit no
- * line of the table, or are no IP, are left out. The answer has a line for each sender: frames and bytes that came, were lost in its queue,
- * and left, its share of the bytes that came and that left, in percent, and the longest that one of its frames was on its way, in
- * milliseconds. */
+ * Each device of the tree is a link of its own. RATE is that of each link, in bits a second, as 8000000, 8000k or 8M. A tick of the tree is
+ * a microsecond, the first frame's being tick 0. A link takes a frame as soon as it is through with the one before. A frame leaves when its
+ * last byte has gone, and that is its time in OUT, which has the frames of all links in the order in which they left. A frame of more than
+ * 65,535 bytes counts as one of 65,535. Frames that fit no line of the table, are no IP, or have length 0, are left out and counted.
+ *
+ * The report has a line for each sender: frames and bytes that came, were lost in its queue, and left, its share of the bytes that came and
+ * that left, in percent, and the longest that one of its frames was on its way, in milliseconds. It goes to standard output, or to standard
+ * error where the capture goes to standard output. Exit status 1 says that something is wrong, or that IN is cut. */
+#include "captures.h"
 #include "clickpull.h"
 #include "ends.h"
 #include "kept.h"
+#include "links.h"
+#include "rate.h"
+#include "report.h"
 #include "table.h"
+#include "told.h"
 
-#include <inttypes.h>
-#include <stdarg.h>
+#include <errno.h>
 #include <stdio.h>
-#include <stdlib.h>
 #include <string.h>
 
-enum { NUMBERS = 65536 };
-
-static const uint64_t MICROSECONDS = 1000000;
+enum { MOST_TEXT = 1 << 20 };
 
 struct shaper {
     clk_router router;
     struct table table;
-    uint64_t rate;
-    pcap_t *in;
-    pcap_dumper_t *out;
-    enum link link;
-    struct timeval first;       /* the time of the first frame */
-    uint64_t free_at;           /* when the link is through with its frame, in microseconds, as all times below */
-    struct kept kept[NUMBERS];  /* by senders' numbers */
-    uint64_t slowest[NUMBERS];  /* the longest way of a frame that left */
-    uint64_t unsorted;          /* how many frames were left out */
+    struct captures captures;
+    struct links links;
+    uint64_t left_out; /* how many frames */
 };
 
-__attribute__((noreturn, format(printf, 1, 2))) static void stop(const char *format, ...) {
-    va_list rest;
-    va_start(rest, format);
-    fprintf(stderr, "shape: ");
-    vfprintf(stderr, format, rest);
-    fprintf(stderr, "\n");
-    va_end(rest);
-    exit(1);
+static void open_table(struct shaper *shaper, const char *path) {
+    int wrong = read_table(path, &shaper->table);
+    if (wrong < 0)
+        stop("%s: %s", path, strerror(errno));
+    if (wrong > 0)
+        stop("%s: line %d isn't SENDER ADDRESS PORT", path, wrong);
 }
 
 static void open_router(struct shaper *shaper, const char *path) {
-    static char text[1 << 20];
+    // One byte more than the library takes, so that it refuses a text that is longer.
+    static char text[MOST_TEXT + 1];
     clk_fault fault;
     FILE *file = fopen(path, "rb");
     if (!file)
-        stop("%s can't be read", path);
+        stop("%s: %s", path, strerror(errno));
     size_t length = fread(text, 1, sizeof text, file);
+    if (ferror(file))
+        stop("%s: %s", path, strerror(errno));
     fclose(file);
     if (clk_open(text, length, &shaper->router, &fault) != CLK_OK)
         stop("%s: fault %u: %s at byte %u", path, fault.number, clk_fault_name(fault.number), fault.offset);
 }
 
-static void open_captures(struct shaper *shaper, const char *in, const char *out) {
-    char why[PCAP_ERRBUF_SIZE];
-    shaper->in = pcap_open_offline(in, why);
-    if (!shaper->in)
-        stop("%s", why);
-    int link = pcap_datalink(shaper->in);
-    if (link != DLT_EN10MB && link != DLT_RAW)
-        stop("%s: its frames are neither Ethernet nor bare IP", in);
-    shaper->link = link == DLT_EN10MB ? ETHERNET : BARE;
-    shaper->out = pcap_dump_open(shaper->in, out);
-    if (!shaper->out)
-        stop("%s", pcap_geterr(shaper->in));
+/* Stops if the table has a sender that the tree lacks. */
+static void match_senders(const struct shaper *shaper, const char *tree, const char *table) {
+    static char is_in_tree[NUMBERS];
+    clk_account it;
+    for (size_t place = 0; clk_account_at(&shaper->router, place, &it) == CLK_OK; place++)
+        is_in_tree[it.sender] = 1;
+    for (size_t i = 0; i < shaper->table.length; i++)
+        if (!is_in_tree[shaper->table.lines[i].sender])
+            stop("%s: sender %u isn't in %s", table, shaper->table.lines[i].sender, tree);
 }
 
-/* The time of a frame, in microseconds from the first on. One that is before it counts as that. */
-static uint64_t time_of(const struct shaper *shaper, const struct pcap_pkthdr *header) {
-    int64_t whole = (int64_t)header->ts.tv_sec - shaper->first.tv_sec;
-    int64_t all = whole * (int64_t)MICROSECONDS + header->ts.tv_usec - shaper->first.tv_usec;
-    return all < 0 ? 0 : (uint64_t)all;
-}
-
-/* How long a frame takes on the link. */
-static uint64_t on_link(const struct shaper *shaper, uint64_t bytes) {
-    return (bytes * 8 * MICROSECONDS + shaper->rate - 1) / shaper->rate;
-}
-
-static void write_frame(struct shaper *shaper, struct frame *frame, uint64_t at) {
-    uint64_t all = (uint64_t)shaper->first.tv_usec + at;
-    frame->header.ts.tv_sec = shaper->first.tv_sec + (time_t)(all / MICROSECONDS);
-    frame->header.ts.tv_usec = (suseconds_t)(all % MICROSECONDS);
-    pcap_dump((u_char *)shaper->out, &frame->header, frame->bytes);
-}
-
-/* The link takes a frame now, if the tree gives one, and else looks again a tick later. */
-static void pull(struct shaper *shaper) {
-    clk_packet packet;
-    clk_status status = clk_pull(&shaper->router, 0, shaper->free_at, &packet);
-    if (status == CLK_NONE) {
-        shaper->free_at++;
-        return;
-    }
-    if (status != CLK_OK)
-        stop("a pull at %" PRIu64 ": %s", shaper->free_at, clk_status_text(status));
-    struct frame *frame = take(&shaper->kept[packet.sender], packet.number);
-    if (!frame)
-        stop("a frame came out that wasn't offered");
-    shaper->free_at += on_link(shaper, packet.length);
-    uint64_t way = shaper->free_at - frame->came;
-    if (way > shaper->slowest[packet.sender])
-        shaper->slowest[packet.sender] = way;
-    write_frame(shaper, frame, shaper->free_at);
-    free(frame);
-}
-
-static int is_waiting(const struct shaper *shaper) {
-    uint64_t left = 0;
-    clk_left(&shaper->router, 0, &left);
-    return left > 0;
-}
-
-/* Lets the link work up to a moment. */
-static void work_until(struct shaper *shaper, uint64_t moment) {
-    while (shaper->free_at < moment && is_waiting(shaper))
-        pull(shaper);
-    if (shaper->free_at < moment)
-        shaper->free_at = moment;
-}
-
-static void offer(struct shaper *shaper, uint16_t sender, struct frame *frame) {
-    clk_offered offered;
-    uint16_t length = frame->header.len > UINT16_MAX ? UINT16_MAX : (uint16_t)frame->header.len;
-    clk_status status = clk_offer(&shaper->router, sender, length, &offered);
-    if (status != CLK_OK)
-        stop("an offer of sender %u: %s", sender, clk_status_text(status));
-    if (offered.outcome == CLK_EVICTED)
-        free(take(&shaper->kept[offered.evicted.sender], offered.evicted.number));
-    frame->number = offered.packet.number;
-    if (offered.outcome == CLK_REFUSED)
-        free(frame);
-    else
-        keep(&shaper->kept[sender], frame);
-}
-
-static void arrive(struct shaper *shaper, const struct pcap_pkthdr *header, const u_char *bytes) {
+/* The number of a frame's sender; -1 if the frame is left out. */
+static int sender_of_frame(const struct shaper *shaper, const struct pcap_pkthdr *header, const u_char *bytes) {
     struct ends ends;
-    uint64_t came = time_of(shaper, header);
-    int sender = read_ends(shaper->link, bytes, header->caplen, &ends) ? sender_of(&shaper->table, &ends) : -1;
+    if (header->len == 0 || !read_ends(shaper->captures.link, bytes, header->caplen, &ends))
+        return -1;
+    return sender_of(&shaper->table, &ends);
+}
+
+static void arrive(struct shaper *shaper, const struct pcap_pkthdr *header, const u_char *bytes, uint64_t came) {
+    int sender = sender_of_frame(shaper, header, bytes);
     if (sender < 0) {
-        shaper->unsorted++;
+        shaper->left_out++;
         return;
     }
-    work_until(shaper, came);
+    work_until(&shaper->links, came);
     struct frame *frame = copy_frame(header, bytes, came);
     if (!frame)
         stop("no memory");
-    offer(shaper, (uint16_t)sender, frame);
+    offer(&shaper->links, (uint16_t)sender, frame);
 }
 
 static void run(struct shaper *shaper) {
     struct pcap_pkthdr *header;
     const u_char *bytes;
-    int got, many = 0;
-    while ((got = pcap_next_ex(shaper->in, &header, &bytes)) == 1) {
-        if (many++ == 0)
-            shaper->first = header->ts;
-        arrive(shaper, header, bytes);
-    }
-    if (got == PCAP_ERROR)
-        stop("%s", pcap_geterr(shaper->in));
-    while (is_waiting(shaper))
-        pull(shaper);
+    uint64_t came;
+    while (read_frame(&shaper->captures, &header, &bytes, &came))
+        arrive(shaper, header, bytes, came);
+    finish_links(&shaper->links);
 }
 
-static clk_total plus(clk_total one, clk_total other) {
-    return (clk_total){one.packets + other.packets, one.bytes + other.bytes};
-}
-
-static double percent(uint64_t part, uint64_t whole) {
-    return whole == 0 ? 0 : 100.0 * (double)part / (double)whole;
-}
-
-static void report_one(const struct shaper *shaper, const clk_account *it, uint64_t in, uint64_t out) {
-    clk_total came = plus(it->accepted, it->refused), lost = plus(it->refused, it->evicted);
-    printf("sender %u: came %" PRIu64 " %" PRIu64 ", lost %" PRIu64 " %" PRIu64 ", left %" PRIu64 " %" PRIu64, it->sender, came.packets,
-           came.bytes, lost.packets, lost.bytes, it->emitted.packets, it->emitted.bytes);
-    printf(", share in %.1f, out %.1f, slowest %.1f\n", percent(came.bytes, in), percent(it->emitted.bytes, out),
-           (double)shaper->slowest[it->sender] / 1000);
-}
-
-static void report(const struct shaper *shaper) {
-    clk_account it;
-    uint64_t in = 0, out = 0;
-    size_t senders = clk_senders(&shaper->router);
-    for (size_t place = 0; place < senders && clk_account_at(&shaper->router, place, &it) == CLK_OK; place++) {
-        in += it.accepted.bytes + it.refused.bytes;
-        out += it.emitted.bytes;
-    }
-    for (size_t place = 0; place < senders && clk_account_at(&shaper->router, place, &it) == CLK_OK; place++)
-        report_one(shaper, &it, in, out);
-    printf("left out: %" PRIu64 "\n", shaper->unsorted);
+/* Writes the report to standard output, unless the capture went there. */
+static void tell(const struct shaper *shaper) {
+    int is_taken = shaper->captures.is_standard;
+    FILE *file = is_taken ? stderr : stdout;
+    report(file, &shaper->router, shaper->links.slowest, shaper->left_out);
+    stop_unless_stored(file, is_taken ? "standard error" : "standard output");
 }
 
 int main(int argc, char **argv) {
     static struct shaper shaper;
     if (argc != 6)
         stop("usage: shape TREE TABLE RATE IN OUT");
-    shaper.rate = strtoull(argv[3], NULL, 10);
-    if (shaper.rate == 0)
-        stop("a rate is one bit a second at least");
-    int wrong = read_table(argv[2], &shaper.table);
-    if (wrong != 0)
-        stop(wrong < 0 ? "%s can't be read" : "%s: line %d isn't SENDER ADDRESS PORT", argv[2], wrong);
+    uint64_t rate;
+    if (!read_rate(argv[3], &rate))
+        stop("'%s' isn't a rate: bits a second from 1 on, as 8000000, 8000k or 8M", argv[3]);
+    open_table(&shaper, argv[2]);
     open_router(&shaper, argv[1]);
-    open_captures(&shaper, argv[4], argv[5]);
+    match_senders(&shaper, argv[1], argv[2]);
+    open_in(&shaper.captures, argv[4]);
+    open_out(&shaper.captures, argv[5], argv + 1, 2);
+    open_links(&shaper.links, &shaper.router, &shaper.captures, rate);
     run(&shaper);
-    report(&shaper);
-    pcap_dump_close(shaper.out);
-    pcap_close(shaper.in);
+    close_out(&shaper.captures);
+    tell(&shaper);
     clk_close(&shaper.router);
-    return 0;
+    free_table(&shaper.table);
+    return close_in(&shaper.captures);
 }

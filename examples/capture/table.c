@@ -5,6 +5,7 @@
 #include "table.h"
 
 #include <arpa/inet.h>
+#include <errno.h>
 #include <stdio.h>
 #include <stdlib.h>
 #include <string.h>
@@ -57,36 +58,69 @@ static int read_ports(const char *text, struct line *line) {
     return *text == 0 && first <= last;
 }
 
-/* Reads a line: 1 where it is one, 0 where it is blank, -1 else. */
-static int read_line(char *text, struct line *line) {
-    char address[64], ports[16], more[2];
-    unsigned sender;
+/* Reads a line of `size` bytes: 1 where it is one, 0 where it is blank, -1 else. */
+static int read_line(char *text, size_t size, struct line *line) {
+    static const char blanks[] = " \t\r\n";
+    unsigned long number;
     memset(line, 0, sizeof *line);
-    text[strcspn(text, "#\n")] = 0;
-    if (strspn(text, " \t\r") == strlen(text))
-        return 0;
-    if (sscanf(text, "%5u %63s %15s %1s", &sender, address, ports, more) != 3 || sender > 65535)
+    if (strlen(text) != size)
         return -1;
-    line->sender = (uint16_t)sender;
+    text[strcspn(text, "#")] = 0;
+    char *rest, *sender = strtok_r(text, blanks, &rest);
+    if (!sender)
+        return 0;
+    char *address = strtok_r(NULL, blanks, &rest), *ports = strtok_r(NULL, blanks, &rest);
+    const char *digits = sender;
+    if (!ports || strtok_r(NULL, blanks, &rest) || !read_number(&digits, 65535, &number) || *digits != 0)
+        return -1;
+    line->sender = (uint16_t)number;
     return read_address(address, line) && read_ports(ports, line) ? 1 : -1;
 }
 
+/* Makes room for one more line, by doubling. Returns 0 if memory is refused. */
+static int make_room(struct table *table) {
+    if (table->length < table->room)
+        return 1;
+    size_t room = table->room == 0 ? 16 : table->room * 2;
+    struct line *lines = realloc(table->lines, room * sizeof *lines);
+    if (!lines)
+        return 0;
+    table->lines = lines;
+    table->room = room;
+    return 1;
+}
+
+/* Reads the lines of a file, and answers as read_table does. `text` is memory for a line, which getline makes longer. */
+static int read_lines(FILE *file, char **text, struct table *table) {
+    size_t room = 0;
+    ssize_t size;
+    errno = 0;
+    for (int number = 1; (size = getline(text, &room, file)) >= 0; number++) {
+        if (!make_room(table))
+            return -1;
+        int is_line = read_line(*text, (size_t)size, &table->lines[table->length]);
+        if (is_line < 0)
+            return number;
+        table->length += (size_t)is_line;
+    }
+    return feof(file) ? 0 : -1;
+}
+
 int read_table(const char *path, struct table *table) {
-    char text[256];
+    char *text = NULL;
     FILE *file = fopen(path, "r");
     if (!file)
         return -1;
-    int wrong = 0;
-    table->length = 0;
-    for (int number = 1; wrong == 0 && fgets(text, sizeof text, file); number++) {
-        int is_line = table->length == MOST_LINES ? -1 : read_line(text, &table->lines[table->length]);
-        if (is_line < 0)
-            wrong = number;
-        else
-            table->length += (size_t)is_line;
-    }
+    int wrong = read_lines(file, &text, table), why = errno;
+    free(text);
     fclose(file);
+    errno = why;
     return wrong;
+}
+
+void free_table(struct table *table) {
+    free(table->lines);
+    *table = (struct table){0};
 }
 
 static int same_bits(const uint8_t *one, const uint8_t *other, unsigned bits) {

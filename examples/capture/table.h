@@ -13,17 +13,20 @@ struct line {
     uint16_t first_port, last_port;
 };
 
-enum { MOST_LINES = 256 };
-
+/* A table, of any length: `room` is how many lines have memory. */
 struct table {
-    struct line lines[MOST_LINES];
-    size_t length;
+    struct line *lines;
+    size_t length, room;
 };
 
-/* Reads a table, and answers 0, or the number of the first line that is none, from 1; -1 where the file can't be read. */
+/* Reads a table into an empty one. Returns 0; the number of the first line that is none, from 1; or -1 if the file can't be read or memory
+ * is refused, which errno tells. */
 int read_table(const char *path, struct table *table);
 
-/* The sender of the first line that a packet fits; -1 where it fits none. */
+/* Frees the lines. */
+void free_table(struct table *table);
+
+/* The sender of the first line that a packet fits; -1 where it fits none. It looks at one line after the other. */
 int sender_of(const struct table *table, const struct ends *ends);
 
 #endif

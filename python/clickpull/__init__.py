@@ -13,8 +13,14 @@ tree in Click's language and are context managers::
 Lengths are in bytes, and moments in ticks. What can't be done raises an `Error`, and leaves all as it was. That a packet is refused,
 or that none comes, is no error.
 
-Any thread may use a router, or a `Carrier` with its router, but one call at a time: threads that share one use a lock. Calls hold
-Python's global lock.
+Threads may share a `Router` and a `Carrier` without a lock of their own. The library is called with Python's global lock held, so its
+calls come one after the other. A `Carrier` has a lock besides. One thread may close what another uses: the other's next call raises
+`Shut`. Calls that are several steps let other threads in between: iterators, where each packet is a step; `Router.accounts` and
+`Router.queues`, where each entry is one; and `Router.pull_many`, which first asks what is left. On a Python without the global lock
+threads that share a `Router` use a lock of their own.
+
+An interrupt, as by Ctrl-C, may come at any point of a call, and later calls work. `Carrier` says what became of the packet. Of a
+`Router`, accounts tell. A signal handler calls no `Carrier` that the code which it interrupts may be calling.
 """
 from clickpull.carrier import Carried, Carrier, Evicted, Offer
 from clickpull.errors import AtEnd, Error, BadLength, Shut, TextFault, UnknownDevice, UnknownSender

@@ -1,13 +1,14 @@
 """A router whose packets carry values of the caller's. It stands outside what is proved."""
-from collections import deque
-from collections.abc import Iterator
+from collections.abc import Callable, Iterator
 from dataclasses import dataclass
+from threading import RLock
 from types import TracebackType
 from typing import Generic, TypeVar
 
-from clickpull.errors import Shut, UnknownSender
+from clickpull import library
+from clickpull.errors import Error, UnknownDevice, UnknownSender
 from clickpull.router import Router
-from clickpull.values import Packet
+from clickpull.values import Outcome, Packet
 
 T = TypeVar("T")
 
@@ -38,17 +39,42 @@ class Offer(Generic[T]):
     evicted: Evicted[T] | None
 
 
+def _packet(it: library.Packet) -> Packet:
+    return Packet(it.sender, it.number, it.length)
+
+
 class Carrier(Generic[T]):
     """A router that takes a value with each packet, and gives it back with it.
 
-    Values are kept in a list for each sender, and taken from its front: packets of one sender come out in the order in which they were
-    offered. A value that is refused isn't kept.
+    A call may be interrupted at any point, as Ctrl-C does by `KeyboardInterrupt`. No value then goes with another packet, and later
+    calls work. What an interrupted call means for its caller:
+
+    - `offer`: the packet may or may not have been offered. If it was, its value goes with it. Accounts of the router tell: a sender
+      has offered what was accepted and what was refused. A value that was refused or evicted is let go of.
+    - `pull`, `pulls` and `drain`: the next of these calls for the device gives the packet that was pulled, with the moment of that
+      pull. If the interrupt came after the value was taken out, as the call returned, the packet and its value are lost to the caller.
+    - `close`: calling it again shuts the router.
+
+    No value is given twice.
     """
+
+    # Values are found by sender and number. A value is stored before its packet is offered, and the library writes what it did into
+    # structures that stay, in the call that does it. So what was done is known after an interrupt, too:
+    #
+    # - The next number of a sender is the one after that of its latest offer. A value whose offer was interrupted before it was made
+    #   stands under this number, and the next offer's value takes its place.
+    # - A packet that the latest pull of a device emitted was given to the caller if its value isn't here any more.
+    #
+    # The lock keeps other threads out. A thread may take it again, so that an interrupt can't block the thread that it comes to.
 
     def __init__(self, text: str | bytes) -> None:
         """Makes a router of a text. Raises `TextFault` where it has one, and `MemoryError`."""
         self._router = Router(text)
-        self._lists: dict[int, deque[tuple[int, T]]] = {it.sender: deque() for it in self._router.accounts()}
+        self._lock = RLock()
+        self._values: dict[tuple[int, int], T] = {}
+        self._places = {it.sender: place for place, it in enumerate(self._router.accounts())}
+        self._offers = {sender: library.Offered() for sender in self._places}
+        self._pulled = [library.Departure() for _ in range(self._router.devices)]
 
     @property
     def router(self) -> Router:
@@ -57,8 +83,9 @@ class Carrier(Generic[T]):
 
     def close(self) -> None:
         """Shuts the router, and lets go of all values."""
-        self._router.close()
-        self._lists.clear()
+        with self._lock:
+            self._router.close()
+            self._values.clear()
 
     def __enter__(self) -> "Carrier[T]":
         return self
@@ -68,18 +95,27 @@ class Carrier(Generic[T]):
 
     def offer(self, sender: int, length: int, value: T) -> Offer[T]:
         """The sender offers its next packet, of so many bytes, with this value."""
-        it = self._router.offer(sender, length)
-        evicted = Evicted(it.evicted, self._take(it.evicted)) if it.evicted else None
-        if it.accepted:
-            self._lists[sender].append((it.packet.number, value))
-        return Offer(it.packet, it.accepted, evicted)
+        with self._lock:
+            it = self._latest_offer(sender, length)
+            key = sender, it.packet.number + 1 if it.packet.length else 0
+            self._values[key] = value
+            try:
+                self._router._offer(sender, length, it)
+            except Error:
+                del self._values[key]
+                raise
+            evicted: Evicted[T] | None = None
+            if it.outcome == Outcome.EVICTED:
+                packet = _packet(it.evicted)
+                evicted = Evicted(packet, self._values.pop(packet[:2]))
+            elif it.outcome == Outcome.REFUSED:
+                del self._values[key]
+            return Offer(_packet(it.packet), it.outcome != Outcome.REFUSED, evicted)
 
     def pull(self, moment: int, device: int = 0) -> Carried[T] | None:
         """Pulls the device once, at this moment in ticks or, where that is later, at the greatest so far."""
-        packet = self._router.pull(moment, device)
-        if packet is None:
-            return None
-        return Carried(packet, self._router.moment(device), self._take(packet))
+        self._router._need_moment(moment)
+        return self._next(device, lambda it: self._router._pull(moment, device, it.packet))
 
     def pulls(self, moment: int, device: int = 0) -> Iterator[Carried[T]]:
         """Pulls the device at this moment, once for each packet that is asked for, up to the first pull that gives none."""
@@ -88,23 +124,50 @@ class Carrier(Generic[T]):
 
     def drain(self, device: int = 0, pulls: int | None = None) -> Iterator[Carried[T]]:
         """Pulls the device one tick apart until all that is left for it came out, as `Router.drain` does."""
-        for moment, packet in self._router.drain(device, pulls):
-            yield Carried(packet, moment, self._take(packet))
+        return self._drained(device, self._router._most_pulls(pulls))
+
+    def _drained(self, device: int, most: int) -> Iterator[Carried[T]]:
+        while (it := self._next(device, lambda departure: self._router._drain(device, most, departure))) is not None:
+            yield it
 
     def kept(self, sender: int) -> int:
-        """How many values of a sender are here: in its queue, or held by a scheduler."""
-        if self._router.closed:
-            raise Shut("the router is shut")
-        if sender not in self._lists:
-            raise UnknownSender(f"there is no sender {sender}")
-        return len(self._lists[sender])
+        """How many values of a sender are here: in its queue, held by a scheduler, or pulled by a call that was interrupted."""
+        with self._lock:
+            self._router._need_open()
+            if sender not in self._places:
+                raise UnknownSender(f"there is no sender {sender}")
+            it = self._router._account(self._places[sender])
+            waiting = sum(pulled.packet.sender == sender and self._is_waiting(pulled.packet) for pulled in self._pulled)
+            return it.accepted.packets - it.evicted.packets - it.emitted.packets + waiting
 
-    def _take(self, packet: Packet) -> T:
-        """Takes out the value of a packet, which stands at the front of its sender's list, or is put out behind those that schedulers hold."""
-        kept = self._lists[packet.sender]
-        if kept[0][0] == packet.number:
-            return kept.popleft()[1]
-        place = next(place for place, (number, _) in enumerate(kept) if number == packet.number)
-        value = kept[place][1]
-        del kept[place]
-        return value
+    def _latest_offer(self, sender: int, length: int) -> library.Offered:
+        """What became of a sender's latest offer, whose value is let go of where that offer was interrupted before it could be."""
+        self._router._need_open()
+        self._router._need_offer(sender, length)
+        if sender not in self._offers:
+            raise UnknownSender(f"there is no sender {sender}")
+        it = self._offers[sender]
+        if it.outcome != Outcome.ACCEPTED:
+            gone = _packet(it.packet if it.outcome == Outcome.REFUSED else it.evicted)[:2]
+            if gone in self._values:
+                del self._values[gone]
+        return it
+
+    def _next(self, device: int, pull: Callable[[library.Departure], bool]) -> Carried[T] | None:
+        """The packet that an interrupted call pulled of the device, and else the one that this call pulls."""
+        with self._lock:
+            self._router._need_open()
+            if not 0 <= device < len(self._pulled):
+                raise UnknownDevice(f"there is no device {device}")
+            it = self._pulled[device]
+            if not self._is_waiting(it.packet) and not pull(it):
+                return None
+            packet = _packet(it.packet)
+            carried = Carried(packet, self._router.moment(device), self._values[packet[:2]])
+            # From here the packet is given.
+            del self._values[packet[:2]]
+            return carried
+
+    def _is_waiting(self, it: library.Packet) -> bool:
+        """Whether a packet was pulled and not yet given. There is none of length 0 before the first pull."""
+        return it.length != 0 and (it.sender, it.number) in self._values

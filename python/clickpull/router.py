@@ -34,6 +34,24 @@ def _departure(it: library.Departure) -> Departure:
     return Departure(it.moment, _packet(it.packet))
 
 
+def _code(text: str | bytes) -> bytes:
+    """A text as the library takes it."""
+    if isinstance(text, str):
+        return text.encode()
+    if not isinstance(text, (bytes, bytearray, memoryview)):
+        raise TypeError(f"a text is str or bytes, and not {type(text).__name__}")
+    return bytes(text)
+
+
+class _Handle(library.RouterHandle):
+    """A router in the library's hands. It is closed when nothing refers to it, and so never while a call of another thread uses it."""
+
+    def __del__(self) -> None:
+        # Python calls this once. An interrupt before the call of the library leaves the memory until the process ends.
+        if self.at:
+            LIBRARY.clk_router_close(self)
+
+
 class Router:
     """The router of a tree in Click's language.
 
@@ -43,38 +61,32 @@ class Router:
 
     def __init__(self, text: str | bytes) -> None:
         """Makes a router of a text. Raises `TextFault` where it has one, and `MemoryError`."""
-        self._handle = library.RouterHandle(None)
-        self._router = byref(self._handle)
-        code = text.encode() if isinstance(text, str) else bytes(text)
+        code = _code(text)
+        handle = _Handle(None)
         fault = library.Fault()
         array = (ctypes.c_uint8 * max(len(code), 1)).from_buffer_copy(code or b"\0")
-        if LIBRARY.clk_router_open(array, len(code), self._router, byref(fault)) != library.OK:
+        if LIBRARY.clk_router_open(array, len(code), handle, byref(fault)) != library.OK:
             if fault.number == 1:
                 raise MemoryError("clickpull: a router's memory was refused")
             raise TextFault(fault.number, fault.offset, code)
+        self._handle: _Handle | None = handle
         self._senders = frozenset(it.sender for it in self.accounts())
 
     # How it ends.
 
     def close(self) -> None:
-        """Shuts it, and gives back all that it has."""
-        handle = getattr(self, "_handle", None)
-        if handle and handle.at:
-            LIBRARY.clk_router_close(handle)
-            handle.at = None
+        """Shuts it, and gives back all that it has, once no call of another thread uses it."""
+        self._handle = None
 
     @property
     def closed(self) -> bool:
         """Whether it is shut."""
-        return not self._handle.at
+        return self._handle is None
 
     def __enter__(self) -> "Router":
         return self
 
     def __exit__(self, kind: type[BaseException] | None, error: BaseException | None, trace: TracebackType | None) -> None:
-        self.close()
-
-    def __del__(self) -> None:
         self.close()
 
     def __reduce__(self) -> NoReturn:
@@ -84,18 +96,22 @@ class Router:
 
     def offer(self, sender: int, length: int) -> Offered:
         """The sender offers its next packet, of so many bytes, to its queue, and what became of it is answered."""
-        self._need_open()
-        self._need_offer(sender, length)
         offered = library.Offered()
-        self._need(LIBRARY.clk_router_offer(self._router, sender, length, byref(offered)))
+        self._offer(sender, length, offered)
         return _offered(offered)
+
+    def _offer(self, sender: int, length: int, offered: library.Offered) -> None:
+        """Offers a packet, and fills `offered` in the same call of the library."""
+        handle = self._need_open()
+        self._need_offer(sender, length)
+        self._need(LIBRARY.clk_router_offer(handle, sender, length, byref(offered)))
 
     def offer_many(self, offers: Iterable[tuple[int, int]]) -> list[Offered]:
         """Offers many packets, each a sender and a length. Where one can't be offered, nothing is offered.
 
         Only that a sender's numbers are at their end isn't known beforehand: packets before that one have been offered then.
         """
-        self._need_open()
+        handle = self._need_open()
         wanted = list(offers)
         for sender, length in wanted:
             self._need_offer(sender, length)
@@ -106,29 +122,37 @@ class Router:
         array = (library.OfferOf * len(wanted))(*(library.OfferOf(sender, length) for sender, length in wanted))
         offered = (library.Offered * len(wanted))()
         done = ctypes.c_size_t()
-        self._need(LIBRARY.clk_router_offer_many(self._router, array, len(array), offered, len(offered), byref(done)))
+        self._need(LIBRARY.clk_router_offer_many(handle, array, len(array), offered, len(offered), byref(done)))
         return [_offered(it) for it in offered]
 
     # Pulls.
 
     def pull(self, moment: int, device: int = 0) -> Packet | None:
         """Pulls the device once, at this moment in ticks or, where that is later, at the greatest so far."""
-        self._need_open()
+        packet = library.Packet()
+        return _packet(packet) if self._pull(moment, device, packet) else None
+
+    def _pull(self, moment: int, device: int, packet: library.Packet) -> bool:
+        """Pulls the device once, fills `packet` in the same call of the library, and answers whether there is one."""
+        handle = self._need_open()
         self._need_device(device)
         self._need_moment(moment)
-        packet = library.Packet()
-        if self._is_none(LIBRARY.clk_router_pull(self._router, device, moment, byref(packet))):
-            return None
-        return _packet(packet)
+        return not self._is_none(LIBRARY.clk_router_pull(handle, device, moment, byref(packet)))
 
     def pull_many(self, moment: int, count: int, device: int = 0) -> list[Packet]:
-        """Pulls the device up to `count` times at this moment, up to the first pull that gives none, and answers the packets."""
-        self._need_open()
-        self._need_device(device)
+        """Pulls the device up to `count` times at this moment, up to the first pull that gives none, and answers the packets.
+
+        A `count` above what is left for the device allocates no more than one below it. A negative one raises `ValueError`.
+        """
+        if count < 0:
+            raise ValueError(f"a count of pulls is 0 or more, and not {count}")
+        handle = self._need_open()
         self._need_moment(moment)
-        packets = (library.Packet * max(count, 1))()
+        # One pull more than packets are left gives none, and is the last.
+        most = min(count, self.left(device) + 1)
+        packets = (library.Packet * max(most, 1))()
         given = ctypes.c_size_t()
-        self._is_none(LIBRARY.clk_router_pull_many(self._router, device, moment, packets, max(count, 0), byref(given)))
+        self._is_none(LIBRARY.clk_router_pull_many(handle, device, moment, packets, most, byref(given)))
         return [_packet(packets[i]) for i in range(given.value)]
 
     def pulls(self, moment: int, device: int = 0) -> Iterator[Packet]:
@@ -140,17 +164,22 @@ class Router:
         """Pulls the device one tick apart, from one tick after the counted moment, until all that is left for it came out.
 
         The pulls are made as packets are asked for. Where `pulls` is given it is how many are made in a row that give none, before
-        the iterator ends with some left.
+        the iterator ends with some left; one that isn't from 0 to 2^64 - 1 raises `ValueError`.
         """
-        departure, given = library.Departure(), ctypes.c_size_t()
-        most = _ALL_PULLS if pulls is None else pulls
-        while True:
-            self._need_open()
-            self._need_device(device)
-            self._is_none(LIBRARY.clk_router_drain(self._router, device, byref(departure), 1, most, byref(given)))
-            if given.value == 0:
-                return
+        return self._drained(device, self._most_pulls(pulls))
+
+    def _drained(self, device: int, most: int) -> Iterator[Departure]:
+        departure = library.Departure()
+        while self._drain(device, most, departure):
             yield _departure(departure)
+
+    def _drain(self, device: int, most: int, departure: library.Departure) -> bool:
+        """Drains the device of a packet, fills `departure` in the same call of the library, and answers whether there is one."""
+        handle = self._need_open()
+        self._need_device(device)
+        given = ctypes.c_size_t()
+        self._is_none(LIBRARY.clk_router_drain(handle, device, byref(departure), 1, most, byref(given)))
+        return given.value != 0
 
     # What there is.
 
@@ -160,10 +189,10 @@ class Router:
 
     def due(self, device: int = 0) -> int | None:
         """The earliest moment at which a pull of the device could give a packet, in ticks, as things stand; None if none is left for it."""
-        self._need_open()
+        handle = self._need_open()
         self._need_device(device)
         it = ctypes.c_uint64()
-        return None if self._is_none(LIBRARY.clk_router_due(self._router, device, byref(it))) else it.value
+        return None if self._is_none(LIBRARY.clk_router_due(handle, device, byref(it))) else it.value
 
     def left(self, device: int = 0) -> int:
         """How many packets are left for the device: in its queues, or held by its schedulers."""
@@ -172,41 +201,40 @@ class Router:
     @property
     def devices(self) -> int:
         """How many devices there are."""
-        self._need_open()
-        return int(LIBRARY.clk_router_devices(self._router))
+        return int(LIBRARY.clk_router_devices(self._need_open()))
 
     def accounts(self) -> list[Account]:
         """What became of the packets of each sender, by rising numbers of senders."""
-        self._need_open()
-        return [self._account(place) for place in range(LIBRARY.clk_router_senders(self._router))]
+        return [self._account(place) for place in range(LIBRARY.clk_router_senders(self._need_open()))]
 
     def queues(self) -> list[Queue]:
         """The queues, by number: in order of declaration."""
-        self._need_open()
-        return [self._queue(number) for number in range(LIBRARY.clk_router_queues(self._router))]
+        return [self._queue(number) for number in range(LIBRARY.clk_router_queues(self._need_open()))]
 
     def _account(self, place: int) -> Account:
         it = library.Account()
-        self._need(LIBRARY.clk_router_account(self._router, place, byref(it)))
+        self._need(LIBRARY.clk_router_account(self._need_open(), place, byref(it)))
         return Account(it.sender, it.queue, _total(it.accepted), _total(it.refused), _total(it.evicted), _total(it.emitted))
 
     def _queue(self, number: int) -> Queue:
         it = library.Queue()
-        self._need(LIBRARY.clk_router_queue(self._router, number, byref(it)))
+        self._need(LIBRARY.clk_router_queue(self._need_open(), number, byref(it)))
         return Queue(it.capacity, it.held, it.device, it.front_drop != 0)
 
     def _number(self, call: Callable[..., int], device: int) -> int:
-        self._need_open()
+        handle = self._need_open()
         self._need_device(device)
         it = ctypes.c_uint64()
-        self._need(call(self._router, device, byref(it)))
+        self._need(call(handle, device, byref(it)))
         return it.value
 
     # What can't be done. ctypes cuts numbers to what C has room for, so that they are looked at first.
 
-    def _need_open(self) -> None:
-        if not self._handle.at:
+    def _need_open(self) -> _Handle:
+        """The handle, which stays open for as long as the caller refers to it, though another thread shuts the router."""
+        if (handle := self._handle) is None:
             raise Shut("the router is shut")
+        return handle
 
     @staticmethod
     def _need_offer(sender: int, length: int) -> None:
@@ -219,6 +247,14 @@ class Router:
     def _need_device(device: int) -> None:
         if not 0 <= device < _END_OF_NUMBERS:
             raise UnknownDevice(f"there is no device {device}")
+
+    @staticmethod
+    def _most_pulls(pulls: int | None) -> int:
+        if pulls is None:
+            return _ALL_PULLS
+        if not 0 <= pulls <= _ALL_PULLS:
+            raise ValueError(f"a count of pulls is from 0 to {_ALL_PULLS}, and not {pulls}")
+        return pulls
 
     @staticmethod
     def _need_moment(moment: int) -> None:

@@ -4,9 +4,11 @@ import gc
 import pickle
 from collections.abc import Callable
 from concurrent.futures import ThreadPoolExecutor
+from typing import Any
 
 import pytest
 
+import interrupts
 from clickpull import (
     END_OF_MOMENTS,
     AtEnd,
@@ -23,6 +25,7 @@ from clickpull import (
     UnknownDevice,
     UnknownSender,
 )
+from clickpull.library import LIBRARY, RouterHandle
 
 ONE = "a :: Sender(4); q :: FrontDropQueue(2); d :: ToDevice(link); a -> q -> d;"
 SHAPED = "a :: Sender(0); q :: Queue(9); s :: Shaper(1); d :: ToDevice(link); a -> q -> s -> d;"
@@ -42,6 +45,12 @@ def test_a_text_is_refused(text: str | bytes, number: int) -> None:
     with pytest.raises(TextFault) as raised:
         Router(text)
     assert raised.value.number == number
+
+
+@pytest.mark.parametrize("text", [5, None, [97], object()])
+def test_a_text_is_str_or_bytes(text: Any) -> None:
+    with pytest.raises(TypeError, match="a text is str or bytes"):
+        Router(text)
 
 
 def test_packets_are_offered_and_pulled() -> None:
@@ -78,6 +87,32 @@ def test_where_one_of_many_cannot_be_none_is_offered() -> None:
         with pytest.raises(BadLength):
             router.offer_many([(4, 10), (4, 0)])
         assert router.left() == 0
+
+
+@pytest.mark.parametrize("count", [3, 1 << 40, 1 << 70])
+def test_a_count_may_be_more_than_is_left(count: int) -> None:
+    with Router(ONE) as router:
+        router.offer_many([(4, 10), (4, 11)])
+        assert [it.length for it in router.pull_many(0, count)] == [10, 11]
+        assert router.pull_many(5, count) == [] and router.moment() == 5
+
+
+def test_a_count_may_not_be_negative() -> None:
+    with Router(ONE) as router, pytest.raises(ValueError):
+        router.pull_many(0, -1)
+
+
+@pytest.mark.parametrize("pulls", [-1, 1 << 64])
+def test_a_count_of_pulls_out_of_range(pulls: int) -> None:
+    with Router(ONE) as router, pytest.raises(ValueError):
+        router.drain(0, pulls)
+
+
+def test_counts_of_pulls_in_range() -> None:
+    with Router(ONE) as router:
+        router.offer(4, 10)
+        assert list(router.drain(0, 0)) == []
+        assert [it.moment for it in router.drain(0, (1 << 64) - 1)] == [1]
 
 
 def test_pulls_go_up_to_none() -> None:
@@ -214,6 +249,63 @@ def test_threads_may_share_a_router() -> None:
         numbers = [it for given in pool.map(offer_all, range(threads)) for it in given]
         assert sorted(numbers) == list(range(threads * packets))
         assert [it.number for it in router.pulls(0)] == list(range(threads * packets))
+
+
+@pytest.fixture
+def shut(monkeypatch: pytest.MonkeyPatch) -> list[int]:
+    """Where the routers stood that the library was told to close, instead of which it keeps them."""
+    closed: list[int] = []
+
+    def close(handle: RouterHandle) -> None:
+        assert handle.at
+        closed.append(handle.at)
+
+    monkeypatch.setattr(LIBRARY, "clk_router_close", close)
+    return closed
+
+
+def test_a_router_may_be_shut_while_it_is_called(shut: list[int]) -> None:
+    """At each bytecode of a call another thread may shut the router. The library closes it when no call will use it any more."""
+    calls: list[Callable[[Router], object]] = [
+        lambda it: it.offer(4, 10),
+        lambda it: it.offer_many([(4, 10)]),
+        lambda it: it.pull(0),
+        lambda it: it.pull_many(0, 2),
+        lambda it: list(it.drain()),
+        Router.due,
+        Router.left,
+        Router.accounts,
+        Router.queues,
+    ]
+    for call in calls:
+        for at in interrupts.each(lambda: router.close()):
+            router = Router(ONE)
+            shut.clear()
+            with at:
+                try:
+                    call(router)
+                except Shut:
+                    assert at.done
+            router.close()
+            assert len(shut) == 1
+
+
+@pytest.mark.filterwarnings("ignore::pytest.PytestUnraisableExceptionWarning")
+def test_a_router_is_closed_once(shut: list[int]) -> None:
+    """An interrupt at any bytecode of closing, after which a caller closes again, closes no router twice."""
+    for at in interrupts.each(interrupts.interrupt):
+        router = Router(ONE)
+        shut.clear()
+        try:
+            with at:
+                router.close()
+        except KeyboardInterrupt:
+            pass
+        router.close()
+        assert router.closed
+        del router
+        assert len(shut) <= 1
+    assert len(shut) == 1
 
 
 def test_routers_are_let_go_of() -> None:
