@@ -1,6 +1,9 @@
 """Makes the libraries and the file for pkg-config. This is Python and no part of what is proved."""
 import os
 import subprocess
+import tempfile
+from collections import Counter
+from collections.abc import Iterator
 from dataclasses import dataclass
 from pathlib import Path
 
@@ -12,10 +15,10 @@ class Unmade(Exception):
     """Something couldn't be made: what is told of it."""
 
 
-def run(command: list[str | Path], given: str = "", environment: dict[str, str] | None = None) -> str:
-    """What a command writes, which is given a text to read, and more in its environment."""
+def run(command: list[str | Path], environment: dict[str, str] | None = None, folder: Path | None = None) -> str:
+    """What a command writes, which runs in a folder and has more in its environment."""
     more = {**os.environ, **(environment or {})}
-    done = subprocess.run([str(it) for it in command], input=given, capture_output=True, text=True, env=more)
+    done = subprocess.run([str(it) for it in command], stdin=subprocess.DEVNULL, capture_output=True, text=True, env=more, cwd=folder)
     if done.returncode != 0:
         raise Unmade(f"{' '.join(map(str, command))}\n{done.stdout}{done.stderr}")
     return done.stdout
@@ -29,11 +32,32 @@ class Archives:
     heap: Path
 
 
+def members(archive: Path, folder: Path) -> Iterator[Path]:
+    """Extracts the members of an archive to a folder. One whose name is taken there gets a number before its name."""
+    with tempfile.TemporaryDirectory(dir=folder) as below:
+        for name, count in Counter(run(["ar", "t", archive]).splitlines()).items():
+            for number in range(1, count + 1):
+                # An archive may have several members of one name: N says which is meant.
+                run(["ar", "xN", str(number), archive, name], folder=Path(below))
+                yield (Path(below) / name).rename(free(folder, name))
+
+
+def free(folder: Path, name: str) -> Path:
+    """A path of this name that isn't taken, with a number before the name where it has to be."""
+    path, number = folder / name, 1
+    while path.exists():
+        number += 1
+        path = folder / f"{number}-{name}"
+    return path
+
+
 def make_archive(archives: Archives, path: Path) -> None:
     """Makes one archive of the two, so that a program links it alone."""
     path.unlink(missing_ok=True)
-    run(["ar", "-MD"], f"create {path}\naddlib {archives.library}\naddlib {archives.heap}\nsave\nend\n")
-    run(["ranlib", "-D", path])
+    with tempfile.TemporaryDirectory(prefix="clickpull-archive-") as folder:
+        all_of_them = [it for archive in (archives.library, archives.heap) for it in members(archive.resolve(), Path(folder))]
+        run(["ar", "rcsD", path, *all_of_them])
+    path.chmod(0o644)
 
 
 def make_shared(archives: Archives, path: Path, exports: Path) -> None:
@@ -44,7 +68,8 @@ def make_shared(archives: Archives, path: Path, exports: Path) -> None:
 
 
 def pkg_config(prefix: str, include: str, library: str, version: str) -> str:
-    """What pkg-config reads."""
+    """What pkg-config reads. It takes a blank in a path for an end unless a backslash stands before."""
+    prefix, include, library = (it.replace(" ", "\\ ") for it in (prefix, include, library))
     return f"""prefix={prefix}
 includedir={include}
 libdir={library}
