@@ -53,11 +53,9 @@ def free(folder: Path, name: str) -> Path:
 
 def make_archive(archives: Archives, path: Path) -> None:
     """Makes one archive of the two, so that a program links it alone."""
-    path.unlink(missing_ok=True)
     with tempfile.TemporaryDirectory(prefix="clickpull-archive-") as folder:
         all_of_them = [it for archive in (archives.library, archives.heap) for it in members(archive.resolve(), Path(folder))]
         run(["ar", "rcsD", path, *all_of_them])
-    path.chmod(0o644)
 
 
 def make_shared(archives: Archives, path: Path, exports: Path) -> None:
