@@ -1,5 +1,6 @@
 """Makes the libraries and the file for pkg-config. This is Python and no part of what is proved."""
 import os
+import re
 import subprocess
 import tempfile
 from collections import Counter
@@ -9,6 +10,9 @@ from pathlib import Path
 
 # The number of the library's interface, which stands in the name that programs ask for.
 INTERFACE = 0
+
+# How the names of the toolchain's functions begin.
+HEAP = "rattle_"
 
 
 class Unmade(Exception):
@@ -26,10 +30,22 @@ def run(command: list[str | Path], environment: dict[str, str] | None = None, fo
 
 @dataclass(frozen=True)
 class Archives:
-    """The archive of the library, and the toolchain's that takes memory from the C library."""
+    """The archive of the library, and the toolchain's that takes memory from the C library, where the first doesn't have that too."""
 
     library: Path
-    heap: Path
+    heap: Path | None
+
+    @property
+    def all_of_them(self) -> list[Path]:
+        """The archives, as they are linked."""
+        return [it.resolve() for it in (self.library, self.heap) if it]
+
+
+def lacks_heap(archive: Path) -> bool:
+    """Whether an archive calls functions of the toolchain that it doesn't define. All of these take memory or free it."""
+    symbols = run(["nm", "-g", archive])
+    called, defined = (set(re.findall(rf" {kind} ({HEAP}\w+)$", symbols, re.MULTILINE)) for kind in ("U", "[A-TV-Z]"))
+    return bool(called - defined)
 
 
 def members(archive: Path, folder: Path) -> Iterator[Path]:
@@ -52,15 +68,14 @@ def free(folder: Path, name: str) -> Path:
 
 
 def make_archive(archives: Archives, path: Path) -> None:
-    """Makes one archive of the two, so that a program links it alone."""
+    """Makes one archive of all, so that a program links it alone."""
     with tempfile.TemporaryDirectory(prefix="clickpull-archive-") as folder:
-        all_of_them = [it for archive in (archives.library, archives.heap) for it in members(archive.resolve(), Path(folder))]
-        run(["ar", "rcsD", path, *all_of_them])
+        run(["ar", "rcsD", path, *(it for archive in archives.all_of_them for it in members(archive, Path(folder)))])
 
 
 def make_shared(archives: Archives, path: Path, exports: Path) -> None:
     """Makes the shared library, which exports the calls and nothing else."""
-    whole: list[str | Path] = ["-Wl,--whole-archive", archives.library, archives.heap, "-Wl,--no-whole-archive"]
+    whole: list[str | Path] = ["-Wl,--whole-archive", *archives.all_of_them, "-Wl,--no-whole-archive"]
     flags = ["-shared", f"-Wl,-soname,{path.name}", f"-Wl,--version-script={exports}", "-Wl,-z,defs", "-Wl,-z,relro", "-Wl,-z,now"]
     run(["cc", *flags, "-o", path, *whole])
 

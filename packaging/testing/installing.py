@@ -3,7 +3,7 @@ import shlex
 from collections.abc import Callable
 from pathlib import Path
 
-from making.library import run
+from making.library import Unmade, run
 from testing import standin
 from testing.checks import compare, need
 
@@ -72,9 +72,38 @@ def links_are_replaced(folder: Path) -> None:
     compare("where the link leads", unrelated.read_text(), "unrelated\n")
 
 
+def toolchain_is_spared(folder: Path) -> None:
+    """An installed archive is installed again without the toolchain, to another place and to its own. It is the same, and so is the library."""
+    it = standin.made(folder / "made")
+    first, other = folder / "first", folder / "other"
+    it.install("--prefix", first)
+    wanted = files(first)
+    archive = first / "lib" / "libclickpull.a"
+    it.install("--prefix", other, toolchain=False, archive=archive)
+    compare("the archive", (other / "lib" / "libclickpull.a").read_bytes() == archive.read_bytes(), True)
+    it.calls(other / "lib" / "libclickpull.so.0", f"-Wl,-rpath,{other}/lib")
+    for toolchain in (False, True):
+        it.alone("--program", first / "bin" / "clickpull", "--archive", archive, "--prefix", first, toolchain=toolchain)
+        compare("what is installed over itself", files(first) == wanted, True)
+
+
+def lack_of_heap_is_told(folder: Path) -> None:
+    """Without the toolchain an archive that lacks the heap is refused, and nothing is installed."""
+    it = standin.made(folder / "made")
+    try:
+        it.install("--prefix", folder / "prefix", toolchain=False)
+    except Unmade as told:
+        compare("the fault", "built.a lacks the toolchain's heap" in str(told), True)
+    else:
+        raise Unmade("it is installed without the heap")
+    compare("whether something is installed", (folder / "prefix").exists(), False)
+
+
 TESTS: dict[str, Callable[[Path], None]] = {
     "a prefix with a space": spaces_are_kept,
     "members of one name": members_are_kept,
     "uninstall": what_is_installed_is_removed,
     "a link at a path of ours": links_are_replaced,
+    "an archive with the heap": toolchain_is_spared,
+    "an archive without the heap": lack_of_heap_is_told,
 }
