@@ -14,13 +14,15 @@ from testing.checks import LeftOut, need
 INSTALL = Path(__file__).resolve().parent.parent / "install"
 VERSION = "98.7.6"
 
-PROGRAM = f"""#!/bin/sh
-case "$*" in
---version) echo "clickpull {VERSION}" ;;
-help) printf 'Stands in\\n\\nUsage: clickpull [COMMAND]\\n\\nCommands:\\n  run  Runs\\n\\nOptions:\\n  -h, --help  Print help\\n' ;;
-"help run") printf 'Runs\\n\\nUsage: clickpull run [OPTIONS]\\n\\nOptions:\\n  -h, --help  Print help\\n' ;;
-*) exit 2 ;;
-esac
+PROGRAM = f"""
+#include <stdio.h>
+#include <string.h>
+static const char top[] = "Stands in\\n\\nUsage: clickpull [COMMAND]\\n\\nCommands:\\n  run  Runs\\n\\nOptions:\\n  -h, --help  Print help";
+static const char runs[] = "Runs\\n\\nUsage: clickpull run [OPTIONS]\\n\\nOptions:\\n  -h, --help  Print help";
+int main(int count, char **words) {{
+    int version = count == 2 && strcmp(words[1], "--version") == 0, help = count > 1 && strcmp(words[1], "help") == 0;
+    return version || help ? puts(version ? "clickpull {VERSION}" : count > 2 ? runs : top) < 0 : 2;
+}}
 """
 
 # The members of the library's archive, which has two of one name, and of the heap's, which has one of that name too.
@@ -87,7 +89,7 @@ def compiled(text: str, path: Path) -> Path:
     path.parent.mkdir(parents=True, exist_ok=True)
     source = path.with_suffix(".c")
     source.write_text(text + "\n")
-    run(["cc", "-fPIC", "-c", source, "-o", path])
+    run(["cc", "-Wall", "-Wextra", "-Werror", "-fPIC", "-c", source, "-o", path])
     return path
 
 
@@ -96,8 +98,7 @@ def made(folder: Path) -> StandIn:
     need("ar", "cc", "nm", "ranlib")
     it = StandIn(folder)
     folder.mkdir(parents=True)
-    it.program.write_text(PROGRAM)
-    it.program.chmod(0o755)
+    run(["cc", compiled(PROGRAM, folder / "program.o"), "-o", it.program])
     # With q, and without s, a member doesn't replace one of its name.
     for number, text in enumerate((FIRST, SECOND)):
         run(["ar", "qc", it.archive, compiled(text, folder / str(number) / "same.o")])
