@@ -80,16 +80,14 @@ def make_shared(archives: Archives, path: Path, exports: Path) -> None:
     run(["cc", *flags, "-o", path, *whole])
 
 
-def pkg_config(prefix: str, include: str, library: str, version: str) -> str:
+def pkg_config(folders: dict[str, Path], version: str, licence: str) -> str:
     """What pkg-config reads. It takes a blank in a path for an end unless a backslash stands before."""
-    prefix, include, library = (it.replace(" ", "\\ ") for it in (prefix, include, library))
-    return f"""prefix={prefix}
-includedir={include}
-libdir={library}
-
+    variables = "".join(f"{name}={str(path).replace(' ', chr(92) + ' ')}\n" for name, path in folders.items())
+    return f"""{variables}
 Name: clickpull
 Description: Queues and pull schedulers of a Click router
 Version: {version}
+License: {licence}
 Cflags: -I${{includedir}}
 Libs: -L${{libdir}} -lclickpull
 """
