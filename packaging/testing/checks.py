@@ -1,18 +1,8 @@
 """What the tests of packaging compare with. This is Python and no part of what is proved."""
-import shutil
-
 from making.library import Unmade
+from of_library.checks import LeftOut, need
 
-
-class LeftOut(Exception):
-    """A test can't be made on this machine: what is missing."""
-
-
-def need(*programs: str) -> None:
-    """Leaves a test out where a program is missing."""
-    for it in programs:
-        if shutil.which(it) is None:
-            raise LeftOut(f"{it} is missing")
+__all__ = ["LeftOut", "compare", "need"]
 
 
 def compare(what: str, found: object, wanted: object) -> None:

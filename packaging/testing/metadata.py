@@ -1,9 +1,14 @@
 """Compares the licences and the versions that packages name. This is Python and no part of what is proved."""
 import re
+import shutil
+import zipfile
 from collections.abc import Callable
+from email import message_from_bytes
+from email.message import Message
 from pathlib import Path
 
 from making.library import Unmade, run
+from of_library.module import python
 from testing import standin
 from testing.checks import compare, need
 
@@ -63,6 +68,44 @@ def licences_agree(folder: Path) -> None:
     compare("where the Apache licence is", "/usr/share/common-licenses/Apache-2.0." in stanzas["Apache-2.0"], True)
 
 
+def versions_agree(folder: Path) -> None:
+    """What pkg-config reads and the Debian package have the version that the program prints."""
+    package = package_of(folder)
+    compare("clickpull.pc", said(next(package.rglob("clickpull.pc")), r"^Version: (.+)$"), standin.VERSION)
+    compare("Debian's version", said(package / "DEBIAN/control", r"^Version: (.+)$"), standin.VERSION)
+    architecture = run(["dpkg", "--print-architecture"]).strip()
+    compare("the package", [it.name for it in folder.glob("*.deb")], [f"clickpull_{standin.VERSION}_{architecture}.deb"])
+
+
+def wheel_of(source: Path, folder: Path) -> tuple[str, dict[str, bytes]]:
+    """The wheel that pip makes without a network: its tag, and its files by their path, where that of its own has no version."""
+    interpreter = python("pip", "setuptools", "wheel")
+    run([interpreter, "-m", "pip", "wheel", "-q", "--no-index", "--no-deps", "--no-build-isolation", "-w", folder, source])
+    wheel = next(folder.glob("*.whl"))
+    with zipfile.ZipFile(wheel) as packed:
+        files = {re.sub(r"^clickpull-[^/]*\.", "", it): packed.read(it) for it in packed.namelist()}
+    return wheel.stem.split("-", 2)[2], files
+
+
+def wheels_are_right(folder: Path) -> None:
+    """A wheel has the module's version and licence, and is for any platform unless it carries the library."""
+    source = folder / "python"
+    shutil.copytree(ROOT / "python", source, ignore=shutil.ignore_patterns("build", "*.egg-info"))
+    tag, files = wheel_of(source, folder / "pure")
+    compare("the tag", tag, "py3-none-any")
+    told: Message = message_from_bytes(files["dist-info/METADATA"])
+    compare("the version", told["Version"], said(ROOT / "python" / "clickpull" / "__init__.py", r'^__version__ = "(.+)"$'))
+    compare("the licence", told["License"], wanted_licence())
+    texts = ["LICENSE", *(file for file, _, _ in LICENCES.values())]
+    compare("the texts of licences", [files.get(f"dist-info/{it}") for it in texts], [(ROOT / it).read_bytes() for it in texts])
+    (source / "clickpull" / "libclickpull.so.0").write_text("stands in")
+    tag, files = wheel_of(source, folder / "carries")
+    compare("the tag with the library", re.fullmatch(r"py3-none-linux_\w+", tag) is not None, True)
+    compare("the library", files.get("clickpull/libclickpull.so.0"), b"stands in")
+
+
 TESTS: dict[str, Callable[[Path], None]] = {
     "licences": licences_agree,
+    "versions": versions_agree,
+    "wheels": wheels_are_right,
 }
