@@ -1,6 +1,7 @@
 """Where packaging/install puts files, so that it can remove them. This is Python and no part of what is proved."""
 import shutil
 import tempfile
+from collections.abc import Iterator
 from dataclasses import dataclass
 from pathlib import Path
 
@@ -102,9 +103,9 @@ class Places:
         whole.unlink(missing_ok=True)
         whole.symlink_to(name)
 
-    def remove(self) -> list[Path]:
-        """Removes what is installed, and returns the paths at which something was. Folders stay."""
-        there = [it for it in map(self.under, self.all_of_them()) if it.is_file() or it.is_symlink()]
-        for it in there:
-            it.unlink()
-        return there
+    def remove(self) -> Iterator[Path]:
+        """Removes what is installed, and gives each path at which something was once it is removed. Folders stay."""
+        for it in map(self.under, self.all_of_them()):
+            if it.is_file() or it.is_symlink():
+                it.unlink()
+                yield it

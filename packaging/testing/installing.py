@@ -3,7 +3,7 @@ import shlex
 from collections.abc import Callable
 from pathlib import Path
 
-from making.library import Unmade, run
+from making.library import INTERFACE, Unmade, run
 from testing import standin
 from testing.checks import compare, need
 
@@ -81,22 +81,33 @@ def toolchain_is_spared(folder: Path) -> None:
     archive = first / "lib" / "libclickpull.a"
     it.install("--prefix", other, toolchain=False, archive=archive)
     compare("the archive", (other / "lib" / "libclickpull.a").read_bytes() == archive.read_bytes(), True)
-    it.calls(other / "lib" / "libclickpull.so.0", f"-Wl,-rpath,{other}/lib")
+    it.calls(other / "lib" / f"libclickpull.so.{INTERFACE}", f"-Wl,-rpath,{other}/lib")
     for toolchain in (False, True):
         it.alone("--program", first / "bin" / "clickpull", "--archive", archive, "--prefix", first, toolchain=toolchain)
         compare("what is installed over itself", files(first) == wanted, True)
 
 
-def lack_of_heap_is_told(folder: Path) -> None:
-    """Without the toolchain an archive that lacks the heap is refused, and nothing is installed."""
-    it = standin.made(folder / "made")
+def is_refused(fault: str, it: standin.StandIn, *words: str | Path) -> None:
+    """With these words, and without the toolchain, install fails, tells of this fault, and installs nothing."""
+    prefix = it.folder / "prefix"
     try:
-        it.install("--prefix", folder / "prefix", toolchain=False)
+        it.install("--prefix", prefix, *words, toolchain=False)
     except Unmade as told:
-        compare("the fault", "built.a lacks the toolchain's heap" in str(told), True)
+        compare(f"whether it tells that {fault}", fault in str(told), True)
     else:
-        raise Unmade("it is installed without the heap")
-    compare("whether something is installed", (folder / "prefix").exists(), False)
+        raise Unmade(f"it is installed, although {fault}")
+    compare("whether something is installed", prefix.exists(), False)
+
+
+def wrong_files_are_refused(folder: Path) -> None:
+    """An archive that lacks the heap is refused without the toolchain, and so is what is no archive, and another program."""
+    it = standin.made(folder / "made")
+    is_refused("built.a lacks the toolchain's heap", it)
+    is_refused("file format not recognized", it, "--archive", standin.INSTALL)
+    it.install("--prefix", folder / "other")
+    combined = folder / "other" / "lib" / "libclickpull.a"
+    another = standin.program("another", folder / "another")
+    is_refused("says that it is another, and not clickpull", it, "--archive", combined, "--program", another)
 
 
 TESTS: dict[str, Callable[[Path], None]] = {
@@ -105,5 +116,5 @@ TESTS: dict[str, Callable[[Path], None]] = {
     "uninstall": what_is_installed_is_removed,
     "a link at a path of ours": links_are_replaced,
     "an archive with the heap": toolchain_is_spared,
-    "an archive without the heap": lack_of_heap_is_told,
+    "wrong files": wrong_files_are_refused,
 }

@@ -93,12 +93,18 @@ def compiled(text: str, path: Path) -> Path:
     return path
 
 
+def program(name: str, path: Path) -> Path:
+    """A program that says that it has this name."""
+    run(["cc", compiled(PROGRAM.replace("clickpull", name), path.with_suffix(".o")), "-o", path])
+    return path
+
+
 def made(folder: Path) -> StandIn:
     """Makes them in a folder."""
     need("ar", "cc", "nm", "ranlib")
     it = StandIn(folder)
     folder.mkdir(parents=True)
-    run(["cc", compiled(PROGRAM, folder / "program.o"), "-o", it.program])
+    program("clickpull", it.program)
     # With q, and without s, a member doesn't replace one of its name.
     for number, text in enumerate((FIRST, SECOND)):
         run(["ar", "qc", it.archive, compiled(text, folder / str(number) / "same.o")])
