@@ -7,7 +7,7 @@ from email import message_from_bytes
 from email.message import Message
 from pathlib import Path
 
-from making.library import Unmade, run
+from making.library import INTERFACE, Unmade, run
 from of_library.module import python
 from testing import standin
 from testing.checks import compare, need
@@ -24,6 +24,14 @@ def said(path: Path, pattern: str) -> str:
     found = re.search(pattern, path.read_text(), re.MULTILINE)
     if found is None:
         raise Unmade(f"{path} has nothing like {pattern}")
+    return found[1]
+
+
+def said_by(command: list[str | Path], pattern: str) -> str:
+    """What a command writes: the group of a pattern."""
+    found = re.search(pattern, run(command), re.MULTILINE)
+    if found is None:
+        raise Unmade(f"{command[0]} writes nothing like {pattern}")
     return found[1]
 
 
@@ -77,6 +85,16 @@ def versions_agree(folder: Path) -> None:
     compare("the package", [it.name for it in folder.glob("*.deb")], [f"clickpull_{standin.VERSION}_{architecture}.deb"])
 
 
+def interfaces_agree(folder: Path) -> None:
+    """The shared library, the Debian package and the Python module have one number of the interface."""
+    package = package_of(folder)
+    shared = next(package.rglob("libclickpull.so.*"))
+    compare("the library's name", said_by(["objdump", "-p", shared], r"SONAME +libclickpull\.so\.(\d+)$"), str(INTERFACE))
+    compare("the library's file", shared.name, f"libclickpull.so.{INTERFACE}")
+    compare("Debian's shlibs", (package / "DEBIAN/shlibs").read_text(), f"libclickpull {INTERFACE} clickpull\n")
+    compare("the Python module", said(ROOT / "python" / "clickpull" / "library.py", r'NAME \+ "\.(\d+)"'), str(INTERFACE))
+
+
 def wheel_of(source: Path, folder: Path) -> tuple[str, dict[str, bytes]]:
     """The wheel that pip makes without a network: its tag, and its files by their path, where that of its own has no version."""
     interpreter = python("pip", "setuptools", "wheel")
@@ -107,5 +125,6 @@ def wheels_are_right(folder: Path) -> None:
 TESTS: dict[str, Callable[[Path], None]] = {
     "licences": licences_agree,
     "versions": versions_agree,
+    "interfaces": interfaces_agree,
     "wheels": wheels_are_right,
 }
