@@ -1,5 +1,6 @@
 """Tests what packaging/install puts, over a program and an archive that stand in. This is Python and no part of what is proved."""
 import shlex
+import shutil
 from collections.abc import Callable
 from pathlib import Path
 
@@ -9,13 +10,17 @@ from testing.checks import compare, need
 
 
 def spaces_are_kept(folder: Path) -> None:
-    """A prefix may have a space, and what lies at the path before the space stays as it is."""
+    """A prefix may have a space, and so may an archive; what lies at the path before the space stays as it is."""
     need("pkg-config")
-    it = standin.made(folder / "stand in")
-    prefix, unrelated = folder / "my prog", folder / "my"
+    it = standin.made(folder / "made")
+    prefix, unrelated, archive = folder / "my prog", folder / "my", folder / "my.o archive.a"
     unrelated.write_text("unrelated\n")
-    it.install("--prefix", prefix)
-    compare("the unrelated file", unrelated.read_text(), "unrelated\n")
+    shutil.copyfile(it.archive, archive)
+    for built in (it.archive, archive):
+        try:
+            it.install("--prefix", prefix, archive=built)
+        finally:
+            compare("the unrelated file", unrelated.read_bytes(), b"unrelated\n")
     asked = {"PKG_CONFIG_LIBDIR": str(prefix / "lib" / "pkgconfig")}
     flags = shlex.split(run(["pkg-config", "--cflags", "--libs", "clickpull"], environment=asked))
     compare("what pkg-config says", flags, [f"-I{prefix}/include", f"-L{prefix}/lib", "-lclickpull"])
