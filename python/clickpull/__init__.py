@@ -27,6 +27,9 @@ from clickpull.errors import AtEnd, Error, BadLength, Shut, TextFault, UnknownDe
 from clickpull.router import END_OF_MOMENTS, Router
 from clickpull.values import Account, Departure, Offered, Outcome, Packet, Queue, Total
 
+# That of the library, which tests/pages compares. Packages read it here.
+__version__ = "0.1.0"
+
 __all__ = [
     "END_OF_MOMENTS",
     "Account",
@@ -48,4 +51,5 @@ __all__ = [
     "Total",
     "UnknownDevice",
     "UnknownSender",
+    "__version__",
 ]

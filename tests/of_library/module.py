@@ -27,7 +27,7 @@ def types_are_right(setting: Setting) -> str:
     """The types, by mypy."""
     folder = setting.root / "python"
     tests = sorted((folder / "tests").glob("*.py"))
-    words = ["-m", "mypy", "--config-file", "mypy.ini", "clickpull", *map(str, tests)]
+    words = ["-m", "mypy", "--config-file", "mypy.ini", "setup.py", "clickpull", *map(str, tests)]
     return run([python("mypy"), *words], environment(setting), folder).strip()
 
 

@@ -1,0 +1,130 @@
+"""Compares the licences and the versions that packages name. This is Python and no part of what is proved."""
+import re
+import shutil
+import zipfile
+from collections.abc import Callable
+from email import message_from_bytes
+from email.message import Message
+from pathlib import Path
+
+from making.library import INTERFACE, Unmade, run
+from of_library.module import python
+from testing import standin
+from testing.checks import compare, need
+
+HERE = Path(__file__).resolve().parent
+ROOT = HERE.parent.parent
+
+# The licences, how their texts begin, and what Debian calls them.
+LICENCES = {"MIT": ("LICENSE-MIT", "MIT License", "Expat"), "Apache-2.0": ("LICENSE-APACHE", "Apache License Version 2.0", "Apache-2.0")}
+
+
+def said(path: Path, pattern: str) -> str:
+    """What a file says: the group of a pattern."""
+    found = re.search(pattern, path.read_text(), re.MULTILINE)
+    if found is None:
+        raise Unmade(f"{path} has nothing like {pattern}")
+    return found[1]
+
+
+def said_by(command: list[str | Path], pattern: str) -> str:
+    """What a command writes: the group of a pattern."""
+    found = re.search(pattern, run(command), re.MULTILINE)
+    if found is None:
+        raise Unmade(f"{command[0]} writes nothing like {pattern}")
+    return found[1]
+
+
+def words(text: str) -> str:
+    """A text with one blank between words, and without the dots of Debian's empty lines."""
+    return " ".join(it for it in text.split() if it != ".")
+
+
+def wanted_licence() -> str:
+    """The licence of the repository, as SPDX has it, after its texts were compared."""
+    wanted = said(ROOT / "LICENSE", r"^SPDX-License-Identifier: (.+)$")
+    compare("the licences", sorted(wanted.split(" OR ")), sorted(LICENCES))
+    for file, begin, _ in LICENCES.values():
+        compare(file, words((ROOT / file).read_text()).startswith(begin), True)
+    return wanted
+
+
+def package_of(folder: Path) -> Path:
+    """A Debian package of the stand-in, unpacked."""
+    need("dpkg", "dpkg-deb", "dpkg-architecture", "objdump", "strip", "file")
+    it = standin.made(folder / "made")
+    archive = folder / "installed" / "lib" / "libclickpull.a"
+    it.install("--prefix", folder / "installed")
+    package = run([HERE.parent / "debian", folder, "--program", it.program, "--archive", archive]).strip()
+    run(["dpkg-deb", "--raw-extract", package, folder / "package"])
+    return folder / "package"
+
+
+def licences_agree(folder: Path) -> None:
+    """The Debian package, what pkg-config reads and the Python module name the licence that LICENSE has."""
+    wanted = wanted_licence()
+    compare("pyproject.toml", said(ROOT / "python" / "pyproject.toml", r'^license = \{text = "(.+)"\}'), wanted)
+    package = package_of(folder)
+    compare("clickpull.pc", said(next(package.rglob("clickpull.pc")), r"^License: (.+)$"), wanted)
+    copyright_ = package / "usr/share/doc/clickpull/copyright"
+    names = [LICENCES[it][2] for it in wanted.split(" OR ")]
+    compare("Debian's licence", said(copyright_, r"^Files: \*\n.+\nLicense: (.+)$"), " or ".join(names))
+    compare("Debian's holder", said(copyright_, r"^Copyright: (.+)$"), said(ROOT / "LICENSE", r"^Copyright \(c\) (.+)$"))
+    stanzas = dict(re.findall(r"^License: (\S+)\n((?: .*\n)+)", copyright_.read_text(), re.MULTILINE))
+    compare("licences with a text", sorted(stanzas), sorted(names))
+    compare("the text of the MIT licence", words(stanzas["Expat"]), words((ROOT / "LICENSE-MIT").read_text()))
+    compare("where the Apache licence is", "/usr/share/common-licenses/Apache-2.0." in stanzas["Apache-2.0"], True)
+
+
+def versions_agree(folder: Path) -> None:
+    """What pkg-config reads and the Debian package have the version that the program prints."""
+    package = package_of(folder)
+    compare("clickpull.pc", said(next(package.rglob("clickpull.pc")), r"^Version: (.+)$"), standin.VERSION)
+    compare("Debian's version", said(package / "DEBIAN/control", r"^Version: (.+)$"), standin.VERSION)
+    architecture = run(["dpkg", "--print-architecture"]).strip()
+    compare("the package", [it.name for it in folder.glob("*.deb")], [f"clickpull_{standin.VERSION}_{architecture}.deb"])
+
+
+def interfaces_agree(folder: Path) -> None:
+    """The shared library, the Debian package and the Python module have one number of the interface."""
+    package = package_of(folder)
+    shared = next(package.rglob("libclickpull.so.*"))
+    compare("the library's name", said_by(["objdump", "-p", shared], r"SONAME +libclickpull\.so\.(\d+)$"), str(INTERFACE))
+    compare("the library's file", shared.name, f"libclickpull.so.{INTERFACE}")
+    compare("Debian's shlibs", (package / "DEBIAN/shlibs").read_text(), f"libclickpull {INTERFACE} clickpull\n")
+    compare("the Python module", said(ROOT / "python" / "clickpull" / "library.py", r'NAME \+ "\.(\d+)"'), str(INTERFACE))
+
+
+def wheel_of(source: Path, folder: Path) -> tuple[str, dict[str, bytes]]:
+    """The wheel that pip makes without a network: its tag, and its files by their path, where that of its own has no version."""
+    interpreter = python("pip", "setuptools", "wheel")
+    run([interpreter, "-m", "pip", "wheel", "-q", "--no-index", "--no-deps", "--no-build-isolation", "-w", folder, source])
+    wheel = next(folder.glob("*.whl"))
+    with zipfile.ZipFile(wheel) as packed:
+        files = {re.sub(r"^clickpull-[^/]*\.", "", it): packed.read(it) for it in packed.namelist()}
+    return wheel.stem.split("-", 2)[2], files
+
+
+def wheels_are_right(folder: Path) -> None:
+    """A wheel has the module's version and licence, and is for any platform unless it carries the library."""
+    source = folder / "python"
+    shutil.copytree(ROOT / "python", source, ignore=shutil.ignore_patterns("build", "*.egg-info"))
+    tag, files = wheel_of(source, folder / "pure")
+    compare("the tag", tag, "py3-none-any")
+    told: Message = message_from_bytes(files["dist-info/METADATA"])
+    compare("the version", told["Version"], said(ROOT / "python" / "clickpull" / "__init__.py", r'^__version__ = "(.+)"$'))
+    compare("the licence", told["License"], wanted_licence())
+    texts = ["LICENSE", *(file for file, _, _ in LICENCES.values())]
+    compare("the texts of licences", [files.get(f"dist-info/{it}") for it in texts], [(ROOT / it).read_bytes() for it in texts])
+    (source / "clickpull" / "libclickpull.so.0").write_text("stands in")
+    tag, files = wheel_of(source, folder / "carries")
+    compare("the tag with the library", re.fullmatch(r"py3-none-linux_\w+", tag) is not None, True)
+    compare("the library", files.get("clickpull/libclickpull.so.0"), b"stands in")
+
+
+TESTS: dict[str, Callable[[Path], None]] = {
+    "licences": licences_agree,
+    "versions": versions_agree,
+    "interfaces": interfaces_agree,
+    "wheels": wheels_are_right,
+}

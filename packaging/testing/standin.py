@@ -1,0 +1,118 @@
+"""A program and archives that stand in for the built ones, so that packaging/install is tested where nothing is built.
+
+This is Python and no part of what is proved.
+"""
+import os
+import shutil
+import sys
+from dataclasses import dataclass
+from pathlib import Path
+
+from making.library import run
+from testing.checks import LeftOut, need
+
+INSTALL = Path(__file__).resolve().parent.parent / "install"
+VERSION = "98.7.6"
+
+PROGRAM = f"""
+#include <stdio.h>
+#include <string.h>
+static const char top[] = "Stands in\\n\\nUsage: clickpull [COMMAND]\\n\\nCommands:\\n  run  Runs\\n\\nOptions:\\n  -h, --help  Print help";
+static const char runs[] = "Runs\\n\\nUsage: clickpull run [OPTIONS]\\n\\nOptions:\\n  -h, --help  Print help";
+int main(int count, char **words) {{
+    int version = count == 2 && strcmp(words[1], "--version") == 0, help = count > 1 && strcmp(words[1], "help") == 0;
+    return version || help ? puts(version ? "clickpull {VERSION}" : count > 2 ? runs : top) < 0 : 2;
+}}
+"""
+
+# The members of the library's archive, which has two of one name, and of the heap's, which has one of that name too.
+FIRST = "void *rattle_alloc(void); int clk_router_first(void) { return rattle_alloc() != 0; }"
+SECOND = "int clk_router_second(void) { return 1; }"
+HEAP = "static int given; void *rattle_alloc(void) { return &given; }"
+CALLER = """
+int clk_router_first(void);
+int clk_router_second(void);
+int main(void) { return clk_router_first() && clk_router_second() ? 0 : 1; }
+"""
+
+
+@dataclass(frozen=True)
+class StandIn:
+    """A folder with a program, an archive without the heap, and a toolchain that has the heap."""
+
+    folder: Path
+
+    @property
+    def program(self) -> Path:
+        """The program."""
+        return self.folder / "clickpull"
+
+    @property
+    def archive(self) -> Path:
+        """The archive that `rt lib` would make."""
+        return self.folder / "built.a"
+
+    @property
+    def kit(self) -> Path:
+        """The toolchain."""
+        return self.folder / "kit"
+
+    def install(self, *words: str | Path, toolchain: bool = True, archive: Path | None = None) -> str:
+        """What packaging/install writes, with the toolchain on the PATH or without."""
+        named: list[str | Path] = ["--program", self.program, "--archive", archive or self.archive]
+        return self.alone(*named, *words, toolchain=toolchain)
+
+    def alone(self, *words: str | Path, toolchain: bool = False) -> str:
+        """What packaging/install writes where neither the program nor the archive is named."""
+        return run([sys.executable, INSTALL, *words], environment={"PATH": path(self.kit / "bin" if toolchain else None)})
+
+    def calls(self, *flags: str | Path) -> str:
+        """Builds a program of C that calls each member, with these flags, and runs it."""
+        source, built = self.folder / "caller.c", self.folder / "caller"
+        source.write_text(CALLER)
+        run(["cc", source, "-o", built, *flags])
+        return run([built])
+
+
+def path(first: Path | None) -> str:
+    """A PATH on which no other toolchain is than this."""
+    others = [it for it in os.environ["PATH"].split(os.pathsep) if not (Path(it) / "rt").exists()]
+    whole = os.pathsep.join([*([str(first)] if first else []), *others])
+    for it in ("ar", "cc", "nm", "ranlib"):
+        if shutil.which(it, path=whole) is None:
+            raise LeftOut(f"{it} is missing where rt isn't")
+    return whole
+
+
+def compiled(text: str, path: Path) -> Path:
+    """Compiles a text of C."""
+    path.parent.mkdir(parents=True, exist_ok=True)
+    source = path.with_suffix(".c")
+    source.write_text(text + "\n")
+    run(["cc", "-Wall", "-Wextra", "-Werror", "-fPIC", "-c", source, "-o", path])
+    return path
+
+
+def program(name: str, path: Path) -> Path:
+    """A program that says that it has this name."""
+    run(["cc", compiled(PROGRAM.replace("clickpull", name), path.with_suffix(".o")), "-o", path])
+    return path
+
+
+def made(folder: Path) -> StandIn:
+    """Makes them in a folder."""
+    need("ar", "cc", "nm", "ranlib")
+    it = StandIn(folder)
+    folder.mkdir(parents=True)
+    program("clickpull", it.program)
+    # With q, and without s, a member doesn't replace one of its name.
+    for number, text in enumerate((FIRST, SECOND)):
+        run(["ar", "qc", it.archive, compiled(text, folder / str(number) / "same.o")])
+    run(["ranlib", it.archive])
+    (it.kit / "bin").mkdir(parents=True)
+    (it.kit / "c").mkdir()
+    rt = it.kit / "bin" / "rt"
+    rt.write_text("#!/bin/sh\nexit 1\n")
+    rt.chmod(0o755)
+    run(["ar", "rcs", it.kit / "c" / "liblibc_c.a", compiled(HEAP, folder / "heap" / "same.o")])
+    return it
