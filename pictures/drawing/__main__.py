@@ -96,22 +96,38 @@ def words() -> argparse.ArgumentParser:
     return top
 
 
+def write(picture: str) -> None:
+    """Writes a picture to standard output. Where that fails, what is still buffered is discarded, so that Python's exit doesn't write it."""
+    try:
+        sys.stdout.write(picture)
+        sys.stdout.flush()
+    except OSError as it:
+        os.dup2(os.open(os.devnull, os.O_WRONLY), sys.stdout.fileno())
+        raise it if isinstance(it, BrokenPipeError) else Wrong(f"standard output: {it.strerror}") from None
+
+
+def say(words: str, status: int) -> int:
+    """Writes one line to standard error, and returns the status."""
+    print(f"draw: {words}", file=sys.stderr)
+    return status
+
+
 def main(given_words: list[str] | None = None) -> int:
-    """Draws what the words ask for. Status 1 says that a file can't be used, and 2 that the words are wrong."""
+    """Draws what the words ask for. Status 1 says that a file can't be used, 2 that the words are wrong, and 130 that Ctrl-C ended it."""
     given = words().parse_args(given_words)
     try:
-        sys.stdout.write(given.run(given))
-        sys.stdout.flush()
+        write(given.run(given))
     except (Wrong, WrongWords) as it:
-        print(f"draw: {it}", file=sys.stderr)
-        return 1 if isinstance(it, Wrong) else 2
+        return say(str(it), 1 if isinstance(it, Wrong) else 2)
     except ModuleNotFoundError as it:
         name = (it.name or "").split(".")[0]
-        print(f"draw: Python's {name} is missing: it is in Debian's package python3-{name}", file=sys.stderr)
-        return 1
+        return say(f"Python's {name} is missing: it is in Debian's package python3-{name}", 1)
     except BrokenPipeError:
-        os.dup2(os.open(os.devnull, os.O_WRONLY), sys.stdout.fileno())
         return 1
+    except OSError as it:
+        return say(f"{it.filename or 'a file or a program'}: {it.strerror}", 1)
+    except KeyboardInterrupt:
+        return say("interrupted", 130)
     return 0
 
 
