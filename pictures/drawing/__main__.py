@@ -57,7 +57,7 @@ def draw_packets(given: argparse.Namespace) -> str:
     title = f"The packets of {name_of(given.answer)}, from offer to link"
     from drawing import packets
 
-    return style.alone(packets.draw(found, answer.last, title), escape(title))
+    return style.alone(packets.draw(found, answer, title), escape(title))
 
 
 def draw_page(given: argparse.Namespace) -> str:
