@@ -9,6 +9,15 @@ INK, FAINT, PAPER, FILL = "#1b1b1b", "#5e5e5e", "#ffffff", "#f0f0ec"
 IN_THE_DARK = {INK: "#ececec", FAINT: "#b4b4b4", PAPER: "#161616", FILL: "#2b2b2e"}
 FONT = "DejaVu Sans"
 
+# how many characters of a name are shown
+LONGEST = 24
+
+
+def short(name: str) -> str:
+    """A name, of which the middle gives way to an ellipsis where it is long: names often differ at their ends."""
+    half = LONGEST // 2
+    return name if len(name) <= LONGEST else f"{name[:half]}…{name[1 - half :]}"
+
 
 def dark() -> str:
     """The rules of CSS by which a picture turns dark."""

@@ -5,7 +5,7 @@ from html import escape
 
 from drawing.model import QUEUES, SCHEDULERS, Counts, Element, Node, Router, Wrong
 from drawing.progress import tell
-from drawing.style import COLOURS, FAINT, FILL, FONT, INK, PAPER
+from drawing.style import COLOURS, FAINT, FILL, FONT, INK, PAPER, short
 
 # The shape of each kind, so that none is told by its colour alone.
 SHAPES = {
@@ -27,7 +27,8 @@ def declaration(element: Element) -> list[str]:
     """The class of an element with its arguments, in lines of eight."""
     if not element.arguments:
         return [element.kind]
-    rows = [", ".join(element.arguments[it : it + 8]) for it in range(0, len(element.arguments), 8)]
+    shown = [short(it) for it in element.arguments]
+    rows = [", ".join(shown[it : it + 8]) for it in range(0, len(shown), 8)]
     return f"{element.kind}({',;'.join(rows)})".split(";")
 
 
@@ -48,12 +49,23 @@ def lines_of(element: Element, node: Node | None, counts: Counts | None) -> list
     return lines
 
 
+def row(words: str, size: int) -> str:
+    """A line of an element. An underscore hangs below its line, and has more room."""
+    height = f' height="{size + 5}" valign="top"' if "_" in words else ""
+    return f"<tr><td{height}>{words}</td></tr>"
+
+
+def label(element: Element, node: Node | None, counts: Counts | None) -> str:
+    """What is written in an element: its name, and the lines below it."""
+    lines = [f"<b>{short(element.name)}</b>", *(escape(it) for it in lines_of(element, node, counts))]
+    return f'<<table border="0" cellspacing="0" cellpadding="0">{"".join(row(it, 11) for it in lines)}</table>>'
+
+
 def box(element: Element, node: Node | None, counts: Counts | None) -> str:
     """An element, as graphviz wants it."""
     has_lost = counts is not None and counts.refused + counts.evicted > 0
     shape = SHAPES.get(element.kind, SCHEDULER) + (f' color="{COLOURS[1]}" penwidth=2.5' if has_lost else "")
-    words = "<br/>".join(escape(it) for it in lines_of(element, node, counts))
-    return f'"{element.name}" [id="element-{element.name}" {shape} label=<<b>{element.name}</b><br/>{words}>];'
+    return f'"{element.name}" [id="element-{element.name}" {shape} label={label(element, node, counts)}];'
 
 
 def port(node: Node, at: int) -> str:
@@ -102,4 +114,12 @@ def draw(router: Router, title: str, counts: dict[str, Counts]) -> str:
     done = subprocess.run(["dot", "-Tsvg"], input=dot(router, title, counts), capture_output=True, text=True)
     if done.returncode:
         raise Wrong(f"dot: {done.stderr.strip()}")
-    return done.stdout
+    return with_whole_arguments(done.stdout, router)
+
+
+def with_whole_arguments(svg: str, router: Router) -> str:
+    """The drawing, of which each title has the whole name of its element, and the whole arguments where some were shortened."""
+    for it in router.elements.values():
+        if any(short(word) != word for word in it.arguments):
+            svg = svg.replace(f"<title>{it.name}</title>", f"<title>{it.name} :: {it.kind}({escape(', '.join(it.arguments))})</title>", 1)
+    return svg

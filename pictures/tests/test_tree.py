@@ -2,6 +2,7 @@
 import re
 import shutil
 import xml.etree.ElementTree as ET
+from pathlib import Path
 
 import pytest
 from conftest import ALL, Example, drawn
@@ -57,3 +58,36 @@ def test_counts_are_those_of_the_report(example: Example) -> None:
         wanted[queue] = [a + int(b) for a, b in zip(wanted[queue], line[1:])]
     shown = {title(it): [int(line.split()[1]) for line in words(it)[-3:]] for it in parts(svg, "node") if title(it) in queues}
     assert shown == wanted
+
+
+LONG = "a_name_of_an_element_that_is_very_long_indeed_and_goes_on"
+
+
+def tree_of(text: str, folder: Path) -> str:
+    """The drawing of a tree text."""
+    path = folder / "tree.click"
+    path.write_text(text)
+    return drawn("tree", path)
+
+
+def chain(name: str, line: str) -> str:
+    """A tree of one queue, with these names of its queue and its line."""
+    return f"s :: Sender(1);\n{name} :: Queue(5);\nd :: ToDevice({line});\ns [0] -> [0] {name};\n{name} [0] -> [0] d;\n"
+
+
+def test_underscores_stand_clear_of_the_next_line(tmp_path: Path) -> None:
+    svg = tree_of(chain("with_underscore", "eth_0"), tmp_path)
+    for node, at in (("with_underscore", 0), ("d", 1)):
+        (part,) = (it for it in parts(svg, "node") if title(it) == node)
+        upper, lower = [float(it.get("y", "")) for it in part.iter(f"{SVG}text")][at : at + 2]
+        # The line below is as high as its letters, 8 points, and an underscore goes down by 3.
+        assert lower - upper > 8 + 3 + 4
+
+
+def test_long_names_are_shortened_and_whole_in_titles(tmp_path: Path) -> None:
+    svg = tree_of(chain(LONG, LONG + "_line"), tmp_path)
+    written = words(ET.fromstring(svg))
+    assert "a_name_of_an…and_goes_on" in written and not any(LONG in it for it in written)
+    assert f"{LONG}" in [title(it) for it in parts(svg, "node")]
+    assert f"d :: ToDevice({LONG}_line)" in [title(it) for it in parts(svg, "node")]
+    assert float(re.findall(r'<svg width="(\d+)pt"', svg)[0]) < 700
