@@ -91,3 +91,24 @@ def test_long_names_are_shortened_and_whole_in_titles(tmp_path: Path) -> None:
     assert f"{LONG}" in [title(it) for it in parts(svg, "node")]
     assert f"d :: ToDevice({LONG}_line)" in [title(it) for it in parts(svg, "node")]
     assert float(re.findall(r'<svg width="(\d+)pt"', svg)[0]) < 700
+
+
+def large_tree(queues: int) -> str:
+    """A tree in which a scheduler has this many queues, each with a sender."""
+    lines = [f"s{it} :: Sender({it});\nq{it} :: Queue(5);" for it in range(queues)] + ["turns :: RoundRobinSched;", "d :: ToDevice(eth0);"]
+    lines += [f"s{it} [0] -> [0] q{it};\nq{it} [0] -> [{it}] turns;" for it in range(queues)] + ["turns [0] -> [0] d;"]
+    return "\n".join(lines) + "\n"
+
+
+def test_a_large_tree_is_compact_and_whole(tmp_path: Path) -> None:
+    report = tmp_path / "report"
+    report.write_text("".join(f"sender {it}: sent 9 9, accepted {it} 9, refused 2 9, evicted 1 9, emitted 0 0\n" for it in range(127)))
+    path = tmp_path / "tree.click"
+    path.write_text(large_tree(127))
+    svg = drawn("tree", path, report)
+    assert float(re.findall(r'<svg [^>]*height="(\d+)pt"', svg)[0]) * 4 / 3 < 4500
+    written = {title(it): words(it) for it in parts(svg, "node")}
+    assert len(written) == 256
+    assert all(written[f"s{it}"] == [f"s{it}", f"Sender({it})"] and written[f"q{it}"] == [f"q{it}", f"Queue(5), took {it}, refused 2, evicted 1"] for it in range(127))
+    ports = {title(it): words(it) for it in parts(svg, "edge")}
+    assert all(ports[f"q{it}->turns"] == [f"[{it}]"] for it in range(127))
