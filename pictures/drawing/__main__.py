@@ -11,6 +11,8 @@ from drawing.model import Node, Router, Wrong, WrongWords
 
 def name_of(path: str) -> str:
     """The name of a file, for a title."""
+    if path == reading.STDIN:
+        return "on standard input"
     return os.path.basename(path).encode(errors="replace").decode()
 
 
@@ -86,7 +88,7 @@ def words() -> argparse.ArgumentParser:
         it.set_defaults(run=run)
         return it
 
-    it = command("tree", draw_tree, "The tree as SVG: senders, queues, schedulers and devices", "TREE")
+    it = command("tree", draw_tree, "The tree as SVG: senders, queues, schedulers and devices; as TREE, - reads standard input", "TREE")
     it.add_argument("report", nargs="?", metavar="REPORT", help="a run's report, or the answer of a script that ends with drain")
     it = command("shares", draw_shares, "What each input of a scheduler got, with the proved bounds, as SVG", "TREE", "VISITS")
     it.add_argument("--node", type=natural, required=True, metavar="N", help="the scheduler, by its number in preorder from 1, as visits and `draw tree` have it")
@@ -98,6 +100,8 @@ def words() -> argparse.ArgumentParser:
 
 def write(picture: str) -> None:
     """Writes a picture to standard output. Where that fails, what is still buffered is discarded, so that Python's exit doesn't write it."""
+    if sys.stdout is None:
+        raise Wrong("standard output: it is closed")
     try:
         sys.stdout.write(picture)
         sys.stdout.flush()

@@ -1,11 +1,13 @@
 """The drawing of a tree has the elements, connections and counts of the files."""
+import os
 import re
 import shutil
+import subprocess
 import xml.etree.ElementTree as ET
 from pathlib import Path
 
 import pytest
-from conftest import ALL, Example, drawn
+from conftest import ALL, BARE, PICTURES, Example, drawn
 from drawn import SVG, words
 
 pytestmark = pytest.mark.skipif(not shutil.which("dot"), reason="there is no dot on the PATH: graphviz")
@@ -112,3 +114,38 @@ def test_a_large_tree_is_compact_and_whole(tmp_path: Path) -> None:
     assert all(written[f"s{it}"] == [f"s{it}", f"Sender({it})"] and written[f"q{it}"] == [f"q{it}", f"Queue(5), took {it}, refused 2, evicted 1"] for it in range(127))
     ports = {title(it): words(it) for it in parts(svg, "edge")}
     assert all(ports[f"q{it}->turns"] == [f"[{it}]"] for it in range(127))
+
+
+def draw_stdin(text: bytes, path: str) -> subprocess.CompletedProcess[bytes]:
+    """What `draw tree -` does with this on standard input."""
+    return subprocess.run([PICTURES / "draw", "tree", "-"], input=text, capture_output=True, env=os.environ | {"PATH": path})
+
+
+def test_a_tree_on_standard_input_is_drawn() -> None:
+    file = Example("fair-shares").file("click")
+    done = draw_stdin(file.read_bytes(), BARE)
+    assert (done.returncode, done.stderr) == (0, b"")
+    one, other = ([(title(it), words(it)) for kind in ("node", "edge") for it in parts(svg, kind)] for svg in (done.stdout.decode(), drawn("tree", file)))
+    assert one == other and "The tree on standard input" in words(ET.fromstring(done.stdout))
+
+
+def test_the_program_brings_standard_input_to_canonical_form(tmp_path: Path) -> None:
+    # A stand-in for the program, to which a name in capitals isn't canonical.
+    (tmp_path / "clickpull").write_text('#!/bin/sh\n[ "$1" = check ] && tr X x < "$2"\n')
+    (tmp_path / "clickpull").chmod(0o755)
+    done = draw_stdin(chain("X", "eth0").encode(), f"{tmp_path}:{BARE}")
+    assert (done.returncode, done.stderr) == (0, b"")
+    assert {title(it) for it in parts(done.stdout.decode(), "node")} == {"s", "x", "d"}
+
+
+@pytest.mark.parametrize("text, why", [(b"nonsense", b"standard input: line 1"), (b"\xff", b"standard input: it isn't a text"), (b"", b"standard input: there is no ToDevice")])
+def test_a_wrong_tree_on_standard_input_is_told(text: bytes, why: bytes) -> None:
+    done = draw_stdin(text, BARE)
+    assert (done.returncode, done.stdout) == (1, b"") and done.stderr.startswith(b"draw: " + why) and done.stderr.count(b"\n") == 1
+
+
+def test_closed_streams_are_told() -> None:
+    file = Example("fair-shares").file("click")
+    for redirected, name in (("- <&-", "input"), (f"{file} >&-", "output")):
+        done = subprocess.run(["sh", "-c", f"{PICTURES / 'draw'} tree {redirected}"], capture_output=True, text=True)
+        assert (done.returncode, done.stderr) == (1, f"draw: standard {name}: it is closed\n")
