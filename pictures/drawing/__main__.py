@@ -4,7 +4,7 @@ import os
 import sys
 from html import escape
 
-from drawing import reading, style, tree
+from drawing import raster, reading, style, tree
 from drawing.journeys import journeys
 from drawing.model import Node, Router, Wrong, WrongWords
 
@@ -85,7 +85,9 @@ def words() -> argparse.ArgumentParser:
         it = commands.add_parser(name, help=about, description=about)
         for file in files:
             it.add_argument(file.lower(), metavar=file)
-        it.set_defaults(run=run)
+        it.set_defaults(run=run, png=False)
+        if name != "page":
+            it.add_argument("--png", action="store_true", help="PNG instead of SVG, where rsvg-convert or inkscape is on the PATH")
         return it
 
     it = command("tree", draw_tree, "The tree as SVG: senders, queues, schedulers and devices; as TREE, - reads standard input", "TREE")
@@ -98,12 +100,24 @@ def words() -> argparse.ArgumentParser:
     return top
 
 
-def write(picture: str) -> None:
+def picture_of(given: argparse.Namespace) -> str | bytes:
+    """What the words ask for, as SVG, HTML or PNG. Before anything is drawn it looks for what makes a PNG."""
+    if not given.png:
+        picture: str = given.run(given)
+        return picture
+    raster.renderer()
+    return raster.png(given.run(given))
+
+
+def write(picture: str | bytes) -> None:
     """Writes a picture to standard output. Where that fails, what is still buffered is discarded, so that Python's exit doesn't write it."""
     if sys.stdout is None:
         raise Wrong("standard output: it is closed")
     try:
-        sys.stdout.write(picture)
+        if isinstance(picture, bytes):
+            sys.stdout.buffer.write(picture)
+        else:
+            sys.stdout.write(picture)
         sys.stdout.flush()
     except OSError as it:
         os.dup2(os.open(os.devnull, os.O_WRONLY), sys.stdout.fileno())
@@ -120,7 +134,7 @@ def main(given_words: list[str] | None = None) -> int:
     """Draws what the words ask for. Status 1 says that a file can't be used, 2 that the words are wrong, and 130 that Ctrl-C ended it."""
     given = words().parse_args(given_words)
     try:
-        write(given.run(given))
+        write(picture_of(given))
     except (Wrong, WrongWords) as it:
         return say(str(it), 1 if isinstance(it, Wrong) else 2)
     except ModuleNotFoundError as it:
