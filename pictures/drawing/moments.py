@@ -79,7 +79,7 @@ def draw(axes: Axes, answer: Answer, span: float, width: float) -> None:
     for row, device in enumerate(reversed(devices(answer))):
         up = 4 + 72 * ROW * row
         ticks = firsts(answer, device)
-        gap = span / width * (0.1 + max(plot.width_of(f"{moment:,}", SIZE) for _, moment in ticks))
+        gap = span / width * (0.1 + plot.width_of(f"{max(moment for _, moment in ticks):,}", SIZE))
         shown = chosen(ticks, gap)
         for line, moment in shown:
             written(axes, line, (0, up), f"{moment:,}", "center", f"moment-{device}-{line}")

@@ -8,7 +8,7 @@ from drawing.journeys import Journey
 from drawing.style import COLOURS, FAINT, INK
 
 # how many places a lane has from left to right, and how many senders have a lane
-BINS, MOST_LANES = 800, 200
+BINS, MOST_LANES = 400, 200
 LANE = 0.55
 
 Sender = tuple[int, list[Journey]]

@@ -3,6 +3,7 @@ import csv
 import re
 from collections import defaultdict
 from pathlib import Path
+from unittest.mock import patch
 
 import pytest
 
@@ -11,7 +12,7 @@ pytest.importorskip("matplotlib", reason="python3-matplotlib is missing")
 from conftest import SCRIPTS, Example, drawn
 from drawing import moments, plot, summary
 from drawing.journeys import Journey
-from drawing.model import Packet
+from drawing.model import Answer, Packet, Pulled
 from drawn import SVG, Chart, words
 
 WITHIN = 0.02
@@ -164,3 +165,10 @@ def test_senders_beyond_the_lanes_are_counted() -> None:
     rows = [(it, [Journey(Packet(it, 0, 9), 1, True)] * (1 + it % 2)) for it in range(2 * summary.MOST_LANES)]
     lanes, rest = summary.lanes(rows)
     assert lanes == rows[1::2] and sorted(rest, key=lambda it: it[0]) == rows[::2]
+
+
+def test_a_row_of_many_moments_measures_few_texts() -> None:
+    answer = Answer(pulls=[Pulled(line, 0, line, None) for line in range(1, 5000)])
+    with patch("drawing.plot.width_of", wraps=plot.width_of) as measured:
+        moments.draw(plot.figure(10, 5).subplots(), answer, 5000, 7)
+    assert measured.call_count < 10
