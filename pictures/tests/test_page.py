@@ -62,7 +62,15 @@ def browser() -> Iterator[Chrome]:
 
 def html_of(example: Example) -> str:
     """The page of an example, made of the files that are kept of it."""
-    router = reading.router("", example.file("click").read_text())
+    return html_with(example, {})
+
+
+def html_with(example: Example, names: dict[str, str]) -> str:
+    """The page of an example in which elements have other names."""
+    text = example.file("click").read_text()
+    for name, instead in names.items():
+        text = re.sub(rf"\b{name}\b", instead, text)
+    router = reading.router("", text)
     answer = reading.answer(str(example.file("out")))
     return page.page(example.name, router, example.file("script").read_text(), answer, reading.visits(str(example.file("csv")), router))
 
@@ -275,16 +283,6 @@ def narrow(browser: Chrome) -> Iterator[Chrome]:
     browser.set_window_size(500, 900)
     yield browser
     browser.set_window_size(1300, 1200)
-
-
-def html_with(example: Example, names: dict[str, str]) -> str:
-    """The page of an example in which elements have other names."""
-    text = example.file("click").read_text()
-    for name, instead in names.items():
-        text = re.sub(rf"\b{name}\b", instead, text)
-    router = reading.router("", text)
-    answer = reading.answer(str(example.file("out")))
-    return page.page(example.name, router, example.file("script").read_text(), answer, reading.visits(str(example.file("csv")), router))
 
 
 @pytest.mark.parametrize("names", [{}, {"qo": "office" * 15, "shares": "shares" * 15}], ids=["short", "long"])
