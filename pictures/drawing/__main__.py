@@ -4,13 +4,15 @@ import os
 import sys
 from html import escape
 
-from drawing import reading, style, tree
+from drawing import raster, reading, style, tree
 from drawing.journeys import journeys
 from drawing.model import Node, Router, Wrong, WrongWords
 
 
 def name_of(path: str) -> str:
     """The name of a file, for a title."""
+    if path == reading.STDIN:
+        return "on standard input"
     return os.path.basename(path).encode(errors="replace").decode()
 
 
@@ -57,7 +59,7 @@ def draw_packets(given: argparse.Namespace) -> str:
     title = f"The packets of {name_of(given.answer)}, from offer to link"
     from drawing import packets
 
-    return style.alone(packets.draw(found, answer.last, title), escape(title))
+    return style.alone(packets.draw(found, answer, title), escape(title))
 
 
 def draw_page(given: argparse.Namespace) -> str:
@@ -83,10 +85,12 @@ def words() -> argparse.ArgumentParser:
         it = commands.add_parser(name, help=about, description=about)
         for file in files:
             it.add_argument(file.lower(), metavar=file)
-        it.set_defaults(run=run)
+        it.set_defaults(run=run, png=False)
+        if name != "page":
+            it.add_argument("--png", action="store_true", help="PNG instead of SVG, where rsvg-convert or inkscape is on the PATH")
         return it
 
-    it = command("tree", draw_tree, "The tree as SVG: senders, queues, schedulers and devices", "TREE")
+    it = command("tree", draw_tree, "The tree as SVG: senders, queues, schedulers and devices; as TREE, - reads standard input", "TREE")
     it.add_argument("report", nargs="?", metavar="REPORT", help="a run's report, or the answer of a script that ends with drain")
     it = command("shares", draw_shares, "What each input of a scheduler got, with the proved bounds, as SVG", "TREE", "VISITS")
     it.add_argument("--node", type=natural, required=True, metavar="N", help="the scheduler, by its number in preorder from 1, as visits and `draw tree` have it")
@@ -96,22 +100,52 @@ def words() -> argparse.ArgumentParser:
     return top
 
 
+def picture_of(given: argparse.Namespace) -> str | bytes:
+    """What the words ask for, as SVG, HTML or PNG. Before anything is drawn it looks for what makes a PNG."""
+    if not given.png:
+        picture: str = given.run(given)
+        return picture
+    raster.renderer()
+    return raster.png(given.run(given))
+
+
+def write(picture: str | bytes) -> None:
+    """Writes a picture to standard output. Where that fails, what is still buffered is discarded, so that Python's exit doesn't write it."""
+    if sys.stdout is None:
+        raise Wrong("standard output: it is closed")
+    try:
+        if isinstance(picture, bytes):
+            sys.stdout.buffer.write(picture)
+        else:
+            sys.stdout.write(picture)
+        sys.stdout.flush()
+    except OSError as it:
+        os.dup2(os.open(os.devnull, os.O_WRONLY), sys.stdout.fileno())
+        raise it if isinstance(it, BrokenPipeError) else Wrong(f"standard output: {it.strerror}") from None
+
+
+def say(words: str, status: int) -> int:
+    """Writes one line to standard error, and returns the status."""
+    print(f"draw: {words}", file=sys.stderr)
+    return status
+
+
 def main(given_words: list[str] | None = None) -> int:
-    """Draws what the words ask for. Status 1 says that a file can't be used, and 2 that the words are wrong."""
+    """Draws what the words ask for. Status 1 says that a file can't be used, 2 that the words are wrong, and 130 that Ctrl-C ended it."""
     given = words().parse_args(given_words)
     try:
-        sys.stdout.write(given.run(given))
-        sys.stdout.flush()
+        write(picture_of(given))
     except (Wrong, WrongWords) as it:
-        print(f"draw: {it}", file=sys.stderr)
-        return 1 if isinstance(it, Wrong) else 2
+        return say(str(it), 1 if isinstance(it, Wrong) else 2)
     except ModuleNotFoundError as it:
         name = (it.name or "").split(".")[0]
-        print(f"draw: Python's {name} is missing: it is in Debian's package python3-{name}", file=sys.stderr)
-        return 1
+        return say(f"Python's {name} is missing: it is in Debian's package python3-{name}", 1)
     except BrokenPipeError:
-        os.dup2(os.open(os.devnull, os.O_WRONLY), sys.stdout.fileno())
         return 1
+    except OSError as it:
+        return say(f"{it.filename or 'a file or a program'}: {it.strerror}", 1)
+    except KeyboardInterrupt:
+        return say("interrupted", 130)
     return 0
 
 

@@ -5,16 +5,17 @@ from itertools import groupby
 
 from matplotlib.axes import Axes
 from matplotlib.lines import Line2D
-from matplotlib.ticker import NullFormatter, NullLocator
+from matplotlib.ticker import NullLocator
 
-from drawing import plot
+from drawing import moments, plot, summary
 from drawing.journeys import Journey
+from drawing.model import Answer
 from drawing.progress import tell
 from drawing.style import COLOURS, FAINT, INK
 
 WAITS, HELD, LOST, OUT = COLOURS[0], COLOURS[1], INK, COLOURS[2]
-# how many packets can have their names written
-FEW = 120
+# how many packets have a row each, and the size of their names in points
+MOST, LABEL = 500, 7
 
 
 def rows_of(journeys: list[Journey]) -> list[tuple[int, list[Journey]]]:
@@ -49,14 +50,16 @@ def draw_ways(axes: Axes, placed: list[tuple[float, Journey]], last: float, size
     marks(axes, [(last, y) for y, it in placed if it.end is None], ">", WAITS, size, "left", filled=False)
 
 
-def key(axes: Axes, height: float) -> None:
+def key(axes: Axes, height: float, is_long: bool) -> None:
     """What the marks mean."""
+    lost = [Line2D([], [], color=LOST, marker="x", linestyle="", label="refused"), Line2D([], [], color=LOST, marker="v", markerfacecolor="none", linestyle="", label="evicted")]
     kinds = [
         Line2D([], [], color=WAITS, marker="|", label="offered, waits in its queue"), Line2D([], [], color=HELD, linewidth=4, label="held as a head"),
-        Line2D([], [], color=OUT, marker="o", linestyle="", label="out of the link"), Line2D([], [], color=LOST, marker="x", linestyle="", label="refused"),
-        Line2D([], [], color=LOST, marker="v", markerfacecolor="none", linestyle="", label="evicted"),
+        Line2D([], [], color=OUT, marker="o", linestyle="", label="out of the link"), *lost,
         Line2D([], [], color=WAITS, marker=">", markerfacecolor="none", linestyle="", label="left at the end"),
     ]
+    if is_long:
+        kinds = [Line2D([], [], color=WAITS, linewidth=6, label="how many wait or are held, all lanes to one scale"), *lost]
     axes.figure.legend(handles=kinds, loc="upper left", bbox_to_anchor=(0.005, 1 - 0.27 / height), ncol=6, fontsize=8, columnspacing=1.2, handletextpad=0.5, labelcolor=INK)
 
 
@@ -87,31 +90,63 @@ def place(rows: list[tuple[int, list[Journey]]], axes: Axes) -> list[tuple[float
     return placed
 
 
-def draw(journeys: list[Journey], lines: int, title: str) -> str:
-    """All packets, as SVG."""
+def singly(left: Axes, right: Axes, rows: list[tuple[int, list[Journey]]], last: float, size: float) -> None:
+    """A row for each packet, with its name."""
+    placed = place(rows, left)
+    draw_ways(left, placed, last, size)
+    draw_places(right, placed, size)
+    left.set_yticks([y for y, _ in placed], [named(it) for _, it in placed], fontsize=LABEL)
+
+
+def named(journey: Journey) -> str:
+    """What is written at the row of a packet."""
+    return f"{journey.packet}  {journey.packet.length:,} B"
+
+
+def room_for_names(rows: list[tuple[int, list[Journey]]]) -> float:
+    """How wide the column of names is, in inches, with some room on both sides."""
+    return max(0.9, 0.2 + max((plot.width_of(named(it), LABEL) for _, of in rows for it in of), default=0))
+
+
+def draw(journeys: list[Journey], answer: Answer, title: str) -> str:
+    """All packets, as SVG: a row for each, or where there are many a lane for each sender."""
     tell(f"drawing {len(journeys):,} packets")
     rows = rows_of(journeys)
+    is_long = len(journeys) > MOST
+    lanes, rest = summary.lanes(rows)
     count = len(journeys) + 1.4 * len(rows)
-    height = 1.35 + min(0.19 * count + 0.2, 60)
-    size = max(0.6, min(7.0, (height - 1.35) * 72 / max(count, 1) * 0.55))
+    head, room = 0.62 + moments.height(answer), max(moments.room(answer), 0.9 if is_long else room_for_names(rows))
+    height = head + 0.73 + (summary.LANE * len(lanes) if is_long else 0.19 * count + 0.2)
     drawn = plot.figure(10, height)
     left, right = drawn.subplots(1, 2, sharey=True, gridspec_kw={"width_ratios": (4, 1)}, squeeze=True)
-    placed = place(rows, left)
-    draw_ways(left, placed, lines + 1, size)
-    draw_places(right, placed, size)
-    left.set_xlim(0, lines + 1.5)
+    last = answer.last + 1
+    if is_long:
+        summary.draw(left, right, lanes, last)
+    else:
+        singly(left, right, rows, last, min(7.0, 0.19 * 72 * 0.55))
+    left.set_xlim(0, last + 0.5)
+    moments.draw(left, answer, last, (9.7 - room) * 0.78)
+    finish(left, right)
+    drawn.suptitle(title, x=0.01, y=1 - 0.07 / height, ha="left", va="top", fontsize=11, fontweight="bold")
+    key(left, height, is_long)
+    drawn.text(0.01, 0.06 / height, note(is_long, rest), fontsize=7.5, color=FAINT, va="bottom")
+    drawn.subplots_adjust(left=room / 10, right=0.985, top=1 - head / height, bottom=0.62 / height, wspace=0.03)
+    return plot.svg(drawn)
+
+
+def finish(left: Axes, right: Axes) -> None:
+    """The axes, which count lines of the answer."""
     plot.whole_numbers(left.xaxis)
     left.set_xlabel("line of the answer")
     left.yaxis.set_minor_locator(NullLocator())
-    if len(journeys) <= FEW:
-        left.set_yticks([y for y, _ in placed], [f"{it.packet}  {it.packet.length:,} B" for _, it in placed], fontsize=7)
-    else:
-        left.yaxis.set_major_formatter(NullFormatter())
-        left.set_yticks([])
     for axes in (left, right):
         axes.tick_params(axis="y", length=0)
         axes.grid(axis="x", color=FAINT, alpha=0.25, linewidth=0.6)
-    drawn.suptitle(title, x=0.01, y=1 - 0.07 / height, ha="left", va="top", fontsize=11, fontweight="bold")
-    key(left, height)
-    drawn.subplots_adjust(left=0.09, right=0.985, top=1 - 0.62 / height, bottom=0.62 / height, wspace=0.03)
-    return plot.svg(drawn)
+
+
+def note(is_long: bool, rest: list[tuple[int, list[Journey]]]) -> str:
+    """What a summary leaves out."""
+    if not is_long:
+        return ""
+    more = f" {len(rest):,} senders with {sum(len(of) for _, of in rest):,} packets have no lane." if rest else ""
+    return f"A summary, for more than {MOST} packets.{more}"

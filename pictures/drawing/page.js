@@ -180,7 +180,7 @@ function begin() {
   $("queues").replaceChildren(...data.queues.map((queue) => {
     const row = Object.assign(document.createElement("tr"), { id: `queue-${queue.name}` });
     row.innerHTML = '<th scope="row"></th><td></td><td></td>';
-    row.cells[0].textContent = queue.name;
+    row.cells[0].textContent = row.cells[0].title = queue.name;
     return row;
   }));
   for (let line = 0; line < data.script.length; line += LINES_A_LIST) $("script").append(listFrom(line));

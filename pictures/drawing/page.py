@@ -53,7 +53,7 @@ def charts(name: str, router: Router, answer: Answer, visits: list[Visit]) -> li
     found = []
     if answer.offers:
         title = "The packets, from offer to link"
-        found.append(style.image(packets.draw(journeys(answer, visits, name), answer.last, title), f"{title}, sender by sender"))
+        found.append(style.image(packets.draw(journeys(answer, visits, name), answer, title), f"{title}, sender by sender"))
     for node in (node for nodes in router.devices for node in nodes if node.element.kind in shares.CAPTIONS):
         title = f"What each input of {node.element.name} got"
         found.append(style.image(shares.draw(router, node, visits, title), f"{title}, with the bounds that are proved of it"))

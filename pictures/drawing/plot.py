@@ -3,6 +3,8 @@ import io
 
 import matplotlib
 from matplotlib.figure import Figure
+from matplotlib.font_manager import FontProperties
+from matplotlib.textpath import TextToPath
 from matplotlib.ticker import FuncFormatter, MaxNLocator
 
 from drawing.progress import tell
@@ -21,9 +23,15 @@ def figure(width: float, height: float) -> Figure:
     return Figure(figsize=(width, height))
 
 
-def whole_numbers(axis: object) -> None:
-    """Has an axis count in whole numbers, with commas."""
-    axis.set_major_locator(MaxNLocator(integer=True, nbins=6, steps=[1, 2, 5, 10]))  # type: ignore[attr-defined]
+def width_of(text: str, size: float) -> float:
+    """How wide a text is, in inches, at a size in points."""
+    width: float = TextToPath().get_text_width_height_descent(text, FontProperties(family=FONT, size=size), ismath=False)[0]
+    return width / 72
+
+
+def whole_numbers(axis: object, most: int = 6) -> None:
+    """Has an axis count in whole numbers, with commas, in so many steps at most."""
+    axis.set_major_locator(MaxNLocator(integer=True, nbins=most, steps=[1, 2, 5, 10]))  # type: ignore[attr-defined]
     axis.set_major_formatter(FuncFormatter(lambda it, _: f"{it:,.0f}"))  # type: ignore[attr-defined]
 
 

@@ -1,6 +1,8 @@
 """Reads the program's own files: canonical tree texts, visits, and the answers of scripts and runs."""
 import csv
 import re
+import sys
+import tempfile
 from collections.abc import Iterator
 
 from drawing import program
@@ -15,6 +17,8 @@ TALLY = re.compile(r"sender (\d{1,15}): sent \d{1,15} \d{1,15}, accepted (\d{1,1
 # how many arguments a canonical text has of each class; of the others there is one at least
 ARGUMENTS = {"Sender": 1, "Queue": 1, "FrontDropQueue": 1, "PrioSched": 0, "RoundRobinSched": 0, "Shaper": 2, "ToDevice": 1}
 COLUMNS = ["pull", "node", "input", "fresh", "sender", "number", "length", "passed", "moment"]
+# the word that stands for standard input
+STDIN = "-"
 
 
 def text_of(path: str) -> str:
@@ -44,10 +48,38 @@ def numbers(words: list[str]) -> list[int]:
 
 
 def tree(path: str) -> Router:
-    """The plan of a tree text. The program brings it to canonical form; where there is none, it has to be in that already."""
+    """The plan of a tree text, which - reads from standard input. The program brings it to canonical form; where there is none, it has to
+    be in that already."""
+    if path == STDIN:
+        return tree_of("standard input", from_stdin())
     text = text_of(path)
-    if program.is_there():
-        return router(path, program.answer(path, "check", path))
+    return router(path, program.answer(path, "check", path)) if program.is_there() else canonical_tree(path, text)
+
+
+def tree_of(name: str, text: str) -> Router:
+    """The plan of a tree text that is in no file. The program reads it from a temporary one."""
+    if not program.is_there():
+        return canonical_tree(name, text)
+    with tempfile.NamedTemporaryFile("w", suffix=".click", encoding="utf-8", newline="") as file:
+        file.write(text)
+        file.flush()
+        return router(name, program.answer(name, "check", file.name))
+
+
+def from_stdin() -> str:
+    """What is on standard input."""
+    if sys.stdin is None:
+        raise Wrong("standard input: it is closed")
+    try:
+        return sys.stdin.buffer.read().decode("utf-8")
+    except OSError as it:
+        raise Wrong(f"standard input: {it.strerror}") from None
+    except UnicodeDecodeError:
+        raise Wrong("standard input: it isn't a text") from None
+
+
+def canonical_tree(path: str, text: str) -> Router:
+    """The plan of a tree text where there is no program."""
     try:
         return router(path, text)
     except Wrong as it:

@@ -5,7 +5,7 @@ from drawing import plot
 from drawing.laws import Share, shares
 from drawing.model import Node, Router, Visit
 from drawing.progress import tell
-from drawing.style import COLOURS, FAINT, INK
+from drawing.style import COLOURS, FAINT, INK, short, titled
 from drawing.tree import counted
 
 CAPTIONS = {
@@ -61,9 +61,10 @@ def label(node: Node, it: int, share: Share) -> str:
     arguments = node.element.numbers
     own = arguments[it if len(arguments) > 1 else 0]
     outside = "; LEAVES THE BAND" if share.outside else ""
+    name = short(node.inputs[it])
     if node.element.kind == "DRRSched":
-        return f"[{it}] {node.inputs[it]}: {counted(own, 'byte', 'bytes')} an arrival; {counted(share.arrivals, 'arrival', 'arrivals')}, {share.got[-1]:,.0f} bytes{outside}"
-    return f"[{it}] {node.inputs[it]}: {counted(own, 'ticket', 'tickets')}; {counted(int(share.got[-1]), 'packet', 'packets')}{outside}"
+        return f"[{it}] {name}: {counted(own, 'byte', 'bytes')} an arrival; {counted(share.arrivals, 'arrival', 'arrivals')}, {share.got[-1]:,.0f} bytes{outside}"
+    return f"[{it}] {name}: {counted(own, 'ticket', 'tickets')}; {counted(int(share.got[-1]), 'packet', 'packets')}{outside}"
 
 
 def columns_of(inputs: int) -> int:
@@ -88,16 +89,16 @@ def draw(router: Router, node: Node, visits: list[Visit], title: str, narrower: 
             axes.set_axis_off()
             continue
         draw_input(axes, found[it], end, f"{name}-{it}", it)
-        axes.set_title(label(node, it, found[it]), loc="left", fontsize=9 if columns == 1 else 7)
+        axes.set_title(label(node, it, found[it]), loc="left", fontsize=9 if columns == 1 else 7, gid=f"input-{name}-{it}")
         axes.grid(axis="y", color=FAINT, alpha=0.25, linewidth=0.6)
     finish(panels[0][0], found, end, node)
     unit = "bytes" if node.element.kind == "DRRSched" else "packets"
-    drawn.suptitle(f"{title} ({node.element.kind}, {router.where(node)})", x=0.01, y=1 - 0.08 / height, ha="left", va="top", fontsize=11, fontweight="bold")
+    drawn.suptitle(f"{title.replace(node.element.name, short(node.element.name))} ({node.element.kind}, {router.where(node)})", x=0.01, y=1 - 0.08 / height, ha="left", va="top", fontsize=11, fontweight="bold")
     drawn.supylabel(f"passed so far ({unit})", x=0.01, fontsize=9, color=INK)
     drawn.text(0.01, 0.06 / height, "\n".join(CAPTIONS[node.element.kind]), fontsize=7.5, color=FAINT, va="bottom")
     drawn.text(0.985, 0.4 / height, "pulls of the link", ha="right", va="bottom", fontsize=9)
     drawn.subplots_adjust(left=0.1 * 9 / width, right=0.985, top=1 - 0.55 / height, bottom=0.8 / height, hspace=0.35, wspace=0.08)
-    return plot.svg(drawn)
+    return titled(plot.svg(drawn), {f"input-{name}-{it}": whole for it, whole in enumerate(node.inputs)})
 
 
 def finish(axes: Axes, found: list[Share], end: float, node: Node) -> None:

@@ -1,6 +1,7 @@
 """How pictures look: colours that most people can tell apart, and ink on paper, which change places where it is dark."""
 import base64
 import re
+from html import escape
 
 # Okabe and Ito's colours that are seen on both white and black. Nothing is told by colour alone.
 COLOURS = ("#0072b2", "#d55e00", "#009e73", "#cc79a7", "#e69f00", "#56b4e9")
@@ -8,6 +9,23 @@ COLOURS = ("#0072b2", "#d55e00", "#009e73", "#cc79a7", "#e69f00", "#56b4e9")
 INK, FAINT, PAPER, FILL = "#1b1b1b", "#5e5e5e", "#ffffff", "#f0f0ec"
 IN_THE_DARK = {INK: "#ececec", FAINT: "#b4b4b4", PAPER: "#161616", FILL: "#2b2b2e"}
 FONT = "DejaVu Sans"
+
+# how many characters of a name are shown
+LONGEST = 24
+
+
+def short(name: str) -> str:
+    """A name, of which the middle gives way to an ellipsis where it is long: names often differ at their ends."""
+    half = LONGEST // 2
+    return name if len(name) <= LONGEST else f"{name[:half]}…{name[1 - half :]}"
+
+
+def titled(svg: str, wholes: dict[str, str]) -> str:
+    """A picture in which these parts have titles, the whole names, where they are shown shortened."""
+    for part, whole in wholes.items():
+        if short(whole) != whole:
+            svg = svg.replace(f'<g id="{part}">', f'<g id="{part}">\n<title>{escape(whole)}</title>', 1)
+    return svg
 
 
 def dark() -> str:

@@ -5,16 +5,20 @@ from html import escape
 
 from drawing.model import QUEUES, SCHEDULERS, Counts, Element, Node, Router, Wrong
 from drawing.progress import tell
-from drawing.style import COLOURS, FAINT, FILL, FONT, INK, PAPER
+from drawing.style import COLOURS, FAINT, FILL, FONT, INK, PAPER, short
 
+# how much room there is in an element on the sides, and above and below, in inches
+ROOM, CLOSE = "0.14,0.07", "0.06,0.02"
 # The shape of each kind, so that none is told by its colour alone.
 SHAPES = {
     "Sender": f'shape=ellipse fillcolor="{PAPER}"',
     "Queue": f'shape=box fillcolor="{FILL}"',
     "FrontDropQueue": f'shape=box style="filled,dashed" fillcolor="{FILL}"',
-    "ToDevice": f'shape=box peripheries=2 fillcolor="{PAPER}"',
+    "ToDevice": f'shape=box peripheries=2 margin="{ROOM}" fillcolor="{PAPER}"',
 }
-SCHEDULER = f'shape=box style="filled,rounded" penwidth=1.6 fillcolor="{PAPER}"'
+SCHEDULER = f'shape=box style="filled,rounded" penwidth=1.6 margin="{ROOM}" fillcolor="{PAPER}"'
+# above so many elements senders and queues have one line each, and stand close
+LARGE = 60
 UNITS = {"DRRSched": ("byte", "bytes"), "StrideSched": ("ticket", "tickets")}
 
 
@@ -27,7 +31,8 @@ def declaration(element: Element) -> list[str]:
     """The class of an element with its arguments, in lines of eight."""
     if not element.arguments:
         return [element.kind]
-    rows = [", ".join(element.arguments[it : it + 8]) for it in range(0, len(element.arguments), 8)]
+    shown = [short(it) for it in element.arguments]
+    rows = [", ".join(shown[it : it + 8]) for it in range(0, len(shown), 8)]
     return f"{element.kind}({',;'.join(rows)})".split(";")
 
 
@@ -43,17 +48,35 @@ def lines_of(element: Element, node: Node | None, counts: Counts | None) -> list
         lines.append(f"device {node.device}")
     if element.kind in SCHEDULERS and node:
         lines.append(f"node {node.number}")
-    if counts:
-        lines += [f"took {counts.accepted:,}", f"refused {counts.refused:,}", f"evicted {counts.evicted:,}"]
-    return lines
+    return lines + told(counts)
 
 
-def box(element: Element, node: Node | None, counts: Counts | None) -> str:
+def row(words: str, size: int) -> str:
+    """A line of an element. An underscore hangs below its line, and has more room."""
+    height = f' height="{size + 5}" valign="top"' if "_" in words else ""
+    return f"<tr><td{height}>{words}</td></tr>"
+
+
+def label(element: Element, node: Node | None, counts: Counts | None, is_large: bool) -> str:
+    """What is written in an element: its name, and the lines below it, which in a large tree follow it on one line where no scheduler is."""
+    name = f"<b>{short(element.name)}</b>"
+    if is_large and element.kind in ("Sender", *QUEUES):
+        rest = escape(", ".join(declaration(element) + told(counts)))
+        return f'<<table border="0" cellspacing="0" cellpadding="0"><tr><td>{name}</td><td width="5"></td><td>{rest}</td></tr></table>>'
+    lines = [name, *(escape(it) for it in lines_of(element, node, counts))]
+    return f'<<table border="0" cellspacing="0" cellpadding="0">{"".join(row(it, 11) for it in lines)}</table>>'
+
+
+def told(counts: Counts | None) -> list[str]:
+    """What became of the packets of a queue."""
+    return [f"took {counts.accepted:,}", f"refused {counts.refused:,}", f"evicted {counts.evicted:,}"] if counts else []
+
+
+def box(element: Element, node: Node | None, counts: Counts | None, is_large: bool) -> str:
     """An element, as graphviz wants it."""
     has_lost = counts is not None and counts.refused + counts.evicted > 0
     shape = SHAPES.get(element.kind, SCHEDULER) + (f' color="{COLOURS[1]}" penwidth=2.5' if has_lost else "")
-    words = "<br/>".join(escape(it) for it in lines_of(element, node, counts))
-    return f'"{element.name}" [id="element-{element.name}" {shape} label=<<b>{element.name}</b><br/>{words}>];'
+    return f'"{element.name}" [id="element-{element.name}" {shape} label={label(element, node, counts, is_large)}];'
 
 
 def port(node: Node, at: int) -> str:
@@ -80,13 +103,15 @@ def edges(router: Router) -> list[str]:
 def dot(router: Router, title: str, counts: dict[str, Counts]) -> str:
     """The tree in graphviz's language."""
     nodes = {node.element.name: node for nodes in router.devices for node in nodes}
-    boxes = [box(it, nodes.get(it.name), counts.get(it.name)) for it in router.elements.values()]
+    is_large = len(router.elements) > LARGE
+    room, between = (f'margin="{CLOSE}" height=0.1', 0.04) if is_large else (f'margin="{ROOM}"', 0.25)
+    boxes = [box(it, nodes.get(it.name), counts.get(it.name), is_large) for it in router.elements.values()]
     key = "A filled arrow pushes, an open one is pulled. A FrontDropQueue is dashed." + (" Counts are packets; a queue that lost some has a thick border." if counts else "")
     return "\n".join([
         "digraph {",
-        f'graph [rankdir=LR bgcolor="{PAPER}" fontname="{FONT}" fontsize=12 fontcolor="{INK}" labelloc=t ranksep=0.7 nodesep=0.25 pad=0.2',
+        f'graph [rankdir=LR bgcolor="{PAPER}" fontname="{FONT}" fontsize=12 fontcolor="{INK}" labelloc=t ranksep=0.7 nodesep={between} pad=0.2',
         f'  label=<<b>{escape(title)}</b><br/><font point-size="10" color="{FAINT}">{key}</font><br/> >];',
-        f'node [style=filled color="{INK}" fontname="{FONT}" fontsize=11 fontcolor="{INK}" margin="0.14,0.07"];',
+        f'node [style=filled color="{INK}" fontname="{FONT}" fontsize=11 fontcolor="{INK}" {room}];',
         f'edge [color="{INK}" fontname="{FONT}" fontsize=10 fontcolor="{INK}"];',
         *boxes,
         *edges(router),
@@ -102,4 +127,12 @@ def draw(router: Router, title: str, counts: dict[str, Counts]) -> str:
     done = subprocess.run(["dot", "-Tsvg"], input=dot(router, title, counts), capture_output=True, text=True)
     if done.returncode:
         raise Wrong(f"dot: {done.stderr.strip()}")
-    return done.stdout
+    return with_whole_arguments(done.stdout, router)
+
+
+def with_whole_arguments(svg: str, router: Router) -> str:
+    """The drawing, of which each title has the whole name of its element, and the whole arguments where some were shortened."""
+    for it in router.elements.values():
+        if any(short(word) != word for word in it.arguments):
+            svg = svg.replace(f"<title>{it.name}</title>", f"<title>{it.name} :: {it.kind}({escape(', '.join(it.arguments))})</title>", 1)
+    return svg

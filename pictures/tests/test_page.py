@@ -62,7 +62,15 @@ def browser() -> Iterator[Chrome]:
 
 def html_of(example: Example) -> str:
     """The page of an example, made of the files that are kept of it."""
-    router = reading.router("", example.file("click").read_text())
+    return html_with(example, {})
+
+
+def html_with(example: Example, names: dict[str, str]) -> str:
+    """The page of an example in which elements have other names."""
+    text = example.file("click").read_text()
+    for name, instead in names.items():
+        text = re.sub(rf"\b{name}\b", instead, text)
+    router = reading.router("", text)
     answer = reading.answer(str(example.file("out")))
     return page.page(example.name, router, example.file("script").read_text(), answer, reading.visits(str(example.file("csv")), router))
 
@@ -270,12 +278,34 @@ def test_pictures_alone_are_legible(name: str, scheme: str, browser: Chrome, tmp
     assert inks and all(contrast(ink, paper) >= 4.5 for ink in inks), (inks, paper)
 
 
-def test_nothing_is_cut_off_on_a_narrow_screen(browser: Chrome, tmp_path: Path) -> None:
+@pytest.fixture
+def narrow(browser: Chrome) -> Iterator[Chrome]:
     browser.set_window_size(500, 900)
-    open_page(browser, tmp_path, html_of(Example("branch-office")))
-    wide = browser.execute_script("return [document.documentElement.scrollWidth, document.documentElement.clientWidth]")
+    yield browser
     browser.set_window_size(1300, 1200)
-    assert wide[0] <= wide[1]
+
+
+@pytest.mark.parametrize("names", [{}, {"qo": "office" * 15, "shares": "shares" * 15}], ids=["short", "long"])
+def test_nothing_is_cut_off_on_a_narrow_screen(names: dict[str, str], narrow: Chrome, tmp_path: Path) -> None:
+    open_page(narrow, tmp_path, html_with(Example("branch-office"), names))
+    for _ in range(12):
+        shown = press(narrow, Keys.ARROW_DOWN)
+        wide = narrow.execute_script("return [document.documentElement.scrollWidth, document.documentElement.clientWidth]")
+        assert wide[0] <= wide[1], shown["words"]
+    titles = narrow.execute_script("return [...document.querySelectorAll('tbody th')].map((it) => [it.title, it.textContent])")
+    assert all(title == text for title, text in titles) and set(names.values()) & {it[0] for it in titles} == set(list(names.values())[:1])
+    cells = narrow.execute_script("const box = document.querySelector('table').parentNode.getBoundingClientRect(); return [...document.querySelectorAll('td, th')].map((it) => it.getBoundingClientRect().right - box.right)")
+    assert max(cells) <= 1
+
+
+def test_the_head_leaves_room_in_a_narrow_window(narrow: Chrome, tmp_path: Path) -> None:
+    open_page(narrow, tmp_path, html_of(Example("branch-office")))
+    for key in (Keys.HOME, *[Keys.ARROW_RIGHT] * 20, Keys.END):
+        press(narrow, key)
+        head, window = narrow.execute_script("return [document.querySelector('header').offsetHeight, innerHeight]")
+        assert head <= window / 5, (head, window)
+    sizes = narrow.execute_script("return [...document.querySelectorAll('button')].map((it) => [it.textContent.trim().length, it.offsetWidth, it.offsetHeight])")
+    assert all(words > 4 and width >= 24 and height >= 24 for words, width, height in sizes)
 
 
 def test_ten_thousand_visits_are_stepped_through(browser: Chrome, tmp_path: Path) -> None:

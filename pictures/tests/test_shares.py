@@ -8,8 +8,8 @@ import pytest
 pytest.importorskip("matplotlib", reason="python3-matplotlib is missing")
 
 from conftest import ALL, Example, drawn
-from drawing import laws, reading, shares
-from drawn import Chart, Points
+from drawing import laws, plot, reading, shares
+from drawn import SVG, Chart, Points, words
 
 # Each scheduler that has shares: its example, its device, and its node.
 SHARERS = [("branch-office", 0, 3), ("branch-office", 0, 4), ("fair-shares", 0, 1), ("night-backup", 0, 1), ("shared", 0, 1),
@@ -142,3 +142,17 @@ def test_a_visit_that_the_law_forbids_leaves_the_band() -> None:
     # The first input passes once more than its deficit covers.
     twice = [visits[0], *visits]
     assert any(it.outside for it in laws.shares(router.devices[0][1], twice))
+
+
+def test_long_names_are_shortened_and_whole_in_titles() -> None:
+    example = Example("fair-shares")
+    text = example.file("click").read_text()
+    plain = reading.router("", text).devices[0][1]
+    longer = {name: name * 40 for name in (plain.element.name, *plain.inputs)}
+    for name, instead in longer.items():
+        text = re.sub(rf"\b{name}\b", instead, text)
+    router = reading.router("", text)
+    chart = Chart(shares.draw(router, router.devices[0][1], reading.visits(str(example.file("csv"))), f"What each input of {longer[plain.element.name]} got"))
+    assert not any(name in written for name in longer.values() for written in words(chart.root))
+    assert [chart.parts[f"input-0-1-{it}"].findtext(f"{SVG}title") for it in range(len(plain.inputs))] == [longer[it] for it in plain.inputs]
+    assert all(72 * plot.width_of(written, 9) < 9 * 72 * 0.89 for it in range(len(plain.inputs)) for written in words(chart.parts[f"input-0-1-{it}"]))

@@ -1,4 +1,7 @@
 """Wrong words, and wrong and missing files: the status, and the line that says which and why."""
+import os
+import shutil
+import signal
 import subprocess
 import sys
 from pathlib import Path
@@ -123,3 +126,23 @@ def test_the_command_itself() -> None:
 def test_nobody_reads_to_the_end() -> None:
     words = f"{PICTURES / 'draw'} tree {TREE} | head -c 10 > /dev/null"
     assert "Traceback" not in subprocess.run(["bash", "-c", words], capture_output=True, text=True).stderr
+
+
+@pytest.mark.skipif(not Path("/dev/full").exists(), reason="there is no /dev/full")
+def test_a_full_disk_is_told_in_one_line() -> None:
+    if not shutil.which("dot"):
+        pytest.skip("graphviz is missing")
+    with open("/dev/full", "w") as full:
+        done = subprocess.run([PICTURES / "draw", "tree", TREE], stdout=full, stderr=subprocess.PIPE, text=True)
+    assert (done.returncode, done.stderr) == (1, "draw: standard output: No space left on device\n")
+
+
+def test_control_c_ends_it_with_one_line(tmp_path: Path) -> None:
+    pipe = tmp_path / "pipe"
+    os.mkfifo(pipe)
+    running = subprocess.Popen([PICTURES / "draw", "tree", pipe], stdout=subprocess.PIPE, stderr=subprocess.PIPE, text=True)
+    # Opening waits until the command reads.
+    with open(pipe, "w"):
+        running.send_signal(signal.SIGINT)
+        out, err = running.communicate(timeout=60)
+    assert (running.returncode, out, err) == (130, "", "draw: interrupted\n")
