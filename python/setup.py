@@ -1,4 +1,8 @@
-"""Tags the wheel: one that carries the shared library is for this machine's platform, and any Python 3. All else is in pyproject.toml."""
+"""Tags the wheel, and puts the texts of the licence beside this file, where packages take them from. All else is in pyproject.toml.
+
+A wheel that carries the shared library is for this machine's platform, and any Python 3. The texts stand at the top of the repository.
+"""
+import shutil
 from pathlib import Path
 
 from setuptools import Distribution, setup
@@ -8,7 +12,15 @@ try:
 except ImportError:
     from wheel.bdist_wheel import bdist_wheel
 
-CARRIES_LIBRARY = any((Path(__file__).resolve().parent / "clickpull").glob("libclickpull.so*"))
+HERE = Path(__file__).resolve().parent
+CARRIES_LIBRARY = any((HERE / "clickpull").glob("libclickpull.so*"))
+
+
+def put_licence() -> None:
+    """Copies the texts of the licence from the folder above. An archive of the sources has them here already."""
+    for it in ("LICENSE", "LICENSE-MIT", "LICENSE-APACHE"):
+        if (HERE.parent / it).exists():
+            shutil.copyfile(HERE.parent / it, HERE / it)
 
 
 class Module(Distribution):
@@ -28,4 +40,5 @@ class Wheel(bdist_wheel):
         return "py3", "none", platform
 
 
+put_licence()
 setup(distclass=Module, cmdclass={"bdist_wheel": Wheel})

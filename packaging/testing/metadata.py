@@ -108,13 +108,15 @@ def wheel_of(source: Path, folder: Path) -> tuple[str, dict[str, bytes]]:
 def wheels_are_right(folder: Path) -> None:
     """A wheel has the module's version and licence, and is for any platform unless it carries the library."""
     source = folder / "python"
+    texts = ["LICENSE", *(file for file, _, _ in LICENCES.values())]
     shutil.copytree(ROOT / "python", source, ignore=shutil.ignore_patterns("build", "*.egg-info"))
+    for it in texts:
+        shutil.copyfile(ROOT / it, folder / it)
     tag, files = wheel_of(source, folder / "pure")
     compare("the tag", tag, "py3-none-any")
     told: Message = message_from_bytes(files["dist-info/METADATA"])
     compare("the version", told["Version"], said(ROOT / "python" / "clickpull" / "__init__.py", r'^__version__ = "(.+)"$'))
     compare("the licence", told["License"], wanted_licence())
-    texts = ["LICENSE", *(file for file, _, _ in LICENCES.values())]
     compare("the texts of licences", [files.get(f"dist-info/{it}") for it in texts], [(ROOT / it).read_bytes() for it in texts])
     (source / "clickpull" / "libclickpull.so.0").write_text("stands in")
     tag, files = wheel_of(source, folder / "carries")
