@@ -10,11 +10,7 @@ use clk_rows::trees::PRIO_OVER_ROOM_FOR_TWO;
 use clk_script::{Command, ScriptWriter};
 
 /// Writes the record of some commands, and of the drain from this moment on, in ticks.
-fn write_record<W: Sink>(
-    commands: &[Command],
-    drain: u64,
-    sink: &mut W,
-) -> Result<(), Fault>
+fn write_record<W: Sink>(commands: &[Command], drain: u64, sink: &mut W) -> Result<(), Fault>
     ensures whole { OnOk result (Appends (W.Sink.taken sink.old) (W.Sink.taken sink.new) (record_text commands.now (Some drain))) }
 {
     let mut writer = ScriptWriter::new();
@@ -36,7 +32,12 @@ const fn pull(device: u16, moment: u64) -> Command {
 #[test]
 fn each_command_has_its_line(rt: HostRuntime) -> Result<(), Fault> {
     let last = (1 << 40) - 1;
-    let commands = [send(0, 1), send(65_535, 65_535), pull(0, 0), pull(65_535, last)];
+    let commands = [
+        send(0, 1),
+        send(65_535, 65_535),
+        pull(0, 0),
+        pull(65_535, last),
+    ];
     let mut sink = FailingSink::new(vec![in rt.alloc(); 0; 1024]?);
     write_record(&[], 0, &mut sink)?;
     write_record(&commands, last, &mut sink)?;
@@ -50,7 +51,14 @@ fn each_command_has_its_line(rt: HostRuntime) -> Result<(), Fault> {
 /// What a router did, recorded and run again: a refusal, a packet that came out, an empty pull, and the closing.
 #[test]
 fn a_record_is_run_again(rt: HostRuntime) -> Result<(), Fault> {
-    let commands = [send(1, 20), send(1, 30), send(1, 40), pull(0, 5), pull(0, 5), pull(0, 6)];
+    let commands = [
+        send(1, 20),
+        send(1, 30),
+        send(1, 40),
+        pull(0, 5),
+        pull(0, 5),
+        pull(0, 6),
+    ];
     let mut sink = FailingSink::new(vec![in rt.alloc(); 0; 1024]?);
     write_record(&commands, 9, &mut sink)?;
     assert_ends(
@@ -72,7 +80,10 @@ fn a_late_moment_is_not_recorded(rt: HostRuntime) -> Result<(), Fault> {
     let mut sink = FailingSink::new(vec![in rt.alloc(); 0; 1024]?);
     let mut writer = ScriptWriter::new();
     writer.record(send(3, 9), &mut sink)?;
-    assert_eq!(rt; writer.record(pull(1, 1 << 40), &mut sink), Err(Fault::TooLarge));
+    assert_eq!(rt;
+        writer.record(pull(1, 1 << 40), &mut sink),
+        Err(Fault::TooLarge)
+    );
     writer.record(pull(1, 7), &mut sink)?;
     writer.finish(&mut sink)?;
     assert_eq!(rt; sink.taken(), b"send 3 9\npull 7 1\n".as_slice());
@@ -101,7 +112,10 @@ fn a_record_has_a_million_lines_at_most(rt: HostRuntime) -> Result<(), Fault> {
 fn a_sink_that_fails_has_a_front(rt: HostRuntime) -> Result<(), Fault> {
     for room in [0, 1, 12] {
         let mut sink = FailingSink::new(vec![in rt.alloc(); 0; room]?);
-        assert_eq!(rt; write_record(&[send(0, 1)], 2, &mut sink), Err(Fault::Write));
+        assert_eq!(rt;
+            write_record(&[send(0, 1)], 2, &mut sink),
+            Err(Fault::Write)
+        );
         let whole = b"send 0 1\ndrain 2\n";
         assert_eq!(rt; sink.taken(), &whole[..room]);
     }
@@ -119,6 +133,10 @@ fn a_long_record_is_written_as_it_grows(rt: HostRuntime) -> Result<(), Fault> {
     assert!(rt; sink.taken().len() > 16_000);
     writer.finish(&mut sink)?;
     assert_eq!(rt; sink.taken().len(), 36_000);
-    assert!(rt; sink.taken().chunks(9).all(|line| line == b"send 0 1\n".as_slice()));
+    assert!(rt;
+        sink.taken()
+            .chunks(9)
+            .all(|line| line == b"send 0 1\n".as_slice())
+    );
     Ok(())
 }
