@@ -13,7 +13,7 @@ use Rattle.clap.specs.declared.builder.command.Command.{Command}
 use Rattle.clap.specs.declared.builder.command.Command.TheViews.{out-Command as fields_of}
 use Rattle.clap.specs.declared.builder.value_parser.ValueParser.TheVariants.{Signed}
 use Rattle.std.specs.Borrow.{Bor}
-use Rattle.clk_drain.specs.Limits.{most_step, most_limit}
+use Rattle.clk_gate.specs.Limits.{most_step, most_limit}
 use Rattle.clk_command.specs.declared.words.Asked.{Asked}
 use Rattle.clk_command.specs.declared.words.Asked.TheVariants.{Builtin, Check, Script, Run}
 

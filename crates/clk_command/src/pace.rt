@@ -1,7 +1,7 @@
 //! The pace of a run.
 
 ghost use Rattle.std.specs.Prelude.{◌≤◌};
-ghost use Rattle.clk_drain.specs.Limits.{most_limit, most_step};
+ghost use Rattle.clk_gate.specs.Limits.{most_limit, most_step};
 
 /// How devices are pulled while producers run.
 #[derive(Clone, Copy, Debug, PartialEq, Eq)]

@@ -7,7 +7,7 @@ ghost use Rattle.clap.specs.Kinds.{FailsBy};
 ghost use Rattle.clap.specs.Matches.{found_of};
 ghost use Rattle.clap.specs.Simple.{new_app, subcommand_rows_of};
 ghost use Rattle.clap.specs.Walk.{first_of, rows_of};
-ghost use Rattle.clk_drain.specs.Limits.{most_step, most_limit};
+ghost use Rattle.clk_gate.specs.Limits.{most_step, most_limit};
 ghost use Rattle.clk_command.specs.Words.{file_word, file_option, number_option, top_words, check_words, script_words, run_words, program_words, number_of, path_of, within_one_and, task, task_of, text_of, task_in, Reads, IsWord};
 
 use crate::pace::Pace;

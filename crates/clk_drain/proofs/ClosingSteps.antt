@@ -22,7 +22,7 @@ use Rattle.clk_drain.specs.Outcome.{SharedQueue, Device, senders_to}
 use Rattle.clk_drain.specs.Closing.{device_of, seated, AreInOrder, IsDrainedTo, IsFaultOfDrain}
 use Rattle.clk_drain.specs.Lost.{SeatedQueue, HasReached, NamesFirstLost}
 use Rattle.clk_drain.specs.inside.Closing.{IsDrainedAs}
-use Rattle.clk_drain.specs.Limits.{most_step, most_limit}
+use Rattle.clk_gate.specs.Limits.{most_step, most_limit}
 use Rattle.clk_drain.specs.Moments.{steps}
 use Rattle.clk_drain.specs.inside.Threads.{Terms, Feed}
 use Rattle.clk_drain.specs.inside.Handed.{IsReadyToClose, AreApartDevices, IsClosedDevice, AreClosedDevices, AreKeptLogs, AreSettledTogether, seated_in, IsFaultOfClosing}

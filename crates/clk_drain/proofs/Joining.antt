@@ -24,7 +24,8 @@ use Rattle.clk_drain.specs.inside.Opening.{rooms_for, setup_for, IsOpenAs, AreOp
 use Rattle.clk_drain.proofs.Apart.{apart-parts}
 use Rattle.clk_drain.proofs.Settling.{all-join, senders-same}
 use Rattle.clk_drain.proofs.Still.{same-lines}
-use Rattle.clk_drain.proofs.TraceSums.{within-trace, accepted-over-within}
+use Rattle.clk_gate.proofs.Callers.TraceSums.{within-trace}
+use Rattle.clk_drain.proofs.TraceSums.{accepted-over-within}
 
 -- Of closed seats the first are those of the first seats, and the others those of the others.
 sent-first : (terms : Terms) (seats more : List SeatLists) (closed : List ClosedLists) → HaveSentAll terms (seats ++ more) closed

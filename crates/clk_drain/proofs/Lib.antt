@@ -35,6 +35,5 @@ mod Opened
 mod PlanDevices
 mod Refused
 mod WholeRun
-mod Known
 mod WorkedMoments
 mod WorkedLost

@@ -10,7 +10,7 @@ use Rattle.clk_sched.specs.Log.{pulls, moment_of}
 use Rattle.clk_sched.specs.Results.{leaf_packets}
 use Rattle.clk_sched.specs.Session.{Progress, latest_moment, counted_moment, newly, IsPulledOnce}
 use Rattle.clk_drain.specs.Line.{LineLists, pulling_all, AreLinesOf}
-use Rattle.clk_drain.specs.Limits.{most_limit}
+use Rattle.clk_gate.specs.Limits.{most_limit}
 use Rattle.clk_drain.specs.Moments.{steps}
 use Rattle.clk_drain.specs.inside.Threads.{Terms, Feed, IsUnpulled, IsPulledAt, IsPulledFor}
 use Rattle.clk_drain.proofs.Growing.{all-none, all-twice}

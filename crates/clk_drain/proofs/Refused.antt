@@ -16,7 +16,8 @@ use Rattle.clk_drain.specs.Lost.{SeatedQueue, NamesFirstLost}
 use Rattle.clk_drain.specs.inside.Threads.{Terms, Feed}
 use Rattle.clk_drain.specs.inside.Handed.{EndLists, seated_in, IsFaultOfClosing}
 use Rattle.clk_drain.specs.inside.Devices.{AreOpenFrom}
-use Rattle.clk_drain.specs.Run.{queues_at, queues_in_order, senders_in, AreKnown, HasOffered, IsFaultOfRun}
+use Rattle.clk_gate.specs.Known.{senders_in, AreKnown}
+use Rattle.clk_drain.specs.Run.{queues_at, queues_in_order, HasOffered, IsFaultOfRun}
 use Rattle.clk_drain.proofs.Joining.{AreJoinedFeeds}
 use Rattle.clk_drain.proofs.PlanDevices.{queues_by_device}
 use Rattle.clk_drain.proofs.Settling.{all-join}

@@ -8,7 +8,8 @@ use Rattle.clk_packet.specs.Lists.{AreRising}
 use Rattle.clk_ruled.specs.Rooms.{named_in, rooms_in_all}
 use Rattle.clk_drain.specs.inside.Opening.{rooms_for}
 use Rattle.clk_packet.proofs.Callers.Lists.{rising-distinct}
-use Rattle.clk_drain.proofs.TraceSums.{within-trace, rooms-sent}
+use Rattle.clk_gate.proofs.Callers.TraceSums.{within-trace}
+use Rattle.clk_drain.proofs.TraceSums.{rooms-sent}
 
 -- Rooms were made for the first so many of the senders. Where there is one, it is known how long a trace may be.
 pub record AreRooms (traces : List (List Packet)) (senders : List ℕ) (made : List (ℕ × ℕ)) (i : ℕ) : Type 0 where

@@ -18,7 +18,8 @@ use Rattle.clk_drain.specs.declared.outcome.PackedOutcome.{PackedOutcome}
 use Rattle.clk_drain.specs.declared.running.opening.LeafQueue.{LeafQueue}
 use Rattle.clk_drain.specs.inside.Threads.{Terms, Feed, HaveSentAll}
 use Rattle.clk_drain.specs.inside.Handed.{EndLists, PulledLists, HavePulled, AreAllJoinable, IsReadyToClose, AreApartDevices, AreKeptLogs, AreSettledTogether, IsFaultOfClosing, seats_given, feeds_from, joined_feeds}
-use Rattle.clk_drain.specs.Run.{IsRunWith, IsRunOutcome, IsKeptRun, senders_in, AreKnown, IsFaultOfRun}
+use Rattle.clk_gate.specs.Known.{senders_in, AreKnown}
+use Rattle.clk_drain.specs.Run.{IsRunWith, IsRunOutcome, IsKeptRun, IsFaultOfRun}
 use Rattle.clk_drain.specs.inside.Devices.{AreOpenFrom, KeepVisits}
 use Rattle.clk_drain.specs.Outcome.{SharedQueue, Device}
 use Rattle.clk_drain.proofs.Joining.{AreJoinedFeeds, all-joined, all-ready, all-apart, joined-kept}

@@ -4,7 +4,6 @@ pub mod Outcome
 pub mod Lost
 pub mod Closing
 pub mod Parts
-pub mod Limits
 pub mod Moments
 pub mod Opening
 pub mod Run

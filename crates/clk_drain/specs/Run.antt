@@ -13,6 +13,7 @@ use Rattle.clk_sched.specs.Packed.{logged}
 use Rattle.clk_tree.specs.Plan.{Planned}
 use Rattle.clk_tree.specs.PlanTree.{IsTreeOf, device_count}
 use Rattle.clk_tree.specs.PlanParts.{Queued, queues_of, senders_of, number_of}
+use Rattle.clk_gate.specs.Known.{senders_in, AreKnown, IsFirstUnknown}
 use Rattle.clk_drain.specs.declared.outcome.Outcome.{Outcome}
 use Rattle.clk_drain.specs.declared.outcome.PackedOutcome.{PackedOutcome}
 use Rattle.clk_drain.specs.Closing.{HasSent}
@@ -58,29 +59,6 @@ pub record IsKeptRun (visits : Bool) (plan : List Planned) (traces : List (List 
   pub logs : List (List Visit)
   pub kept : visits ≡ true → map logged outcome.logs.items ≡ logs
   pub is : IsRunWith plan traces step limit logs (map (λ packets. packets.items) outcome.emitted.items) outcome.tallies.items
-
--- the numbers of a plan's senders
-abbrev pub senders_in : List Planned → List ℕ
-senders_in plan = map number_of (senders_of plan)
-
--- Of the senders below a number each that sends something is one of these.
-abbrev pub AreKnownBelow : List ℕ → List (List Packet) → ℕ → Type 0
-AreKnownBelow senders traces n = (s : ℕ) → s < n → 0 < length (sent_by traces s) → stands_in s senders ≡ true
-
--- Each sender that sends something is one of these.
-abbrev pub AreKnown : List ℕ → List (List Packet) → Type 0
-AreKnown senders traces = AreKnownBelow senders traces (suc most_sender)
-
--- It is the least sender that sends something and isn't one of these.
-pub record IsFirstUnknown (senders : List ℕ) (traces : List (List Packet)) (s : ℕ) : Type 0 where
-  pub sends : 0 < length (sent_by traces s)
-  pub unknown : stands_in s senders ≡ false
-  pub least : AreKnownBelow senders traces s
-
--- The fault that names it.
-abbrev pub IsUnknownSender : List ℕ → List (List Packet) → Fault → Type 0
-IsUnknownSender senders traces (UnknownSender s) = IsFirstUnknown senders traces s
-IsUnknownSender senders traces fault = ⊥
 
 -- the queues of a plan, by device and then by leaf
 abbrev pub queues_in_order : List Planned → List SharedQueue

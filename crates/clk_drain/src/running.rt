@@ -18,10 +18,11 @@ ghost use Rattle.clk_packet.specs.Trace.{sent_by};
 ghost use Rattle.clk_packet.specs.Lists.{stands_in};
 ghost use Rattle.clk_sched.specs.Kinds.{keeps_visits, keeps_emitted};
 ghost use Rattle.clk_tree.specs.PlanParts.{number_of};
-ghost use Rattle.clk_drain.specs.Limits.{most_step, most_limit};
-ghost use Rattle.clk_drain.specs.Run.{IsRunOutcome, IsKeptRun, senders_in, AreKnown, IsFaultOfRun, IsUnknownSender};
+ghost use Rattle.clk_gate.specs.Limits.{most_step, most_limit};
+ghost use Rattle.clk_gate.specs.Known.{senders_in, AreKnown};
+ghost use Rattle.clk_drain.specs.Run.{IsRunOutcome, IsKeptRun, IsFaultOfRun};
 
-use crate::gate::Gate;
+use clk_gate::{Gate, check_senders};
 use crate::outcome::{Outcome, PackedOutcome};
 use crate::running::closing::close_devices;
 use crate::running::course::Course;
@@ -164,42 +165,4 @@ fn kept(alloc: Global, outcome: PackedOutcome, visits: bool) -> PackedOutcome
         logs: Vec::new(alloc),
         tallies,
     }
-}
-
-// Whether all senders of the trace are among these. Fault 15 with the least that isn't.
-fn check_senders(senders: &[SenderSpec], traces: &Traces) -> Result<(), Fault>
-    ensures known { IfOk result (λ _. AreKnown (map number_of senders.now) traces.now) }
-    ensures fault { IfErr result (λ fault. IsUnknownSender (map number_of senders.now) traces.now fault) }
-{
-    for sender in 0..=u16::MAX {
-        check_sender(senders, traces, sender)?;
-    }
-    Ok(())
-}
-
-// Whether a sender sends nothing, or is among these. Else fault 15.
-fn check_sender(senders: &[SenderSpec], traces: &Traces, sender: u16) -> Result<(), Fault>
-    ensures known { IfOk result (λ _. 0 < length (sent_by traces.now sender) → stands_in sender (map number_of senders.now) ≡ true) }
-    ensures fault { IfErr result (λ fault. (fault ≡ UnknownSender sender) × (0 < length (sent_by traces.now sender)) × (stands_in sender (map number_of senders.now) ≡ false)) }
-{
-    if traces.count(sender) == 0 {
-        return Ok(());
-    }
-    if is_among(senders, sender) {
-        return Ok(());
-    }
-    Err(Fault::UnknownSender { sender })
-}
-
-// Whether a sender is among these.
-fn is_among(senders: &[SenderSpec], number: u16) -> bool
-    ensures { result ≡ stands_in number (map number_of senders.now) }
-{
-    let [first, rest @ ..] = senders else {
-        return false;
-    };
-    if first.number == number {
-        return true;
-    }
-    is_among(rest, number)
 }

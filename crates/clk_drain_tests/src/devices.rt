@@ -1,7 +1,7 @@
 //! Runs of plans with several devices.
 
 ghost use Rattle.std.specs.Prelude.{◌≤◌};
-ghost use Rattle.clk_drain.specs.Limits.{most_limit};
+ghost use Rattle.clk_gate.specs.Limits.{most_limit};
 
 use crate::gates::{Calls, DevicesMeet};
 use crate::running::{

@@ -1,7 +1,7 @@
 //! Runs of plans over traces, on threads.
 
 ghost use Rattle.std.specs.Prelude.{◌≤◌};
-ghost use Rattle.clk_drain.specs.Limits.{most_limit};
+ghost use Rattle.clk_gate.specs.Limits.{most_limit};
 
 use crate::gates::{AllMeet, Calls, Counted, HeldForTwoPulls, InTurns};
 use clk_drain::{Free, Gate, Outcome, run, run_with};

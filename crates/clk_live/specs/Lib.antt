@@ -6,5 +6,6 @@ pub mod Pulling
 pub mod Draining
 pub mod Outcome
 pub mod Reclaiming
+pub mod Sending
 pub mod Examples
 pub mod inside

@@ -5,7 +5,7 @@ ghost use Rattle.std.specs.List.{AllByRecursion, AllZip};
 ghost use Rattle.clk_inlet.specs.Halves.{offered, AreHalves};
 ghost use Rattle.clk_live.specs.State.{seen, AllGoOn};
 ghost use Rattle.clk_live.specs.Outcome.{IsLiveOutcome};
-ghost use Rattle.clk_live_tests.specs.Sending.{HasSent};
+ghost use Rattle.clk_live.specs.Sending.{HasSent};
 
 use crate::seen::{Seen, assert_settled, take_and_pull};
 use crate::senders::{SENDERS, length_of};
@@ -37,7 +37,7 @@ struct Sending {
 }
 
 impl Promise<Inlet> for Sending {
-    ghost use Rattle.clk_live_tests.specs.Sending.{HasSent};
+    ghost use Rattle.clk_live.specs.Sending.{HasSent};
 
     ghost kept_by = { λ p inlet. HasSent p.inlet.value p.packets.value.items inlet };
 }

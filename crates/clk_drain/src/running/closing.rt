@@ -7,7 +7,7 @@ ghost use Rattle.clk_drain.specs.inside.Handed.{IsReadyToClose, AreApartDevices,
 
 use crate::closing::{add, close};
 use crate::drained::PackedDrained;
-use crate::gate::Gate;
+use clk_gate::Gate;
 use crate::outcome::PackedOutcome;
 use crate::running::course::Course;
 use crate::running::joining::Closing;

@@ -1,7 +1,7 @@
 //! A consumer: what pulls a device while producers run.
 
 use crate::device::DeviceSession;
-use crate::gate::Gate;
+use clk_gate::Gate;
 use crate::running::course::Course;
 use crate::running::open_lines::OpenLines;
 use clk_packet::Fault;

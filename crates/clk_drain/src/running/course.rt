@@ -1,6 +1,6 @@
 //! What all threads of a run share.
 
-use crate::gate::Gate;
+use clk_gate::Gate;
 use clk_packet::Traces;
 use std::marker::Model;
 use std::sync::Wait;
@@ -23,7 +23,7 @@ pub struct Course<'a, W: Wait, G: Gate> {
 
 impl<'a, W: Wait, G: Gate> Model for Course<'a, W, G> {
     ghost use Rattle.std.specs.Prelude.{◌≤◌};
-    ghost use Rattle.clk_drain.specs.Limits.{most_step, most_limit};
+    ghost use Rattle.clk_gate.specs.Limits.{most_step, most_limit};
     ghost use Rattle.clk_drain.specs.inside.Threads.{Terms};
 
     ghost Value = { Terms };
@@ -36,7 +36,7 @@ impl<'a, W: Wait, G: Gate> Model for Course<'a, W, G> {
 impl<'a, W: Wait, G: Gate> Course<'a, W, G> {
     ghost use Rattle.std.specs.Prelude.{◌≡◌, ◌≤◌, ◌*◌, ◌<◌};
     ghost use Rattle.clk_sched.specs.Limits.{end_of_moments};
-    ghost use Rattle.clk_drain.specs.Limits.{most_step, most_limit};
+    ghost use Rattle.clk_gate.specs.Limits.{most_step, most_limit};
 
     /// What they share, where so many producers are to run.
     pub fn new(

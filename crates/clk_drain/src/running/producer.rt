@@ -1,6 +1,6 @@
 //! A producer: what offers all packets of a sender to its queue.
 
-use crate::gate::Gate;
+use clk_gate::Gate;
 use crate::running::baton::Baton;
 use clk_packet::Traces;
 use clk_ruled::{ClosedSeat, RuledQueue, Seat};

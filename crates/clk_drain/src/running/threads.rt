@@ -10,7 +10,7 @@ ghost use Rattle.clk_drain.specs.Closing.{AreOffered};
 ghost use Rattle.clk_drain.specs.inside.Threads.{IsUnused, HaveSentAll, IsUnpulled, IsPulled, ArePulled};
 ghost use Rattle.clk_drain.specs.inside.Handed.{pulled_of, HavePulled};
 
-use crate::gate::Gate;
+use clk_gate::Gate;
 use crate::running::consumer::Consumer;
 use crate::running::course::Course;
 use crate::running::handing::Handed;

@@ -5,7 +5,7 @@ use Rattle.clk_ruled.specs.Queue.{SeatLists}
 use Rattle.clk_sched.specs.Kinds.{keeps_visits}
 use Rattle.clk_tree.specs.declared.plan.parts.SenderSpec.{SenderSpec}
 use Rattle.clk_tree.specs.PlanParts.{number_of}
-use Rattle.clk_drain.specs.Run.{AreKnown}
+use Rattle.clk_gate.specs.Known.{AreKnown}
 use Rattle.clk_drain.specs.inside.Threads.{Terms, Feed, IsUnused, IsUnpulled}
 use Rattle.clk_drain.specs.inside.Handed.{FitQueues, IsReadyToClose, AreApartDevices, feeds_from}
 use Rattle.clk_drain.proofs.Opened.{fit-opened, unused-opened, unpulled-opened}

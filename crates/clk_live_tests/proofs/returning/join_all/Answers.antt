@@ -2,9 +2,9 @@ use Rattle.std.proofs.Common.{[], ◌∷◌, ◌++◌, sym, subst}
 use Rattle.std.specs.List.{AllZip}
 use Rattle.std.specs.declared.thread.PromisedHandle.{PromisedHandle}
 use Rattle.clk_inlet.specs.declared.inlet.Inlet.{Inlet}
-use Rattle.clk_live_tests.specs.Sending.{HasSent}
+use Rattle.clk_live.specs.Sending.{HasSent}
 use Rattle.clk_live_tests.specs.declared.returning.Sending.{Sending}
-use Rattle.clk_live_tests.proofs.Sending.{zip_push}
+use Rattle.clk_live.proofs.Callers.Sending.{zip_push}
 use Rattle.clk_live_tests.proofs.returning.join_all.Goals as goal
 
 abbrev GaveBack : PromisedHandle Inlet Sending → Inlet → Type 0

@@ -1,5 +1,5 @@
 use Rattle.std.specs.List.{AllZip}
-use Rattle.clk_live_tests.specs.Sending.{HasSent}
+use Rattle.clk_live.specs.Sending.{HasSent}
 use Rattle.clk_live_tests.proofs.returning.join_all.Given as goal
 
 abbrev pub invariant-loop-handle : goal.invariant-loop-handle

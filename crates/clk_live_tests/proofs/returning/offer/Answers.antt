@@ -1,5 +1,5 @@
 use Rattle.std.proofs.Common.{[], ◌∷◌}
-use Rattle.clk_live_tests.proofs.Sending.{sent_then, nothing_sent}
+use Rattle.clk_live.proofs.Callers.Sending.{sent_then, nothing_sent}
 use Rattle.clk_live_tests.proofs.returning.offer.Goals as goal
 
 pub returns-in-Ok : goal.returns-in-Ok

@@ -1,5 +1,5 @@
 use Rattle.std.specs.Prelude.{[]}
-use Rattle.clk_live_tests.specs.Sending.{HasSent}
+use Rattle.clk_live.specs.Sending.{HasSent}
 use Rattle.clk_live_tests.proofs.returning.offer.Given as goal
 
 abbrev pub invariant-loop : goal.invariant-loop

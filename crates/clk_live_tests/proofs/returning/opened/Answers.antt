@@ -2,7 +2,7 @@ use Rattle.std.proofs.Common.{◌≡◌, List, [], sym, subst}
 use Rattle.std.specs.List.{AllByRecursion}
 use Rattle.clk_inlet.specs.Halves.{offered}
 use Rattle.clk_inlet.specs.declared.inlet.Inlet.{Inlet}
-use Rattle.clk_live_tests.proofs.Sending.{nothing_yet}
+use Rattle.clk_live.proofs.Callers.Sending.{nothing_yet}
 use Rattle.clk_live_tests.proofs.returning.opened.Goals as goal
 
 pub returns-clause-none : goal.returns-clause-none

@@ -3,8 +3,8 @@ use Rattle.std.proofs.lemmas.List.{map-id}
 use Rattle.std.proofs.lemmas.Iterator.Adapters.{YieldsList-from_vec}
 use Rattle.std.proofs.lemmas.Iterator.Consumers.{YieldsList-end}
 use Rattle.clk_inlet.specs.declared.item.Item.{Item}
-use Rattle.clk_live_tests.specs.Sending.{HasSent}
-use Rattle.clk_live_tests.proofs.Sending.{sent_then}
+use Rattle.clk_live.specs.Sending.{HasSent}
+use Rattle.clk_live.proofs.Callers.Sending.{sent_then}
 use Rattle.clk_live_tests.proofs.returning.send_all.Goals as goal
 
 pub loop-packet-preserved : goal.loop-packet-preserved

@@ -6,7 +6,7 @@ use Rattle.clk_inlet.specs.declared.item.Item.{Item}
 use Rattle.clk_live.specs.Outcome.{IsLiveOutcome}
 use Rattle.clk_live.proofs.Callers.Halves.{all_go_on, offered_same}
 use Rattle.clk_live_tests.specs.declared.returning.Sender.{Sender}
-use Rattle.clk_live_tests.proofs.Sending.{come_back, all_offered}
+use Rattle.clk_live.proofs.Callers.Sending.{come_back, all_offered}
 use Rattle.clk_live_tests.proofs.returning.send_and_settle.Goals as goal
 
 abbrev inlet_of : Sender → Inlet

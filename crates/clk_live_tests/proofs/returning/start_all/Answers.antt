@@ -4,7 +4,7 @@ use Rattle.std.specs.declared.thread.PromisedHandle.{PromisedHandle}
 use Rattle.clk_inlet.specs.declared.inlet.Inlet.{Inlet}
 use Rattle.clk_live_tests.specs.declared.returning.Sender.{Sender}
 use Rattle.clk_live_tests.specs.declared.returning.Sending.{Sending}
-use Rattle.clk_live_tests.proofs.Sending.{zip_push}
+use Rattle.clk_live.proofs.Callers.Sending.{zip_push}
 use Rattle.clk_live_tests.proofs.returning.start_all.Goals as goal
 
 abbrev Started : Sender → PromisedHandle Inlet Sending → Type 0

@@ -4,7 +4,7 @@ use Rattle.std.proofs.lemmas.List.{nil_from_length}
 use Rattle.std.proofs.lemmas.List.Sorted.{IsNonDecreasingBy-from_sort_by_key}
 use Rattle.std.proofs.lemmas.Result.{err_from_is_err_and}
 use Rattle.clk_packet.specs.declared.tally.Tally.{Tally}
-use Rattle.clk_drain.specs.Limits.{most_step, most_limit}
+use Rattle.clk_gate.specs.Limits.{most_step, most_limit}
 use Rattle.clk_drain.specs.inside.Threads.{Terms, Feed}
 use Rattle.clk_drain.proofs.ClosingSteps.{AreClosing, moment-within, closing-more, next-ready, next-fault, all-closed}
 use Rattle.clk_drain.proofs.Pulling.{pulls-few}

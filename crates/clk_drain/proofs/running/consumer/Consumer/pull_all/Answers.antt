@@ -1,6 +1,6 @@
 use Rattle.std.proofs.Common.{◌≤◌, subst, arith, lit≤}
 use Rattle.clk_sched.specs.Limits.{end_of_pulls, end_of_drained_pulls}
-use Rattle.clk_drain.specs.Limits.{most_limit}
+use Rattle.clk_gate.specs.Limits.{most_limit}
 use Rattle.clk_drain.proofs.Pulling.{pulled-none, pulled-more, pulls-few}
 use Rattle.clk_drain.proofs.running.consumer.Consumer.pull_all.Goals as goal
 

@@ -2,10 +2,10 @@ use Rattle.std.proofs.Common.{◌≡◌, List, subst}
 use Rattle.std.specs.declared.thread.PromisedHandle.{PromisedHandle}
 use Rattle.clk_inlet.specs.declared.inlet.Inlet.{Inlet}
 use Rattle.clk_inlet.specs.declared.item.Item.{Item}
-use Rattle.clk_live_tests.specs.Sending.{HasSent}
+use Rattle.clk_live.specs.Sending.{HasSent}
 use Rattle.clk_live_tests.specs.declared.returning.Sender.{Sender}
 use Rattle.clk_live_tests.specs.declared.returning.Sending.{Sending}
-use Rattle.clk_live_tests.proofs.Sending.{zip_joined}
+use Rattle.clk_live.proofs.Callers.Sending.{zip_joined}
 use Rattle.clk_live_tests.proofs.returning.fn.run.scope.Goals as goal
 
 abbrev Started : Sender → PromisedHandle Inlet Sending → Type 0

@@ -1,5 +1,5 @@
 use Rattle.std.specs.Prelude.{length}
-use Rattle.clk_drain.proofs.running.+is_among.Given as goal
+use Rattle.clk_gate.proofs.known.+is_among.Given as goal
 
 abbrev pub decreases-is_among : goal.decreases-is_among
 decreases-is_among l = length l.senders.now

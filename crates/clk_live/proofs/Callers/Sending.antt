@@ -6,8 +6,9 @@ use Rattle.clk_inlet.specs.Items.{packets}
 use Rattle.clk_inlet.specs.declared.inlet.Inlet.{Inlet}
 use Rattle.clk_inlet.specs.declared.item.Item.{Item}
 use Rattle.clk_inlet.specs.declared.outlet.Outlet.{Outlet}
+use Rattle.clk_live.proofs.Lists.{zip-push}
 use Rattle.clk_live.proofs.Callers.Halves.{all_come_back}
-use Rattle.clk_live_tests.specs.Sending.{HasSent}
+use Rattle.clk_live.specs.Sending.{HasSent}
 
 -- nothing was sent, and one part after another
 pub nothing_sent : (i j : Inlet) → pushed j ≡ pushed i → ((o : Outlet) → AreHalves i o → AreHalves j o) → HasSent i [] j
@@ -17,12 +18,8 @@ pub sent_then : (i j k : Inlet) (xs ys : List Item) → HasSent i xs j → HasSe
 sent_then i j k xs ys h g = record { offered = g.offered ∙ ap (λ (l : List Item). l ++ ys) h.offered ∙ append_assoc (offered i) xs ys; halves = λ o b. g.halves o (h.halves o b) }
 
 -- lists side by side: one member more, and a third list beside the second
-module _ {X Y : Type 0} (R : X → Y → Type 0) where
-  pub zip_push : (xs : List X) (ys : List Y) (x : X) (y : Y) → AllZip R xs ys → R x y → AllZip R (xs ++ x ∷ []) (ys ++ y ∷ [])
-  zip_push [] [] x y h r = (r, tt)
-  zip_push [] (b ∷ ys) x y h r = absurd h
-  zip_push (a ∷ xs) [] x y h r = absurd h
-  zip_push (a ∷ xs) (b ∷ ys) x y h r = (h.0, zip_push xs ys x y h.1 r)
+pub zip_push : {X Y : Type 0} (R : X → Y → Type 0) (xs : List X) (ys : List Y) (x : X) (y : Y) → AllZip R xs ys → R x y → AllZip R (xs ++ x ∷ []) (ys ++ y ∷ [])
+zip_push R xs ys x y h r = zip-push R xs ys x y h r
 
 module _ {X Y Z : Type 0} (R : X → Y → Type 0) (S : Y → Z → Type 0) (T : X → Z → Type 0) (join : (x : X) (y : Y) (z : Z) → R x y → S y z → T x z) where
   pub zip_joined : (xs : List X) (ys : List Y) (zs : List Z) → AllZip R xs ys → AllZip S ys zs → AllZip T xs zs

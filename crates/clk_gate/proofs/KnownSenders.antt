@@ -6,7 +6,7 @@ use Rattle.clk_packet.specs.declared.fault.Fault.{Fault}
 use Rattle.clk_packet.specs.declared.fault.Fault.TheVariants.{UnknownSender}
 use Rattle.clk_packet.specs.Trace.{sent_by}
 use Rattle.clk_packet.specs.Lists.{stands_in}
-use Rattle.clk_drain.specs.Run.{AreKnownBelow, IsUnknownSender}
+use Rattle.clk_gate.specs.Known.{AreKnownBelow, IsUnknownSender}
 
 -- One sender more is known.
 pub known-next : (senders : List ℕ) (traces : List (List Packet)) (n : ℕ) → AreKnownBelow senders traces n → (0 < length (sent_by traces n) → stands_in n senders ≡ true) → AreKnownBelow senders traces (n + 1)

@@ -1,7 +1,7 @@
 use Rattle.std.specs.Prelude.{map}
 use Rattle.clk_tree.specs.PlanParts.{number_of}
-use Rattle.clk_drain.specs.Run.{AreKnownBelow}
-use Rattle.clk_drain.proofs.running.check_senders.Given as goal
+use Rattle.clk_gate.specs.Known.{AreKnownBelow}
+use Rattle.clk_gate.proofs.known.check_senders.Given as goal
 
 abbrev pub invariant-loop-sender : goal.invariant-loop-sender
 invariant-loop-sender l = AreKnownBelow (map number_of l.senders) l.traces l.sender

@@ -1,0 +1,3 @@
+-- Lemmas on what the senders of a run send.
+pub mod Callers
+mod KnownSenders

@@ -1,0 +1,11 @@
+//! What runs with producers on threads have in common: their limits, the gate at which each step can be followed or held up, and the check that
+//! the plan has all senders of the trace.
+#![tactic(auto)]
+
+mod gate;
+mod known;
+mod limits;
+
+pub use gate::{Free, Gate};
+pub use known::check_senders;
+pub use limits::{MAX_LIMIT, MAX_STEP};

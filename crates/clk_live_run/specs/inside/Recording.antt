@@ -1,0 +1,30 @@
+-- How far a record has come.
+use Rattle.std.specs.Prelude.{◌≡◌, ◌+◌, ◌<◌, ◌≤◌, ℕ, List, length, Bool, true, false, Option, Some, None}
+use Rattle.std.specs.Io.KnownBytes.{Appends}
+use Rattle.clk_packet.specs.Bytes.{AppendsFront}
+use Rattle.clk_script.specs.declared.script.Command.{Command}
+use Rattle.clk_script.specs.Record.{record_text}
+use Rattle.clk_script.specs.Records.{Records}
+use Rattle.clk_script.specs.Script.{most_lines}
+use Rattle.clk_script.specs.declared.writer.ScriptWriter.{ScriptWriter}
+use Rattle.clk_live_run.specs.declared.recording.RecordState.{RecordState}
+use Rattle.clk_live_run.specs.declared.recording.RecordState.TheVariants.{Off, Going, Failed, Full}
+
+-- what a sink has taken, and how often it failed
+pub record SinkAt : Type 0 where
+  pub taken : Option (List ℕ)
+  pub failures : ℕ
+
+-- The record of these commands, as a sink has it that stood at `start` before, by how far the record has come.
+abbrev pub IsRecordOf : (recording : Bool) → (start now : SinkAt) → List Command → RecordState → ScriptWriter → Type 0
+IsRecordOf recording start now commands Off writer = (recording ≡ false) × (now ≡ start)
+IsRecordOf recording start now commands Going writer = (recording ≡ true) × (now.failures ≡ start.failures) × Records start.taken now.taken commands writer
+IsRecordOf recording start now commands Failed writer = (recording ≡ true) × (now.failures ≡ start.failures + 1) × AppendsFront start.taken now.taken (record_text commands None)
+IsRecordOf recording start now commands Full writer = (recording ≡ true) × (most_lines ≤ length commands)
+
+-- A record with its drain has ended: the sink is as it was if there was no record; else, if all lines fit a script, it has the whole record or, if
+-- it failed, a front of it.
+pub record IsEnded (recording failed : Bool) (start now : SinkAt) (commands : List Command) : Type 0 where
+  pub unrecorded : recording ≡ false → (now ≡ start) × (failed ≡ false)
+  pub whole : recording ≡ true → length commands < most_lines → failed ≡ false → (now.failures ≡ start.failures) × Appends start.taken now.taken (record_text commands (Some 0))
+  pub front : recording ≡ true → length commands < most_lines → failed ≡ true → (now.failures ≡ start.failures + 1) × AppendsFront start.taken now.taken (record_text commands (Some 0))

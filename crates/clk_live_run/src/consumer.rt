@@ -1,0 +1,115 @@
+//! The consumer of a run: it takes packets from inlets, pulls devices, and records both.
+
+use crate::recording::Recording;
+use clk_gate::Gate;
+use clk_live::Live;
+use clk_packet::Sink;
+use clk_script::Command;
+use std::sync::Wait;
+use std::thread;
+
+/// How many packets of a sender are taken in a round at most.
+const EACH: u32 = 64;
+
+/// A live router, and the record of what happens to it.
+#[derive(Drop)]
+pub struct Consumer<R: Sink> {
+    pub live: Live,
+    pub recording: Recording<R>,
+}
+
+impl<R: Sink> Consumer<R> {
+    ghost use Rattle.std.specs.Prelude.{◌≡◌, ◌≤◌, ◌<◌, ◌*◌, ℕ, length};
+    ghost use Rattle.clk_gate.specs.Limits.{most_limit, most_step};
+    ghost use Rattle.clk_sched.specs.Limits.{end_of_moments};
+    ghost use Rattle.clk_script.specs.Script.{most_moment};
+    ghost use Rattle.clk_live_run.specs.Run.{moments_at};
+    ghost use Rattle.clk_live_run.specs.inside.Recording.{SinkAt, IsRecordOf};
+    ghost use Rattle.clk_live_run.specs.inside.Consuming.{commands_of, OnlyTook, PulledFirst, HasPaced, HasConsumed};
+
+    /// Takes packets and pulls devices in rounds, until all inlets have ended and all that was sent is taken. A round takes at most 64 packets
+    /// of each sender. In the first `limit` rounds each device is then pulled once, in the n-th at moment `n * step`.
+    pub fn consume<P: Wait, G: Gate>(
+        &mut self,
+        wait: &P,
+        step: u32,
+        limit: u32,
+        gate: &G,
+    )
+        requires step { step ≤ most_step }
+        requires limit { limit ≤ most_limit }
+        requires unpulled { HasPaced step 0 self.old.live }
+        ensures consumed { HasConsumed step limit self.old.live self.new.live }
+        ensures recorded { (recording : _) (start : SinkAt) → IsRecordOf recording start (record { taken = R.Sink.taken self.old.recording.sink; failures = R.Sink.failures self.old.recording.sink }) (commands_of self.old.live.course) self.old.recording.state self.old.recording.writer
+            → IsRecordOf recording start (record { taken = R.Sink.taken self.new.recording.sink; failures = R.Sink.failures self.new.recording.sink }) (commands_of self.new.live.course) self.new.recording.state self.new.recording.writer }
+    {
+        let mut round = 0;
+        for _ in wait.forever() {
+            if self.live.is_ended() {
+                return;
+            }
+            let took = self.take_round();
+            if round < limit {
+                round += 1;
+                self.pull_round(round, step, gate);
+            }
+            if !took {
+                thread::yield_now();
+            }
+        }
+        unreachable!()
+    }
+
+    // Takes packets of each sender in turn, by place. Returns whether it took one.
+    fn take_round(&mut self) -> bool
+        ensures took { OnlyTook self.old.live self.new.live }
+        ensures recorded { (recording : _) (start : SinkAt) → IsRecordOf recording start (record { taken = R.Sink.taken self.old.recording.sink; failures = R.Sink.failures self.old.recording.sink }) (commands_of self.old.live.course) self.old.recording.state self.old.recording.writer
+            → IsRecordOf recording start (record { taken = R.Sink.taken self.new.recording.sink; failures = R.Sink.failures self.new.recording.sink }) (commands_of self.new.live.course) self.new.recording.state self.new.recording.writer }
+    {
+        let mut took = false;
+        for place in 0..self.live.router().senders().len() {
+            if self.take_from(place) {
+                took = true;
+            }
+        }
+        took
+    }
+
+    // Takes packets of the sender at a place. Returns whether it took one.
+    fn take_from(&mut self, place: usize) -> bool
+        requires there { place < length self.old.live.outlets }
+        ensures took { OnlyTook self.old.live self.new.live }
+        ensures recorded { (recording : _) (start : SinkAt) → IsRecordOf recording start (record { taken = R.Sink.taken self.old.recording.sink; failures = R.Sink.failures self.old.recording.sink }) (commands_of self.old.live.course) self.old.recording.state self.old.recording.writer
+            → IsRecordOf recording start (record { taken = R.Sink.taken self.new.recording.sink; failures = R.Sink.failures self.new.recording.sink }) (commands_of self.new.live.course) self.new.recording.state self.new.recording.writer }
+    {
+        let mut took = false;
+        for _ in 0..EACH {
+            let Some(taken) = self.live.take(place) else {
+                return took;
+            };
+            took = true;
+            let command = Command::Send {
+                sender: taken.packet.sender,
+                length: taken.packet.length,
+            };
+            self.recording.note(command);
+        }
+        took
+    }
+
+    // Pulls each device once, in the round of this number, counted from 1.
+    fn pull_round<G: Gate>(&mut self, round: u32, step: u32, gate: &G)
+        requires moment { (step ≤ most_step) × (round ≤ most_limit) }
+        requires few { (d : ℕ) → length (moments_at self.old.live.course.setup self.old.live.course.events d) ≤ most_limit }
+        ensures pulled { PulledFirst (length self.old.live.course.setup.trees) (round * step) self.old.live self.new.live }
+        ensures recorded { (recording : _) (start : SinkAt) → IsRecordOf recording start (record { taken = R.Sink.taken self.old.recording.sink; failures = R.Sink.failures self.old.recording.sink }) (commands_of self.old.live.course) self.old.recording.state self.old.recording.writer
+            → IsRecordOf recording start (record { taken = R.Sink.taken self.new.recording.sink; failures = R.Sink.failures self.new.recording.sink }) (commands_of self.new.live.course) self.new.recording.state self.new.recording.writer }
+    {
+        let moment = u64::from(round) * u64::from(step);
+        for device in 0..self.live.router().devices() as u16 {
+            let _ = self.live.pull(device, moment);
+            gate.pulled(device, u64::from(round));
+            self.recording.note(Command::Pull { device, moment });
+        }
+    }
+}

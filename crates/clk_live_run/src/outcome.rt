@@ -1,0 +1,15 @@
+//! What a run through inlets comes to.
+
+use clk_live::Live;
+use clk_packet::Sink;
+
+/// What a run through inlets came to, once all its packets are out of the router.
+#[derive(Drop)]
+pub struct LiveOutcome<R: Sink> {
+    /// The router, which has the account of each sender.
+    pub live: Live,
+    /// The sink of the record.
+    pub sink: R,
+    /// Whether the sink failed. It then has a front of the record.
+    pub write_failed: bool,
+}

@@ -1,0 +1,127 @@
+//! Runs of a plan over a trace, through inlets.
+
+ghost use Rattle.std.specs.Prelude.{◌≡◌, ◌≢◌, ◌+◌, ◌*◌, ◌<◌, ◌≤◌, true, map, length, IfOk, IfErr, OnOk, IsErrOf};
+ghost use Rattle.clk_packet.specs.declared.fault.Fault.TheVariants.{Memory, TooLarge};
+ghost use Rattle.clk_gate.specs.Limits.{most_limit, most_step};
+ghost use Rattle.clk_gate.specs.Sent.{sent_in};
+ghost use Rattle.clk_tree.specs.PlanParts.{number_of, senders_of};
+ghost use Rattle.clk_tree.specs.PlanTree.{device_count};
+ghost use Rattle.clk_script.specs.Script.{most_lines};
+ghost use Rattle.clk_live_run.specs.Run.{LiveRunOf, IsFaultOfLive, MayBeTooLong};
+ghost use Rattle.clk_live_run.specs.Recorded.{IsRecorded, failures_with};
+
+use crate::closing::close_devices;
+use crate::consumer::Consumer;
+use crate::outcome::LiveOutcome;
+use crate::recording::Recording;
+use crate::senders::senders_of;
+use crate::threads::{Ended, Terms, run_threads};
+use clk_gate::{Gate, check_senders};
+use clk_live::Live;
+use clk_packet::{Fault, Sink, Traces};
+use clk_script::MAX_LINES;
+use clk_tree::{Plan, SenderSpec};
+use std::alloc::Global;
+use std::sync::Wait;
+use std::thread::Threads;
+
+/// How many packets an inlet has room for.
+const ROOM: u32 = 1024;
+
+/// Runs a plan over a trace through inlets: each sender, on a thread of its own, offers all that it sends, in order, and yields to other
+/// threads while its inlet is full. One consumer, on the calling thread, works in rounds. A round takes at most 64 packets of each sender. In
+/// each of the first `limit` rounds every device is then pulled once, in the n-th at moment `n * step`. Once all that was sent is taken,
+/// the devices are drained, one after the other.
+///
+/// If the run is to be recorded, the script of all that happens while senders send, and of the drain, is written to the sink as it happens.
+/// The first write that fails ends the record, and the run goes on.
+///
+/// `step` is from 1 to 1,000, `limit` from 1 to 1,000,000.
+///
+/// # Errors
+///
+/// In this order: fault 15 with the least sender that the trace has and the plan has not; fault 18 if the run is to be recorded and its record
+/// may have more lines than a script; fault 1 if an allocation or the start of a thread fails. All threads have ended then.
+pub fn run_live<H: Threads, P: Wait + Sync, G: Gate + Sync, R: Sink>(
+    rt: &H,
+    alloc: Global,
+    wait: &P,
+    plan: &Plan,
+    traces: &Traces,
+    step: u32,
+    limit: u32,
+    gate: &G,
+    recording: bool,
+    sink: R,
+) -> Result<LiveOutcome<R>, Fault>
+    requires step { (1 ≤ step) × (step ≤ most_step) }
+    requires limit { (1 ≤ limit) × (limit ≤ most_limit) }
+    ensures ran { IfOk result (λ outcome. LiveRunOf plan.now traces.now step limit outcome.live.course (λ setup events closed. IsRecorded recording outcome.write_failed (R.Sink.taken sink) (R.Sink.taken outcome.sink) events)) }
+    ensures failures { IfOk result (λ outcome. R.Sink.failures outcome.sink ≡ failures_with outcome.write_failed (R.Sink.failures sink)) }
+    ensures fault { IfErr result (IsFaultOfLive plan.now traces.now limit recording) }
+{
+    check_senders(plan.senders(), traces)?;
+    if recording {
+        check_length(plan, traces, limit)?;
+    }
+    let (live, inlets) = Live::open(alloc, plan, ROOM)?;
+    let senders = senders_of(alloc, live.router().senders(), inlets)?;
+    let consumer = Consumer {
+        live,
+        recording: Recording::new(recording, sink),
+    };
+    let terms = Terms {
+        wait,
+        traces,
+        gate,
+        step,
+        limit,
+    };
+    let ended = run_threads(rt, alloc, terms, consumer, senders)?;
+    Ok(close(wait, ended))
+}
+
+// Closes a run whose threads have ended.
+fn close<P: Wait, R: Sink>(wait: &P, ended: Ended<R>) -> LiveOutcome<R>
+{
+    let Ended {
+        consumer,
+        mut inlets,
+    } = ended;
+    let Consumer {
+        mut live,
+        recording,
+    } = consumer;
+    let (sink, write_failed) = recording.finish();
+    close_devices(wait, &mut live);
+    // All that was sent is taken and settled.
+    let _ = live.is_settled(inlets.as_mut_slice());
+    LiveOutcome {
+        live,
+        sink,
+        write_failed,
+    }
+}
+
+// Fails with fault 18 if the record of a run may have more lines than a script.
+fn check_length(plan: &Plan, traces: &Traces, limit: u32) -> Result<(), Fault>
+    ensures fits { OnOk result (sent_in traces.now (map number_of (senders_of plan.now)) + device_count plan.now * limit + 1 ≤ most_lines) }
+    ensures too_long { IfErr result (λ fault. (fault ≡ TooLarge) × MayBeTooLong plan.now traces.now limit) }
+{
+    let pulls = u64::from(plan.devices()) * u64::from(limit);
+    if count_sent(plan.senders(), traces) + pulls + 1 > u64::from(MAX_LINES) {
+        return Err(Fault::TooLarge);
+    }
+    Ok(())
+}
+
+// How many packets these senders send together.
+fn count_sent(senders: &[SenderSpec], traces: &Traces) -> u64
+    ensures { result ≡ sent_in traces.now (map number_of senders.now) }
+{
+    let mut count = 0;
+    for sender in senders {
+        count += u64::from(traces.count(sender.number));
+    }
+    count
+}

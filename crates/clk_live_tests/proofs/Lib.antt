@@ -1,2 +1,0 @@
--- Lemmas on inlets that come back to a live router.
-pub mod Sending

@@ -1,2 +1,0 @@
--- What tests say of senders on threads.
-pub mod Sending
