@@ -13,3 +13,4 @@ mod AskLemmas
 mod AccountLemmas
 mod DueLemmas
 mod Settled
+mod Drains

@@ -126,4 +126,5 @@ plan-closable plan trees are shared rising paths stand =
       apart = plan-apart plan trees are shared rising paths;
       queues = λ d tree at. record { its = at; senders = rising; distinct = (stand-at trees d tree stand at).distinct; leaves_are = leaves-at plan trees are shared paths d tree at };
       sound = λ d tree at. (stand-at trees d tree stand at).sound;
+      bound = λ d tree at. (stand-at trees d tree stand at).bound;
     }

@@ -49,7 +49,7 @@ is_give (evict p) = 0
 is_give (give p) = 1
 is_give empty = 0
 
-total-append : (weight : QueueEvent → ℕ) (xs ys : List QueueEvent) → total weight (xs ++ ys) ≡ total weight xs + total weight ys
+pub total-append : (weight : QueueEvent → ℕ) (xs ys : List QueueEvent) → total weight (xs ++ ys) ≡ total weight xs + total weight ys
 total-append weight [] ys = omega arith
 total-append weight (x ∷ xs) ys = let rest = total-append weight xs ys in omega (arith, rest)
 
@@ -80,7 +80,7 @@ stands-rest kind capacity before (e ∷ between) after h =
     subst (λ l. EachStands kind capacity l after) (append_assoc before (e ∷ []) between) (stands-rest kind capacity (before ++ e ∷ []) between after h.3)
 
 -- what a history took in is what was put out, given, and is held
-history-counts : (capacity : ℕ) (events : List QueueEvent) → IsInOrder capacity events → total is_accept events ≡ total is_evict events + total is_give events + length (held events)
+pub history-counts : (capacity : ℕ) (events : List QueueEvent) → IsInOrder capacity events → total is_accept events ≡ total is_evict events + total is_give events + length (held events)
 history-counts capacity events h =
     let order = ap length h.order ∙ length-append (gone events) (held events) in
     let a = total-accepted events in

@@ -8,6 +8,7 @@ pub mod Chains
 pub mod Settled
 pub mod InsideQueues
 pub mod Due
+pub mod Drains
 pub mod Examples
 pub mod SettledExamples
 pub mod inside

@@ -37,7 +37,7 @@ impl Model for CountingRouter {
 }
 
 impl CountingRouter {
-    ghost use Rattle.std.specs.Prelude.{◌≡◌, ◌+◌, ◌<◌, ◌≤◌, ◌∷◌, [], Some, None, true, false, map, length, IfSome, IfOk, IsOkUnless};
+    ghost use Rattle.std.specs.Prelude.{◌≡◌, ℕ, ◌+◌, ◌<◌, ◌≤◌, ◌∷◌, [], Some, None, true, false, map, length, IfSome, IfOk, IsOkUnless};
     ghost use Rattle.clk_packet.specs.Limits.{most_elements, most_capacity};
     ghost use Rattle.clk_sched.specs.Kinds.{keeps_nothing};
     ghost use Rattle.clk_sched.specs.Limits.{end_of_moments};
@@ -47,6 +47,7 @@ impl CountingRouter {
     ghost use Rattle.clk_router.specs.Events.{offered, sender_numbers, CanHappen};
     ghost use Rattle.clk_router.specs.InsideQueues.{QueuesGoOn, AreOutOrInside};
     ghost use Rattle.clk_router.specs.Due.{IsDeviceDue, EmitsNoneBefore};
+    ghost use Rattle.clk_router.specs.Drains.{DrainsEnd};
     ghost use Rattle.clk_router.specs.Settled.{IsCourseAccounted, IsCourseSettled, AreOutOnce, AreAllOut, IsDrained};
 
     /// The router of a plan, before anything has happened.
@@ -109,6 +110,14 @@ impl CountingRouter {
         ensures { QueuesGoOn self.now.setup }
     {
         self.router.queues_go_on();
+    }
+
+    /// A drain of a device comes to its end before moments or pulls do: while packets are left for the device, it can be pulled once more,
+    /// one tick later. A law, which does nothing.
+    pub fn drains_end(&self)
+        ensures { (device moment : ℕ) → DrainsEnd self.now device moment }
+    {
+        self.router.drains_end();
     }
 
     /// Whether the sender at this place can offer a packet: it is there, has offered fewer than 4,294,967,295 packets, and its device takes

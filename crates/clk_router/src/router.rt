@@ -13,8 +13,8 @@ use crate::past::Past;
 use crate::queue_state::QueueState;
 use clk_packet::{Fault, Offered, Packet};
 use clk_sched::{
-    Departure, END_OF_MOMENTS, END_OF_PULLS, Keeps, Tree, Visit, pulls_emit_once_due,
-    runs_conserve_packets, runs_go_on,
+    Departure, END_OF_MOMENTS, END_OF_PULLS, Keeps, Tree, Visit, closing_bound_is_enough,
+    pulls_emit_once_due, runs_conserve_packets, runs_go_on,
 };
 use clk_tree::Plan;
 use std::alloc::Global;
@@ -43,7 +43,7 @@ impl Model for Router {
 }
 
 impl Router {
-    ghost use Rattle.std.specs.Prelude.{◌≡◌, ◌+◌, ◌<◌, ◌≤◌, List, ◌∷◌, [], Some, true, false, map, length, IfOk, OnErr, IsOk, IsOkUnless};
+    ghost use Rattle.std.specs.Prelude.{◌≡◌, ℕ, ◌+◌, ◌<◌, ◌≤◌, List, ◌∷◌, [], Some, true, false, map, length, IfOk, OnErr, IsOk, IsOkUnless};
     ghost use Rattle.clk_packet.specs.Limits.{most_elements, most_capacity};
     ghost use Rattle.clk_sched.specs.declared.visit.Visit.{Visit};
     ghost use Rattle.clk_sched.specs.Kinds.{keeps_nothing};
@@ -54,6 +54,7 @@ impl Router {
     ghost use Rattle.clk_router.specs.Events.{offered, sender_numbers, CanHappen, closing_pulls, logs_of};
     ghost use Rattle.clk_router.specs.InsideQueues.{QueuesGoOn, AreOutOrInside};
     ghost use Rattle.clk_router.specs.Due.{IsDeviceDue, EmitsNoneBefore};
+    ghost use Rattle.clk_router.specs.Drains.{DrainsEnd};
     ghost use Rattle.clk_router.specs.Settled.{IsCourseAccounted, IsCourseSettled, AreOutOnce, AreAllOut, IsDrained};
 
     /// The router of a plan, before anything has happened, whose devices keep this of the past. Visits that they keep packed can't be had
@@ -121,6 +122,18 @@ impl Router {
     {
         // Trees conserve packets, by this law, which does nothing.
         runs_conserve_packets();
+        let _ = &self.parts;
+    }
+
+    /// A drain of a device comes to its end before moments or pulls do: while packets are left for the device, it can be pulled once more,
+    /// one tick later. A law, which does nothing.
+    pub fn drains_end(&self)
+        ensures { (device moment : ℕ) → DrainsEnd self.now device moment }
+    {
+        // The empty log is a run, trees conserve packets, and the closing bound is enough, by these laws, which do nothing.
+        runs_go_on();
+        runs_conserve_packets();
+        closing_bound_is_enough();
         let _ = &self.parts;
     }
 
@@ -312,8 +325,9 @@ fn trees_of(alloc: Global, plan: &Plan) -> Result<Vec<Tree>, Fault>
     let mut trees = Vec::new(alloc);
     for device in 0..plan.devices() {
         let tree = plan.tree(alloc, device)?;
-        // A law, which does nothing.
+        // Laws, which do nothing.
         tree.schedulers_are_sound();
+        tree.closing_bound_is_low();
         trees.push(tree)?;
     }
     Ok(trees)

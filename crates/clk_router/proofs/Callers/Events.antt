@@ -15,6 +15,7 @@ use Rattle.clk_sched.specs.Log.{pulls, moment_of, counted}
 use Rattle.clk_sched.specs.Tree.{Tree}
 use Rattle.clk_sched.specs.Run.{IsRun}
 use Rattle.clk_sched.specs.Results.{asks_queue}
+use Rattle.clk_sched.specs.Choice.{answers_of}
 use Rattle.clk_sched.specs.Session.{latest_moment}
 use Rattle.clk_router.specs.Events.{Room, Setup, sender_numbers, Event, offered, pulled, happens_at, events_at, number_from, numbers_of, visits_in, pull_in, moment_in, log_of, answers_in, at_queue, history, IsOfDevice, IsOfSender, NamesItsOffer, RunsTree, CanHappen, pulls_from}
 
@@ -186,6 +187,13 @@ pub pulls-log : (device t : ℕ) (more : List (List Visit)) → log_of (pulls_fr
 pulls-log device t [] = refl
 pulls-log device t (visits ∷ more) = ap (λ l. visits ++ l) (pulls-log device (t + 1) more)
 
+-- some events and then such pulls: their log, and their pulls
+pub log-pulls : (events : List Event) (device t : ℕ) (more : List (List Visit)) → log_of (events ++ pulls_from device t more) ≡ log_of events ++ flat_map (λ pull. pull) more
+log-pulls events device t more = flat_map-append visits_in events (pulls_from device t more) ∙ ap (λ l. log_of events ++ l) (pulls-log device t more)
+
+pub turns-pulls : (events : List Event) (device t : ℕ) (more : List (List Visit)) → filter_map pull_in (events ++ pulls_from device t more) ≡ filter_map pull_in events ++ more
+turns-pulls events device t more = filter_map-append pull_in events (pulls_from device t more) ∙ ap (λ l. filter_map pull_in events ++ l) (pulls-visits device t more)
+
 -- they happen at their device alone
 pub pulls-here : (setup : Setup) (d t : ℕ) (more : List (List Visit)) → events_at setup d (pulls_from d t more) ≡ pulls_from d t more
 pulls-here setup d t [] = refl
@@ -223,6 +231,20 @@ pulls-history setup q d moment t more = by_tree (slice_get setup.trees d) refl t
         (ap (λ l. answers_in (Some tree) q visits ++ l) rest
         ∙ sym (flat_map-append (λ (v : Visit). if asks_queue tree q v then pull_event v.got ∷ [] else []) visits (flat_map (λ pull. pull) ps)))
 
+-- what a pull is to a queue: its answers
+pub pulled-events : (setup : Setup) (d : ℕ) (tree : Tree) (q moment : ℕ) (visits : List Visit) → slice_get setup.trees d ≡ Some tree
+    → at_queue setup q (pulled d moment visits) ≡ map pull_event (answers_of tree q visits)
+pulled-events setup d tree q moment visits is = ap (λ o. answers_in o q visits) is ∙ its_answers visits
+  where
+    its_answers : (visits : List Visit) → answers_in (Some tree) q visits ≡ map pull_event (answers_of tree q visits)
+    its_answers [] = refl
+    its_answers (v ∷ visits) = by_asks (asks_queue tree q v) refl (its_answers visits)
+      where
+        by_asks : (b : Bool) → asks_queue tree q v ≡ b → answers_in (Some tree) q visits ≡ map pull_event (answers_of tree q visits)
+            → answers_in (Some tree) q (v ∷ visits) ≡ map pull_event (answers_of tree q (v ∷ visits))
+        by_asks true e rest = rw e (ap (λ l. pull_event v.got ∷ l) rest)
+        by_asks false e rest = rw e rest
+
 -- counted moments of two lists, and those of a range that lies above what came before
 pub counted-append : (before : ℕ) (ms ks : List ℕ) → counted before (ms ++ ks) ≡ counted before ms ++ counted (fold max before ms) ks
 counted-append before [] ks = refl
@@ -234,6 +256,14 @@ counted-range before t (suc n) above =
     let greater : max before t ≡ t = omega (arith, above) in
     ap₂ (λ m l. m ∷ l) greater (ap (λ b. counted b (range_with_len (t + 1) n)) greater ∙ counted-range t (t + 1) n (omega arith))
 
+-- the counted moments of some events and then pulls one tick apart
+pub counted-pulls : (events : List Event) (device t : ℕ) (more : List (List Visit)) → fold max 0 (filter_map moment_in events) ≤ t
+    → counted 0 (filter_map moment_in (events ++ pulls_from device t more)) ≡ counted 0 (filter_map moment_in events) ++ range_with_len t (length more)
+counted-pulls events device t more above =
+    ap (counted 0) (filter_map-append moment_in events (pulls_from device t more) ∙ ap (λ l. filter_map moment_in events ++ l) (pulls-moments device t more))
+    ∙ counted-append 0 (filter_map moment_in events) (range_with_len t (length more))
+    ∙ ap (λ l. counted 0 (filter_map moment_in events) ++ l) (counted-range (fold max 0 (filter_map moment_in events)) t (length more) above)
+
 -- Events of a run of a tree, and pulls one tick apart.
 pub RunsTree-pulls : (tree : Tree) (events : List Event) (device t : ℕ) (more : List (List Visit)) → RunsTree tree events → fold max 0 (filter_map moment_in events) ≤ t
     → IsRun tree (log_of events ++ flat_map (λ pull. pull) more) → pulls (log_of events ++ flat_map (λ pull. pull) more) ≡ pulls (log_of events) ++ more
@@ -242,16 +272,13 @@ RunsTree-pulls tree events device t more runs above run last at_moments =
     record { run = rw log run; pull_by_pull = rw (log, turns) (last ∙ ap (λ ps. ps ++ more) runs.pull_by_pull); moments = rw turns moments }
   where
     log : log_of (events ++ pulls_from device t more) ≡ log_of events ++ flat_map (λ pull. pull) more
-    log = flat_map-append visits_in events (pulls_from device t more) ∙ ap (λ l. log_of events ++ l) (pulls-log device t more)
+    log = log-pulls events device t more
 
     turns : filter_map pull_in (events ++ pulls_from device t more) ≡ filter_map pull_in events ++ more
-    turns = filter_map-append pull_in events (pulls_from device t more) ∙ ap (λ l. filter_map pull_in events ++ l) (pulls-visits device t more)
+    turns = turns-pulls events device t more
 
     moments : map moment_of (filter_map pull_in events ++ more) ≡ counted 0 (filter_map moment_in (events ++ pulls_from device t more))
-    moments =
-        map-append moment_of (filter_map pull_in events) more ∙ ap₂ (λ k l. k ++ l) runs.moments (at_moments ∙ sym (counted-range (fold max 0 (filter_map moment_in events)) t (length more) above))
-        ∙ sym (counted-append 0 (filter_map moment_in events) (range_with_len t (length more)))
-        ∙ ap (counted 0) (sym (filter_map-append moment_in events (pulls_from device t more) ∙ ap (λ l. filter_map moment_in events ++ l) (pulls-moments device t more)))
+    moments = map-append moment_of (filter_map pull_in events) more ∙ ap₂ (λ k l. k ++ l) runs.moments at_moments ∙ sym (counted-pulls events device t more above)
 
 -- pulls one tick apart lead on
 pub CanHappen-pulls : (setup : Setup) (events : List Event) (device t : ℕ) (more : List (List Visit)) → CanHappen setup events → device < length setup.trees

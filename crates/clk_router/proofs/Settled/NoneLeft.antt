@@ -42,6 +42,17 @@ in-order : (o : Option Room) (events : List QueueEvent) → MatchOption o ⊤ (�
 in-order None events h = tt
 in-order (Some room) events h = history-in_order room.kind room.capacity events h
 
+-- what was accepted at a device was evicted or emitted, or its queues and its tree hold it
+pub left-held : ((tree : Tree) → IsRun tree []) → ((tree : Tree) → leaves_distinct tree ≡ true → ConservesCounts tree) → (setup : Setup) → IsClosable setup → (events : List Event) → CanHappen setup events → (d : ℕ) (tree : Tree) → slice_get setup.trees d ≡ Some tree
+    → IsRun tree (log_of (events_at setup d events))
+    → left_in tree (log_of (events_at setup d events)) (λ q. length (held (history setup q (events_at setup d events)))) + length (filter_map evicted_in (events_at setup d events)) + length (emitted (log_of (events_at setup d events)))
+    ≡ length (filter_map accepted_in (events_at setup d events))
+left-held start counts setup closable events can d tree at run =
+    let its = events_at setup d events in
+    let of = closable.queues d tree at in
+    let orders : (q : ℕ) → MatchOption (slice_get setup.queues q) ⊤ (λ (room : Room). IsInOrder room.capacity (history setup q its)) = λ q. in-order (slice_get setup.queues q) (history setup q its) ((alone setup closable.apart start d events can).histories q) in
+    left-is setup d tree of its (own-events setup d events) orders (counts tree of.distinct (log_of its) run)
+
 -- the queues and the tree of a device hold no packet
 pub record HoldsNone (setup : Setup) (events : List Event) (d : ℕ) (tree : Tree) : Type 0 where
   pub queues : (q : ℕ) → stands_in q (leaves (root tree)) ≡ true → held (history setup q (events_at setup d events)) ≡ []
@@ -52,9 +63,7 @@ pub none-held : ((tree : Tree) → IsRun tree []) → ((tree : Tree) → leaves_
     → length (filter_map accepted_in (events_at setup d events)) ≡ length (filter_map evicted_in (events_at setup d events)) + length (emitted (log_of (events_at setup d events))) → HoldsNone setup events d tree
 none-held start counts setup closable events can d tree at run none =
     let its = events_at setup d events in
-    let of = closable.queues d tree at in
-    let orders : (q : ℕ) → MatchOption (slice_get setup.queues q) ⊤ (λ (room : Room). IsInOrder room.capacity (history setup q its)) = λ q. in-order (slice_get setup.queues q) (history setup q its) ((alone setup closable.apart start d events can).histories q) in
-    let left = left-is setup d tree of its (own-events setup d events) orders (counts tree of.distinct (log_of its) run) in
+    let left = left-held start counts setup closable events can d tree at run in
     let empty : left_in tree (log_of its) (λ q. length (held (history setup q its))) ≡ 0 = omega (arith, left, none) in
     let no_queues : held_in_all (λ q. length (held (history setup q its))) (leaves (root tree)) ≡ 0 = omega (arith, empty) in
     let no_heads : length (heads tree (log_of its)) ≡ 0 = omega (arith, empty) in

@@ -1,6 +1,8 @@
 -- A setup over which each closing comes to its end.
-use Rattle.std.specs.Prelude.{◌≡◌, ℕ, true, slice_get, Some}
+use Rattle.std.specs.Prelude.{◌≡◌, ℕ, ◌<◌, ◌≤◌, ◌^◌, true, slice_get, Some}
 use Rattle.clk_packet.specs.Lists.{stands_in, are_distinct, AreRising}
+use Rattle.clk_sched.specs.Bound.{closing_bound}
+use Rattle.clk_sched.specs.Limits.{most_left}
 use Rattle.clk_sched.specs.Tree.{Tree, root, leaves, IsSound}
 use Rattle.clk_router.specs.Events.{Setup, sender_numbers, is_at}
 use Rattle.clk_router.specs.Setups.{IsApart}
@@ -12,8 +14,13 @@ pub record AreQueuesOf (setup : Setup) (d : ℕ) (tree : Tree) : Type 0 where
   pub distinct : are_distinct (leaves (root tree)) ≡ true
   pub leaves_are : (q : ℕ) → stands_in q (leaves (root tree)) ≡ is_at d (slice_get setup.queues q)
 
+-- The closing of a tree is given fewer than 2^42 pulls, where no more packets are left than a drain is given.
+abbrev pub HasLowBound : Tree → Type 0
+HasLowBound tree = (left : ℕ) → left ≤ most_left → closing_bound tree left < 2 ^ 42
+
 -- a setup over which each closing comes to its end
 pub record IsClosable (setup : Setup) : Type 0 where
   pub apart : IsApart setup
   pub queues : (d : ℕ) (tree : Tree) → slice_get setup.trees d ≡ Some tree → AreQueuesOf setup d tree
   pub sound : (d : ℕ) (tree : Tree) → slice_get setup.trees d ≡ Some tree → IsSound (root tree)
+  pub bound : (d : ℕ) (tree : Tree) → slice_get setup.trees d ≡ Some tree → HasLowBound tree

@@ -25,7 +25,7 @@ use Rattle.clk_tree.specs.PlanParts.{Queued, SendsWithin}
 use Rattle.clk_router.specs.declared.senders.Sender.{Sender}
 use Rattle.clk_router.specs.declared.devices.Device.{Device}
 use Rattle.clk_router.specs.declared.parts.Parts.{Parts}
-use Rattle.clk_router.specs.inside.Closable.{IsClosable}
+use Rattle.clk_router.specs.inside.Closable.{HasLowBound, IsClosable}
 use Rattle.clk_router.specs.Course.{room_device, end_of_packets}
 use Rattle.clk_router.specs.inside.Queues.{packets_at}
 use Rattle.clk_router.specs.inside.Past.{visits_shown, pull_shown, pulls_shown}
@@ -40,6 +40,7 @@ pub record CanStand (tree : Tree) : Type 0 where
   pub distinct : leaves_distinct tree ≡ true
   pub fits : 1 + elements (root tree) ≤ most_elements
   pub sound : AreSchedulersSound (root tree)
+  pub bound : HasLowBound tree
 
 abbrev pub device_made : Keeps → Tree → Device
 device_made keeps tree = record { session = record { tree = tree; log = []; keeps = keeps; gone = 0 }; kept = 0 }

@@ -1,8 +1,10 @@
 -- The least quantum of a tree, and the bound of its closing.
-use Rattle.std.proofs.Common.{◌≡◌, ℕ, ◌+◌, ◌*◌, ◌≤◌, mul_assoc, List, [], ◌∷◌, Option, Some, None, refl, sym, ap₂, ◌∙◌, subst, arith}
+use Rattle.std.proofs.Common.{◌≡◌, ℕ, ◌+◌, ◌*◌, ◌-◌, ◌/◌, ◌<◌, ◌≤◌, ◌^◌, mul_assoc, List, [], ◌∷◌, Option, Some, None, refl, sym, ap₂, ◌∙◌, subst, arith}
 use Rattle.std.specs.Bool.{⊤}
 use Rattle.std.specs.List.{AllByRecursion}
-use Rattle.clk_packet.specs.Limits.{most_quantum}
+use Rattle.std.proofs.Math.Nat.{mul-le-mul, div-le_of_le-mul}
+use Rattle.clk_packet.specs.Limits.{most_quantum, most_length, most_levels}
+use Rattle.clk_sched.specs.Limits.{most_left}
 use Rattle.clk_sched.specs.Tree.{Class, drr, Row, end, leaf, node, Tree, queue, scheduler, root, width, height, HasArguments, IsWellFormed, IsSound}
 use Rattle.clk_sched.specs.Built.{levels}
 use Rattle.clk_sched.proofs.Trees.TreeLemmas.{sound-formed}
@@ -46,3 +48,22 @@ quantum-positive tree o quantum h e f = subst IsPositive (sym e ∙ f) (positive
 pub bound-each : (tree : Tree) (left high many : ℕ) → high ≡ levels tree → many ≡ rounds (least_quantum (root tree)) → closing_bound tree left ≡ left * ((high + 1) * many)
 bound-each tree left high many e f =
     mul_assoc left (height (root tree) + 1) (rounds (least_quantum (root tree))) ∙ ap₂ (λ m n. left * ((m + 1) * n)) (sym (e ∙ levels-root tree)) (sym f)
+
+-- the rounds of a well-formed tree are no more than the greatest length, and one
+pub rounds-few : (r : Row) → IsWellFormed r → rounds (least_quantum r) ≤ most_length + 1
+rounds-few r h = by_least (least_quantum r) (positive-row r (sound-formed r h))
+  where
+    by_least : (o : Option ℕ) → IsPositive o → rounds o ≤ most_length + 1
+    by_least None h = omega arith
+    by_least (Some quantum) h =
+        let low : (most_length + (quantum - 1)) / quantum ≤ most_length = div-le_of_le-mul quantum (omega (arith, h)) in
+        omega (arith, low)
+
+-- the closing's bound where no more packets are left than a drain is given
+pub bound-low : (tree : Tree) → IsWellFormed (root tree) → levels tree ≤ most_levels → (left : ℕ) → left ≤ most_left → closing_bound tree left < 2 ^ 42
+bound-low tree formed low left few =
+    let each = bound-each tree left (levels tree) (rounds (least_quantum (root tree))) refl refl in
+    let high : levels tree + 1 ≤ most_levels + 1 = omega (arith, low) in
+    let one : (levels tree + 1) * rounds (least_quantum (root tree)) ≤ (most_levels + 1) * (most_length + 1) = mul-le-mul high (rounds-few (root tree) formed) in
+    let all : left * ((levels tree + 1) * rounds (least_quantum (root tree))) ≤ most_left * ((most_levels + 1) * (most_length + 1)) = mul-le-mul few one in
+    omega (arith, each, all)

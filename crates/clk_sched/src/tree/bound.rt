@@ -1,6 +1,6 @@
 //! How many pulls the closing of a tree is given.
 
-ghost use Rattle.std.specs.Prelude.{◌≡◌, ◌+◌, ◌*◌, ◌≤◌, ℕ};
+ghost use Rattle.std.specs.Prelude.{◌≡◌, ◌+◌, ◌*◌, ◌<◌, ◌≤◌, ◌^◌, ℕ};
 ghost use Rattle.clk_sched.specs.Tree.{root, IsSound};
 ghost use Rattle.clk_sched.specs.Built.{row};
 ghost use Rattle.clk_sched.specs.Bound.{lesser, least, least_quantum};
@@ -11,12 +11,21 @@ use clk_packet::MAX_LENGTH;
 impl Tree {
     ghost use Rattle.clk_sched.specs.Bound.{rounds, closing_bound};
     ghost use Rattle.clk_packet.specs.Limits.{most_length, most_levels};
+    ghost use Rattle.clk_sched.specs.Limits.{most_left};
 
     /// A law: each scheduler of a tree has an input at least, and arguments within their limits.
     pub fn schedulers_are_sound(&self)
         ensures { IsSound (root self.now) }
     {
         // That the tree is well formed is known where a field is read.
+        let _ = &self.node;
+    }
+
+    /// A law: the closing of a tree is given fewer than 2^42 pulls, where 1,000,000 packets are left at most.
+    pub fn closing_bound_is_low(&self)
+        ensures { (left : ℕ) → left ≤ most_left → closing_bound self.now left < 2 ^ 42 }
+    {
+        // Reading a field brings the invariant into scope, which limits the height and the quanta.
         let _ = &self.node;
     }
 

@@ -9,7 +9,7 @@ loop-device-init c = subst (AreMade c.args.plan.now 0) (sym c.new-trees.ensures.
 pub loop-device-preserved : goal.loop-device-preserved
 loop-device-preserved c =
     made-more c.args.plan.now c.loop-device.device c.loop-device.trees.items c.push.new.self.items c.in_ok-tree.tree c.in_ok-push.ensures.items c.loop-device.invariant c.in_ok-tree.ensures.tree
-    (record { distinct = c.in_ok-tree.ensures.distinct; fits = c.in_ok-tree.ensures.fits; sound = c.schedulers_are_sound.ensures })
+    (record { distinct = c.in_ok-tree.ensures.distinct; fits = c.in_ok-tree.ensures.fits; sound = c.schedulers_are_sound.ensures; bound = c.closing_bound_is_low.ensures })
 
 pub returns-clause-trees : goal.returns-clause-trees
 returns-clause-trees c =
