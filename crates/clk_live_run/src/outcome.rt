@@ -5,7 +5,7 @@ use clk_packet::Sink;
 
 /// What a run through inlets came to, once all its packets are out of the router.
 #[derive(Drop)]
-pub struct LiveOutcome<R: Sink> {
+pub struct LiveOutcome<R: Sink + Drop> {
     /// The router, which has the account of each sender.
     pub live: Live,
     /// The sink of the record.

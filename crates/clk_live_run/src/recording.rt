@@ -5,7 +5,7 @@ use clk_script::{Command, ScriptWriter};
 
 /// The record of a run as it goes on, and the sink that it is written to.
 #[derive(Drop)]
-pub struct Recording<R: Sink> {
+pub struct Recording<R: Sink + Drop> {
     pub writer: ScriptWriter,
     pub state: RecordState,
     pub sink: R,
@@ -24,7 +24,7 @@ pub enum RecordState {
     Full,
 }
 
-impl<R: Sink> Recording<R> {
+impl<R: Sink + Drop> Recording<R> {
     ghost use Rattle.std.specs.Prelude.{◌≡◌, ◌≤◌, ◌++◌, ◌∷◌, [], List, IfSome};
     ghost use Rattle.clk_script.specs.declared.script.Command.{Command};
     ghost use Rattle.clk_script.specs.Record.{handed_in};

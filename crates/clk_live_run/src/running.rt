@@ -42,7 +42,7 @@ const ROOM: u32 = 1024;
 ///
 /// In this order: fault 15 with the least sender that the trace has and the plan has not; fault 18 if the run is to be recorded and its record
 /// may have more lines than a script; fault 1 if an allocation or the start of a thread fails. All threads have ended then.
-pub fn run_live<H: Threads, P: Wait + Sync, G: Gate + Sync, R: Sink>(
+pub fn run_live<H: Threads + Wait, P: Wait + Sync, G: Gate + Sync, R: Sink + Drop>(
     rt: &H,
     alloc: Global,
     wait: &P,
@@ -82,7 +82,7 @@ pub fn run_live<H: Threads, P: Wait + Sync, G: Gate + Sync, R: Sink>(
 }
 
 // Closes a run whose threads have ended.
-fn close<P: Wait, R: Sink>(wait: &P, ended: Ended<R>) -> LiveOutcome<R>
+fn close<P: Wait, R: Sink + Drop>(wait: &P, ended: Ended<R>) -> LiveOutcome<R>
 {
     let Ended {
         consumer,

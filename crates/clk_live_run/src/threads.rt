@@ -1,3 +1,52 @@
+//! The threads of a run: one for each sender, and the consumer on the calling thread.
+
+ghost use Rattle.std.specs.Prelude.{◌≡◌, ◌≤◌, IfOk};
+ghost use Rattle.std.specs.List.{AllZip};
+ghost use Rattle.clk_gate.specs.Limits.{most_limit, most_step};
+ghost use Rattle.clk_packet.specs.Trace.{sent_by};
+ghost use Rattle.clk_live.specs.Sending.{HasSent};
+ghost use Rattle.clk_live_run.specs.inside.Consuming.{items_of, commands_of, HasConsumed, HasPaced};
+ghost use Rattle.clk_live_run.specs.inside.Recording.{SinkAt, IsRecordOf};
+ghost use Rattle.clk_live_run.specs.inside.Sending.{IsStarted, GaveBack, HasSentAll};
+
+use crate::consumer::Consumer;
+use crate::senders::{Sender, send_all};
+use clk_gate::Gate;
+use clk_inlet::Inlet;
+use clk_packet::{Sink, Traces};
+use std::alloc::{AllocError, Global};
+use std::snapshot::Snapshot;
+use std::sync::Wait;
+use std::thread;
+use std::thread::{Promise, PromisedHandle, Scope, Threads};
+
+/// What the threads of a run share: what is sent, when devices are pulled, and the gate.
+#[derive(Clone, Copy)]
+pub struct Terms<'a, P: Wait, G: Gate> {
+    pub wait: &'a P,
+    pub traces: &'a Traces,
+    pub gate: &'a G,
+    /// How many ticks lie between two pulls of a device.
+    pub step: u32,
+    /// How often a device is pulled at most while senders send.
+    pub limit: u32,
+}
+
+/// What a sender's thread promises: it gives its inlet back, through which it has sent all that the sender sends.
+#[derive(Drop)]
+pub struct Sending {
+    traces: Snapshot<Traces>,
+    number: u16,
+    inlet: Snapshot<Inlet>,
+}
+
+impl Promise<Inlet> for Sending {
+    ghost use Rattle.clk_packet.specs.Trace.{sent_by};
+    ghost use Rattle.clk_live.specs.Sending.{HasSent};
+    ghost use Rattle.clk_live_run.specs.inside.Consuming.{items_of};
+
+    ghost kept_by = { λ p inlet. HasSent p.inlet.value (items_of (sent_by p.traces.value p.number)) inlet };
+}
 
 // Starts a sender's thread. What threads share is lent piece by piece, so that contracts see what the closure captures.
 fn start<'s, E, P: Wait + Sync, G: Gate + Sync>(
@@ -55,7 +104,7 @@ fn join_all<R: Threads>(
 
 /// What is left once all threads of a run have ended.
 #[derive(Drop)]
-pub struct Ended<R: Sink> {
+pub struct Ended<R: Sink + Drop> {
     pub consumer: Consumer<R>,
     pub inlets: Vec<Inlet>,
 }
@@ -65,7 +114,7 @@ pub struct Ended<R: Sink> {
 /// # Errors
 ///
 /// An allocation or the start of a thread failed. All threads have ended then, too.
-pub fn run_threads<H: Threads, P: Wait + Sync, G: Gate + Sync, R: Sink>(
+pub fn run_threads<H: Threads + Wait, P: Wait + Sync, G: Gate + Sync, R: Sink + Drop>(
     rt: &H,
     alloc: Global,
     terms: Terms<P, G>,
