@@ -1,1 +1,3 @@
 -- Lemmas on runs through inlets.
+mod Closings
+mod Takings

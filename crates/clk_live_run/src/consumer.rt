@@ -24,7 +24,7 @@ impl<R: Sink + Drop> Consumer<R> {
     ghost use Rattle.clk_sched.specs.Limits.{end_of_moments};
     ghost use Rattle.clk_script.specs.Script.{most_moment};
     ghost use Rattle.clk_live_run.specs.Run.{moments_at};
-    ghost use Rattle.clk_live_run.specs.inside.Recording.{SinkAt, IsRecordOf};
+    ghost use Rattle.clk_live_run.specs.inside.Recording.{LeadsOn};
     ghost use Rattle.clk_live_run.specs.inside.Consuming.{commands_of, OnlyTook, PulledFirst, HasPaced, HasConsumed};
 
     /// Takes packets and pulls devices in rounds, until all inlets have ended and all that was sent is taken. A round takes at most 64 packets
@@ -40,8 +40,7 @@ impl<R: Sink + Drop> Consumer<R> {
         requires limit { limit ≤ most_limit }
         requires unpulled { HasPaced step 0 self.old.live }
         ensures consumed { HasConsumed step limit self.old.live self.new.live }
-        ensures recorded { (recording : _) (start : SinkAt) → IsRecordOf recording start (record { taken = R.Sink.taken self.old.recording.sink; failures = R.Sink.failures self.old.recording.sink }) (commands_of self.old.live.course) self.old.recording.state self.old.recording.writer
-            → IsRecordOf recording start (record { taken = R.Sink.taken self.new.recording.sink; failures = R.Sink.failures self.new.recording.sink }) (commands_of self.new.live.course) self.new.recording.state self.new.recording.writer }
+        ensures recorded { LeadsOn self.old.recording self.new.recording (commands_of self.old.live.course) (commands_of self.new.live.course) }
     {
         let mut round = 0;
         for _ in wait.forever() {
@@ -63,8 +62,7 @@ impl<R: Sink + Drop> Consumer<R> {
     // Takes packets of each sender in turn, by place. Returns whether it took one.
     fn take_round(&mut self) -> bool
         ensures took { OnlyTook self.old.live self.new.live }
-        ensures recorded { (recording : _) (start : SinkAt) → IsRecordOf recording start (record { taken = R.Sink.taken self.old.recording.sink; failures = R.Sink.failures self.old.recording.sink }) (commands_of self.old.live.course) self.old.recording.state self.old.recording.writer
-            → IsRecordOf recording start (record { taken = R.Sink.taken self.new.recording.sink; failures = R.Sink.failures self.new.recording.sink }) (commands_of self.new.live.course) self.new.recording.state self.new.recording.writer }
+        ensures recorded { LeadsOn self.old.recording self.new.recording (commands_of self.old.live.course) (commands_of self.new.live.course) }
     {
         let mut took = false;
         for place in 0..self.live.router().senders().len() {
@@ -79,8 +77,7 @@ impl<R: Sink + Drop> Consumer<R> {
     fn take_from(&mut self, place: usize) -> bool
         requires there { place < length self.old.live.outlets }
         ensures took { OnlyTook self.old.live self.new.live }
-        ensures recorded { (recording : _) (start : SinkAt) → IsRecordOf recording start (record { taken = R.Sink.taken self.old.recording.sink; failures = R.Sink.failures self.old.recording.sink }) (commands_of self.old.live.course) self.old.recording.state self.old.recording.writer
-            → IsRecordOf recording start (record { taken = R.Sink.taken self.new.recording.sink; failures = R.Sink.failures self.new.recording.sink }) (commands_of self.new.live.course) self.new.recording.state self.new.recording.writer }
+        ensures recorded { LeadsOn self.old.recording self.new.recording (commands_of self.old.live.course) (commands_of self.new.live.course) }
     {
         let mut took = false;
         for _ in 0..EACH {
@@ -102,8 +99,7 @@ impl<R: Sink + Drop> Consumer<R> {
         requires moment { (step ≤ most_step) × (round ≤ most_limit) }
         requires few { (d : ℕ) → length (moments_at self.old.live.course.setup self.old.live.course.events d) ≤ most_limit }
         ensures pulled { PulledFirst (length self.old.live.course.setup.trees) (round * step) self.old.live self.new.live }
-        ensures recorded { (recording : _) (start : SinkAt) → IsRecordOf recording start (record { taken = R.Sink.taken self.old.recording.sink; failures = R.Sink.failures self.old.recording.sink }) (commands_of self.old.live.course) self.old.recording.state self.old.recording.writer
-            → IsRecordOf recording start (record { taken = R.Sink.taken self.new.recording.sink; failures = R.Sink.failures self.new.recording.sink }) (commands_of self.new.live.course) self.new.recording.state self.new.recording.writer }
+        ensures recorded { LeadsOn self.old.recording self.new.recording (commands_of self.old.live.course) (commands_of self.new.live.course) }
     {
         let moment = u64::from(round) * u64::from(step);
         for device in 0..self.live.router().devices() as u16 {

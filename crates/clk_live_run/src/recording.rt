@@ -1,7 +1,8 @@
 //! The record of a run, which ends at the first fault of its sink.
 
 use clk_packet::{Fault, Sink};
-use clk_script::{Command, ScriptWriter};
+use clk_script::{Command, ScriptWriter, records_grow};
+use std::marker::Model;
 
 /// The record of a run as it goes on, and the sink that it is written to.
 #[derive(Drop)]
@@ -24,16 +25,24 @@ pub enum RecordState {
     Full,
 }
 
+impl<R: Sink + Drop> Model for Recording<R> {
+    ghost use Rattle.clk_live_run.specs.inside.Recording.{RecordAt};
+
+    ghost Value = { RecordAt };
+
+    ghost view = { λ r. record { sink = record { taken = R.Sink.taken r.sink; failures = R.Sink.failures r.sink }; state = r.state; writer = r.writer } };
+}
+
 impl<R: Sink + Drop> Recording<R> {
     ghost use Rattle.std.specs.Prelude.{◌≡◌, ◌≤◌, ◌++◌, ◌∷◌, [], List, IfSome};
     ghost use Rattle.clk_script.specs.declared.script.Command.{Command};
     ghost use Rattle.clk_script.specs.Record.{handed_in};
     ghost use Rattle.clk_script.specs.Script.{most_moment};
-    ghost use Rattle.clk_live_run.specs.inside.Recording.{SinkAt, IsRecordOf, IsEnded};
+    ghost use Rattle.clk_live_run.specs.inside.Recording.{SinkAt, IsRecordOf, IsEnded, LeadsOn};
 
     /// A record without a line, or none if the run is not to be recorded.
     pub fn new(recording: bool, sink: R) -> Recording<R>
-        ensures begun { IsRecordOf recording (record { taken = R.Sink.taken sink; failures = R.Sink.failures sink }) (record { taken = R.Sink.taken result.sink; failures = R.Sink.failures result.sink }) [] result.state result.writer }
+        ensures begun { IsRecordOf recording (record { taken = R.Sink.taken sink; failures = R.Sink.failures sink }) result [] }
     {
         let state = if recording {
             RecordState::Going
@@ -50,9 +59,10 @@ impl<R: Sink + Drop> Recording<R> {
     /// Adds the line of a command, unless the record has ended.
     pub fn note(&mut self, command: Command)
         requires early { IfSome (handed_in command) (λ moment. moment ≤ most_moment) }
-        ensures noted { (recording : _) (start : SinkAt) (commands : List Command) → IsRecordOf recording start (record { taken = R.Sink.taken self.old.sink; failures = R.Sink.failures self.old.sink }) commands self.old.state self.old.writer
-            → IsRecordOf recording start (record { taken = R.Sink.taken self.new.sink; failures = R.Sink.failures self.new.sink }) (commands ++ command ∷ []) self.new.state self.new.writer }
+        ensures noted { (commands : List Command) → LeadsOn self.old self.new commands (commands ++ command ∷ []) }
     {
+        // A record grows line by line, by this law, which does nothing.
+        records_grow();
         let RecordState::Going = self.state else {
             return;
         };
@@ -65,9 +75,10 @@ impl<R: Sink + Drop> Recording<R> {
 
     /// Ends the record by the drain from moment 0 on. Returns the sink, and whether it failed.
     pub fn finish(self) -> (R, bool)
-        ensures ended { (recording : _) (start : SinkAt) (commands : List Command) → IsRecordOf recording start (record { taken = R.Sink.taken self.sink; failures = R.Sink.failures self.sink }) commands self.state self.writer
-            → IsEnded recording result.1 start (record { taken = R.Sink.taken result.0; failures = R.Sink.failures result.0 }) commands }
+        ensures ended { (recording : _) (start : SinkAt) (commands : List Command) → IsRecordOf recording start self commands → IsEnded recording result.1 start (record { taken = R.Sink.taken result.0; failures = R.Sink.failures result.0 }) commands }
     {
+        // A record grows line by line, by this law, which does nothing.
+        records_grow();
         let Recording {
             writer,
             state,

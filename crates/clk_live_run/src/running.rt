@@ -77,7 +77,7 @@ pub fn run_live<H: Threads + Wait, P: Wait + Sync, G: Gate + Sync, R: Sink + Dro
         step,
         limit,
     };
-    let ended = run_threads(rt, alloc, terms, consumer, senders)?;
+    let ended = run_threads(rt, alloc, &terms, consumer, senders)?;
     Ok(close(wait, ended))
 }
 

@@ -6,7 +6,7 @@ ghost use Rattle.clk_gate.specs.Limits.{most_limit, most_step};
 ghost use Rattle.clk_packet.specs.Trace.{sent_by};
 ghost use Rattle.clk_live.specs.Sending.{HasSent};
 ghost use Rattle.clk_live_run.specs.inside.Consuming.{items_of, commands_of, HasConsumed, HasPaced};
-ghost use Rattle.clk_live_run.specs.inside.Recording.{SinkAt, IsRecordOf};
+ghost use Rattle.clk_live_run.specs.inside.Recording.{LeadsOn};
 ghost use Rattle.clk_live_run.specs.inside.Sending.{IsStarted, GaveBack, HasSentAll};
 
 use crate::consumer::Consumer;
@@ -21,7 +21,7 @@ use std::thread;
 use std::thread::{Promise, PromisedHandle, Scope, Threads};
 
 /// What the threads of a run share: what is sent, when devices are pulled, and the gate.
-#[derive(Clone, Copy)]
+#[derive(Drop)]
 pub struct Terms<'a, P: Wait, G: Gate> {
     pub wait: &'a P,
     pub traces: &'a Traces,
@@ -51,10 +51,10 @@ impl Promise<Inlet> for Sending {
 // Starts a sender's thread. What threads share is lent piece by piece, so that contracts see what the closure captures.
 fn start<'s, E, P: Wait + Sync, G: Gate + Sync>(
     scope: &Scope<'s, E>,
-    terms: Terms<'s, P, G>,
+    terms: &'s Terms<'s, P, G>,
     sender: Sender,
 ) -> Result<PromisedHandle<Inlet, Sending>, AllocError>
-    ensures traces { IfOk result (λ handle. handle.promise.traces.value ≡ terms.traces.now) }
+    ensures traces { IfOk result (λ handle. handle.promise.traces.value ≡ terms.now.traces.now) }
     ensures number { IfOk result (λ handle. handle.promise.number ≡ sender.number) }
     ensures inlet { IfOk result (λ handle. handle.promise.inlet.value ≡ sender.inlet) }
 {
@@ -75,10 +75,10 @@ fn start<'s, E, P: Wait + Sync, G: Gate + Sync>(
 fn start_all<'s, E, P: Wait + Sync, G: Gate + Sync>(
     scope: &Scope<'s, E>,
     alloc: Global,
-    terms: Terms<'s, P, G>,
+    terms: &'s Terms<'s, P, G>,
     senders: Vec<Sender>,
 ) -> Result<Vec<PromisedHandle<Inlet, Sending>>, AllocError>
-    ensures started { IfOk result (λ handles. AllZip (IsStarted terms.traces.now) senders.items handles.items) }
+    ensures started { IfOk result (λ handles. AllZip (IsStarted terms.now.traces.now) senders.items handles.items) }
 {
     let mut handles = Vec::new(alloc);
     for sender in senders {
@@ -117,26 +117,24 @@ pub struct Ended<R: Sink + Drop> {
 pub fn run_threads<H: Threads + Wait, P: Wait + Sync, G: Gate + Sync, R: Sink + Drop>(
     rt: &H,
     alloc: Global,
-    terms: Terms<P, G>,
+    terms: &Terms<P, G>,
     consumer: Consumer<R>,
     senders: Vec<Sender>,
 ) -> Result<Ended<R>, AllocError>
-    requires step { terms.step ≤ most_step }
-    requires limit { terms.limit ≤ most_limit }
-    requires unpulled { HasPaced terms.step 0 consumer.live }
-    ensures consumed { IfOk result (λ ended. HasConsumed terms.step terms.limit consumer.live ended.consumer.live) }
-    ensures recorded { IfOk result (λ ended. (recording : _) (start : SinkAt) → IsRecordOf recording start (record { taken = R.Sink.taken consumer.recording.sink; failures = R.Sink.failures consumer.recording.sink }) (commands_of consumer.live.course) consumer.recording.state consumer.recording.writer
-        → IsRecordOf recording start (record { taken = R.Sink.taken ended.consumer.recording.sink; failures = R.Sink.failures ended.consumer.recording.sink }) (commands_of ended.consumer.live.course) ended.consumer.recording.state ended.consumer.recording.writer) }
-    ensures sent { IfOk result (λ ended. AllZip (HasSentAll terms.traces.now) senders.items ended.inlets.items) }
+    requires step { terms.now.step ≤ most_step }
+    requires limit { terms.now.limit ≤ most_limit }
+    requires unpulled { HasPaced terms.now.step 0 consumer.live }
+    ensures consumed { IfOk result (λ ended. HasConsumed terms.now.step terms.now.limit consumer.live ended.consumer.live) }
+    ensures recorded { IfOk result (λ ended. LeadsOn consumer.recording ended.consumer.recording (commands_of consumer.live.course) (commands_of ended.consumer.live.course)) }
+    ensures sent { IfOk result (λ ended. AllZip (HasSentAll terms.now.traces.now) senders.items ended.inlets.items) }
 {
     thread::scope(
         thread::scope_env(),
         rt,
         move |scope| -> Result<Ended<R>, AllocError>
-            requires { (terms.step ≤ most_step) × (terms.limit ≤ most_limit) × HasPaced terms.step 0 consumer.live }
-            ensures { IfOk result (λ ended. HasConsumed terms.step terms.limit consumer.live ended.consumer.live × AllZip (HasSentAll terms.traces.now) senders.items ended.inlets.items
-                × ((recording : _) (start : SinkAt) → IsRecordOf recording start (record { taken = R.Sink.taken consumer.recording.sink; failures = R.Sink.failures consumer.recording.sink }) (commands_of consumer.live.course) consumer.recording.state consumer.recording.writer
-                → IsRecordOf recording start (record { taken = R.Sink.taken ended.consumer.recording.sink; failures = R.Sink.failures ended.consumer.recording.sink }) (commands_of ended.consumer.live.course) ended.consumer.recording.state ended.consumer.recording.writer)) }
+            requires { (terms.now.step ≤ most_step) × (terms.now.limit ≤ most_limit) × HasPaced terms.now.step 0 consumer.live }
+            ensures { IfOk result (λ ended. HasConsumed terms.now.step terms.now.limit consumer.live ended.consumer.live × AllZip (HasSentAll terms.now.traces.now) senders.items ended.inlets.items
+                × LeadsOn consumer.recording ended.consumer.recording (commands_of consumer.live.course) (commands_of ended.consumer.live.course)) }
         {
             let mut consumer = consumer;
             // If a thread cannot be started, its inlet ends, and those that run are still served.

@@ -1,7 +1,7 @@
 -- A drain of a device comes to its end before moments or pulls do: the closing bound is enough, and it is low.
 use Rattle.std.proofs.Common.{◌≡◌, ℕ, suc, ◌+◌, ◌<◌, ◌≤◌, Bool, true, false, List, [], ◌∷◌, ◌++◌, length, map, reverse, max, fold, append-nil, append_assoc, length-append, Option, Some, None, MatchOption, slice_get, refl, sym, ap, ap₂, ◌∙◌, subst, arith}
 use Rattle.std.specs.Bool.{⊤}
-use Rattle.std.specs.List.{filter_map, flat_map, cons_option, range_with_len}
+use Rattle.std.specs.List.{filter_map, flat_map, range_with_len}
 use Rattle.std.proofs.lemmas.Bool.{false≢true}
 use Rattle.std.proofs.lemmas.List.{append_cancel_left, map-append}
 use Rattle.std.proofs.lemmas.List.Concat.{flat_map-append}
@@ -26,7 +26,7 @@ use Rattle.clk_router.specs.Events.{Room, Setup, Event, pulled, is_at, events_at
 use Rattle.clk_router.specs.inside.Closable.{IsClosable}
 use Rattle.clk_router.proofs.Callers.Apart.{alone, no-answers}
 use Rattle.clk_router.proofs.Callers.Emitted.{its-given}
-use Rattle.clk_router.proofs.Callers.Events.{latest-moment, events-pulls, log-pulls, turns-pulls, counted-pulls, pulls-add_none, pulls-history, pulled-events}
+use Rattle.clk_router.proofs.Callers.Events.{latest-moment, events-pulls, log-pulls, turns-pulls, counted-pulls, pulls-add_none, pulls-given, pulls-history, pulled-events}
 use Rattle.clk_router.proofs.Callers.Plans.{queue-stands}
 use Rattle.clk_router.proofs.QueueCounts.{stands-first, stands-rest, total, is_accept, is_evict, is_give, total-append, history-counts}
 use Rattle.clk_router.proofs.Settled.Dealt.{member-there}
@@ -69,11 +69,6 @@ gives-out kind capacity before (Some p ∷ answers) h =
       fewer,
       subst (λ l. GivesOut (length (held (before ++ give p ∷ []))) answers (length (held l))) (append_assoc before (give p ∷ []) (map pull_event answers)) (gives-out kind capacity (before ++ give p ∷ []) answers h.3),
     )
-
--- what pulls one tick apart emitted is what they gave
-pulls-given : (device t : ℕ) (more : List (List Visit)) → filter_map emitted_in (pulls_from device t more) ≡ given_in more
-pulls-given device t [] = refl
-pulls-given device t (visits ∷ more) = ap (cons_option (emitted_in (pulled device t visits))) (pulls-given device (t + 1) more)
 
 -- Closing pulls of a device that can happen after some events.
 module _ (start : (tree : Tree) → IsRun tree []) (setup : Setup) (closable : IsClosable setup) (events : List Event) (can : CanHappen setup events) (d moment : ℕ) (tree : Tree) (at : slice_get setup.trees d ≡ Some tree) (more : List (List Visit))

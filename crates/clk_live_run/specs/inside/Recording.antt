@@ -15,12 +15,26 @@ pub record SinkAt : Type 0 where
   pub taken : Option (List ℕ)
   pub failures : ℕ
 
--- The record of these commands, as a sink has it that stood at `start` before, by how far the record has come.
-abbrev pub IsRecordOf : (recording : Bool) → (start now : SinkAt) → List Command → RecordState → ScriptWriter → Type 0
-IsRecordOf recording start now commands Off writer = (recording ≡ false) × (now ≡ start)
-IsRecordOf recording start now commands Going writer = (recording ≡ true) × (now.failures ≡ start.failures) × Records start.taken now.taken commands writer
-IsRecordOf recording start now commands Failed writer = (recording ≡ true) × (now.failures ≡ start.failures + 1) × AppendsFront start.taken now.taken (record_text commands None)
-IsRecordOf recording start now commands Full writer = (recording ≡ true) × (most_lines ≤ length commands)
+-- what is seen of a recording: its sink, how far the record has come, and the writer
+pub record RecordAt : Type 0 where
+  pub sink : SinkAt
+  pub state : RecordState
+  pub writer : ScriptWriter
+
+-- the record of these commands, as a sink has it that stood at `start` before, by how far the record has come
+abbrev pub StandsAs : RecordState → (recording : Bool) → (start now : SinkAt) → ScriptWriter → List Command → Type 0
+StandsAs Off recording start now writer commands = (recording ≡ false) × (now ≡ start)
+StandsAs Going recording start now writer commands = (recording ≡ true) × (now.failures ≡ start.failures) × Records start.taken now.taken commands writer
+StandsAs Failed recording start now writer commands = (recording ≡ true) × (now.failures ≡ start.failures + 1) × AppendsFront start.taken now.taken (record_text commands None)
+StandsAs Full recording start now writer commands = (recording ≡ true) × (most_lines ≤ length commands)
+
+-- It is the record of these commands, begun when the sink stood at `start`, if the run is recorded.
+abbrev pub IsRecordOf : (recording : Bool) → (start : SinkAt) → RecordAt → List Command → Type 0
+IsRecordOf recording start r commands = StandsAs r.state recording start r.sink r.writer commands
+
+-- A record of the commands before became one of the commands after.
+abbrev pub LeadsOn : (old new : RecordAt) → (before after : List Command) → Type 0
+LeadsOn old new before after = (recording : Bool) (start : SinkAt) → IsRecordOf recording start old before → IsRecordOf recording start new after
 
 -- A record with its drain has ended: the sink is as it was if there was no record; else, if all lines fit a script, it has the whole record or, if
 -- it failed, a front of it.

@@ -1,7 +1,7 @@
 -- How events go on by one.
 use Rattle.std.proofs.Common.{◌≡◌, ℕ, ◌+◌, ◌<◌, ◌≤◌, ◌==◌, zero, suc, Bool, true, false, List, [], ◌∷◌, ◌++◌, length, drop, map, reverse, max, fold, if◌then◌else◌, Option, Some, None, MatchOption, slice_get, subst, refl, sym, ap, ap₂, ◌∙◌, arith}
 use Rattle.std.specs.Bool.{⊤}
-use Rattle.std.specs.List.{filter_map, flat_map, range_with_len, list_any, AllByRecursion}
+use Rattle.std.specs.List.{filter_map, cons_option, flat_map, range_with_len, list_any, AllByRecursion}
 use Rattle.std.proofs.lemmas.List.{append_assoc, append-nil, map-append, length-append, map-id, reverse-append}
 use Rattle.std.proofs.lemmas.List.Concat.{flat_map-append}
 use Rattle.std.proofs.lemmas.List.Elements.{filter-append, filter_map-append}
@@ -16,8 +16,8 @@ use Rattle.clk_sched.specs.Tree.{Tree}
 use Rattle.clk_sched.specs.Run.{IsRun}
 use Rattle.clk_sched.specs.Results.{asks_queue}
 use Rattle.clk_sched.specs.Choice.{answers_of}
-use Rattle.clk_sched.specs.Session.{latest_moment}
-use Rattle.clk_router.specs.Events.{Room, Setup, sender_numbers, Event, offered, pulled, happens_at, events_at, number_from, numbers_of, visits_in, pull_in, moment_in, log_of, answers_in, at_queue, history, IsOfDevice, IsOfSender, NamesItsOffer, RunsTree, CanHappen, pulls_from}
+use Rattle.clk_sched.specs.Session.{given_in, latest_moment}
+use Rattle.clk_router.specs.Events.{Room, Setup, sender_numbers, Event, offered, pulled, happens_at, events_at, number_from, numbers_of, visits_in, pull_in, moment_in, emitted_in, log_of, answers_in, at_queue, history, IsOfDevice, IsOfSender, NamesItsOffer, RunsTree, CanHappen, pulls_from}
 
 -- the numbers from 0 on, and the next
 range-more : (n : ℕ) → range_with_len 0 (n + 1) ≡ range_with_len 0 n ++ n ∷ []
@@ -317,3 +317,8 @@ CanHappen-pulls setup events device t more can within run histories =
         by_test false e =
             subst (RunAt setup d)
             (sym (filter-append (happens_at setup d) events (pulls_from device t more) ∙ ap (λ l. events_at setup d events ++ l) (pulls-elsewhere setup device d t more e) ∙ append-nil (events_at setup d events))) (can.runs d)
+
+-- what pulls one tick apart emitted is what they gave
+pub pulls-given : (device t : ℕ) (more : List (List Visit)) → filter_map emitted_in (pulls_from device t more) ≡ given_in more
+pulls-given device t [] = refl
+pulls-given device t (visits ∷ more) = ap (cons_option (emitted_in (pulled device t visits))) (pulls-given device (t + 1) more)
