@@ -15,6 +15,22 @@ impl Live {
     ghost use Rattle.clk_live.specs.State.{seen};
     ghost use Rattle.clk_live.specs.Outcome.{AreAllEnded, IsLiveOutcome};
 
+    /// Whether all inlets have ended and all that was sent through them is taken, on a thread that has the inlets too. The inlets stand by the
+    /// places of their senders, as [`open`](Live::open) returned them.
+    pub fn has_taken_all(&mut self, inlets: &mut [Inlet]) -> bool
+        requires halves { AllZip AreHalves inlets.old self.old.outlets }
+        ensures taken { result ≡ true → (seen self.new).items ≡ map offered inlets.new }
+        ensures no { result ≡ false → AreAllEnded self.old.outlets → ⊥ }
+        ensures halves { AllZip AreHalves inlets.new self.new.outlets }
+        ensures unchanged { (seen self.new ≡ seen self.old) × (self.new.turn ≡ self.old.turn) × (map pushed inlets.new ≡ map pushed inlets.old) }
+    {
+        if !self.is_ended() {
+            return false;
+        }
+        look_beside(&mut self.outlets, inlets);
+        true
+    }
+
     /// Whether all inlets have ended and no packet is left inside, on a thread that has the inlets too. Then all that was sent through the
     /// inlets was taken, with its tokens, and is settled. The inlets stand by the places of their senders, as [`open`](Live::open)
     /// returned them.
@@ -26,14 +42,10 @@ impl Live {
         ensures halves { AllZip AreHalves inlets.new self.new.outlets }
         ensures unchanged { (seen self.new ≡ seen self.old) × (self.new.turn ≡ self.old.turn) × (map pushed inlets.new ≡ map pushed inlets.old) }
     {
-        if !self.is_ended() {
-            return false;
-        }
         if !self.is_drained() {
             return false;
         }
-        look_beside(&mut self.outlets, inlets);
-        true
+        self.has_taken_all(inlets)
     }
 }
 

@@ -6,20 +6,22 @@ use Rattle.std.specs.Option.{option_map}
 use Rattle.std.proofs.lemmas.List.{append_assoc, append-nil, length-append}
 use Rattle.std.proofs.lemmas.List.Elements.{filter-append, filter_map-append}
 use Rattle.std.proofs.lemmas.Bool.Decides.{nat_tests}
-use Rattle.std.proofs.lemmas.Nat.{eqb-refl}
+use Rattle.clk_inlet.specs.Halves.{taken}
 use Rattle.clk_packet.specs.declared.packet.Packet.{Packet}
 use Rattle.clk_sched.specs.declared.visit.Visit.{Visit}
+use Rattle.clk_sched.specs.Limits.{end_of_drains, end_of_drained_pulls}
 use Rattle.clk_sched.specs.Log.{visits_of, result_of}
 use Rattle.clk_sched.specs.Results.{emitted}
 use Rattle.clk_sched.specs.Session.{given_in, LastGives}
 use Rattle.clk_sched.specs.Tree.{Tree}
-use Rattle.clk_router.specs.Events.{Setup, Event, pulled, events_at, moment_in, accepted_in, evicted_in, emitted_in, log_of, pulls_from, closing_pulls, RunsTree, CanHappen, Closes}
-use Rattle.clk_router.specs.Course.{Course, after, events_of, accepted_at, evicted_at, emitted_at, moment_at, CanClose}
-use Rattle.clk_router.specs.Drains.{HasLeft, drained_by}
+use Rattle.clk_router.specs.Events.{Setup, Event, pulled, happens_at, events_at, moment_in, pull_in, accepted_in, evicted_in, emitted_in, log_of, pulls_from, closing_pulls, RunsTree, CanHappen, Closes}
+use Rattle.clk_router.specs.Course.{Course, after, events_of, accepted_at, evicted_at, emitted_at, moment_at, CanPull, CanClose}
+use Rattle.clk_router.specs.Settled.{IsDrained}
+use Rattle.clk_router.specs.Drains.{HasLeft, drained_by, DrainsEnd}
 use Rattle.clk_router.proofs.Callers.Events.{pulls-moments, pulls-given, pulls-elsewhere, events-pulls, pulls-add_none}
 use Rattle.clk_router.proofs.Callers.Emitted.{its-given}
 use Rattle.clk_script.specs.Meaning.{CloseFirst}
-use Rattle.clk_live.specs.State.{LiveState, seen}
+use Rattle.clk_live.specs.State.{LiveState, Seen, seen}
 use Rattle.clk_live.specs.declared.pulling.Emitted.{Emitted}
 use Rattle.clk_live.specs.Pulling.{IsPulledLive, packet_of}
 use Rattle.clk_live_run.specs.inside.Consuming.{HasDrained, HasClosed}
@@ -99,6 +101,7 @@ module _ (c : Course) (device : ℕ) where
 pub record DrainedSoFar (device : ℕ) (old now : LiveState) : Type 0 where
   pub more : List (List Visit)
   pub goes_on : now.course ≡ drained_by old.course device 0 more
+  pub began : CanHappen old.course.setup old.course.events
   pub happened : CanHappen now.course.setup now.course.events
   pub gives : accepted_at now.course device ≡ evicted_at now.course device + emitted_at now.course device → LastGives more
   pub outlets : now.outlets ≡ old.outlets
@@ -108,7 +111,171 @@ drained-none device l can =
     record {
       more = [];
       goes_on = ap (λ es. record { setup = l.course.setup; events = es; keeps = l.course.keeps }) (sym (append-nil l.course.events));
+      began = can;
       happened = can;
       gives = λ e. tt;
       outlets = refl;
     }
+
+-- one pull more
+module _ (device : ℕ) (old l new : LiveState) (moment : ℕ) (got : Option Emitted) (so : DrainedSoFar device old l) (there : device < length old.course.setup.trees) (left : HasLeft l.course device) (when : moment ≡ moment_at l.course device + 1)
+    (pull : IsPulledLive device moment (seen l) got (seen new)) (happened : CanHappen new.course.setup new.course.events) where
+  abbrev visits : List Visit
+  visits = pull.pulled.visits
+
+  abbrev more : List (List Visit)
+  more = so.more ++ visits ∷ []
+
+  goes_on : new.course ≡ drained_by old.course device 0 more
+  goes_on =
+      pull.pulled.goes_on
+      ∙ ap (λ (c : Course). after c (pulled device moment visits ∷ [])) so.goes_on
+      ∙ ap (λ es. record { setup = old.course.setup; events = es; keeps = old.course.keeps })
+        (append_assoc old.course.events (pulls_from device (latest old.course device + 1) so.more) (pulled device moment visits ∷ [])
+        ∙ ap (λ es. old.course.events ++ es) (ap (λ m. pulls_from device (latest old.course device + 1) so.more ++ pulled device m visits ∷ []) at ∙ sym (pulls-more device (latest old.course device + 1) so.more visits)))
+    where
+      at : moment ≡ latest old.course device + 1 + length so.more
+      at =
+          let was = ap (λ (c : Course). moment_at c device) so.goes_on in
+          let is = moment-after old.course device so.more in
+          omega (arith, when, was, is)
+
+  -- how many packets the device emitted, before and after
+  its-tree : (tree : Tree) × (slice_get old.course.setup.trees device ≡ Some tree)
+  its-tree = member old.course.setup.trees device there
+
+  counts : (pulls : List (List Visit)) → CanHappen old.course.setup (drained_by old.course device 0 pulls).events → emitted_at (drained_by old.course device 0 pulls) device ≡ emitted_at old.course device + length (given_in pulls)
+  counts pulls goes = emitted-after old.course device its-tree.0 its-tree.1 so.began pulls goes
+
+  before : emitted_at l.course device ≡ emitted_at old.course device + length (given_in so.more)
+  before = ap (λ (c : Course). emitted_at c device) so.goes_on ∙ counts so.more (subst (λ (c : Course). CanHappen c.setup c.events) so.goes_on so.happened)
+
+  now : emitted_at new.course device ≡ emitted_at old.course device + length (given_in more)
+  now = ap (λ (c : Course). emitted_at c device) goes_on ∙ counts more (subst (λ (c : Course). CanHappen c.setup c.events) goes_on happened)
+
+  gives : accepted_at new.course device ≡ evicted_at new.course device + emitted_at new.course device → LastGives more
+  gives emptied = by_result (result_of (visits_of 0 visits)) refl
+    where
+      by_result : (o : Option Packet) → result_of (visits_of 0 visits) ≡ o → LastGives more
+      by_result (Some p) e = last-gives so.more visits (ap is_some e)
+      by_result None e =
+          let none : length (given_in more) ≡ length (given_in so.more) = ap length (given-more so.more visits ∙ ap (λ o. given_in so.more ++ cons_option o []) e ∙ append-nil (given_in so.more)) in
+          let a = ap (λ (c : Course). accepted_at c device) goes_on ∙ accepted-after old.course device more in
+          let b = ap (λ (c : Course). evicted_at c device) goes_on ∙ evicted-after old.course device more in
+          let c = ap (λ (c : Course). accepted_at c device) so.goes_on ∙ accepted-after old.course device so.more in
+          let d = ap (λ (c : Course). evicted_at c device) so.goes_on ∙ evicted-after old.course device so.more in
+          let was = before in
+          let is = now in
+          absurd (omega (arith, emptied, none, a, b, c, d, was, is, left))
+
+  pub drained-more : new.outlets ≡ l.outlets → DrainedSoFar device old new
+  drained-more outlets = record { more = more; goes_on = goes_on; began = so.began; happened = happened; gives = gives; outlets = outlets ∙ so.outlets }
+
+-- no packet is left
+pub drained : (device : ℕ) (old now : LiveState) → device < length old.course.setup.trees → (so : DrainedSoFar device old now) → accepted_at now.course device ≡ evicted_at now.course device + emitted_at now.course device
+    → HasDrained device old now
+drained device old now there so emptied =
+    let tree = member old.course.setup.trees device there in
+    let last = pulls_from device (latest old.course device + 1) so.more in
+    record {
+      last = last;
+      goes_on = so.goes_on;
+      closes = record {
+        closing = so.more;
+        are = refl;
+        all =
+            let a = ap (λ (c : Course). accepted_at c device) so.goes_on ∙ accepted-after old.course device so.more in
+            let b = ap (λ (c : Course). evicted_at c device) so.goes_on ∙ evicted-after old.course device so.more in
+            let c = ap (λ (c : Course). emitted_at c device) so.goes_on ∙ emitted-after old.course device tree.0 tree.1 so.began so.more (subst (λ (c : Course). CanHappen c.setup c.events) so.goes_on so.happened) in
+            omega (arith, emptied, a, b, c);
+        stops = so.gives emptied;
+      };
+      none_left = emptied;
+      elsewhere = λ d other.
+          ap (λ (c : Course). events_of c d) so.goes_on ∙ filter-append (happens_at old.course.setup d) old.course.events last
+          ∙ ap (λ es. events_of old.course d ++ es) (pulls-elsewhere old.course.setup device d (latest old.course device + 1) so.more other) ∙ append-nil (events_of old.course d);
+      outlets = so.outlets;
+    }
+
+-- The devices are drained one after the other.
+pub closed-none : (l : LiveState) → HasClosed 0 l l
+closed-none l =
+    record {
+      closed = [];
+      goes_on = ap (λ es. record { setup = l.course.setup; events = es; keeps = l.course.keeps }) (sym (append-nil l.course.events));
+      closes = refl;
+      others = λ d low. refl;
+      none_left = λ d low. absurd (omega (arith, low));
+      items = refl;
+    }
+
+-- a device at which nothing happened can be closed as before
+pub can-still-close : (old now : Course) (d : ℕ) → now.setup ≡ old.setup → events_of now d ≡ events_of old d → CanClose old d 0 → CanClose now d 0
+can-still-close old now d setup same can =
+    let a = ap (λ es. length (filter_map accepted_in es)) same in
+    let b = ap (λ es. length (filter_map evicted_in es)) same in
+    let c = ap (λ es. length (emitted (log_of es))) same in
+    let m = ap (λ es. fold max 0 (filter_map moment_in es)) same in
+    let p = ap (λ es. length (filter_map pull_in es)) same in
+    let was = can.left in
+    record {
+      there = subst (λ (s : Setup). d < length s.trees) (sym setup) can.there;
+      left = omega (arith, a, b, c, was);
+      moments = subst (λ n. max n 0 < end_of_drains) (sym m) can.moments;
+      pulls = subst (λ n. n < end_of_drained_pulls) (sym p) can.pulls;
+    }
+
+pub closed-more : (count : ℕ) (old l new : LiveState) → HasClosed count old l → HasDrained count l new → HasClosed (suc count) old new
+closed-more count old l new so one =
+    record {
+      closed = so.closed ++ one.last;
+      goes_on = one.goes_on ∙ ap (λ (c : Course). after c one.last) so.goes_on ∙ ap (λ es. record { setup = old.course.setup; events = es; keeps = old.course.keeps }) (append_assoc old.course.events so.closed one.last);
+      closes = (so.closed, one.last, so.closes, subst (λ (c : Course). Closes count 0 (events_of c count) one.last) so.goes_on one.closes, refl);
+      others = λ d low. one.elsewhere d (let other : (count == d) ≡ false = grind (arith, nat_tests, low) in other) ∙ so.others d (omega (arith, low));
+      none_left = λ d low. by_last (count == d) d refl low;
+      items = ap (λ outlets. map taken outlets) one.outlets ∙ so.items;
+    }
+  where
+    by_last : (b : Bool) → (d : ℕ) → (count == d) ≡ b → d < suc count → accepted_at new.course d ≡ evicted_at new.course d + emitted_at new.course d
+    by_last true d e low = let same : count ≡ d = grind (arith, nat_tests) in subst (λ k. accepted_at new.course k ≡ evicted_at new.course k + emitted_at new.course k) same one.none_left
+    by_last false d e low =
+        let before : d < count = grind (arith, nat_tests, low, e) in
+        let same = one.elsewhere d e in
+        let was = so.none_left d before in
+        let a = ap (λ es. length (filter_map accepted_in es)) same in
+        let b = ap (λ es. length (filter_map evicted_in es)) same in
+        let c = ap (λ es. length (emitted (log_of es))) same in
+        omega (arith, was, a, b, c)
+
+-- the next pull of a drain can be made
+pub can-go-on : (device : ℕ) (old now : LiveState) (moment : ℕ) → DrainsEnd old.course device 0 → CanClose old.course device 0 → DrainedSoFar device old now → HasLeft now.course device → moment ≡ moment_at now.course device + 1
+    → CanPull now.course device moment
+can-go-on device old now moment ends can so left when =
+    let happened = subst (λ (c : Course). CanHappen c.setup c.events) so.goes_on so.happened in
+    let next = ends can so.more happened (subst (λ (c : Course). HasLeft c device) so.goes_on left) in
+    let at : moment ≡ latest old.course device + length so.more + 1 =
+        (let was = ap (λ (c : Course). moment_at c device) so.goes_on in let is = moment-after old.course device so.more in omega (arith, when, was, is)) in
+    subst (λ m. CanPull now.course device m) (sym at) (subst (λ (c : Course). CanPull c device (latest old.course device + length so.more + 1)) (sym so.goes_on) next)
+
+-- what was seen of a live router alone counts
+pub closed-from : (count : ℕ) (old mid new : LiveState) → seen mid ≡ seen old → HasClosed count mid new → HasClosed count old new
+closed-from count old mid new same so =
+    let course : mid.course ≡ old.course = ap (λ (s : Seen). s.course) same in
+    record {
+      closed = so.closed;
+      goes_on = so.goes_on ∙ ap (λ (c : Course). after c so.closed) course;
+      closes = subst (λ (c : Course). CloseFirst c.setup 0 count c.events so.closed) course so.closes;
+      others = λ d low. so.others d low ∙ ap (λ (c : Course). events_of c d) course;
+      none_left = so.none_left;
+      items = so.items ∙ ap (λ (s : Seen). s.items) same;
+    }
+
+-- all devices are drained
+pub all-drained : (old new : LiveState) → HasClosed (length old.course.setup.trees) old new → IsDrained new.course
+all-drained old new so =
+    record { none_left = λ d low. so.none_left d (subst (λ (s : Setup). d < length s.trees) (ap (λ (c : Course). c.setup) so.goes_on) low) }
+
+-- a test that does not fail
+pub must-be : (b : Bool) → (b ≡ false → ⊥) → b ≡ true
+must-be true h = refl
+must-be false h = absurd (h refl)

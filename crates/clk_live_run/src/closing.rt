@@ -24,13 +24,14 @@ fn drain<P: Wait>(wait: &P, live: &mut Live, device: u16)
 {
     // A drain comes to its end, and what has happened can happen, by these laws, which do nothing.
     live.router().drains_end();
+    live.router().has_happened();
     for _ in wait.forever() {
-        live.router().has_happened();
         if live.router().left(device) == 0 {
             return;
         }
         let moment = live.router().moment(device) + 1;
         let _ = live.pull(device, moment);
+        live.router().has_happened();
     }
     unreachable!()
 }

@@ -97,7 +97,7 @@ impl<R: Sink + Drop> Consumer<R> {
     // Pulls each device once, in the round of this number, counted from 1.
     fn pull_round<G: Gate>(&mut self, round: u32, step: u32, gate: &G)
         requires moment { (step ≤ most_step) × (round ≤ most_limit) }
-        requires few { (d : ℕ) → length (moments_at self.old.live.course.setup self.old.live.course.events d) ≤ most_limit }
+        requires few { (d : ℕ) → d < length self.old.live.course.setup.trees → length (moments_at self.old.live.course.setup self.old.live.course.events d) ≤ most_limit }
         ensures pulled { PulledFirst (length self.old.live.course.setup.trees) (round * step) self.old.live self.new.live }
         ensures recorded { LeadsOn self.old.recording self.new.recording (commands_of self.old.live.course) (commands_of self.new.live.course) }
     {

@@ -84,11 +84,13 @@ impl<R: Sink + Drop> Recording<R> {
             state,
             mut sink,
         } = self;
-        let failed = match state {
-            RecordState::Off | RecordState::Full => false,
-            RecordState::Failed => true,
-            RecordState::Going => writer.finish_by_drain(0, &mut sink).is_err(),
-        };
-        (sink, failed)
+        match state {
+            RecordState::Off | RecordState::Full => (sink, false),
+            RecordState::Failed => (sink, true),
+            RecordState::Going => match writer.finish_by_drain(0, &mut sink) {
+                Ok(()) => (sink, false),
+                Err(_) => (sink, true),
+            },
+        }
     }
 }

@@ -1,12 +1,21 @@
 //! Runs of a plan over a trace, through inlets.
 
-ghost use Rattle.std.specs.Prelude.{◌≡◌, ◌≢◌, ◌+◌, ◌*◌, ◌<◌, ◌≤◌, true, map, length, IfOk, IfErr, OnOk, IsErrOf};
+ghost use Rattle.std.specs.Prelude.{◌≡◌, ◌≢◌, ◌+◌, ◌*◌, ◌<◌, ◌≤◌, true, ℕ, List, map, length, IfOk, IfErr, OnOk, IsErrOf};
 ghost use Rattle.clk_packet.specs.declared.fault.Fault.TheVariants.{Memory, TooLarge};
 ghost use Rattle.clk_gate.specs.Limits.{most_limit, most_step};
 ghost use Rattle.clk_gate.specs.Sent.{sent_in};
 ghost use Rattle.clk_tree.specs.PlanParts.{number_of, senders_of};
 ghost use Rattle.clk_tree.specs.PlanTree.{device_count};
+ghost use Rattle.std.specs.List.{AllZip};
+ghost use Rattle.clk_inlet.specs.Halves.{offered, taken, AreHalves};
+ghost use Rattle.clk_live.specs.State.{seen};
+ghost use Rattle.clk_live.specs.Outcome.{AreAllEnded, IsLiveOutcome};
+ghost use Rattle.clk_router.specs.Accounts.{capped};
+ghost use Rattle.clk_router.specs.Course.{CanClose};
 ghost use Rattle.clk_script.specs.Script.{most_lines};
+ghost use Rattle.clk_script.specs.declared.script.Command.{Command};
+ghost use Rattle.clk_live_run.specs.inside.Consuming.{HasClosed};
+ghost use Rattle.clk_live_run.specs.inside.Recording.{SinkAt, IsRecordOf, IsEnded};
 ghost use Rattle.clk_live_run.specs.Run.{LiveRunOf, IsFaultOfLive, MayBeTooLong};
 ghost use Rattle.clk_live_run.specs.Recorded.{IsRecorded, failures_with};
 
@@ -64,6 +73,8 @@ pub fn run_live<H: Threads + Wait, P: Wait + Sync, G: Gate + Sync, R: Sink + Dro
     if recording {
         check_length(plan, traces, limit)?;
     }
+    // How many packets are sent in all is known where they are counted.
+    let _ = traces.count(0);
     let (live, inlets) = Live::open(alloc, plan, ROOM)?;
     let senders = senders_of(alloc, live.router().senders(), inlets)?;
     let consumer = Consumer {
@@ -81,8 +92,16 @@ pub fn run_live<H: Threads + Wait, P: Wait + Sync, G: Gate + Sync, R: Sink + Dro
     Ok(close(wait, ended))
 }
 
-// Closes a run whose threads have ended.
+// Drains the devices of a run whose threads have ended, and ends its record.
 fn close<P: Wait, R: Sink + Drop>(wait: &P, ended: Ended<R>) -> LiveOutcome<R>
+    requires halves { AllZip AreHalves ended.inlets.items ended.consumer.live.outlets }
+    requires ended { AreAllEnded ended.consumer.live.outlets }
+    requires can { (seen ended.consumer.live).items ≡ map offered ended.inlets.items → (d : ℕ) → d < length ended.consumer.live.course.setup.trees → CanClose ended.consumer.live.course d 0 }
+    ensures taken { (seen ended.consumer.live).items ≡ map offered ended.inlets.items }
+    ensures closed { HasClosed (length ended.consumer.live.course.setup.trees) ended.consumer.live result.live }
+    ensures outcome { IsLiveOutcome result.live.course (map taken result.live.outlets) }
+    ensures recorded { (recording : _) (start : SinkAt) (commands : List Command) → IsRecordOf recording start ended.consumer.recording commands
+        → IsEnded recording result.write_failed start (record { taken = R.Sink.taken result.sink; failures = R.Sink.failures result.sink }) commands }
 {
     let Ended {
         consumer,
@@ -92,10 +111,11 @@ fn close<P: Wait, R: Sink + Drop>(wait: &P, ended: Ended<R>) -> LiveOutcome<R>
         mut live,
         recording,
     } = consumer;
-    let (sink, write_failed) = recording.finish();
+    // All that was sent is taken, so that no more is left than a drain gives.
+    let _ = live.has_taken_all(inlets.as_mut_slice());
     close_devices(wait, &mut live);
-    // All that was sent is taken and settled.
-    let _ = live.is_settled(inlets.as_mut_slice());
+    let _ = live.is_drained();
+    let (sink, write_failed) = recording.finish();
     LiveOutcome {
         live,
         sink,
@@ -109,19 +129,20 @@ fn check_length(plan: &Plan, traces: &Traces, limit: u32) -> Result<(), Fault>
     ensures too_long { IfErr result (λ fault. (fault ≡ TooLarge) × MayBeTooLong plan.now traces.now limit) }
 {
     let pulls = u64::from(plan.devices()) * u64::from(limit);
-    if count_sent(plan.senders(), traces) + pulls + 1 > u64::from(MAX_LINES) {
+    let sent = count_sent(plan.senders(), traces);
+    if sent.saturating_add(pulls) >= u64::from(MAX_LINES) {
         return Err(Fault::TooLarge);
     }
     Ok(())
 }
 
-// How many packets these senders send together.
+// How many packets these senders send together, and 2^64 - 1 if they are more.
 fn count_sent(senders: &[SenderSpec], traces: &Traces) -> u64
-    ensures { result ≡ sent_in traces.now (map number_of senders.now) }
+    ensures { result ≡ capped (sent_in traces.now (map number_of senders.now)) }
 {
-    let mut count = 0;
+    let mut count: u64 = 0;
     for sender in senders {
-        count += u64::from(traces.count(sender.number));
+        count = count.saturating_add(u64::from(traces.count(sender.number)));
     }
     count
 }

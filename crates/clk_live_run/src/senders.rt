@@ -66,8 +66,9 @@ fn offer<P: Wait>(wait: &P, inlet: &mut Inlet, packet: Packet)
     ensures sent { HasSent inlet.old (packet_item packet.length 0 ∷ []) inlet.new }
 {
     for _ in wait.forever() {
-        if inlet.offer(packet.length, 0).is_ok() {
-            return;
+        match inlet.offer(packet.length, 0) {
+            Ok(_) => return,
+            Err(_) => {}
         }
         thread::yield_now();
     }

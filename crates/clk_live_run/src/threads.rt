@@ -133,7 +133,7 @@ pub fn run_threads<H: Threads + Wait, P: Wait + Sync, G: Gate + Sync, R: Sink + 
         rt,
         move |scope| -> Result<Ended<R>, AllocError>
             requires { (terms.now.step ≤ most_step) × (terms.now.limit ≤ most_limit) × HasPaced terms.now.step 0 consumer.live }
-            ensures { IfOk result (λ ended. HasConsumed terms.now.step terms.now.limit consumer.live ended.consumer.live × AllZip (HasSentAll terms.now.traces.now) senders.items ended.inlets.items
+            ensures { IfOk result (λ ended. HasConsumed terms.entry.now.step terms.entry.now.limit consumer.live ended.consumer.live × AllZip (HasSentAll terms.entry.now.traces.now) senders.items ended.inlets.items
                 × LeadsOn consumer.recording ended.consumer.recording (commands_of consumer.live.course) (commands_of ended.consumer.live.course)) }
         {
             let mut consumer = consumer;

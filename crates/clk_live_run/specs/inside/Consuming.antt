@@ -1,10 +1,13 @@
 -- What a consumer does to a live router, step by step.
 use Rattle.std.specs.Prelude.{◌≡◌, ℕ, ◌+◌, ◌*◌, ◌<◌, ◌≤◌, nat_lt, if◌then◌else◌, List, [], ◌∷◌, ◌++◌, length, map, Bool, true, false, ◌==◌, Option, Some, None}
+use Rattle.std.specs.List.{filter_map, AllByRecursion}
 use Rattle.clk_inlet.specs.declared.item.Item.{Item}
 use Rattle.clk_packet.specs.declared.packet.Packet.{Packet}
 use Rattle.clk_inlet.specs.Items.{packet_item}
 use Rattle.clk_router.specs.Course.{Course, after, events_of, accepted_at, evicted_at, emitted_at}
-use Rattle.clk_router.specs.Events.{Event, Closes}
+use Rattle.clk_router.specs.Events.{Event, moment_in, Closes}
+use Rattle.clk_router.specs.Settled.{offered_in}
+use Rattle.clk_script.specs.Script.{most_moment}
 use Rattle.clk_live.specs.State.{LiveState, seen, AllGoOn}
 use Rattle.clk_live.specs.Outcome.{AreAllEnded}
 use Rattle.clk_script.specs.declared.script.Command.{Command}
@@ -27,11 +30,21 @@ items_in (items ∷ more) = length items + items_in more
 abbrev pub taken_in : LiveState → ℕ
 taken_in l = items_in (seen l).items
 
+-- how many packets were offered
+abbrev pub offers_in : LiveState → ℕ
+offers_in l = length (filter_map offered_in l.course.events)
+
+-- A script can name all moments that were handed in.
+abbrev pub AreEarly : LiveState → Type 0
+AreEarly l = AllByRecursion (λ m. m ≤ most_moment) (filter_map moment_in l.course.events)
+
 -- Only packets were taken: each of them is an event, and no device was pulled.
 pub record OnlyTook (old new : LiveState) : Type 0 where
   pub setup : new.course.setup ≡ old.course.setup
   pub outlets : AllGoOn old.outlets new.outlets
   pub many : length new.course.events + taken_in old ≡ length old.course.events + taken_in new
+  pub offers : offers_in new + taken_in old ≡ offers_in old + taken_in new
+  pub handed_in : filter_map moment_in new.course.events ≡ filter_map moment_in old.course.events
   pub moments : (d : ℕ) → moments_at new.course.setup new.course.events d ≡ moments_at old.course.setup old.course.events d
 
 -- the moment of one pull, if a device is among the first so many
@@ -43,11 +56,15 @@ pub record PulledFirst (count moment : ℕ) (old new : LiveState) : Type 0 where
   pub setup : new.course.setup ≡ old.course.setup
   pub outlets : new.outlets ≡ old.outlets
   pub many : length new.course.events ≡ length old.course.events + count
+  pub offers : offers_in new ≡ offers_in old
+  pub early : moment ≤ most_moment → AreEarly old → AreEarly new
   pub moments : (d : ℕ) → moments_at new.course.setup new.course.events d ≡ moments_at old.course.setup old.course.events d ++ if_first count moment d
 
 -- Each device was pulled so often, at the moments of its pulls, and each packet that was taken is an event.
 pub record HasPaced (step pulls : ℕ) (l : LiveState) : Type 0 where
   pub many : length l.course.events ≡ taken_in l + length l.course.setup.trees * pulls
+  pub offers : offers_in l ≡ taken_in l
+  pub early : AreEarly l
   pub moments : (d : ℕ) → d < length l.course.setup.trees → moments_at l.course.setup l.course.events d ≡ paced step pulls
 
 -- All inlets have ended, and all that was sent is taken. While senders sent, each device was pulled equally often.
@@ -75,4 +92,4 @@ pub record HasClosed (count : ℕ) (old new : LiveState) : Type 0 where
   pub closes : CloseFirst old.course.setup 0 count old.course.events closed
   pub others : (d : ℕ) → count ≤ d → events_of new.course d ≡ events_of old.course d
   pub none_left : (d : ℕ) → d < count → accepted_at new.course d ≡ evicted_at new.course d + emitted_at new.course d
-  pub outlets : new.outlets ≡ old.outlets
+  pub items : (seen new).items ≡ (seen old).items

@@ -1,0 +1,13 @@
+use Rattle.std.proofs.Common.{[], ◌∷◌}
+use Rattle.clk_inlet.specs.Items.{packet_item}
+use Rattle.clk_live.proofs.Callers.Sending.{sent_then, nothing_sent}
+use Rattle.clk_live_run.proofs.senders.offer.Goals as goal
+
+pub returns-in-Ok : goal.returns-in-Ok
+returns-in-Ok g c =
+    record {
+      sent = sent_then c.args.inlet.now c.loop.inlet c.offer.new.self [] (packet_item c.args.packet.length 0 ∷ []) c.loop.invariant.2 (record { offered = c.in-Ok.ensures.offered; halves = c.offer.ensures.halves });
+    }
+
+pub loop-preserved : goal.loop-preserved
+loop-preserved g c = (tt, tt, sent_then c.args.inlet.now c.loop.inlet c.offer.new.self [] [] c.loop.invariant.2 (nothing_sent c.loop.inlet c.offer.new.self c.in-Err.ensures.refused.0 c.offer.ensures.halves))
