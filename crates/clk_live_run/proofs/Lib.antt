@@ -1,3 +1,4 @@
 -- Lemmas on runs through inlets.
 mod Closings
 mod Takings
+mod ReportLemmas
