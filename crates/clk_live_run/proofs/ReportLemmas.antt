@@ -26,9 +26,6 @@ use Rattle.clk_router.proofs.Callers.Offers.{offered-count}
 use Rattle.clk_router.specs.Settled.{IsCourseAccounted, IsSenderAccounted, emitted_by, offered_of}
 use Rattle.clk_live_run.specs.inside.Reporting.{account_line, counts_in, sent_in, total_in}
 
-same-total : (t u : Total) → t.packets ≡ u.packets → t.bytes ≡ u.bytes → t ≡ u
-same-total t u e f = λ i. record { packets = e i; bytes = f i }
-
 bytes-are : (packets : List Packet) → sum_by length_of packets ≡ bytes_of packets
 bytes-are [] = refl
 bytes-are (p ∷ packets) = sum_by-cons length_of p packets ∙ ap (λ n. p.length + n) (bytes-are packets)
@@ -38,7 +35,9 @@ total-is : (packets : List Packet) → length packets < 2 ^ 32 → total_in (cap
 total-is packets few =
     let bytes = bytes-few packets in
     let are = bytes-are packets in
-    same-total (total_in (capped_total packets)) (total_of packets) (omega (arith, few)) (omega (arith, few, bytes, are))
+    let count : (total_in (capped_total packets)).packets ≡ length packets = omega (arith, few) in
+    let long : (total_in (capped_total packets)).bytes ≡ bytes_of packets = omega (arith, few, bytes, are) in
+    λ i. record { packets = count i; bytes = long i }
 
 -- what was sent is what was accepted and what was refused
 sent-is : (accepted refused : List Packet) → length accepted < 2 ^ 32 → length refused < 2 ^ 32
@@ -51,7 +50,9 @@ sent-is accepted refused few less sent packets bytes =
     let others = bytes-are refused in
     let many = length-append accepted refused in
     let long = bytes-append accepted refused in
-    same-total sent (total_of (accepted ++ refused)) (omega (arith, few, less, packets, many)) (omega (arith, few, less, bytes, one, other, are, others, long))
+    let count : sent.packets ≡ length (accepted ++ refused) = omega (arith, few, less, packets, many) in
+    let sum : sent.bytes ≡ bytes_of (accepted ++ refused) = omega (arith, few, less, bytes, one, other, are, others, long) in
+    λ i. record { packets = count i; bytes = sum i }
 
 -- lists by number, of which one alone has members
 none-there : {X : Type 0} (f : ℕ → List X) (here first count : ℕ) → here < first → ((d : ℕ) → (here == d) ≡ false → f d ≡ []) → flat_map f (range_with_len first count) ≡ []
