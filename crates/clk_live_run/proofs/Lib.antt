@@ -4,3 +4,4 @@ mod Takings
 mod Sendings
 mod Records
 mod Runs
+mod ReportLemmas

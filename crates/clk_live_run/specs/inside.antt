@@ -1,4 +1,5 @@
 -- What the parts of a run say to each other.
 pub mod Consuming
 pub mod Recording
+pub mod Reporting
 pub mod Sending

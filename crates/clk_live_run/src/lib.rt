@@ -12,4 +12,5 @@ mod senders;
 mod threads;
 
 pub use outcome::LiveOutcome;
+pub use report::report_accounts;
 pub use running::run_live;

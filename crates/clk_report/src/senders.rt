@@ -4,7 +4,7 @@ ghost use Rattle.std.specs.Prelude.{◌≡◌, ◌+◌, ◌*◌, ◌<◌, ◌≤
 ghost use Rattle.std.specs.List.{flat_map};
 ghost use Rattle.clk_packet.specs.Bytes.{Wrote};
 ghost use Rattle.clk_packet.specs.declared.packet.Packet.{Packet};
-ghost use Rattle.clk_report.specs.Counts.{counts_line, counts_text};
+ghost use Rattle.clk_report.specs.Counts.{counts_line, counts_text, line_with};
 ghost use Rattle.clk_report.specs.Devices.{all_emitted};
 ghost use Rattle.clk_report.specs.Report.{report_text};
 ghost use Rattle.clk_report.specs.inside.Totals.{AreTotals};
@@ -62,6 +62,22 @@ pub fn report_counts<W: Sink>(
         (W.Sink.failures writer.old) (W.Sink.failures writer.new) result (counts_text (all_emitted emitted.now) counts.now) }
 {
     write_report(counts, emitted, writer)
+}
+
+/// Writes the line of a report that tells of one sender, of whose packets so many were emitted at all devices. It is for a caller that has
+/// counted all packets: the lines of its senders, in order, are the report. It doesn't allocate.
+///
+/// # Errors
+///
+/// Fault 20 if the sink fails. It has then taken a front of the line.
+pub fn report_line<W: Sink>(counts: &Counts, emitted: Total, writer: &mut W) -> Result<(), Fault>
+    ensures { Wrote (W.Sink.taken writer.old) (W.Sink.taken writer.new)
+        (W.Sink.failures writer.old) (W.Sink.failures writer.new) result (line_with counts.now emitted) }
+{
+    let mut line = [0; LINE];
+    let start = put_line(&mut line, counts, emitted, LINE);
+    let (_, text) = line.split_at(start);
+    write_all(writer, text)
 }
 
 /// Writes the report of what is counted of some senders.

@@ -55,6 +55,9 @@ module _ (setup : Setup) (events : List Event) (parts : Parts) (stand : Stand se
     sent : s.sent ≡ length (numbers_of spec.spec.number events)
     sent = ap (λ (t : Sender). t.sent) spec.is
 
+    pub sent-by : (sender : ℕ) → sender_at setup place ≡ Some sender → s.sent ≡ length (numbers_of sender events)
+    sent-by sender at = let e : spec.spec.number ≡ sender = let both = number in cc (both, at) in sent ∙ ap (λ n. length (numbers_of n events)) e
+
     -- and the device that its packets go to
     module _ (i : ℕ) (device : ℕ) (same : i ≡ s.queue) (is : device ≡ get_or parts.paths.items i device) where
       path : slice_get parts.paths.items s.queue ≡ Some device

@@ -5,3 +5,4 @@ pub mod Apart
 pub mod Plans
 pub mod Keyed
 pub mod Chains
+pub mod Offers

@@ -44,7 +44,7 @@ impl CountingRouter {
     ghost use Rattle.clk_packet.specs.Lists.{AreRising};
     ghost use Rattle.clk_router.specs.Accounts.{account_after};
     ghost use Rattle.clk_router.specs.Course.{after, sender_at, accepted_at, evicted_at, emitted_at, moment_at, CanOffer, CanPull, IsOpened, IsPulled, IsQueueState};
-    ghost use Rattle.clk_router.specs.Events.{offered, sender_numbers, CanHappen};
+    ghost use Rattle.clk_router.specs.Events.{offered, sender_numbers, numbers_of, CanHappen};
     ghost use Rattle.clk_router.specs.InsideQueues.{QueuesGoOn, AreOutOrInside};
     ghost use Rattle.clk_router.specs.Due.{IsDeviceDue, EmitsNoneBefore};
     ghost use Rattle.clk_router.specs.Drains.{DrainsEnd};
@@ -127,6 +127,14 @@ impl CountingRouter {
         ensures no { result ≡ false → CanOffer self.now place → ⊥ }
     {
         self.router.can_offer(place)
+    }
+
+    /// How many packets the sender at this place has offered.
+    pub fn sent(&self, place: usize) -> u32
+        requires { place < length self.now.setup.senders }
+        ensures { (sender : ℕ) → sender_at self.now.setup place ≡ Some sender → result ≡ length (numbers_of sender self.now.events) }
+    {
+        self.router.sent(place)
     }
 
     /// The sender at this place offers its next packet, of this length in bytes, to its queue. Returns the packet, and what became of it.

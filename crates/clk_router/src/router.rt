@@ -51,7 +51,7 @@ impl Router {
     ghost use Rattle.clk_sched.specs.Results.{emitted};
     ghost use Rattle.clk_packet.specs.Lists.{AreRising};
     ghost use Rattle.clk_router.specs.Course.{after, events_of, sender_at, accepted_at, evicted_at, emitted_at, moment_at, CanOffer, CanPull, CanClose, IsOpened, IsPulled, IsClosed, IsQueueState};
-    ghost use Rattle.clk_router.specs.Events.{offered, sender_numbers, CanHappen, closing_pulls, logs_of};
+    ghost use Rattle.clk_router.specs.Events.{offered, sender_numbers, numbers_of, CanHappen, closing_pulls, logs_of};
     ghost use Rattle.clk_router.specs.InsideQueues.{QueuesGoOn, AreOutOrInside};
     ghost use Rattle.clk_router.specs.Due.{IsDeviceDue, EmitsNoneBefore};
     ghost use Rattle.clk_router.specs.Drains.{DrainsEnd};
@@ -151,6 +151,14 @@ impl Router {
             return self.parts.devices[usize::from(device)].kept < END_OF_PACKETS;
         }
         false
+    }
+
+    /// How many packets the sender at this place has offered.
+    pub fn sent(&self, place: usize) -> u32
+        requires { place < length self.now.setup.senders }
+        ensures { (sender : ℕ) → sender_at self.now.setup place ≡ Some sender → result ≡ length (numbers_of sender self.now.events) }
+    {
+        self.parts.senders[place].sent
     }
 
     /// The sender at this place offers its next packet, of this length in bytes, to its queue. Returns the packet, and what became of it.

@@ -5,7 +5,7 @@ use Rattle.clk_packet.specs.declared.packet.Packet.{Packet}
 use Rattle.clk_packet.specs.declared.tally.Tally.{Tally}
 use Rattle.clk_report.specs.Counts.{total_of, counts_of, counts_line, counts_text, HasRoom}
 use Rattle.clk_report.specs.Report.{report_text}
-use Rattle.clk_report.proofs.TotalLemmas.{bytes-few}
+pub use Rattle.clk_report.proofs.TotalLemmas.{bytes-few, bytes-append}
 use Rattle.clk_report.proofs.ReportLemmas.{lines-are}
 
 -- what was counted of tallies tells their report

@@ -99,11 +99,14 @@ numbers-offered s (offered p outcome ∷ events) = by_test (p.sender == s) (numb
     by_test false rest = rest
 numbers-offered s (pulled d m visits ∷ events) = numbers-offered s events
 
+-- it has offered as many packets
+pub offered-count : (s : ℕ) (events : List Event) → length (offered_of events s) ≡ length (numbers_of s events)
+offered-count s events = sym (length-map (offered_of events s) (λ (p : Packet). p.number)) ∙ ap length (numbers-offered s events)
+
 -- a sender offered each number once, up to how many packets it offered
 pub offered-times : (setup : Setup) (events : List Event) → CanHappen setup events → (s n : ℕ) → of_number n (offered_of events s) ≡ times n (range_with_len 0 (length (offered_of events s)))
 offered-times setup events can s n =
-    let count : length (offered_of events s) ≡ length (numbers_of s events) = sym (length-map (offered_of events s) (λ (p : Packet). p.number)) ∙ ap length (numbers-offered s events) in
-    ap (times n) (numbers-offered s events ∙ can.numbered s) ∙ ap (λ k. times n (range_with_len 0 k)) (sym count)
+    ap (times n) (numbers-offered s events ∙ can.numbered s) ∙ ap (λ k. times n (range_with_len 0 k)) (sym (offered-count s events))
 
 -- The packets of a number that are out, or held in the tree or the queue, are as many as were offered.
 pub out-times : (setup : Setup) (events : List Event) (s : SenderSpec) (room : Room) (tree : Tree) → IsSenderAccounted setup events s room tree → (n : ℕ)

@@ -1,0 +1,53 @@
+use Rattle.std.proofs.Common.{drop, get_or, refl, ◌+◌, ◌∙◌, arith}
+use Rattle.std.specs.List.{flat_map}
+use Rattle.std.proofs.lemmas.List.{length-drop}
+use Rattle.std.proofs.lemmas.Result.{err_from_is_err_and}
+use Rattle.clk_packet.proofs.Callers.Bytes.{HasWritten-none}
+use Rattle.clk_report.proofs.Callers.Texts.{HasWritten-part, HasWritten-all, Wrote-part}
+use Rattle.clk_router.specs.declared.accounts.Total.{Total}
+use Rattle.clk_router.specs.declared.accounts.Account.{Account}
+use Rattle.clk_live_run.specs.inside.Reporting.{account_line}
+use Rattle.clk_live_run.proofs.ReportLemmas.{accounts-more}
+use Rattle.clk_live_run.proofs.report.write_accounts.Goals as goal
+
+pub loop-account-init : goal.loop-account-init
+loop-account-init g c = record { front = HasWritten-none _ _; failures = refl }
+
+-- what would stand beyond the accounts
+abbrev none : Account
+none =
+    let zero : Total = record { packets = 0; bytes = 0 } in
+    record { sender = 0; queue = 0; accepted = zero; refused = zero; evicted = zero; emitted = zero }
+
+pub returns-in_err-write_account : goal.returns-in_err-write_account
+returns-in_err-write_account g c =
+    let p = err_from_is_err_and c.from_residual.result c.from_residual.ensures.1 in
+    let accounts = c.args.accounts.now in
+    let i = c.loop-account.account-index in
+    let front = c.loop-account.invariant.front in
+    let failed = c.in_err-write_account.ensures in
+    rw (p.1, p.2) (Wrote-part _ _ _ _ _ _ _ _ (flat_map account_line (drop i accounts)) (account_line (get_or accounts i none)) (flat_map account_line (drop (i + 1) accounts)) front c.loop-account.invariant.failures
+    (accounts-more accounts i none c.loop-account-test.true) failed)
+
+pub loop-account-preserved : goal.loop-account-preserved
+loop-account-preserved g c =
+    let accounts = c.args.accounts.now in
+    let i = c.loop-account.account-index in
+    let wrote = c.in_ok-write_account.ensures in
+    record {
+      front = HasWritten-part _ _ _ _ (flat_map account_line (drop i accounts)) (account_line (get_or accounts i none)) (flat_map account_line (drop (i + 1) accounts)) c.loop-account.invariant.front
+          (accounts-more accounts i none c.loop-account-test.true) wrote.whole;
+      failures = wrote.succeeds ∙ c.loop-account.invariant.failures;
+    }
+
+pub returns : goal.returns
+returns g c =
+    let i = c.loop-account.account-index in
+    let none = length-drop i c.args.accounts.now in
+    record {
+      whole = HasWritten-all account_line (drop i c.args.accounts.now) _ _ _ (omega (arith, none)) c.loop-account.invariant.front;
+      front = tt;
+      fault = tt;
+      succeeds = c.loop-account.invariant.failures;
+      fails = tt;
+    }

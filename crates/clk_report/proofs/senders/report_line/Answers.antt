@@ -1,0 +1,11 @@
+use Rattle.std.proofs.Common.{◌∙◌, ℕ, replicate, arith}
+use Rattle.std.proofs.lemmas.List.{length-replicate}
+use Rattle.clk_report.specs.Counts.{line_with}
+use Rattle.clk_report.proofs.ReportLemmas.{text-alone}
+use Rattle.clk_report.proofs.senders.report_line.Goals as goal
+
+pub returns : goal.returns
+returns g c =
+    let line = line_with c.args.counts.now c.args.emitted in
+    let is = c.split_at.ensures.back ∙ text-alone line _ (replicate 512 0) 512 (omega (arith, length-replicate {A = ℕ} 512 0)) c.put_line-start.ensures.piece in
+    rw is at c.write_all.ensures
