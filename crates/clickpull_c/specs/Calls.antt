@@ -4,6 +4,7 @@ use Rattle.std.specs.List.{zip}
 use Rattle.clk_packet.specs.declared.packet.Packet.{Packet}
 use Rattle.clk_packet.specs.declared.packet.Offered.{Offered}
 use Rattle.clk_router.specs.Course.{Course, after, moment_at, accepted_at, evicted_at, emitted_at, CanPull, IsPulled}
+use Rattle.clk_router.specs.Drains.{HasLeft}
 use Rattle.clk_router.specs.Events.{offered}
 use Rattle.clickpull_c.specs.declared.values.CPacket.{CPacket}
 use Rattle.clickpull_c.specs.declared.values.CDeparture.{CDeparture}
@@ -84,12 +85,9 @@ pub record DrainPull : Type 0 where
   pub moment : ℕ
   pub got : Option Packet
 
--- all packets that were accepted at a device were evicted or emitted, and some were not
+-- all packets that were accepted at a device were evicted or emitted
 abbrev pub IsEmptied : Course → ℕ → Type 0
 IsEmptied c device = accepted_at c device ≡ evicted_at c device + emitted_at c device
-
-abbrev pub HasLeft : Course → ℕ → Type 0
-HasLeft c device = evicted_at c device + emitted_at c device < accepted_at c device
 
 -- a device for which something was left was pulled one tick after its counted moment
 pub record PullsNext (device : ℕ) (c : Course) (pull : DrainPull) (next : Course) : Type 0 where

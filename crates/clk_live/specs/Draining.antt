@@ -2,6 +2,7 @@
 use Rattle.std.specs.Prelude.{◌≡◌, ℕ, ◌+◌, ◌<◌, ◌≤◌, List, [], ◌∷◌, length, take, drop, ◌⊎◌, Option, Some, None}
 use Rattle.clk_router.specs.Chains.{IsChain}
 use Rattle.clk_router.specs.Course.{Course, accepted_at, evicted_at, emitted_at, moment_at, CanPull}
+use Rattle.clk_router.specs.Drains.{HasLeft}
 use Rattle.clk_live.specs.declared.draining.Departed.{Departed}
 use Rattle.clk_live.specs.declared.draining.DrainEnd.{DrainEnd}
 use Rattle.clk_live.specs.declared.draining.DrainEnd.TheVariants as ends
@@ -14,10 +15,7 @@ pub record DrainPull : Type 0 where
   pub moment : ℕ
   pub got : Option Emitted
 
--- packets are left for a device, or none are
-abbrev pub HasLeft : Course → ℕ → Type 0
-HasLeft c device = evicted_at c device + emitted_at c device < accepted_at c device
-
+-- no packet is left for a device
 abbrev pub IsEmptied : Course → ℕ → Type 0
 IsEmptied c device = accepted_at c device ≡ evicted_at c device + emitted_at c device
 

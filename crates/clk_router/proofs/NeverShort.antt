@@ -1,18 +1,16 @@
 -- The closing of a device over a plan never stops short: its queues lose nothing, and what it is told to be left is what queues and heads hold.
-use Rattle.std.proofs.Common.{◌≡◌, ◌≢◌, ℕ, zero, suc, ◌+◌, ◌<◌, ◌==◌, ◌||◌, if◌then◌else◌, Bool, true, false, List, [], ◌∷◌, length, map, Option, Some, None, MatchOption, slice_get, refl, sym, ap, ◌∙◌, subst, arith}
-use Rattle.std.specs.Bool.{⊤}
+use Rattle.std.proofs.Common.{◌≡◌, ◌≢◌, ℕ, zero, suc, ◌+◌, ◌<◌, ◌==◌, ◌||◌, Bool, true, false, List, [], ◌∷◌, length, map, Option, Some, None, slice_get, refl, sym, ap, ◌∙◌, subst, arith}
 use Rattle.std.specs.List.{AllByRecursion}
 use Rattle.std.proofs.lemmas.Bool.{false≢true}
 use Rattle.std.proofs.lemmas.Bool.Decides.{nat_tests}
-use Rattle.std.proofs.lemmas.List.{append-nil}
 use Rattle.clk_packet.specs.declared.packet.Packet.{Packet}
 use Rattle.clk_ring.specs.Queue.{Queue}
-use Rattle.clk_ring.specs.QueueHistory.{QueueEvent, held, IsInOrder, EachStands, IsQueueHistory}
+use Rattle.clk_ring.specs.QueueHistory.{held}
 use Rattle.clk_packet.specs.Lists.{stands_in, AreRising}
 use Rattle.clk_sched.specs.Tree.{Tree, root, leaves, leaves_distinct}
 use Rattle.clk_sched.specs.Run.{IsRun}
 use Rattle.clk_sched.specs.Results.{emitted, heads}
-use Rattle.clk_sched.specs.Conservation.{given_in_all, ConservesCounts}
+use Rattle.clk_sched.specs.Conservation.{ConservesCounts}
 use Rattle.clk_sched.specs.Closing.{GivesOut, LosesNothing, held_in_all, left_in}
 use Rattle.clk_tree.specs.Plan.{Planned}
 use Rattle.clk_tree.specs.PlanTree.{device_count}
@@ -21,14 +19,14 @@ use Rattle.clk_tree.specs.Shares.{AreTreesOf, AreSharedOut}
 use Rattle.clk_router.specs.declared.devices.Device.{Device}
 use Rattle.clk_router.specs.declared.queues.Queues.{Queues}
 use Rattle.clk_router.specs.declared.parts.Parts.{Parts}
-use Rattle.clk_router.specs.Events.{Room, Setup, Event, is_at, happens_at, events_at, log_of, history, plan_setup}
+use Rattle.clk_router.specs.Events.{Room, Setup, Event, is_at, events_at, log_of, history, plan_setup}
 use Rattle.clk_router.specs.inside.Closable.{AreQueuesOf, IsClosable}
 use Rattle.clk_router.specs.inside.Parts.{CanStand, AreQueuesAt, IsAt}
 use Rattle.clk_router.specs.inside.Queues.{packets_in, packets_at, PullsFrom, GivesAt}
 use Rattle.clk_router.proofs.Callers.Plans.{plan-apart, leaves-at}
-use Rattle.clk_router.proofs.Callers.Apart.{alone, history-alone}
-use Rattle.clk_router.proofs.QueueCounts.{stands-first, stands-rest, left-is}
+use Rattle.clk_router.proofs.Callers.Apart.{history-alone}
 use Rattle.clk_router.proofs.PartsLemmas.{IsHere, device-here}
+use Rattle.clk_router.proofs.Settled.NoneLeft.{left-held}
 
 -- Queues lose nothing.
 queue-gives : (got : Option Packet) (old new : Option Queue) → PullsFrom got old new → GivesOut (length (packets_in old)) (got ∷ []) (length (packets_in new))
@@ -47,16 +45,6 @@ queues-lose-nothing a leaf got b h = record {
     apart : (q : ℕ) → q ≢ leaf → (b : Bool) → (leaf == q) ≡ b → b ≡ false
     apart q other false e = refl
     apart q other true e = let same : q ≡ leaf = grind (arith, nat_tests, e) in absurd (other same)
-
--- what happens at a device happens there
-own-events : (setup : Setup) (d : ℕ) (events : List Event) → AllByRecursion (λ e. happens_at setup d e ≡ true) (events_at setup d events)
-own-events setup d [] = tt
-own-events setup d (e ∷ events) = by_test (happens_at setup d e) refl (own-events setup d events)
-  where
-    by_test : (b : Bool) → happens_at setup d e ≡ b → AllByRecursion (λ e. happens_at setup d e ≡ true) (events_at setup d events)
-        → AllByRecursion (λ e. happens_at setup d e ≡ true) (if b then e ∷ events_at setup d events else events_at setup d events)
-    by_test true here rest = (here, rest)
-    by_test false elsewhere rest = rest
 
 -- a sum over queues goes by what each holds
 held-same : (f g : ℕ → ℕ) (qs : List ℕ) → ((q : ℕ) → stands_in q qs ≡ true → f q ≡ g q) → held_in_all f qs ≡ held_in_all g qs
@@ -81,7 +69,7 @@ pub kept-is : (setup : Setup) (all_events : List Event) (parts : Parts) (d : ℕ
     → device.kept ≡ length (emitted device.session.log) + left_in device.session.tree device.session.log (λ q. length (packets_at parts.queues.rings.items q))
 kept-is setup all_events parts d device closable at start counts was =
     let kept = here.is.kept in
-    let left = left-is setup d here.tree of its (own-events setup d all_events) orders conserved in
+    let left = left-held start counts setup closable all_events at.can_happen d here.tree here.its here.runs.run in
     let out = ap (λ l. length (emitted l)) here.is.log in
     let holds = holds_there ∙ same_held in
     omega (arith, kept, left, out, holds)
@@ -94,16 +82,6 @@ kept-is setup all_events parts d device closable at start counts was =
 
     of : AreQueuesOf setup d here.tree
     of = closable.queues d here.tree here.its
-
-    in_order : (o : Option Room) (events : List QueueEvent) → MatchOption o ⊤ (λ (room : Room). IsQueueHistory room.kind room.capacity events) → MatchOption o ⊤ (λ (room : Room). IsInOrder room.capacity events)
-    in_order None events h = tt
-    in_order (Some room) events h = stands-first room.kind room.capacity events [] (stands-rest room.kind room.capacity [] events [] (subst (EachStands room.kind room.capacity []) (sym (append-nil events)) h))
-
-    orders : (q : ℕ) → MatchOption (slice_get setup.queues q) ⊤ (λ (room : Room). IsInOrder room.capacity (history setup q its))
-    orders q = in_order (slice_get setup.queues q) (history setup q its) ((alone setup closable.apart start d all_events at.can_happen).histories q)
-
-    conserved : given_in_all here.tree (leaves (root here.tree)) (log_of its) ≡ length (emitted (log_of its)) + length (heads here.tree (log_of its))
-    conserved = counts here.tree of.distinct (log_of its) here.runs.run
 
     same_held : left_in here.tree (log_of its) (λ q. length (packets_at parts.queues.rings.items q)) ≡ left_in here.tree (log_of its) (λ q. length (held (history setup q its)))
     same_held = ap (λ n. n + length (heads here.tree (log_of its)))

@@ -125,8 +125,8 @@ impl Router {
         let _ = &self.parts;
     }
 
-    /// A drain of a device comes to its end before moments or pulls do: while packets are left for the device, it can be pulled once more,
-    /// one tick later. A law, which does nothing.
+    /// A drain of a device comes to its end before moments or pulls do. If a device can be closed from a moment on, and is pulled as that
+    /// closing would pull it, it can be pulled once more as long as packets are left for it. A law, which does nothing.
     pub fn drains_end(&self)
         ensures { (device moment : ℕ) → DrainsEnd self.now device moment }
     {

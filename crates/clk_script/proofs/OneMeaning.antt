@@ -10,23 +10,23 @@ use Rattle.std.proofs.lemmas.List.Concat.{flat_map-append}
 use Rattle.std.proofs.lemmas.List.Elements.{filter_map-append}
 use Rattle.clk_packet.specs.declared.packet.Packet.{Packet}
 use Rattle.clk_packet.specs.declared.packet.Offered.{Offered}
-use Rattle.clk_ring.specs.QueueHistory.{IsQueueHistory, offer_events, pull_event}
+use Rattle.clk_ring.specs.QueueHistory.{IsQueueHistory, offer_events}
 use Rattle.clk_ring.specs.Laws.{HistoriesLeaveNoChoice}
 use Rattle.clk_sched.specs.declared.visit.Visit.{Visit}
 use Rattle.clk_sched.specs.Tree.{Tree, queue_at, is_number}
 use Rattle.clk_sched.specs.Log.{visits_of, result_of}
 use Rattle.clk_sched.specs.Session.{given_in, LastGives}
-use Rattle.clk_sched.specs.Results.{asks_queue}
 use Rattle.clk_sched.specs.Choice.{answers_of, GoAlike, PullsLeaveNoChoice}
 use Rattle.clk_tree.specs.declared.plan.parts.SenderSpec.{SenderSpec}
 use Rattle.clk_tree.specs.PlanParts.{number_of}
-use Rattle.clk_router.specs.Events.{Room, Setup, sender_numbers, Event, offered, pulled, events_at, number_from, numbers_of, pull_in, moment_in, sends_to, answers_in, at_queue, history, IsOfDevice, NamesItsOffer, RunsTree, CanHappen, pulls_from, closing_pulls, Closes, logs_of}
+use Rattle.clk_router.specs.Events.{Room, Setup, sender_numbers, Event, offered, pulled, events_at, number_from, numbers_of, pull_in, moment_in, sends_to, at_queue, history, IsOfDevice, NamesItsOffer, RunsTree, CanHappen, pulls_from, closing_pulls, Closes, logs_of}
 use Rattle.clk_script.specs.Meaning.{names_of, command_of, course_text, CloseFirst, IsClosed, Writes, MeansWith}
 use Rattle.clk_script.specs.declared.script.Command.{Command}
 use Rattle.clk_script.specs.Script.{commands_of, closing_moment}
 use Rattle.clk_script.specs.Examples.{two_queues}
 use Rattle.clk_script.specs.inside.Recorder.{IsSound}
 use Rattle.clk_router.specs.Setups.{IsWired}
+use Rattle.clk_router.proofs.Callers.Events.{pulled-events}
 use Rattle.clk_script.specs.OneMeaning.{HasAtMostOneLog, HasAtMostOneMeaning}
 use Rattle.clk_script.proofs.Alike.{member-between, packet-same, pulls-alike, its-moment, events-at-pull, number-at}
 use Rattle.clk_script.proofs.ScriptLemmas.{each-command-sound}
@@ -111,20 +111,6 @@ same-outcome setup wired law done p one other more rest known a b =
   where
     offers : (to : IsSentTo setup p.sender) (outcome : Offered) → at_queue setup to.queue (offered p outcome) ≡ offer_events p outcome
     offers to outcome = rw to.sends refl
-
--- what a pull of a device is to a queue: its answers
-pulled-events : (setup : Setup) (d : ℕ) (tree : Tree) (q moment : ℕ) (visits : List Visit) → slice_get setup.trees d ≡ Some tree
-    → at_queue setup q (pulled d moment visits) ≡ map pull_event (answers_of tree q visits)
-pulled-events setup d tree q moment visits is = ap (λ o. answers_in o q visits) is ∙ its_answers visits
-  where
-    its_answers : (visits : List Visit) → answers_in (Some tree) q visits ≡ map pull_event (answers_of tree q visits)
-    its_answers [] = refl
-    its_answers (v ∷ visits) = by_asks (asks_queue tree q v) refl (its_answers visits)
-      where
-        by_asks : (b : Bool) → asks_queue tree q v ≡ b → answers_in (Some tree) q visits ≡ map pull_event (answers_of tree q visits)
-            → answers_in (Some tree) q (v ∷ visits) ≡ map pull_event (answers_of tree q (v ∷ visits))
-        by_asks true e rest = rw e (ap (λ l. pull_event v.got ∷ l) rest)
-        by_asks false e rest = rw e rest
 
 -- a queue that isn't there isn't asked
 never-asked : (setup : Setup) (d : ℕ) (tree : Tree) (q : ℕ) → IsWired setup → slice_get setup.trees d ≡ Some tree → slice_get setup.queues q ≡ None → (visits : List Visit)

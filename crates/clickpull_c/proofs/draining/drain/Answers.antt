@@ -1,7 +1,7 @@
 use Rattle.std.proofs.Common.{◌≡◌, ℕ, ◌+◌, ◌<◌, ◌≤◌, List, length, slice_set, sym, ap, ◌∙◌, subst, arith}
 use Rattle.std.proofs.lemmas.List.{length-set}
 use Rattle.clickpull_c.specs.declared.values.CDeparture.{CDeparture}
-use Rattle.clickpull_c.specs.Calls.{HasLeft}
+use Rattle.clk_router.specs.Drains.{HasLeft}
 use Rattle.clickpull_c.specs.Counts.{device_count}
 use Rattle.clickpull_c.specs.Values.{packet_in_c}
 use Rattle.clickpull_c.specs.inside.SoFar.{DrainedSoFar}

@@ -1,7 +1,7 @@
 use Rattle.std.proofs.Common.{◌≡◌, ℕ, ◌+◌, ◌<◌, ◌≤◌, ◌⊎◌, inl, inr, List, length, refl, sym, ap, subst, arith}
 use Rattle.clk_router.specs.Course.{Course, accepted_at, evicted_at, emitted_at, moment_at, CanPull}
+use Rattle.clk_router.specs.Drains.{HasLeft}
 use Rattle.clk_live.specs.declared.draining.DrainEnd.TheVariants.{MoreLeft, AtEnd}
-use Rattle.clk_live.specs.Draining.{HasLeft}
 use Rattle.clickpull_c.specs.declared.live.values.CDeparted.{CDeparted}
 use Rattle.clickpull_c.specs.inside.live.Given.{DepartedSoFar}
 use Rattle.clickpull_c.proofs.LiveLoops.{departed-none, departed-same, departed-more, drained-so-far, either-full}

@@ -1,7 +1,8 @@
 use Rattle.std.proofs.Common.{◌≡◌, ◌<◌, ◌+◌, ◌∙◌, length, ap, subst, arith}
 use Rattle.clk_router.specs.Course.{Course, accepted_at, evicted_at, emitted_at, moment_at}
+use Rattle.clk_router.specs.Drains.{HasLeft}
 use Rattle.clk_live.specs.State.{LiveState, seen}
-use Rattle.clk_live.specs.Draining.{DrainPull, HasLeft}
+use Rattle.clk_live.specs.Draining.{DrainPull}
 use Rattle.clk_live.proofs.Drains.{drained-more}
 use Rattle.clk_live.proofs.live.Live.drain.Goals as goal
 
