@@ -23,6 +23,7 @@ impl<R: Sink + Drop> Consumer<R> {
     ghost use Rattle.clk_gate.specs.Limits.{most_limit, most_step};
     ghost use Rattle.clk_sched.specs.Limits.{end_of_moments};
     ghost use Rattle.clk_script.specs.Script.{most_moment};
+    ghost use Rattle.clk_live.specs.State.{AllGoOn};
     ghost use Rattle.clk_live_run.specs.Run.{moments_at};
     ghost use Rattle.clk_live_run.specs.inside.Recording.{LeadsOn};
     ghost use Rattle.clk_live_run.specs.inside.Consuming.{commands_of, OnlyTook, PulledFirst, HasPaced, HasConsumed};
@@ -42,21 +43,36 @@ impl<R: Sink + Drop> Consumer<R> {
         ensures consumed { HasConsumed step limit self.old.live self.new.live }
         ensures recorded { LeadsOn self.old.recording self.new.recording (commands_of self.old.live.course) (commands_of self.new.live.course) }
     {
-        let mut round = 0;
+        let mut pulls = 0;
         for _ in wait.forever() {
             if self.live.is_ended() {
                 return;
             }
-            let took = self.take_round();
-            if round < limit {
-                round += 1;
-                self.pull_round(round, step, gate);
-            }
-            if !took {
-                thread::yield_now();
-            }
+            pulls = self.round(pulls, step, limit, gate);
         }
         unreachable!()
+    }
+
+    // Takes packets of each sender, and pulls each device once more if it was pulled fewer than `limit` times. Returns how often each was pulled
+    // then. If there was nothing to take, other threads go first.
+    fn round<G: Gate>(&mut self, pulls: u32, step: u32, limit: u32, gate: &G) -> u32
+        requires step { step ≤ most_step }
+        requires limit { (pulls ≤ limit) × (limit ≤ most_limit) }
+        requires paced { HasPaced step pulls self.old.live }
+        ensures paced { HasPaced step result self.new.live }
+        ensures few { result ≤ limit }
+        ensures outlets { AllGoOn self.old.live.outlets self.new.live.outlets }
+        ensures setup { self.new.live.course.setup ≡ self.old.live.course.setup }
+        ensures recorded { LeadsOn self.old.recording self.new.recording (commands_of self.old.live.course) (commands_of self.new.live.course) }
+    {
+        if !self.take_round() {
+            thread::yield_now();
+        }
+        if pulls == limit {
+            return pulls;
+        }
+        self.pull_round(pulls + 1, step, gate);
+        pulls + 1
     }
 
     // Takes packets of each sender in turn, by place. Returns whether it took one.

@@ -1,24 +1,22 @@
-use Rattle.std.proofs.Common.{rules, ◌≡◌, ◌≤◌, ◌<◌, ◌*◌, ℕ, length, ◌+◌, ◌-◌, ◌/◌, ◌%◌, Bool, true, false, nat_eq, nat_lt, List, [], ◌∷◌, ◌++◌, slice_index_or, slice_set, bit_and, bit_or, Fits, w8, w32, w64, Bor, MutBor}
-use Rattle.clk_gate.specs.Limits.{most_limit, most_step}
-use Rattle.clk_sched.specs.Limits.{end_of_moments}
-use Rattle.clk_script.specs.Script.{most_moment}
-use Rattle.clk_live_run.specs.Run.{moments_at}
-use Rattle.clk_live_run.specs.inside.Recording.{LeadsOn}
-use Rattle.clk_live_run.specs.inside.Consuming.{commands_of, OnlyTook, PulledFirst, HasPaced, HasConsumed}
+use Rattle.std.proofs.Common.{◌≡◌, ◌≤◌, refl, ◌∙◌, arith}
+use Rattle.clk_live.proofs.Callers.Halves.{all_same, all_then}
+use Rattle.clk_live_run.specs.inside.Consuming.{commands_of}
+use Rattle.clk_live_run.proofs.Takings.{leads-then}
 use Rattle.clk_live_run.proofs.consumer.Consumer.consume.Goals as goal
 
--- src/consumer.rt:46:9
 pub loop-init : goal.loop-init
-loop-init g c = ?
+loop-init g c = (tt, tt, omega arith, c.requires.unpulled, refl, all_same c.args.self.now.live.outlets, λ recording start h. h)
 
--- src/consumer.rt:53:17
-pub pull_round-requires-clause-few : goal.pull_round-requires-clause-few
-pull_round-requires-clause-few g c = ?
-
--- src/consumer.rt:46:9
-pub loop-preserved-then-not-took : goal.loop-preserved-then-not-took
-loop-preserved-then-not-took g c = ?
-
--- src/consumer.rt:46:9
 pub loop-preserved : goal.loop-preserved
-loop-preserved g c = ?
+loop-preserved g c =
+    let l = c.loop in
+    let new = c.round-pulls in
+    (
+      tt,
+      tt,
+      new.ensures.few,
+      new.ensures.paced,
+      new.ensures.setup ∙ l.invariant.4,
+      all_then c.args.self.now.live.outlets l.self.live.outlets new.new.self.live.outlets l.invariant.5 new.ensures.outlets,
+      leads-then c.args.self.now.recording l.self.recording new.new.self.recording (commands_of c.args.self.now.live.course) (commands_of l.self.live.course) (commands_of new.new.self.live.course) l.invariant.6 new.ensures.recorded,
+    )

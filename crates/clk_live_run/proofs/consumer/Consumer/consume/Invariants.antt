@@ -6,5 +6,5 @@ use Rattle.clk_live_run.proofs.consumer.Consumer.consume.Given as goal
 
 abbrev pub invariant-loop : goal.invariant-loop
 invariant-loop g l =
-    (goal.iterator-loop g).can_next l.iterator' × (goal.iterator-loop g).is_finite l.iterator' × (l.round ≤ l.limit) × HasPaced l.step l.round l.self.live × (l.self.live.course.setup ≡ l.fn.self.live.course.setup)
+    (goal.iterator-loop g).can_next l.iterator' × (goal.iterator-loop g).is_finite l.iterator' × (l.pulls ≤ l.limit) × HasPaced l.step l.pulls l.self.live × (l.self.live.course.setup ≡ l.fn.self.live.course.setup)
     × AllGoOn l.fn.self.live.outlets l.self.live.outlets × LeadsOn l.fn.self.recording l.self.recording (commands_of l.fn.self.live.course) (commands_of l.self.live.course)
