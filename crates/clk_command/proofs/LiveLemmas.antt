@@ -1,27 +1,22 @@
 -- What a run through inlets writes, and what its record means.
-use Rattle.std.proofs.Common.{◌≡◌, ◌≢◌, ◌+◌, ◌^◌, ◌≤◌, ◌++◌, ℕ, Bool, true, false, List, [], ◌∷◌, length, append-nil, append_assoc, map, Option, Some, None, Result, Ok, Err, IfSome, OnOk, refl, sym, ap, subst, ◌∙◌, inl, inr, arith}
+use Rattle.std.proofs.Common.{◌≡◌, ◌≢◌, ◌++◌, ℕ, Bool, true, false, List, [], append-nil, append_assoc, map, Option, Some, None, Result, Ok, Err, IfSome, OnOk, refl, sym, ap, subst, ◌∙◌, inl, inr}
 use Rattle.std.specs.Io.KnownBytes.{Appends}
-use Rattle.std.specs.List.{flat_map, AllByRecursion}
-use Rattle.std.proofs.lemmas.List.{length-map}
+use Rattle.std.specs.List.{flat_map}
 use Rattle.std.proofs.KnownBytes.{Appends-nil, Keeps-refl}
 use Rattle.clk_packet.specs.declared.fault.Fault.{Fault}
 use Rattle.clk_packet.specs.declared.fault.Fault.TheVariants.{Write}
 use Rattle.clk_packet.specs.declared.packet.Packet.{Packet}
 use Rattle.clk_packet.specs.Bytes.{AppendsFront, Wrote}
-use Rattle.clk_packet.specs.Trace.{most_records, packets_in, sent_by}
-use Rattle.clk_gate.proofs.Callers.TraceSums.{within-trace}
-use Rattle.clk_live.specs.Outcome.{packet_length}
 use Rattle.clk_sched.specs.Tree.{Tree}
 use Rattle.clk_sched.specs.declared.visit.Visit.{Visit}
 use Rattle.clk_tree.specs.Plan.{Planned}
 use Rattle.clk_tree.specs.Shares.{AreTreesOf}
 use Rattle.clk_router.specs.Course.{Course}
-use Rattle.clk_router.specs.Events.{Setup, Event, CanHappen, logs_of, plan_setup, sender_numbers}
-use Rattle.clk_router.specs.Settled.{offered_of}
+use Rattle.clk_router.specs.Events.{Setup, Event, CanHappen, logs_of, plan_setup}
 use Rattle.clk_script.specs.Meaning.{IsClosed, MeansOver, MeansOverWith, closing_text, ending_text, event_text, has_several}
 use Rattle.clk_script.specs.Record.{FitsLimits, PlanRecordsMeanTheirCourse}
 use Rattle.clk_live_run.specs.Recorded.{IsRecorded, run_record}
-use Rattle.clk_live_run.specs.Run.{LiveRunOf, OffersAll}
+use Rattle.clk_live_run.specs.Run.{LiveRunOf}
 use Rattle.clk_command.specs.Running.{EndsIn, HasRecord, LiveWrites, Tells}
 use Rattle.clk_command.specs.Tasks.{WroteBoth}
 use Rattle.clk_command.specs.declared.pace.Pace.{Pace}
@@ -74,20 +69,6 @@ live-writes plan pace known traces course recording failed old new records tells
   },
   record { unrecorded = run.told.unrecorded; whole = run.told.whole; front = run.told.front },
 )
-
--- each sender offers no more than a trace has
-few-offered : (traces : List (List Packet)) (events : List Event) (numbers : List ℕ) → packets_in traces ≤ most_records → AllByRecursion (OffersAll traces events) numbers → AllByRecursion (λ s. length (offered_of events s) ≤ 2 ^ 40) numbers
-few-offered traces events [] within h = tt
-few-offered traces events (s ∷ numbers) within h =
-    let sent : length (sent_by traces s) + 0 ≤ packets_in traces = within-trace traces (s ∷ []) refl in
-    let same : length (offered_of events s) ≡ length (sent_by traces s) = sym (length-map (offered_of events s) packet_length) ∙ (ap length h.0 ∙ length-map (sent_by traces s) packet_length) in
-    (omega arith, few-offered traces events numbers within h.1)
-
-pub few-accounts : (plan : List Planned) (traces : List (List Packet)) (step limit : ℕ) (course : Course) (Told : Setup → List Event → List Event → Type 0) → packets_in traces ≤ most_records → LiveRunOf plan traces step limit course Told
-    → AllByRecursion (λ s. length (offered_of course.events s) ≤ 2 ^ 40) (sender_numbers course.setup)
-few-accounts plan traces step limit course Told within run =
-    subst (λ (all : List Event). AllByRecursion (λ s. length (offered_of all s) ≤ 2 ^ 40) (sender_numbers course.setup)) (sym run.all)
-    (few-offered traces (run.events ++ run.closed) (sender_numbers course.setup) within run.run.offered)
 
 -- a script ends in a text with the logs of whatever it means
 pub ends-with : (plan : List Planned) (script text : List ℕ) (logs : List (List Visit))

@@ -1,6 +1,6 @@
 //! The whole program, over what stands for standard input, output and error.
 
-ghost use Rattle.std.specs.Prelude.{◌≡◌, ◌≢◌, ◌+◌, ◌⊎◌, [], Ok, None, Some, false, map, option_map, IfOk, IfErr, OnOk};
+ghost use Rattle.std.specs.Prelude.{◌≡◌, ◌≢◌, ◌+◌, ◌⊎◌, [], Ok, None, Some, true, false, map, option_map, IfOk, IfErr, OnOk};
 ghost use Rattle.std.specs.String.{string_bytes};
 ghost use Rattle.std.specs.Io.KnownBytes.{Appends, Keeps};
 ghost use Rattle.clap.specs.Faults.{fault_of};
@@ -231,8 +231,8 @@ fn live_files<H: Files + AllocGlobal + Threads + Wait, P: Wait + Sync, W: Sink>(
     visits: Option<&str>,
     writer: &mut W,
 ) -> Result<(), Fault>
-    ensures written { OnOk result ((text : _) × (lines : _) × LivesOver None None pace (is_recorded (option_map text_of script) (option_map text_of visits)) text lines × Appends (W.Sink.taken writer.old) (W.Sink.taken writer.new) text) }
-    ensures fault { IfErr result (ExplainsLiveOver None None pace.limit (is_recorded (option_map text_of script) (option_map text_of visits))) }
+    ensures written { OnOk result ((text : _) × (lines : _) × LivesOver None None pace (is_recorded (option_map text_of script.entry) (option_map text_of visits.entry)) text lines × Appends (W.Sink.taken writer.old) (W.Sink.taken writer.new) text) }
+    ensures fault { IfErr result (ExplainsLiveOver None None pace.limit (is_recorded (option_map text_of script.entry) (option_map text_of visits.entry))) }
     ensures nothing { IfErr result (λ fault. fault ≢ Write → Keeps (W.Sink.taken writer.old) (W.Sink.taken writer.new)) }
     ensures write_failures { (W.Sink.failures writer.new ≡ W.Sink.failures writer.old)
         ⊎ (W.Sink.failures writer.new ≡ write_failures result (W.Sink.failures writer.old)) }

@@ -1,14 +1,11 @@
 //! One trace, over a plan, through inlets, and the record of the run.
 
-ghost use Rattle.std.specs.Prelude.{◌≡◌, ◌≢◌, ◌≤◌, ◌^◌, length, true, Some, IfOk, IfErr, IsOkUnless};
+ghost use Rattle.std.specs.Prelude.{◌≡◌, ◌≢◌, ◌+◌, true, Some, IfOk, IfErr, IsOkUnless};
 ghost use Rattle.clk_packet.specs.Bytes.{Takes, read_failures, write_failures};
 ghost use Rattle.clk_packet.specs.Trace.{most_trace_bytes};
 ghost use Rattle.clk_packet.specs.Written.{WroteWhat};
 ghost use Rattle.clk_packet.specs.declared.fault.Fault.TheVariants.{Memory, Write};
 ghost use Rattle.clk_report.specs.Devices.{lists_of};
-ghost use Rattle.std.specs.List.{AllByRecursion};
-ghost use Rattle.clk_router.specs.Events.{sender_numbers};
-ghost use Rattle.clk_router.specs.Settled.{offered_of};
 ghost use Rattle.clk_script.specs.Meaning.{MeansOverWith, ending_text};
 ghost use Rattle.clk_live_run.specs.Recorded.{failures_with};
 ghost use Rattle.clk_command.specs.Running.{EndsIn, ExplainsLive, HasRecord, LiveWrites};
@@ -103,7 +100,6 @@ pub fn replayed_trace<H: Threads + Wait, P: Wait + Sync, S: Source>(
 ) -> Result<Replayed, Fault>
     ensures writes { IfOk result (λ run. LiveWrites plan.now pace (S.Source.remaining trace.old) true (ending_text run.live.course.setup (Some 0) run.live.course.events) run.kept.bytes.items) }
     ensures replayed { IfOk result (λ run. EndsIn plan.now run.kept.bytes.items (ending_text run.live.course.setup (Some 0) run.live.course.events) (lists_of run.logs.items)) }
-    ensures few { IfOk result (λ run. AllByRecursion (λ s. length (offered_of run.live.course.events s) ≤ 2 ^ 40) (sender_numbers run.live.course.setup)) }
     ensures fault { IfErr result (ExplainsLive plan.now (S.Source.remaining trace.old) pace.limit true) }
     ensures not_write { IfErr result (λ fault. fault ≢ Write) }
     ensures read_failures { S.Source.failures trace.new ≡ read_failures result (S.Source.failures trace.old) }

@@ -274,7 +274,8 @@ pub fn live_with_visits<
     ensures trace_unread { (trace.new ≡ trace.old) ⊎ WasTreeRead (T.Source.remaining tree.old) (T.Source.failures tree.old) (T.Source.failures tree.new) }
 {
     let plan = read_plan(alloc, tree)?;
-    let Replayed { live, kept, logs } = replayed_trace(rt, alloc, wait, &plan, trace, pace)?;
+    let run = replayed_trace(rt, alloc, wait, &plan, trace, pace)?;
+    let Replayed { live, kept, logs } = run;
     report_accounts(live.router(), writer)?;
     write_all(script, &kept.bytes)?;
     visits_csv(&logs, visits)

@@ -1,11 +1,8 @@
 use Rattle.std.proofs.lemmas.Result.{err_from_is_err_and}
 use Rattle.clk_packet.proofs.Callers.Written.{wrote-whole, wrote-front}
-use Rattle.clk_command.proofs.LiveLemmas.{few-accounts, live-writes}
+use Rattle.clk_command.proofs.LiveLemmas.{live-writes}
 use Rattle.clk_command.proofs.RunningLemmas.{trace-tells}
 use Rattle.clk_command.proofs.live.live_trace.Goals as goal
-
-pub report_accounts-requires : goal.report_accounts-requires
-report_accounts-requires g c = rw c.router.ensures.course (few-accounts _ _ _ _ _ _ c.in_ok-traces.ensures.within c.in_ok-outcome.ensures.ran)
 
 pub returns-in_err-report_accounts-clause-wrote : goal.returns-in_err-report_accounts-clause-wrote
 returns-in_err-report_accounts-clause-wrote g c =

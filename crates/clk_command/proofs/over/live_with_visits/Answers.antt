@@ -4,13 +4,10 @@ use Rattle.clk_command.proofs.LiveLemmas.{both-front, both-last, front-none, fro
 use Rattle.std.proofs.Common.{refl}
 use Rattle.clk_command.proofs.over.live_with_visits.Goals as goal
 
-pub report_accounts-requires : goal.report_accounts-requires
-report_accounts-requires g c = rw c.router.ensures.course c.in_ok-replayed_trace.ensures.few
-
 pub returns-in_err-report_accounts-clause-wrote : goal.returns-in_err-report_accounts-clause-wrote
 returns-in_err-report_accounts-clause-wrote g c =
     let p = err_from_is_err_and c.from_residual-in_err-report_accounts.result c.from_residual-in_err-report_accounts.ensures.1 in
-    let run = c.in_ok-replayed_trace.ensures in
+    let run = c.in_ok-run.ensures in
     let cut = rw c.router.ensures.course at c.in_err-report_accounts.ensures.wrote in
     let means = record { plan = _; is_plan = c.in_ok-plan.ensures.plan; writes = run.writes; logs = _; ends = run.replayed; csv = refl } in
     rw (p.1, p.2) (both-front _ _ _ _ _ _ _ (_, means, tt, front-none _ _) cut.fault cut.front)
@@ -18,7 +15,7 @@ returns-in_err-report_accounts-clause-wrote g c =
 pub returns-in_err-write_all-clause-wrote : goal.returns-in_err-write_all-clause-wrote
 returns-in_err-write_all-clause-wrote g c =
     let p = err_from_is_err_and c.from_residual-in_err-write_all.result c.from_residual-in_err-write_all.ensures.1 in
-    let run = c.in_ok-replayed_trace.ensures in
+    let run = c.in_ok-run.ensures in
     let all = rw c.router.ensures.course at c.in_ok-report_accounts.ensures.wrote in
     let cut = rw c.deref.ensures.value at c.in_err-write_all.ensures in
     let means = record { plan = _; is_plan = c.in_ok-plan.ensures.plan; writes = run.writes; logs = _; ends = run.replayed; csv = refl } in
@@ -26,7 +23,7 @@ returns-in_err-write_all-clause-wrote g c =
 
 pub returns-clause-wrote : goal.returns-clause-wrote
 returns-clause-wrote g c =
-    let run = c.in_ok-replayed_trace.ensures in
+    let run = c.in_ok-run.ensures in
     let all = rw c.router.ensures.course at c.in_ok-report_accounts.ensures.wrote in
     let script = rw c.deref.ensures.value at c.in_ok-write_all.ensures.whole in
     let means = record { plan = _; is_plan = c.in_ok-plan.ensures.plan; writes = run.writes; logs = _; ends = run.replayed; csv = refl } in
