@@ -18,7 +18,8 @@ use Rattle.clk_script.specs.Record.{FitsLimits, PlanRecordsMeanTheirCourse}
 use Rattle.clk_live_run.specs.Recorded.{IsRecorded, run_record}
 use Rattle.clk_live_run.specs.Run.{LiveRunOf}
 use Rattle.clk_command.specs.Running.{EndsIn, HasRecord, LiveWrites, Tells}
-use Rattle.clk_command.specs.Tasks.{WroteBoth}
+use Rattle.clk_command.specs.Tasks.{IsPlanIn, LivesWithVisits, WroteBoth}
+use Rattle.clk_report.specs.VisitCsv.{visits_text}
 use Rattle.clk_command.specs.declared.pace.Pace.{Pace}
 
 -- the record of what can happen over a plan, and of its closing, ends in the report of all
@@ -100,3 +101,17 @@ both-last Q (Ok x) old new visits_old visits_new before after text visits means 
     record { whole = (text, visits, means, all, wrote.whole); front = λ failed. absurd (cc); nothing = tt }
 both-last Q (Err fault) old new visits_old visits_new before after text visits means all wrote =
     record { whole = tt; front = λ _. (text, visits, means, inr (all, wrote.front)); nothing = λ other. absurd (other wrote.fault) }
+
+-- what a run writes whose record was kept in memory, which had nothing before
+pub kept-writes : (plan : List Planned) (pace : Pace) (known : Option (List ℕ)) (traces : List (List Packet)) (course : Course) (failed : Bool) (start now : List ℕ) → start ≡ [] → failed ≡ false
+    → ((trees : List Tree) → AreTreesOf plan trees → PlanRecordsMeanTheirCourse plan trees) → IfSome known (λ text. Tells text traces)
+    → LiveRunOf plan traces pace.step pace.limit course (λ setup events closed. IsRecorded true failed (Some start) (Some now) events) → LiveWrites plan pace known true (ending_text course.setup (Some 0) course.events) now
+kept-writes plan pace known traces course failed start now empty sound records tells run =
+    let w = live-writes plan pace known traces course true failed (Some start) (Some now) records tells run in
+    let whole : now ≡ w.0 = w.2.whole refl sound ∙ ap (λ l. l ++ w.0) empty in
+    subst (λ (script : List ℕ). LiveWrites plan pace known true (ending_text course.setup (Some 0) course.events) script) (sym whole) w.1
+
+-- a recorded run, and the visit file of its record
+pub lives-with-visits : (tree trace : Option (List ℕ)) (pace : Pace) (text script : List ℕ) (logs : List (List Visit)) (plan : List Planned)
+    → IsPlanIn tree plan → LiveWrites plan pace trace true text script → EndsIn plan script text logs → LivesWithVisits tree trace pace text script (visits_text logs)
+lives-with-visits tree trace pace text script logs plan is_plan writes ends = record { plan = plan; is_plan = is_plan; writes = writes; logs = logs; ends = ends; csv = refl }
