@@ -1,4 +1,5 @@
 -- Lemmas that answers cite.
+mod LiveLemmas
 mod RunningLemmas
 mod WordLemmas
 mod TaskLemmas

@@ -1,5 +1,5 @@
 -- What is read of a tree's text, and what follows for what is done over it.
-use Rattle.std.proofs.Common.{◌+◌, ◌≡◌, ℕ, Bool, true, false, nat_lt, List, length, take, Option, Some, None, Result, Ok, Err, IfSome, refl, sym, subst, ◌∙◌, inl, inr, arith}
+use Rattle.std.proofs.Common.{◌+◌, ◌≡◌, ℕ, Bool, true, false, nat_lt, List, length, take, option_map, Option, Some, None, Result, Ok, Err, IfSome, refl, sym, subst, ◌∙◌, inl, inr, arith}
 use Rattle.std.proofs.KnownBytes.{Keeps-refl}
 use Rattle.std.proofs.lemmas.Bool.Decides.{nat_tests}
 use Rattle.std.proofs.lemmas.List.{take_all, length-take}
@@ -11,11 +11,11 @@ use Rattle.clk_tree.specs.Plan.{Planned, Denotes}
 use Rattle.clk_syntax.specs.Reading.{HasFault}
 use Rattle.clk_packet.specs.Bytes.{OfBytes, Wrote}
 use Rattle.clk_packet.specs.Written.{WroteWhat}
-use Rattle.clk_command.specs.Tasks.{Does, IsPlanIn, ReportsOver, WroteBoth}
-use Rattle.clk_command.specs.Words.{task}
+use Rattle.clk_command.specs.Tasks.{Does, IsPlanIn, LivesOver, ReportsOver, WroteBoth}
+use Rattle.clk_command.specs.Words.{is_recorded, task, text_of}
 use Rattle.clk_command.specs.declared.pace.Pace.{Pace}
 use Rattle.clk_command.specs.declared.words.Asked.{Asked}
-use Rattle.clk_command.specs.declared.words.Asked.TheVariants.{Run}
+use Rattle.clk_command.specs.declared.words.Asked.TheVariants.{Run, Live}
 use Rattle.std.specs.Borrow.{Bor}
 
 -- a text without a fault of its own isn't too long
@@ -90,3 +90,8 @@ both-second P Q x (Err fault) old new visits_old visits_new before after visits 
 pub does-run : (asked : Asked) (tree trace : Bor (List ℕ)) (pace : Pace) (visits : Option (Bor (List ℕ))) (input : Option (List ℕ)) (P : List ℕ → Type 0) → asked ≡ Run tree trace pace visits
     → (text : List ℕ) × ReportsOver None None pace text × P text → Does (task asked) input P
 does-run asked tree trace pace visits input P is h = subst (λ (a : Asked). Does (task a) input P) (sym is) (h.0, pace, refl, refl, h.1, h.2)
+
+-- so was a run through inlets
+pub does-live : (asked : Asked) (tree trace : Bor (List ℕ)) (pace : Pace) (script visits : Option (Bor (List ℕ))) (input : Option (List ℕ)) (P : List ℕ → Type 0) → asked ≡ Live tree trace pace script visits
+    → (text : List ℕ) × (lines : List ℕ) × LivesOver None None pace (is_recorded (option_map text_of script) (option_map text_of visits)) text lines × P text → Does (task asked) input P
+does-live asked tree trace pace script visits input P is h = subst (λ (a : Asked). Does (task a) input P) (sym is) (h.0, h.1, pace, refl, refl, h.2, h.3)

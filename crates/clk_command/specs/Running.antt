@@ -1,15 +1,21 @@
 -- What running a trace over a plan writes, and why it is refused (this project's own definition).
-use Rattle.std.specs.Prelude.{◌≡◌, ◌⊎◌, ℕ, List, Option, None, IfSome}
+use Rattle.std.specs.Prelude.{◌≡◌, ◌⊎◌, ℕ, Bool, true, false, List, ◌++◌, Option, Some, None, IfSome}
+use Rattle.std.specs.Io.KnownBytes.{Appends}
 use Rattle.std.specs.List.{flat_map}
 use Rattle.clk_packet.specs.declared.packet.Packet.{Packet}
 use Rattle.clk_packet.specs.declared.tally.Tally.{Tally}
 use Rattle.clk_packet.specs.declared.fault.Fault.{Fault}
 use Rattle.clk_packet.specs.declared.fault.Fault.TheVariants.{Write}
+use Rattle.clk_packet.specs.Bytes.{AppendsFront}
 use Rattle.clk_packet.specs.Trace.{ExplainsTrace, pairs_of, sent, sent_by, shown, trace_fault}
 use Rattle.clk_sched.specs.declared.visit.Visit.{Visit}
 use Rattle.clk_tree.specs.Plan.{Planned}
 use Rattle.clk_drain.specs.Run.{IsFaultOfRun, IsRunWith}
 use Rattle.clk_report.specs.Report.{report_text}
+use Rattle.clk_router.specs.Course.{Course}
+use Rattle.clk_script.specs.Meaning.{MeansOverWith, ending_text}
+use Rattle.clk_live_run.specs.Recorded.{run_record}
+use Rattle.clk_live_run.specs.Run.{IsFaultOfLive, LiveRunOf}
 use Rattle.clk_command.specs.declared.pace.Pace.{Pace}
 
 -- Nothing is wrong with a trace, and this is what each sender sends by it.
@@ -36,3 +42,33 @@ pub record RefusesRun (plan : List Planned) (trace : Option (List ℕ)) (fault :
 -- Why running a trace over a plan is refused with a fault: the writer failed, or the reader or the trace has it, or the run.
 abbrev pub ExplainsRun : List Planned → Option (List ℕ) → Fault → Type 0
 ExplainsRun plan trace fault = (fault ≡ Write) ⊎ (ExplainsTrace trace fault ⊎ RefusesRun plan trace fault)
+
+-- Over the plan the script prints some lines and then the text, and its pulls make these logs.
+abbrev pub EndsIn : List Planned → (script text : List ℕ) → List (List Visit) → Type 0
+EndsIn plan script text logs = (lines : List ℕ) × MeansOverWith plan script (lines ++ text) logs
+
+-- Running a trace through inlets over a plan writes this text, and this script is its record: they are the report and the record of what a
+-- run of the plan over what the trace tells came to. If the run was recorded, the script ends in the text.
+pub record LiveWrites (plan : List Planned) (pace : Pace) (trace : Option (List ℕ)) (recording : Bool) (text script : List ℕ) : Type 0 where
+  pub traces : List (List Packet)
+  pub tells : IfSome trace (λ bytes. Tells bytes traces)
+  pub course : Course
+  pub came_to : LiveRunOf plan traces pace.step pace.limit course (λ setup events closed. (text ≡ ending_text setup (Some 0) (events ++ closed)) × (script ≡ run_record events))
+  pub means : recording ≡ true → (logs : List (List Visit)) × EndsIn plan script text logs
+
+-- What a sink has of the script that records a run, if it had taken `old` before: nothing if the run was not to be recorded, else all of it,
+-- or a front of it if the sink failed.
+pub record HasRecord (recording failed : Bool) (old new : Option (List ℕ)) (script : List ℕ) : Type 0 where
+  pub unrecorded : recording ≡ false → (new ≡ old) × (failed ≡ false)
+  pub whole : recording ≡ true → failed ≡ false → Appends old new script
+  pub front : recording ≡ true → failed ≡ true → AppendsFront old new script
+
+-- A run of the plan through inlets over what the trace tells is refused with this fault.
+pub record RefusesLive (plan : List Planned) (trace : Option (List ℕ)) (limit : ℕ) (recording : Bool) (fault : Fault) : Type 0 where
+  pub traces : List (List Packet)
+  pub tells : IfSome trace (λ text. Tells text traces)
+  pub refused : IsFaultOfLive plan traces limit recording fault
+
+-- Why running a trace through inlets over a plan is refused with a fault: a writer failed, or the reader or the trace has it, or the run.
+abbrev pub ExplainsLive : List Planned → Option (List ℕ) → ℕ → Bool → Fault → Type 0
+ExplainsLive plan trace limit recording fault = (fault ≡ Write) ⊎ (ExplainsTrace trace fault ⊎ RefusesLive plan trace limit recording fault)

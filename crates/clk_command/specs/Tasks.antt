@@ -1,5 +1,5 @@
 -- What is done for each task, by the bytes of its files, where these are known: each source of bytes gives what it holds.
-use Rattle.std.specs.Prelude.{◌≡◌, ◌≢◌, ◌⊎◌, ℕ, List, Option, None, Some, Result, OnOk, IfErr, IsErrOf}
+use Rattle.std.specs.Prelude.{◌≡◌, ◌≢◌, ◌⊎◌, ℕ, Bool, true, List, Option, None, Some, Result, OnOk, IfErr, IsErrOf}
 use Rattle.std.specs.Io.KnownBytes.{Appends, Keeps}
 use Rattle.clap.specs.Kinds.{Kinds, IsAmong}
 use Rattle.clap.specs.declared.error.kind.ErrorKind.{ErrorKind}
@@ -13,8 +13,8 @@ use Rattle.clk_syntax.specs.Reading.{HasFault}
 use Rattle.clk_report.specs.VisitCsv.{visits_text}
 use Rattle.clk_packet.specs.Bytes.{AppendsFront, OfBytes}
 use Rattle.clk_script.specs.Meaning.{MeansOver, MeansOverWith, ExplainsPlan}
-use Rattle.clk_command.specs.Running.{RunWrites, ExplainsRun}
-use Rattle.clk_command.specs.Words.{Task, builtin, check, script, run}
+use Rattle.clk_command.specs.Running.{RunWrites, ExplainsRun, EndsIn, ExplainsLive, LiveWrites}
+use Rattle.clk_command.specs.Words.{Task, builtin, check, script, run, live, is_recorded}
 use Rattle.clk_command.specs.declared.pace.Pace.{Pace}
 use Rattle.clk_command.specs.declared.builtin.TheConstants.{TEXT}
 
@@ -65,6 +65,21 @@ pub record ReportsWithVisits (tree trace : Option (List ℕ)) (pace : Pace) (tex
   pub reports : ReportsOver tree trace pace text
   pub csv : visits ≡ visits_text reports.logs
 
+-- A trace that runs through inlets over a tree at a pace writes this report, and this script is the record of the run.
+pub record LivesOver (tree trace : Option (List ℕ)) (pace : Pace) (recording : Bool) (text script : List ℕ) : Type 0 where
+  pub plan : List Planned
+  pub is_plan : IsPlanIn tree plan
+  pub writes : LiveWrites plan pace trace recording text script
+
+-- Such a run was recorded, and its visit file is this: the one of the record, as a script that ends in the report.
+pub record LivesWithVisits (tree trace : Option (List ℕ)) (pace : Pace) (text script visits : List ℕ) : Type 0 where
+  pub plan : List Planned
+  pub is_plan : IsPlanIn tree plan
+  pub writes : LiveWrites plan pace trace true text script
+  pub logs : List (List Visit)
+  pub ends : EndsIn plan script text logs
+  pub csv : visits ≡ visits_text logs
+
 -- What a call has written that writes a text and, after all of it, a visit file to a sink of its own: both where it succeeded. Where a sink
 -- failed, a front of the text and no visits, or the text and a front of the visits; and at any other fault nothing.
 pub record WroteBoth {T : Type 0} (Means : List ℕ → List ℕ → Type 0) (old new : Option (List ℕ)) (result : Result T Fault) (visits_old visits_new : Option (List ℕ)) : Type 0 where
@@ -84,6 +99,8 @@ Does (check tree) input Written = (text : List ℕ) × IsCanonicalOf None text �
 Does (script tree lines visits) input Written = (text : List ℕ) × WritesOver None None text × Written text
 Does (run tree trace step limit visits) input Written =
     (text : List ℕ) × (pace : Pace) × (pace.step ≡ step) × (pace.limit ≡ limit) × ReportsOver None None pace text × Written text
+Does (live tree trace step limit record_file visits) input Written =
+    (text : List ℕ) × (script_text : List ℕ) × (pace : Pace) × (pace.step ≡ step) × (pace.limit ≡ limit) × LivesOver None None pace (is_recorded record_file visits) text script_text × Written text
 
 -- Help or the version was asked for, and words were wrong, by the kinds of error that clap may answer.
 abbrev pub IsQuestion : Kinds → Type 0
@@ -100,9 +117,16 @@ ExplainsScriptOver tree input fault = ((fault ≡ Write) ⊎ ExplainsTree tree f
 abbrev pub ExplainsRunOver : Option (List ℕ) → Option (List ℕ) → Fault → Type 0
 ExplainsRunOver tree trace fault = ((fault ≡ Write) ⊎ ExplainsTree tree fault) ⊎ ((plan : List Planned) × IsPlanIn tree plan × ExplainsRun plan trace fault)
 
+-- Why a run of a trace through inlets over a tree is refused with a fault: a writer failed, memory ran out, the tree has it, or the run over
+-- its plan.
+abbrev pub ExplainsLiveOver : Option (List ℕ) → Option (List ℕ) → ℕ → Bool → Fault → Type 0
+ExplainsLiveOver tree trace limit recording fault =
+    ((fault ≡ Write) ⊎ ExplainsTree tree fault) ⊎ ((plan : List Planned) × IsPlanIn tree plan × ExplainsLive plan trace limit recording fault)
+
 -- Why a task is refused with a fault, where the standard input held these bytes.
 abbrev pub ExplainsTask : Task → Option (List ℕ) → Fault → Type 0
 ExplainsTask builtin input fault = ExplainsScriptOver (Some builtin_text) input fault
 ExplainsTask (check tree) input fault = (fault ≡ Write) ⊎ ExplainsTree None fault
 ExplainsTask (script tree lines visits) input fault = ExplainsScriptOver None None fault
 ExplainsTask (run tree trace step limit visits) input fault = ExplainsRunOver None None fault
+ExplainsTask (live tree trace step limit record_file visits) input fault = ExplainsLiveOver None None limit (is_recorded record_file visits) fault

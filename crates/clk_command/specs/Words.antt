@@ -15,7 +15,7 @@ use Rattle.clap.specs.declared.builder.value_parser.ValueParser.TheVariants.{Sig
 use Rattle.std.specs.Borrow.{Bor}
 use Rattle.clk_gate.specs.Limits.{most_step, most_limit}
 use Rattle.clk_command.specs.declared.words.Asked.{Asked}
-use Rattle.clk_command.specs.declared.words.Asked.TheVariants.{Builtin, Check, Script, Run}
+use Rattle.clk_command.specs.declared.words.Asked.TheVariants.{Builtin, Check, Script, Run, Live}
 
 -- a word that names a file, and has to be there
 abbrev pub file_word : Text → Rule
@@ -42,19 +42,27 @@ check_words = with_rule (new_app (codes "check")) (file_word (codes "TREE"))
 abbrev pub script_words : App
 script_words = with_rule (with_rule (with_rule (new_app (codes "script")) (file_word (codes "TREE"))) (file_word (codes "SCRIPT"))) (file_option (codes "visits"))
 
+-- `NAME TREE TRACE [--step N] [--limit N]`
+abbrev pub traced_words : Text → App
+traced_words name = with_rule (with_rule (with_rule (with_rule (new_app name)
+    (file_word (codes "TREE"))) (file_word (codes "TRACE")))
+    (number_option (codes "step") most_step (codes "1"))) (number_option (codes "limit") most_limit (codes "1000"))
+
 -- `run TREE TRACE [--step N] [--limit N] [--visits FILE]`
 abbrev pub run_words : App
-run_words = with_rule (with_rule (with_rule (with_rule (with_rule (new_app (codes "run"))
-    (file_word (codes "TREE"))) (file_word (codes "TRACE")))
-    (number_option (codes "step") most_step (codes "1"))) (number_option (codes "limit") most_limit (codes "1000"))) (file_option (codes "visits"))
+run_words = with_rule (traced_words (codes "run")) (file_option (codes "visits"))
+
+-- `live TREE TRACE [--step N] [--limit N] [--record FILE] [--visits FILE]`
+abbrev pub live_words : App
+live_words = with_rule (with_rule (traced_words (codes "live")) (file_option (codes "record"))) (file_option (codes "visits"))
 
 -- what stands above the commands: the first word isn't the program's name
 abbrev pub top_words : App
 top_words = on_top (λ s. record s { no_binary_name = true; has_version = true }) (new_app (codes "clickpull"))
 
--- the three, or no words at all, or a question for help or the version
+-- the four, or no words at all, or a question for help or the version
 abbrev pub program_words : App
-program_words = with_subcommand (with_subcommand (with_subcommand top_words check_words.top) script_words.top) run_words.top
+program_words = with_subcommand (with_subcommand (with_subcommand (with_subcommand top_words check_words.top) script_words.top) run_words.top) live_words.top
 
 -- An argument, and a command with its subcommands, read words as these say.
 pub record IsWord (arg : Arg) (rule : Rule) : Type 0 where
@@ -71,6 +79,13 @@ pub data Task : Type 0 where
   check : Text → Task
   script : Text → Text → Option Text → Task
   run : Text → Text → ℕ → ℕ → Option Text → Task
+  live : (tree trace : Text) (step limit : ℕ) (record_file visits : Option Text) → Task
+
+-- whether a run is recorded: a file is named for its record or for its visits
+abbrev pub is_recorded : Option Text → Option Text → Bool
+is_recorded None None = false
+is_recorded None (Some visits) = true
+is_recorded (Some record_file) visits = true
 
 -- digits of a number that 32 bits hold
 abbrev pub is_number : Text → Bool
@@ -100,6 +115,7 @@ task Builtin = builtin
 task (Check tree) = check tree.now
 task (Script tree script_path visits) = script tree.now script_path.now (option_map text_of visits)
 task (Run tree trace pace visits) = run tree.now trace.now pace.step pace.limit (option_map text_of visits)
+task (Live tree trace pace record_file visits) = live tree.now trace.now pace.step pace.limit (option_map text_of record_file) (option_map text_of visits)
 
 -- what a command asks for, by its name and what was found of its words
 abbrev pub task_by : Text → List Row → Task
@@ -107,6 +123,7 @@ task_by name rows =
     if bytes_eq name (codes "check") then check (path_of rows (codes "TREE"))
     else if bytes_eq name (codes "script") then script (path_of rows (codes "TREE")) (path_of rows (codes "SCRIPT")) (first_of (codes "visits") rows)
     else if bytes_eq name (codes "run") then run (path_of rows (codes "TREE")) (path_of rows (codes "TRACE")) (number_of rows (codes "step") most_step) (number_of rows (codes "limit") most_limit) (first_of (codes "visits") rows)
+    else if bytes_eq name (codes "live") then live (path_of rows (codes "TREE")) (path_of rows (codes "TRACE")) (number_of rows (codes "step") most_step) (number_of rows (codes "limit") most_limit) (first_of (codes "record") rows) (first_of (codes "visits") rows)
     else builtin
 
 abbrev pub task_of : Option (Text × List Row) → Task

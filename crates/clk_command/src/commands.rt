@@ -1,6 +1,6 @@
 //! The whole program, over what stands for standard input, output and error.
 
-ghost use Rattle.std.specs.Prelude.{◌≡◌, ◌≢◌, ◌+◌, ◌⊎◌, [], Ok, None, Some, map, IfOk, IfErr, OnOk};
+ghost use Rattle.std.specs.Prelude.{◌≡◌, ◌≢◌, ◌+◌, ◌⊎◌, [], Ok, None, Some, true, false, map, option_map, IfOk, IfErr, OnOk};
 ghost use Rattle.std.specs.String.{string_bytes};
 ghost use Rattle.std.specs.Io.KnownBytes.{Appends, Keeps};
 ghost use Rattle.clap.specs.Faults.{fault_of};
@@ -11,12 +11,15 @@ ghost use Rattle.clk_packet.specs.Bytes.{Takes, read_failures, write_failures};
 ghost use Rattle.clk_script.specs.Script.{most_script_bytes};
 ghost use Rattle.clk_tree.specs.Plan.{Denotes};
 ghost use Rattle.clk_packet.specs.Written.{WroteWhat};
-ghost use Rattle.clk_command.specs.Tasks.{Does, ExplainsRunOver, ExplainsScriptOver, ExplainsTask, ExplainsTree, IsQuestion, IsMistake, WritesOver, ReportsOver, builtin_text};
-ghost use Rattle.clk_command.specs.Words.{builtin, program_words, task, task_in};
+ghost use Rattle.clk_command.specs.Tasks.{Does, ExplainsRunOver, ExplainsScriptOver, ExplainsTask, ExplainsTree, IsQuestion, IsMistake, ExplainsLiveOver, LivesOver, WritesOver, ReportsOver, builtin_text};
+ghost use Rattle.clk_command.specs.Words.{builtin, is_recorded, program_words, task, task_in, text_of};
 
 use crate::builtin;
 use crate::files::{FileToRead, FileToWrite};
-use crate::over::{check_tree, run_over, run_with_visits, script_over, script_with_visits};
+use crate::over::{
+    check_tree, live_over, live_with_visits, run_over, run_with_visits, script_over,
+    script_with_visits,
+};
 use crate::pace::Pace;
 use crate::words::{Asked, asked_by};
 use clap::Error;
@@ -25,6 +28,7 @@ use clk_packet::{Fault, FromRead, Sink, Source, ToWrite, write_all};
 use clk_script::run_script;
 use clk_tree::Plan;
 use std::alloc::Global;
+use std::io;
 use std::rt::Files;
 use std::sync::Wait;
 use std::thread::Threads;
@@ -40,13 +44,17 @@ use std::thread::Threads;
 ///   is read and checked before TRACE is opened, from a thread for each sender, and the report is written to `writer`. While they
 ///   run a device is pulled once each `--step` ticks, `--limit` times at most. The visits go to FILE as those of a script do.
 ///
+/// - `live TREE TRACE [--step N] [--limit N] [--record FILE] [--visits FILE]`: as `run`, but each sender offers to an inlet of its own, and
+///   one consumer takes packets from all inlets and pulls the devices. The record of the run is written to the FILE of `--record`, as a
+///   script that ends in the same report, and the visits of that script to the FILE of `--visits`.
+///
 /// `rt` has the files and starts the threads, and `wait` waits for their queues.
 ///
 /// # Errors
 ///
 /// 1 where memory or a thread is refused; 19 where a file can't be opened, or it or `reader` can't be read; 20 where `writer` or
 /// `errors` fails or, after the whole answer, FILE can't be made or written; else those of the tree, and then those of the script, or of
-/// the trace and its run.
+/// the trace and its run. With `live`, FILE may have a front of the record at any fault.
 pub fn command<
     H: Files + AllocGlobal + Threads + Wait,
     P: Wait + Sync,
@@ -126,6 +134,13 @@ fn perform<H: Files + AllocGlobal + Threads + Wait, P: Wait + Sync, R: Source, W
             pace,
             visits,
         } => run_files(rt, wait, tree, trace, pace, visits, writer),
+        Asked::Live {
+            tree,
+            trace,
+            pace,
+            record,
+            visits,
+        } => live_files(rt, wait, tree, trace, pace, record, visits, writer),
     }
 }
 
@@ -203,6 +218,96 @@ fn run_files<H: Files + AllocGlobal + Threads + Wait, P: Wait + Sync, W: Sink>(
             )
         }
     }
+}
+
+/// Runs a trace through inlets over a tree, both in files, and writes its record and its visits to two more, where these are named.
+fn live_files<H: Files + AllocGlobal + Threads + Wait, P: Wait + Sync, W: Sink>(
+    rt: &H,
+    wait: &P,
+    tree: &str,
+    trace: &str,
+    pace: Pace,
+    script: Option<&str>,
+    visits: Option<&str>,
+    writer: &mut W,
+) -> Result<(), Fault>
+    ensures written { OnOk result ((text : _) × (lines : _) × LivesOver None None pace (is_recorded (option_map text_of script.entry) (option_map text_of visits.entry)) text lines × Appends (W.Sink.taken writer.old) (W.Sink.taken writer.new) text) }
+    ensures fault { IfErr result (ExplainsLiveOver None None pace.limit (is_recorded (option_map text_of script.entry) (option_map text_of visits.entry))) }
+    ensures nothing { IfErr result (λ fault. fault ≢ Write → Keeps (W.Sink.taken writer.old) (W.Sink.taken writer.new)) }
+    ensures write_failures { (W.Sink.failures writer.new ≡ W.Sink.failures writer.old)
+        ⊎ (W.Sink.failures writer.new ≡ write_failures result (W.Sink.failures writer.old)) }
+{
+    match (script, visits) {
+        (None, None) => live_to(rt, wait, tree, trace, pace, false, nowhere(), writer),
+        (Some(path), None) => live_to(rt, wait, tree, trace, pace, true, sink(rt, path), writer),
+        (None, Some(rows)) => live_visits_to(rt, wait, tree, trace, pace, nowhere(), rows, writer),
+        (Some(path), Some(rows)) => {
+            live_visits_to(rt, wait, tree, trace, pace, sink(rt, path), rows, writer)
+        }
+    }
+}
+
+/// Runs a trace through inlets over a tree, both in files, and writes the record to a sink if it is to be recorded.
+fn live_to<H: Files + AllocGlobal + Threads + Wait, P: Wait + Sync, R: Sink + Drop, W: Sink>(
+    rt: &H,
+    wait: &P,
+    tree: &str,
+    trace: &str,
+    pace: Pace,
+    recording: bool,
+    script: R,
+    writer: &mut W,
+) -> Result<(), Fault>
+    ensures written { OnOk result ((text : _) × (lines : _) × LivesOver None None pace recording text lines × Appends (W.Sink.taken writer.old) (W.Sink.taken writer.new) text) }
+    ensures fault { IfErr result (ExplainsLiveOver None None pace.limit recording) }
+    ensures nothing { IfErr result (λ fault. fault ≢ Write → Keeps (W.Sink.taken writer.old) (W.Sink.taken writer.new)) }
+    ensures write_failures { (W.Sink.failures writer.new ≡ W.Sink.failures writer.old)
+        ⊎ (W.Sink.failures writer.new ≡ write_failures result (W.Sink.failures writer.old)) }
+{
+    let (mut tree, mut trace) = (source(rt, tree), source(rt, trace));
+    let alloc = rt.alloc();
+    let _ = live_over(
+        rt, alloc, wait, &mut tree, &mut trace, writer, pace, recording, script,
+    )?;
+    Ok(())
+}
+
+/// Runs a trace through inlets over a tree, both in files, and writes the record to a sink and its visits to a third file.
+fn live_visits_to<H: Files + AllocGlobal + Threads + Wait, P: Wait + Sync, R: Sink + Drop, W: Sink>(
+    rt: &H,
+    wait: &P,
+    tree: &str,
+    trace: &str,
+    pace: Pace,
+    script: R,
+    visits: &str,
+    writer: &mut W,
+) -> Result<(), Fault>
+    ensures written { OnOk result ((text : _) × (lines : _) × LivesOver None None pace true text lines × Appends (W.Sink.taken writer.old) (W.Sink.taken writer.new) text) }
+    ensures fault { IfErr result (ExplainsLiveOver None None pace.limit true) }
+    ensures nothing { IfErr result (λ fault. fault ≢ Write → Keeps (W.Sink.taken writer.old) (W.Sink.taken writer.new)) }
+    ensures write_failures { (W.Sink.failures writer.new ≡ W.Sink.failures writer.old)
+        ⊎ (W.Sink.failures writer.new ≡ write_failures result (W.Sink.failures writer.old)) }
+{
+    let (mut tree, mut trace) = (source(rt, tree), source(rt, trace));
+    let (mut script, mut visits) = (script, sink(rt, visits));
+    let alloc = rt.alloc();
+    live_with_visits(
+        rt,
+        alloc,
+        wait,
+        &mut tree,
+        &mut trace,
+        writer,
+        pace,
+        &mut script,
+        &mut visits,
+    )
+}
+
+/// A sink that takes everything and keeps nothing.
+fn nowhere() -> ToWrite<io::Sink> {
+    ToWrite::new(io::sink())
 }
 
 /// What the file at a path holds.

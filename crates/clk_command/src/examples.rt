@@ -9,7 +9,7 @@ ghost use Rattle.clk_script.specs.Examples.{failed};
 ghost use Rattle.clk_command.specs.Examples.{IsOneByteEach};
 ghost use Rattle.clk_tree.specs.Plan.{Planned};
 ghost use Rattle.clk_command.specs.Tasks.{IsPlanIn, WasTreeRead, WroteBoth, builtin_text};
-ghost use Rattle.clk_command.specs.Words.{program_words, task_in, builtin, check, script, run};
+ghost use Rattle.clk_command.specs.Words.{program_words, task_in, builtin, check, script, run, live};
 
 /// What some words ask for, and which kinds of error come where they are wrong.
 pub fn word_examples()
@@ -19,8 +19,11 @@ pub fn word_examples()
     ensures visits { task_in (codes "script" ∷ codes "--visits" ∷ codes "V" ∷ codes "T" ∷ codes "S" ∷ []) ≡ script (codes "T") (codes "S") (Some (codes "V")) }
     ensures runs { task_in (codes "run" ∷ codes "T" ∷ codes "R" ∷ []) ≡ run (codes "T") (codes "R") 1 1000 None }
     ensures paces { task_in (codes "run" ∷ codes "T" ∷ codes "--step=10" ∷ codes "R" ∷ codes "--limit" ∷ codes "7" ∷ []) ≡ run (codes "T") (codes "R") 10 7 None }
+    ensures lives { task_in (codes "live" ∷ codes "T" ∷ codes "R" ∷ []) ≡ live (codes "T") (codes "R") 1 1000 None None }
+    ensures records { task_in (codes "live" ∷ codes "--record" ∷ codes "S" ∷ codes "T" ∷ codes "R" ∷ codes "--step" ∷ codes "3" ∷ codes "--limit=9" ∷ codes "--visits=V" ∷ []) ≡ live (codes "T") (codes "R") 3 9 (Some (codes "S")) (Some (codes "V")) }
     ensures no_trace { fault_of program_words (codes "run" ∷ codes "T" ∷ []) ≡ MissingRequiredArgument ∷ [] }
     ensures no_step { fault_of program_words (codes "run" ∷ codes "T" ∷ codes "R" ∷ codes "--step" ∷ codes "0" ∷ []) ≡ ValueValidation ∷ [] }
+    ensures no_record_of_a_run { fault_of program_words (codes "run" ∷ codes "T" ∷ codes "R" ∷ codes "--record" ∷ codes "S" ∷ []) ≡ UnknownArgument ∷ [] }
     ensures one_too_many { fault_of program_words (codes "check" ∷ codes "T" ∷ codes "U" ∷ []) ≡ UnknownArgument ∷ [] }
     ensures no_command { fault_of program_words (codes "frob" ∷ []) ≡ UnknownArgument ∷ InvalidSubcommand ∷ [] }
     ensures help { fault_of program_words (codes "--help" ∷ []) ≡ DisplayHelp ∷ [] }

@@ -6,6 +6,8 @@ mod commands;
 mod examples;
 mod faults;
 mod files;
+mod kept;
+mod live;
 mod over;
 mod pace;
 mod running;
@@ -15,6 +17,10 @@ pub use clk_script::run_script;
 pub use commands::command;
 pub use examples::{tree_examples, visits_examples, word_examples};
 pub use faults::fault_line;
-pub use over::{check_tree, read_plan, run_over, run_with_visits, script_over, script_with_visits};
+pub use live::live_trace;
+pub use over::{
+    check_tree, live_over, live_with_visits, read_plan, run_over, run_with_visits, script_over,
+    script_with_visits,
+};
 pub use pace::Pace;
 pub use running::run_trace;

@@ -1,16 +1,20 @@
 //! What each command does, over what stands for its files: sources of a tree, and of a script or a trace, and a sink for the visits.
 
-ghost use Rattle.std.specs.Prelude.{◌≡◌, ◌≢◌, ◌+◌, ◌⊎◌, IfOk, IfErr};
-ghost use Rattle.clk_packet.specs.Bytes.{Takes, read_failures, write_failures};
+ghost use Rattle.std.specs.Prelude.{◌≡◌, ◌≢◌, ◌+◌, ◌⊎◌, true, false, IfOk, IfErr, OnOk};
+ghost use Rattle.std.specs.Io.KnownBytes.{Appends};
+ghost use Rattle.clk_packet.specs.Bytes.{AppendsFront, Takes, read_failures, write_failures};
 ghost use Rattle.clk_packet.specs.Trace.{most_trace_bytes};
 ghost use Rattle.clk_packet.specs.declared.fault.Fault.TheVariants.{Write};
 ghost use Rattle.clk_script.specs.Script.{most_script_bytes};
 ghost use Rattle.clk_syntax.specs.Limits.{most_tree_bytes};
 ghost use Rattle.clk_packet.specs.Written.{WroteWhat};
-ghost use Rattle.clk_command.specs.Tasks.{IsPlanIn, IsCanonicalOf, ExplainsTree, ExplainsScriptOver, ExplainsRunOver, WritesOver, WritesWithVisits, ReportsOver, ReportsWithVisits, WasTreeRead, WroteBoth};
+ghost use Rattle.clk_command.specs.Tasks.{IsPlanIn, IsCanonicalOf, ExplainsTree, ExplainsScriptOver, ExplainsRunOver, WritesOver, WritesWithVisits, ReportsOver, ReportsWithVisits, LivesOver, LivesWithVisits, ExplainsLiveOver, WasTreeRead, WroteBoth};
+ghost use Rattle.clk_command.specs.Running.{HasRecord};
 
+use crate::live::{Replayed, live_trace, replayed_trace};
 use crate::pace::Pace;
 use crate::running::run_trace;
+use clk_live_run::report_accounts;
 use clk_packet::{Fault, Sink, Source, read_up_to, write_all};
 use clk_report::visits_csv;
 use clk_script::{run_script, run_script_logged};
@@ -178,5 +182,101 @@ pub fn run_with_visits<H: Threads + Wait, P: Wait + Sync, T: Source, S: Source, 
 {
     let plan = read_plan(alloc, tree)?;
     let logs = run_trace(rt, alloc, wait, &plan, trace, writer, pace, true)?;
+    visits_csv(&logs, visits)
+}
+
+/// Runs a trace through inlets over a tree, which is read and checked before any byte of the trace is read, and writes the report. If the run
+/// is to be recorded, `sink` takes its record, as it happens, and is returned.
+///
+/// # Errors
+///
+/// Those of `read_plan`, and then those of `live_trace`; 20 too if `sink` failed, after the whole report. At any but 20 nothing is
+/// written to `writer`.
+pub fn live_over<H: Threads + Wait, P: Wait + Sync, T: Source, S: Source, W: Sink, R: Sink + Drop>(
+    rt: &H,
+    alloc: Global,
+    wait: &P,
+    tree: &mut T,
+    trace: &mut S,
+    writer: &mut W,
+    pace: Pace,
+    recording: bool,
+    sink: R,
+) -> Result<R, Fault>
+    ensures wrote { WroteWhat (λ text. (script : _) × LivesOver (T.Source.remaining tree.old) (S.Source.remaining trace.old) pace recording text script
+        × IfOk result (λ answer. HasRecord recording false (R.Sink.taken sink) (R.Sink.taken answer) script))
+        result (W.Sink.taken writer.old) (W.Sink.taken writer.new) }
+    ensures fault { IfErr result (ExplainsLiveOver (T.Source.remaining tree.old) (S.Source.remaining trace.old) pace.limit recording) }
+    // A read of one of the two failed exactly where the fault is 19.
+    ensures read_failures { T.Source.failures tree.new + S.Source.failures trace.new
+        ≡ read_failures result (T.Source.failures tree.old + S.Source.failures trace.old) }
+    ensures write_failures { (W.Sink.failures writer.new ≡ W.Sink.failures writer.old)
+        ⊎ (W.Sink.failures writer.new ≡ write_failures result (W.Sink.failures writer.old)) }
+    ensures record_failures { IfOk result (λ answer. R.Sink.failures answer ≡ R.Sink.failures sink) }
+    // Each source is read to one byte past its limit at most.
+    ensures tree_limit { Takes (most_tree_bytes + 1) (T.Source.remaining tree.old) (T.Source.remaining tree.new) }
+    ensures trace_limit { Takes (most_trace_bytes + 1) (S.Source.remaining trace.old) (S.Source.remaining trace.new) }
+    // The trace is as it was, unless the tree was read.
+    ensures trace_unread { (trace.new ≡ trace.old) ⊎ WasTreeRead (T.Source.remaining tree.old) (T.Source.failures tree.old) (T.Source.failures tree.new) }
+{
+    let plan = read_plan(alloc, tree)?;
+    let (sink, failed) = live_trace(rt, alloc, wait, &plan, trace, writer, pace, recording, sink)?;
+    if failed {
+        return Err(Fault::Write);
+    }
+    Ok(sink)
+}
+
+/// Runs a trace through inlets over a tree, and writes the report, then the record of the run to `script`, and then its visits to `visits`,
+/// as CSV. The run is recorded in memory, and its record is replayed before anything is written.
+///
+/// # Errors
+///
+/// Those of `live_over` for a run that is recorded; 20 too if `visits` fails, after the whole report and the whole script. At any but 20
+/// nothing is written.
+pub fn live_with_visits<
+    H: Threads + Wait,
+    P: Wait + Sync,
+    T: Source,
+    S: Source,
+    W: Sink,
+    R: Sink,
+    V: Sink,
+>(
+    rt: &H,
+    alloc: Global,
+    wait: &P,
+    tree: &mut T,
+    trace: &mut S,
+    writer: &mut W,
+    pace: Pace,
+    script: &mut R,
+    visits: &mut V,
+) -> Result<(), Fault>
+    ensures wrote { WroteBoth (λ text rows. (lines : _) × LivesWithVisits (T.Source.remaining tree.old) (S.Source.remaining trace.old) pace text lines rows
+        × OnOk result (Appends (R.Sink.taken script.old) (R.Sink.taken script.new) lines)
+        × AppendsFront (R.Sink.taken script.old) (R.Sink.taken script.new) lines)
+        (W.Sink.taken writer.old) (W.Sink.taken writer.new) result (V.Sink.taken visits.old) (V.Sink.taken visits.new) }
+    ensures unrecorded { IfErr result (λ fault. fault ≢ Write → script.new ≡ script.old) }
+    ensures fault { IfErr result (ExplainsLiveOver (T.Source.remaining tree.old) (S.Source.remaining trace.old) pace.limit true) }
+    // A read of one of the two failed exactly where the fault is 19.
+    ensures read_failures { T.Source.failures tree.new + S.Source.failures trace.new
+        ≡ read_failures result (T.Source.failures tree.old + S.Source.failures trace.old) }
+    // A write of one of the three failed exactly where the fault is 20.
+    ensures write_failures { W.Sink.failures writer.new + R.Sink.failures script.new + V.Sink.failures visits.new
+        ≡ write_failures result (W.Sink.failures writer.old + R.Sink.failures script.old + V.Sink.failures visits.old) }
+    ensures write_failed { (W.Sink.failures writer.new ≡ W.Sink.failures writer.old)
+        ⊎ (W.Sink.failures writer.new ≡ write_failures result (W.Sink.failures writer.old)) }
+    // Each source is read to one byte past its limit at most.
+    ensures tree_limit { Takes (most_tree_bytes + 1) (T.Source.remaining tree.old) (T.Source.remaining tree.new) }
+    ensures trace_limit { Takes (most_trace_bytes + 1) (S.Source.remaining trace.old) (S.Source.remaining trace.new) }
+    // The trace is as it was, unless the tree was read.
+    ensures trace_unread { (trace.new ≡ trace.old) ⊎ WasTreeRead (T.Source.remaining tree.old) (T.Source.failures tree.old) (T.Source.failures tree.new) }
+{
+    let plan = read_plan(alloc, tree)?;
+    let run = replayed_trace(rt, alloc, wait, &plan, trace, pace)?;
+    let Replayed { live, kept, logs } = run;
+    report_accounts(live.router(), writer)?;
+    write_all(script, &kept.bytes)?;
     visits_csv(&logs, visits)
 }

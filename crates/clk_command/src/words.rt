@@ -8,7 +8,7 @@ ghost use Rattle.clap.specs.Matches.{found_of};
 ghost use Rattle.clap.specs.Simple.{new_app, subcommand_rows_of};
 ghost use Rattle.clap.specs.Walk.{first_of, rows_of};
 ghost use Rattle.clk_gate.specs.Limits.{most_step, most_limit};
-ghost use Rattle.clk_command.specs.Words.{file_word, file_option, number_option, top_words, check_words, script_words, run_words, program_words, number_of, path_of, within_one_and, task, task_of, text_of, task_in, Reads, IsWord};
+ghost use Rattle.clk_command.specs.Words.{file_word, file_option, number_option, top_words, check_words, script_words, traced_words, run_words, live_words, program_words, number_of, path_of, within_one_and, task, task_of, text_of, task_in, Reads, IsWord};
 
 use crate::pace::Pace;
 use clap::{Arg, ArgMatches, Command, Error, value_parser};
@@ -45,6 +45,19 @@ pub enum Asked<'a> {
         /// The file that its visits are written to, if one is named.
         visits: Option<&'a str>,
     },
+    /// A trace over a tree, through inlets.
+    Live {
+        /// The file of the tree.
+        tree: &'a str,
+        /// The file of the trace.
+        trace: &'a str,
+        /// How devices are pulled while the senders send.
+        pace: Pace,
+        /// The file that the record of the run is written to, if one is named.
+        record: Option<&'a str>,
+        /// The file that its visits are written to, if one is named.
+        visits: Option<&'a str>,
+    },
 }
 
 /// What the words after the program's name ask for.
@@ -70,13 +83,20 @@ fn asked_of<'a>(matches: &ArgMatches<'a>) -> Asked<'a>
         Some(("script", found)) => Asked::Script {
             tree: path_of(found, TREE),
             script: path_of(found, SCRIPT),
-            visits: visits_of(found),
+            visits: option_of(found, VISITS),
         },
         Some(("run", found)) => Asked::Run {
             tree: path_of(found, TREE),
             trace: path_of(found, TRACE),
             pace: pace_of(found),
-            visits: visits_of(found),
+            visits: option_of(found, VISITS),
+        },
+        Some(("live", found)) => Asked::Live {
+            tree: path_of(found, TREE),
+            trace: path_of(found, TRACE),
+            pace: pace_of(found),
+            record: option_of(found, RECORD),
+            visits: option_of(found, VISITS),
         },
         _ => Asked::Builtin,
     }
@@ -92,11 +112,11 @@ fn path_of<'a>(matches: &ArgMatches<'a>, name: &str) -> &'a str
     }
 }
 
-/// The path of the file for the visits, if an option gave one.
-fn visits_of<'a>(matches: &ArgMatches<'a>) -> Option<&'a str>
-    ensures { option_map text_of result ≡ first_of (codes "visits") (rows_of (found_of matches.now)) }
+/// The path that an option gave, if it was there.
+fn option_of<'a>(matches: &ArgMatches<'a>, name: &str) -> Option<&'a str>
+    ensures { option_map text_of result ≡ first_of name.now (rows_of (found_of matches.now)) }
 {
-    matches.get_str(VISITS)
+    matches.get_str(name)
 }
 
 /// The pace that two options gave.
@@ -146,6 +166,8 @@ const STEP: &str = "step";
 
 const LIMIT: &str = "limit";
 
+const RECORD: &str = "record";
+
 const VISITS: &str = "visits";
 
 const ABOUT: &str =
@@ -160,6 +182,7 @@ Examples:
   clickpull check uplink.click
   clickpull script uplink.click morning.script
   clickpull run uplink.click morning.trace
+  clickpull live --record morning.script uplink.click morning.trace
 
 Exit status:
   0  done
@@ -173,7 +196,8 @@ fn program<'a>(alloc: Global) -> Result<Command<'a>, AllocError>
     top(alloc)?
         .subcommand(check(alloc)?)?
         .subcommand(script(alloc)?)?
-        .subcommand(run(alloc)?)
+        .subcommand(run(alloc)?)?
+        .subcommand(live(alloc)?)
 }
 
 /// What stands above the commands.
@@ -243,7 +267,7 @@ fn script<'a>(alloc: Global) -> Result<Command<'a>, AllocError>
     titled(alloc, "script", SCRIPT_DOES, SCRIPT_MORE)
         .arg(file(alloc, TREE, TREE_MEANS))?
         .arg(file(alloc, SCRIPT, SCRIPT_MEANS))?
-        .arg(visits(alloc))
+        .arg(file_option(alloc, VISITS, VISITS_MEANS))
 }
 
 const TRACE_MEANS: &str = "A file with a record a line, 'S,L': sender S sends a packet of L bytes";
@@ -275,22 +299,70 @@ Examples:
 fn run<'a>(alloc: Global) -> Result<Command<'a>, AllocError>
     ensures { IfOk result (λ c. Reads c run_words) }
 {
-    titled(alloc, "run", RUN_DOES, RUN_MORE)
+    traced(alloc, "run", RUN_DOES, RUN_MORE)?.arg(file_option(alloc, VISITS, VISITS_MEANS))
+}
+
+const RECORD_MEANS: &str = "Writes the record of the run to FILE, as a script";
+
+const LIVE_DOES: &str =
+    "Runs a trace as 'run' does, but through inlets, so that it can be recorded";
+
+const LIVE_MORE: &str = "\
+Each sender has a thread of its own, and offers its packets of the trace in order, as fast as it can, to an inlet
+of its own: a ring of 1024 packets. While that is full, the sender waits. One consumer takes the packets from
+all inlets, puts them into the queues and pulls the devices. So all that happens has one order, and a run can be
+recorded and replayed.
+
+The consumer works in rounds. In each it takes at most 64 packets of each sender. Then it pulls each device once,
+first at moment N of --step, until all have sent what they send or it was pulled as often as --limit lets it. Then
+the devices are emptied one after the other, each pulled one tick apart until every packet is out, and each sender
+is accounted for. 'run' and 'live' may differ in which packets a full queue refuses or drops.
+
+With --record FILE all that happens while senders send is written to FILE, as a script that ends with 'drain 0'.
+'clickpull script TREE FILE' then prints what became of each packet, and ends in the same report. With --visits
+FILE the record is replayed, and the log of its visits is written to FILE after the report, as by 'clickpull
+script --visits'. A file that is there is overwritten.
+
+A record has at most as many lines as a script, 1000000. With --record or --visits a run ends with fault 18
+before a thread starts if the packets of the trace and --limit pulls of each device are 1000000 or more together.
+
+Examples:
+  clickpull live uplink.click morning.trace
+  clickpull live --record morning.script uplink.click morning.trace
+  clickpull script uplink.click morning.script";
+
+fn live<'a>(alloc: Global) -> Result<Command<'a>, AllocError>
+    ensures { IfOk result (λ c. Reads c live_words) }
+{
+    traced(alloc, "live", LIVE_DOES, LIVE_MORE)?
+        .arg(file_option(alloc, RECORD, RECORD_MEANS))?
+        .arg(file_option(alloc, VISITS, VISITS_MEANS))
+}
+
+/// A command that runs a trace over a tree at a pace.
+fn traced<'a>(
+    alloc: Global,
+    name: &'a str,
+    about: &'a str,
+    more: &'a str,
+) -> Result<Command<'a>, AllocError>
+    ensures { IfOk result (λ c. Reads c (traced_words name.now)) }
+{
+    titled(alloc, name, about, more)
         .arg(file(alloc, TREE, TREE_MEANS))?
         .arg(file(alloc, TRACE, TRACE_MEANS))?
         .arg(number(alloc, STEP, MAX_STEP, "1", STEP_MEANS))?
-        .arg(number(alloc, LIMIT, MAX_LIMIT, "1000", LIMIT_MEANS))?
-        .arg(visits(alloc))
+        .arg(number(alloc, LIMIT, MAX_LIMIT, "1000", LIMIT_MEANS))
 }
 
-/// The option that names a file for the visits.
-fn visits<'a>(alloc: Global) -> Arg<'a>
-    ensures { IsWord result (file_option (codes "visits")) }
+/// An option that names a file.
+fn file_option<'a>(alloc: Global, name: &'a str, help: &'a str) -> Arg<'a>
+    ensures { IsWord result (file_option name.now) }
 {
-    Arg::new(alloc, VISITS)
-        .long(VISITS)
+    Arg::new(alloc, name)
+        .long(name)
         .value_name("FILE")
-        .help(VISITS_MEANS)
+        .help(help)
 }
 
 /// An option that is a number from 1 to `most`.

@@ -2,7 +2,7 @@
 
 use crate::answer::{AMPLE, Row, answer, assert_rows, assert_writes, input};
 use crate::files::{write, write_all};
-use crate::{examples, running, visits};
+use crate::{examples, living, running, visits};
 use clk_packet::Fault;
 use std::{fs, str};
 
@@ -77,7 +77,13 @@ const ROWS: [Row; 9] = [
 #[test]
 fn words_are_answered(rt: HostRuntime) {
     fs::create_dir_all(&rt, "out/folder").expect(&rt, "a folder");
-    for rows in [&ROWS[..], &running::ROWS, &visits::ROWS, &examples::ROWS] {
+    for rows in [
+        &ROWS[..],
+        &running::ROWS,
+        &living::ROWS,
+        &visits::ROWS,
+        &examples::ROWS,
+    ] {
         assert_rows(&rt, rows);
     }
     // What an example writes is the same without its visits.
@@ -90,7 +96,7 @@ fn words_are_answered(rt: HostRuntime) {
 
 /// Words with the status that they answer, how what is said begins, and a part of it. With status 2 that is said on standard error, and
 /// with 0 on standard output.
-const SAID: [(&str, u8, &str, &str); 32] = [
+const SAID: [(&str, u8, &str, &str); 42] = [
     ("frob", 2, "error: ", "unrecognized subcommand 'frob'"),
     ("check", 2, "error: ", "<TREE>"),
     ("check a b", 2, "error: ", "unexpected argument 'b' found"),
@@ -144,6 +150,33 @@ const SAID: [(&str, u8, &str, &str); 32] = [
         "1000001 is not in 1..=1000000",
     ),
     ("run a b --limit", 2, "error: ", "--limit <N>"),
+    (
+        "run a b --record c",
+        2,
+        "error: ",
+        "unexpected argument '--record' found",
+    ),
+    ("live", 2, "error: ", "<TREE>"),
+    ("live a", 2, "error: ", "<TRACE>"),
+    (
+        "live a b c",
+        2,
+        "error: ",
+        "Usage: clickpull live [OPTIONS] <TREE> <TRACE>",
+    ),
+    ("live a b --record", 2, "error: ", "--record <FILE>"),
+    (
+        "live a b --step 1001",
+        2,
+        "error: ",
+        "1001 is not in 1..=1000",
+    ),
+    (
+        "live a b --limit 0",
+        2,
+        "error: ",
+        "0 is not in 1..=1000000",
+    ),
     ("help frob", 2, "error: ", "unrecognized subcommand 'frob'"),
     ("--help", 0, "", "Usage: clickpull [COMMAND]"),
     ("-h", 0, "", "clickpull script uplink.click morning.script"),
@@ -173,6 +206,14 @@ const SAID: [(&str, u8, &str, &str); 32] = [
     ),
     ("help run", 0, "", "[default: 1000]"),
     ("help script", 0, "", "pull M D"),
+    (
+        "live --help",
+        0,
+        "",
+        "Usage: clickpull live [OPTIONS] <TREE> <TRACE>",
+    ),
+    ("help live", 0, "", "drain 0"),
+    ("help", 0, "", "live    Runs a trace"),
 ];
 
 fn begins_and_has(text: &[u8], begin: &str, part: &str) -> bool {

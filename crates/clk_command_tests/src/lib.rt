@@ -18,6 +18,8 @@ mod files;
 #[cfg(test)]
 mod fronts;
 #[cfg(test)]
+mod living;
+#[cfg(test)]
 mod over;
 #[cfg(test)]
 mod rows;

@@ -15,8 +15,8 @@ use std::test::Fail;
 use std::thread::Threads;
 use std::{fs, str};
 
-// Fails unless words before the names of two files, with a tree and this input, answer so and write this.
-fn assert_row<H: Files + AllocGlobal + Threads + Wait + Sync + Abort>(
+/// Fails unless words before the names of two files, with a tree and this input, answer so and write this.
+pub fn assert_row<H: Files + AllocGlobal + Threads + Wait + Sync + Abort>(
     rt: &H,
     tree: &str,
     words: &str,

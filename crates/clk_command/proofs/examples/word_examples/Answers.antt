@@ -49,3 +49,15 @@ returns-clause-help c = refl
 pub returns-clause-version : goal.returns-clause-version
 unfolding clap_on_literals
 returns-clause-version c = refl
+
+pub returns-clause-lives : goal.returns-clause-lives
+unfolding clap_on_literals
+returns-clause-lives c = refl
+
+pub returns-clause-records : goal.returns-clause-records
+unfolding clap_on_literals
+returns-clause-records c = refl
+
+pub returns-clause-no_record_of_a_run : goal.returns-clause-no_record_of_a_run
+unfolding clap_on_literals
+returns-clause-no_record_of_a_run c = refl

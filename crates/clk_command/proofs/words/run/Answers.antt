@@ -3,9 +3,4 @@ use Rattle.clk_command.proofs.WordLemmas.{word-more}
 use Rattle.clk_command.proofs.words.run.Goals as goal
 
 pub returns : goal.returns
-returns c =
-    let tree = word-more _ _ _ _ _ c.in_ok-arg.ensures c.titled.ensures c.file.ensures in
-    let trace = word-more _ _ _ _ _ c.in_ok-arg-2.ensures tree c.file-2.ensures in
-    let step = word-more _ _ _ _ _ c.in_ok-arg-3.ensures trace c.number.ensures in
-    let limit = word-more _ _ _ _ _ c.in_ok-arg-4.ensures step c.number-2.ensures in
-    IfOk-weaker c.arg-5.result _ _ (λ _ adds. word-more _ _ _ _ _ adds limit c.visits.ensures) c.arg-5.ensures
+returns c = IfOk-weaker c.arg.result _ _ (λ _ adds. word-more _ _ _ _ _ adds c.in_ok-traced.ensures c.file_option.ensures) c.arg.ensures
