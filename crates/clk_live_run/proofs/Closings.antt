@@ -131,8 +131,8 @@ module _ (device : ℕ) (old l new : LiveState) (moment : ℕ) (got : Option Emi
       pull.pulled.goes_on
       ∙ ap (λ (c : Course). after c (pulled device moment visits ∷ [])) so.goes_on
       ∙ ap (λ es. record { setup = old.course.setup; events = es; keeps = old.course.keeps })
-        (append_assoc old.course.events (pulls_from device (latest old.course device + 1) so.more) (pulled device moment visits ∷ [])
-        ∙ ap (λ es. old.course.events ++ es) (ap (λ m. pulls_from device (latest old.course device + 1) so.more ++ pulled device m visits ∷ []) at ∙ sym (pulls-more device (latest old.course device + 1) so.more visits)))
+      (append_assoc old.course.events (pulls_from device (latest old.course device + 1) so.more) (pulled device moment visits ∷ [])
+      ∙ ap (λ es. old.course.events ++ es) (ap (λ m. pulls_from device (latest old.course device + 1) so.more ++ pulled device m visits ∷ []) at ∙ sym (pulls-more device (latest old.course device + 1) so.more visits)))
     where
       at : moment ≡ latest old.course device + 1 + length so.more
       at =
@@ -254,7 +254,7 @@ can-go-on device old now moment ends can so left when =
     let happened = subst (λ (c : Course). CanHappen c.setup c.events) so.goes_on so.happened in
     let next = ends can so.more happened (subst (λ (c : Course). HasLeft c device) so.goes_on left) in
     let at : moment ≡ latest old.course device + length so.more + 1 =
-        (let was = ap (λ (c : Course). moment_at c device) so.goes_on in let is = moment-after old.course device so.more in omega (arith, when, was, is)) in
+    (let was = ap (λ (c : Course). moment_at c device) so.goes_on in let is = moment-after old.course device so.more in omega (arith, when, was, is)) in
     subst (λ m. CanPull now.course device m) (sym at) (subst (λ (c : Course). CanPull c device (latest old.course device + length so.more + 1)) (sym so.goes_on) next)
 
 -- what was seen of a live router alone counts

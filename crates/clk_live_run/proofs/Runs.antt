@@ -197,16 +197,15 @@ sent-few traces numbers rising few = let within = within-trace traces numbers (r
 -- What was written of the record, and how often the sink failed.
 pub recorded : (recording failed : Bool) (start now : SinkAt) (events : List Event) → (recording ≡ true → FitsLimits events (Some 0)) → IsEnded recording failed start now (map command_of events)
     → IsRecorded recording failed start.taken now.taken events × (now.failures ≡ failures_with failed start.failures)
-recorded recording failed start now events its_fit ended =
-    (
-      record {
-        unrecorded = λ e. (ap (λ (s : SinkAt). s.taken) (ended.unrecorded e).0, (ended.unrecorded e).1);
-        fits = its_fit;
-        whole = λ e f. (ended.whole e (low e) f).1;
-        front = λ e f. (ended.front e (low e) f).1;
-      },
-      counts recording failed refl refl,
-    )
+recorded recording failed start now events its_fit ended = (
+  record {
+    unrecorded = λ e. (ap (λ (s : SinkAt). s.taken) (ended.unrecorded e).0, (ended.unrecorded e).1);
+    fits = its_fit;
+    whole = λ e f. (ended.whole e (low e) f).1;
+    front = λ e f. (ended.front e (low e) f).1;
+  },
+  counts recording failed refl refl,
+)
   where
     low : recording ≡ true → length (map command_of events) < most_lines
     low e = let few = (its_fit e).few in let many = length-map events command_of in omega (arith, few, many)

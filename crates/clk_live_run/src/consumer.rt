@@ -30,13 +30,7 @@ impl<R: Sink + Drop> Consumer<R> {
 
     /// Takes packets and pulls devices in rounds, until all inlets have ended and all that was sent is taken. A round takes at most 64 packets
     /// of each sender. In the first `limit` rounds each device is then pulled once, in the n-th at moment `n * step`.
-    pub fn consume<P: Wait, G: Gate>(
-        &mut self,
-        wait: &P,
-        step: u32,
-        limit: u32,
-        gate: &G,
-    )
+    pub fn consume<P: Wait, G: Gate>(&mut self, wait: &P, step: u32, limit: u32, gate: &G)
         requires step { step ≤ most_step }
         requires limit { limit ≤ most_limit }
         requires unpulled { HasPaced step 0 self.old.live }

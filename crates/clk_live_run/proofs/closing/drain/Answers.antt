@@ -29,10 +29,9 @@ loop-preserved g c =
     let some = c.if-left-eq0.false in
     let has_left : HasLeft c.loop.live.course c.args.device = omega (arith, left, some) in
     let when = subst (λ (x : Course). c.moment-moment.result ≡ moment_at x c.args.device) c.router-in-loop-2.ensures.course c.moment-moment.ensures.moment in
-    let happened = subst (λ (x : Course). CanHappen x.setup x.events) c.router-in-loop-3.ensures.course c.has_happened-in-loop.ensures in
-    (
+    let happened = subst (λ (x : Course). CanHappen x.setup x.events) c.router-in-loop-3.ensures.course c.has_happened-in-loop.ensures in (
       tt,
       tt,
       drained-more c.args.device c.args.live.now c.loop.live c.pull.new.self (c.moment-moment.result + 1) c.pull.result c.loop.invariant.2 c.requires.can.there has_left (ap (λ n. n + 1) when) c.pull.ensures.pulled happened
-      c.pull.ensures.unchanged.0,
+          c.pull.ensures.unchanged.0,
     )

@@ -10,8 +10,7 @@ loop-init g c = (tt, tt, omega arith, c.requires.unpulled, refl, all_same c.args
 pub loop-preserved : goal.loop-preserved
 loop-preserved g c =
     let l = c.loop in
-    let new = c.round-pulls in
-    (
+    let new = c.round-pulls in (
       tt,
       tt,
       new.ensures.few,

@@ -21,9 +21,8 @@ loop-device-preserved g c =
     let l = c.loop-device in
     let moment : c.from.result * c.from-2.result ≡ c.args.round * c.args.step = ap₂ (λ a b. a * b) c.from.ensures c.from-2.ensures in
     let one = subst (λ m. IsPulledLive l.device m (seen l.self.live) c.pull.result (seen c.pull.new.self)) moment c.pull.ensures.pulled in
-    let more = pulled-command l.device (c.from.result * c.from-2.result) l.self.live c.pull.new.self c.pull.result c.pull.ensures.pulled in
-    (
+    let more = pulled-command l.device (c.from.result * c.from-2.result) l.self.live c.pull.new.self c.pull.result c.pull.ensures.pulled in (
       pulled-more l.device (c.args.round * c.args.step) c.args.self.now.live l.self.live c.pull.new.self c.pull.result l.invariant.0 one c.pull.ensures.unchanged.0,
       leads-then c.args.self.now.recording l.self.recording c.note.new.self (commands_of c.args.self.now.live.course) (commands_of l.self.live.course) (commands_of c.pull.new.self.course) l.invariant.1
-      (subst (λ (commands : List Command). LeadsOn l.self.recording c.note.new.self (commands_of l.self.live.course) commands) (sym more) (c.note.ensures.noted (commands_of l.self.live.course))),
+          (subst (λ (commands : List Command). LeadsOn l.self.recording c.note.new.self (commands_of l.self.live.course) commands) (sym more) (c.note.ensures.noted (commands_of l.self.live.course))),
     )

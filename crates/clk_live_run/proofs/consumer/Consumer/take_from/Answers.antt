@@ -20,9 +20,8 @@ pub loop-preserved : goal.loop-preserved
 loop-preserved g c =
     let t = c.in-Some.taken in
     let one = c.in-Some.ensures.taken in
-    let more = took-command c.args.place c.loop.self.live c.take.new.self t one in
-    (
+    let more = took-command c.args.place c.loop.self.live c.take.new.self t one in (
       took-then c.args.self.now.live c.loop.self.live c.take.new.self c.loop.invariant.0 (took-one c.args.place c.loop.self.live c.take.new.self t one c.take.ensures.outlets),
       leads-then c.args.self.now.recording c.loop.self.recording c.note.new.self (commands_of c.args.self.now.live.course) (commands_of c.loop.self.live.course) (commands_of c.take.new.self.course) c.loop.invariant.1
-      (subst (λ (commands : List Command). LeadsOn c.loop.self.recording c.note.new.self (commands_of c.loop.self.live.course) commands) (sym more) (c.note.ensures.noted (commands_of c.loop.self.live.course))),
+          (subst (λ (commands : List Command). LeadsOn c.loop.self.recording c.note.new.self (commands_of c.loop.self.live.course) commands) (sym more) (c.note.ensures.noted (commands_of c.loop.self.live.course))),
     )

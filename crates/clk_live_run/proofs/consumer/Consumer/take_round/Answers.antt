@@ -21,7 +21,7 @@ take_from-requires g c =
 
 pub loop-place-preserved : goal.loop-place-preserved
 loop-place-preserved g c = (
-      took-then c.args.self.now.live c.loop-place.self.live c.take_from.new.self.live c.loop-place.invariant.0 c.take_from.ensures.took,
-      leads-then c.args.self.now.recording c.loop-place.self.recording c.take_from.new.self.recording (commands_of c.args.self.now.live.course) (commands_of c.loop-place.self.live.course) (commands_of c.take_from.new.self.live.course)
+  took-then c.args.self.now.live c.loop-place.self.live c.take_from.new.self.live c.loop-place.invariant.0 c.take_from.ensures.took,
+  leads-then c.args.self.now.recording c.loop-place.self.recording c.take_from.new.self.recording (commands_of c.args.self.now.live.course) (commands_of c.loop-place.self.live.course) (commands_of c.take_from.new.self.live.course)
       c.loop-place.invariant.1 c.take_from.ensures.recorded,
-    )
+)
