@@ -1,5 +1,5 @@
 -- Items that are taken together: none but the last is the end.
-use Rattle.std.proofs.Common.{◌≡◌, ◌++◌, ◌∷◌, [], List, ℕ, ◌+◌, ◌-◌, ◌<◌, ◌≤◌, false, not, refl, subst, ap, ◌∙◌, take, length, slice_index_or, arith}
+use Rattle.std.proofs.Common.{◌≡◌, ◌++◌, ◌∷◌, [], List, ℕ, ◌+◌, ◌-◌, ◌<◌, ◌≤◌, true, false, not, refl, sym, subst, ap, ◌∙◌, take, length, slice_index_or, arith}
 use Rattle.std.proofs.lemmas.List.{append-nil, take_more, length-take-le}
 use Rattle.std.proofs.lemmas.List.Folds.{list_any-append}
 use Rattle.std.proofs.lemmas.List.Elements.{filter-append}
@@ -78,6 +78,12 @@ module _ {old : Outlet} {looked new : Consumer Item Global ItemOrder} {items : L
 
       all : has_end (popped old ++ take count items) ≡ false
       all = grind (arith, list_any-append is_end (popped old) (take count items), none_among.0, among)
+
+  pub at_end : (last_of items count).length ≡ 0 → has_end (received new) ≡ true
+  at_end zero_length = ap has_end (b.received ∙ ap (λ (l : List Item). popped old ++ l) split) ∙ grind (arith, zero_length, list_any-append is_end (popped old) (take (count - 1) items ++ last_of items count ∷ []), list_any-append is_end (take (count - 1) items) (last_of items count ∷ []))
+
+  pub keeps : IsPrefix (popped old) (received new)
+  keeps = (take count items, sym b.received)
 
   -- what was popped and is seen
   pub grows : IsPrefix (popped old ++ seen old) (received new ++ known_items new)

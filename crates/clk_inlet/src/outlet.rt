@@ -89,6 +89,8 @@ impl Outlet {
         ensures ended { has_end (popped self.old) ≡ true → popped self.new ≡ popped self.old }
         ensures all_seen { result < length items.old → has_end (popped self.new) ≡ false → IsPrefix (seen self.old) (take result items.new) }
         ensures grows { IsPrefix (popped self.old ++ seen self.old) (popped self.new ++ seen self.new) }
+        ensures keeps { IsPrefix (popped self.old) (popped self.new) }
+        ensures packets_popped { has_end (popped self.new) ≡ false → popped self.new ≡ popped self.old ++ take result items.new }
         ensures allowed { Allowed MayFollow [] (popped self.old) → Allowed MayFollow [] (popped self.new) }
         ensures halves { (i : Inlet) → AreHalves i self.old → AreHalves i self.new }
     {

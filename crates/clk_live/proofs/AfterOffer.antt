@@ -1,17 +1,14 @@
 -- What a live router keeps after it took a packet, in the words of the calls that did it.
 use Rattle.std.proofs.Common.{◌≡◌, ℕ, ◌<◌, ◌++◌, ◌∷◌, [], List, length, map, set, Some, slice_get, get_or, sym, ap, ◌∙◌, subst, arith}
-use Rattle.std.specs.Option.{option_map}
-use Rattle.std.proofs.lemmas.List.{map-set}
-use Rattle.std.proofs.lemmas.Option.{slice_get-map, slice_get_within}
+use Rattle.std.proofs.lemmas.List.{length-map}
+use Rattle.std.proofs.lemmas.Option.{slice_get_within}
 use Rattle.circular_buffer.specs.Buffer.{Buffer}
 use Rattle.clk_packet.specs.declared.packet.Packet.{Packet}
 use Rattle.clk_packet.specs.declared.packet.Offered.{Offered}
 use Rattle.clk_packet.specs.declared.packet.Offered.TheVariants as offer
 use Rattle.clk_sched.proofs.Callers.Lists.{all-split}
-use Rattle.clk_inlet.specs.Halves.{taken}
 use Rattle.clk_inlet.specs.Items.{packet_item}
 use Rattle.clk_inlet.specs.declared.item.Item.{Item}
-use Rattle.clk_inlet.specs.declared.outlet.Outlet.{Outlet}
 use Rattle.clk_router.specs.declared.accounts.Account.{Account}
 use Rattle.clk_router.specs.declared.queue_state.QueueState.{QueueState}
 use Rattle.clk_router.specs.Accounts.{account_after}
@@ -45,35 +42,36 @@ pub record ReadsTokens (new : Course) (buffers : List (Buffer ℕ)) (place : ℕ
   pub declared : IsQueueState new (get_or accounts place no_account).queue state
   pub is : read ≡ get_or buffers n read
 
--- The next packet of an outlet was taken and offered, which made the course of the router this one.
-pub record OffersNext (old new : Course) (outlets : List Outlet) (buffers : List (Buffer ℕ)) (place : ℕ) (o taker : Outlet) (x : Item) (p : Packet) (outcome : Offered) : Type 0 where
-  pub stand : Stands old outlets buffers
-  pub took : TookNext old outlets place o taker x p outcome
+-- The packet that comes next from the inlet at a place was offered, which made the course of the router this one.
+pub record OffersNext (old new : Course) (items : List (List Item)) (buffers : List (Buffer ℕ)) (place : ℕ) (before : List Item) (x : Item) (p : Packet) (outcome : Offered) : Type 0 where
+  pub stand : Stands old items buffers
+  pub took : TookNext old items place before x p outcome
   pub goes : new ≡ after old (offered p outcome ∷ [])
 
-module _ {old new : Course} {outlets : List Outlet} {buffers : List (Buffer ℕ)} {place : ℕ} {o taker : Outlet} {x : Item} {p : Packet} {outcome : Offered} (h : OffersNext old new outlets buffers place o taker x p outcome) where
+module _ {old new : Course} {items : List (List Item)} {buffers : List (Buffer ℕ)} {place : ℕ} {before : List Item} {x : Item} {p : Packet} {outcome : Offered} (h : OffersNext old new items buffers place before x p outcome) where
   queue : ItsQueue h.stand place p.sender
   queue = its-queue h.stand place p.sender h.took.sender
 
-  -- the packets that were taken from this sender are one more
-  pub its-items : slice_get (map taken outlets) place ≡ Some (taken o)
-  its-items = slice_get-map taken outlets place ∙ ap (option_map taken) h.took.its
-
-  pub number-is : p.number ≡ length (taken o)
+  pub number-is : p.number ≡ length before
   number-is = number h.stand h.took
 
-  pub items-are : map taken (set outlets place taker) ≡ set (map taken outlets) place (taken o ++ packet_item p.length x.token ∷ [])
-  items-are =
-      map-set taken outlets place taker
-      ∙ ap (set (map taken outlets) place) (h.took.grows ∙ ap (λ (y : Item). taken o ++ y ∷ []) (is-item h.stand h.took))
+  -- the packets that were taken from this sender are one more
+  pub items-are : set items place (before ++ x ∷ []) ≡ set items place (before ++ packet_item p.length x.token ∷ [])
+  items-are = ap (λ (y : Item). set items place (before ++ y ∷ [])) (is-item h.stand h.took)
 
-  pub token-is : IsTokenOf new.setup (map taken (set outlets place taker)) p x.token
+  pub token-is : IsTokenOf new.setup (set items place (before ++ x ∷ [])) p x.token
   token-is =
-      subst (λ (c : Course). IsTokenOf c.setup (map taken (set outlets place taker)) p x.token) (sym h.goes) (its-token h.stand h.took)
+      subst (λ (c : Course). IsTokenOf c.setup (set items place (before ++ x ∷ [])) p x.token) (sym h.goes) (its-token h.stand h.took)
 
   module _ (accounts : List Account) (are : accounts ≡ map (account_after new.events) new.setup.senders) where
     queue-is : (get_or accounts place no_account).queue ≡ queue.spec.queue
     queue-is = account-queue new.events old.setup.senders accounts place queue.spec no_account (are ∙ ap (λ (c : Course). map (account_after new.events) c.setup.senders) h.goes) queue.at
+
+    pub account-there : place < length accounts
+    account-there =
+        let within = slice_get_within old.setup.senders place queue.spec queue.at in
+        let many = ap length (are ∙ ap (λ (c : Course). map (account_after new.events) c.setup.senders) h.goes) ∙ length-map old.setup.senders (account_after new.events) in
+        omega (arith, within, many)
 
     pub queue-there : (get_or accounts place no_account).queue < length new.setup.queues
     queue-there =
@@ -111,16 +109,16 @@ module _ {old new : Course} {outlets : List Outlet} {buffers : List (Buffer ℕ)
       its-notes : IsNoted queue.b queue.room.capacity x.token outcome noted left
       its-notes = subst (λ k. IsNoted queue.b k x.token outcome noted left) (sym capacity-is) (subst (λ (b : Buffer ℕ). IsNoted b state.capacity x.token outcome noted left) own notes)
 
-      pub evicted-token : EvictedHas (IsTokenOf new.setup (map taken (set outlets place taker))) noted
+      pub evicted-token : EvictedHas (IsTokenOf new.setup (set items place (before ++ x ∷ []))) noted
       evicted-token =
-          subst (λ (c : Course). EvictedHas (IsTokenOf c.setup (map taken (set outlets place taker))) noted) (sym h.goes)
+          subst (λ (c : Course). EvictedHas (IsTokenOf c.setup (set items place (before ++ x ∷ []))) noted) (sym h.goes)
           (evicted-has h.stand h.took queue noted left its-notes)
 
       pub outcome-is : outcome ≡ offer_outcome p noted
       outcome-is = noted-outcome p queue.b queue.room.capacity x.token outcome noted left its-notes ((all-split NamesItsOffer old.events (offered p outcome ∷ []) h.took.more.refusals).1.0)
 
-      pub kept-taken : IsKept new (set outlets place taker) (set buffers n left)
+      pub kept-taken : IsKept new (set items place (before ++ x ∷ [])) (set buffers n left)
       kept-taken =
-          subst (λ k. IsKept new (set outlets place taker) (set buffers k left)) (sym (n-is accounts r.are n r.told))
-          (subst (λ (c : Course). IsKept c (set outlets place taker) (set buffers queue.spec.queue left)) (sym h.goes)
+          subst (λ k. IsKept new (set items place (before ++ x ∷ [])) (set buffers k left)) (sym (n-is accounts r.are n r.told))
+          (subst (λ (c : Course). IsKept c (set items place (before ++ x ∷ [])) (set buffers queue.spec.queue left)) (sym h.goes)
           (kept-offered h.stand h.took queue noted left its-notes))

@@ -12,9 +12,8 @@ use Rattle.clk_packet.specs.declared.packet.Offered.{Offered}
 use Rattle.clk_packet.specs.declared.packet.Offered.TheVariants.{Accepted, Refused, Evicted}
 use Rattle.clk_packet.specs.Lists.{of_sender}
 use Rattle.clk_sched.specs.declared.visit.Visit.{Visit}
-use Rattle.clk_inlet.specs.Halves.{taken}
 use Rattle.clk_inlet.specs.Limits.{most_packets}
-use Rattle.clk_inlet.specs.declared.outlet.Outlet.{Outlet}
+use Rattle.clk_inlet.specs.declared.item.Item.{Item}
 use Rattle.circular_buffer.specs.Buffer.{Buffer}
 use Rattle.clk_tree.specs.PlanParts.{number_of}
 use Rattle.clk_router.specs.Course.{Course, sender_at, CanOffer}
@@ -129,31 +128,31 @@ accepted-offered setup d (pulled c m visits ∷ events) = by_test (c == d) (acce
     by_test true rest = rest
     by_test false rest = rest
 
-module _ (c : Course) (outlets : List Outlet) (buffers : List (Buffer ℕ)) (kept : IsKept c outlets buffers) (can : CanHappen c.setup c.events) where
+module _ (c : Course) (items : List (List Item)) (buffers : List (Buffer ℕ)) (kept : IsKept c items buffers) (can : CanHappen c.setup c.events) where
   -- what a sender offered is what was taken from its inlet
-  pub taken-many : (i n : ℕ) (o : Outlet) → slice_get outlets i ≡ Some o → sender_at c.setup i ≡ Some n → length (offered_of c.events n) ≡ length (taken o)
-  taken-many i n o its at =
-      sym (length-map (offered_of c.events n) packet_length) ∙ sym (ap length (kept.offers i o n its at).lengths) ∙ length-map (taken o) item_length
+  pub taken-many : (i n : ℕ) (its : List Item) → slice_get items i ≡ Some its → sender_at c.setup i ≡ Some n → length (offered_of c.events n) ≡ length its
+  taken-many i n its here at =
+      sym (length-map (offered_of c.events n) packet_length) ∙ sym (ap length (kept.offers i its n here at).lengths) ∙ length-map its item_length
 
-  pub outlet-at : (i n : ℕ) → sender_at c.setup i ≡ Some n → (o : Outlet) × (slice_get outlets i ≡ Some o)
-  outlet-at i n at =
+  items-at : (i n : ℕ) → sender_at c.setup i ≡ Some n → (its : List Item) × (slice_get items i ≡ Some its)
+  items-at i n at =
       let within = slice_get_within (sender_numbers c.setup) i n at in
       let same = length-map c.setup.senders number_of in
-      member outlets i (omega (arith, within, same, kept.places))
+      member items i (omega (arith, within, same, kept.places))
 
   sent-few : (i n : ℕ) → slice_get (sender_numbers c.setup) i ≡ Some n → length (numbers_of n c.events) ≤ most_packets
   sent-few i n at =
-      let o = outlet-at i n at in
+      let its = items-at i n at in
       let many = as-many n c.events in
-      let same = taken-many i n o.0 o.1 at in
-      let few = (kept.offers i o.0 n o.1 at).few in
+      let same = taken-many i n its.0 its.1 at in
+      let few = (kept.offers i its.0 n its.1 at).few in
       omega (arith, many, same, few)
 
-  -- The sender of an outlet that took fewer packets than an inlet takes in all can offer the next one.
-  pub can-offer : (place : ℕ) (o : Outlet) → slice_get outlets place ≡ Some o → length (taken o) < most_packets → CanOffer c place
-  can-offer place o its few = record {
-    there = (let within = slice_get_within outlets place o its in omega (arith, within, kept.places));
-    numbers = λ sender at. (let many = as-many sender c.events in let same = taken-many place sender o its at in omega (arith, many, same, few));
+  -- A sender from whose inlet fewer packets were taken than an inlet takes in all can offer the next one.
+  pub can-offer : (place : ℕ) (its : List Item) → slice_get items place ≡ Some its → length its < most_packets → CanOffer c place
+  can-offer place its here few = record {
+    there = (let within = slice_get_within items place its here in omega (arith, within, kept.places));
+    numbers = λ sender at. (let many = as-many sender c.events in let same = taken-many place sender its here at in omega (arith, many, same, few));
     packets = λ device at.
         (let numbers = length-map c.setup.senders number_of in
         let all = all-counted c.setup c.events can.senders in

@@ -109,7 +109,7 @@ held-fits : (kind : Kind) (capacity : ℕ) (before after : List QueueEvent) → 
 held-fits kind capacity before [] h = subst (λ l. length (held l) ≤ capacity) (sym (append-nil before)) h.fits
 held-fits kind capacity before (e ∷ after) h = subst (λ l. length (held l) ≤ capacity) (append_assoc before (e ∷ []) after) (held-fits kind capacity (before ++ e ∷ []) after h.3)
 
-stay-full : (old new : Course) (p : Packet) (outcome : Offered) → CanHappen new.setup new.events → new ≡ after old (offered p outcome ∷ []) → StayFull old new
+pub stay-full : (old new : Course) (p : Packet) (outcome : Offered) → CanHappen new.setup new.events → new ≡ after old (offered p outcome ∷ []) → StayFull old new
 stay-full old new p outcome can goes = subst (StayFull old) (sym goes) (λ place is. record { spec = is.spec; room = is.room; sender = is.sender; queue = is.queue; full = still place is })
   where
     now : CanHappen old.setup (old.events ++ offered p outcome ∷ [])

@@ -9,6 +9,7 @@ mod Steps
 mod AfterOffer
 mod Fitting
 mod SoFar
+mod Runs
 mod Openings
 pub mod Pulls
 mod Reclaims

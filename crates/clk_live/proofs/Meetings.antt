@@ -1,19 +1,15 @@
 -- Halves that meet, one pair after another, and what a live router is then known to have settled.
-use Rattle.std.proofs.Common.{◌≡◌, ℕ, ◌+◌, ◌<◌, ◌==◌, ◌⊎◌, inl, inr, false, List, [], ◌∷◌, length, map, set, Some, slice_get, refl, sym, ap, ap₂, ◌∙◌, subst, arith}
+use Rattle.std.proofs.Common.{◌≡◌, ℕ, ◌+◌, ◌<◌, ◌==◌, ◌⊎◌, inl, inr, false, List, [], ◌∷◌, map, set, Some, slice_get, refl, sym, ap, ap₂, ◌∙◌, subst, arith}
 use Rattle.std.specs.List.{AllZip}
 use Rattle.std.proofs.lemmas.Bool.Decides.{nat_tests}
-use Rattle.std.proofs.lemmas.List.{length-map}
-use Rattle.circular_buffer.specs.Buffer.{Buffer}
 use Rattle.clk_inlet.specs.Halves.{offered, popped, taken}
 use Rattle.clk_inlet.specs.Items.{packets, has_end}
 use Rattle.clk_inlet.specs.declared.inlet.Inlet.{Inlet}
 use Rattle.clk_inlet.specs.declared.item.Item.{Item}
 use Rattle.clk_inlet.specs.declared.outlet.Outlet.{Outlet}
-use Rattle.clk_router.specs.Course.{Course}
-use Rattle.clk_live.specs.Outcome.{item_length, AreAllEnded}
-use Rattle.clk_live.specs.inside.Kept.{AreTokens, IsKept}
+use Rattle.clk_live.specs.Outcome.{AreAllEnded}
 use Rattle.clk_live.specs.inside.Met.{HaveMet}
-use Rattle.clk_live.proofs.Lists.{set-cases, same-at}
+use Rattle.clk_live.proofs.Lists.{set-cases}
 
 -- the first pairs have met
 abbrev pub MetFirst : ℕ → List Inlet → List Outlet → Type 0
@@ -35,7 +31,7 @@ all-same [] (o ∷ outlets) h ended = absurd h
 all-same (i ∷ inlets) [] h ended = absurd h
 all-same (i ∷ inlets) (o ∷ outlets) h ended = ap₂ (λ (xs : List Item) (xss : List (List Item)). xs ∷ xss) (ap packets (sym (h.0.all ended.0))) (all-same inlets outlets h.1 ended.1)
 
-taken-same : (old new : List Outlet) → map popped new ≡ map popped old → map taken new ≡ map taken old
+pub taken-same : (old new : List Outlet) → map popped new ≡ map popped old → map taken new ≡ map taken old
 taken-same [] [] e = refl
 taken-same [] (o ∷ new) e = absurd (cc)
 taken-same (o ∷ old) [] e = absurd (cc)
@@ -52,23 +48,3 @@ ended-same (o ∷ old) (p ∷ new) e h =
     let first : popped p ≡ popped o = cc in
     let rest : map popped new ≡ map popped old = cc in
     (ap has_end first ∙ h.0, ended-same old new rest h.1)
-
-module _ (c : Course) (old new : List Outlet) (buffers : List (Buffer ℕ)) (kept : IsKept c old buffers) (same : map popped new ≡ map popped old) where
-  pub items-same : map taken new ≡ map taken old
-  items-same = taken-same old new same
-
-  -- a look at the rings changes nothing
-  pub kept-looked : IsKept c new buffers
-  kept-looked =
-      let many : length new ≡ length old = sym (length-map new popped) ∙ ap length same ∙ length-map old popped in
-      record {
-        places = many ∙ kept.places;
-        few_places = omega (arith, many, kept.few_places);
-        wired = kept.wired;
-        offers = λ place o s at its.
-            (let was = same-at popped old new place o same at in
-            let h = kept.offers place was.0 s was.1 its in
-            record { lengths = ap (λ (l : List Item). map item_length (packets l)) was.2 ∙ h.lengths; few = (let all = ap (λ (l : List Item). length (packets l)) was.2 in omega (arith, all, h.few)) });
-        queues = kept.queues;
-        tokens = λ q room b is at. subst (λ (items : List (List Item)). AreTokens c.setup c.events items q room b) (sym items-same) (kept.tokens q room b is at);
-      }

@@ -13,6 +13,7 @@ use Rattle.clk_tree.specs.Shares.{AreTreesOf}
 use Rattle.clk_tree.specs.Drrs.{AreDrrsAbove}
 use Rattle.clk_inlet.specs.Halves.{popped, taken}
 use Rattle.clk_inlet.specs.Items.{packets}
+use Rattle.clk_inlet.specs.declared.item.Item.{Item}
 use Rattle.clk_inlet.specs.declared.outlet.Outlet.{Outlet}
 use Rattle.clk_router.specs.Course.{Course, IsOpened}
 use Rattle.clk_router.specs.Events.{Room, room_of, plan_setup}
@@ -83,23 +84,22 @@ queue-at [] q room e = absurd (cc)
 queue-at (x ∷ queues) zero room e = (x, refl, cc)
 queue-at (x ∷ queues) (suc q) room e = queue-at queues q room e
 
-member-of : (os : List Outlet) (i : ℕ) (o : Outlet) → AllByRecursion (λ (u : Outlet). popped u ≡ []) os → slice_get os i ≡ Some o → popped o ≡ []
-member-of [] i o h e = absurd (cc)
-member-of (u ∷ os) zero o h e = let same : u ≡ o = cc in subst (λ (v : Outlet). popped v ≡ []) same h.0
-member-of (u ∷ os) (suc i) o h e = member-of os i o h.1 e
+member-of : (os : List Outlet) (i : ℕ) (its : List Item) → AllByRecursion (λ (u : Outlet). popped u ≡ []) os → slice_get (map taken os) i ≡ Some its → its ≡ []
+member-of [] i its h e = absurd (cc)
+member-of (u ∷ os) zero its h e = let same : taken u ≡ its = cc in sym same ∙ ap packets h.0
+member-of (u ∷ os) (suc i) its h e = member-of os i its h.1 e
 
 -- So a live router is opened.
 pub kept-opened : (plan : List Planned) (c : Course) (outlets : List Outlet) (buffers : List (Buffer ℕ)) (counts : List ℕ) → IsOpened plan keeps_nothing c → length outlets ≡ length c.setup.senders → length outlets ≤ 2 ^ 16
     → AllByRecursion (SendsWithin (length (queues_of plan))) (senders_of plan) → AllByRecursion (λ (o : Outlet). popped o ≡ []) outlets → ((trees : List Tree) → AreTreesOf plan trees → AreDrrsAbove (queues_of plan) trees counts)
-    → AreRoomy (queues_of plan) counts (length (queues_of plan)) buffers → ((q : ℕ) (room : Room) → slice_get c.setup.queues q ≡ Some room → (tree : Tree) × (slice_get c.setup.trees room.device ≡ Some tree)) → IsKept c outlets buffers
+    → AreRoomy (queues_of plan) counts (length (queues_of plan)) buffers → ((q : ℕ) (room : Room) → slice_get c.setup.queues q ≡ Some room → (tree : Tree) × (slice_get c.setup.trees room.device ≡ Some tree)) → IsKept c (map taken outlets) buffers
 kept-opened plan c outlets buffers counts opened places few wired taken_none above roomy trees =
-    subst (λ (k : Course). IsKept k outlets buffers) (sym opened.is)
+    subst (λ (k : Course). IsKept k (map taken outlets) buffers) (sym opened.is)
     (record {
-      places = places ∙ ap (λ (k : Course). length k.setup.senders) opened.is;
-      few_places = few;
+      places = length-map outlets taken ∙ places ∙ ap (λ (k : Course). length k.setup.senders) opened.is;
+      few_places = (let many = length-map outlets taken in omega (arith, many, few));
       wired = subst (λ n. AllByRecursion (SendsWithin n) (senders_of plan)) (sym (length-map (queues_of plan) room_of)) wired;
-      offers = λ place o s its at.
-          (let none = ap packets (member-of outlets place o taken_none its) in record { lengths = ap (map item_length) none; few = (let many = ap length none in omega (arith, many)) });
+      offers = λ place its s here at. (let none = member-of outlets place its taken_none here in record { lengths = ap (map item_length) none; few = (let many = ap length none in omega (arith, many)) });
       queues = roomy.many ∙ sym (length-map (queues_of plan) room_of);
       tokens = λ q room b at here.
           (let queue = queue-at (queues_of plan) q room at in

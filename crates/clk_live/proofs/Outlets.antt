@@ -1,13 +1,11 @@
--- Tokens as one outlet takes more packets.
-use Rattle.std.proofs.Common.{◌≡◌, ℕ, ◌==◌, Bool, true, false, List, [], ◌∷◌, ◌++◌, append-nil, append_assoc, length, map, set, Some, slice_get, refl, sym, ap, ◌∙◌, arith}
-use Rattle.std.specs.Option.{option_map}
+-- Tokens as more packets are taken from one inlet, and outlets that go on.
+use Rattle.std.proofs.Common.{◌≡◌, ℕ, ◌==◌, Bool, true, false, List, [], ◌∷◌, ◌++◌, append-nil, append_assoc, length, set, Some, slice_get, refl, sym, ap, ◌∙◌, subst, arith}
 use Rattle.std.proofs.lemmas.Bool.{eqb-true}
-use Rattle.std.proofs.lemmas.List.{map-set}
 use Rattle.std.proofs.lemmas.List.Folds.{list_any-append}
-use Rattle.std.proofs.lemmas.Option.{slice_get-map, slice_get_within}
+use Rattle.std.proofs.lemmas.Option.{slice_get_within}
 use mathlib.Core.List.{IsPrefix}
 use Rattle.clk_packet.specs.declared.packet.Packet.{Packet}
-use Rattle.clk_inlet.specs.Halves.{popped, taken, seen as waiting}
+use Rattle.clk_inlet.specs.Halves.{popped, seen as waiting}
 use Rattle.clk_inlet.specs.Items.{packet_item, has_end, is_end}
 use Rattle.clk_inlet.specs.declared.item.Item.{Item}
 use Rattle.clk_inlet.specs.declared.outlet.Outlet.{Outlet}
@@ -17,40 +15,34 @@ use Rattle.clk_live.specs.State.{IsTokenOf, GoesOn, AllGoOn}
 use Rattle.clk_live.specs.Taking.{HasNone, GaveAll}
 use Rattle.clk_live.proofs.Lists.{set-here, set-other, in-front, at-end, zip-same, zip-one, zip-then, member, zip-length, zip-read}
 
-module _ (setup : Setup) (outlets : List Outlet) (i : ℕ) (old new : Outlet) (its : slice_get outlets i ≡ Some old) (more : List Item) (grows : taken new ≡ taken old ++ more) where
+module _ (setup : Setup) (items : List (List Item)) (i : ℕ) (old new : List Item) (its : slice_get items i ≡ Some old) (more : List Item) (grows : new ≡ old ++ more) where
   -- each packet keeps its token
-  pub token-stays : (p : Packet) (token : ℕ) → IsTokenOf setup (map taken outlets) p token → IsTokenOf setup (map taken (set outlets i new)) p token
+  pub token-stays : (p : Packet) (token : ℕ) → IsTokenOf setup items p token → IsTokenOf setup (set items i new) p token
   token-stays p token h = by_place (h.place == i) refl
     where
-      by_place : (b : Bool) → (h.place == i) ≡ b → IsTokenOf setup (map taken (set outlets i new)) p token
+      by_place : (b : Bool) → (h.place == i) ≡ b → IsTokenOf setup (set items i new) p token
       by_place true e =
           let here : h.place ≡ i = eqb-true h.place i e in
-          let same : Some h.its_items ≡ Some (taken old) = sym h.its ∙ ap (slice_get (map taken outlets)) here ∙ slice_get-map taken outlets i ∙ ap (option_map taken) its in
-          let is : h.its_items ≡ taken old = cc same in
+          let same : Some h.its_items ≡ Some old = sym h.its ∙ ap (slice_get items) here ∙ its in
+          let is : h.its_items ≡ old = cc same in
           record {
             place = i;
-            its_items = taken new;
+            its_items = new;
             sender = ap (sender_at setup) (sym here) ∙ h.sender;
-            its = slice_get-map taken (set outlets i new) i ∙ ap (option_map taken) (set-here outlets i old new its);
-            item = ap (λ l. slice_get l p.number) grows ∙ in-front (taken old) more p.number (packet_item p.length token) (ap (λ l. slice_get l p.number) (sym is) ∙ h.item);
+            its = set-here items i old new its;
+            item = ap (λ l. slice_get l p.number) grows ∙ in-front old more p.number (packet_item p.length token) (ap (λ l. slice_get l p.number) (sym is) ∙ h.item);
           }
-      by_place false e = record {
-        place = h.place;
-        its_items = h.its_items;
-        sender = h.sender;
-        its = ap (λ l. slice_get l h.place) (map-set taken outlets i new) ∙ set-other (map taken outlets) i h.place (taken new) h.its_items e h.its;
-        item = h.item;
-      }
+      by_place false e = record { place = h.place; its_items = h.its_items; sender = h.sender; its = set-other items i h.place new h.its_items e h.its; item = h.item }
 
 -- the packet that comes next has the token that came with it
-pub token-comes : (setup : Setup) (outlets : List Outlet) (i : ℕ) (old new : Outlet) → slice_get outlets i ≡ Some old → (p : Packet) (token : ℕ) → sender_at setup i ≡ Some p.sender → taken new ≡ taken old ++ packet_item p.length token ∷ []
-    → p.number ≡ length (taken old) → IsTokenOf setup (map taken (set outlets i new)) p token
-token-comes setup outlets i old new its p token sender grows number = record {
+pub token-comes : (setup : Setup) (items : List (List Item)) (i : ℕ) (old new : List Item) → slice_get items i ≡ Some old → (p : Packet) (token : ℕ) → sender_at setup i ≡ Some p.sender → new ≡ old ++ packet_item p.length token ∷ []
+    → p.number ≡ length old → IsTokenOf setup (set items i new) p token
+token-comes setup items i old new its p token sender grows number = record {
   place = i;
-  its_items = taken new;
+  its_items = new;
   sender = sender;
-  its = slice_get-map taken (set outlets i new) i ∙ ap (option_map taken) (set-here outlets i old new its);
-  item = ap (λ l. slice_get l p.number) grows ∙ ap (slice_get (taken old ++ packet_item p.length token ∷ [])) number ∙ at-end (taken old) (packet_item p.length token);
+  its = set-here items i old new its;
+  item = ap (λ l. slice_get l p.number) grows ∙ ap (slice_get (old ++ packet_item p.length token ∷ [])) number ∙ at-end old (packet_item p.length token);
 }
 
 -- a list that begins with another begins with what that begins with
@@ -90,6 +82,18 @@ gave-none old new place goes none = λ o n at now open_yet.
     (let k = zip-read GoesOn old new place o n goes at now in
     let nothing : waiting o ≡ [] = none o n at now open_yet in
     (k.keeps.0, ap (λ l. l ++ k.keeps.0) (ap (λ l. popped o ++ l) nothing ∙ append-nil (popped o)) ∙ k.keeps.1))
+
+-- an outlet of which all that was seen in its ring was popped gave all
+pub gave-run : (old : List Outlet) (place : ℕ) (o new : Outlet) (run : List Item) → slice_get old place ≡ Some o → (has_end (popped new) ≡ false → IsPrefix (waiting o) run) → (has_end (popped new) ≡ false → popped new ≡ popped o ++ run) → GaveAll old (set old place new) place
+gave-run old place o new run its all grows = λ a b here now open_yet.
+    (let was : Some a ≡ Some o = sym here ∙ its in
+    let is : Some b ≡ Some new = sym now ∙ set-here old place o new its in
+    let first : a ≡ o = cc was in
+    let second : b ≡ new = cc is in
+    subst (λ (u : Outlet). IsPrefix (popped u ++ waiting u) (popped b)) (sym first) (subst (λ (u : Outlet). IsPrefix (popped o ++ waiting o) (popped u)) (sym second) (begins (subst (λ (u : Outlet). has_end (popped u) ≡ false) second open_yet))))
+  where
+    begins : has_end (popped new) ≡ false → IsPrefix (popped o ++ waiting o) (popped new)
+    begins open_yet = let h = all open_yet in (h.0, append_assoc (popped o) (waiting o) h.0 ∙ ap (λ (xs : List Item). popped o ++ xs) h.1 ∙ sym (grows open_yet))
 
 -- an outlet that gave all has given it later on
 pub gave-later : (start mid new : List Outlet) (place : ℕ) → AllGoOn start mid → AllGoOn mid new → GaveAll start mid place → GaveAll start new place

@@ -1,12 +1,11 @@
 -- The tokens of all queues, one queue after another.
-use Rattle.std.proofs.Common.{◌≡◌, ℕ, zero, suc, ◌+◌, ◌++◌, ◌∷◌, [], List, length, map, drop, set, Some, None, slice_get, refl, sym, ap, ap₂, ◌∙◌, subst, arith}
+use Rattle.std.proofs.Common.{◌≡◌, ℕ, zero, suc, ◌+◌, ◌++◌, ◌∷◌, [], List, length, drop, set, Some, None, slice_get, refl, sym, ap, ap₂, ◌∙◌, subst, arith}
 use Rattle.std.specs.List.{flat_map, range_with_len, AllZip}
 use Rattle.std.proofs.lemmas.List.{drop-set-lt}
 use Rattle.std.proofs.lemmas.Option.{slice_get_within}
 use Rattle.circular_buffer.specs.Buffer.{Buffer, buffer}
 use Rattle.clk_packet.specs.declared.packet.Packet.{Packet}
-use Rattle.clk_inlet.specs.Halves.{taken}
-use Rattle.clk_inlet.specs.declared.outlet.Outlet.{Outlet}
+use Rattle.clk_inlet.specs.declared.item.Item.{Item}
 use Rattle.clk_router.specs.Course.{Course}
 use Rattle.clk_live.specs.State.{IsTokenOf}
 use Rattle.clk_live.specs.Reclaiming.{inside_at, all_inside}
@@ -27,18 +26,18 @@ zip-flat R f (b ∷ bs) k each =
     zip-join R (f k) (flat_map f (range_with_len (k + 1) (length bs))) b.items (flat_map buffer_items bs) (let first = each 0 b refl in let here : k + 0 ≡ k = omega arith in subst (λ n. AllZip R (f n) b.items) here first)
     (zip-flat R f bs (k + 1) (λ i c at. let e : k + suc i ≡ k + 1 + i = omega arith in subst (λ n. AllZip R (f n) c.items) e (each (suc i) c at)))
 
-pub all-tokens : (c : Course) (outlets : List Outlet) (buffers : List (Buffer ℕ)) → IsKept c outlets buffers → AllZip (IsTokenOf c.setup (map taken outlets)) (all_inside c) (flat_map buffer_items buffers)
-all-tokens c outlets buffers kept =
-    subst (λ n. AllZip (IsTokenOf c.setup (map taken outlets)) (flat_map (λ q. inside_at c.setup c.events q (slice_get c.setup.queues q)) (range_with_len 0 n)) (flat_map buffer_items buffers)) kept.queues
-    (zip-flat (IsTokenOf c.setup (map taken outlets)) (λ q. inside_at c.setup c.events q (slice_get c.setup.queues q)) buffers 0 each)
+pub all-tokens : (c : Course) (items : List (List Item)) (buffers : List (Buffer ℕ)) → IsKept c items buffers → AllZip (IsTokenOf c.setup items) (all_inside c) (flat_map buffer_items buffers)
+all-tokens c items buffers kept =
+    subst (λ n. AllZip (IsTokenOf c.setup items) (flat_map (λ q. inside_at c.setup c.events q (slice_get c.setup.queues q)) (range_with_len 0 n)) (flat_map buffer_items buffers)) kept.queues
+    (zip-flat (IsTokenOf c.setup items) (λ q. inside_at c.setup c.events q (slice_get c.setup.queues q)) buffers 0 each)
   where
-    each : (i : ℕ) (b : Buffer ℕ) → slice_get buffers i ≡ Some b → AllZip (IsTokenOf c.setup (map taken outlets)) (inside_at c.setup c.events (0 + i) (slice_get c.setup.queues (0 + i))) b.items
+    each : (i : ℕ) (b : Buffer ℕ) → slice_get buffers i ≡ Some b → AllZip (IsTokenOf c.setup items) (inside_at c.setup c.events (0 + i) (slice_get c.setup.queues (0 + i))) b.items
     each i b at =
         let within = slice_get_within buffers i b at in
         let room = member c.setup.queues i (omega (arith, within, kept.queues)) in
         let e : i ≡ 0 + i = omega arith in
-        subst (λ n. AllZip (IsTokenOf c.setup (map taken outlets)) (inside_at c.setup c.events n (slice_get c.setup.queues n)) b.items) e
-        (subst (λ o. AllZip (IsTokenOf c.setup (map taken outlets)) (inside_at c.setup c.events i o) b.items) (sym room.1) (kept.tokens i room.0 b room.1 at).tokens)
+        subst (λ n. AllZip (IsTokenOf c.setup items) (inside_at c.setup c.events n (slice_get c.setup.queues n)) b.items) e
+        (subst (λ o. AllZip (IsTokenOf c.setup items) (inside_at c.setup c.events i o) b.items) (sym room.1) (kept.tokens i room.0 b room.1 at).tokens)
 
 -- the tokens from a queue on
 pub from-queue : (bs : List (Buffer ℕ)) (q : ℕ) (b : Buffer ℕ) → slice_get bs q ≡ Some b → flat_map buffer_items (drop q bs) ≡ b.items ++ flat_map buffer_items (drop (q + 1) bs)

@@ -5,7 +5,7 @@ use Rattle.std.specs.List.{cons_option, list_any, AllByRecursion, AllZip}
 use Rattle.std.specs.Option.{option_map, IsSome}
 use Rattle.std.proofs.lemmas.Bool.{false≢true, eqb-true, or_right}
 use Rattle.std.proofs.lemmas.Bool.Decides.{nat_tests}
-use Rattle.std.proofs.lemmas.List.{append-nil, map-append, map-set, set-get_or, length-append, length-map, length-set}
+use Rattle.std.proofs.lemmas.List.{map-append, length-append, length-map, length-set}
 use Rattle.std.proofs.lemmas.Option.{slice_get-map, slice_get_within, get_or_from_slice_get}
 use Rattle.circular_buffer.specs.Buffer.{Buffer, buffer}
 use Rattle.clk_packet.specs.declared.packet.Packet.{Packet}
@@ -15,11 +15,9 @@ use Rattle.clk_sched.specs.declared.visit.Visit.{Visit}
 use Rattle.clk_sched.specs.Log.{visits_of, result_of}
 use Rattle.clk_tree.specs.declared.plan.parts.SenderSpec.{SenderSpec}
 use Rattle.clk_tree.specs.PlanParts.{SendsWithin, number_of}
-use Rattle.clk_inlet.specs.Halves.{taken}
 use Rattle.clk_inlet.specs.Items.{packet_item}
 use Rattle.clk_inlet.specs.Limits.{most_packets}
 use Rattle.clk_inlet.specs.declared.item.Item.{Item}
-use Rattle.clk_inlet.specs.declared.outlet.Outlet.{Outlet}
 use Rattle.clk_router.specs.declared.accounts.Account.{Account}
 use Rattle.clk_router.specs.Accounts.{account_after}
 use Rattle.clk_router.specs.Course.{Course, after, sender_at, IsPulled}
@@ -101,22 +99,21 @@ zip-first R x xs [] h = absurd h
 zip-first R x xs (y ∷ ys) h = (y, refl, h.0, h.1)
 
 -- What is known of the parts of a live router before an offer or a pull.
-pub record Stands (old : Course) (outlets : List Outlet) (buffers : List (Buffer ℕ)) : Type 0 where
-  pub kept : IsKept old outlets buffers
+pub record Stands (old : Course) (items : List (List Item)) (buffers : List (Buffer ℕ)) : Type 0 where
+  pub kept : IsKept old items buffers
   pub law : QueuesGoOn old.setup
   pub rising : AreRising (sender_numbers old.setup)
   pub can : CanHappen old.setup old.events
 
--- The next packet of an outlet was taken and offered.
-pub record TookNext (old : Course) (outlets : List Outlet) (place : ℕ) (o taker : Outlet) (x : Item) (p : Packet) (outcome : Offered) : Type 0 where
-  pub its : slice_get outlets place ≡ Some o
-  pub grows : taken taker ≡ taken o ++ x ∷ []
-  pub few : length (taken o) < most_packets
+-- The packet that comes next after those from the inlet at a place was offered.
+pub record TookNext (old : Course) (items : List (List Item)) (place : ℕ) (before : List Item) (x : Item) (p : Packet) (outcome : Offered) : Type 0 where
+  pub its : slice_get items place ≡ Some before
+  pub few : length before < most_packets
   pub sender : sender_at old.setup place ≡ Some p.sender
   pub bytes : p.length ≡ x.length
   pub more : CanHappen old.setup (old.events ++ offered p outcome ∷ [])
 
-module _ {old : Course} {outlets : List Outlet} {buffers : List (Buffer ℕ)} (stand : Stands old outlets buffers) where
+module _ {old : Course} {items : List (List Item)} {buffers : List (Buffer ℕ)} (stand : Stands old items buffers) where
   -- the queue of the sender at a place
   pub record ItsQueue (place s : ℕ) : Type 0 where
     pub spec : SenderSpec
@@ -150,34 +147,34 @@ module _ {old : Course} {outlets : List Outlet} {buffers : List (Buffer ℕ)} (s
     events = old.events ++ pulled d m visits ∷ []
 
     with_buffers : (new : List (Buffer ℕ)) → length new ≡ length buffers
-        → ((q : ℕ) (room : Room) (b : Buffer ℕ) → slice_get old.setup.queues q ≡ Some room → slice_get new q ≡ Some b → AreTokens old.setup (old.events ++ pulled d m visits ∷ []) (map taken outlets) q room b)
-        → IsKept (after old (pulled d m visits ∷ [])) outlets new
+        → ((q : ℕ) (room : Room) (b : Buffer ℕ) → slice_get old.setup.queues q ≡ Some room → slice_get new q ≡ Some b → AreTokens old.setup (old.events ++ pulled d m visits ∷ []) items q room b)
+        → IsKept (after old (pulled d m visits ∷ [])) items new
     with_buffers new same tokens = record {
       places = stand.kept.places;
       few_places = stand.kept.few_places;
       wired = stand.kept.wired;
-      offers = λ place o s its at.
-          (let h = stand.kept.offers place o s its at in
+      offers = λ place its s here at.
+          (let h = stand.kept.offers place its s here at in
           record { lengths = h.lengths ∙ ap (map packet_length) (sym (offers-pull old.events d m visits s)); few = h.few });
       queues = same ∙ stand.kept.queues;
       tokens = tokens;
     }
 
     -- the tokens of a queue of which nothing was emitted
-    stay : (q : ℕ) (room : Room) (b : Buffer ℕ) → slice_get old.setup.queues q ≡ Some room → slice_get buffers q ≡ Some b → emitted_from old.setup q (pulled d m visits) ≡ [] → AreTokens old.setup (old.events ++ pulled d m visits ∷ []) (map taken outlets) q room b
+    stay : (q : ℕ) (room : Room) (b : Buffer ℕ) → slice_get old.setup.queues q ≡ Some room → slice_get buffers q ≡ Some b → emitted_from old.setup q (pulled d m visits) ≡ [] → AreTokens old.setup (old.events ++ pulled d m visits ∷ []) items q room b
     stay q room b is at none =
         let h = stand.kept.tokens q room b is at in
         let same : inside_of old.setup room.device q old.events ≡ inside_of old.setup room.device q (old.events ++ pulled d m visits ∷ []) = inside-pulled old.setup stand.law q room is old.events stand.can d m visits more ∙ ap (λ l. l ++ inside_of old.setup room.device q (old.events ++ pulled d m visits ∷ [])) none in
-        record { tokens = subst (λ l. AllZip (IsTokenOf old.setup (map taken outlets)) l b.items) same h.tokens; capacity = h.capacity }
+        record { tokens = subst (λ l. AllZip (IsTokenOf old.setup items) l b.items) same h.tokens; capacity = h.capacity }
 
-    pub kept-none : result_of (visits_of 0 visits) ≡ None → IsKept (after old (pulled d m visits ∷ [])) outlets buffers
+    pub kept-none : result_of (visits_of 0 visits) ≡ None → IsKept (after old (pulled d m visits ∷ [])) items buffers
     kept-none none = with_buffers buffers refl (λ q room b is at. stay q room b is at (ap (λ o. filter (is_of_queue old.setup q) (cons_option o [])) none))
 
     pub record Popped (p : Packet) (q : ℕ) (b : Buffer ℕ) : Type 0 where
       pub token : ℕ
       pub first : slice_get b.items 0 ≡ Some token
-      pub its : IsTokenOf old.setup (map taken outlets) p token
-      pub goes_on : (new : Buffer ℕ) → new ≡ buffer (drop 1 b.items) b.capacity → IsKept (after old (pulled d m visits ∷ [])) outlets (set buffers q new)
+      pub its : IsTokenOf old.setup items p token
+      pub goes_on : (new : Buffer ℕ) → new ≡ buffer (drop 1 b.items) b.capacity → IsKept (after old (pulled d m visits ∷ [])) items (set buffers q new)
 
     pub kept-some : (p : Packet) (place : ℕ) (i : ItsQueue place p.sender) → result_of (visits_of 0 visits) ≡ Some p → Popped p i.spec.queue i.b
     kept-some p place i got =
@@ -187,7 +184,7 @@ module _ {old : Course} {outlets : List Outlet} {buffers : List (Buffer ℕ)} (s
         let first : inside_of old.setup i.room.device q old.events ≡ p ∷ inside_of old.setup i.room.device q (old.events ++ pulled d m visits ∷ []) =
         inside-pulled old.setup stand.law q i.room i.queue old.events stand.can d m visits more ∙ ap (λ l. l ++ inside_of old.setup i.room.device q (old.events ++ pulled d m visits ∷ [])) emits
         in
-        let z = zip-first (IsTokenOf old.setup (map taken outlets)) p (inside_of old.setup i.room.device q (old.events ++ pulled d m visits ∷ [])) i.b.items (subst (λ l. AllZip (IsTokenOf old.setup (map taken outlets)) l i.b.items) first h.tokens) in
+        let z = zip-first (IsTokenOf old.setup items) p (inside_of old.setup i.room.device q (old.events ++ pulled d m visits ∷ [])) i.b.items (subst (λ l. AllZip (IsTokenOf old.setup items) l i.b.items) first h.tokens) in
         record {
           token = z.0;
           first = z.1;
@@ -195,49 +192,48 @@ module _ {old : Course} {outlets : List Outlet} {buffers : List (Buffer ℕ)} (s
           goes_on = λ new is. with_buffers (set buffers q new) (length-set buffers q new) (λ k room b at here. by_queue new is z.3 k room b at (set-cases buffers q k new b here));
         }
       where
-        by_queue : (new : Buffer ℕ) → new ≡ buffer (drop 1 i.b.items) i.b.capacity → AllZip (IsTokenOf old.setup (map taken outlets)) (inside_of old.setup i.room.device i.spec.queue (old.events ++ pulled d m visits ∷ [])) (drop 1 i.b.items)
+        by_queue : (new : Buffer ℕ) → new ≡ buffer (drop 1 i.b.items) i.b.capacity → AllZip (IsTokenOf old.setup items) (inside_of old.setup i.room.device i.spec.queue (old.events ++ pulled d m visits ∷ [])) (drop 1 i.b.items)
             → (k : ℕ) (room : Room) (b : Buffer ℕ) → slice_get old.setup.queues k ≡ Some room → ((k ≡ i.spec.queue) × (new ≡ b)) ⊎ (((k == i.spec.queue) ≡ false) × (slice_get buffers k ≡ Some b))
-            → AreTokens old.setup (old.events ++ pulled d m visits ∷ []) (map taken outlets) k room b
+            → AreTokens old.setup (old.events ++ pulled d m visits ∷ []) items k room b
         by_queue new is rest k room b at (inl (same, new_is)) =
             let one : Some i.room ≡ Some room = sym i.queue ∙ ap (slice_get old.setup.queues) (sym same) ∙ at in
             let its : i.room ≡ room = cc one in
-            subst (λ n. AreTokens old.setup (old.events ++ pulled d m visits ∷ []) (map taken outlets) n room b) (sym same)
-            (subst (λ (r : Room). AreTokens old.setup (old.events ++ pulled d m visits ∷ []) (map taken outlets) i.spec.queue r b) its
-            (subst (AreTokens old.setup (old.events ++ pulled d m visits ∷ []) (map taken outlets) i.spec.queue i.room) (sym is ∙ new_is)
+            subst (λ n. AreTokens old.setup (old.events ++ pulled d m visits ∷ []) items n room b) (sym same)
+            (subst (λ (r : Room). AreTokens old.setup (old.events ++ pulled d m visits ∷ []) items i.spec.queue r b) its
+            (subst (AreTokens old.setup (old.events ++ pulled d m visits ∷ []) items i.spec.queue i.room) (sym is ∙ new_is)
             (record { tokens = rest; capacity = (stand.kept.tokens i.spec.queue i.room i.b i.queue i.tokens).capacity })))
         by_queue new is rest k room b at (inr (other, here)) =
             let none : sends_to old.setup.senders p.sender k ≡ false = other-queue old.setup.senders p.sender i.spec.queue k stand.rising i.own other in
             stay k room b at here (ap (λ o. filter (is_of_queue old.setup k) (cons_option o [])) got ∙ ap (λ t. if t then p ∷ [] else []) none)
 
-  module _ {place : ℕ} {o taker : Outlet} {x : Item} {p : Packet} {outcome : Offered} (took : TookNext old outlets place o taker x p outcome) where
-    pub number : p.number ≡ length (taken o)
-    number = number-is old.setup old.events p outcome took.more ∙ taken-many old outlets buffers stand.kept stand.can place p.sender o took.its took.sender
+  module _ {place : ℕ} {before : List Item} {x : Item} {p : Packet} {outcome : Offered} (took : TookNext old items place before x p outcome) where
+    pub number : p.number ≡ length before
+    number = number-is old.setup old.events p outcome took.more ∙ taken-many old items buffers stand.kept stand.can place p.sender before took.its took.sender
 
     pub is-item : x ≡ packet_item p.length x.token
     is-item = λ k. record { token = x.token; length = sym took.bytes k }
 
-    pub its-token : IsTokenOf old.setup (map taken (set outlets place taker)) p x.token
-    its-token = token-comes old.setup outlets place o taker took.its p x.token took.sender (took.grows ∙ ap (λ (y : Item). taken o ++ y ∷ []) is-item) number
+    pub its-token : IsTokenOf old.setup (set items place (before ++ x ∷ [])) p x.token
+    its-token = token-comes old.setup items place before (before ++ x ∷ []) took.its p x.token took.sender (ap (λ (y : Item). before ++ y ∷ []) is-item) number
 
-    stays : (r : Packet) (token : ℕ) → IsTokenOf old.setup (map taken outlets) r token → IsTokenOf old.setup (map taken (set outlets place taker)) r token
-    stays = token-stays old.setup outlets place o taker took.its (x ∷ []) took.grows
+    stays : (r : Packet) (token : ℕ) → IsTokenOf old.setup items r token → IsTokenOf old.setup (set items place (before ++ x ∷ [])) r token
+    stays = token-stays old.setup items place before (before ++ x ∷ []) took.its (x ∷ []) refl
 
-    offers-more : (k : ℕ) (u : Outlet) (s : ℕ) → slice_get (set outlets place taker) k ≡ Some u → sender_at old.setup k ≡ Some s → AreOffered (old.events ++ offered p outcome ∷ []) s u
-    offers-more k u s here at = by_place (set-cases outlets place k taker u here)
+    offers-more : (k : ℕ) (u : List Item) (s : ℕ) → slice_get (set items place (before ++ x ∷ [])) k ≡ Some u → sender_at old.setup k ≡ Some s → AreOffered (old.events ++ offered p outcome ∷ []) s u
+    offers-more k u s here at = by_place (set-cases items place k (before ++ x ∷ []) u here)
       where
-        by_place : ((k ≡ place) × (taker ≡ u)) ⊎ (((k == place) ≡ false) × (slice_get outlets k ≡ Some u)) → AreOffered (old.events ++ offered p outcome ∷ []) s u
+        by_place : ((k ≡ place) × (before ++ x ∷ [] ≡ u)) ⊎ (((k == place) ≡ false) × (slice_get items k ≡ Some u)) → AreOffered (old.events ++ offered p outcome ∷ []) s u
         by_place (inl (same, is)) =
             let numbers : Some p.sender ≡ Some s = sym took.sender ∙ ap (sender_at old.setup) (sym same) ∙ at in
             let named : p.sender ≡ s = cc numbers in
             let own : (p.sender == s) ≡ true = grind (arith, nat_tests, named) in
-            let h = stand.kept.offers place o s took.its (ap (sender_at old.setup) (sym same) ∙ at) in
-            let longer = length-append (taken o) (x ∷ []) in
-            let many = ap length took.grows in
+            let h = stand.kept.offers place before s took.its (ap (sender_at old.setup) (sym same) ∙ at) in
+            let longer = length-append before (x ∷ []) in
             subst (AreOffered (old.events ++ offered p outcome ∷ []) s) is
             (record {
-              lengths = ap (map item_length) took.grows ∙ map-append item_length (taken o) (x ∷ []) ∙ ap (λ l. l ++ x.length ∷ []) h.lengths ∙ ap (λ n. map packet_length (offered_of old.events s) ++ n ∷ []) (sym took.bytes)
+              lengths = map-append item_length before (x ∷ []) ∙ ap (λ l. l ++ x.length ∷ []) h.lengths ∙ ap (λ n. map packet_length (offered_of old.events s) ++ n ∷ []) (sym took.bytes)
                   ∙ sym (map-append packet_length (offered_of old.events s) (p ∷ [])) ∙ ap (map packet_length) (sym (offers-one old.events p outcome s own));
-              few = omega (arith, longer, many, took.few);
+              few = omega (arith, longer, took.few);
             })
         by_place (inr (other, there)) =
             let h = stand.kept.offers k u s there at in
@@ -255,45 +251,45 @@ module _ {old : Course} {outlets : List Outlet} {buffers : List (Buffer ℕ)} (s
       q : ℕ
       q = i.spec.queue
 
-      was : AreTokens old.setup old.events (map taken outlets) i.spec.queue i.room i.b
+      was : AreTokens old.setup old.events items i.spec.queue i.room i.b
       was = stand.kept.tokens i.spec.queue i.room i.b i.queue i.tokens
 
-      tokens : AllZip (IsTokenOf old.setup (map taken (set outlets place taker))) (inside_of old.setup i.room.device i.spec.queue old.events) i.b.items
-      tokens = zip-widened (IsTokenOf old.setup (map taken outlets)) (IsTokenOf old.setup (map taken (set outlets place taker))) stays (inside_of old.setup i.room.device i.spec.queue old.events) i.b.items was.tokens
+      tokens : AllZip (IsTokenOf old.setup (set items place (before ++ x ∷ []))) (inside_of old.setup i.room.device i.spec.queue old.events) i.b.items
+      tokens = zip-widened (IsTokenOf old.setup items) (IsTokenOf old.setup (set items place (before ++ x ∷ []))) stays (inside_of old.setup i.room.device i.spec.queue old.events) i.b.items was.tokens
 
       -- there is room for the token
       pub room-for : CanNote i.b i.room.capacity outcome
-      room-for = can-note old.setup stand.law i.spec.queue i.room i.queue (IsTokenOf old.setup (map taken (set outlets place taker))) old.events stand.can p i.own i.b tokens was.capacity outcome took.more
+      room-for = can-note old.setup stand.law i.spec.queue i.room i.queue (IsTokenOf old.setup (set items place (before ++ x ∷ []))) old.events stand.can p i.own i.b tokens was.capacity outcome took.more
 
       module _ (noted : Outcome) (new : Buffer ℕ) (is : IsNoted i.b i.room.capacity x.token outcome noted new) where
-        after-offer : Notes (IsTokenOf old.setup (map taken (set outlets place taker))) (inside_of old.setup i.room.device i.spec.queue (old.events ++ offered p outcome ∷ [])) i.b.capacity noted new
-        after-offer = notes old.setup stand.law i.spec.queue i.room i.queue (IsTokenOf old.setup (map taken (set outlets place taker))) old.events stand.can p i.own i.b tokens was.capacity x.token its-token outcome noted new took.more is
+        after-offer : Notes (IsTokenOf old.setup (set items place (before ++ x ∷ []))) (inside_of old.setup i.room.device i.spec.queue (old.events ++ offered p outcome ∷ [])) i.b.capacity noted new
+        after-offer = notes old.setup stand.law i.spec.queue i.room i.queue (IsTokenOf old.setup (set items place (before ++ x ∷ []))) old.events stand.can p i.own i.b tokens was.capacity x.token its-token outcome noted new took.more is
 
-        pub evicted-has : EvictedHas (IsTokenOf old.setup (map taken (set outlets place taker))) noted
+        pub evicted-has : EvictedHas (IsTokenOf old.setup (set items place (before ++ x ∷ []))) noted
         evicted-has = after-offer.evicted
 
         by_queue : (k : ℕ) (room : Room) (b : Buffer ℕ) → slice_get old.setup.queues k ≡ Some room → ((k ≡ i.spec.queue) × (new ≡ b)) ⊎ (((k == i.spec.queue) ≡ false) × (slice_get buffers k ≡ Some b))
-            → AreTokens old.setup (old.events ++ offered p outcome ∷ []) (map taken (set outlets place taker)) k room b
+            → AreTokens old.setup (old.events ++ offered p outcome ∷ []) (set items place (before ++ x ∷ [])) k room b
         by_queue k room b at (inl (same, new_is)) =
             let one : Some i.room ≡ Some room = sym i.queue ∙ ap (slice_get old.setup.queues) (sym same) ∙ at in
             let its_room : i.room ≡ room = cc one in
-            subst (λ n. AreTokens old.setup (old.events ++ offered p outcome ∷ []) (map taken (set outlets place taker)) n room b) (sym same)
-            (subst (λ (r : Room). AreTokens old.setup (old.events ++ offered p outcome ∷ []) (map taken (set outlets place taker)) i.spec.queue r b) its_room
-            (subst (AreTokens old.setup (old.events ++ offered p outcome ∷ []) (map taken (set outlets place taker)) i.spec.queue i.room) new_is
+            subst (λ n. AreTokens old.setup (old.events ++ offered p outcome ∷ []) (set items place (before ++ x ∷ [])) n room b) (sym same)
+            (subst (λ (r : Room). AreTokens old.setup (old.events ++ offered p outcome ∷ []) (set items place (before ++ x ∷ [])) i.spec.queue r b) its_room
+            (subst (AreTokens old.setup (old.events ++ offered p outcome ∷ []) (set items place (before ++ x ∷ [])) i.spec.queue i.room) new_is
             (record { tokens = after-offer.tokens; capacity = after-offer.same ∙ was.capacity })))
         by_queue k room b at (inr (other, here)) =
             let h = stand.kept.tokens k room b at here in
             let none : sends_to old.setup.senders p.sender k ≡ false = other-queue old.setup.senders p.sender i.spec.queue k stand.rising i.own other in
             let same = inside-same old.setup stand.law k room at old.events stand.can p outcome none in
             record {
-              tokens = subst (λ l. AllZip (IsTokenOf old.setup (map taken (set outlets place taker))) l b.items) (sym same) (zip-widened (IsTokenOf old.setup (map taken outlets)) (IsTokenOf old.setup (map taken (set outlets place taker))) stays (inside_of old.setup room.device k old.events) b.items h.tokens);
+              tokens = subst (λ l. AllZip (IsTokenOf old.setup (set items place (before ++ x ∷ []))) l b.items) (sym same) (zip-widened (IsTokenOf old.setup items) (IsTokenOf old.setup (set items place (before ++ x ∷ []))) stays (inside_of old.setup room.device k old.events) b.items h.tokens);
               capacity = h.capacity;
             }
 
-        pub kept-offered : IsKept (after old (offered p outcome ∷ [])) (set outlets place taker) (set buffers i.spec.queue new)
+        pub kept-offered : IsKept (after old (offered p outcome ∷ [])) (set items place (before ++ x ∷ [])) (set buffers i.spec.queue new)
         kept-offered = record {
-          places = length-set outlets place taker ∙ stand.kept.places;
-          few_places = (let same = length-set outlets place taker in omega (arith, same, stand.kept.few_places));
+          places = length-set items place (before ++ x ∷ []) ∙ stand.kept.places;
+          few_places = (let same = length-set items place (before ++ x ∷ []) in omega (arith, same, stand.kept.few_places));
           wired = stand.kept.wired;
           offers = offers-more;
           queues = length-set buffers i.spec.queue new ∙ stand.kept.queues;
@@ -325,17 +321,17 @@ pub record FoundSender (new : Course) (got : Option Packet) (p : Packet) (place 
   pub are : accounts ≡ map (account_after new.events) new.setup.senders
 
 -- A device was pulled once.
-pub record PullsOnce (old new : Course) (outlets : List Outlet) (buffers : List (Buffer ℕ)) (d m : ℕ) (got : Option Packet) : Type 0 where
-  pub stand : Stands old outlets buffers
+pub record PullsOnce (old new : Course) (items : List (List Item)) (buffers : List (Buffer ℕ)) (d m : ℕ) (got : Option Packet) : Type 0 where
+  pub stand : Stands old items buffers
   pub pull : IsPulled old new d m got
   pub can_new : CanHappen new.setup new.events
 
-module _ {old new : Course} {outlets : List Outlet} {buffers : List (Buffer ℕ)} {d m : ℕ} {got : Option Packet} (h : PullsOnce old new outlets buffers d m got) where
+module _ {old new : Course} {items : List (List Item)} {buffers : List (Buffer ℕ)} {d m : ℕ} {got : Option Packet} (h : PullsOnce old new items buffers d m got) where
   goes : CanHappen old.setup (old.events ++ pulled d m h.pull.visits ∷ [])
   goes = subst (λ (c : Course). CanHappen c.setup c.events) h.pull.goes_on h.can_new
 
-  pub pulled-none : got ≡ None → IsKept new outlets buffers
-  pulled-none none = subst (λ (c : Course). IsKept c outlets buffers) (sym h.pull.goes_on) (kept-none h.stand d m h.pull.visits goes (h.pull.result ∙ none))
+  pub pulled-none : got ≡ None → IsKept new items buffers
+  pulled-none none = subst (λ (c : Course). IsKept c items buffers) (sym h.pull.goes_on) (kept-none h.stand d m h.pull.visits goes (h.pull.result ∙ none))
 
   module _ (p : Packet) (gave : got ≡ Some p) where
     known : (i : ℕ) × (sender_at new.setup i ≡ Some p.sender)
@@ -382,46 +378,11 @@ module _ {old new : Course} {outlets : List Outlet} {buffers : List (Buffer ℕ)
         pub token-there : (o : Option ℕ) → o ≡ slice_get read.items 0 → IsSome o
         token-there o e = subst IsSome (sym (e ∙ first)) search
 
-        pub token-is : (o : Option ℕ) (token : ℕ) → o ≡ slice_get read.items 0 → o ≡ Some token → IsTokenOf old.setup (map taken outlets) p token
-        token-is o token e some = let same : Some popped.token ≡ Some token = sym first ∙ sym e ∙ some in let one : popped.token ≡ token = cc same in subst (IsTokenOf old.setup (map taken outlets) p) one popped.its
+        pub token-is : (o : Option ℕ) (token : ℕ) → o ≡ slice_get read.items 0 → o ≡ Some token → IsTokenOf old.setup items p token
+        token-is o token e some = let same : Some popped.token ≡ Some token = sym first ∙ sym e ∙ some in let one : popped.token ≡ token = cc same in subst (IsTokenOf old.setup items p) one popped.its
 
-        pub pulled-some : (left : Buffer ℕ) → left ≡ buffer (drop 1 read.items) read.capacity → IsKept new outlets (set buffers n left)
+        pub pulled-some : (left : Buffer ℕ) → left ≡ buffer (drop 1 read.items) read.capacity → IsKept new items (set buffers n left)
         pulled-some left e =
-            subst (λ k. IsKept new outlets (set buffers k left)) (sym queue-is)
-            (subst (λ (c : Course). IsKept c outlets (set buffers queue.spec.queue left)) (sym h.pull.goes_on)
+            subst (λ k. IsKept new items (set buffers k left)) (sym queue-is)
+            (subst (λ (c : Course). IsKept c items (set buffers queue.spec.queue left)) (sym h.pull.goes_on)
             (popped.goes_on left (e ∙ ap (λ (b : Buffer ℕ). buffer (drop 1 b.items) b.capacity) own)))
-
-module _ (old : Course) (outlets : List Outlet) (buffers : List (Buffer ℕ)) (kept : IsKept old outlets buffers) (place : ℕ) (o taker : Outlet) (its : slice_get outlets place ≡ Some o) where
-  -- the outlet took no packet
-  pub kept-untaken : taken taker ≡ taken o → IsKept old (set outlets place taker) buffers
-  kept-untaken same = record {
-    places = length-set outlets place taker ∙ kept.places;
-    few_places = (let many = length-set outlets place taker in omega (arith, many, kept.few_places));
-    wired = kept.wired;
-    offers = λ k u s here at. by_place k u s at (set-cases outlets place k taker u here);
-    queues = kept.queues;
-    tokens = λ q room b is at.
-        (let h = kept.tokens q room b is at in
-        record {
-          tokens = zip-widened (IsTokenOf old.setup (map taken outlets)) (IsTokenOf old.setup (map taken (set outlets place taker))) (token-stays old.setup outlets place o taker its [] (same ∙ sym (append-nil (taken o)))) (inside_of old.setup room.device q old.events) b.items h.tokens;
-          capacity = h.capacity;
-        });
-  }
-    where
-      by_place : (k : ℕ) (u : Outlet) (s : ℕ) → sender_at old.setup k ≡ Some s → ((k ≡ place) × (taker ≡ u)) ⊎ (((k == place) ≡ false) × (slice_get outlets k ≡ Some u)) → AreOffered old.events s u
-      by_place k u s at (inl (there, is)) =
-          let h = kept.offers place o s its (ap (sender_at old.setup) (sym there) ∙ at) in
-          subst (AreOffered old.events s) is (record { lengths = ap (map item_length) same ∙ h.lengths; few = (let many = ap length same in omega (arith, many, h.few)) })
-      by_place k u s at (inr (other, there)) = kept.offers k u s there at
-
-  pub none-changes : taken taker ≡ taken o → map taken (set outlets place taker) ≡ map taken outlets
-  none-changes same = map-set taken outlets place taker ∙ ap (set (map taken outlets) place) (same ∙ sym (get_or-map taken outlets place o its)) ∙ set-get_or (map taken outlets) place (taken o)
-    where
-      get_or-map : (f : Outlet → List Item) (xs : List Outlet) (i : ℕ) (x : Outlet) → slice_get xs i ≡ Some x → get_or (map f xs) i (f x) ≡ f x
-      get_or-map f xs i x e = get_or_from_slice_get (map f xs) i (f x) (f x) (slice_get-map f xs i ∙ ap (option_map f) e)
-
--- the outlet from which these packets were taken
-pub outlet-of : (outlets : List Outlet) (i : ℕ) (items : List Item) → slice_get (map taken outlets) i ≡ Some items → (o : Outlet) × (slice_get outlets i ≡ Some o) × (taken o ≡ items)
-outlet-of [] i items e = absurd (cc)
-outlet-of (o ∷ outlets) zero items e = (o, refl, cc)
-outlet-of (o ∷ outlets) (suc i) items e = outlet-of outlets i items e

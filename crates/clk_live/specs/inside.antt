@@ -7,3 +7,4 @@ pub mod Buffers
 pub mod Given
 pub mod Met
 pub mod Each
+pub mod Runs

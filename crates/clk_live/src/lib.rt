@@ -4,6 +4,7 @@
 mod draining;
 mod examples;
 mod live;
+mod offering;
 mod opening;
 mod pulling;
 mod reclaiming;

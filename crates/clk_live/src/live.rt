@@ -27,6 +27,8 @@ pub struct Live {
 impl Model for Live {
     ghost use Rattle.clk_live.specs.State.{LiveState, live_code};
     ghost use Rattle.clk_live.specs.inside.Kept.{IsKept};
+    ghost use Rattle.std.specs.Prelude.{map};
+    ghost use Rattle.clk_inlet.specs.Halves.{taken};
 
     ghost Value = { LiveState };
 
@@ -34,7 +36,7 @@ impl Model for Live {
 
     ghost view = { λ l. record { course = l.router; outlets = l.outlets.items; turn = l.turn } };
 
-    ghost invariant = { λ l. IsKept l.router l.outlets.items l.tokens.items };
+    ghost invariant = { λ l. IsKept l.router (map taken l.outlets.items) l.tokens.items };
 }
 
 impl Live {

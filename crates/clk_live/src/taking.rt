@@ -1,8 +1,20 @@
 //! Taking packets from inlets.
 
+ghost use Rattle.clk_live.specs.declared.taking.TheConstants.{RUN};
+
 use crate::live::Live;
-use crate::tokens::note_offer;
+use crate::offering::{offer_next, offer_run};
+use clk_inlet::Item;
 use clk_packet::Packet;
+
+// How many packets are taken from an inlet at once, at most.
+const RUN: usize = 16;
+
+// What a place of a run has before a packet stands there.
+const NO_ITEM: Item = Item {
+    token: 0,
+    length: 0,
+};
 
 /// What became of a packet that was taken from its inlet and offered to its queue.
 #[derive(Clone, Copy, Debug, PartialEq, Eq)]
@@ -32,7 +44,7 @@ pub struct Taken {
 }
 
 impl Live {
-    ghost use Rattle.std.specs.Prelude.{◌≡◌, ◌-◌, ◌<◌, ◌≤◌, ℕ, List, true, false, None, length, take, drop, slice_get, IfSome};
+    ghost use Rattle.std.specs.Prelude.{◌≡◌, ◌+◌, ◌-◌, ◌<◌, ◌≤◌, ℕ, List, true, false, None, length, take, drop, slice_get, IfSome};
     ghost use Rattle.clk_router.specs.Course.{sender_at};
     ghost use Rattle.clk_live.specs.State.{Seen, seen, starts_at, IsTokenOf, AllGoOn};
     ghost use Rattle.clk_live.specs.Taking.{IsTaken, AreTaken, AreOf, AreAtMost, AreSharesOr, StartsNext, AllAccepted, HasNone, GaveAll, GaveAllThatFits, IsQueueFull};
@@ -51,21 +63,7 @@ impl Live {
         ensures turn { self.new.turn ≡ self.old.turn }
     {
         let item = self.outlets[place].take()?;
-        // What is inside each queue changes by these laws, which do nothing.
-        self.router.queues_go_on();
-        self.router.has_happened();
-        let _ = self.router.senders();
-        let (packet, outcome) = self.router.offer(place, item.length);
-        self.router.has_happened();
-        let queue = self.router.accounts()[place].queue;
-        let capacity = self.router.queue(queue).capacity;
-        let tokens = &mut self.tokens[usize::from(queue)];
-        let outcome = note_offer(tokens, capacity, item.token, outcome);
-        Some(Taken {
-            packet,
-            token: item.token,
-            outcome,
-        })
+        Some(offer_next(&mut self.router, &mut self.tokens, place, item))
     }
 
     // Whether the queue of the sender at this place is full.
@@ -79,20 +77,17 @@ impl Live {
         state.held == state.capacity
     }
 
-    // Takes the next packet of the sender at a place. If only packets that fit are wanted and the queue is full, it takes none.
-    fn take_one(&mut self, place: usize, only_fitting: bool) -> Option<Taken>
+    // Takes the next packet of the sender at a place, if it fits: if the queue is full, it takes none.
+    fn take_fitting(&mut self, place: usize) -> Option<Taken>
         requires there { place < length self.old.outlets }
         ensures taken { IfSome result (λ t. IsTaken place (seen self.old) t (seen self.new)) }
         ensures none { result ≡ None → seen self.new ≡ seen self.old }
-        ensures gave_all { result ≡ None → GaveAllWanted only_fitting self.old self.new place }
-        ensures accepted { only_fitting ≡ true → IfSome result (λ t. t.outcome ≡ Outcome.Accepted) }
+        ensures gave_all { result ≡ None → GaveAllWanted true self.old self.new place }
+        ensures accepted { IfSome result (λ t. t.outcome ≡ Outcome.Accepted) }
         ensures full { StayFull self.old.course self.new.course }
         ensures outlets { AllGoOn self.old.outlets self.new.outlets }
         ensures turn { self.new.turn ≡ self.old.turn }
     {
-        if !only_fitting {
-            return self.take_next(place);
-        }
         if self.is_full(place) {
             return None;
         }
@@ -118,11 +113,13 @@ impl Live {
         taken
     }
 
-    // Takes packets of the sender at a place into `taken`, from its place `from` on, up to `most`.
+    // Takes packets of the sender at a place into `taken`, from its place `from` on, up to `most`: all that come, or those that fit. Runs go
+    // through `items`, whose contents don't matter.
     fn fill(
         &mut self,
         place: usize,
         only_fitting: bool,
+        items: &mut [Item; RUN],
         taken: &mut [Taken],
         from: usize,
         most: usize,
@@ -139,15 +136,95 @@ impl Live {
         ensures outlets { AllGoOn self.old.outlets self.new.outlets }
         ensures unchanged { (self.new.turn ≡ self.old.turn) × (self.new.course.setup ≡ self.old.course.setup) }
     {
+        if only_fitting {
+            return self.fill_fitting(place, taken, from, most);
+        }
+        self.fill_all(place, items, taken, from, most)
+    }
+
+    // Takes packets of the sender at a place into `taken`, from its place `from` on, up to `most`, while its queue has room for them.
+    fn fill_fitting(&mut self, place: usize, taken: &mut [Taken], from: usize, most: usize) -> usize
+        requires there { place < length self.old.outlets }
+        requires within { (from ≤ most) × (most ≤ length taken.old) }
+        ensures count { (from ≤ result) × (result ≤ most) }
+        ensures taken { (old : Seen) (before : List Taken) → AreTaken old (seen self.old) before taken.old from → AreTaken old (seen self.new) before taken.new result }
+        ensures of_sender { AreOf self.old.course.setup place (drop from (take result taken.new)) }
+        ensures front { take from taken.new ≡ take from taken.old }
+        ensures gave_all { result < most → GaveAllWanted true self.old self.new place }
+        ensures accepted { AllAccepted (take from taken.old) → AllAccepted (take result taken.new) }
+        ensures full { StayFull self.old.course self.new.course }
+        ensures outlets { AllGoOn self.old.outlets self.new.outlets }
+        ensures unchanged { (self.new.turn ≡ self.old.turn) × (self.new.course.setup ≡ self.old.course.setup) }
+    {
         let mut count = from;
         while count < most {
-            let Some(one) = self.take_one(place, only_fitting) else {
+            let Some(one) = self.take_fitting(place) else {
                 return count;
             };
             taken[count] = one;
             count += 1;
         }
         count
+    }
+
+    // Takes packets of the sender at a place into `taken`, from its place `from` on, up to `most`, one run after another.
+    fn fill_all(
+        &mut self,
+        place: usize,
+        items: &mut [Item; RUN],
+        taken: &mut [Taken],
+        from: usize,
+        most: usize,
+    ) -> usize
+        requires there { place < length self.old.outlets }
+        requires within { (from ≤ most) × (most ≤ length taken.old) }
+        ensures count { (from ≤ result) × (result ≤ most) }
+        ensures taken { (old : Seen) (before : List Taken) → AreTaken old (seen self.old) before taken.old from → AreTaken old (seen self.new) before taken.new result }
+        ensures of_sender { AreOf self.old.course.setup place (drop from (take result taken.new)) }
+        ensures front { take from taken.new ≡ take from taken.old }
+        ensures gave_all { result < most → GaveAll self.old.outlets self.new.outlets place }
+        ensures full { StayFull self.old.course self.new.course }
+        ensures outlets { AllGoOn self.old.outlets self.new.outlets }
+        ensures unchanged { (self.new.turn ≡ self.old.turn) × (self.new.course.setup ≡ self.old.course.setup) }
+    {
+        let mut count = from;
+        while count < most {
+            let end = count + RUN.min(most - count);
+            let next = self.take_run(place, items, taken, count, end);
+            if next < end {
+                return next;
+            }
+            count = next;
+        }
+        count
+    }
+
+    // Takes a run of packets of the sender at a place into `taken`, from its place `from` on, up to `most`. The ring is looked at once.
+    fn take_run(
+        &mut self,
+        place: usize,
+        items: &mut [Item; RUN],
+        taken: &mut [Taken],
+        from: usize,
+        most: usize,
+    ) -> usize
+        requires there { place < length self.old.outlets }
+        requires within { (from ≤ most) × (most ≤ length taken.old) }
+        requires run { most ≤ from + RUN }
+        ensures count { (from ≤ result) × (result ≤ most) }
+        ensures taken { (old : Seen) (before : List Taken) → AreTaken old (seen self.old) before taken.old from → AreTaken old (seen self.new) before taken.new result }
+        ensures of_sender { AreOf self.old.course.setup place (drop from (take result taken.new)) }
+        ensures front { take from taken.new ≡ take from taken.old }
+        ensures gave_all { result < most → GaveAll self.old.outlets self.new.outlets place }
+        ensures full { StayFull self.old.course self.new.course }
+        ensures outlets { AllGoOn self.old.outlets self.new.outlets }
+        ensures unchanged { (self.new.turn ≡ self.old.turn) × (self.new.course.setup ≡ self.old.course.setup) }
+    {
+        let (wanted, _) = items.split_at_mut(most - from);
+        let count = self.outlets[place].take_many(wanted);
+        let (run, _) = wanted.split_at(count);
+        offer_run(&mut self.router, &mut self.tokens, place, run, taken, from);
+        from + count
     }
 
     /// Takes packets from the inlet of the sender at this place into the start of `taken`, as many as wait there and fit. Offers each to the
@@ -160,8 +237,9 @@ impl Live {
         ensures outlets { AllGoOn self.old.outlets self.new.outlets }
         ensures turn { self.new.turn ≡ self.old.turn }
     {
+        let mut items = [NO_ITEM; RUN];
         let most = taken.len();
-        self.fill(place, false, taken, 0, most)
+        self.fill(place, false, &mut items, taken, 0, most)
     }
 
     /// Takes packets from all inlets in one round over the senders, at most `each` from each, into the start of `taken`. Offers each to its
@@ -202,8 +280,9 @@ impl Live {
         let _ = self.router.senders();
         let places = self.outlets.len();
         let start = self.starts_at();
-        let (count, next) = self.sweep(start, places, only_fitting, each, taken, 0);
-        let (count, again) = self.sweep(0, start, only_fitting, each, taken, count);
+        let mut items = [NO_ITEM; RUN];
+        let (count, next) = self.sweep(start, places, only_fitting, each, &mut items, taken, 0);
+        let (count, again) = self.sweep(0, start, only_fitting, each, &mut items, taken, count);
         self.turn = if next < places { next } else { again };
         count
     }
@@ -228,6 +307,7 @@ impl Live {
         end: usize,
         only_fitting: bool,
         each: usize,
+        items: &mut [Item; RUN],
         taken: &mut [Taken],
         from: usize,
     ) -> (usize, usize)
@@ -251,7 +331,7 @@ impl Live {
         let mut place = first;
         while place < end && count < taken.len() {
             let most = count + each.min(taken.len() - count);
-            count = self.fill(place, only_fitting, taken, count, most);
+            count = self.fill(place, only_fitting, items, taken, count, most);
             place += 1;
         }
         (count, place)

@@ -1,11 +1,9 @@
 -- What the parts of a live router have to do with each other, at any time.
-use Rattle.std.specs.Prelude.{◌≡◌, ℕ, ◌+◌, ◌≤◌, ◌^◌, List, length, map, Option, Some, None, slice_get}
+use Rattle.std.specs.Prelude.{◌≡◌, ℕ, ◌+◌, ◌≤◌, ◌^◌, List, length, Option, Some, None, slice_get}
 use Rattle.std.specs.List.{AllByRecursion, AllZip}
 use Rattle.circular_buffer.specs.Buffer.{Buffer}
-use Rattle.clk_inlet.specs.Halves.{taken}
 use Rattle.clk_inlet.specs.Limits.{most_packets}
 use Rattle.clk_inlet.specs.declared.item.Item.{Item}
-use Rattle.clk_inlet.specs.declared.outlet.Outlet.{Outlet}
 use Rattle.clk_sched.specs.FewHeads.{drrs_above}
 use Rattle.clk_sched.specs.Tree.{Tree, root}
 use Rattle.clk_tree.specs.PlanParts.{SendsWithin}
@@ -16,9 +14,9 @@ use Rattle.clk_live.specs.Outcome.{AreOffersOf}
 use Rattle.clk_live.specs.State.{IsTokenOf}
 
 -- What was taken from a sender's inlet is what the sender offered, and no more than an inlet takes in all.
-pub record AreOffered (events : List Event) (s : ℕ) (o : Outlet) : Type 0 where
-  pub lengths : AreOffersOf events s (taken o)
-  pub few : length (taken o) ≤ most_packets
+pub record AreOffered (events : List Event) (s : ℕ) (its : List Item) : Type 0 where
+  pub lengths : AreOffersOf events s its
+  pub few : length its ≤ most_packets
 
 -- how many DRRScheds stand above a queue in the tree of its device
 abbrev pub drrs_in : Option Tree → ℕ → ℕ
@@ -34,11 +32,11 @@ pub record AreTokens (setup : Setup) (events : List Event) (items : List (List I
   pub tokens : AllZip (IsTokenOf setup items) (inside_of setup room.device q events) b.items
   pub capacity : b.capacity ≡ most_inside setup q room
 
--- The outlets and tokens of a live router stand as its course says.
-pub record IsKept (c : Course) (outlets : List Outlet) (buffers : List (Buffer ℕ)) : Type 0 where
-  pub places : length outlets ≡ length c.setup.senders
-  pub few_places : length outlets ≤ 2 ^ 16
+-- The tokens of a live router stand as its course says, and so do the packets that were taken from each sender's inlet, by place.
+pub record IsKept (c : Course) (items : List (List Item)) (buffers : List (Buffer ℕ)) : Type 0 where
+  pub places : length items ≡ length c.setup.senders
+  pub few_places : length items ≤ 2 ^ 16
   pub wired : AllByRecursion (SendsWithin (length c.setup.queues)) c.setup.senders
-  pub offers : (place : ℕ) (o : Outlet) (s : ℕ) → slice_get outlets place ≡ Some o → sender_at c.setup place ≡ Some s → AreOffered c.events s o
+  pub offers : (place : ℕ) (its : List Item) (s : ℕ) → slice_get items place ≡ Some its → sender_at c.setup place ≡ Some s → AreOffered c.events s its
   pub queues : length buffers ≡ length c.setup.queues
-  pub tokens : (q : ℕ) (room : Room) (b : Buffer ℕ) → slice_get c.setup.queues q ≡ Some room → slice_get buffers q ≡ Some b → AreTokens c.setup c.events (map taken outlets) q room b
+  pub tokens : (q : ℕ) (room : Room) (b : Buffer ℕ) → slice_get c.setup.queues q ≡ Some room → slice_get buffers q ≡ Some b → AreTokens c.setup c.events items q room b

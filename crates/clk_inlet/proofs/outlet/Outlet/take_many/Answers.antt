@@ -4,7 +4,7 @@ use Rattle.rtrb.specs.Fifo.{Allowed}
 use Rattle.clk_inlet.specs.Items.{MayFollow, has_end}
 use Rattle.clk_inlet.specs.Halves.{popped, taken}
 use Rattle.clk_inlet.specs.declared.item.Item.{Item}
-use Rattle.clk_inlet.proofs.Taking.{Batch, none_among, front_allowed, ended, goes_on, grows, all_seen, in_order, one_ring}
+use Rattle.clk_inlet.proofs.Taking.{Batch, none_among, front_allowed, ended, at_end, goes_on, keeps, grows, all_seen, in_order, one_ring}
 use Rattle.clk_inlet.proofs.outlet.Outlet.take_many.Goals as goal
 use Rattle.clk_inlet.proofs.outlet.Outlet.take_many.Goals.{After-pop_seen}
 
@@ -44,6 +44,14 @@ returns-then-items-count-eq0-clause-may_follow c =
     let b = batch (goal.at.returns-then-items-count-eq0-clause-may_follow c).After-pop_seen in
     subst (Allowed MayFollow (popped c.args.self.now)) (sym (take-set c.pop_seen.new.items (c.seen_up_to-count.result - 1) _)) (front_allowed b)
 
+pub returns-then-items-count-eq0-clause-keeps : goal.returns-then-items-count-eq0-clause-keeps
+returns-then-items-count-eq0-clause-keeps c = keeps (batch (goal.at.returns-then-items-count-eq0-clause-keeps c).After-pop_seen)
+
+pub returns-then-items-count-eq0-clause-packets_popped : goal.returns-then-items-count-eq0-clause-packets_popped
+returns-then-items-count-eq0-clause-packets_popped c =
+    let ended_now = at_end (batch (goal.at.returns-then-items-count-eq0-clause-packets_popped c).After-pop_seen) c.if-items-count-eq0.true in
+    λ goes_on_yet. absurd (grind (arith, ended_now, goes_on_yet))
+
 pub returns-then-items-count-eq0-clause-grows : goal.returns-then-items-count-eq0-clause-grows
 returns-then-items-count-eq0-clause-grows c = grows (batch (goal.at.returns-then-items-count-eq0-clause-grows c).After-pop_seen)
 
@@ -65,6 +73,12 @@ returns-clause-taken c = (goes_on (batch (goal.at.returns-clause-taken c).After-
 
 pub returns-clause-all_seen : goal.returns-clause-all_seen
 returns-clause-all_seen c = λ fewer goes_on_yet. all_seen (batch (goal.at.returns-clause-all_seen c).After-pop_seen) (c.seen_up_to-count.ensures.all fewer)
+
+pub returns-clause-keeps : goal.returns-clause-keeps
+returns-clause-keeps c = keeps (batch (goal.at.returns-clause-keeps c).After-pop_seen)
+
+pub returns-clause-packets_popped : goal.returns-clause-packets_popped
+returns-clause-packets_popped c = λ goes_on_yet. (batch (goal.at.returns-clause-packets_popped c).After-pop_seen).received
 
 pub returns-clause-grows : goal.returns-clause-grows
 returns-clause-grows c = grows (batch (goal.at.returns-clause-grows c).After-pop_seen)

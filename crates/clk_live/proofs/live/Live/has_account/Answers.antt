@@ -6,7 +6,6 @@ use Rattle.clk_tree.specs.PlanParts.{number_of}
 use Rattle.clk_live.specs.State.{LiveState}
 use Rattle.clk_live.specs.Outcome.{AreOffersOf, AreAllOffered}
 use Rattle.clk_live.proofs.Lists.{zip-at}
-use Rattle.clk_live.proofs.Steps.{outlet-of}
 use Rattle.clk_live.proofs.live.Live.has_account.Goals as goal
 
 pub returns-clause-offered : goal.returns-clause-offered
@@ -14,5 +13,5 @@ returns-clause-offered c =
     let i = c.self.inside in
     let kept = c.self.invariant in
     subst (λ (l : LiveState). AreAllOffered l.course (map taken l.outlets)) c.self.view_is
-    (zip-at (AreOffersOf i.router.events) (sender_numbers i.router.setup) (map taken i.outlets.items) (length-map i.router.setup.senders number_of ∙ sym kept.places ∙ sym (length-map i.outlets.items taken))
-    (λ place s items at here. let o = outlet-of i.outlets.items place items here in subst (AreOffersOf i.router.events s) o.2 (kept.offers place o.0 s o.1 at).lengths))
+    (zip-at (AreOffersOf i.router.events) (sender_numbers i.router.setup) (map taken i.outlets.items) (length-map i.router.setup.senders number_of ∙ sym kept.places)
+    (λ place s items at here. (kept.offers place items s here at).lengths))

@@ -2,12 +2,16 @@ use Rattle.std.proofs.Common.{◌≡◌, ◌∙◌, List, map, refl, sym, ap, su
 use Rattle.clk_inlet.specs.Halves.{offered, taken}
 use Rattle.clk_inlet.specs.declared.item.Item.{Item}
 use Rattle.clk_live.specs.State.{LiveState, seen}
+use Rattle.clk_live.specs.inside.Kept.{IsKept}
 use Rattle.clk_live.specs.Outcome.{AreAllEnded}
-use Rattle.clk_live.proofs.Meetings.{all-same, ended-same, items-same, kept-looked}
+use Rattle.clk_live.proofs.Meetings.{all-same, ended-same, taken-same}
 use Rattle.clk_live.proofs.live.Live.has_taken_all.Goals as goal
 
 pub invariant_of-self : goal.invariant_of-self
-invariant_of-self c = kept-looked c.self.inside.router c.self.inside.outlets.items c.look_beside.new.outlets.items c.self.inside.tokens.items c.self.invariant c.look_beside.ensures.popped
+invariant_of-self c =
+    let i = c.self.inside in
+    let same = taken-same i.outlets.items c.look_beside.new.outlets.items c.look_beside.ensures.popped in
+    subst (λ (items : List (List Item)). IsKept i.router items i.tokens.items) (sym same) c.self.invariant
 
 pub returns-clause-taken : goal.returns-clause-taken
 returns-clause-taken c =
@@ -19,7 +23,7 @@ returns-clause-taken c =
 pub returns-clause-unchanged : goal.returns-clause-unchanged
 returns-clause-unchanged c =
     let i = c.self.inside in
-    let same = items-same i.router i.outlets.items c.look_beside.new.outlets.items i.tokens.items c.self.invariant c.look_beside.ensures.popped in (
+    let same = taken-same i.outlets.items c.look_beside.new.outlets.items c.look_beside.ensures.popped in (
       subst (λ (l : LiveState). record { course = i.router; items = map taken c.look_beside.new.outlets.items } ≡ seen l) c.self.view_is (ap (λ (items : List (List Item)). record { course = i.router; items = items }) same),
       subst (λ (l : LiveState). i.turn ≡ l.turn) c.self.view_is refl,
       c.look_beside.ensures.pushed,

@@ -1,5 +1,7 @@
 use Rattle.std.proofs.Common.{◌≡◌, ◌<◌, length, Some, slice_get, get_or, sym, subst, arith}
 use Rattle.std.proofs.lemmas.Bool.Decides.{nat_tests}
+use Rattle.std.proofs.lemmas.List.{length-map}
+use Rattle.clk_inlet.specs.Halves.{taken}
 use Rattle.clk_tree.specs.declared.plan.parts.SenderSpec.{SenderSpec}
 use Rattle.clk_live.specs.State.{LiveState}
 use Rattle.clk_live.specs.Taking.{IsQueueFull}
@@ -15,7 +17,7 @@ sender : (c : After-accounts)
 sender c =
     let i = c.self.inside in
     let there : c.args.place < length i.outlets.items = rw (← c.self.view_is) at c.requires.there in
-    let x = member i.router.setup.senders c.args.place (omega (arith, there, c.self.invariant.places)) in
+    let x = member i.router.setup.senders c.args.place (let many = length-map i.outlets.items taken in omega (arith, there, many, c.self.invariant.places)) in
     (x.0, x.1, account-queue i.router.events i.router.setup.senders c.accounts.result.now c.args.place x.0 no_account c.accounts.ensures x.1)
 
 pub queue-state-requires : goal.queue-state-requires

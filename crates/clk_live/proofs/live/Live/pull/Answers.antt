@@ -7,7 +7,7 @@ use Rattle.clk_live.proofs.live.Live.pull.Goals.{After-has_happened-2, After-acc
 use Rattle.clk_live.proofs.live.Live.pull.Goals as goal
 
 -- the device was pulled once
-pulls : (c : After-has_happened-2) → PullsOnce c.self.inside.router c.pull-packet.new.self c.self.inside.outlets.items c.self.inside.tokens.items c.args.device c.args.moment c.pull-packet.result
+pulls : (c : After-has_happened-2) → PullsOnce c.self.inside.router c.pull-packet.new.self (map taken c.self.inside.outlets.items) c.self.inside.tokens.items c.args.device c.args.moment c.pull-packet.result
 pulls c = record {
   stand = record { kept = c.self.invariant; law = c.queues_go_on.ensures; rising = rw c.senders.ensures.numbers at c.senders.ensures.rising; can = c.has_happened.ensures };
   pull = c.pull-packet.ensures.pulled;

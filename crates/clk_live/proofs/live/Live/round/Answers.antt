@@ -1,6 +1,7 @@
 use Rattle.std.proofs.Common.{◌≡◌, ◌≤◌, nat_lt, true, false, if◌then◌else◌, ◌∙◌, length, take, sym, ap, subst, arith}
 use Rattle.std.proofs.lemmas.List.{length-map, take_all}
 use Rattle.std.proofs.lemmas.Bool.Decides.{nat_tests}
+use Rattle.clk_inlet.specs.Halves.{taken}
 use Rattle.clk_packet.specs.Lists.{AreRising}
 use Rattle.clk_live.proofs.Lists.{zip-length}
 use Rattle.clk_router.specs.Events.{Setup, sender_numbers}
@@ -35,7 +36,7 @@ returns-clause-shares c =
     let old = c.args.self.now in
     let places : c.len-places.result ≡ length (sender_numbers old.course.setup) =
     subst (λ (l : LiveState). c.len-places.result ≡ length (sender_numbers l.course.setup)) c.self.view_is
-    (let many = c.len-places.ensures in let same = c.self.invariant.places in let numbers = length-map c.self.inside.router.setup.senders number_of in omega (arith, many, same, numbers))
+    (let many = c.len-places.ensures in let same = sym (length-map c.self.inside.outlets.items taken) ∙ c.self.invariant.places in let numbers = length-map c.self.inside.router.setup.senders number_of in omega (arith, many, same, numbers))
     in
     let flag = c.args.only_fitting in
     let turn = c.if-next-places.self in

@@ -1,5 +1,6 @@
 use Rattle.std.proofs.Common.{◌≡◌, ℕ, ◌+◌, ◌-◌, ◌<◌, ◌≤◌, ◌∙◌, ◌⊎◌, inl, inr, min, length, take, drop, refl, sym, ap, subst, arith}
 use Rattle.std.proofs.lemmas.List.{length-map, take-take}
+use Rattle.clk_inlet.specs.Halves.{taken}
 use Rattle.clk_packet.specs.Lists.{AreRising}
 use Rattle.clk_router.specs.Course.{sender_at}
 use Rattle.clk_router.specs.Events.{Setup, sender_numbers}
@@ -41,7 +42,7 @@ loop-place-preserved c =
     let f = c.fill-count in
     let old = c.args.self.now in
     let rising : AreRising (sender_numbers old.course.setup) = subst (λ (s : LiveState). AreRising (sender_numbers s.course.setup)) c.self.view_is (rw c.senders.ensures.numbers at c.senders.ensures.rising) in
-    let places : length old.outlets ≡ length old.course.setup.senders = subst (λ (s : LiveState). length s.outlets ≡ length s.course.setup.senders) c.self.view_is c.self.invariant.places in
+    let places : length old.outlets ≡ length old.course.setup.senders = subst (λ (s : LiveState). length s.outlets ≡ length s.course.setup.senders) c.self.view_is (sym (length-map c.self.inside.outlets.items taken) ∙ c.self.invariant.places) in
     let same = zip-length GoesOn old.outlets l.self.outlets inv.5 in
     let later = zip-length GoesOn l.self.outlets f.new.self.outlets f.ensures.outlets in
     let numbers = length-map old.course.setup.senders number_of in
