@@ -14,10 +14,11 @@ pub record DrainPull : Type 0 where
   pub moment : ℕ
   pub got : Option Emitted
 
--- packets are left for a device, or none are
+-- packets are left for a device
 abbrev pub HasLeft : Course → ℕ → Type 0
 HasLeft c device = evicted_at c device + emitted_at c device < accepted_at c device
 
+-- no packet is left for a device
 abbrev pub IsEmptied : Course → ℕ → Type 0
 IsEmptied c device = accepted_at c device ≡ evicted_at c device + emitted_at c device
 
