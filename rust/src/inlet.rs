@@ -1,0 +1,99 @@
+//! Inlets: the way of one sender's packets to a live router.
+
+use std::fmt;
+
+use crate::error::{Error, Rejected};
+use crate::ffi;
+
+/// The way of one sender's packets to a [`LiveRouter`](crate::LiveRouter): a ring with room for a fixed number of packets.
+///
+/// [`LiveRouter::inlet`](crate::LiveRouter::inlet) hands it out. It may go to another thread. No call waits or takes a lock. An offer
+/// allocates only when more values are inside than ever before.
+///
+/// Dropping it closes it: the router still takes the packets that are in the ring, and then learns that no more follow. An inlet may outlive
+/// its router. Nobody takes packets then: offers are accepted until the ring is full, and their values are dropped with the inlet.
+///
+/// ```
+/// use clickpull::{Error, LiveRouter};
+///
+/// let mut router = LiveRouter::open("a :: Sender(0); q :: Queue(4); d :: ToDevice(eth0); a -> q -> d;", 1)?;
+/// let mut inlet = router.inlet(0)?;
+/// assert_eq!(inlet.offer(1500, "first").unwrap(), 0);
+/// // The ring has room for one packet, and the value comes back.
+/// let rejected = inlet.offer(1500, "second").unwrap_err();
+/// assert_eq!((rejected.value, rejected.error), ("second", Error::Full));
+/// # Ok::<(), Error>(())
+/// ```
+pub struct Inlet<T> {
+    // It is dropped first, so that the router learns of the end before values are dropped.
+    raw: ffi::Inlet,
+    values: ffi::Filling<T>,
+    sender: u16,
+    /// What a token has besides the number of its place.
+    token: u64,
+    /// How many packets fit for sure without asking the ring again.
+    sure: usize,
+    /// How many packets the inlet accepted.
+    accepted: u32,
+}
+
+impl<T> Inlet<T> {
+    /// The inlet of a sender, whose tokens have `token` besides the numbers of their places.
+    pub(crate) fn new(raw: ffi::Inlet, values: ffi::Filling<T>, sender: u16, token: u64) -> Self {
+        Inlet { raw, values, sender, token, sure: 0, accepted: 0 }
+    }
+
+    /// The number of the sender.
+    pub fn sender(&self) -> u16 {
+        self.sender
+    }
+
+    /// Offers the sender's next packet, of `length` bytes, with a value. Returns the number of the packet: how many were accepted before.
+    ///
+    /// # Errors
+    ///
+    /// The value comes back with the error: [`Error::BadLength`] if the length is not from 1 to 65,535, [`Error::Full`] if there is no room
+    /// now, or [`Error::AtEnd`] once 4,294,967,295 packets were accepted. After [`Error::Full`] pause before you offer again: a sender that tries
+    /// again at once slows the router's thread down.
+    #[must_use = "a value that is not accepted comes back"]
+    pub fn offer(&mut self, length: u32, value: T) -> Result<u32, Rejected<T>> {
+        if let Err(error) = self.check(length) {
+            return Err(Rejected { value, error });
+        }
+        let place = self.values.put(value).map_err(|value| Rejected { value, error: Error::Full })?;
+        let number = self.raw.offer(length, self.token | u64::from(place)).expect("a ring with room accepts a packet");
+        self.sure -= 1;
+        self.accepted += 1;
+        Ok(number)
+    }
+
+    /// Whether a packet of this length would be accepted, and why not.
+    fn check(&mut self, length: u32) -> Result<(), Error> {
+        if length == 0 || length > u32::from(u16::MAX) {
+            return Err(Error::BadLength);
+        }
+        if self.sure == 0 {
+            self.sure = self.raw.room();
+        }
+        match (self.sure, self.accepted) {
+            (0, u32::MAX) => Err(Error::AtEnd),
+            (0, _) => Err(Error::Full),
+            _ => Ok(()),
+        }
+    }
+
+    /// How many packets are sure to fit: none of as many next offers returns [`Error::Full`]. More may fit a moment later.
+    pub fn room(&mut self) -> usize {
+        self.sure = self.raw.room();
+        self.sure
+    }
+
+    /// Closes the inlet, as dropping it does. No more packets come, and closing never waits.
+    pub fn close(self) {}
+}
+
+impl<T> fmt::Debug for Inlet<T> {
+    fn fmt(&self, f: &mut fmt::Formatter<'_>) -> fmt::Result {
+        f.debug_struct("Inlet").field("sender", &self.sender).field("accepted", &self.accepted).finish_non_exhaustive()
+    }
+}
