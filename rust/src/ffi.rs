@@ -17,6 +17,8 @@
 //! - An inlet and its router also share atomic variables. For these, coherence follows the same order: a call reads nothing older than
 //!   what an earlier call on its handle read or wrote. So the other side can't tell a handle that moved from one that stayed: what it sees
 //!   of the handle's calls, it sees in their order.
+//! - The library is an archive for x86-64, where each store is a release and each load is an acquire. Rust's compiler moves no call of C across
+//!   the release or the acquire of a hand-over.
 //! - Safe code has no hand-over that orders less. A value that moves between threads without a release and an acquire would be a data race
 //!   with any type, so that all hand-overs of safe Rust have both.
 //!
@@ -28,7 +30,7 @@ use std::sync::atomic::{AtomicU32, Ordering};
 use std::sync::{Arc, OnceLock};
 
 use crate::error::Error;
-use crate::layout::{Fault, RawDeparted, RawEmitted, RawQueue, RawTaken};
+use crate::layout::{Fault, Item, RawDeparted, RawEmitted, RawQueue, RawTaken};
 use crate::status::{done, opened, OK};
 use crate::values::{Account, Departure, Offer, Offered, Packet, Queue};
 
@@ -78,6 +80,7 @@ extern "C" {
     fn clk_router_devices(router: *mut Handle) -> usize;
 
     fn clk_raw_inlet_offer(inlet: *mut Handle, length: u32, token: u64, number: *mut u32) -> u32;
+    fn clk_raw_inlet_offer_many(inlet: *mut Handle, items: *const Item, items_length: usize, done: *mut usize) -> u32;
     fn clk_raw_inlet_room(inlet: *mut Handle) -> usize;
     fn clk_raw_inlet_close(inlet: Handle);
 
@@ -259,19 +262,18 @@ impl Live {
         done(unsafe { clk_raw_live_take(&mut self.0, sender, taken.as_mut_ptr(), taken.len(), &mut given) }).map(|_| given)
     }
 
-    pub(crate) fn take_in(&mut self, each: usize, taken: &mut [RawTaken]) -> usize {
+    pub(crate) fn take_in(&mut self, each: usize, taken: &mut [RawTaken]) -> Result<usize, Error> {
         self.round(clk_raw_live_take_in, each, taken)
     }
 
-    pub(crate) fn take_what_fits(&mut self, each: usize, taken: &mut [RawTaken]) -> usize {
+    pub(crate) fn take_what_fits(&mut self, each: usize, taken: &mut [RawTaken]) -> Result<usize, Error> {
         self.round(clk_raw_live_take_what_fits, each, taken)
     }
 
-    fn round(&mut self, round: Round, each: usize, taken: &mut [RawTaken]) -> usize {
+    fn round(&mut self, round: Round, each: usize, taken: &mut [RawTaken]) -> Result<usize, Error> {
         let mut given = 0;
         // SAFETY: the handle is open, and the call fills at most as many elements as the slice has, laid out as C has them.
-        unsafe { round(&mut self.0, each, taken.as_mut_ptr(), taken.len(), &mut given) };
-        given
+        done(unsafe { round(&mut self.0, each, taken.as_mut_ptr(), taken.len(), &mut given) }).map(|_| given)
     }
 
     pub(crate) fn pull(&mut self, device: u16, moment: u64) -> Result<Option<RawEmitted>, Error> {
@@ -325,6 +327,13 @@ impl Inlet {
         let mut number = 0;
         // SAFETY: the handle is open, and the call fills one number.
         done(unsafe { clk_raw_inlet_offer(&mut self.0, length, token, &mut number) }).map(|_| number)
+    }
+
+    /// Offers packets in order, up to the first that is not accepted.
+    pub(crate) fn offer_many(&mut self, items: &[Item]) -> Result<(), Error> {
+        let mut given = 0;
+        // SAFETY: the handle is open, and the call reads as many items as the slice has, laid out as C has them.
+        done(unsafe { clk_raw_inlet_offer_many(&mut self.0, items.as_ptr(), items.len(), &mut given) }).map(|_| ())
     }
 
     pub(crate) fn room(&mut self) -> usize {

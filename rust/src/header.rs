@@ -3,7 +3,7 @@
 use std::mem::size_of;
 
 use crate::error::{Error, NAMES};
-use crate::layout::{Fault, RawDeparted, RawEmitted, RawQueue, RawTaken};
+use crate::layout::{Fault, Item, RawDeparted, RawEmitted, RawQueue, RawTaken};
 use crate::live::MOST_HELD;
 use crate::values::{Account, Departure, Offer, Offered, Packet, Total, EVICTED, REFUSED};
 use crate::{status, END_OF_MOMENTS, MOST_ROOM, MOST_TAKEN};
@@ -86,6 +86,7 @@ fn structs_have_the_sizes_of_the_header() {
         ("clk_total", size_of::<Total>()),
         ("clk_account", size_of::<Account>()),
         ("clk_queue", size_of::<RawQueue>()),
+        ("clk_item", size_of::<Item>()),
         ("clk_taken", size_of::<RawTaken>()),
         ("clk_emitted", size_of::<RawEmitted>()),
         ("clk_departed", size_of::<RawDeparted>()),

@@ -4,6 +4,10 @@ use std::fmt;
 
 use crate::error::{Error, Rejected};
 use crate::ffi;
+use crate::layout::Item;
+
+/// How many packets are offered at once. The router's thread sees packets in groups of at most so many.
+const MOST_OFFERED: usize = 64;
 
 /// The way of one sender's packets to a [`LiveRouter`](crate::LiveRouter): a ring with room for a fixed number of packets.
 ///
@@ -57,14 +61,66 @@ impl<T> Inlet<T> {
     /// again at once slows the router's thread down.
     #[must_use = "a value that is not accepted comes back"]
     pub fn offer(&mut self, length: u32, value: T) -> Result<u32, Rejected<T>> {
+        let item = self.item(length, value)?;
+        let number = self.raw.offer(item.length, item.token).expect("a ring with room accepts a packet");
+        self.accepted += 1;
+        Ok(number)
+    }
+
+    /// Offers packets in order, each a length and a value, while the inlet has room. It asks `packets` for none that there is no room for.
+    /// Returns how many were accepted. It takes less time than as many calls of [`Inlet::offer`].
+    ///
+    /// ```
+    /// use clickpull::LiveRouter;
+    ///
+    /// let mut router = LiveRouter::open("a :: Sender(0); q :: Queue(4); d :: ToDevice(eth0); a -> q -> d;", 2)?;
+    /// let mut inlet = router.inlet(0)?;
+    /// let mut packets = ["first", "second", "third"].into_iter().map(|it| (1500, it));
+    /// assert_eq!(inlet.offer_many(&mut packets).unwrap(), 2);
+    /// assert_eq!(packets.next(), Some((1500, "third")));
+    /// # Ok::<(), clickpull::Error>(())
+    /// ```
+    ///
+    /// # Errors
+    ///
+    /// [`Error::BadLength`] with the value of the first packet whose length is not from 1 to 65,535. The packets before it were accepted.
+    #[must_use = "a value that is not accepted comes back"]
+    pub fn offer_many(&mut self, packets: &mut impl Iterator<Item = (u32, T)>) -> Result<usize, Rejected<T>> {
+        let mut accepted = 0;
+        loop {
+            let mut items = [Item::default(); MOST_OFFERED];
+            let (mut count, mut end) = (0, Ok(()));
+            let most = self.sure().min(MOST_OFFERED);
+            for (length, value) in packets.by_ref().take(most) {
+                match self.item(length, value) {
+                    Ok(it) => items[count] = it,
+                    Err(it) => {
+                        end = Err(it);
+                        break;
+                    }
+                }
+                count += 1;
+            }
+            if count > 0 {
+                self.raw.offer_many(&items[..count]).expect("a ring with room accepts packets");
+            }
+            self.accepted += count as u32;
+            accepted += count;
+            end?;
+            if count == 0 || count < most {
+                return Ok(accepted);
+            }
+        }
+    }
+
+    /// Puts a value into its place, if a packet of this length fits.
+    fn item(&mut self, length: u32, value: T) -> Result<Item, Rejected<T>> {
         if let Err(error) = self.check(length) {
             return Err(Rejected { value, error });
         }
         let place = self.values.put(value).map_err(|value| Rejected { value, error: Error::Full })?;
-        let number = self.raw.offer(length, self.token | u64::from(place)).expect("a ring with room accepts a packet");
         self.sure -= 1;
-        self.accepted += 1;
-        Ok(number)
+        Ok(Item { token: self.token | u64::from(place), length })
     }
 
     /// Whether a packet of this length would be accepted, and why not.
@@ -72,14 +128,19 @@ impl<T> Inlet<T> {
         if length == 0 || length > u32::from(u16::MAX) {
             return Err(Error::BadLength);
         }
-        if self.sure == 0 {
-            self.sure = self.raw.room();
-        }
-        match (self.sure, self.accepted) {
+        match (self.sure(), self.accepted) {
             (0, u32::MAX) => Err(Error::AtEnd),
             (0, _) => Err(Error::Full),
             _ => Ok(()),
         }
+    }
+
+    /// How many packets fit for sure. The ring is asked only once that many were offered.
+    fn sure(&mut self) -> usize {
+        if self.sure == 0 {
+            self.sure = self.raw.room();
+        }
+        self.sure
     }
 
     /// How many packets are sure to fit: none of as many next offers returns [`Error::Full`]. More may fit a moment later.

@@ -20,6 +20,14 @@ pub(crate) struct RawQueue {
     pub(crate) front_drop: u16,
 }
 
+/// A `clk_item`.
+#[repr(C)]
+#[derive(Clone, Copy, Default)]
+pub(crate) struct Item {
+    pub(crate) token: u64,
+    pub(crate) length: u32,
+}
+
 /// A `clk_taken`.
 #[repr(C)]
 #[derive(Clone, Copy, Default)]

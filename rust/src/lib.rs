@@ -80,6 +80,8 @@ mod inlet;
 mod layout;
 mod live;
 mod router;
+#[cfg(doctest)]
+mod sharing;
 mod status;
 #[cfg(test)]
 mod table_tests;

@@ -6,6 +6,7 @@ use std::iter::FusedIterator;
 use crate::error::Error;
 use crate::ffi::{self, table, Emptying};
 use crate::inlet::Inlet;
+use crate::layout::RawTaken;
 use crate::router::{Progress, Stop};
 use crate::takes::{Batch, Takes};
 use crate::values::{Account, Packet, Queue};
@@ -143,23 +144,21 @@ impl<T> LiveRouter<T> {
     /// Takes packets in one round over all senders, at most `each` from each, as [`LiveRouter::take`] does. If it takes as many as it may, the
     /// round ends early, and the next one starts at the next sender: so each sender has its turn.
     pub fn take_in(&mut self, each: usize, count: usize) -> Takes<'_, T> {
-        let Ok(it) = self.takes(count, |raw, places| Ok::<_, std::convert::Infallible>(raw.take_in(each, places)));
-        it
+        self.takes(count, |raw, places| raw.take_in(each, places)).expect("a round over all senders does not fail")
     }
 
     /// Does what [`LiveRouter::take_in`] does, but leaves a packet in its inlet while its queue is full. So each packet that is taken is accepted,
     /// and none is evicted.
     pub fn take_what_fits(&mut self, each: usize, count: usize) -> Takes<'_, T> {
-        let Ok(it) = self.takes(count, |raw, places| Ok::<_, std::convert::Infallible>(raw.take_what_fits(each, places)));
-        it
+        self.takes(count, |raw, places| raw.take_what_fits(each, places)).expect("a round over all senders does not fail")
     }
 
-    /// What `take` takes, which fills places and returns how many.
-    fn takes<E>(
+    /// What `take` takes: it fills `count` places at most, and returns how many.
+    fn takes(
         &mut self,
         count: usize,
-        take: impl FnOnce(&mut ffi::Live, &mut [crate::layout::RawTaken]) -> Result<usize, E>,
-    ) -> Result<Takes<'_, T>, E> {
+        take: impl FnOnce(&mut ffi::Live, &mut [RawTaken]) -> Result<usize, Error>,
+    ) -> Result<Takes<'_, T>, Error> {
         // If an earlier iterator was leaked, or a value panicked as it was dropped, values of its packets are still in their places.
         drop(Takes::new(&mut self.batch, &mut self.lines));
         self.batch.fill(count, |places| take(&mut self.raw, places))?;

@@ -1,7 +1,7 @@
 //! Tests of the table of values alone.
 
-use std::sync::atomic::{AtomicUsize, Ordering};
-use std::sync::{mpsc, Arc};
+use std::sync::atomic::{AtomicU32, AtomicUsize, Ordering};
+use std::sync::Arc;
 use std::thread;
 
 use crate::ffi::table;
@@ -89,34 +89,50 @@ fn each_value_is_dropped_once() {
     }
 }
 
-#[test]
-fn halves_may_be_on_two_threads() {
-    const VALUES: usize = 100_000;
-    let (mut filling, mut emptying) = table(7);
-    let (sender, receiver) = mpsc::channel();
-    let filler = thread::spawn(move || {
-        for it in 0..VALUES {
-            let mut value = Box::new(it);
-            let number = loop {
-                match filling.put(value) {
-                    Ok(number) => break number,
-                    Err(it) => value = it,
-                }
-                thread::yield_now();
-            };
-            sender.send(number).unwrap();
-        }
-    });
-    let mut waiting = Vec::new();
-    let mut sum = 0;
-    for number in receiver {
-        waiting.push(number);
-        // Of each three the latest comes out first.
-        if waiting.len() == 3 {
-            sum += waiting.drain(..).rev().map(|it| *emptying.take(it).unwrap()).sum::<usize>();
+/// Hands a number over in an order of memory that promises nothing.
+fn hand_over(places: &[AtomicU32], turn: usize, number: u32) {
+    let place = &places[turn % places.len()];
+    while place.compare_exchange(0, number + 1, Ordering::Relaxed, Ordering::Relaxed).is_err() {
+        thread::yield_now();
+    }
+}
+
+/// The number that was handed over in a turn.
+fn received(places: &[AtomicU32], turn: usize) -> u32 {
+    loop {
+        match places[turn % places.len()].swap(0, Ordering::Relaxed) {
+            0 => thread::yield_now(),
+            it => return it - 1,
         }
     }
-    sum += waiting.drain(..).map(|it| *emptying.take(it).unwrap()).sum::<usize>();
-    filler.join().unwrap();
+}
+
+/// The order of the halves is their own: it does not rest on the way by which numbers are told.
+#[test]
+fn halves_may_be_on_two_threads() {
+    const VALUES: usize = 60_000;
+    let (mut filling, mut emptying) = table(7);
+    let places: Vec<AtomicU32> = (0..4).map(|_| AtomicU32::new(0)).collect();
+    let sum: usize = thread::scope(|scope| {
+        scope.spawn(|| {
+            for it in 0..VALUES {
+                let mut value = Box::new(it);
+                let number = loop {
+                    match filling.put(value) {
+                        Ok(number) => break number,
+                        Err(it) => value = it,
+                    }
+                    thread::yield_now();
+                };
+                hand_over(&places, it, number);
+            }
+        });
+        // Of each three values the latest comes out first.
+        let mut out = |first: usize| {
+            let numbers: Vec<u32> = (first..first + 3).map(|it| received(&places, it)).collect();
+            numbers.into_iter().rev().map(|it| *std::iter::repeat_with(|| emptying.take(it)).find_map(|it| it).unwrap()).sum::<usize>()
+        };
+        (0..VALUES).step_by(3).map(&mut out).sum()
+    });
     assert_eq!(sum, VALUES * (VALUES - 1) / 2);
 }

@@ -3,6 +3,7 @@
 use std::fmt;
 use std::iter::FusedIterator;
 
+use crate::error::Error;
 use crate::layout::RawTaken;
 use crate::live::Lines;
 use crate::values::{Packet, EVICTED, REFUSED};
@@ -59,7 +60,7 @@ impl Batch {
     }
 
     /// Has `take` fill the first places, `count` at most, and return how many it filled. What was there is gone.
-    pub(crate) fn fill<E>(&mut self, count: usize, take: impl FnOnce(&mut [RawTaken]) -> Result<usize, E>) -> Result<(), E> {
+    pub(crate) fn fill(&mut self, count: usize, take: impl FnOnce(&mut [RawTaken]) -> Result<usize, Error>) -> Result<(), Error> {
         self.end = 0;
         self.next = 0;
         self.end = take(&mut self.taken[..count.min(MOST_TAKEN)])?;

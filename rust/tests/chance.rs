@@ -13,6 +13,9 @@ use common::{Chance, Drops, Value};
 const CALLS: usize = 100_000;
 const CALLS_OF_ONE: usize = 300;
 
+/// How many packets are offered at once.
+const MANY: usize = 6;
+
 /// A router with its inlets, beside the model of them.
 struct Run {
     chance: Chance,
@@ -47,13 +50,14 @@ impl Run {
         let model = Model::random(&mut chance);
         let mut router = LiveRouter::open(&model.text(), model.room as u32).unwrap();
         let inlets = model.senders.iter().map(|it| Some(router.inlet(u32::from(it.number)).unwrap())).collect();
-        Run { chance, model, router, inlets, drops: Drops::of(CALLS_OF_ONE), values: 0, leaked: Vec::new() }
+        Run { chance, model, router, inlets, drops: Drops::of(CALLS_OF_ONE * MANY), values: 0, leaked: Vec::new() }
     }
 
     /// Makes a call.
     fn call(&mut self) {
         match self.chance.below(16) {
-            0..=6 => self.offer(),
+            0..=5 => self.offer(),
+            6 => self.offer_many(),
             7..=9 => self.take(),
             10 => self.pull(),
             11 => self.pull_many(),
@@ -77,6 +81,29 @@ impl Run {
         });
         assert_eq!(found, wanted);
         self.values += 1;
+    }
+
+    fn offer_many(&mut self) {
+        let at = self.chance.below(self.inlets.len());
+        let Some(inlet) = &mut self.inlets[at] else { return };
+        let bad = if self.chance.once_in(3) { self.chance.below(6) } else { MANY };
+        let length = |it| if it == bad { 0 } else { 1 + it as u32 };
+        let (first, drops) = (self.values, &self.drops);
+        let mut packets = (0..MANY).map(|it| (length(it), drops.value(first + it)));
+        let found = inlet.offer_many(&mut packets).map_err(|it| (number(it.value, drops), it.error));
+        self.values += MANY - packets.len();
+        let mut wanted = Ok(0);
+        for it in 0..MANY {
+            if self.model.room(at) == 0 {
+                break;
+            }
+            if let Err(error) = self.model.offer(at, length(it), first + it) {
+                wanted = Err((first + it, error));
+                break;
+            }
+            wanted = wanted.map(|count| count + 1);
+        }
+        assert_eq!(found, wanted);
     }
 
     fn room(&mut self) {
