@@ -150,11 +150,12 @@ fn a_value_may_panic_as_it_is_dropped() {
     assert!(catch_unwind(AssertUnwindSafe(|| drop(router.take(0, 3)))).is_err());
     assert_eq!(drops.load(Ordering::Relaxed), 2);
     mem::forget(router.take(0, 1).unwrap());
-    mem::forget(router.pull(0, 0).unwrap());
-    drop(inlet);
-    // The last refused value is still inside; all of them are dropped once.
-    assert!(catch_unwind(AssertUnwindSafe(|| drop(router))).is_err());
+    assert!(catch_unwind(AssertUnwindSafe(|| drop(router.pull(0, 0)))).is_err());
     assert_eq!(drops.load(Ordering::Relaxed), 3);
+    drop(inlet);
+    // The last refused value is still inside; each is dropped once.
+    assert!(catch_unwind(AssertUnwindSafe(|| drop(router))).is_err());
+    assert_eq!(drops.load(Ordering::Relaxed), 4);
 }
 
 #[test]

@@ -3,6 +3,7 @@
 mod common;
 
 use std::env;
+use std::sync::atomic::{AtomicBool, Ordering};
 use std::thread;
 
 use clickpull::{Inlet, LiveRouter, Packet, Taken};
@@ -19,15 +20,27 @@ fn length(sender: usize, number: usize) -> u32 {
     (1 + (sender * 7919 + number * 31) % 1500) as u32
 }
 
-/// Offers so many packets, and tries again while the inlet is full.
-fn produce(mut inlet: Inlet<Value>, drops: &Drops, packets: usize) {
+/// Offers so many packets, and tries again while the inlet is full, unless the owner is gone.
+fn produce(mut inlet: Inlet<Value>, drops: &Drops, packets: usize, is_over: &AtomicBool) {
     let sender = usize::from(inlet.sender());
     for number in 0..packets {
         let mut value = drops.value(sender * packets + number);
         while let Err(it) = inlet.offer(length(sender, number), value) {
+            if is_over.load(Ordering::Relaxed) {
+                return;
+            }
             value = it.value;
             thread::yield_now();
         }
+    }
+}
+
+/// Says that the owner is gone, also if it panics.
+struct Owner<'a>(&'a AtomicBool);
+
+impl Drop for Owner<'_> {
+    fn drop(&mut self) {
+        self.0.store(true, Ordering::Relaxed);
     }
 }
 
@@ -86,13 +99,14 @@ fn serve(router: &mut LiveRouter<Value>, packets: usize, what_fits: bool) -> Tal
 
 /// All packets of four producers come back, each with its value.
 fn run(packets: usize, room: u32, what_fits: bool) {
-    let drops = Drops::of(SENDERS * packets);
+    let (drops, is_over) = (Drops::of(SENDERS * packets), AtomicBool::new(false));
     let mut router = LiveRouter::open(TREE, room).unwrap();
     let inlets: Vec<_> = (0..SENDERS).map(|it| router.inlet(it as u32).unwrap()).collect();
     let tally = thread::scope(|scope| {
         for inlet in inlets {
-            scope.spawn(|| produce(inlet, &drops, packets));
+            scope.spawn(|| produce(inlet, &drops, packets, &is_over));
         }
+        let _owner = Owner(&is_over);
         serve(&mut router, packets, what_fits)
     });
     assert_eq!(tally.taken, [packets; SENDERS]);
