@@ -86,8 +86,8 @@ def header_is_the_same(setting: Setting) -> str:
 
 def tests_pass(setting: Setting) -> str:
     """The tests, those in the documentation too."""
-    told = cargo(setting, "test", "--offline", "--locked")
-    return f"{sum(map(int, re.findall(r'(\d+) passed', told)))} tests"
+    passed = re.findall(r"(\d+) passed", cargo(setting, "test", "--offline", "--locked"))
+    return f"{sum(map(int, passed))} tests"
 
 
 def brings_no_warning(setting: Setting) -> str:
