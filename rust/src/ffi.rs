@@ -203,6 +203,7 @@ impl Router {
         opened(status, &fault, text, || Router(at))
     }
 
+    #[inline]
     pub(crate) fn offer(&mut self, sender: u32, length: u32) -> Result<Offered, Error> {
         let mut offered = Offered::default();
         // SAFETY: the handle is open, and the call fills one offer, which is laid out as C has it.
@@ -210,6 +211,7 @@ impl Router {
     }
 
     /// Offers as many as both slices have. Returns how many were offered, and why no more.
+    #[inline]
     pub(crate) fn offer_many(&mut self, offers: &[Offer], offered: &mut [Offered]) -> (usize, Result<(), Error>) {
         let (count, mut given) = (offers.len().min(offered.len()), 0);
         // SAFETY: the handle is open, both slices have `count` elements, and the call fills as many as it offers.
@@ -217,12 +219,14 @@ impl Router {
         (given, done(status).map(|_| ()))
     }
 
+    #[inline]
     pub(crate) fn pull(&mut self, device: u16, moment: u64) -> Result<Option<Packet>, Error> {
         let mut packet = Packet::default();
         // SAFETY: the handle is open, and the call fills one packet, which is laid out as C has it.
         done(unsafe { clk_router_pull(&mut self.0, device, moment, &mut packet) }).map(|is_emitted| is_emitted.then_some(packet))
     }
 
+    #[inline]
     pub(crate) fn pull_many(&mut self, device: u16, moment: u64, packets: &mut [Packet]) -> Result<usize, Error> {
         let mut given = 0;
         // SAFETY: the handle is open, and the call fills at most as many packets as the slice has.
@@ -231,6 +235,7 @@ impl Router {
     }
 
     /// Drains up to the first packet that is emitted, or `pulls` pulls. Returns the packet, and whether nothing is left.
+    #[inline]
     pub(crate) fn drain_one(&mut self, device: u16, pulls: u64) -> Result<(Option<Departure>, bool), Error> {
         let (mut departure, mut given) = (Departure::default(), 0);
         // SAFETY: the handle is open, and the call fills at most one departure, which is laid out as C has it.
@@ -256,6 +261,7 @@ impl Live {
         done(unsafe { clk_raw_live_inlet(&mut self.0, sender, &mut at) }).map(|_| Inlet(at))
     }
 
+    #[inline]
     pub(crate) fn take(&mut self, sender: u32, taken: &mut [RawTaken]) -> Result<usize, Error> {
         let mut given = 0;
         // SAFETY: the handle is open, and the call fills at most as many elements as the slice has, laid out as C has them.
@@ -276,6 +282,7 @@ impl Live {
         done(unsafe { round(&mut self.0, each, taken.as_mut_ptr(), taken.len(), &mut given) }).map(|_| given)
     }
 
+    #[inline]
     pub(crate) fn pull(&mut self, device: u16, moment: u64) -> Result<Option<RawEmitted>, Error> {
         let mut emitted = RawEmitted::default();
         // SAFETY: the handle is open, and the call fills one packet with its token, laid out as C has it.
@@ -283,6 +290,7 @@ impl Live {
     }
 
     /// Drains up to the first packet that is emitted, or `pulls` pulls. Returns the packet, and whether nothing is left.
+    #[inline]
     pub(crate) fn drain_one(&mut self, device: u16, pulls: u64) -> Result<(Option<RawDeparted>, bool), Error> {
         let (mut departed, mut given) = (RawDeparted::default(), 0);
         // SAFETY: the handle is open, and the call fills at most one departure, which is laid out as C has it.
@@ -323,6 +331,7 @@ impl Drop for Inlet {
 }
 
 impl Inlet {
+    #[inline]
     pub(crate) fn offer(&mut self, length: u32, token: u64) -> Result<u32, Error> {
         let mut number = 0;
         // SAFETY: the handle is open, and the call fills one number.
@@ -330,12 +339,14 @@ impl Inlet {
     }
 
     /// Offers packets in order, up to the first that is not accepted.
+    #[inline]
     pub(crate) fn offer_many(&mut self, items: &[Item]) -> Result<(), Error> {
         let mut given = 0;
         // SAFETY: the handle is open, and the call reads as many items as the slice has, laid out as C has them.
         done(unsafe { clk_raw_inlet_offer_many(&mut self.0, items.as_ptr(), items.len(), &mut given) }).map(|_| ())
     }
 
+    #[inline]
     pub(crate) fn room(&mut self) -> usize {
         // SAFETY: the handle is open.
         unsafe { clk_raw_inlet_room(&mut self.0) }

@@ -44,6 +44,7 @@ impl Router {
     ///
     /// [`Error::BadLength`] if the length is not from 1 to 65,535, else [`Error::UnknownSender`], or [`Error::AtEnd`] after 4,294,967,295
     /// offers of the sender. Nothing was offered then. A packet that its queue refuses is no error.
+    #[inline]
     pub fn offer(&mut self, sender: u32, length: u32) -> Result<Offered, Error> {
         self.raw.offer(sender, length)
     }
@@ -66,6 +67,7 @@ impl Router {
     /// # Ok::<(), Error>(())
     /// ```
     #[must_use = "an offer may be refused, or fail"]
+    #[inline]
     pub fn offer_many<'a>(&mut self, offers: &[Offer], offered: &'a mut [Offered]) -> (&'a [Offered], Result<(), Error>) {
         let (count, end) = self.raw.offer_many(offers, offered);
         (&offered[..count], end)
@@ -80,6 +82,7 @@ impl Router {
     ///
     /// [`Error::UnknownDevice`], or [`Error::AtEnd`] at 2^44 ticks. No pull was made then.
     #[must_use = "the packet that is pulled is lost unless you use it"]
+    #[inline]
     pub fn pull(&mut self, device: u16, moment: u64) -> Result<Option<Packet>, Error> {
         self.raw.pull(device, moment)
     }
@@ -91,6 +94,7 @@ impl Router {
     ///
     /// As [`Router::pull`].
     #[must_use = "the packets that are pulled are lost unless you use them"]
+    #[inline]
     pub fn pull_many<'a>(&mut self, device: u16, moment: u64, packets: &'a mut [Packet]) -> Result<&'a [Packet], Error> {
         let count = self.raw.pull_many(device, moment, packets)?;
         Ok(&packets[..count])
@@ -273,6 +277,7 @@ impl fmt::Debug for Progress {
 impl Iterator for Drain<'_> {
     type Item = Departure;
 
+    #[inline]
     fn next(&mut self) -> Option<Departure> {
         let (raw, device) = (&mut self.router.raw, self.device);
         self.progress.go_on(|pulls| raw.drain_one(device, pulls), |it| it.moment)

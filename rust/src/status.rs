@@ -16,21 +16,30 @@ pub(crate) const BAD_ROOM: u32 = 11;
 pub(crate) const HANDED_OUT: u32 = 12;
 
 /// Whether a status says that it is done; `Ok(false)` is `CLK_NONE`.
-///
-/// # Panics
-///
-/// If the status is none that a call can return here: types rule out `CLK_SHUT`, `CLK_NULL` and `CLK_RECLAIMED`.
+#[inline]
 pub(crate) fn done(status: u32) -> Result<bool, Error> {
     match status {
         OK => Ok(true),
         NONE => Ok(false),
-        UNKNOWN_SENDER => Err(Error::UnknownSender),
-        UNKNOWN_DEVICE => Err(Error::UnknownDevice),
-        BAD_LENGTH => Err(Error::BadLength),
-        AT_END => Err(Error::AtEnd),
-        FULL => Err(Error::Full),
-        BAD_ROOM => Err(Error::BadRoom),
-        HANDED_OUT => Err(Error::HandedOut),
+        _ => Err(error(status)),
+    }
+}
+
+/// The error of a status.
+///
+/// # Panics
+///
+/// If the status is none that a call can return here: types rule out `CLK_SHUT`, `CLK_NULL` and `CLK_RECLAIMED`.
+#[cold]
+fn error(status: u32) -> Error {
+    match status {
+        UNKNOWN_SENDER => Error::UnknownSender,
+        UNKNOWN_DEVICE => Error::UnknownDevice,
+        BAD_LENGTH => Error::BadLength,
+        AT_END => Error::AtEnd,
+        FULL => Error::Full,
+        BAD_ROOM => Error::BadRoom,
+        HANDED_OUT => Error::HandedOut,
         _ => panic!("the library returned status {status}, which it cannot return here"),
     }
 }

@@ -50,11 +50,13 @@ pub(crate) const EVICTED: u32 = 2;
 
 impl Offered {
     /// The packet, with its number.
+    #[inline]
     pub fn packet(&self) -> Packet {
         self.packet
     }
 
     /// What became of it.
+    #[inline]
     pub fn outcome(&self) -> Outcome {
         match self.outcome {
             REFUSED => Outcome::Refused,
@@ -64,6 +66,7 @@ impl Offered {
     }
 
     /// Whether its queue accepted it.
+    #[inline]
     pub fn is_accepted(&self) -> bool {
         self.outcome != REFUSED
     }
