@@ -95,6 +95,11 @@ pub use router::{Drain, Router, Stop};
 pub use takes::{Taken, Takes};
 pub use values::{Account, Departure, Offer, Offered, Outcome, Packet, Queue, Total};
 
+/// The program of the crate's page.
+#[cfg(doctest)]
+#[doc = include_str!("../README.md")]
+struct Readme;
+
 /// Moments are below this number of ticks.
 pub const END_OF_MOMENTS: u64 = 1 << 44;
 
