@@ -88,25 +88,15 @@ impl<T> Inlet<T> {
     pub fn offer_many(&mut self, packets: &mut impl Iterator<Item = (u32, T)>) -> Result<usize, Rejected<T>> {
         let mut accepted = 0;
         loop {
-            let mut items = [Item::default(); MOST_OFFERED];
-            let (mut count, mut end) = (0, Ok(()));
-            let most = self.sure().min(MOST_OFFERED);
+            let mut batch = Batch { items: [Item::default(); MOST_OFFERED], count: 0, inlet: self };
+            let most = batch.inlet.sure().min(MOST_OFFERED);
             for (length, value) in packets.by_ref().take(most) {
-                match self.item(length, value) {
-                    Ok(it) => items[count] = it,
-                    Err(it) => {
-                        end = Err(it);
-                        break;
-                    }
-                }
-                count += 1;
+                batch.items[batch.count] = batch.inlet.item(length, value)?;
+                batch.count += 1;
             }
-            if count > 0 {
-                self.raw.offer_many(&items[..count]).expect("a ring with room accepts packets");
-            }
-            self.accepted += count as u32;
+            let count = batch.count;
+            drop(batch);
             accepted += count;
-            end?;
             if count == 0 || count < most {
                 return Ok(accepted);
             }
@@ -138,14 +128,17 @@ impl<T> Inlet<T> {
     /// How many packets fit for sure. The ring is asked only once that many were offered.
     fn sure(&mut self) -> usize {
         if self.sure == 0 {
-            self.sure = self.raw.room();
+            self.room()
+        } else {
+            self.sure
         }
-        self.sure
     }
 
     /// How many packets are sure to fit: none of as many next offers returns [`Error::Full`]. More may fit a moment later.
+    /// It is 0 once 4,294,967,295 packets were accepted.
     pub fn room(&mut self) -> usize {
-        self.sure = self.raw.room();
+        let numbers = u32::MAX - self.accepted;
+        self.sure = self.raw.room().min(numbers as usize);
         self.sure
     }
 
@@ -156,5 +149,43 @@ impl<T> Inlet<T> {
 impl<T> fmt::Debug for Inlet<T> {
     fn fmt(&self, f: &mut fmt::Formatter<'_>) -> fmt::Result {
         f.debug_struct("Inlet").field("sender", &self.sender).field("accepted", &self.accepted).finish_non_exhaustive()
+    }
+}
+
+/// Packets whose values are in their places. Dropping it offers them, also if the iterator that they come from panics.
+struct Batch<'a, T> {
+    items: [Item; MOST_OFFERED],
+    count: usize,
+    inlet: &'a mut Inlet<T>,
+}
+
+impl<T> Drop for Batch<'_, T> {
+    fn drop(&mut self) {
+        if self.count > 0 {
+            self.inlet.raw.offer_many(&self.items[..self.count]).expect("a ring with room accepts packets");
+            self.inlet.accepted += self.count as u32;
+        }
+    }
+}
+
+#[cfg(test)]
+mod tests {
+    use crate::{Error, LiveRouter};
+
+    /// The last numbers are given out, and no packet after them is accepted.
+    #[test]
+    fn an_inlet_comes_to_its_end() {
+        let mut router = LiveRouter::open("a :: Sender(0); q :: Queue(8); d :: ToDevice(link); a -> q -> d;", 8).unwrap();
+        let mut inlet = router.inlet(0).unwrap();
+        inlet.accepted = u32::MAX - 3;
+        assert_eq!(inlet.room(), 3);
+        inlet.offer(1, 'a').unwrap();
+        let mut packets = "bcd".chars().map(|it| (1, it));
+        assert_eq!(inlet.offer_many(&mut packets).unwrap(), 2);
+        assert_eq!(packets.next(), Some((1, 'd')));
+        let rejected = inlet.offer(1, 'e').unwrap_err();
+        assert_eq!((rejected.value, rejected.error), ('e', Error::AtEnd));
+        assert_eq!(inlet.room(), 0);
+        assert_eq!(router.take(0, 64).unwrap().len(), 3);
     }
 }

@@ -168,6 +168,19 @@ fn the_last_to_leave_drops_all_even_if_one_panics() {
 }
 
 #[test]
+fn packets_are_offered_up_to_a_panic() {
+    let drops = Drops::of(5);
+    let mut router = LiveRouter::open("a :: Sender(0); q :: Queue(9); d :: ToDevice(link); a -> q -> d;", 4).unwrap();
+    let mut inlet = router.inlet(0).unwrap();
+    let mut packets = (0..5).map(|it| if it < 3 { (1, drops.value(it)) } else { panic!("the iterator panics") });
+    assert!(catch_unwind(AssertUnwindSafe(|| inlet.offer_many(&mut packets))).is_err());
+    assert_eq!(router.take_in(9, 9).len(), 3);
+    let numbers: Vec<usize> = router.drain(0).unwrap().map(|it| it.value.number).collect();
+    assert_eq!(numbers, [0, 1, 2]);
+    assert_eq!(inlet.room(), 4);
+}
+
+#[test]
 fn an_inlet_outlives_its_router() {
     let drops = Drops::of(5);
     let mut router = LiveRouter::open("a :: Sender(0); q :: Queue(4); d :: ToDevice(link); a -> q -> d;", 2).unwrap();
