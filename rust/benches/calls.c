@@ -62,6 +62,23 @@ static void on_live(void) {
         }
 }
 
+static void on_live_in_bursts(void) {
+    clk_taken taken[BURST];
+    clk_emitted emitted[BURST];
+    clk_item items[BURST / 2];
+    size_t given;
+    for (int i = 0; i < BURST / 2; i++)
+        items[i] = (clk_item){(uint64_t)i, 1000};
+    for (int i = 0; i < 2; i++)
+        sink = clk_inlet_offer_many(&inlets[i], items, BURST / 2, &given);
+    clk_live_take_in(&live, BURST, taken, BURST, &given);
+    sink = given;
+    for (size_t left = BURST; left > 0; left -= given) {
+        clk_live_pull_many(&live, 0, 0, emitted, left, &given);
+        sink = emitted[0].token;
+    }
+}
+
 static double now(void) {
     struct timespec it;
     clock_gettime(CLOCK_MONOTONIC, &it);
@@ -92,7 +109,8 @@ int main(void) {
     puts("calls of C\tnanoseconds a packet");
     measure("router, one by one", one_by_one);
     measure("router, in bursts", in_bursts);
-    measure("live router", on_live);
+    measure("live router, one by one", on_live);
+    measure("live router, in bursts", on_live_in_bursts);
     for (int i = 0; i < 2; i++)
         clk_inlet_close(&inlets[i]);
     clk_live_close(&live);

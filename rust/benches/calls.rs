@@ -71,10 +71,28 @@ fn live<T>(name: &str, value: impl Fn(u64) -> T) {
     });
 }
 
+/// The same with calls for many packets.
+fn live_in_bursts() {
+    let mut router = LiveRouter::open(TREE, 64).unwrap();
+    let mut inlets: Vec<Inlet<u64>> = (0..2).map(|it| router.inlet(it).unwrap()).collect();
+    measure("live router, in bursts", || {
+        for inlet in &mut inlets {
+            let mut packets = (0..BURST as u64 / 2).map(|it| (1000, it));
+            black_box(inlet.offer_many(&mut packets).is_ok());
+        }
+        black_box(router.take_in(BURST, BURST)).for_each(drop);
+        let mut left = BURST;
+        while left > 0 {
+            left -= router.pull_many(0, 0, left).unwrap().map(black_box).count();
+        }
+    });
+}
+
 fn main() {
     println!("calls of Rust\tnanoseconds a packet");
     one_by_one();
     in_bursts();
-    live("live router, a number each", |it| it);
-    live("live router, a box each", Box::new);
+    live("live router, one by one", |it| it);
+    live("live router, one by one, a box each", Box::new);
+    live_in_bursts();
 }

@@ -68,7 +68,7 @@ impl<T> Inlet<T> {
     }
 
     /// Offers packets in order, each a length and a value, while the inlet has room. It asks `packets` for none that there is no room for.
-    /// Returns how many were accepted. It takes less time than as many calls of [`Inlet::offer`].
+    /// Returns how many were accepted. One call of the C library offers up to 64 of them.
     ///
     /// ```
     /// use clickpull::LiveRouter;
@@ -86,9 +86,10 @@ impl<T> Inlet<T> {
     /// [`Error::BadLength`] with the value of the first packet whose length is not from 1 to 65,535. The packets before it were accepted.
     #[must_use = "a value that is not accepted comes back"]
     pub fn offer_many(&mut self, packets: &mut impl Iterator<Item = (u32, T)>) -> Result<usize, Rejected<T>> {
+        let mut items = [Item::default(); MOST_OFFERED];
         let mut accepted = 0;
         loop {
-            let mut batch = Batch { items: [Item::default(); MOST_OFFERED], count: 0, inlet: self };
+            let mut batch = Batch { items: &mut items, count: 0, inlet: self };
             let most = batch.inlet.sure().min(MOST_OFFERED);
             for (length, value) in packets.by_ref().take(most) {
                 batch.items[batch.count] = batch.inlet.item(length, value)?;
@@ -154,7 +155,7 @@ impl<T> fmt::Debug for Inlet<T> {
 
 /// Packets whose values are in their places. Dropping it offers them, also if the iterator that they come from panics.
 struct Batch<'a, T> {
-    items: [Item; MOST_OFFERED],
+    items: &'a mut [Item; MOST_OFFERED],
     count: usize,
     inlet: &'a mut Inlet<T>,
 }

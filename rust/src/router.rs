@@ -51,8 +51,7 @@ impl Router {
 
     /// Offers packets in order, up to the first that can't be offered, or as many as `offered` has places for.
     ///
-    /// Returns what became of those that were offered, which fill the front of `offered`, and why the next one can't be. It takes less time
-    /// than as many calls of [`Router::offer`].
+    /// Returns what became of those that were offered, which fill the front of `offered`, and why the next one can't be.
     ///
     /// ```
     /// use clickpull::{Error, Offer, Offered, Router};

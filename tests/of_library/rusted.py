@@ -8,7 +8,7 @@ from pathlib import Path
 
 from making.library import Archives, make_archive
 from of_library.checks import Check, Failed, Setting, compare, need, run
-from of_library.compiled import heap
+from of_library.compiled import WARNINGS, heap
 from of_library.declared import header_of
 
 CRATE = Path("rust")
@@ -91,8 +91,9 @@ def tests_pass(setting: Setting) -> str:
 
 
 def brings_no_warning(setting: Setting) -> str:
-    """No warning of clippy and of rustdoc, and the layout of rustfmt."""
-    need("cargo")
+    """No warning of clippy and of rustdoc, and the layout of rustfmt. The benchmark's calls in C bring none either."""
+    need("cargo", "cc")
+    run(["cc", "-std=gnu11", *WARNINGS, "-I", setting.include, "-fsyntax-only", setting.root / CRATE / "benches" / "calls.c"])
     done = []
     if has("clippy"):
         cargo(setting, "clippy", "--offline", "--locked", "--all-targets", "--", "-D", "warnings")
