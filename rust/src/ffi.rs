@@ -402,7 +402,7 @@ impl<T> Table<T> {
         self.segments.get((number / SEGMENT) as usize)?.get()?.get((number % SEGMENT) as usize)
     }
 
-    /// Allocates the segment of the place with this number, unless it is there.
+    /// Allocates the segment of the place with this number, unless it is there. One half alone calls it, so that it never waits for the other.
     fn allocate(&self, number: u32) {
         let first = number - number % SEGMENT;
         let places = first..self.places.min(first + SEGMENT);

@@ -79,6 +79,7 @@ mod header;
 mod inlet;
 mod layout;
 mod live;
+mod looks;
 mod router;
 #[cfg(doctest)]
 mod sharing;

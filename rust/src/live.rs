@@ -7,9 +7,10 @@ use crate::error::Error;
 use crate::ffi::{self, table, Emptying};
 use crate::inlet::Inlet;
 use crate::layout::RawTaken;
+use crate::looks::looks;
 use crate::router::{Progress, Stop};
 use crate::takes::{Batch, Takes};
-use crate::values::{Account, Packet, Queue};
+use crate::values::Packet;
 use crate::{END_OF_MOMENTS, MOST_TAKEN};
 
 /// How many packets of one sender schedulers hold at most. A `DRRSched` holds one packet of each of its inputs, and a path from a queue to its
@@ -212,65 +213,14 @@ impl<T> LiveRouter<T> {
         self.raw.drained()
     }
 
-    /// The greatest moment that was handed in at a device so far, in ticks. It is 0 before the first pull.
-    ///
-    /// # Errors
-    ///
-    /// [`Error::UnknownDevice`].
-    pub fn moment(&self, device: u16) -> Result<u64, Error> {
-        self.raw.moment(device)
-    }
-
-    /// The earliest moment at which a pull of a device could emit a packet, as [`Router::due`](crate::Router::due) has it. What waits in the
-    /// inlets is not looked at: take first.
-    ///
-    /// # Errors
-    ///
-    /// [`Error::UnknownDevice`].
-    pub fn due(&self, device: u16) -> Result<Option<u64>, Error> {
-        self.raw.due(device)
-    }
-
-    /// How many packets are left for a device, in its queues or held by its schedulers. What waits in the inlets is not among them.
-    ///
-    /// # Errors
-    ///
-    /// [`Error::UnknownDevice`].
-    pub fn left(&self, device: u16) -> Result<u64, Error> {
-        self.raw.left(device)
-    }
-
-    /// What became of the packets that were taken of each sender, by rising numbers of senders.
-    pub fn accounts(&self) -> impl ExactSizeIterator<Item = Account> + '_ {
-        (0..self.raw.senders()).map(|place| self.raw.account(place).expect("each place has a sender"))
-    }
-
-    /// What became of the packets that were taken of one sender, or `None` if there is no such sender.
-    pub fn account(&self, sender: u32) -> Option<Account> {
-        self.accounts().find(|it| u32::from(it.sender) == sender)
-    }
-
-    /// The queues, by their numbers: in order of declaration.
-    pub fn queues(&self) -> impl ExactSizeIterator<Item = Queue> + '_ {
-        (0..self.raw.queues()).map(|number| self.raw.queue(number as u16).expect("each number has a queue"))
-    }
-
-    /// The queue with this number, or `None` if there is no such queue.
-    pub fn queue(&self, number: u16) -> Option<Queue> {
-        self.raw.queue(number)
-    }
-
-    /// How many devices there are, one at least.
-    pub fn devices(&self) -> usize {
-        self.raw.devices()
-    }
-
     /// Gives up the router, and returns the values of the packets inside it: queue by queue, and in each queue the packet first that would
     /// have been emitted first. Values that wait in the inlets don't come back: close the inlets and take from them before.
     pub fn reclaim(self) -> Reclaimed<T> {
         Reclaimed { router: self, tokens: [0; MOST_TAKEN], next: 0, end: 0, is_last: false }
     }
 }
+
+looks!(LiveRouter<T>);
 
 impl<T> fmt::Debug for LiveRouter<T> {
     fn fmt(&self, f: &mut fmt::Formatter<'_>) -> fmt::Result {

@@ -5,7 +5,8 @@ use std::iter::FusedIterator;
 
 use crate::error::Error;
 use crate::ffi;
-use crate::values::{Account, Departure, Offer, Offered, Packet, Queue};
+use crate::looks::looks;
+use crate::values::{Departure, Offer, Offered, Packet};
 
 /// A router: bounded queues, and a tree of schedulers for each device.
 ///
@@ -120,62 +121,9 @@ impl Router {
         let moment = self.moment(device)?;
         Ok(Drain { router: self, device, progress: Progress::at(moment) })
     }
-
-    /// The greatest moment that was handed in at a device so far, in ticks. It is 0 before the first pull.
-    ///
-    /// # Errors
-    ///
-    /// [`Error::UnknownDevice`].
-    pub fn moment(&self, device: u16) -> Result<u64, Error> {
-        self.raw.moment(device)
-    }
-
-    /// The earliest moment at which a pull of a device could emit a packet, as things stand, or `None` if no packet is left for it.
-    ///
-    /// A pull before it emits nothing, so that you may sleep until then, or until you offer a packet. A pull at that moment may still emit
-    /// nothing, while a `DRRSched` saves up for a long packet: pull again.
-    ///
-    /// # Errors
-    ///
-    /// [`Error::UnknownDevice`].
-    pub fn due(&self, device: u16) -> Result<Option<u64>, Error> {
-        self.raw.due(device)
-    }
-
-    /// How many packets are left for a device, in its queues or held by its schedulers.
-    ///
-    /// # Errors
-    ///
-    /// [`Error::UnknownDevice`].
-    pub fn left(&self, device: u16) -> Result<u64, Error> {
-        self.raw.left(device)
-    }
-
-    /// What became of the packets of each sender, by rising numbers of senders.
-    pub fn accounts(&self) -> impl ExactSizeIterator<Item = Account> + '_ {
-        (0..self.raw.senders()).map(|place| self.raw.account(place).expect("each place has a sender"))
-    }
-
-    /// What became of the packets of one sender, or `None` if there is no such sender.
-    pub fn account(&self, sender: u32) -> Option<Account> {
-        self.accounts().find(|it| u32::from(it.sender) == sender)
-    }
-
-    /// The queues, by their numbers: in order of declaration.
-    pub fn queues(&self) -> impl ExactSizeIterator<Item = Queue> + '_ {
-        (0..self.raw.queues()).map(|number| self.raw.queue(number as u16).expect("each number has a queue"))
-    }
-
-    /// The queue with this number, or `None` if there is no such queue.
-    pub fn queue(&self, number: u16) -> Option<Queue> {
-        self.raw.queue(number)
-    }
-
-    /// How many devices there are, one at least.
-    pub fn devices(&self) -> usize {
-        self.raw.devices()
-    }
 }
+
+looks!(Router);
 
 impl fmt::Debug for Router {
     fn fmt(&self, f: &mut fmt::Formatter<'_>) -> fmt::Result {
