@@ -8,11 +8,11 @@
 //! cloned nor `Sync`. So two calls on one handle never overlap, and a call on another thread follows a hand-over of the handle.
 //!
 //! The header names the hand-overs that order such calls: a lock, the start or the join of a thread, a sequentially consistent atomic
-//! operation. Rust's safe hand-overs are more than these. A channel of `std`, for one, orders by a release and an acquire. It suffices:
+//! operation. Safe Rust has other hand-overs too: a channel of `std`, for one, orders by a release and an acquire. That suffices:
 //!
-//! - A lock orders by nothing else: unlocking is a release, and the next locking is an acquire. The same holds of the start and the join of a
-//!   thread. Each makes what one thread did happen before what the other does, in the sense of the memory model that Rust and C11 share, and
-//!   promises no more. So a library that is right with locks needs no more than that.
+//! - A lock orders by nothing else: unlocking is a release, and the next locking is an acquire. So do the start and the join of a thread. In the
+//!   memory model that Rust and C11 share, each promises that what one thread did happens before what the other does, and no more. A library
+//!   that is right with locks needs no more than that.
 //! - Memory that only this handle's calls use is then free of data races, and a call reads what the calls before it wrote.
 //! - An inlet and its router also share atomic variables. For these, coherence follows the same order: a call reads nothing older than
 //!   what an earlier call on its handle read or wrote. So the other side can't tell a handle that moved from one that stayed: what it sees

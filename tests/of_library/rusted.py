@@ -3,7 +3,7 @@ import re
 import shutil
 import subprocess
 import threading
-from collections.abc import Iterable, Iterator
+from collections.abc import Callable, Iterable, Iterator
 from pathlib import Path
 
 from making.library import Archives, make_archive
@@ -84,10 +84,15 @@ def header_is_the_same(setting: Setting) -> str:
 # What cargo says of it.
 
 
-def tests_pass(setting: Setting) -> str:
-    """The tests, those in the documentation too."""
-    passed = re.findall(r"(\d+) passed", cargo(setting, "test", "--offline", "--locked"))
-    return f"{sum(map(int, passed))} tests"
+def tests_pass(seed: int) -> Callable[[Setting], str]:
+    """The tests, those in the documentation too. Random calls are those of the seed."""
+
+    def check(setting: Setting) -> str:
+        told = cargo(setting, "test", "--offline", "--locked", more={"CLICKPULL_SEED": str(seed)})
+        passed = re.findall(r"(\d+) passed", told)
+        return f"{sum(map(int, passed))} tests"
+
+    return check
 
 
 def brings_no_warning(setting: Setting) -> str:
@@ -134,9 +139,11 @@ def run_program(setting: Setting, program: str) -> str:
     return cargo(setting, "run", "--offline", "-q", folder=folder, more={"RUSTFLAGS": "-D warnings"})
 
 
-CHECKS = [
-    Check("the header and what Rust knows of it", header_is_the_same),
-    Check("Rust's tests", tests_pass),
-    Check("Rust without a warning", brings_no_warning),
-    Check("Rust's examples", examples_are_right),
-]
+def checks(seed: int) -> list[Check]:
+    """The checks, with random calls of this seed."""
+    return [
+        Check("the header and what Rust knows of it", header_is_the_same),
+        Check("Rust's tests", tests_pass(seed)),
+        Check("Rust without a warning", brings_no_warning),
+        Check("Rust's examples", examples_are_right),
+    ]
