@@ -2,7 +2,7 @@
 
 use std::fmt;
 
-/// Why a call failed. Nothing has changed then.
+/// Why a call failed. A call that fails changes nothing; a call for many says how far it came.
 #[derive(Clone, Debug, PartialEq, Eq)]
 #[non_exhaustive]
 pub enum Error {

@@ -171,12 +171,15 @@ impl<T> Drop for Batch<'_, T> {
 
 #[cfg(test)]
 mod tests {
+    use crate::ffi::table;
     use crate::{Error, LiveRouter};
+
+    const TREE: &str = "a :: Sender(0); q :: Queue(8); d :: ToDevice(link); a -> q -> d;";
 
     /// The last numbers are given out, and no packet after them is accepted.
     #[test]
     fn an_inlet_comes_to_its_end() {
-        let mut router = LiveRouter::open("a :: Sender(0); q :: Queue(8); d :: ToDevice(link); a -> q -> d;", 8).unwrap();
+        let mut router = LiveRouter::open(TREE, 8).unwrap();
         let mut inlet = router.inlet(0).unwrap();
         inlet.accepted = u32::MAX - 3;
         assert_eq!(inlet.room(), 3);
@@ -188,5 +191,19 @@ mod tests {
         assert_eq!((rejected.value, rejected.error), ('e', Error::AtEnd));
         assert_eq!(inlet.room(), 0);
         assert_eq!(router.take(0, 64).unwrap().len(), 3);
+    }
+
+    /// A table is large enough for all that is inside. If it were not, the inlet would be full.
+    #[test]
+    fn an_inlet_whose_table_is_full_is_full() {
+        let mut router = LiveRouter::open(TREE, 8).unwrap();
+        let mut inlet = router.inlet(0).unwrap();
+        inlet.values = table(2).0;
+        inlet.offer(1, 'a').unwrap();
+        let rejected = inlet.offer_many(&mut "bcd".chars().map(|it| (1, it))).unwrap_err();
+        assert_eq!((rejected.value, rejected.error), ('c', Error::Full));
+        let rejected = inlet.offer(1, 'd').unwrap_err();
+        assert_eq!((rejected.value, rejected.error), ('d', Error::Full));
+        assert_eq!(router.take(0, 64).unwrap().len(), 2);
     }
 }
