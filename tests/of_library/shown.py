@@ -6,6 +6,7 @@ from collections.abc import Callable
 from of_library.checks import Check, Failed, Setting, compare, need, run
 from of_library.compiled import WARNINGS, heap
 from of_library.module import environment
+from of_library.rusted import run_program
 
 
 def shown(setting: Setting, part: str, language: str) -> tuple[str, str]:
@@ -54,9 +55,18 @@ def python_is_right(setting: Setting) -> str:
     return f"{len(program.splitlines())} lines"
 
 
+def rust_is_right(setting: Setting) -> str:
+    """The program in Rust builds without a warning, and prints what the page says."""
+    need("cargo")
+    program, answer = shown(setting, "In Rust", "rust")
+    compare("what the program in Rust prints", run_program(setting, program), answer)
+    return f"{len(program.splitlines())} lines"
+
+
 CHECKS = [
     Check("C in docs/LIBRARY.md", compiled("In C", "c", "cc", "-std=c11")),
     Check("threads in docs/LIBRARY.md", threads_are_right),
     Check("C++ in docs/LIBRARY.md", compiled("In C++", "cpp", "c++", "-std=c++17")),
     Check("Python in docs/LIBRARY.md", python_is_right),
+    Check("Rust in docs/LIBRARY.md", rust_is_right),
 ]
