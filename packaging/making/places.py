@@ -9,7 +9,7 @@ from making.library import INTERFACE
 
 # The name of the program and of the library.
 NAME = "clickpull"
-HEADERS = (f"{NAME}.h", f"{NAME}.hpp")
+HEADERS = (f"{NAME}.h", f"{NAME}.hpp", f"{NAME}_live.hpp")
 
 
 @dataclass(frozen=True)
