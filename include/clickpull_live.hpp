@@ -309,8 +309,9 @@ public:
     // std::bad_alloc.
     [[nodiscard]] Inlet<T> inlet(std::uint32_t sender) {
         const auto at = std::find_if(senders_.begin(), senders_.end(), [&](const Sender &it) { return it.number == sender; });
-        auto table = std::make_shared<Table>(at == senders_.end() ? 0 : at->most);
+        auto table = at == senders_.end() ? nullptr : std::make_shared<Table>(at->most);
         detail::Owned<clk_inlet> inlet;
+        // It fails where there is no such sender.
         detail::need(clk_live_inlet(live_.c(), sender, inlet.c()));
         at->table = table;
         return Inlet<T>(std::move(inlet), std::move(table), static_cast<std::uint64_t>(at - senders_.begin()) << PLACE_BITS);

@@ -18,6 +18,9 @@ VARIANTS = {
     "C++20": ["-std=c++20", *CPP[1:]],
 }
 
+# The table of cases that all bindings share.
+CASES = Path("tests", "bindings", "cases")
+
 # How many packets each sender on a thread sends in the tests of C++, alone and under valgrind.
 PACKETS, FEW = "40000", "400"
 
@@ -25,7 +28,7 @@ PACKETS, FEW = "40000", "400"
 COMPILERS = {"gcc": "g++", "clang": "clang++"}
 
 # Programs that stand alone, and so are no part of the tests of calls.
-ALONE = ("replay.c", "memory.c", "sleeping.c", "at_length.c", "live_calls.c", "live_threads.c")
+ALONE = ("replay.c", "memory.c", "sleeping.c", "at_length.c", "live_calls.c", "live_threads.c", "cases.c")
 
 # The requests for memory that tests/c/memory.c answers.
 WRAPPED = [f"-Wl,--wrap={it}" for it in ("malloc", "calloc", "realloc", "free")]
@@ -90,12 +93,20 @@ def in_cpp(compiler: str, variant: str) -> Callable[[Setting], str]:
     """The tests of C++ by this compiler, built in this way."""
 
     def check(setting: Setting) -> str:
-        program, cases = tests_of_cpp(setting, compiler, variant), setting.root / "tests" / "bindings" / "cases"
+        program, cases = tests_of_cpp(setting, compiler, variant), setting.root / CASES
         if VARIANTS[variant] is CPP:
             return clean(program, [cases, PACKETS], [cases, FEW])
         return run([program, cases, PACKETS]).strip()
 
     return check
+
+
+def cases_in_c(setting: Setting) -> str:
+    """The table of cases, by the calls of C themselves."""
+    need("cc")
+    program = setting.made / "cases"
+    run(["cc", *C, "-I", setting.include, setting.root / "tests" / "c" / "cases.c", "-o", program, setting.archive, heap()])
+    return clean(program, [setting.root / CASES])
 
 
 def values_by_thread_sanitizer(compiler: str) -> Callable[[Setting], str]:
@@ -180,6 +191,7 @@ def memory_is_refused(setting: Setting) -> str:
 CHECKS = [
     Check("the headers stand alone", headers_stand_alone),
     *(Check(f"the calls, by {it}", in_c(it)) for it in COMPILERS),
+    Check("the table of cases, in C", cases_in_c),
     *(Check(f"{variant}, by {it}", in_cpp(it, variant)) for it in COMPILERS.values() for variant in VARIANTS),
     *(Check(f"values on threads, by {it}", values_by_thread_sanitizer(it)) for it in COMPILERS.values()),
     Check("the calls, over the shared library", over_the_shared_library),
