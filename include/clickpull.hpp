@@ -117,6 +117,12 @@ inline bool is_none(clk_status status) {
     return status == CLK_NONE;
 }
 
+// Throws unless a packet may have this length. The library tests it before all else; so do those who have something to do before they ask it.
+inline void need_length(std::uint32_t length) {
+    if (length == 0 || length > std::numeric_limits<decltype(Packet::length)>::max())
+        throw Error(CLK_BAD_LENGTH);
+}
+
 // Throws unless a router was opened.
 inline void need_opened(clk_status status, clk_fault fault, std::string_view text) {
     if (status == CLK_FAULT && fault.number == 1)
@@ -351,6 +357,8 @@ public:
 
     // The sender offers its next packet, of so many bytes, with this value.
     [[nodiscard]] Offer offer(std::uint32_t sender, std::uint32_t length, T value) {
+        if (router_.is_open())
+            detail::need_length(length);
         List &list = list_of(sender);
         // It is put into the list first, so that no memory is asked for once the packet was offered.
         list.push_back({0, std::move(value)});

@@ -231,8 +231,7 @@ private:
     void need_offer(std::uint32_t length) const {
         if (!is_open())
             throw Error(CLK_SHUT);
-        if (length == 0 || length > std::numeric_limits<decltype(Packet::length)>::max())
-            throw Error(CLK_BAD_LENGTH);
+        detail::need_length(length);
         if (accepted_ == std::numeric_limits<decltype(Packet::number)>::max())
             throw Error(CLK_AT_END);
     }

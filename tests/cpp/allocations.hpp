@@ -4,7 +4,7 @@
 
 #include <cstddef>
 
-// How many bytes this thread has allocated.
+// How many bytes this thread has allocated. Under valgrind, which has operators of its own, it stays 0.
 std::size_t allocated() noexcept;
 
 // Lets this thread's next `count` allocations pass, and has all fail that follow, while it lives.
