@@ -84,11 +84,12 @@ public:
     // Returns false if no place is free, and leaves the value. If T's move constructor, an allocation or `send` throws, the place is free
     // again.
     template <class Send> bool put(T &&value, Send &&send) {
-        const std::uint32_t after = at(front_).next.load(std::memory_order_acquire);
+        Place &front = at(front_);
+        const std::uint32_t after = front.next.load(std::memory_order_acquire);
         const std::uint32_t number = after != NO_PLACE ? front_ : used_;
         if (number > most_)
             return false;
-        Place &place = after != NO_PLACE ? at(number) : new_place();
+        Place &place = after != NO_PLACE ? front : new_place();
         ::new (static_cast<void *>(std::addressof(place.value))) T(std::move(value));
         place.is_full = true;
         try {
@@ -107,8 +108,9 @@ public:
 
     // For the owner: moves the value out of a place, and frees the place, also if T's move constructor throws.
     T take(std::uint32_t number) {
-        const Freeing freeing{*this, number};
-        return std::move(at(number).value);
+        Place &place = at(number);
+        const Freeing freeing{*this, place, number};
+        return std::move(place.value);
     }
 
 private:
@@ -126,12 +128,13 @@ private:
 
     struct Freeing {
         ValueTable &table;
+        Place &place;
         std::uint32_t number;
 
-        Freeing(ValueTable &of, std::uint32_t place) noexcept : table(of), number(place) {}
+        Freeing(ValueTable &of, Place &at, std::uint32_t its_number) noexcept : table(of), place(at), number(its_number) {}
         Freeing(const Freeing &) = delete;
         Freeing &operator=(const Freeing &) = delete;
-        ~Freeing() { table.free(number); }
+        ~Freeing() { table.free(place, number); }
     };
 
     // The chunk at place N of `chunks_` has FIRST_CHUNK << N places. So they never move, and at most half of them were never used.
@@ -158,8 +161,7 @@ private:
         return at(used_);
     }
 
-    void free(std::uint32_t number) noexcept {
-        Place &place = at(number);
+    void free(Place &place, std::uint32_t number) noexcept {
         std::destroy_at(std::addressof(place.value));
         place.is_full = false;
         place.next.store(NO_PLACE, std::memory_order_relaxed);

@@ -2,7 +2,7 @@
  *
  *     values PACKETS            prints a line for each measurement on one thread: its name, nanoseconds a packet by C and by C++
  *     values --threads PACKETS  prints a line for each number of producers: millions of packets a second by C and by C++
- *     values --once WHICH PACKETS  runs one measurement once, for callgrind: c or c++
+ *     values --once NAME PACKETS  runs one of these once, for callgrind: c, Router, Carrier, live-c or LiveRouter
  *
  * A packet is offered to one of 8 senders, and pulled from a DRRSched over their queues. By C its token is a number; by C++ its value is a number in
  * a std::unique_ptr that was allocated before, and that goes round. */
@@ -215,6 +215,36 @@ double rate_of_cpp(std::uint32_t producers, std::uint64_t packets) {
     });
 }
 
+template <class Of> void once(std::uint64_t packets) {
+    if constexpr (std::is_default_constructible_v<Of>) {
+        Of of;
+        offer_and_pull(of, packets);
+    } else {
+        Of of(tree());
+        offer_and_pull(of, packets);
+    }
+}
+
+void once_in_c(std::uint64_t packets) {
+    clickpull::Router router(tree());
+    offer_and_pull(*router.c(), packets);
+}
+
+const struct {
+    const char *name;
+    void (*run)(std::uint64_t packets);
+} ONCE[] = {
+    {"c", once_in_c},        {"Router", once<clickpull::Router>}, {"Carrier", once<clickpull::Carrier<Value>>},
+    {"live-c", once<OfC>}, {"LiveRouter", once<OfCpp>},
+};
+
+void run_once(const std::string &name, std::uint64_t packets) {
+    for (const auto &it : ONCE)
+        if (name == it.name)
+            return it.run(packets);
+    need(false, "has no measurement of this name");
+}
+
 void print_alone(std::uint64_t packets) {
     const std::string text = tree();
     clickpull::Router router(text);
@@ -248,13 +278,9 @@ int main(int count, char **words) {
         print_alone(packets);
     else if (count == 3 && word == "--threads")
         print_threads(packets);
-    else if (count == 4 && word == "--once" && words[2] == std::string("c")) {
-        OfC of;
-        offer_and_pull(of, packets);
-    } else if (count == 4 && word == "--once" && words[2] == std::string("c++")) {
-        OfCpp of;
-        offer_and_pull(of, packets);
-    } else
-        need(false, "wants PACKETS, --threads PACKETS, or --once WHICH PACKETS");
+    else if (count == 4 && word == "--once")
+        run_once(words[2], packets);
+    else
+        need(false, "wants PACKETS, --threads PACKETS, or --once NAME PACKETS");
     return 0;
 }
