@@ -98,8 +98,17 @@ static void both_halves_move() {
     offer(moved, 2);
     CHECK(live.take_in(2, 64, ignore) == 2);
     LiveRouter<Counted> third(ONE, 1);
+    {
+        Inlet<Counted> other = third.inlet(4);
+        offer(other, 9);
+    }
     third = std::move(live);
-    CHECK(third.left(0) == 2 && third.pull(0, 0)->value.is(1));
+    CHECK(Counted::values == 2);
+    LiveRouter<Counted> &same = third;
+    third = std::move(same);
+    Inlet<Counted> &same_inlet = moved;
+    moved = std::move(same_inlet);
+    CHECK(third.left(0) == 2 && third.pull(0, 0)->value.is(1) && moved.is_open());
     // What a move is assigned over is closed.
     moved = LiveRouter<Counted>(ONE, 1).inlet(4);
     third.take_in(1, 1, ignore);

@@ -143,8 +143,7 @@ def headers_stand_alone(setting: Setting) -> str:
         for compiler, header, ending, flags in (
             (c, "clickpull.h", "c", [*C, *STRICT]),
             (cpp, "clickpull.h", "cpp", [*CPP, *STRICT_CPP]),
-            (cpp, "clickpull.hpp", "cpp", [*CPP, *STRICT_CPP]),
-            (cpp, "clickpull_live.hpp", "cpp", [*CPP, *STRICT_CPP]),
+            *((cpp, it, "cpp", [*CPP, *STRICT_CPP]) for it in ("clickpull.hpp", "clickpull_live.hpp", "clickpull_values.hpp")),
         ):
             if shutil.which(compiler) is None:
                 continue
