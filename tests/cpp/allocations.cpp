@@ -31,10 +31,23 @@ void *operator new(std::size_t size) {
     return it;
 }
 
+// The standard's own operators for arrays call these, but those of sanitizers don't.
+void *operator new[](std::size_t size) {
+    return operator new(size);
+}
+
 void operator delete(void *it) noexcept {
     std::free(it);
 }
 
 void operator delete(void *it, std::size_t) noexcept {
+    std::free(it);
+}
+
+void operator delete[](void *it) noexcept {
+    std::free(it);
+}
+
+void operator delete[](void *it, std::size_t) noexcept {
     std::free(it);
 }
