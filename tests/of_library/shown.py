@@ -9,24 +9,24 @@ from of_library.module import environment
 from of_library.rusted import run_program
 
 
-def shown(setting: Setting, part: str, language: str) -> tuple[str, str]:
-    """The first program of a part of the page, and what the page says that it prints."""
+def shown(setting: Setting, part: str, language: str, place: int = 0) -> tuple[str, str]:
+    """The program at a place of a part of the page, counted from 0, and what the page says that it prints."""
     text = (setting.root / "docs" / "LIBRARY.md").read_text().partition(f"\n## {part}\n")[2].partition("\n## ")[0]
-    found = re.search(rf"```{language}\n(.*?)```\n.*?```\n(.*?)```", text, re.DOTALL)
-    if found is None:
-        raise Failed(f"docs/LIBRARY.md, {part}: has no program with its answer")
-    return found[1], found[2]
+    found = list(re.finditer(rf"```{language}\n(.*?)```\n.*?```\n(.*?)```", text, re.DOTALL))
+    if place >= len(found):
+        raise Failed(f"docs/LIBRARY.md, {part}: has no program {place} with its answer")
+    return found[place][1], found[place][2]
 
 
-def compiled(part: str, language: str, compiler: str, standard: str) -> Callable[[Setting], str]:
+def compiled(part: str, language: str, compiler: str, standard: str, place: int = 0) -> Callable[[Setting], str]:
     """A program is built without a warning, and prints what the page says."""
 
     def check(setting: Setting) -> str:
         need(compiler)
-        program, answer = shown(setting, part, language)
-        source, made = setting.made / f"shown.{language}", setting.made / f"shown_{language}"
+        program, answer = shown(setting, part, language, place)
+        source, made = setting.made / f"shown_{place}.{language}", setting.made / f"shown_{language}_{place}"
         source.write_text(program)
-        run([compiler, standard, *WARNINGS, "-I", setting.include, source, "-o", made, setting.archive, heap()])
+        run([compiler, standard, "-pthread", *WARNINGS, "-I", setting.include, source, "-o", made, setting.archive, heap()])
         compare(f"what the program in {language} prints", run([made]), answer)
         return f"{len(program.splitlines())} lines"
 
@@ -67,6 +67,7 @@ CHECKS = [
     Check("C in docs/LIBRARY.md", compiled("In C", "c", "cc", "-std=c11")),
     Check("threads in docs/LIBRARY.md", threads_are_right),
     Check("C++ in docs/LIBRARY.md", compiled("In C++", "cpp", "c++", "-std=c++17")),
+    Check("C++ on threads in docs/LIBRARY.md", compiled("In C++", "cpp", "c++", "-std=c++17", 1)),
     Check("Python in docs/LIBRARY.md", python_is_right),
     Check("Rust in docs/LIBRARY.md", rust_is_right),
 ]
