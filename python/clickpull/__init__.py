@@ -23,7 +23,9 @@ An interrupt, as by Ctrl-C, may come at any point of a call, and later calls wor
 `Router`, accounts tell. A signal handler calls no `Carrier` that the code which it interrupts may be calling.
 """
 from clickpull.carrier import Carried, Carrier, Evicted, Offer
-from clickpull.errors import AtEnd, Error, BadLength, Shut, TextFault, UnknownDevice, UnknownSender
+from clickpull.clock import Clock
+from clickpull.dispatcher import Dispatcher, Job, Submission
+from clickpull.errors import AtEnd, BadLength, Ended, Error, Shut, TextFault, UnknownDevice, UnknownSender
 from clickpull.router import END_OF_MOMENTS, Router
 from clickpull.values import Account, Departure, Offered, Outcome, Packet, Queue, Total
 
@@ -34,12 +36,16 @@ __all__ = [
     "END_OF_MOMENTS",
     "Account",
     "AtEnd",
+    "BadLength",
     "Carried",
     "Carrier",
+    "Clock",
     "Departure",
+    "Dispatcher",
+    "Ended",
     "Error",
     "Evicted",
-    "BadLength",
+    "Job",
     "Offer",
     "Offered",
     "Outcome",
@@ -47,6 +53,7 @@ __all__ = [
     "Queue",
     "Router",
     "Shut",
+    "Submission",
     "TextFault",
     "Total",
     "UnknownDevice",

@@ -39,6 +39,12 @@ class Offer(Generic[T]):
     evicted: Evicted[T] | None
 
 
+class Given(Generic[T]):
+    """Where a pull stores the packet that it gives, so that an interrupted caller can tell whether it was given."""
+
+    carried: Carried[T] | None = None
+
+
 def _packet(it: library.Packet) -> Packet:
     return Packet(it.sender, it.number, it.length)
 
@@ -155,18 +161,29 @@ class Carrier(Generic[T]):
 
     def _next(self, device: int, pull: Callable[[library.Departure], bool]) -> Carried[T] | None:
         """The packet that an interrupted call pulled of the device, and else the one that this call pulls."""
+        given: Given[T] = Given()
         with self._lock:
-            self._router._need_open()
-            if not 0 <= device < len(self._pulled):
-                raise UnknownDevice(f"there is no device {device}")
-            it = self._pulled[device]
-            if not self._is_waiting(it.packet) and not pull(it):
-                return None
-            packet = _packet(it.packet)
-            carried = Carried(packet, self._router.moment(device), self._values[packet[:2]])
-            # From here the packet is given.
-            del self._values[packet[:2]]
-            return carried
+            self._give(device, pull, given)
+        return given.carried
+
+    def _give(self, device: int, pull: Callable[[library.Departure], bool], given: Given[T]) -> None:
+        """Does what `_next` does for a caller that holds the lock, and stores the packet in `given`."""
+        self._router._need_open()
+        if not 0 <= device < len(self._pulled):
+            raise UnknownDevice(f"there is no device {device}")
+        it = self._pulled[device]
+        if not self._is_waiting(it.packet) and not pull(it):
+            return
+        packet = _packet(it.packet)
+        key = packet[:2]
+        carried = Carried(packet, self._router.moment(device), self._values[key])
+        # From here the packet is given. Python handles no signal between these two lines, since neither calls a function.
+        given.carried = carried
+        del self._values[key]
+
+    def _waits(self, device: int) -> bool:
+        """Whether an interrupted call pulled a packet of the device that was not given yet."""
+        return self._is_waiting(self._pulled[device].packet)
 
     def _is_waiting(self, it: library.Packet) -> bool:
         """Whether a packet was pulled and not yet given. There is none of length 0 before the first pull."""
