@@ -202,17 +202,12 @@ class Dispatcher(Generic[T]):
     def _look(self, taker: Taker[T], deadline: int | None) -> Job[T] | None:
         """Returns a job that is due. If there is none, puts the taker in line, and sets how long it may sleep."""
         with self._lock:
+            self._step_out(taker)
             now = self._clock.now()
             moment = (now - self._start) // self._tick
-            self._step_out(taker)
-            self._pull(taker, moment)
-            if taker.carried is not None:
-                self._pass_on(taker.device)
-                return _job(taker.carried.packet, taker.carried.value)
-            due = self.router.due(taker.device)
+            due = self._due(taker.device)
             if due is not None and due <= moment:
-                taker.sleep = 0
-                return None
+                return self._take(taker, moment)
             if due is None and self._closed:
                 raise Ended("the dispatcher is closed, and all jobs were given")
             if deadline is not None and deadline <= now:
@@ -224,8 +219,15 @@ class Dispatcher(Generic[T]):
             taker.sleep = min(ends) - now if ends else None
             return None
 
-    def _pull(self, taker: Taker[T], moment: int) -> None:
-        """Stores in the taker what was pulled for one that left with an error, or else what a pull gives at this moment."""
+    def _due(self, device: int) -> int | None:
+        """The earliest moment at which a job could be given, or None if none is left. Only then does a taker pull: how often takers look
+        must not change what schedulers do, and a DRRSched that finds an input without a packet takes its deficit away."""
+        if self._returned[device] or self._carrier._waits(device):
+            return 0
+        return self.router.due(device)
+
+    def _take(self, taker: Taker[T], moment: int) -> Job[T] | None:
+        """Returns a job that was pulled for a taker that left with an error, or else what a pull gives at this moment."""
         returned = self._returned[taker.device]
         if returned:
             first = min(returned)
@@ -233,6 +235,11 @@ class Dispatcher(Generic[T]):
             del returned[first]
         else:
             self._carrier._give(taker.device, lambda it: self.router._pull(moment, taker.device, it.packet), taker)
+        if taker.carried is None:
+            taker.sleep = 0
+            return None
+        self._pass_on(taker.device)
+        return _job(taker.carried.packet, taker.carried.value)
 
     def _leave(self, taker: Taker[T]) -> None:
         """Takes a taker that ends with an error out of the line, keeps what was pulled for it, and wakes the next."""

@@ -145,6 +145,105 @@ def test_cancelled_waits_lose_nothing() -> None:
     assert sorted(given) == list(range(count))
 
 
+class VirtualClock(Clock):
+    """Its time passes when a test says, and tasks sleep until then."""
+
+    def __init__(self) -> None:
+        self.time = 0
+        self.sleepers: dict[asyncio.Event, int] = {}
+        """When each event is set by the clock."""
+
+    def now(self) -> int:
+        return self.time
+
+    async def wait_async(self, woken: asyncio.Event, nanoseconds: int | None) -> None:
+        if nanoseconds == 0:
+            return await asyncio.sleep(0)
+        if nanoseconds is not None:
+            self.sleepers[woken] = self.time + nanoseconds
+        try:
+            await woken.wait()
+        finally:
+            self.sleepers.pop(woken, None)
+
+    def pass_time(self, nanoseconds: int) -> None:
+        self.time += nanoseconds
+        for woken in [it for it, ends in self.sleepers.items() if ends <= self.time]:
+            woken.set()
+
+
+class Crowd:
+    """Tasks that take from one dispatcher, and come and go. Whenever all are quiet, one of them watches for the next job."""
+
+    def __init__(self, tree: str, chance: random.Random) -> None:
+        self.chance, self.clock = chance, VirtualClock()
+        self.dispatcher = Dispatcher[int](tree, tick=1, clock=self.clock)
+        self.senders = [it.sender for it in self.dispatcher.router.accounts()]
+        self.tasks: list[asyncio.Task[None]] = []
+        self.given: list[int] = []
+        self.accepted = 0
+
+    async def take(self) -> None:
+        self.given.append((await self.dispatcher.next_async()).value)
+
+    def act(self) -> None:
+        """Does something by chance."""
+        chance, kind = self.chance, self.chance.random()
+        if kind < 0.4:
+            self.tasks.append(asyncio.create_task(self.take()))
+        elif kind < 0.8:
+            self.accepted += self.dispatcher.submit(chance.choice(self.senders), self.accepted, chance.choice([1, 40, 1500])).accepted
+        elif self.tasks and kind < 0.9:
+            chance.choice(self.tasks).cancel()
+        else:
+            self.clock.pass_time(chance.choice([SECOND // 2, SECOND, 3 * SECOND]))
+
+    async def settle(self) -> None:
+        """Lets tasks run until they are quiet, and looks whether one sleeps through a job."""
+        for _ in range(20 + 8 * len(self.tasks)):
+            await asyncio.sleep(0)
+        self.tasks = [it for it in self.tasks if not it.done()]
+        due = self.dispatcher.router.due()
+        if due is not None and self.tasks:
+            assert min(self.clock.sleepers.values(), default=None) == due * SECOND > self.clock.time
+        assert len(self.dispatcher._lines[0]) == len(self.tasks)
+
+    async def end(self) -> None:
+        """Closes the dispatcher. All tasks end, and each job was given once."""
+        self.tasks += [asyncio.create_task(self.take()) for _ in range(3)]
+        await self.settle()
+        self.dispatcher.close()
+        while self.dispatcher.left() and self.tasks:
+            self.clock.pass_time(SECOND)
+            await self.settle()
+        self.given += [it.value async for it in self.dispatcher] if not self.dispatcher.left() else []
+        await self.settle()
+        assert not self.tasks
+
+
+SEVERAL = """a :: Sender(0); b :: Sender(1); c :: Sender(2); p, q, r :: Queue(1000); s :: Shaper(1); t :: Shaper(2, 3); top :: DRRSched(500);
+d :: ToDevice(x); a -> p -> s -> top -> d; b -> q -> [1] top; c -> r -> t -> [2] top;"""
+
+
+@pytest.mark.parametrize("tree", [SHAPED.replace("9", "1000"), SEVERAL])
+def test_somebody_always_watches(tree: str) -> None:
+    """Tasks come, go, and are cancelled. Whenever all are quiet, no job is due, and one sleeps just until the next job is."""
+
+    async def test() -> None:
+        for seed in range(40):
+            chance = random.Random(seed)
+            crowd = Crowd(tree, chance)
+            for _ in range(60):
+                for _ in range(chance.choice([1, 1, 2, 5])):
+                    crowd.act()
+                await crowd.settle()
+            await crowd.end()
+            left = crowd.dispatcher.left()
+            assert sorted(crowd.given) == sorted(set(crowd.given)) and len(crowd.given) + left == crowd.accepted
+
+    run(test())
+
+
 def test_a_cancelled_wait_wakes_the_next() -> None:
     """A task that was woken is cancelled before it runs. So the other one has to be woken."""
 
@@ -169,6 +268,7 @@ def test_a_task_whose_loop_is_closed_is_passed_over() -> None:
 
         def wait(self, woken: Lock, nanoseconds: int | None) -> None:
             dispatcher.submit(0, "job")
+            assert not woken.locked()
             super().wait(woken, nanoseconds)
 
     dispatcher = Dispatcher[str](ONE, clock=Submitting())

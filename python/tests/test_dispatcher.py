@@ -102,10 +102,23 @@ def test_it_sleeps_until_a_shaper_lets_one_pass() -> None:
 
 def test_a_long_job_waits_for_its_quanta_without_sleeping() -> None:
     clock = ManualClock()
-    dispatcher = Dispatcher[str](f"a :: Sender(0); q :: Queue(9); s :: DRRSched(10); d :: ToDevice(x); a -> q -> s -> d;", clock=clock)
+    dispatcher = Dispatcher[str]("a :: Sender(0); q :: Queue(9); s :: DRRSched(10); d :: ToDevice(x); a -> q -> s -> d;", clock=clock)
     dispatcher.submit(0, "long", 45)
     assert dispatcher.next(0).value == "long"
     assert set(clock.waits) == {0} and clock.time == 0
+
+
+def test_looking_for_a_job_changes_no_turn() -> None:
+    """A pull that found nothing would take the deficit of the first input away, and then the second one would have its turn."""
+    tree = """a :: Sender(0); b :: Sender(1); p, q :: Queue(9); s :: DRRSched(10); d :: ToDevice(x); a -> p -> s -> d; b -> q -> [1] s;"""
+    dispatcher = Dispatcher[str](tree, clock=ManualClock())
+    dispatcher.submit(0, "first", 5)
+    assert dispatcher.next(0).value == "first"
+    with pytest.raises(Empty):
+        dispatcher.next(0)
+    dispatcher.submit(1, "other", 5)
+    dispatcher.submit(0, "second", 5)
+    assert dispatcher.next(0).value == "second"
 
 
 def test_each_device_has_jobs_of_its_own() -> None:
@@ -148,6 +161,7 @@ def test_closing_ends_a_wait() -> None:
 def test_moments_end() -> None:
     clock = ManualClock()
     dispatcher = Dispatcher[int](SHAPED, tick=1e-9, clock=clock)
+    dispatcher.submit(0, 1)
     clock.time = 1 << 44
     with pytest.raises(AtEnd):
         dispatcher.next(0)

@@ -92,14 +92,14 @@ def test_each_job_has_one_end(tree: str) -> None:
 
 
 def test_takers_share_a_shaper() -> None:
-    """Two takers wait for the ticks of one Shaper, by the real clock, and each job is taken, also those that wait when it is closed."""
+    """Three takers wait for the ticks of one Shaper, by the real clock, and each job is taken, also those that wait when it is closed."""
     dispatcher = Dispatcher[int](SHAPED, tick=0.0001)
 
     def take() -> list[int]:
         return [it.value for it in dispatcher]
 
-    with ThreadPoolExecutor(2) as pool:
-        takers = [pool.submit(take) for _ in range(2)]
+    with ThreadPoolExecutor(3) as pool:
+        takers = [pool.submit(take) for _ in range(3)]
         for value in range(500):
             assert dispatcher.submit(0, value).accepted
         dispatcher.close()
@@ -120,11 +120,19 @@ def test_closing_wakes_all() -> None:
         assert results(takers) == [1] * 8
 
 
+def test_who_is_interrupted_while_it_waits_leaves_the_line() -> None:
+    clock = ManualClock()
+    dispatcher = Dispatcher[str](ONE, clock=clock)
+    clock.meanwhile.append(interrupts.interrupt)
+    with pytest.raises(KeyboardInterrupt):
+        dispatcher.next()
+    assert not dispatcher._lines[0]
+
+
 def test_who_gives_up_wakes_the_next() -> None:
     """The first in line is woken for a job, and its wait ends with an error. So the second in line is woken."""
-    clocks = [ManualClock(), ManualClock()]
-    dispatcher = Dispatcher[str](ONE, clock=clocks[0])
-    given: list[Job[str]] = []
+    clock = ManualClock()
+    dispatcher = Dispatcher[str](ONE, clock=clock)
 
     def fail() -> None:
         dispatcher.submit(0, "job")
@@ -135,9 +143,24 @@ def test_who_gives_up_wakes_the_next() -> None:
         with pytest.raises(KeyboardInterrupt):
             dispatcher.next()
 
-    clocks[0].meanwhile.extend([first, fail])
-    given.append(dispatcher.next())
-    assert [it.value for it in given] == ["job"] and clocks[0].waits == [None, None]
+    clock.meanwhile.extend([first, fail])
+    assert dispatcher.next().value == "job" and clock.waits == [None, None]
+
+
+def test_an_interrupted_submit_wakes_a_taker() -> None:
+    """While one waits, a submit is interrupted at any bytecode. If the job was submitted, the one that waits is woken for it."""
+    for at in interrupts.each(interrupts.interrupt):
+        clock = ManualClock()
+        dispatcher = Dispatcher[str](ONE, clock=clock)
+
+        def submit() -> None:
+            with suppress(KeyboardInterrupt), at:
+                dispatcher.submit(0, "job")
+            if not dispatcher.left():
+                dispatcher.submit(0, "job")
+
+        clock.meanwhile.append(submit)
+        assert dispatcher.next().value == "job" and clock.waits == [None]
 
 
 class Tried:
