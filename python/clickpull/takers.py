@@ -10,12 +10,13 @@ T = TypeVar("T")
 class Taker(Given[T]):
     """One that waits for a job of a device. It stores here what was pulled for it, until it returns that to its caller."""
 
+    is_new = True
+    """Whether it hasn't stood in line yet."""
+    sleep: int | None = None
+    """How many nanoseconds it may sleep unless it is woken; without end where this is None."""
+
     def __init__(self, device: int) -> None:
         self.device = device
-        self.is_new = True
-        """Whether it hasn't stood in line yet."""
-        self.sleep: int | None = None
-        """How many nanoseconds it may sleep unless it is woken; without end where this is None."""
 
     def wake(self) -> bool:
         """Wakes it, unless it was woken already, and returns whether it can still run. The caller holds the dispatcher's lock."""
