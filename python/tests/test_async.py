@@ -184,7 +184,8 @@ class Crowd:
         self.accepted = 0
 
     async def take(self) -> None:
-        self.given.append((await self.dispatcher.next_async()).value)
+        with suppress(Ended):
+            self.given.append((await self.dispatcher.next_async()).value)
 
     def act(self) -> None:
         """Does something by chance."""
@@ -209,16 +210,15 @@ class Crowd:
         assert len(self.dispatcher._lines[0]) == len(self.tasks)
 
     async def end(self) -> None:
-        """Closes the dispatcher. All tasks end, and each job was given once."""
-        self.tasks += [asyncio.create_task(self.take()) for _ in range(3)]
+        """Closes the dispatcher while more tasks wait than jobs are left. Each job is given once, and all tasks end."""
+        self.tasks += [asyncio.create_task(self.take()) for _ in range(self.dispatcher.left() + 3)]
         await self.settle()
         self.dispatcher.close()
-        while self.dispatcher.left() and self.tasks:
+        await self.settle()
+        while self.dispatcher.left():
             self.clock.pass_time(SECOND)
             await self.settle()
-        self.given += [it.value async for it in self.dispatcher] if not self.dispatcher.left() else []
-        await self.settle()
-        assert not self.tasks
+        assert not self.tasks and sorted(self.given) == list(range(self.accepted))
 
 
 SEVERAL = """a :: Sender(0); b :: Sender(1); c :: Sender(2); p, q, r :: Queue(1000); s :: Shaper(1); t :: Shaper(2, 3); top :: DRRSched(500);
@@ -238,8 +238,6 @@ def test_somebody_always_watches(tree: str) -> None:
                     crowd.act()
                 await crowd.settle()
             await crowd.end()
-            left = crowd.dispatcher.left()
-            assert sorted(crowd.given) == sorted(set(crowd.given)) and len(crowd.given) + left == crowd.accepted
 
     run(test())
 

@@ -163,6 +163,20 @@ def test_an_interrupted_submit_wakes_a_taker() -> None:
         assert dispatcher.next().value == "job" and clock.waits == [None]
 
 
+def test_a_job_that_an_interrupted_next_pulled_is_left() -> None:
+    """Wherever a signal comes, the job is left, and comes next."""
+    for at in interrupts.each(interrupts.interrupt, interrupts.where_signals_come):
+        dispatcher = Dispatcher[str](ONE)
+        dispatcher.submit(0, "job")
+        try:
+            with at:
+                job = dispatcher.next(0)
+        except KeyboardInterrupt:
+            assert dispatcher.left() == 1
+            job = dispatcher.next(0)
+        assert job.value == "job" and dispatcher.left() == 0
+
+
 class Tried:
     """A dispatcher whose calls may be interrupted. In the end each job that was accepted was given once, or evicted."""
 
@@ -221,13 +235,22 @@ def test_an_interrupt_wherever_signals_come() -> None:
         tried.end()
 
 
-def test_closing_that_is_interrupted() -> None:
-    for at in interrupts.each(interrupts.interrupt, interrupts.where_signals_come):
-        dispatcher = Dispatcher[int](ONE)
-        with suppress(KeyboardInterrupt), at:
-            dispatcher.close()
-        dispatcher.close()
-        assert dispatcher.closed and list(dispatcher) == []
+def test_an_interrupted_close_wakes_a_taker() -> None:
+    """While one waits, closing is interrupted at any bytecode. If it closed the dispatcher, the one that waits is woken to end."""
+    for at in interrupts.each(interrupts.interrupt):
+        clock = ManualClock()
+        dispatcher = Dispatcher[str](ONE, clock=clock)
+
+        def close() -> None:
+            with suppress(KeyboardInterrupt), at:
+                dispatcher.close()
+            if not dispatcher.closed:
+                dispatcher.close()
+
+        clock.meanwhile.append(close)
+        with pytest.raises(Ended):
+            dispatcher.next()
+        assert list(dispatcher) == []
 
 
 def test_many_interrupts_by_a_timer() -> None:
