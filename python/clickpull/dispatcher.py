@@ -56,7 +56,8 @@ class Dispatcher(Generic[T]):
     An interrupt, as by Ctrl-C, may come at any point of a call:
 
     - `submit`: the job was submitted or it was not, and `router.accounts()` tells. A value that was refused or evicted is let go of.
-    - `next`, and a loop over jobs: no job is lost. A job that the interrupted call didn't return is the next one that its device gives.
+    - `next`, and a loop over jobs: no job is lost. A job that the interrupted call didn't return is the next one that its device gives. (On
+      Python 3.10 a loop may lose the job that it was about to give.)
     - `close`: calling it again closes the dispatcher.
 
     Cancelling a task that waits in `next_async` loses no job either. A signal handler calls no dispatcher that the code which it interrupts may

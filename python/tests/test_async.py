@@ -4,7 +4,8 @@ import random
 from collections.abc import Coroutine
 from concurrent.futures import ThreadPoolExecutor
 from contextlib import suppress
-from threading import Lock
+from queue import SimpleQueue
+from threading import Lock, Thread
 from typing import Any
 
 import pytest
@@ -82,6 +83,28 @@ def test_a_wait_for_a_limited_time() -> None:
             await asyncio.wait_for(dispatcher.next_async(), 0.001)
         dispatcher.submit(0, 1)
         assert (await asyncio.wait_for(dispatcher.next_async(), 1)).value == 1
+
+    run(test())
+
+
+def test_a_thread_wakes_a_loop_that_sleeps() -> None:
+    """Nothing but the job of another thread wakes the loop, again and again."""
+    rounds = 500
+    dispatcher = Dispatcher[int](ONE)
+    taken: SimpleQueue[int] = SimpleQueue()
+
+    def submit() -> None:
+        for value in range(rounds):
+            dispatcher.submit(0, value)
+            assert taken.get(timeout=PATIENCE) == value
+        dispatcher.close()
+
+    async def test() -> None:
+        thread = Thread(target=submit)
+        thread.start()
+        async for job in dispatcher:
+            taken.put(job.value)
+        thread.join()
 
     run(test())
 
@@ -190,7 +213,7 @@ class Crowd:
     def act(self) -> None:
         """Does something by chance."""
         chance, kind = self.chance, self.chance.random()
-        if kind < 0.4:
+        if kind < 0.4 and len(self.tasks) < 12:
             self.tasks.append(asyncio.create_task(self.take()))
         elif kind < 0.8:
             self.accepted += self.dispatcher.submit(chance.choice(self.senders), self.accepted, chance.choice([1, 40, 1500])).accepted
@@ -230,7 +253,7 @@ def test_somebody_always_watches(tree: str) -> None:
     """Tasks come, go, and are cancelled. Whenever all are quiet, no job is due, and one sleeps just until the next job is."""
 
     async def test() -> None:
-        for seed in range(40):
+        for seed in range(60):
             chance = random.Random(seed)
             crowd = Crowd(tree, chance)
             for _ in range(60):
