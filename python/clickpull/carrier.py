@@ -40,9 +40,10 @@ class Offer(Generic[T]):
 
 
 class Given(Generic[T]):
-    """Where a pull stores the packet that it gives, so that an interrupted caller can tell whether it was given."""
+    """Where a pull stores what it gives, so that an interrupted caller can tell whether it was given."""
 
-    carried: Carried[T] | None = None
+    pair: tuple[Packet, T] | None = None
+    """The packet and its value."""
 
 
 def _packet(it: library.Packet) -> Packet:
@@ -161,25 +162,33 @@ class Carrier(Generic[T]):
 
     def _next(self, device: int, pull: Callable[[library.Departure], bool]) -> Carried[T] | None:
         """The packet that an interrupted call pulled of the device, and else the one that this call pulls."""
-        given: Given[T] = Given()
         with self._lock:
-            self._give(device, pull, given)
-        return given.carried
+            packet = self._pulled_packet(device, pull)
+            if packet is None:
+                return None
+            carried = Carried(packet, self._router.moment(device), self._values[packet[:2]])
+            # From here the packet is given.
+            del self._values[packet[:2]]
+            return carried
 
     def _give(self, device: int, pull: Callable[[library.Departure], bool], given: Given[T]) -> None:
         """Does what `_next` does for a caller that holds the lock, and stores the packet in `given`."""
+        packet = self._pulled_packet(device, pull)
+        if packet is None:
+            return
+        key = packet[:2]
+        pair = packet, self._values[key]
+        # From here the packet is given. Python handles no signal between these two lines, since neither calls a function.
+        given.pair = pair
+        del self._values[key]
+
+    def _pulled_packet(self, device: int, pull: Callable[[library.Departure], bool]) -> Packet | None:
+        """The packet that an interrupted call pulled of the device, and else the one that this call pulls. Its value is still here."""
         self._router._need_open()
         if not 0 <= device < len(self._pulled):
             raise UnknownDevice(f"there is no device {device}")
         it = self._pulled[device]
-        if not self._is_waiting(it.packet) and not pull(it):
-            return
-        packet = _packet(it.packet)
-        key = packet[:2]
-        carried = Carried(packet, self._router.moment(device), self._values[key])
-        # From here the packet is given. Python handles no signal between these two lines, since neither calls a function.
-        given.carried = carried
-        del self._values[key]
+        return _packet(it.packet) if self._is_waiting(it.packet) or pull(it) else None
 
     def _waits(self, device: int) -> bool:
         """Whether an interrupted call pulled a packet of the device that was not given yet."""

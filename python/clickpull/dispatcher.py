@@ -6,7 +6,7 @@ from queue import Empty
 from types import TracebackType
 from typing import Generic, TypeVar
 
-from clickpull.carrier import Carried, Carrier
+from clickpull.carrier import Carrier
 from clickpull.clock import SECOND, Clock
 from clickpull.errors import Ended, Shut, UnknownDevice
 from clickpull.router import Router
@@ -96,7 +96,7 @@ class Dispatcher(Generic[T]):
         self._devices = {it.sender: queues[it.queue].device for it in self.router.accounts()}
         self._lines: list[deque[Taker[T]]] = [deque() for _ in range(self.router.devices)]
         # What was pulled for a taker that left with an error, by sender and number.
-        self._returned: list[dict[tuple[int, int], Carried[T]]] = [{} for _ in self._lines]
+        self._returned: list[dict[tuple[int, int], tuple[Packet, T]]] = [{} for _ in self._lines]
         self._start = self._clock.now()
 
     @property
@@ -203,7 +203,8 @@ class Dispatcher(Generic[T]):
     def _look(self, taker: Taker[T], deadline: int | None) -> Job[T] | None:
         """Returns a job that is due. If there is none, puts the taker in line, and sets how long it may sleep."""
         with self._lock:
-            self._step_out(taker)
+            if not taker.is_new:
+                self._step_out(taker)
             now = self._clock.now()
             moment = (now - self._start) // self._tick
             due = self._due(taker.device)
@@ -232,22 +233,22 @@ class Dispatcher(Generic[T]):
         returned = self._returned[taker.device]
         if returned:
             first = min(returned)
-            taker.carried = returned[first]
+            taker.pair = returned[first]
             del returned[first]
         else:
             self._carrier._give(taker.device, lambda it: self.router._pull(moment, taker.device, it.packet), taker)
-        if taker.carried is None:
+        if taker.pair is None:
             taker.sleep = 0
             return None
         self._pass_on(taker.device)
-        return _job(taker.carried.packet, taker.carried.value)
+        return _job(*taker.pair)
 
     def _leave(self, taker: Taker[T]) -> None:
         """Takes a taker that ends with an error out of the line, keeps what was pulled for it, and wakes the next."""
         with self._lock:
             self._step_out(taker)
-            if taker.carried is not None:
-                self._returned[taker.device][taker.carried.packet[:2]] = taker.carried
+            if taker.pair is not None:
+                self._returned[taker.device][taker.pair[0][:2]] = taker.pair
             self._wake(taker.device)
 
     # The lines. Their callers hold the lock.
