@@ -89,12 +89,12 @@ class Dispatcher(Generic[T]):
         if self._tick < 1:
             raise ValueError(f"a tick takes a nanosecond or more, and not {tick} seconds")
         self._carrier = Carrier[T](tree)
-        self._lock = self._carrier._lock
+        self._router, self._lock = self._carrier.router, self._carrier._lock
         self._clock = clock or Clock()
         self._closed = False
-        queues = self.router.queues()
-        self._devices = {it.sender: queues[it.queue].device for it in self.router.accounts()}
-        self._lines: list[deque[Taker[T]]] = [deque() for _ in range(self.router.devices)]
+        queues = self._router.queues()
+        self._devices = {it.sender: queues[it.queue].device for it in self._router.accounts()}
+        self._lines: list[deque[Taker[T]]] = [deque() for _ in range(self._router.devices)]
         # What was pulled for a taker that left with an error, by sender and number.
         self._returned: list[dict[tuple[int, int], tuple[Packet, T]]] = [{} for _ in self._lines]
         self._start = self._clock.now()
@@ -102,7 +102,7 @@ class Dispatcher(Generic[T]):
     @property
     def router(self) -> Router:
         """The router, to ask about its accounts and queues. It is offered to and pulled through the dispatcher alone."""
-        return self._carrier.router
+        return self._router
 
     @property
     def closed(self) -> bool:
@@ -112,7 +112,7 @@ class Dispatcher(Generic[T]):
     def left(self, device: int = 0) -> int:
         """Returns how many jobs are left for the device."""
         with self._lock:
-            return self.router.left(device) + self._carrier._waits(device) + len(self._returned[device])
+            return self._router.left(device) + self._carrier._waits(device) + len(self._returned[device])
 
     # Submit and close.
 
@@ -226,7 +226,7 @@ class Dispatcher(Generic[T]):
         must not change what schedulers do, and a DRRSched that finds an input without a packet takes its deficit away."""
         if self._returned[device] or self._carrier._waits(device):
             return 0
-        return self.router.due(device)
+        return self._router.due(device)
 
     def _take(self, taker: Taker[T], moment: int) -> Job[T] | None:
         """Returns a job that was pulled for a taker that left with an error, or else what a pull gives at this moment."""
@@ -236,7 +236,7 @@ class Dispatcher(Generic[T]):
             taker.pair = returned[first]
             del returned[first]
         else:
-            self._carrier._give(taker.device, lambda it: self.router._pull(moment, taker.device, it.packet), taker)
+            self._carrier._give(taker.device, lambda it: self._router._pull(moment, taker.device, it.packet), taker)
         if taker.pair is None:
             taker.sleep = 0
             return None

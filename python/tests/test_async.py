@@ -253,7 +253,7 @@ def test_somebody_always_watches(tree: str) -> None:
     """Tasks come, go, and are cancelled. Whenever all are quiet, no job is due, and one sleeps just until the next job is."""
 
     async def test() -> None:
-        for seed in range(60):
+        for seed in range(30):
             chance = random.Random(seed)
             crowd = Crowd(tree, chance)
             for _ in range(60):

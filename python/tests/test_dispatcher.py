@@ -1,9 +1,11 @@
 """Tests of `clickpull.Dispatcher` on one thread, by a clock that never sleeps. They stand outside what is proved."""
+import asyncio
 from queue import Empty
+from threading import Lock
 
 import pytest
 
-from clickpull import AtEnd, BadLength, Dispatcher, Ended, Error, Job, Shut, Submission, TextFault, UnknownDevice, UnknownSender
+from clickpull import AtEnd, BadLength, Clock, Dispatcher, Ended, Error, Job, Shut, Submission, TextFault, UnknownDevice, UnknownSender
 from clickpull.clock import SECOND
 from clocks import ManualClock
 
@@ -165,3 +167,22 @@ def test_moments_end() -> None:
     clock.time = 1 << 44
     with pytest.raises(AtEnd):
         dispatcher.next(0)
+
+
+def test_a_very_long_wait_ends_when_it_is_woken() -> None:
+    """Longer than the machine can wait."""
+    woken = Lock()
+    Clock().wait(woken, 1 << 100)
+    assert woken.locked()
+
+    async def wait() -> None:
+        event = asyncio.Event()
+        asyncio.get_running_loop().call_soon(event.set)
+        await Clock().wait_async(event, 1 << 100)
+
+    asyncio.run(wait())
+
+
+def test_a_wait_by_the_real_clock_ends() -> None:
+    with pytest.raises(Empty):
+        Dispatcher[int](PRIO).next(0.001)
