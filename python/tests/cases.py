@@ -43,7 +43,7 @@ def cases() -> list[Case]:
             found.append(Case(rest))
         elif word == "tree":
             found[-1].tree = rest.replace("\\n", "\n")
-        elif word == "room":
+        elif word == "room" and " -> " not in rest:
             found[-1].is_live = True
         else:
             call, arrow, answer = line.partition(" -> ")
