@@ -9,13 +9,21 @@ from of_library.module import environment
 from of_library.rusted import run_program
 
 
+def all_shown(setting: Setting, part: str, language: str) -> list[tuple[str, str]]:
+    """The programs of a part of the page, each with what the page says that it prints."""
+    text = (setting.root / "docs" / "LIBRARY.md").read_text().partition(f"\n## {part}\n")[2].partition("\n## ")[0]
+    found = re.findall(rf"```{language}\n(.*?)```\n.*?```\n(.*?)```", text, re.DOTALL)
+    if not found:
+        raise Failed(f"docs/LIBRARY.md, {part}: has no program with its answer")
+    return found
+
+
 def shown(setting: Setting, part: str, language: str, place: int = 0) -> tuple[str, str]:
     """The program at a place of a part of the page, counted from 0, and what the page says that it prints."""
-    text = (setting.root / "docs" / "LIBRARY.md").read_text().partition(f"\n## {part}\n")[2].partition("\n## ")[0]
-    found = list(re.finditer(rf"```{language}\n(.*?)```\n.*?```\n(.*?)```", text, re.DOTALL))
+    found = all_shown(setting, part, language)
     if place >= len(found):
         raise Failed(f"docs/LIBRARY.md, {part}: has no program {place} with its answer")
-    return found[place][1], found[place][2]
+    return found[place]
 
 
 def compiled(part: str, language: str, compiler: str, standard: str, place: int = 0) -> Callable[[Setting], str]:
@@ -47,12 +55,15 @@ def threads_are_right(setting: Setting) -> str:
 
 
 def python_is_right(setting: Setting) -> str:
-    """The program in Python prints what the page says."""
-    program, answer = shown(setting, "In Python", "python")
-    source = setting.made / "shown.py"
-    source.write_text(program)
-    compare("what the program in Python prints", run([sys.executable, source], environment(setting)), answer)
-    return f"{len(program.splitlines())} lines"
+    """Each program in Python prints what the page says."""
+    lines = 0
+    for part, count in (("In Python", 2), ("Coming from Click", 2)):
+        programs = all_shown(setting, part, "python")
+        compare(f"programs in the part {part}", len(programs), count)
+        for program, answer in programs:
+            compare(f"what a program of {part} prints", run([sys.executable, "-c", program], environment(setting)), answer)
+            lines += len(program.splitlines())
+    return f"{lines} lines"
 
 
 def rust_is_right(setting: Setting) -> str:
