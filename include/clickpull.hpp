@@ -4,15 +4,19 @@
 // what the caller owes. Link with -lclickpull (pkg-config clickpull).
 //
 //     clickpull::Carrier<std::string> router("a :: Sender(0); q :: Queue(4); d :: ToDevice(link); a -> q -> d;");
-//     router.offer(0, 1500, "a packet of my own");
+//     if (auto it = router.offer(0, 1500, "a packet of my own"); !it.accepted())
+//         try_later(*it.refused);
 //     while (auto it = router.pull(0, now))
 //         transmit(it->value);
 //
-// A `Router` carries packets, and a `Carrier<T>` with each a value of the caller's. Both are moved and not copied, and shut their router
-// where they end. A call that can't be made throws: `Error`, where the router is shut, a sender, device or queue is unknown, a length is
-// not from 1 to 65,535 or a number is at its end; `TextFault`, where a text makes no router; std::bad_alloc where memory is refused. A call that
-// throws leaves all as it was, but for a drain at the end of moments, which keeps the pulls that it made before. That a packet is refused,
-// or that none comes, is no error, and no exception.
+// A `Router` carries packets, and a `Carrier<T>` carries a value of the caller's with each packet. A `LiveRouter<T>` takes packets with
+// values from threads (clickpull_live.hpp, which this header includes). All are moved and not copied, and close their router when they are
+// destroyed.
+//
+// A call that can't be made throws. It throws `Error` if the router is shut, a sender, device or queue is unknown, a length is not from 1
+// to 65,535, or a number is at its end. It throws `TextFault` if a text makes no router, and std::bad_alloc if an allocation fails. A call
+// that throws leaves all as it was, but for a drain at the end of moments, which keeps the pulls that it made before. That a packet is
+// refused, or that none comes, is no error, and no exception.
 #ifndef CLICKPULL_HPP
 #define CLICKPULL_HPP
 
@@ -92,6 +96,117 @@ private:
     Place place_;
 };
 
+// How far a drain came: `count` packets came out, and whether these were all.
+struct Drained {
+    std::size_t count;
+    bool all;
+};
+
+// What the classes share; no part of what a caller uses.
+namespace detail {
+
+inline void need(clk_status status) {
+    if (status != CLK_OK)
+        throw Error(status);
+}
+
+// Whether a call returned CLK_NONE. Throws for all but that and CLK_OK.
+inline bool is_none(clk_status status) {
+    if (status != CLK_NONE)
+        need(status);
+    return status == CLK_NONE;
+}
+
+// Throws unless a packet may have this length. The library tests it before all else; so do those who have something to do before they ask it.
+inline void need_length(std::uint32_t length) {
+    if (length == 0 || length > std::numeric_limits<decltype(Packet::length)>::max())
+        throw Error(CLK_BAD_LENGTH);
+}
+
+// Throws unless a router was opened.
+inline void need_opened(clk_status status, clk_fault fault, std::string_view text) {
+    if (status == CLK_FAULT && fault.number == 1)
+        throw std::bad_alloc();
+    if (status == CLK_FAULT)
+        throw TextFault(fault, text);
+    need(status);
+}
+
+// Calls `pull` up to `count` times, up to the first that gives none, and hands what each gives to `each`. Returns how many it handed.
+template <class Pull, class Each> std::size_t pull_each(std::size_t count, Pull pull, Each &each) {
+    std::size_t given = 0;
+    for (; given < count; given++) {
+        auto it = pull();
+        if (!it)
+            break;
+        each(std::move(*it));
+    }
+    return given;
+}
+
+// How far a drain came that emitted so many. That moments are at their end is an error only if none were emitted.
+inline Drained drained(clk_status status, std::size_t count) {
+    const bool some_left = (status == CLK_AT_END && count != 0) || is_none(status);
+    return {count, !some_left};
+}
+
+// Drains packet by packet, so that an exception of the caller's loses none. `drain(&departure, most, pulls, &given)` is the library's call,
+// and `moment` the latest moment of the device: one pull is made a tick.
+template <class Departure, class Drain, class Hand>
+Drained drain_each(std::uint64_t moment, std::size_t count, std::uint64_t pulls, Drain drain, Hand hand) {
+    for (std::size_t emitted = 0;; emitted++) {
+        Departure it{};
+        std::size_t given = 0;
+        const clk_status status = drain(&it, emitted < count ? 1U : 0U, pulls, &given);
+        if (given == 0)
+            return drained(status, emitted);
+        pulls -= it.moment - moment;
+        moment = it.moment;
+        hand(it);
+    }
+}
+
+// All of `count` things, each of which `ask(place, &thing)` fills in.
+template <class Thing, class Ask> std::vector<Thing> all_of(std::size_t count, Ask ask) {
+    std::vector<Thing> all(count);
+    for (std::size_t place = 0; place < count; place++)
+        need(ask(place, &all[place]));
+    return all;
+}
+
+inline void close(clk_router *it) noexcept { clk_close(it); }
+inline void close(clk_live *it) noexcept { clk_live_close(it); }
+inline void close(clk_inlet *it) noexcept { clk_inlet_close(it); }
+
+// Owns a clk_router, a clk_live or a clk_inlet: it is moved and not copied, and closed when it is destroyed.
+template <class Handle> class Owned {
+public:
+    Owned() = default;
+    Owned(Owned &&other) noexcept : it_(std::exchange(other.it_, Handle{nullptr})) {}
+
+    Owned &operator=(Owned &&other) noexcept {
+        if (this != &other) {
+            close(&it_);
+            it_ = std::exchange(other.it_, Handle{nullptr});
+        }
+        return *this;
+    }
+
+    Owned(const Owned &) = delete;
+    Owned &operator=(const Owned &) = delete;
+
+    ~Owned() { close(&it_); }
+
+    bool is_open() const noexcept { return it_.at != nullptr; }
+    Handle *c() noexcept { return &it_; }
+    const Handle *c() const noexcept { return &it_; }
+
+private:
+    Handle it_{nullptr};
+};
+
+} // namespace detail
+
 // What became of a packet that was offered.
 struct Offered {
     Packet packet;                 // the packet, with its number
@@ -105,142 +220,102 @@ struct Done {
     clk_status status;
 };
 
-// How far a drain came: `count` packets came out, and whether these were all.
-struct Drained {
-    std::size_t count;
-    bool all;
-};
-
 // A router. One that was moved from is shut.
 class Router {
 public:
     // The router of a tree in Click's language. Throws TextFault, or std::bad_alloc.
     explicit Router(std::string_view text) {
         clk_fault fault{};
-        const clk_status status = clk_open(text.data(), text.size(), &router_, &fault);
-        if (status == CLK_FAULT && fault.number == 1)
-            throw std::bad_alloc();
-        if (status == CLK_FAULT)
-            throw TextFault(fault, text);
-        need(status);
+        const clk_status status = clk_open(text.data(), text.size(), router_.c(), &fault);
+        detail::need_opened(status, fault, text);
     }
 
-    Router(Router &&other) noexcept : router_(std::exchange(other.router_, clk_router{nullptr})) {}
+    // Frees all that it has. What is called afterwards throws CLK_SHUT.
+    void shut() noexcept { clk_close(router_.c()); }
 
-    Router &operator=(Router &&other) noexcept {
-        if (this != &other) {
-            shut();
-            router_ = std::exchange(other.router_, clk_router{nullptr});
-        }
-        return *this;
-    }
-
-    Router(const Router &) = delete;
-    Router &operator=(const Router &) = delete;
-
-    ~Router() { shut(); }
-
-    // Gives back all that it has. What is called afterwards throws CLK_SHUT.
-    void shut() noexcept { clk_close(&router_); }
-
-    bool is_open() const noexcept { return router_.at != nullptr; }
+    bool is_open() const noexcept { return router_.is_open(); }
 
     // The sender offers its next packet, of so many bytes.
-    Offered offer(std::uint32_t sender, std::uint32_t length) {
+    [[nodiscard]] Offered offer(std::uint32_t sender, std::uint32_t length) {
         clk_offered it{};
-        need(clk_offer(&router_, sender, length, &it));
+        detail::need(clk_offer(router_.c(), sender, length, &it));
         return {it.packet, it.outcome != CLK_REFUSED, it.outcome == CLK_EVICTED ? std::optional<Packet>(it.evicted) : std::nullopt};
     }
 
     // Offers many, up to the first that can't be; fills as many elements of `offered`. Throws for a shut router and for nulls alone.
-    Done offer_many(const clk_offer_of *offers, std::size_t count, clk_offered *offered) {
+    [[nodiscard]] Done offer_many(const clk_offer_of *offers, std::size_t count, clk_offered *offered) {
         Done it{0, CLK_OK};
-        it.status = clk_offer_many(&router_, offers, count, offered, &it.count);
+        it.status = clk_offer_many(router_.c(), offers, count, offered, &it.count);
         if (it.status == CLK_SHUT || it.status == CLK_NULL)
             throw Error(it.status);
         return it;
     }
 
     // Pulls the device once, at this moment in ticks.
-    std::optional<Packet> pull(std::uint16_t device, std::uint64_t moment) {
+    [[nodiscard]] std::optional<Packet> pull(std::uint16_t device, std::uint64_t moment) {
         Packet packet{};
-        if (is_none(clk_pull(&router_, device, moment, &packet)))
+        if (detail::is_none(clk_pull(router_.c(), device, moment, &packet)))
             return std::nullopt;
         return packet;
     }
 
     // Pulls the device up to `count` times at this moment, up to the first pull that gives none; fills and answers as many as came.
-    std::size_t pull_many(std::uint16_t device, std::uint64_t moment, Packet *packets, std::size_t count) {
+    [[nodiscard]] std::size_t pull_many(std::uint16_t device, std::uint64_t moment, Packet *packets, std::size_t count) {
         std::size_t given = 0;
-        is_none(clk_pull_many(&router_, device, moment, packets, count, &given));
+        detail::is_none(clk_pull_many(router_.c(), device, moment, packets, count, &given));
         return given;
     }
 
     // Pulls the device one tick apart until all that is left for it came out, `pulls` pulls were made, `count` packets came out, or the
     // next moment is at its end. It throws at that end only if no packet came out.
-    Drained drain(std::uint16_t device, Departure *departures, std::size_t count,
-                  std::uint64_t pulls = std::numeric_limits<std::uint64_t>::max()) {
+    [[nodiscard]] Drained drain(std::uint16_t device, Departure *departures, std::size_t count,
+                                std::uint64_t pulls = std::numeric_limits<std::uint64_t>::max()) {
         std::size_t given = 0;
-        const clk_status status = clk_drain(&router_, device, departures, count, pulls, &given);
-        const bool some_left = (status == CLK_AT_END && given != 0) || is_none(status);
-        return {given, !some_left};
+        const clk_status status = clk_drain(router_.c(), device, departures, count, pulls, &given);
+        return detail::drained(status, given);
     }
 
     // The greatest moment handed in at the device so far, in ticks.
     std::uint64_t moment(std::uint16_t device) const {
         std::uint64_t it = 0;
-        need(clk_moment(&router_, device, &it));
+        detail::need(clk_moment(router_.c(), device, &it));
         return it;
     }
 
     // The earliest moment at which a pull of the device could emit a packet, in ticks, as things stand; none if no packet is left for it.
     std::optional<std::uint64_t> due(std::uint16_t device) const {
         std::uint64_t it = 0;
-        return is_none(clk_due(&router_, device, &it)) ? std::nullopt : std::optional(it);
+        return detail::is_none(clk_due(router_.c(), device, &it)) ? std::nullopt : std::optional(it);
     }
 
     // How many packets are left for the device, in queues and held by schedulers.
     std::uint64_t left(std::uint16_t device) const {
         std::uint64_t it = 0;
-        need(clk_left(&router_, device, &it));
+        detail::need(clk_left(router_.c(), device, &it));
         return it;
     }
 
     // How many devices there are. They are numbered from 0 as they are declared.
-    std::size_t devices() const noexcept { return clk_devices(&router_); }
+    std::size_t devices() const noexcept { return clk_devices(router_.c()); }
 
     // What became of the packets of each sender, by rising numbers of senders.
     std::vector<Account> accounts() const {
-        std::vector<Account> all(clk_senders(&router_));
-        for (std::size_t place = 0; place < all.size(); place++)
-            need(clk_account_at(&router_, place, &all[place]));
-        return all;
+        return detail::all_of<Account>(clk_senders(router_.c()),
+                                       [&](std::size_t place, Account *it) { return clk_account_at(router_.c(), place, it); });
     }
 
     // The queues, by number: in order of declaration.
     std::vector<Queue> queues() const {
-        std::vector<Queue> all(clk_queues(&router_));
-        for (std::size_t number = 0; number < all.size(); number++)
-            need(clk_queue_at(&router_, static_cast<std::uint16_t>(number), &all[number]));
-        return all;
+        return detail::all_of<Queue>(clk_queues(router_.c()), [&](std::size_t number, Queue *it) {
+            return clk_queue_at(router_.c(), static_cast<std::uint16_t>(number), it);
+        });
     }
 
     // The router as C has it. It stays this one's.
-    clk_router *c() noexcept { return &router_; }
+    clk_router *c() noexcept { return router_.c(); }
 
 private:
-    static void need(clk_status status) {
-        if (status != CLK_OK)
-            throw Error(status);
-    }
-
-    static bool is_none(clk_status status) {
-        if (status != CLK_NONE)
-            need(status);
-        return status == CLK_NONE;
-    }
-
-    clk_router router_ = CLK_NO_ROUTER;
+    detail::Owned<clk_router> router_;
 };
 
 // A router whose packets carry values of the caller's: with each a T, which is moved in by an offer and moved out by a pull. They are kept
@@ -276,11 +351,14 @@ public:
     explicit Carrier(std::string_view text) : router_(text) {
         for (const Account &it : router_.accounts())
             places_.push_back(it.sender);
-        lists_.resize(places_.size());
+        // A vector that grows may want to copy its lists, which a T that is moved alone forbids. One that is made as long as it is doesn't.
+        lists_ = std::vector<List>(places_.size());
     }
 
     // The sender offers its next packet, of so many bytes, with this value.
-    Offer offer(std::uint32_t sender, std::uint32_t length, T value) {
+    [[nodiscard]] Offer offer(std::uint32_t sender, std::uint32_t length, T value) {
+        if (router_.is_open())
+            detail::need_length(length);
         List &list = list_of(sender);
         // It is put into the list first, so that no memory is asked for once the packet was offered.
         list.push_back({0, std::move(value)});
@@ -303,7 +381,7 @@ public:
     }
 
     // Pulls the device once, at this moment in ticks.
-    std::optional<Carried> pull(std::uint16_t device, std::uint64_t moment) {
+    [[nodiscard]] std::optional<Carried> pull(std::uint16_t device, std::uint64_t moment) {
         const std::optional<Packet> packet = router_.pull(device, moment);
         if (!packet)
             return std::nullopt;
@@ -313,28 +391,19 @@ public:
     // Pulls the device up to `count` times at this moment, up to the first pull that gives none, hands each that comes to `each`, and
     // answers how many came. Where `each` throws, nothing that came is kept back.
     template <class Each> std::size_t pull_many(std::uint16_t device, std::uint64_t moment, std::size_t count, Each &&each) {
-        std::size_t given = 0;
-        while (given < count) {
-            std::optional<Carried> it = pull(device, moment);
-            if (!it)
-                break;
-            given++;
-            each(std::move(*it));
-        }
-        return given;
+        return detail::pull_each(count, [&] { return pull(device, moment); }, each);
     }
 
-    // Pulls the device one tick apart until all that is left for it came out, or `pulls` pulls were made that gave none since the latest
-    // that came; hands each to `each`, and answers how many came, and whether these were all.
+    // Pulls the device one tick apart until all that is left for it came out, `pulls` pulls were made, or `count` packets came out; hands
+    // each to `each`, and answers how many came, and whether these were all. Where `each` throws, nothing that came is kept back.
     template <class Each>
-    Drained drain(std::uint16_t device, Each &&each, std::uint64_t pulls = std::numeric_limits<std::uint64_t>::max()) {
-        for (std::size_t given = 0;; given++) {
-            Departure departure{};
-            const Drained it = router_.drain(device, &departure, 1, pulls);
-            if (it.count == 0)
-                return {given, it.all};
-            each(Carried{departure.packet, departure.moment, take_front(departure.packet)});
-        }
+    Drained drain(std::uint16_t device, Each &&each, std::uint64_t pulls = std::numeric_limits<std::uint64_t>::max(),
+                  std::size_t count = std::numeric_limits<std::size_t>::max()) {
+        const auto drain = [&](Departure *it, std::size_t most, std::uint64_t most_pulls, std::size_t *given) {
+            return clk_drain(router_.c(), device, it, most, most_pulls, given);
+        };
+        const auto hand = [&](const Departure &it) { each(Carried{it.packet, it.moment, take_front(it.packet)}); };
+        return detail::drain_each<Departure>(router_.moment(device), count, pulls, drain, hand);
     }
 
     // How many values of a sender are here: in its queue, or held by a scheduler.
@@ -385,5 +454,7 @@ private:
 };
 
 } // namespace clickpull
+
+#include "clickpull_live.hpp"
 
 #endif

@@ -9,7 +9,7 @@ from making.library import INTERFACE
 
 # The name of the program and of the library.
 NAME = "clickpull"
-HEADERS = (f"{NAME}.h", f"{NAME}.hpp")
+HEADERS = tuple(f"{NAME}{it}" for it in (".h", ".hpp", "_live.hpp", "_values.hpp"))
 
 
 @dataclass(frozen=True)

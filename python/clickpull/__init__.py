@@ -2,8 +2,9 @@
 
 This module stands outside what is proved. Proved are the calls of the library; see include/clickpull.h, which says what each does.
 
-A `Router` carries packets (a sender, a number and a length), and a `Carrier` with each a value of the caller's. Both are made of a
-tree in Click's language and are context managers::
+A `Router` carries packets (a sender, a number and a length), and a `Carrier` a value of the caller's with each. A `Dispatcher` is a carrier
+between threads or tasks of asyncio: some submit jobs, and others wait until the next one is due. Each is made of a tree in Click's language
+and is a context manager::
 
     with Router("a :: Sender(0); q :: Queue(4); d :: ToDevice(link); a -> q -> d;") as router:
         router.offer(0, 1500)
@@ -11,7 +12,7 @@ tree in Click's language and are context managers::
             print(packet)
 
 Lengths are in bytes, and moments in ticks. What can't be done raises an `Error`, and leaves all as it was. That a packet is refused,
-or that none comes, is no error.
+or that a pull gives none, is no error.
 
 Threads may share a `Router` and a `Carrier` without a lock of their own. The library is called with Python's global lock held, so its
 calls come one after the other. A `Carrier` has a lock besides. One thread may close what another uses: the other's next call raises
@@ -19,11 +20,13 @@ calls come one after the other. A `Carrier` has a lock besides. One thread may c
 `Router.queues`, where each entry is one; and `Router.pull_many`, which first asks what is left. On a Python without the global lock
 threads that share a `Router` use a lock of their own.
 
-An interrupt, as by Ctrl-C, may come at any point of a call, and later calls work. `Carrier` says what became of the packet. Of a
-`Router`, accounts tell. A signal handler calls no `Carrier` that the code which it interrupts may be calling.
+An interrupt, as by Ctrl-C, may come at any point of a call, and later calls work. `Carrier` and `Dispatcher` say what became of the packet.
+Of a `Router`, accounts tell. A signal handler calls no `Carrier` or `Dispatcher` that the code which it interrupts may be calling.
 """
 from clickpull.carrier import Carried, Carrier, Evicted, Offer
-from clickpull.errors import AtEnd, Error, BadLength, Shut, TextFault, UnknownDevice, UnknownSender
+from clickpull.clock import Clock
+from clickpull.dispatcher import Dispatcher, Job, Submission
+from clickpull.errors import AtEnd, BadLength, Ended, Error, Shut, TextFault, UnknownDevice, UnknownSender
 from clickpull.router import END_OF_MOMENTS, Router
 from clickpull.values import Account, Departure, Offered, Outcome, Packet, Queue, Total
 
@@ -34,12 +37,16 @@ __all__ = [
     "END_OF_MOMENTS",
     "Account",
     "AtEnd",
+    "BadLength",
     "Carried",
     "Carrier",
+    "Clock",
     "Departure",
+    "Dispatcher",
+    "Ended",
     "Error",
     "Evicted",
-    "BadLength",
+    "Job",
     "Offer",
     "Offered",
     "Outcome",
@@ -47,6 +54,7 @@ __all__ = [
     "Queue",
     "Router",
     "Shut",
+    "Submission",
     "TextFault",
     "Total",
     "UnknownDevice",

@@ -39,6 +39,13 @@ class Offer(Generic[T]):
     evicted: Evicted[T] | None
 
 
+class Given(Generic[T]):
+    """Where a pull stores what it gives, so that an interrupted caller can tell whether it was given."""
+
+    pair: tuple[Packet, T] | None = None
+    """The packet and its value."""
+
+
 def _packet(it: library.Packet) -> Packet:
     return Packet(it.sender, it.number, it.length)
 
@@ -156,17 +163,36 @@ class Carrier(Generic[T]):
     def _next(self, device: int, pull: Callable[[library.Departure], bool]) -> Carried[T] | None:
         """The packet that an interrupted call pulled of the device, and else the one that this call pulls."""
         with self._lock:
-            self._router._need_open()
-            if not 0 <= device < len(self._pulled):
-                raise UnknownDevice(f"there is no device {device}")
-            it = self._pulled[device]
-            if not self._is_waiting(it.packet) and not pull(it):
+            packet = self._pulled_packet(device, pull)
+            if packet is None:
                 return None
-            packet = _packet(it.packet)
             carried = Carried(packet, self._router.moment(device), self._values[packet[:2]])
             # From here the packet is given.
             del self._values[packet[:2]]
             return carried
+
+    def _give(self, device: int, pull: Callable[[library.Departure], bool], given: Given[T]) -> None:
+        """Does what `_next` does for a caller that holds the lock, and stores the packet in `given`."""
+        packet = self._pulled_packet(device, pull)
+        if packet is None:
+            return
+        key = packet[:2]
+        pair = packet, self._values[key]
+        # From here the packet is given. Python handles no signal between these two lines, since neither calls a function.
+        given.pair = pair
+        del self._values[key]
+
+    def _pulled_packet(self, device: int, pull: Callable[[library.Departure], bool]) -> Packet | None:
+        """The packet that an interrupted call pulled of the device, and else the one that this call pulls. Its value is still here."""
+        self._router._need_open()
+        if not 0 <= device < len(self._pulled):
+            raise UnknownDevice(f"there is no device {device}")
+        it = self._pulled[device]
+        return _packet(it.packet) if self._is_waiting(it.packet) or pull(it) else None
+
+    def _waits(self, device: int) -> bool:
+        """Whether an interrupted call pulled a packet of the device that was not given yet."""
+        return self._is_waiting(self._pulled[device].packet)
 
     def _is_waiting(self, it: library.Packet) -> bool:
         """Whether a packet was pulled and not yet given. There is none of length 0 before the first pull."""

@@ -23,7 +23,11 @@ class Error(Exception):
 
 
 class Shut(Error):
-    """The router is shut."""
+    """The router is shut, or the dispatcher is closed."""
+
+
+class Ended(Shut):
+    """The dispatcher is closed, and all its jobs were given."""
 
 
 class UnknownSender(Error, LookupError):

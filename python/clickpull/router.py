@@ -2,6 +2,8 @@
 import ctypes
 from collections.abc import Callable, Iterable, Iterator
 from ctypes import byref
+from functools import partial
+from operator import attrgetter
 from types import TracebackType
 from typing import NoReturn
 
@@ -46,10 +48,21 @@ def _code(text: str | bytes) -> bytes:
 class _Handle(library.RouterHandle):
     """A router in the library's hands. It is closed when nothing refers to it, and so never while a call of another thread uses it."""
 
-    def __del__(self) -> None:
-        # Python calls this once. An interrupt before the call of the library leaves the memory until the process ends.
-        if self.at:
-            LIBRARY.clk_router_close(self)
+    closing: "partial[object]"
+    """Closes the router, if there is one. Only the first call does something."""
+
+    # Python calls `__del__` once. A function of Python may be interrupted before its first line, and then the router would never be closed.
+    # This property gives `closing`, and neither that nor what it calls is written in Python. So no interrupt comes in between.
+    __del__ = property(attrgetter("closing"))
+
+
+def _no_router() -> _Handle:
+    """A handle that has no router yet, for the library to fill."""
+    # The handle shares the memory of `inner`, which doesn't refer to the handle, and so doesn't keep it alive.
+    inner = library.RouterHandle(None)
+    handle = _Handle.from_buffer(inner)
+    handle.closing = partial(next, map(LIBRARY.clk_router_close, filter(attrgetter("at"), [inner])), None)
+    return handle
 
 
 class Router:
@@ -62,7 +75,7 @@ class Router:
     def __init__(self, text: str | bytes) -> None:
         """Makes a router of a text. Raises `TextFault` where it has one, and `MemoryError`."""
         code = _code(text)
-        handle = _Handle(None)
+        handle = _no_router()
         fault = library.Fault()
         array = (ctypes.c_uint8 * max(len(code), 1)).from_buffer_copy(code or b"\0")
         if LIBRARY.clk_router_open(array, len(code), handle, byref(fault)) != library.OK:

@@ -1,18 +1,15 @@
 """Tests of `clickpull.Carrier`: values go in and come out with their packets. They stand outside what is proved."""
 import random
-import signal
 import sys
 import weakref
-from collections.abc import Callable, Iterator
+from collections.abc import Callable
 from concurrent.futures import ThreadPoolExecutor
-from contextlib import contextmanager
 from functools import partial
-from types import FrameType
 
 import pytest
 
 import interrupts
-from clickpull import Carried, Carrier, Evicted, BadLength, Packet, Shut, UnknownSender
+from clickpull import BadLength, Carried, Carrier, Evicted, Packet, Shut, UnknownSender
 
 
 def test_values_come_out_in_order() -> None:
@@ -186,24 +183,6 @@ def test_what_an_interrupted_pull_pulled_comes_next() -> None:
     assert lost[:-1] == sorted(lost[:-1])
 
 
-@contextmanager
-def timer() -> Iterator[Callable[[float], None]]:
-    """Sets a timer that interrupts as Ctrl-C does, after some seconds."""
-
-    def interrupt(number: int, frame: FrameType | None) -> None:
-        raise KeyboardInterrupt
-
-    def after(seconds: float) -> None:
-        signal.setitimer(signal.ITIMER_REAL, seconds)
-
-    before = signal.signal(signal.SIGALRM, interrupt)
-    try:
-        yield after
-    finally:
-        signal.setitimer(signal.ITIMER_REAL, 0)
-        signal.signal(signal.SIGALRM, before)
-
-
 def interrupted_round(watched: Watched, chance: random.Random, after: Callable[[float], None]) -> None:
     """Offers and pulls until a timer interrupts."""
     calls: list[Callable[[], None]] = [partial(watched.offer, 0), partial(watched.offer, 1), watched.pull, partial(watched.drain, 1)]
@@ -218,7 +197,7 @@ def interrupted_round(watched: Watched, chance: random.Random, after: Callable[[
 def test_many_interrupts_by_a_timer() -> None:
     """What comes out is looked at, for some seconds. An interrupt of the test itself may lose a packet, too."""
     watched, chance = Watched(), random.Random(1)
-    with timer() as after:
+    with interrupts.timer() as after:
         for _ in range(60000):
             interrupted_round(watched, chance, after)
     assert watched.interrupted == 60000

@@ -2,8 +2,10 @@
 import copy
 import gc
 import pickle
+from _thread import interrupt_main
 from collections.abc import Callable
 from concurrent.futures import ThreadPoolExecutor
+from operator import methodcaller
 from typing import Any
 
 import pytest
@@ -252,19 +254,14 @@ def test_threads_may_share_a_router() -> None:
 
 
 @pytest.fixture
-def shut(monkeypatch: pytest.MonkeyPatch) -> list[int]:
-    """Where the routers stood that the library was told to close, instead of which it keeps them."""
-    closed: list[int] = []
-
-    def close(handle: RouterHandle) -> None:
-        assert handle.at
-        closed.append(handle.at)
-
-    monkeypatch.setattr(LIBRARY, "clk_router_close", close)
+def shut(monkeypatch: pytest.MonkeyPatch) -> list[RouterHandle]:
+    """The routers that the library was told to close, instead of which it keeps them. As the library's, this call is one of C."""
+    closed: list[RouterHandle] = []
+    monkeypatch.setattr(LIBRARY, "clk_router_close", closed.append)
     return closed
 
 
-def test_a_router_may_be_shut_while_it_is_called(shut: list[int]) -> None:
+def test_a_router_may_be_shut_while_it_is_called(shut: list[RouterHandle]) -> None:
     """At each bytecode of a call another thread may shut the router. The library closes it when no call will use it any more."""
     calls: list[Callable[[Router], object]] = [
         lambda it: it.offer(4, 10),
@@ -290,9 +287,8 @@ def test_a_router_may_be_shut_while_it_is_called(shut: list[int]) -> None:
             assert len(shut) == 1
 
 
-@pytest.mark.filterwarnings("ignore::pytest.PytestUnraisableExceptionWarning")
-def test_a_router_is_closed_once(shut: list[int]) -> None:
-    """An interrupt at any bytecode of closing, after which a caller closes again, closes no router twice."""
+def test_a_router_is_closed_once(shut: list[RouterHandle]) -> None:
+    """An interrupt at any bytecode of closing, after which a caller closes again, closes the router once."""
     for at in interrupts.each(interrupts.interrupt):
         router = Router(ONE)
         shut.clear()
@@ -304,7 +300,47 @@ def test_a_router_is_closed_once(shut: list[int]) -> None:
         router.close()
         assert router.closed
         del router
-        assert len(shut) <= 1
+        assert len(shut) == 1 and shut[0].at
+
+
+def test_an_interrupted_opening_closes_its_router(shut: list[RouterHandle], monkeypatch: pytest.MonkeyPatch) -> None:
+    """An interrupt at any bytecode of opening leaves no router open."""
+    open_router, opened = LIBRARY.clk_router_open, 0
+
+    def count(*taken: object) -> object:
+        nonlocal opened
+        opened += 1
+        return open_router(*taken)
+
+    monkeypatch.setattr(LIBRARY, "clk_router_open", count)
+    for at in interrupts.each(interrupts.interrupt):
+        try:
+            with at:
+                Router(ONE)
+        except KeyboardInterrupt:
+            pass
+        assert len(shut) == opened and all(it.at for it in shut)
+
+
+def test_a_fault_leaves_nothing_to_close(shut: list[RouterHandle]) -> None:
+    with pytest.raises(TextFault):
+        Router("q :: Heap;")
+    assert shut == []
+
+
+def test_a_pending_interrupt_comes_after_a_router_is_closed(shut: list[RouterHandle]) -> None:
+    """In one call of C the interrupt is set and the router let go of. So it is pending when the router is closed."""
+    routers = [Router(ONE)]
+    with pytest.raises(KeyboardInterrupt):
+        list(map(methodcaller("__call__"), (interrupt_main, routers.clear)))
+    assert routers == [] and len(shut) == 1
+
+
+def test_a_router_in_a_cycle_is_closed(shut: list[RouterHandle]) -> None:
+    router: Any = Router(ONE)
+    router.itself = router
+    del router
+    gc.collect()
     assert len(shut) == 1
 
 

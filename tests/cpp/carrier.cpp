@@ -29,10 +29,10 @@ static void values_come_out_in_order() {
 
 static void a_refused_value_comes_back() {
     Carrier<Own> carrier("a :: Sender(0); q :: Queue(1); d :: ToDevice(link); a -> q -> d;");
-    carrier.offer(0, 10, own("first"));
+    CHECK(carrier.offer(0, 10, own("first")).accepted());
     auto it = carrier.offer(0, 11, own("second"));
     CHECK(!it.accepted() && **it.refused == "second" && is_packet(it.packet, 0, 1, 11));
-    carrier.offer(0, 12, own("third"));
+    CHECK(!carrier.offer(0, 12, own("third")).accepted());
     const auto packet = carrier.pull(0, 0);
     CHECK(packet && *packet->value == "first" && carrier.kept(0) == 0);
 }
@@ -40,9 +40,9 @@ static void a_refused_value_comes_back() {
 // The DRRSched holds the first, so the second is what the queue puts out.
 static void an_evicted_value_stands_behind_held_ones() {
     Carrier<Own> carrier("a :: Sender(0); q :: FrontDropQueue(1); s :: DRRSched(500); d :: ToDevice(link); a -> q -> s -> d;");
-    carrier.offer(0, 1500, own("held"));
+    CHECK(carrier.offer(0, 1500, own("held")).accepted());
     CHECK(!carrier.pull(0, 0));
-    carrier.offer(0, 20, own("put out"));
+    CHECK(carrier.offer(0, 20, own("put out")).accepted());
     auto it = carrier.offer(0, 30, own("last"));
     CHECK(it.accepted() && it.evicted && is_packet(it.evicted->packet, 0, 1, 20) && *it.evicted->value == "put out");
     std::string came;
@@ -53,11 +53,11 @@ static void an_evicted_value_stands_behind_held_ones() {
 
 static void what_cannot_be_offered_leaves_no_value() {
     Carrier<int> carrier("a :: Sender(0); q :: Queue(1); d :: ToDevice(link); a -> q -> d;");
-    CHECK(thrown_by([&] { carrier.offer(0, 0, 5); }) == CLK_BAD_LENGTH);
-    CHECK(thrown_by([&] { carrier.offer(1, 1, 5); }) == CLK_UNKNOWN_SENDER);
+    CHECK(thrown_by([&] { (void)carrier.offer(0, 0, 5); }) == CLK_BAD_LENGTH);
+    CHECK(thrown_by([&] { (void)carrier.offer(1, 1, 5); }) == CLK_UNKNOWN_SENDER);
     CHECK(carrier.kept(0) == 0);
     Carrier<int> other(std::move(carrier));
-    CHECK(thrown_by([&] { carrier.offer(0, 1, 5); }) == CLK_SHUT);
+    CHECK(thrown_by([&] { (void)carrier.offer(0, 1, 5); }) == CLK_SHUT);
     CHECK(other.offer(0, 1, 6).accepted() && other.pull(0, 0)->value == 6);
 }
 
@@ -65,7 +65,7 @@ static void what_cannot_be_offered_leaves_no_value() {
 static void a_throw_stops_the_pulls() {
     Carrier<int> carrier("a :: Sender(0); q :: Queue(9); d :: ToDevice(link); a -> q -> d;");
     for (int i = 0; i < 4; i++)
-        carrier.offer(0, 1, i);
+        CHECK(carrier.offer(0, 1, i).accepted());
     try {
         carrier.pull_many(0, 0, 9, [](auto it) {
             if (it.value == 1)

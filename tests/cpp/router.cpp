@@ -44,7 +44,7 @@ static void packets_are_offered_and_pulled() {
 
 static void a_full_queue_refuses() {
     Router router("a :: Sender(4); q :: Queue(1); d :: ToDevice(link); a -> q -> d;");
-    router.offer(4, 1);
+    CHECK(router.offer(4, 1).accepted);
     const auto it = router.offer(4, 2);
     CHECK(!it.accepted && !it.evicted && it.packet.number == 1);
 }
@@ -64,7 +64,7 @@ static void bursts_go_together() {
 static void a_router_drains() {
     Router router("a :: Sender(0); q :: Queue(9); s :: Shaper(1); d :: ToDevice(link); a -> q -> s -> d;");
     for (int i = 0; i < 5; i++)
-        router.offer(0, 100);
+        CHECK(router.offer(0, 100).accepted);
     Departure departures[3];
     auto it = router.drain(0, departures, 3);
     CHECK(it.count == 3 && !it.all && departures[2].moment == 3);
@@ -78,34 +78,34 @@ static void a_router_drains() {
 static void a_drain_ends_with_moments() {
     Router router("a :: Sender(0); q :: Queue(9); d :: ToDevice(link); a -> q -> d;");
     for (int i = 0; i < 3; i++)
-        router.offer(0, 100);
+        CHECK(router.offer(0, 100).accepted);
     CHECK(router.pull(0, CLK_END_OF_MOMENTS - 2).has_value());
     Departure departures[3];
     const auto it = router.drain(0, departures, 3);
     CHECK(it.count == 1 && !it.all && departures[0].moment == CLK_END_OF_MOMENTS - 1);
-    CHECK(thrown_by([&] { router.drain(0, departures, 3); }) == CLK_AT_END);
+    CHECK(thrown_by([&] { (void)router.drain(0, departures, 3); }) == CLK_AT_END);
 }
 
 static void what_cannot_be_is_thrown() {
     Router router(ONE);
-    CHECK(thrown_by([&] { router.offer(5, 1); }) == CLK_UNKNOWN_SENDER);
-    CHECK(thrown_by([&] { router.offer(4, 0); }) == CLK_BAD_LENGTH);
-    CHECK(thrown_by([&] { router.offer(4, 65536); }) == CLK_BAD_LENGTH);
-    CHECK(thrown_by([&] { router.offer(65536 + 4, 1); }) == CLK_UNKNOWN_SENDER);
-    CHECK(thrown_by([&] { router.pull(1, 0); }) == CLK_UNKNOWN_DEVICE);
-    CHECK(thrown_by([&] { router.pull(0, CLK_END_OF_MOMENTS); }) == CLK_AT_END);
+    CHECK(thrown_by([&] { (void)router.offer(5, 1); }) == CLK_UNKNOWN_SENDER);
+    CHECK(thrown_by([&] { (void)router.offer(4, 0); }) == CLK_BAD_LENGTH);
+    CHECK(thrown_by([&] { (void)router.offer(4, 65536); }) == CLK_BAD_LENGTH);
+    CHECK(thrown_by([&] { (void)router.offer(65536 + 4, 1); }) == CLK_UNKNOWN_SENDER);
+    CHECK(thrown_by([&] { (void)router.pull(1, 0); }) == CLK_UNKNOWN_DEVICE);
+    CHECK(thrown_by([&] { (void)router.pull(0, CLK_END_OF_MOMENTS); }) == CLK_AT_END);
     CHECK(thrown_by([&] { router.left(1); }) == CLK_UNKNOWN_DEVICE);
     CHECK(thrown_by([&] { router.moment(1); }) == CLK_UNKNOWN_DEVICE);
-    CHECK(thrown_by([&] { router.drain(1, nullptr, 0); }) == CLK_UNKNOWN_DEVICE);
-    CHECK(thrown_by([&] { router.pull_many(0, 0, nullptr, 1); }) == CLK_NULL);
+    CHECK(thrown_by([&] { (void)router.drain(1, nullptr, 0); }) == CLK_UNKNOWN_DEVICE);
+    CHECK(thrown_by([&] { (void)router.pull_many(0, 0, nullptr, 1); }) == CLK_NULL);
 }
 
 static void a_router_moves() {
     Router one(ONE);
-    one.offer(4, 9);
+    CHECK(one.offer(4, 9).accepted);
     Router other(std::move(one));
     CHECK(!one.is_open() && other.is_open());
-    CHECK(thrown_by([&] { one.offer(4, 1); }) == CLK_SHUT);
+    CHECK(thrown_by([&] { (void)one.offer(4, 1); }) == CLK_SHUT);
     CHECK(one.devices() == 0 && one.accounts().empty() && one.queues().empty());
     Router third("a :: Sender(1); q :: Queue; d :: ToDevice(link); a -> q -> d;");
     third = std::move(other);
@@ -120,7 +120,7 @@ static void a_router_moves() {
 
 static void a_router_tells_what_there_is() {
     Router router(ONE);
-    router.offer(4, 9);
+    CHECK(router.offer(4, 9).accepted);
     const auto accounts = router.accounts();
     CHECK(accounts.size() == 1 && accounts[0].sender == 4 && accounts[0].accepted.bytes == 9);
     const auto queues = router.queues();

@@ -1,6 +1,6 @@
 """The shared library, and the tests in C and C++. It stands outside what is proved."""
 import shutil
-from collections.abc import Callable
+from collections.abc import Callable, Sequence
 from pathlib import Path
 
 from of_library.checks import Check, Failed, LeftOut, Setting, compare, need, run
@@ -9,13 +9,26 @@ WARNINGS = ["-Wall", "-Wextra", "-Wpedantic", "-Wconversion", "-Wshadow", "-Werr
 # valgrind doesn't read what clang writes for debuggers unless it is told to write it as of old.
 BUILT = ["-O1", "-gdwarf-4", *WARNINGS]
 C = ["-std=c11", "-pthread", *BUILT]
-CPP = ["-std=c++17", *BUILT]
+CPP = ["-std=c++17", "-pthread", *BUILT]
+
+# How the tests of C++ are built: as a program that uses the headers may be. Only the first runs under valgrind, which runs one thread at a time.
+VARIANTS = {
+    "C++17": CPP,
+    "C++17 that checks the standard library": [*CPP, "-D_GLIBCXX_DEBUG"],
+    "C++20": ["-std=c++20", *CPP[1:]],
+}
+
+# The table of cases that all bindings share.
+CASES = Path("tests", "bindings", "cases")
+
+# How many packets each sender on a thread sends in the tests of C++, alone and under valgrind.
+PACKETS, FEW = "40000", "400"
 
 # The compilers of C, each with that of C++ beside it.
 COMPILERS = {"gcc": "g++", "clang": "clang++"}
 
 # Programs that stand alone, and so are no part of the tests of calls.
-ALONE = ("replay.c", "memory.c", "sleeping.c", "at_length.c", "live_calls.c", "live_threads.c")
+ALONE = ("replay.c", "memory.c", "sleeping.c", "at_length.c", "live_calls.c", "live_threads.c", "cases.c")
 
 # The requests for memory that tests/c/memory.c answers.
 WRAPPED = [f"-Wl,--wrap={it}" for it in ("malloc", "calloc", "realloc", "free")]
@@ -52,21 +65,22 @@ def tests_of(setting: Setting, compiler: str) -> Path:
     return program
 
 
-def tests_of_cpp(setting: Setting, compiler: str) -> Path:
-    """The tests of C++ that a compiler builds, over the archive."""
+def tests_of_cpp(setting: Setting, compiler: str, variant: str) -> Path:
+    """The tests of C++ that a compiler builds in this way, over the archive."""
     need(compiler)
-    program = setting.made / f"calls-{compiler}"
+    program = setting.made / f"calls-{compiler}-{list(VARIANTS).index(variant)}"
     sources = sorted((setting.root / "tests" / "cpp").glob("*.cpp"))
-    run([compiler, *CPP, "-I", setting.include, *sources, "-o", program, setting.archive, heap()])
+    run([compiler, *VARIANTS[variant], "-I", setting.include, *sources, "-o", program, setting.archive, heap()])
     return program
 
 
-def clean(program: Path) -> str:
-    """Runs tests, alone and then under valgrind where it is there."""
-    told = run([program]).strip()
+def clean(program: Path, words: Sequence[str | Path] = (), checked: Sequence[str | Path] | None = None) -> str:
+    """Runs tests with these words, alone and then, with the words that are `checked`, under valgrind where it is there."""
+    told = run([program, *words]).strip()
     if shutil.which("valgrind") is None:
         return f"{told}, without valgrind, which is missing"
-    run(["valgrind", "-q", "--error-exitcode=9", "--leak-check=full", "--show-leak-kinds=all", program])
+    with_words = words if checked is None else checked
+    run(["valgrind", "-q", "--error-exitcode=9", "--leak-check=full", "--show-leak-kinds=all", program, *with_words])
     return f"{told}, valgrind finds no error and no leak"
 
 
@@ -75,9 +89,46 @@ def in_c(compiler: str) -> Callable[[Setting], str]:
     return lambda setting: clean(tests_of(setting, compiler))
 
 
-def in_cpp(compiler: str) -> Callable[[Setting], str]:
-    """The tests of C++ by this compiler."""
-    return lambda setting: clean(tests_of_cpp(setting, compiler))
+def in_cpp(compiler: str, variant: str) -> Callable[[Setting], str]:
+    """The tests of C++ by this compiler, built in this way."""
+
+    def check(setting: Setting) -> str:
+        program, cases = tests_of_cpp(setting, compiler, variant), setting.root / CASES
+        if VARIANTS[variant] is CPP:
+            return clean(program, [cases, PACKETS], [cases, FEW])
+        return run([program, cases, PACKETS]).strip()
+
+    return check
+
+
+def cases_in_c(setting: Setting) -> str:
+    """The table of cases, by the calls of C themselves."""
+    need("cc")
+    program = setting.made / "cases"
+    run(["cc", *C, "-I", setting.include, setting.root / "tests" / "c" / "cases.c", "-o", program, setting.archive, heap()])
+    return clean(program, [setting.root / CASES])
+
+
+def values_by_thread_sanitizer(compiler: str) -> Callable[[Setting], str]:
+    """The table in which live routers of C++ keep values, without the library, whose exchanges ThreadSanitizer doesn't see."""
+
+    def check(setting: Setting) -> str:
+        need(compiler)
+        source, program = setting.root / "tests" / "cpp" / "alone" / "value_table.cpp", setting.made / f"values-{compiler}"
+        try:
+            run([compiler, *CPP, "-fsanitize=thread", "-I", setting.include, source, "-o", program])
+        except Failed as it:
+            if "tsan" in str(it):
+                raise LeftOut(f"the ThreadSanitizer of {compiler} is missing") from None
+            raise
+        try:
+            return run([program, PACKETS + "0"]).strip()
+        except Failed as it:
+            if "unexpected memory mapping" in str(it):
+                raise LeftOut("ThreadSanitizer can't map its memory here") from None
+            raise
+
+    return check
 
 
 # What a program that includes a header may ask of it besides.
@@ -92,7 +143,7 @@ def headers_stand_alone(setting: Setting) -> str:
         for compiler, header, ending, flags in (
             (c, "clickpull.h", "c", [*C, *STRICT]),
             (cpp, "clickpull.h", "cpp", [*CPP, *STRICT_CPP]),
-            (cpp, "clickpull.hpp", "cpp", [*CPP, *STRICT_CPP]),
+            *((cpp, it, "cpp", [*CPP, *STRICT_CPP]) for it in ("clickpull.hpp", "clickpull_live.hpp", "clickpull_values.hpp")),
         ):
             if shutil.which(compiler) is None:
                 continue
@@ -139,7 +190,9 @@ def memory_is_refused(setting: Setting) -> str:
 CHECKS = [
     Check("the headers stand alone", headers_stand_alone),
     *(Check(f"the calls, by {it}", in_c(it)) for it in COMPILERS),
-    *(Check(f"C++, by {it}", in_cpp(it)) for it in COMPILERS.values()),
+    Check("the table of cases, in C", cases_in_c),
+    *(Check(f"{variant}, by {it}", in_cpp(it, variant)) for it in COMPILERS.values() for variant in VARIANTS),
+    *(Check(f"values on threads, by {it}", values_by_thread_sanitizer(it)) for it in COMPILERS.values()),
     Check("the calls, over the shared library", over_the_shared_library),
     Check("memory that is refused", memory_is_refused),
 ]

@@ -27,7 +27,8 @@ def types_are_right(setting: Setting) -> str:
     """The types, by mypy."""
     folder = setting.root / "python"
     tests = sorted((folder / "tests").glob("*.py"))
-    words = ["-m", "mypy", "--config-file", "mypy.ini", "setup.py", "clickpull", *map(str, tests)]
+    bench = setting.root / "bench" / "python_calls"
+    words = ["-m", "mypy", "--config-file", "mypy.ini", "setup.py", "clickpull", *map(str, tests), str(bench)]
     return run([python("mypy"), *words], environment(setting), folder).strip()
 
 

@@ -6,26 +6,35 @@ from collections.abc import Callable
 from of_library.checks import Check, Failed, Setting, compare, need, run
 from of_library.compiled import WARNINGS, heap
 from of_library.module import environment
+from of_library.rusted import run_program
 
 
-def shown(setting: Setting, part: str, language: str) -> tuple[str, str]:
-    """The first program of a part of the page, and what the page says that it prints."""
+def all_shown(setting: Setting, part: str, language: str) -> list[tuple[str, str]]:
+    """The programs of a part of the page, each with what the page says that it prints."""
     text = (setting.root / "docs" / "LIBRARY.md").read_text().partition(f"\n## {part}\n")[2].partition("\n## ")[0]
-    found = re.search(rf"```{language}\n(.*?)```\n.*?```\n(.*?)```", text, re.DOTALL)
-    if found is None:
+    found = re.findall(rf"```{language}\n(.*?)```\n.*?```\n(.*?)```", text, re.DOTALL)
+    if not found:
         raise Failed(f"docs/LIBRARY.md, {part}: has no program with its answer")
-    return found[1], found[2]
+    return found
 
 
-def compiled(part: str, language: str, compiler: str, standard: str) -> Callable[[Setting], str]:
+def shown(setting: Setting, part: str, language: str, place: int = 0) -> tuple[str, str]:
+    """The program at a place of a part of the page, counted from 0, and what the page says that it prints."""
+    found = all_shown(setting, part, language)
+    if place >= len(found):
+        raise Failed(f"docs/LIBRARY.md, {part}: has no program {place} with its answer")
+    return found[place]
+
+
+def compiled(part: str, language: str, compiler: str, standard: str, place: int = 0) -> Callable[[Setting], str]:
     """A program is built without a warning, and prints what the page says."""
 
     def check(setting: Setting) -> str:
         need(compiler)
-        program, answer = shown(setting, part, language)
-        source, made = setting.made / f"shown.{language}", setting.made / f"shown_{language}"
+        program, answer = shown(setting, part, language, place)
+        source, made = setting.made / f"shown_{place}.{language}", setting.made / f"shown_{language}_{place}"
         source.write_text(program)
-        run([compiler, standard, *WARNINGS, "-I", setting.include, source, "-o", made, setting.archive, heap()])
+        run([compiler, standard, "-pthread", *WARNINGS, "-I", setting.include, source, "-o", made, setting.archive, heap()])
         compare(f"what the program in {language} prints", run([made]), answer)
         return f"{len(program.splitlines())} lines"
 
@@ -46,11 +55,22 @@ def threads_are_right(setting: Setting) -> str:
 
 
 def python_is_right(setting: Setting) -> str:
-    """The program in Python prints what the page says."""
-    program, answer = shown(setting, "In Python", "python")
-    source = setting.made / "shown.py"
-    source.write_text(program)
-    compare("what the program in Python prints", run([sys.executable, source], environment(setting)), answer)
+    """Each program in Python prints what the page says."""
+    lines = 0
+    for part, count in (("In Python", 2), ("Coming from Click", 2)):
+        programs = all_shown(setting, part, "python")
+        compare(f"programs in the part {part}", len(programs), count)
+        for program, answer in programs:
+            compare(f"what a program of {part} prints", run([sys.executable, "-c", program], environment(setting)), answer)
+            lines += len(program.splitlines())
+    return f"{lines} lines"
+
+
+def rust_is_right(setting: Setting) -> str:
+    """The program in Rust builds without a warning, and prints what the page says."""
+    need("cargo")
+    program, answer = shown(setting, "In Rust", "rust")
+    compare("what the program in Rust prints", run_program(setting, program), answer)
     return f"{len(program.splitlines())} lines"
 
 
@@ -58,5 +78,7 @@ CHECKS = [
     Check("C in docs/LIBRARY.md", compiled("In C", "c", "cc", "-std=c11")),
     Check("threads in docs/LIBRARY.md", threads_are_right),
     Check("C++ in docs/LIBRARY.md", compiled("In C++", "cpp", "c++", "-std=c++17")),
+    Check("C++ on threads in docs/LIBRARY.md", compiled("In C++", "cpp", "c++", "-std=c++17", 1)),
     Check("Python in docs/LIBRARY.md", python_is_right),
+    Check("Rust in docs/LIBRARY.md", rust_is_right),
 ]

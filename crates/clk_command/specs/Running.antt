@@ -23,8 +23,8 @@ pub record Tells (trace : List ℕ) (traces : List (List Packet)) : Type 0 where
   pub sound : trace_fault trace ≡ None
   pub sent : (s : ℕ) → shown (sent_by traces s) ≡ sent s (pairs_of trace)
 
--- Running a trace over a plan writes this text, where the devices make these logs: they are the report and the logs of what a run of
--- the plan over what the trace tells came to. Where its bytes aren't known, a run over some packets.
+-- Running a trace over a plan writes this text, with these logs: the report of a run of the plan over what the trace tells, or over some
+-- packets if its bytes aren't known. There may be several such texts, since runs may come to different things.
 pub record RunWrites (plan : List Planned) (pace : Pace) (trace : Option (List ℕ)) (text : List ℕ) (logs : List (List Visit)) : Type 0 where
   pub traces : List (List Packet)
   pub tells : IfSome trace (λ bytes. Tells bytes traces)

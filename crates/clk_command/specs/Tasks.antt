@@ -28,8 +28,8 @@ pub record IsCanonicalOf (tree : Option (List ℕ)) (text : List ℕ) : Type 0 w
   pub is_plan : IsPlanIn tree plan
   pub canonical : text ≡ canonical_text plan
 
--- A tree was read: its source, whose failures are counted before and after, did not fail, and its text denotes this plan. Where its bytes
--- aren't known, some text does.
+-- A tree was read: its source did not fail, and its text denotes this plan, or some text does if its bytes aren't known. A task reads its
+-- second source only then.
 pub record WasTreeRead (tree : Option (List ℕ)) (before after : ℕ) : Type 0 where
   pub plan : List Planned
   pub is_plan : IsPlanIn tree plan
@@ -45,7 +45,7 @@ pub record WritesOver (tree input : Option (List ℕ)) (text : List ℕ) : Type 
   pub is_plan : IsPlanIn tree plan
   pub means : OfBytes input (λ script. MeansOver plan script text)
 
--- the same, and its visit file is this
+-- A script over a tree writes this text, and this visit file.
 pub record WritesWithVisits (tree input : Option (List ℕ)) (text visits : List ℕ) : Type 0 where
   pub plan : List Planned
   pub is_plan : IsPlanIn tree plan
@@ -60,7 +60,7 @@ pub record ReportsOver (tree trace : Option (List ℕ)) (pace : Pace) (text : Li
   pub logs : List (List Visit)
   pub writes : RunWrites plan pace trace text logs
 
--- the same, and its visit file is this
+-- A trace that runs over a tree at a pace writes this report, and this visit file.
 pub record ReportsWithVisits (tree trace : Option (List ℕ)) (pace : Pace) (text visits : List ℕ) : Type 0 where
   pub reports : ReportsOver tree trace pace text
   pub csv : visits ≡ visits_text reports.logs
@@ -106,6 +106,7 @@ Does (live tree trace step limit record_file visits) input Written =
 abbrev pub IsQuestion : Kinds → Type 0
 IsQuestion kinds = IsAmong DisplayHelp kinds ⊎ IsAmong DisplayVersion kinds
 
+-- The words are wrong: clap may return an error that is no question for help or the version.
 abbrev pub IsMistake : Kinds → Type 0
 IsMistake kinds = (kind : ErrorKind) × IsAmong kind kinds × (kind ≢ DisplayHelp) × (kind ≢ DisplayVersion)
 

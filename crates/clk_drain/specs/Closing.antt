@@ -21,6 +21,7 @@ abbrev pub accepted_over : List LineLists → ℕ
 accepted_over [] = 0
 accepted_over (l ∷ lines) = accepted_count (seats_of l) + accepted_over lines
 
+-- how many packets the queues of lines evicted in all
 abbrev pub evicted_over : List LineLists → ℕ
 evicted_over [] = 0
 evicted_over (l ∷ lines) = evicted_count (seats_of l) + evicted_over lines
@@ -41,7 +42,7 @@ device_of session lines log emitted = record { tree = session.tree; queues = map
 abbrev pub AreOffered : List Packet → SeatLists → Type 0
 AreOffered packets l = (length packets ≡ l.next) × AreNumbered l.sender 0 packets × IsDealt packets l.accepted l.refused
 
--- each seat's sender sent what the seat offered
+-- the sender of a seat sent exactly what the seat offered
 abbrev pub HasSent : (ℕ → List Packet) → SeatLists → Type 0
 HasSent sent l = AreOffered (sent l.sender) l
 
@@ -49,10 +50,11 @@ HasSent sent l = AreOffered (sent l.sender) l
 abbrev pub tallies_of : LineLists → List Tally
 tallies_of l = map (tally_of (all_evicted (seats_of l))) (seats_of l)
 
+-- the tallies of the senders of all lines
 abbrev pub tallies_in : List LineLists → List Tally
 tallies_in lines = flat_map tallies_of lines
 
--- The same tallies, by sender.
+-- The tallies say what the seats' lists say, by rising sender.
 pub record AreInOrder (tallies sorted : List Tally) : Type 0 where
   pub same : IsPermutation tallies sorted
   pub order : IsNonDecreasingBy (λ (t : Tally). t.sender) sorted
@@ -71,7 +73,7 @@ pub record IsDrainedTo (session : Progress) (lines : List LineLists) (moment : �
   pub made : ℕ
   pub goes_on : GivesAll session (record { tree = session.tree; log = log }) (max (counted_moment session) moment) made (left_over session lines)
 
--- The same, of what a drain answers.
+-- What a drain returns meets `IsDrainedTo`: its log, its emitted packets and its tallies.
 abbrev pub IsDrainedOver : Progress → List LineLists → ℕ → Drained → Type 0
 IsDrainedOver session lines moment drained = IsDrainedTo session lines moment drained.log.items drained.emitted.items drained.tallies.items
 
@@ -79,6 +81,7 @@ IsDrainedOver session lines moment drained = IsDrainedTo session lines moment dr
 abbrev pub seated : LineLists → SeatedQueue
 seated l = record { queue = queue_of_line l; seats = seats_of l }
 
--- Why a session isn't drained over its lines: an allocation failed, or the queue of a line lost packets below its capacity.
+-- Why a session isn't drained over its lines: an allocation failed, or the queue of a line lost packets below its capacity. The caller knows
+-- the seats, so fault 21 singles out one queue.
 abbrev pub IsFaultOfDrain : List LineLists → Fault → Type 0
 IsFaultOfDrain lines fault = (fault ≡ Memory) ⊎ NamesFirstLost (map seated lines) fault

@@ -16,6 +16,7 @@ pub record LineLists : Type 0 where
   pub tap : TapLists
   pub closed : List ClosedLists
 
+-- the leaves of lines
 abbrev pub leaves_of : List LineLists → List ℕ
 leaves_of lines = map (λ (l : LineLists). l.leaf) lines
 
@@ -23,9 +24,11 @@ leaves_of lines = map (λ (l : LineLists). l.leaf) lines
 abbrev pub seats_of : LineLists → List SeatLists
 seats_of l = lists_of l.closed
 
+-- the seats of all lines
 abbrev pub seats_in : List LineLists → List SeatLists
 seats_in lines = flat_map seats_of lines
 
+-- the senders of some seats
 abbrev pub senders_at : List SeatLists → List ℕ
 senders_at seats = map (λ (l : SeatLists). l.sender) seats
 
@@ -33,6 +36,7 @@ senders_at seats = map (λ (l : SeatLists). l.sender) seats
 abbrev pub taking_all : TapLists → List Packet → TapLists
 taking_all t more = record { id = t.id; setup = t.setup; taken = t.taken ++ more; gathered = t.gathered }
 
+-- the line once its tap pulled these packets besides
 abbrev pub pulling : LineLists → List Packet → LineLists
 pulling l more = record { leaf = l.leaf; tap = taking_all l.tap more; closed = l.closed }
 
@@ -45,6 +49,7 @@ abbrev pub packets_of : Option Packet → List Packet
 packets_of None = []
 packets_of (Some p) = p ∷ []
 
+-- what one answer of a leaf gave, leaf by leaf
 abbrev pub answered : ℕ → Option Packet → ℕ → List Packet
 answered leaf got q = if leaf == q then packets_of got else []
 

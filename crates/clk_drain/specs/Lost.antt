@@ -8,17 +8,17 @@ use Rattle.clk_ruled.specs.Queue.{SeatLists}
 use Rattle.clk_ruled.specs.Settle.{accepted_count, lost_count, HasLostBelow}
 use Rattle.clk_drain.specs.Outcome.{SharedQueue}
 
--- a queue with the lists of some seats
+-- a queue, with the lists of its seats
 pub record SeatedQueue : Type 0 where
   pub queue : SharedQueue
   pub seats : List SeatLists
 
--- A queue lost packets only where it accepted as many as it may hold.
+-- A queue lost packets only if it accepted at least as many as it may hold.
 abbrev pub HasReached : SeatedQueue → Type 0
 HasReached s = 0 < lost_count s.seats → s.queue.capacity ≤ accepted_count s.seats
 
--- Fault 21 names the first of some queues that lost packets though it accepted fewer than it may hold. It has the queue's leaf, how many
--- packets the queue accepted, and how many it may hold.
+-- Fault 21 names the first of some queues that lost packets although it accepted fewer than it may hold. It has the queue's number, how many
+-- packets it accepted, and its capacity.
 pub record NamesFirstLost (queues : List SeatedQueue) (fault : Fault) : Type 0 where
   pub earlier : List SeatedQueue
   pub first : SeatedQueue

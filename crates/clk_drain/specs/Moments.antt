@@ -7,13 +7,13 @@ use Rattle.clk_sched.specs.Log.{pulls, moment_of}
 use Rattle.clk_sched.specs.Session.{given_in, LastGives}
 use Rattle.clk_sched.specs.Tree.{Tree}
 
--- so many moments, one each step: the k-th, counted from 1, is k steps
+-- the first so many moments while senders run: the k-th, counted from 1, is k times `step`
 abbrev pub steps : ℕ → ℕ → List ℕ
 steps step zero = []
 steps step (suc n) = steps step n ++ suc n * step ∷ []
 
--- When a device with this tree was pulled: once each step, so many times at most, while producers ran, and then, in the closing, one tick
--- apart, the first time one tick later.
+-- When a device was pulled: the k-th time at k times `step`, at most `limit` times, and then in the closing one tick apart. The first
+-- closing pull is one tick after the last of the others.
 pub record HasMoments (step limit : ℕ) (tree : Tree) (log : List Visit) : Type 0 where
   pub running : List (List Visit)
   pub closing : List (List Visit)

@@ -41,26 +41,29 @@ abbrev pub tally_for : List Tally → ℕ → Option Tally
 tally_for [] s = None
 tally_for (t ∷ tallies) s = if t.sender == s then Some t else tally_for tallies s
 
--- how many packets were accepted, and how many were lost, by a tally and by those of some senders
+-- how many packets were accepted by this tally, if there is one
 abbrev pub accepted_by : Option Tally → ℕ
 accepted_by None = 0
 accepted_by (Some t) = length t.accepted
 
+-- how many packets were refused or evicted by this tally, if there is one
 abbrev pub lost_by : Option Tally → ℕ
 lost_by None = 0
 lost_by (Some t) = length t.refused + length t.evicted
 
+-- the sum of such a count over the tallies of some senders
 abbrev pub in_all : (Option Tally → ℕ) → List Tally → List ℕ → ℕ
 in_all count tallies [] = 0
 in_all count tallies (s ∷ senders) = count (tally_for tallies s) + in_all count tallies senders
 
--- A queue of a device is settled.
+-- A queue is settled: each of its senders has a tally that fits, and it lost packets only if it accepted at least as many as it may hold.
 pub record IsQueueSettled (sent : ℕ → List Packet) (tallies : List Tally) (d : Device) (q : SharedQueue) : Type 0 where
   pub each : AllByRecursion (λ s. MatchOption (tally_for tallies s) ⊥ (IsTallied sent d q)) q.senders
   -- it refused or evicted packets only where it accepted as many as it may hold
   pub reached : 0 < in_all lost_by tallies q.senders → q.capacity ≤ in_all accepted_by tallies q.senders
 
--- A device is settled.
+-- A device is settled: its log is a run of its tree, it emitted what came out there, its tree holds no packet back, and its queues are
+-- settled. It emitted packets of its own senders only.
 pub record IsDeviceSettled (sent : ℕ → List Packet) (tallies : List Tally) (d : Device) : Type 0 where
   -- its log is a run of its tree, and it emitted what came out there
   pub run : IsRun d.tree d.log

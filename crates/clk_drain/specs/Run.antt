@@ -23,7 +23,7 @@ use Rattle.clk_drain.specs.Moments.{HasMoments}
 use Rattle.clk_drain.specs.Outcome.{SharedQueue, Device, IsSettledOutcome}
 use Rattle.clk_drain.specs.Opening.{shared_at}
 
--- the queues of a device among queues that stand at the leaves from this one on
+-- the queues of a device among these queues of a plan, of which the first has the number `leaf`
 abbrev pub queues_at : ℕ → ℕ → List Queued → List SharedQueue
 queues_at device leaf [] = []
 queues_at device leaf (q ∷ queues) =
@@ -49,12 +49,12 @@ pub record IsRunWith (plan : List Planned) (traces : List (List Packet)) (step l
   pub settled : IsSettledOutcome (sent_by traces) devices tallies
   pub moments : AllByRecursion (λ (d : Device). HasMoments step limit d.tree d.log) devices
 
--- The same, of what a run answers.
+-- What `run` returns meets `IsRunWith`: its logs, its emitted packets and its tallies.
 abbrev pub IsRunOutcome : List Planned → List (List Packet) → ℕ → ℕ → Outcome → Type 0
 IsRunOutcome plan traces step limit outcome =
     IsRunWith plan traces step limit (map (λ log. log.items) outcome.logs.items) (map (λ packets. packets.items) outcome.emitted.items) outcome.tallies.items
 
--- The same, of a packed outcome: it has the logs where visits are kept.
+-- What `run_with` returns meets `IsRunWith`. If visits are kept, the logs are those of the outcome; otherwise only contracts know them.
 pub record IsKeptRun (visits : Bool) (plan : List Planned) (traces : List (List Packet)) (step limit : ℕ) (outcome : PackedOutcome) : Type 0 where
   pub logs : List (List Visit)
   pub kept : visits ≡ true → map logged outcome.logs.items ≡ logs
@@ -69,17 +69,17 @@ pub record HasOffered (traces : List (List Packet)) (s : SeatedQueue) : Type 0 w
   pub senders : senders_at s.seats ≡ s.queue.senders
   pub sent : AllByRecursion (HasSent (sent_by traces)) s.seats
 
--- The senders of each queue of a plan offered all that they send, and there are lists of what the queues did with it by which the fault names
--- the first of them, by device and then by leaf, that lost packets below its capacity. A run that fails hands back no lists, so other lists may
--- name another queue.
+-- Each sender offered all that it sends, and fault 21 names the first queue, by device and then by number, that lost packets below its
+-- capacity. A run that fails returns no lists: there are lists of what the queues did that agree with the fault, and others may name another
+-- queue.
 pub record IsUnsettledRun (plan : List Planned) (traces : List (List Packet)) (fault : Fault) : Type 0 where
   pub queues : List SeatedQueue
   pub are : map (λ (s : SeatedQueue). s.queue) queues ≡ queues_in_order plan
   pub offered : AllByRecursion (HasOffered traces) queues
   pub names : NamesFirstLost queues fault
 
--- Why a run of a plan over a trace fails: an allocation or the start of a thread failed; a sender of the trace is none of the plan's, and
--- the fault names the least; or, with senders that the plan all has, a queue lost packets below its capacity.
+-- Why a run fails: fault 1 (an allocation or the start of a thread failed), 15 (a sender of the trace is none of the plan's) or 21 (a queue
+-- lost packets below its capacity). No other fault comes: a closing never stops short.
 abbrev pub IsFaultOfRun : List Planned → List (List Packet) → Fault → Type 0
 IsFaultOfRun plan traces Memory = ⊤
 IsFaultOfRun plan traces (UnknownSender s) = IsFirstUnknown (senders_in plan) traces s

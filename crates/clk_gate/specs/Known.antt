@@ -13,21 +13,21 @@ use Rattle.clk_tree.specs.PlanParts.{senders_of, number_of}
 abbrev pub senders_in : List Planned → List ℕ
 senders_in plan = map number_of (senders_of plan)
 
--- Of the senders below a number each that sends something is one of these.
+-- Each sender with a number below `n` that sends something is one of `senders`.
 abbrev pub AreKnownBelow : List ℕ → List (List Packet) → ℕ → Type 0
 AreKnownBelow senders traces n = (s : ℕ) → s < n → 0 < length (sent_by traces s) → stands_in s senders ≡ true
 
--- Each sender that sends something is one of these.
+-- Each sender that sends something is one of `senders`.
 abbrev pub AreKnown : List ℕ → List (List Packet) → Type 0
 AreKnown senders traces = AreKnownBelow senders traces (suc most_sender)
 
--- It is the least sender that sends something and isn't one of these.
+-- `s` is the least sender that sends something and is none of `senders`.
 pub record IsFirstUnknown (senders : List ℕ) (traces : List (List Packet)) (s : ℕ) : Type 0 where
   pub sends : 0 < length (sent_by traces s)
   pub unknown : stands_in s senders ≡ false
   pub least : AreKnownBelow senders traces s
 
--- the fault that names the least such sender
+-- Fault 15 names the least sender that sends something and is none of `senders`.
 abbrev pub IsUnknownSender : List ℕ → List (List Packet) → Fault → Type 0
 IsUnknownSender senders traces (UnknownSender s) = IsFirstUnknown senders traces s
 IsUnknownSender senders traces fault = ⊥

@@ -43,6 +43,7 @@ taken o = packets (popped o)
 abbrev pub seen : Outlet → List Item
 seen o = known_items o.consumer
 
--- the two halves of one ring
+-- The two halves of one ring, from `open` on; every call of either half keeps this. On a thread that has both, `beside` says that what was
+-- popped and what is seen are all that was pushed.
 pub record AreHalves (i : Inlet) (o : Outlet) : Type 0 where
   pub one_ring : IsPair i.producer o.consumer

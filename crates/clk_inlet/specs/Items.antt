@@ -9,10 +9,11 @@ use Rattle.clk_inlet.specs.declared.item.Item.{Item}
 abbrev pub packet_item : (bytes token : ℕ) → Item
 packet_item bytes token = record { token = token; length = bytes }
 
--- an item of length 0 is the end
+-- whether an item is the end: its length is 0
 abbrev pub is_end : Item → Bool
 is_end x = x.length == 0
 
+-- whether the end is among these items
 abbrev pub has_end : List Item → Bool
 has_end items = list_any is_end items
 
@@ -20,11 +21,12 @@ has_end items = list_any is_end items
 abbrev pub packets : List Item → List Item
 packets items = filter (λ x. not (is_end x)) items
 
--- Item x may go through after the items `before`: nothing follows the end, and each packet's number is below the limit.
+-- Item `x` may follow the items `before`: the end is not among them and, if `x` is a packet, fewer packets are among them than an inlet
+-- takes in all.
 pub record MayFollow (before : List Item) (x : Item) : Type 0 where
   pub not_ended : has_end before ≡ false
   pub numbered : is_end x ≡ false → length (packets before) < most_packets
 
--- These are all items of a sender: whatever went through and begins with them is just them.
+-- These are all items that a sender can send: no longer list that begins with them may go through the ring.
 abbrev pub IsWhole : List Item → Type 0
 IsWhole items = (more : List Item) → Allowed MayFollow [] (items ++ more) → more ≡ []

@@ -10,13 +10,15 @@ use Rattle.clk_router.specs.Course.{Course}
 use Rattle.clk_router.specs.Events.{Event, sender_numbers, CanHappen}
 use Rattle.clk_router.specs.Settled.{offered_of, IsCourseSettled, AreAllOut}
 
+-- the length of an item, in bytes
 abbrev pub item_length : Item → ℕ
 item_length x = x.length
 
+-- the length of a packet, in bytes
 abbrev pub packet_length : Packet → ℕ
 packet_length p = p.length
 
--- a sender offered packets of the lengths of these items, in order
+-- the packets that a sender offered have the lengths of these items, in order
 abbrev pub AreOffersOf : List Event → ℕ → List Item → Type 0
 AreOffersOf events s items = map item_length items ≡ map packet_length (offered_of events s)
 
@@ -24,16 +26,16 @@ AreOffersOf events s items = map item_length items ≡ map packet_length (offere
 abbrev pub AreAllOffered : Course → List (List Item) → Type 0
 AreAllOffered c items = AllZip (AreOffersOf c.events) (sender_numbers c.setup) items
 
--- each sender ended, and its end was popped
+-- the end of each inlet was popped
 abbrev pub AreAllEnded : List Outlet → Type 0
 AreAllEnded outlets = AllByRecursion (λ (o : Outlet). has_end (popped o) ≡ true) outlets
 
--- what was popped is all that each sender ever sent
+-- what was popped from each inlet is all that can come through it
 abbrev pub AreAllWhole : List Outlet → Type 0
 AreAllWhole outlets = AllByRecursion (λ (o : Outlet). IsWhole (popped o)) outlets
 
--- The outcome of a live router whose senders sent these items, by place: each sender offered packets of their lengths, in order, and all of
--- them are settled. Each packet was refused, evicted or emitted, once.
+-- The outcome of a live router whose senders sent these items, by place: what happened can happen, each sender offered its items in order,
+-- and all packets are settled. Each packet was refused, evicted or emitted, once.
 pub record IsLiveOutcome (c : Course) (items : List (List Item)) : Type 0 where
   pub happened : CanHappen c.setup c.events
   pub offered : AreAllOffered c items

@@ -7,6 +7,7 @@ use Rattle.clk_router.specs.Course.{CanPull, IsPulled}
 use Rattle.clk_live.specs.declared.pulling.Emitted.{Emitted}
 use Rattle.clk_live.specs.State.{Seen, IsTokenOf}
 
+-- the packet that was emitted, without its token
 abbrev pub packet_of : Emitted → Packet
 packet_of e = e.packet
 

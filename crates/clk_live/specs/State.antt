@@ -32,6 +32,7 @@ pub record Seen : Type 0 where
   pub course : Course
   pub items : List (List Item)
 
+-- the part of a live router's state that its calls change
 abbrev pub seen : LiveState → Seen
 seen l = record { course = l.course; items = map taken l.outlets }
 

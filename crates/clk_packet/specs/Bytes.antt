@@ -4,23 +4,23 @@ use Rattle.std.specs.Io.KnownBytes.{Appends}
 use Rattle.clk_packet.specs.declared.fault.Fault.{Fault}
 use Rattle.clk_packet.specs.declared.fault.Fault.TheVariants.{Memory, Read, Write}
 
--- It holds of the bytes that a source had and, where these aren't known, of some bytes.
+-- This holds of the bytes that a source had, if they are known, and otherwise of some bytes.
 abbrev pub OfBytes : Option (List ℕ) → (List ℕ → Type 0) → Type 0
 OfBytes None P = (bytes : List ℕ) × P bytes
 OfBytes (Some bytes) P = P bytes
 
--- known bytes lose at most so many at their front
+-- at most so many bytes were read from the front, if the bytes are known
 abbrev pub Takes : ℕ → Option (List ℕ) → Option (List ℕ) → Type 0
 Takes most None new = ⊤
 Takes most (Some all) None = ⊥
 Takes most (Some all) (Some rest) = (front : List ℕ) × (all ≡ front ++ rest) × (length front ≤ most)
 
--- A read fails for want of memory, or with `Read` where the source has failed once, and nowhere else.
+-- A read fails with fault 1 and the source has not failed, or with fault 19 and the source has failed once.
 abbrev pub FailsToRead : {T : Type 0} → Result T Fault → ℕ → ℕ → Type 0
 FailsToRead (Ok x) before after = after ≡ before
 FailsToRead (Err fault) before after = ((fault ≡ Memory) × (after ≡ before)) ⊎ ((fault ≡ Read) × (after ≡ before + 1))
 
--- known bytes grow by a front of the text
+-- a beginning of the text was written, if the bytes are known
 abbrev pub AppendsFront : Option (List ℕ) → Option (List ℕ) → List ℕ → Type 0
 AppendsFront old new text = (front : List ℕ) × (rest : List ℕ) × (text ≡ front ++ rest) × Appends old new front
 
@@ -32,11 +32,12 @@ pub record Wrote (old new : Option (List ℕ)) (before after : ℕ) (result : Re
   pub succeeds : OnOk result (after ≡ before)
   pub fails : OnErr result (after ≡ before + 1)
 
--- how often the reader and the writer have failed, once a call has ended in a result
+-- how often the reader has failed after this result: once more if it is fault 19
 abbrev pub read_failures : {T : Type 0} → Result T Fault → ℕ → ℕ
 read_failures (Err Read) failures = failures + 1
 read_failures result failures = failures
 
+-- how often the writer has failed after this result: once more if it is fault 20
 abbrev pub write_failures : {T : Type 0} → Result T Fault → ℕ → ℕ
 write_failures (Err Write) failures = failures + 1
 write_failures result failures = failures

@@ -9,13 +9,14 @@ use Rattle.clk_packet.specs.declared.tally.Tally.{Tally}
 abbrev pub packet_numbers : List Packet → List ℕ
 packet_numbers packets = map (λ (p : Packet). p.number) packets
 
--- Each of the packets stands in one of the two lists, in their order.
+-- A list is split into two: each of its packets is in one of them, and both keep the order.
 abbrev pub IsDealt : List Packet → List Packet → List Packet → Type 0
 IsDealt [] accepted refused = (accepted ≡ []) × (refused ≡ [])
 IsDealt (p ∷ offered) accepted refused =
     ((rest : List Packet) × (accepted ≡ p ∷ rest) × IsDealt offered rest refused) ⊎ ((rest : List Packet) × (refused ≡ p ∷ rest) × IsDealt offered accepted rest)
 
--- What became of all that a sender offered to a queue of this kind, where its device emitted these packets of the sender.
+-- What became of all packets that a sender offered to a queue of this kind: the tally has those accepted, refused and evicted, and the
+-- device emitted `emitted`.
 pub record IsTallyOf (offered emitted : List Packet) (kind : Kind) (t : Tally) : Type 0 where
   -- each packet offered was accepted or refused, both in order
   pub offered_are : IsDealt offered t.accepted t.refused

@@ -18,6 +18,7 @@ most_capacity = MAX_CAPACITY
 abbrev pub most_inputs : ℕ
 most_inputs = MAX_INPUTS
 
+-- how many schedulers stand on a path at most
 abbrev pub most_levels : ℕ
 most_levels = MAX_LEVELS
 
@@ -25,12 +26,15 @@ most_levels = MAX_LEVELS
 abbrev pub most_quantum : ℕ
 most_quantum = MAX_QUANTUM
 
+-- the greatest number of tickets
 abbrev pub most_tickets : ℕ
 most_tickets = MAX_TICKETS
 
+-- the greatest rate, in packets a tick
 abbrev pub most_rate : ℕ
 most_rate = MAX_RATE
 
+-- the greatest burst, in packets
 abbrev pub most_burst : ℕ
 most_burst = MAX_BURST
 

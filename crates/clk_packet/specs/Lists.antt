@@ -3,7 +3,7 @@ use Rattle.std.specs.Prelude.{◌≡◌, ◌⊎◌, ℕ, ◌<◌, ◌==◌, ◌&
 use Rattle.std.specs.List.{AllByRecursion}
 use Rattle.clk_packet.specs.declared.packet.Packet.{Packet}
 
--- a member stands in the list
+-- `x` is a member of the list
 abbrev pub In : {X : Type 0} → X → List X → Type 0
 In x [] = ⊥
 In x (y ∷ ys) = (y ≡ x) ⊎ In x ys
@@ -18,7 +18,7 @@ abbrev pub are_distinct : List ℕ → Bool
 are_distinct [] = true
 are_distinct (n ∷ numbers) = not (stands_in n numbers) && are_distinct numbers
 
--- the numbers rise
+-- each number is below all that follow it
 abbrev pub AreRising : List ℕ → Type 0
 AreRising [] = ⊤
 AreRising (n ∷ numbers) = AllByRecursion (λ m. n < m) numbers × AreRising numbers

@@ -4,11 +4,13 @@ use Rattle.std.specs.Char.{is_ascii_digit}
 use Rattle.std.specs.Str.{all_ascii_digits}
 use Rattle.std.specs.Str.Parse.{digits_value}
 
+-- whether a text has a byte
 abbrev pub has_bytes : List ℕ → Bool
 has_bytes [] = false
 has_bytes (byte ∷ bytes) = true
 
--- The value of digits, where they are some and it is in this range. Any number of zeros may lead it, and a sign is no digit.
+-- The number that these digits are, if there is one digit at least and the number is in this range. Zeros may lead it, and a sign is no
+-- digit.
 abbrev pub number_in : ℕ → ℕ → List ℕ → Option ℕ
 number_in least most digits =
     if all_ascii_digits digits && has_bytes digits && nat_le least (digits_value 10 digits) && nat_le (digits_value 10 digits) most

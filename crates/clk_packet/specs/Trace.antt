@@ -14,6 +14,7 @@ use Rattle.clk_packet.specs.declared.fault.Fault.TheVariants.{Memory, Read, TooL
 abbrev pub most_trace_bytes : ℕ
 most_trace_bytes = MAX_TRACE_BYTES
 
+-- how many records a trace may have
 abbrev pub most_records : ℕ
 most_records = MAX_RECORDS
 
@@ -22,6 +23,7 @@ most_records = MAX_RECORDS
 abbrev pub records_of : List ℕ → List (List (List ℕ))
 records_of text = records default_config (strip_bom text)
 
+-- a sender and a length, if both are there
 abbrev pub pair_of : Option ℕ → Option ℕ → Option (ℕ × ℕ)
 pair_of None size = None
 pair_of (Some sender) None = None
@@ -32,11 +34,12 @@ abbrev pub pair_in : List (List ℕ) → Option (ℕ × ℕ)
 pair_in (sender ∷ size ∷ []) = pair_of (number_in 0 most_sender sender) (number_in 1 most_length size)
 pair_in fields = None
 
+-- fault 14 at this record, unless it says a sender and a length
 abbrev pub bad_unless : ℕ → Option (ℕ × ℕ) → Option Fault
 bad_unless row None = Some (BadTrace row)
 bad_unless row (Some pair) = None
 
--- what is wrong with the record of a number: it is one too many, whatever it holds, or it says nothing
+-- what is wrong with the record of a number: it is one too many, whatever it holds, or it says no sender and length
 abbrev pub record_fault : ℕ → List (List ℕ) → Option Fault
 record_fault row fields = if nat_lt most_records row then Some TooLarge else bad_unless row (pair_in fields)
 

@@ -5,8 +5,8 @@ use Rattle.clk_packet.specs.declared.fault.Fault.{Fault}
 use Rattle.clk_packet.specs.declared.fault.Fault.TheVariants.{Write}
 use Rattle.clk_packet.specs.Bytes.{AppendsFront}
 
--- What a call has written that writes a text of this meaning: all of it where it succeeded, a front of it where the sink failed, and at any
--- other fault nothing.
+-- What a call wrote whose text has this meaning: all of the text if it succeeded, a beginning of it if the sink failed, and nothing at any
+-- other fault.
 pub record WroteWhat {T : Type 0} (Means : List ℕ → Type 0) (result : Result T Fault) (old new : Option (List ℕ)) : Type 0 where
   pub whole : OnOk result ((text : List ℕ) × Means text × Appends old new text)
   pub front : IsErrOf result Write → (text : List ℕ) × Means text × AppendsFront old new text

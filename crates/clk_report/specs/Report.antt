@@ -10,10 +10,11 @@ abbrev pub bytes_of : List Packet → ℕ
 bytes_of [] = 0
 bytes_of (p ∷ packets) = p.length + bytes_of packets
 
--- ` N B`: how many packets, and their bytes
+-- ` N B`: so many packets, and so many bytes
 abbrev pub numbers_text : ℕ → ℕ → List ℕ
 numbers_text packets bytes = codes " " ++ (decimal packets ++ (codes " " ++ decimal bytes))
 
+-- ` N B` of these packets: how many they are, and their bytes
 abbrev pub total_text : List Packet → List ℕ
 total_text packets = numbers_text (length packets) (bytes_of packets)
 

@@ -12,6 +12,7 @@ pub record Queue : Type 0 where
   pub capacity : ℕ
   pub packets : List Packet
 
+-- an empty queue of this kind and capacity
 abbrev pub empty_queue : Kind → ℕ → Queue
 empty_queue kind capacity = record { kind = kind; capacity = capacity; packets = [] }
 
@@ -19,8 +20,8 @@ empty_queue kind capacity = record { kind = kind; capacity = capacity; packets =
 abbrev pub holding : Queue → List Packet → Queue
 holding q packets = record { kind = q.kind; capacity = q.capacity; packets = packets }
 
--- A packet is offered to a queue, with this outcome, and leaves it so. With room left it goes to the back. A full Queue refuses
--- it and stays as it is; a full FrontDropQueue takes it, and its front goes out.
+-- What an offer does to a queue: with room left the packet goes to the back; a full Queue refuses it and stays as it is; a full
+-- FrontDropQueue evicts its front and accepts it.
 abbrev pub IsOffered : Queue → Packet → Offered → Queue → Type 0
 IsOffered old p Accepted new = (length old.packets < old.capacity) × (new ≡ holding old (old.packets ++ p ∷ []))
 IsOffered old p (Refused q) new = (old.kind ≡ TailDrop) × (length old.packets ≡ old.capacity) × (q ≡ p) × (new ≡ old)
@@ -28,7 +29,7 @@ IsOffered old p (Evicted front) new =
     (old.kind ≡ FrontDrop) × (length old.packets ≡ old.capacity)
     × ((rest : List Packet) × (old.packets ≡ front ∷ rest) × (new ≡ holding old (rest ++ p ∷ [])))
 
--- A queue is pulled, with this result, and left so: it gives the packet at its front, and none only where it holds none.
+-- What a pull does to a queue: it gives the packet at its front, and none exactly if it holds none.
 abbrev pub IsPulled : Queue → Option Packet → Queue → Type 0
 IsPulled old None new = (old.packets ≡ []) × (new ≡ old)
 IsPulled old (Some p) new = (rest : List Packet) × (old.packets ≡ p ∷ rest) × (new ≡ holding old rest)

@@ -6,8 +6,8 @@ use Rattle.clk_packet.specs.declared.packet.Kind.TheVariants.{TailDrop, FrontDro
 use Rattle.clk_packet.specs.declared.packet.Offered.{Offered}
 use Rattle.clk_packet.specs.declared.packet.Offered.TheVariants.{Accepted, Refused, Evicted}
 
--- A packet went to the back, was turned away, went out at the front because another is forced in, or went out at the
--- front to the puller; or the puller found nothing.
+-- What can happen to a queue: a packet is accepted at the back, refused, evicted from the front, or given from the front to a pull; or a
+-- pull finds the queue empty.
 pub data QueueEvent : Type 0 where
   accept : Packet → QueueEvent
   refuse : Packet → QueueEvent
@@ -24,7 +24,7 @@ accepted (evict p ∷ events) = accepted events
 accepted (give p ∷ events) = accepted events
 accepted (empty ∷ events) = accepted events
 
--- the packets that are gone, evicted or given, in order
+-- the packets that left the queue, evicted or given, in order
 abbrev pub gone : List QueueEvent → List Packet
 gone [] = []
 gone (accept p ∷ events) = gone events
@@ -33,17 +33,17 @@ gone (evict p ∷ events) = p ∷ gone events
 gone (give p ∷ events) = p ∷ gone events
 gone (empty ∷ events) = gone events
 
--- the packets that are held: those accepted behind those that are gone
+-- the packets that the queue holds: those accepted, without the first ones, which left
 abbrev pub held : List QueueEvent → List Packet
 held events = drop (length (gone events)) (accepted events)
 
--- At each point, what was accepted is what is gone and then what is held, and no more is held than fits.
+-- A queue is first in, first out, and holds no more than fits: what it accepted is what left it, and then what it holds.
 pub record IsInOrder (capacity : ℕ) (events : List QueueEvent) : Type 0 where
   pub order : accepted events ≡ gone events ++ held events
   pub fits : length (held events) ≤ capacity
 
--- Where these packets are held: only a full queue refuses or evicts, only an empty one has nothing to give, and of the
--- two kinds one refuses and the other evicts.
+-- When an event may happen, while these packets are held: only a full Queue refuses, only a full FrontDropQueue evicts, and only an empty
+-- queue is found empty.
 abbrev pub MayStand : Kind → ℕ → List Packet → QueueEvent → Type 0
 MayStand kind capacity holding (accept p) = ⊤
 MayStand kind capacity holding (refuse p) = (kind ≡ TailDrop) × (length holding ≡ capacity)
@@ -51,7 +51,7 @@ MayStand kind capacity holding (evict p) = (kind ≡ FrontDrop) × (length holdi
 MayStand kind capacity holding (give p) = ⊤
 MayStand kind capacity holding empty = holding ≡ []
 
--- an evict is followed at once by the accept that forced it
+-- an eviction is followed at once by the acceptance that forced it
 abbrev pub IsFollowedUp : QueueEvent → List QueueEvent → Type 0
 IsFollowedUp (accept p) after = ⊤
 IsFollowedUp (refuse p) after = ⊤
@@ -64,17 +64,18 @@ IsFollowedUp (evict p) (empty ∷ after) = ⊥
 IsFollowedUp (give p) after = ⊤
 IsFollowedUp empty after = ⊤
 
--- each event after `before` stands where it may
+-- each of these events may happen after those before it
 abbrev pub EachStands : Kind → ℕ → List QueueEvent → List QueueEvent → Type 0
 EachStands kind capacity before [] = IsInOrder capacity before
 EachStands kind capacity before (event ∷ after) =
     IsInOrder capacity before × MayStand kind capacity (held before) event × IsFollowedUp event after × EachStands kind capacity (before ++ event ∷ []) after
 
--- What happened to a queue of this kind and capacity, from the time it was made.
+-- What can happen to a queue of this kind and capacity, from the time it was made. It is first in, first out, refuses or evicts only when it
+-- is full, and gives none only when it is empty.
 abbrev pub IsQueueHistory : Kind → ℕ → List QueueEvent → Type 0
 IsQueueHistory kind capacity events = EachStands kind capacity [] events
 
--- what an offer with this outcome is to a queue
+-- the events that an offer with this outcome is to its queue
 abbrev pub offer_events : Packet → Offered → List QueueEvent
 offer_events p Accepted = accept p ∷ []
 offer_events p (Refused q) = refuse p ∷ []
@@ -86,7 +87,7 @@ NamesOffer p Accepted = ⊤
 NamesOffer p (Refused q) = q ≡ p
 NamesOffer p (Evicted front) = ⊤
 
--- what an answer to a pull is to a queue
+-- the event that a pull with this result is to its queue
 abbrev pub pull_event : Option Packet → QueueEvent
 pull_event None = empty
 pull_event (Some p) = give p

@@ -19,7 +19,7 @@ use Rattle.clk_router.specs.declared.limits.TheConstants.{END_OF_PACKETS}
 use Rattle.clk_router.specs.declared.queue_state.QueueState.{QueueState}
 use Rattle.clk_router.specs.Events.{Room, Setup, plan_setup, sender_numbers, Event, pulled, events_at, numbers_of, pull_in, moment_in, log_of, accepted_in, evicted_in, history, Closes}
 
--- what a router is seen as: what it was made over, all that has happened, in order, and what its devices keep of it
+-- a router as contracts see it: what it was made over, all events so far, in order, and what its devices keep of them
 pub record Course : Type 0 where
   pub setup : Setup
   pub events : List Event
@@ -33,38 +33,44 @@ after c more = record { setup = c.setup; events = c.events ++ more; keeps = c.ke
 abbrev pub events_of : Course → ℕ → List Event
 events_of c device = events_at c.setup device c.events
 
--- how many packets were accepted at a device, how many were evicted there, and how many came out
+-- how many packets were accepted at a device
 abbrev pub accepted_at : Course → ℕ → ℕ
 accepted_at c device = length (filter_map accepted_in (events_of c device))
 
+-- how many packets were evicted at a device
 abbrev pub evicted_at : Course → ℕ → ℕ
 evicted_at c device = length (filter_map evicted_in (events_of c device))
 
+-- how many packets a device emitted
 abbrev pub emitted_at : Course → ℕ → ℕ
 emitted_at c device = length (emitted (log_of (events_of c device)))
 
--- how often a device was pulled, and the greatest moment at which it was, or 0
+-- how often a device was pulled
 abbrev pub pulls_at : Course → ℕ → ℕ
 pulls_at c device = length (filter_map pull_in (events_of c device))
 
+-- the greatest moment at which a device was pulled, or 0
 abbrev pub moment_at : Course → ℕ → ℕ
 moment_at c device = fold max 0 (filter_map moment_in (events_of c device))
 
--- the number of the sender at a place, and that of the device that its packets go to
+-- the number of the sender at a place
 abbrev pub sender_at : Setup → ℕ → Option ℕ
 sender_at setup place = slice_get (sender_numbers setup) place
 
+-- the number of the device that a queue's packets go to
 abbrev pub room_device : Room → ℕ
 room_device room = room.device
 
+-- the number of the device that a sender's packets go to, if there is the sender and its queue
 abbrev pub its_device : List Room → Option SenderSpec → Option ℕ
 its_device queues None = None
 its_device queues (Some s) = option_map room_device (slice_get queues s.queue)
 
+-- the number of the device that the packets of the sender at a place go to
 abbrev pub device_at : Setup → ℕ → Option ℕ
 device_at setup place = its_device setup.queues (slice_get setup.senders place)
 
--- below which number of packets that were accepted at a device, and not evicted, it takes one more
+-- a device takes one more packet only if fewer than so many were accepted there and not evicted, those emitted included
 abbrev pub end_of_packets : ℕ
 end_of_packets = END_OF_PACKETS
 

@@ -18,22 +18,23 @@ use Rattle.clk_tree.specs.Plan.{Planned}
 use Rattle.clk_tree.specs.PlanParts.{Queued, queues_of, senders_of, number_of}
 use Rattle.clk_packet.specs.Lists.{of_sender}
 
--- what a script needs to know of a queue: what becomes of a packet that arrives when it is full, how many it holds at most, and the number
--- of the device that its packets go to
+-- what a router knows of a queue: its kind, its capacity in packets, and the number of the device that its packets go to
 pub record Room : Type 0 where
   pub kind : Kind
   pub capacity : ℕ
   pub device : ℕ
 
+-- a queue of a plan, as a router knows it
 abbrev pub room_of : Queued → Room
 room_of q = record { kind = q.kind; capacity = q.capacity; device = q.device }
 
--- what a script runs over: a tree for each device, by its number, over queues, which senders send to
+-- what a router is made over: a tree for each device, by its number, the queues, and the senders
 pub record Setup : Type 0 where
   pub trees : List Tree
   pub queues : List Room
   pub senders : List SenderSpec
 
+-- the setup of these trees, queues and senders
 abbrev pub setup_of : List Tree → List Queued → List SenderSpec → Setup
 setup_of trees queues senders = record { trees = trees; queues = map room_of queues; senders = senders }
 
@@ -41,11 +42,12 @@ setup_of trees queues senders = record { trees = trees; queues = map room_of que
 abbrev pub plan_setup : List Tree → List Planned → Setup
 plan_setup trees plan = setup_of trees (queues_of plan) (senders_of plan)
 
+-- the numbers of the senders of a setup
 abbrev pub sender_numbers : Setup → List ℕ
 sender_numbers setup = map number_of setup.senders
 
--- What a command made happen: a packet was offered, with this outcome; or the device of this number was pulled, at the moment that was
--- handed in, with these visits.
+-- What happened to a router: a packet was offered, with this outcome; or the device of this number was pulled, at the moment that was handed
+-- in, with these visits.
 pub data Event : Type 0 where
   offered : Packet → Offered → Event
   pulled : ℕ → ℕ → List Visit → Event
@@ -68,7 +70,7 @@ happens_at setup d (pulled device moment visits) = device == d
 abbrev pub events_at : Setup → ℕ → List Event → List Event
 events_at setup d events = filter (happens_at setup d) events
 
--- the number of a packet of this sender
+-- the number of the packet that an event offered, if it is of this sender
 abbrev pub number_from : ℕ → Event → Option ℕ
 number_from s (offered p outcome) = if p.sender == s then Some p.number else None
 number_from s (pulled device moment visits) = None
@@ -77,37 +79,42 @@ number_from s (pulled device moment visits) = None
 abbrev pub numbers_of : ℕ → List Event → List ℕ
 numbers_of s events = filter_map (number_from s) events
 
--- the visits of each pull, and the moments handed in
+-- the visits of an event, which are none if it is an offer
 abbrev pub visits_in : Event → List Visit
 visits_in (offered p outcome) = []
 visits_in (pulled device moment visits) = visits
 
+-- the visits of an event, if it is a pull
 abbrev pub pull_in : Event → Option (List Visit)
 pull_in (offered p outcome) = None
 pull_in (pulled device moment visits) = Some visits
 
+-- the moment that was handed in, if an event is a pull
 abbrev pub moment_in : Event → Option ℕ
 moment_in (offered p outcome) = None
 moment_in (pulled device moment visits) = Some moment
 
+-- the visits of all events, in order
 abbrev pub log_of : List Event → List Visit
 log_of events = flat_map visits_in events
 
--- the packets that an event accepted, refused and put out
+-- the packet that an event accepted, if it did
 abbrev pub accepted_in : Event → Option Packet
 accepted_in (offered p (Refused q)) = None
 accepted_in (offered p outcome) = Some p
 accepted_in (pulled device moment visits) = None
 
+-- the packet that an event refused, if it did
 abbrev pub refused_in : Event → Option Packet
 refused_in (offered p (Refused q)) = Some p
 refused_in event = None
 
+-- the packet that an event evicted, if it did
 abbrev pub evicted_in : Event → Option Packet
 evicted_in (offered p (Evicted front)) = Some front
 evicted_in event = None
 
--- the packet that came out at the device in a pull
+-- the packet that a device emitted in an event, if it did
 abbrev pub emitted_in : Event → Option Packet
 emitted_in (offered p outcome) = None
 emitted_in (pulled device moment visits) = result_of (visits_of 0 visits)
@@ -125,21 +132,21 @@ tally_after events s = record {
 abbrev pub sends_to : List SenderSpec → ℕ → ℕ → Bool
 sends_to senders sender q = list_any (λ (s : SenderSpec). (s.number == sender) && (s.queue == q)) senders
 
--- what the visits of a device's pull are to this queue
+-- the visits of a device's pull, as events of a queue: only those that asked it count
 abbrev pub answers_in : Option Tree → ℕ → List Visit → List QueueEvent
 answers_in None q visits = []
 answers_in (Some tree) q visits = flat_map (λ (v : Visit). if asks_queue tree q v then pull_event v.got ∷ [] else []) visits
 
--- what an event is to this queue
+-- an event of a router, as events of a queue
 abbrev pub at_queue : Setup → ℕ → Event → List QueueEvent
 at_queue setup q (offered p outcome) = if sends_to setup.senders p.sender q then offer_events p outcome else []
 at_queue setup q (pulled device moment visits) = answers_in (slice_get setup.trees device) q visits
 
--- what happened to this queue
+-- the history of a queue in some events of a router
 abbrev pub history : Setup → ℕ → List Event → List QueueEvent
 history setup q events = flat_map (at_queue setup q) events
 
--- a pull is of one of so many devices
+-- a pull is of one of the first `count` devices
 abbrev pub IsOfDevice : ℕ → Event → Type 0
 IsOfDevice count (offered p outcome) = ⊤
 IsOfDevice count (pulled device moment visits) = device < count
@@ -154,15 +161,15 @@ abbrev pub NamesItsOffer : Event → Type 0
 NamesItsOffer (offered p outcome) = NamesOffer p outcome
 NamesItsOffer (pulled device moment visits) = ⊤
 
--- The pulls among these events of a device are a run of its tree, at the counted moments.
+-- The pulls among these events of a device are a run of its tree, pull by pull, at the counted moments.
 pub record RunsTree (tree : Tree) (events : List Event) : Type 0 where
   pub run : IsRun tree (log_of events)
   pub pull_by_pull : pulls (log_of events) ≡ filter_map pull_in events
   pub moments : map moment_of (filter_map pull_in events) ≡ counted 0 (filter_map moment_in events)
 
--- These events can happen one after another: each offer is of a sender of the setup, each sender numbers its packets from 0 on, the pulls
--- are of devices that are there, those of each are a run of its tree, refusals name the packets that were offered, and what happened to
--- each queue is a history of it.
+-- These events can happen one after another: offers are of senders of the setup, each numbering its packets from 0; the pulls of each device
+-- are a run of its tree; and what happened to each queue is a history of it. Pulls are of devices that are there, and refusals name the
+-- packets that were offered.
 pub record CanHappen (setup : Setup) (events : List Event) : Type 0 where
   pub senders : AllByRecursion (IsOfSender setup) events
   pub numbered : (s : ℕ) → numbers_of s events ≡ range_with_len 0 (length (numbers_of s events))
@@ -181,8 +188,8 @@ pulls_from device moment (visits ∷ more) = pulled device moment visits ∷ pul
 abbrev pub closing_pulls : ℕ → ℕ → List Event → List (List Visit) → List Event
 closing_pulls device moment events closing = pulls_from device (max (fold max 0 (filter_map moment_in events)) moment + 1) closing
 
--- The closing of a device after its events, from a moment on: as many pulls as it takes until all packets that were accepted at it were put
--- out, came out before, or came out in the closing.
+-- The closing of a device after its events: pulls one tick apart, up to the one that emits the last packet that was accepted there and not
+-- evicted. If no packet is left, there are none.
 pub record Closes (device moment : ℕ) (events closed : List Event) : Type 0 where
   pub closing : List (List Visit)
   pub are : closed ≡ closing_pulls device moment events closing

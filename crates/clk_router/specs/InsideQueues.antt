@@ -18,15 +18,16 @@ use Rattle.clk_router.specs.Settled.{offered_of, emitted_by, out_of}
 abbrev pub is_of_queue : Setup → ℕ → Packet → Bool
 is_of_queue setup q p = sends_to setup.senders p.sender q
 
--- the packet that an event of a queue gave
+-- the packet that an event of a queue gave, if it did
 abbrev pub given_by : QueueEvent → Option Packet
 given_by (give p) = Some p
 given_by event = None
 
--- the packets that a queue gave, and those of its senders that a device emitted, in order
+-- the packets that a queue gave, in order
 abbrev pub given_of : Setup → ℕ → List Event → List Packet
 given_of setup q events = filter_map given_by (history setup q events)
 
+-- the packets of a queue's senders that a device emitted, in order
 abbrev pub emitted_of : Setup → ℕ → ℕ → List Event → List Packet
 emitted_of setup d q events = filter (is_of_queue setup q) (emitted_by setup d events)
 

@@ -26,7 +26,8 @@ offered_of events s = of_sender s (filter_map offered_in events)
 abbrev pub emitted_by : Setup → ℕ → List Event → List Packet
 emitted_by setup d events = emitted (log_of (events_at setup d events))
 
--- Where the packets of a sender are, which sends to the queue `room` of the device with this tree.
+-- Where each packet of a sender is: refused, evicted, emitted by the device of its queue, held back in that tree, or held by the queue. It
+-- sends to the queue `room`, whose device has this tree.
 pub record IsSenderAccounted (setup : Setup) (events : List Event) (s : SenderSpec) (room : Room) (tree : Tree) : Type 0 where
   -- the packets of the sender that the queue no longer holds, and those of them that it gave to the tree
   pub gone : List Packet
@@ -47,12 +48,13 @@ pub record IsSenderAccounted (setup : Setup) (events : List Event) (s : SenderSp
   pub tail_drop : room.kind ≡ TailDrop → (tally_after events s.number).evicted ≡ []
   pub front_drop : room.kind ≡ FrontDrop → (tally_after events s.number).refused ≡ []
 
--- Where the packets of all senders of a setup are: each sends to a queue of the setup, whose device has a tree.
+-- Each sender of a setup is accounted for (`IsSenderAccounted`): it sends to a queue of the setup, whose device has a tree.
 abbrev pub IsCourseAccounted : Setup → List Event → Type 0
 IsCourseAccounted setup events =
     AllByRecursion (λ (s : SenderSpec). MatchOption (slice_get setup.queues s.queue) ⊥ (λ (room : Room). MatchOption (slice_get setup.trees room.device) ⊥ (IsSenderAccounted setup events s room))) setup.senders
 
--- What became of all that a sender offered, which sends to the queue `room`. No other device emitted a packet of the sender.
+-- Each packet that a sender offered was refused, evicted, or emitted by the device of its queue. It sends to the queue `room`, and no other
+-- device emitted a packet of it.
 pub record IsSenderSettled (setup : Setup) (events : List Event) (s : SenderSpec) (room : Room) : Type 0 where
   pub tally : IsTallyOf (offered_of events s.number) (of_sender s.number (emitted_by setup room.device events)) room.kind (tally_after events s.number)
   pub elsewhere : (d : ℕ) → (room.device == d) ≡ false → of_sender s.number (emitted_by setup d events) ≡ []
@@ -89,9 +91,10 @@ pub record IsOutOnce (setup : Setup) (events : List Event) (s : SenderSpec) (roo
 abbrev pub IsAllOut : Setup → List Event → SenderSpec → Room → Type 0
 IsAllOut setup events s room = (n : ℕ) → stands_in n (packet_numbers (out_of setup events s room)) ≡ nat_lt n (length (offered_of events s.number))
 
--- For all senders of a setup: each packet is out of the router once at most, or all packets are.
+-- Each packet of each sender of a setup is out of the router once at most (`IsOutOnce`).
 abbrev pub AreOutOnce : Setup → List Event → Type 0
 AreOutOnce setup events = AllByRecursion (λ (s : SenderSpec). MatchOption (slice_get setup.queues s.queue) ⊥ (IsOutOnce setup events s)) setup.senders
 
+-- Each packet that a sender of a setup offered is out of the router (`IsAllOut`).
 abbrev pub AreAllOut : Setup → List Event → Type 0
 AreAllOut setup events = AllByRecursion (λ (s : SenderSpec). MatchOption (slice_get setup.queues s.queue) ⊥ (IsAllOut setup events s)) setup.senders

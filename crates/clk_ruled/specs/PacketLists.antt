@@ -4,7 +4,7 @@ use Rattle.std.specs.List.{list_any}
 use Rattle.clk_packet.specs.declared.packet.Packet.{Packet}
 pub use Rattle.clk_packet.specs.Dealt.{packet_numbers}
 
--- One packet: the same sender, and the same number.
+-- whether two packets are one: the same sender, and the same number
 abbrev pub is_packet : Packet → Packet → Bool
 is_packet p q = (p.sender == q.sender) && (p.number == q.number)
 

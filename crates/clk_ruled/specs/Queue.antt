@@ -20,14 +20,16 @@ pub record Queue : Type 0 where
   pub capacity : ℕ
   pub places : ℕ
 
--- No more places are kept than packets can be offered.
+-- how many places a queue has: no more than its capacity, and no more than packets can be offered
 abbrev pub places_of : Setup → ℕ
 places_of setup = max 1 (min setup.capacity (rooms_in_all setup.rooms))
 
+-- the queue that is opened with this setup
 abbrev pub queue_of : TableId → Setup → Queue
 queue_of id setup = record { id = id; kind = setup.kind; capacity = setup.capacity; places = places_of setup }
 
--- A seat: the queue that it was opened with, its sender, how many packets it offered, and what became of them.
+-- A seat as contracts see it: its queue, its sender, how many packets that may offer and has offered, and what became of them. `evicted` has
+-- the packets that were evicted for one of this seat's, of whichever sender.
 pub record SeatLists : Type 0 where
   pub id : TableId
   pub setup : Setup
@@ -57,7 +59,8 @@ pub record IsShared (sender next : ℕ) (accepted refused : List Packet) : Type 
   pub numbers : AreNumbered sender 0 offered
   pub dealt : IsDealt offered accepted refused
 
--- What became of all that a seat offered: each packet is in one of accepted and refused, and a FrontDropQueue refuses none.
+-- Each packet that a seat offered is in one of accepted and refused, and a FrontDropQueue refuses none. A seat keeps this once it is closed,
+-- and once it is gathered.
 pub record IsSharedOut (l : SeatLists) : Type 0 where
   pub within : l.next ≤ l.room
   pub shared : IsShared l.sender l.next l.accepted l.refused
@@ -67,20 +70,24 @@ pub record IsSharedOut (l : SeatLists) : Type 0 where
 abbrev pub IsSeatOf : Queue → SeatLists → Type 0
 IsSeatOf queue seat = queue ≡ queue_of seat.id seat.setup
 
+-- the tap is this queue's
 abbrev pub IsTapOf : Queue → TapLists → Type 0
 IsTapOf queue tap = queue ≡ queue_of tap.id tap.setup
 
--- the seat once a packet of its sender was taken, refused, or taken while another was put out
+-- the seat once a packet of its sender was accepted
 abbrev pub accepting : SeatLists → Packet → SeatLists
 accepting s p = record { id = s.id; setup = s.setup; sender = s.sender; room = s.room; next = s.next + 1; accepted = s.accepted ++ p ∷ []; refused = s.refused; evicted = s.evicted }
 
+-- the seat once a packet of its sender was refused
 abbrev pub refusing : SeatLists → Packet → SeatLists
 refusing s p = record { id = s.id; setup = s.setup; sender = s.sender; room = s.room; next = s.next + 1; accepted = s.accepted; refused = s.refused ++ p ∷ []; evicted = s.evicted }
 
+-- the seat once a packet of its sender was accepted and another one, of any sender, was evicted for it
 abbrev pub evicting : SeatLists → Packet → Packet → SeatLists
 evicting s p front = record { id = s.id; setup = s.setup; sender = s.sender; room = s.room; next = s.next + 1; accepted = s.accepted ++ p ∷ []; refused = s.refused; evicted = s.evicted ++ front ∷ [] }
 
--- What an offer leaves: one packet more was offered. Only a Queue refuses, and only a FrontDropQueue puts a packet out.
+-- What an offer does to a seat: one more packet was offered. Only a Queue refuses it, and only a FrontDropQueue evicts another packet for
+-- it.
 abbrev pub IsOffered : SeatLists → Packet → Offered → SeatLists → Type 0
 IsOffered old p Accepted new = new ≡ accepting old p
 IsOffered old p (Refused q) new = (old.setup.kind ≡ TailDrop) × (q ≡ p) × (new ≡ refusing old p)
@@ -90,12 +97,12 @@ IsOffered old p (Evicted front) new = (old.setup.kind ≡ FrontDrop) × (new ≡
 abbrev pub taking : TapLists → Packet → TapLists
 taking t p = record { id = t.id; setup = t.setup; taken = t.taken ++ p ∷ []; gathered = t.gathered }
 
--- What a pull leaves: its packet at the end of what was taken, or all as it was.
+-- What a pull does to a tap: the packet goes to the end of those taken, or nothing changes.
 abbrev pub IsPulled : TapLists → Option Packet → TapLists → Type 0
 IsPulled old None new = new ≡ old
 IsPulled old (Some p) new = new ≡ taking old p
 
--- the tap once it gathered a seat with these lists
+-- the tap once it gathered a seat: it keeps the seat's sender, with the packets accepted and evicted there
 abbrev pub gathering : TapLists → SeatLists → TapLists
 gathering t s = record { id = t.id; setup = t.setup; taken = t.taken; gathered = gathered_seat s.sender s.accepted s.evicted ∷ t.gathered }
 
@@ -107,19 +114,21 @@ AreOfSenders setup packets = (p : Packet) → In p packets → stands_in p.sende
 abbrev pub AreAllGathered : TapLists → Type 0
 AreAllGathered t = (s : ℕ) → stands_in s (senders_of t.setup) ≡ true → stands_in s (gathered_senders t.gathered) ≡ true
 
--- how many packets the queue took from these seats in all, and how many it put out for them
+-- how many packets were accepted from these seats in all
 abbrev pub accepted_in_all : List Gathered → ℕ
 accepted_in_all [] = 0
 accepted_in_all (g ∷ gathered) = length g.accepted + accepted_in_all gathered
 
+-- how many packets were evicted for these seats in all
 abbrev pub evicted_in_all : List Gathered → ℕ
 evicted_in_all [] = 0
 evicted_in_all (g ∷ gathered) = length g.evicted + evicted_in_all gathered
 
--- the seat of a sender before its first offer, and the tap before its first pull
+-- the seat of a sender before its first offer
 abbrev pub empty_seat : TableId → Setup → ℕ × ℕ → SeatLists
 empty_seat id setup r = record { id = id; setup = setup; sender = r.0; room = r.1; next = 0; accepted = []; refused = []; evicted = [] }
 
+-- the tap before its first pull
 abbrev pub empty_tap : TableId → Setup → TapLists
 empty_tap id setup = record { id = id; setup = setup; taken = []; gathered = [] }
 

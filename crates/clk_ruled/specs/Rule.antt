@@ -11,7 +11,7 @@ use Rattle.clk_packet.specs.Lists.{of_sender, stands_in, AreRising}
 use Rattle.clk_ruled.specs.PacketLists.{packet_numbers}
 use Rattle.clk_ruled.specs.Rooms.{named_in, room_of}
 
--- A packet went out at the front: to the puller, or because a packet of this sender's seat was forced in.
+-- A packet left the queue at the front: the puller got it, or it was evicted for a packet of this sender.
 pub data Out : Type 0 where
   to_puller : Packet → Out
   put_out : ℕ → Packet → Out
@@ -28,7 +28,7 @@ taken_in [] = []
 taken_in (to_puller p ∷ gone) = p ∷ taken_in gone
 taken_in (put_out e p ∷ gone) = taken_in gone
 
--- those that were put out for one seat
+-- those that were evicted for packets of one sender
 abbrev pub evicted_by : ℕ → List Out → List Packet
 evicted_by s [] = []
 evicted_by s (to_puller p ∷ gone) = evicted_by s gone
@@ -43,10 +43,12 @@ pub record Books : Type 0 where
   pub seat : ℕ → Option ℕ
   pub tap : ℕ
 
+-- the senders of a queue
 abbrev pub senders_of : Setup → List ℕ
 senders_of setup = named_in setup.rooms
 
--- The books are in order, where these packets are held.
+-- The books are in order while these packets are held: what left and then what is held are what the queue accepted, within its capacity. Of
+-- each sender there are no more than it may offer, their numbers rise, and a Queue evicts none.
 pub record IsSound (b : Books) (held : List Packet) : Type 0 where
   pub senders_rise : AreRising (senders_of b.setup)
   pub order : b.all ≡ went_out b.gone ++ held
@@ -69,6 +71,7 @@ pub record IsGathered (b : Books) (given : List ℕ) (g : Gathered) : Type 0 whe
   pub accepted : g.accepted ≡ of_sender g.sender b.all
   pub evicted : g.evicted ≡ evicted_by g.sender b.gone
 
+-- the senders whose seats were gathered
 abbrev pub gathered_senders : List Gathered → List ℕ
 gathered_senders gathered = map (λ (g : Gathered). g.sender) gathered
 
@@ -92,12 +95,15 @@ pub record FitsTap (b : Books) (pass : ℕ) (v : View) : Type 0 where
   pub fresh : (s : ℕ) → stands_in s v.given ≡ false → IsNew b s
   pub gathered : AreGathered b v.given v.gathered
 
+-- A user's view fits the books: as a seat's if it sits, and as the tap's if it taps.
 abbrev pub Fits : Books → ℕ → View → Type 0
 Fits b pass v = (v.sits ≡ true → FitsSeat b pass v) × (v.taps ≡ true → FitsTap b pass v)
 
--- What holds between any two steps: there are books in order, and each view is what they say.
+-- The rule of a shared queue, which holds between any two steps: there are books in order, and each user's view is what they say. Seven
+-- kinds of step keep it: opening, seating a sender, accepting, evicting, pulling, retiring a closed seat, and gathering it.
 abbrev pub Keeps : List Packet → List View → Type 0
 Keeps held views = (b : Books) × IsSound b held × ((pass : ℕ) (v : View) → get_elem? views pass ≡ some v → Fits b pass v)
 
+-- what a tap keeps of a seat that it gathered
 abbrev pub gathered_seat : ℕ → List Packet → List Packet → Gathered
 gathered_seat s accepted evicted = record { sender = s; accepted = accepted; evicted = evicted }

@@ -17,18 +17,20 @@ use Rattle.clk_ruled.specs.Account.{IsAccount}
 abbrev pub lists_of : List ClosedLists → List SeatLists
 lists_of closed = map (λ (c : ClosedLists). c.lists) closed
 
+-- a seat as the tap keeps it once it is gathered
 abbrev pub as_gathered : SeatLists → Gathered
 as_gathered l = gathered_seat l.sender l.accepted l.evicted
 
--- a list of the seat of a sender: none, where the sender has no seat here
+-- one of the lists of a sender's seat; empty if the sender has no seat here
 abbrev pub of_seat : (SeatLists → List Packet) → List SeatLists → ℕ → List Packet
 of_seat list [] s = []
 of_seat list (l ∷ seats) s = if l.sender == s then list l else of_seat list seats s
 
--- what the queue took from a sender, and what it put out for it
+-- the packets that the queue accepted from a sender
 abbrev pub accepted_of : List SeatLists → ℕ → List Packet
 accepted_of seats s = of_seat (λ l. l.accepted) seats s
 
+-- the packets that the queue evicted for packets of a sender
 abbrev pub evicted_of : List SeatLists → ℕ → List Packet
 evicted_of seats s = of_seat (λ l. l.evicted) seats s
 
@@ -36,14 +38,15 @@ evicted_of seats s = of_seat (λ l. l.evicted) seats s
 abbrev pub all_evicted : List SeatLists → List Packet
 all_evicted seats = flat_map (λ (l : SeatLists). l.evicted) seats
 
--- how many packets the queue took, and how many it put out
+-- how many packets the queue accepted
 abbrev pub accepted_count : List SeatLists → ℕ
 accepted_count seats = accepted_in_all (map as_gathered seats)
 
+-- how many packets the queue evicted
 abbrev pub evicted_count : List SeatLists → ℕ
 evicted_count seats = evicted_in_all (map as_gathered seats)
 
--- how many packets were refused or put out
+-- how many packets were refused or evicted
 abbrev pub lost_count : List SeatLists → ℕ
 lost_count [] = 0
 lost_count (l ∷ seats) = length l.refused + length l.evicted + lost_count seats
@@ -54,6 +57,7 @@ pub record IsOfTap (tap : TapLists) (c : ClosedLists) : Type 0 where
   pub setup : c.lists.setup ≡ tap.setup
   pub had : c.is_gathered ≡ true → In (as_gathered c.lists) tap.gathered
 
+-- Each of these seats was opened with the tap, and if it was gathered, the tap has its lists.
 abbrev pub AreOfTap : TapLists → List ClosedLists → Type 0
 AreOfTap tap [] = ⊤
 AreOfTap tap (c ∷ closed) = IsOfTap tap c × AreOfTap tap closed
@@ -68,10 +72,11 @@ pub record HasAllSeats (tap : TapLists) (closed : List ClosedLists) : Type 0 whe
   pub together : AreTogether tap closed
   pub gathered : AllByRecursion (λ (c : ClosedLists). c.is_gathered ≡ true) closed
 
--- no more was taken than these seats' packets that weren't put out, and just as much
+-- at most as many packets were taken as were accepted and not evicted
 abbrev pub IsTakenWithin : TapLists → List ClosedLists → Type 0
 IsTakenWithin tap closed = evicted_count (lists_of closed) + length tap.taken ≤ accepted_count (lists_of closed)
 
+-- exactly as many packets were taken as were accepted and not evicted
 abbrev pub IsAllTaken : TapLists → List ClosedLists → Type 0
 IsAllTaken tap closed = accepted_count (lists_of closed) ≡ evicted_count (lists_of closed) + length tap.taken
 
@@ -79,16 +84,17 @@ IsAllTaken tap closed = accepted_count (lists_of closed) ≡ evicted_count (list
 abbrev pub closing : SeatLists → ClosedLists
 closing l = record { lists = l; is_gathered = false }
 
--- A queue, its tap and all of its seats, in order, were opened together, and what each gathered seat had is the tap's. A seat that
--- isn't closed yet stands as it would be, closed now.
+-- A queue, its tap and all its seats, in order, were opened together, and the tap has the lists of each gathered seat; a seat that isn't
+-- closed yet stands as if it were closed now. `open` ensures this, every call keeps it, and `settle` requires it.
 abbrev pub AreOpenedTogether : Queue → TapLists → List ClosedLists → Type 0
 AreOpenedTogether queue tap closed = IsTapOf queue tap × AreTogether tap closed
 
--- the tally of a seat's sender, where the packets that pass the test were put out
+-- The tally of a seat's sender, if the packets that pass the test were evicted. An evicted packet is told at its own sender, at whichever
+-- seat the other one came for which it was evicted.
 abbrev pub tally_by : (Packet → Bool) → SeatLists → Tally
 tally_by was_put_out l = record { sender = l.sender; accepted = l.accepted; refused = l.refused; evicted = filter was_put_out l.accepted }
 
--- the same where these packets were put out
+-- the tally of a seat's sender, if these packets were evicted
 abbrev pub tally_of : List Packet → SeatLists → Tally
 tally_of out l = tally_by (has_packet out) l
 
@@ -110,8 +116,8 @@ pub record IsSettled (tap : TapLists) (closed : List ClosedLists) (pulled : List
   -- something was refused or put out only where the queue took so many packets as it may hold
   pub reached : 0 < lost_count (lists_of closed) → tap.setup.capacity ≤ accepted_count (lists_of closed)
 
--- A queue of this kind and capacity, shared by these senders, lost packets though it accepted fewer than it may hold. The lists of its seats,
--- the packets that were taken and packets that are held are an account of it.
+-- A queue of this kind and capacity, shared by these senders, lost packets although it accepted fewer than it may hold. The lists of its
+-- seats, the packets taken and some packets held are an account of it.
 pub record HasLostBelow (kind : Kind) (capacity : ℕ) (senders : List ℕ) (seats : List SeatLists) (taken : List Packet) : Type 0 where
   pub held : List Packet
   pub account : IsAccount kind capacity senders (accepted_of seats) (evicted_of seats) taken held

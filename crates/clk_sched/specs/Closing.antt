@@ -23,7 +23,8 @@ pub record TakesOne (old new : ℕ → ℕ) (leaf : ℕ) (got : Option Packet) :
   pub here : GivesOut (old leaf) (got ∷ []) (new leaf)
   pub others : (other : ℕ) → other ≢ leaf → new other ≡ old other
 
--- What is asked loses nothing, by what it gives and how many packets it holds for each leaf.
+-- What is asked loses nothing: an answer with a packet leaves one fewer at its leaf, one without comes only from an empty leaf, and no other
+-- leaf changes. Counts are enough, since they are all that is known of a queue that threads shared.
 abbrev pub LosesNothing : {S : Type 0} → (S → ℕ → Option Packet → S → Type 0) → (S → ℕ → ℕ) → Type 0
 LosesNothing {S = S} gives holds = (a : S) (leaf : ℕ) (got : Option Packet) (b : S) → gives a leaf got b → TakesOne (holds a) (holds b) leaf got
 
@@ -44,8 +45,8 @@ pub record IsClosing (tree : Tree) (log : List Visit) (moment : ℕ) (held rest 
 abbrev pub left_in : Tree → List Visit → (ℕ → ℕ) → ℕ
 left_in tree log held = held_in_all held (leaves (root tree)) + length (heads tree log)
 
--- The closing bound is enough: as long as not all packets came out that queues and heads held, the closing pulls are fewer. They begin one
--- tick after a moment that is no earlier than any before.
+-- The closing bound is enough: while packets are left in queues or heads, fewer closing pulls were made. So a session that drains what loses
+-- nothing, and is told exactly what is left, never stops short.
 abbrev pub BoundIsEnough : Tree → Type 0
 BoundIsEnough tree =
     (log : List Visit) (moment : ℕ) (held rest : ℕ → ℕ) (more : List (List Visit)) → IsRun tree log → latest_moment (reverse (pulls log)) ≤ moment → IsClosing tree log moment held rest more

@@ -36,16 +36,16 @@ could_emit turns backlogged moment next (node class inputs row) =
     && (holds_head (manner class (width inputs)) (width inputs) (turns next) || could_emit turns backlogged moment (suc next) inputs))
     || could_emit turns backlogged moment (suc (next + nodes inputs)) row
 
--- whether a pull of a tree could do so after a log
+-- whether a pull of a tree could emit a packet after a log
 abbrev pub tree_could_emit : Tree → List Visit → (ℕ → Bool) → ℕ → Bool
 tree_could_emit tree log backlogged moment = could_emit (turns_in log) backlogged moment 1 (root tree)
 
--- whether a moment has come that there may be
+-- whether there is a due moment, and it has come
 abbrev pub has_come : Option ℕ → ℕ → Bool
 has_come None moment = false
 has_come (Some due) moment = nat_le due moment
 
--- From a moment on, something is possible from a due moment on and not before, or never.
+-- From the moment `from` on, something is possible exactly from the due moment on; if there is no due moment, it is never possible.
 pub record IsDue (possible : ℕ → Bool) (from : ℕ) (due : Option ℕ) : Type 0 where
   pub each : (moment : ℕ) → from ≤ moment → possible moment ≡ has_come due moment
   pub later : IfSome due (λ moment. from ≤ moment)
@@ -55,7 +55,7 @@ abbrev pub GetsFromBacklogged : Tree → (ℕ → Bool) → List Visit → Type 
 GetsFromBacklogged tree backlogged pull =
     AllByRecursion (λ (v : Visit). MatchOption (tree_queue tree v) ⊤ (λ q. is_some v.got ≡ true → backlogged q ≡ true)) pull
 
--- No pull emits a packet where it could not: at such a moment its result is none.
+-- A pull that gets packets from backlogged queues alone emits none at a moment at which none could be emitted.
 abbrev pub EmitsOnceDue : Tree → Type 0
 EmitsOnceDue tree =
     (log pull : List Visit) (backlogged : ℕ → Bool) → IsOnePullMore tree log pull → GetsFromBacklogged tree backlogged pull

@@ -4,25 +4,25 @@ use Rattle.std.specs.Prelude.{◌≡◌, ℕ, zero, suc, ◌==◌, Bool, false, 
 use Rattle.clk_packet.specs.declared.packet.Packet.{Packet}
 use Rattle.clk_sched.specs.declared.visit.Visit.{Visit}
 
--- the packet held at an input: what the latest visit to it got, if that is a packet that didn't pass
+-- the head held at an input: what the latest visit there got, if that is a packet that did not pass
 abbrev pub head_at : ℕ → List Visit → Option Packet
 head_at input [] = None
 head_at input (v ∷ earlier) = if v.input == input then (if v.passed then None else v.got) else head_at input earlier
 
--- whether there is a packet, and it is covered
+-- there is a packet, and it is covered
 abbrev pub is_covered : (Packet → Bool) → Option Packet → Bool
 is_covered covers None = false
 is_covered covers (Some p) = covers p
 
--- A visit goes to the input whose turn it is, looks at the head where one is held and asks where none is, and passes the packet
--- that it got just where it is covered. Whose turn it is, and what is covered at an input, follow from the earlier visits.
+-- A visit goes to the input whose turn it is, and looks at the head held there, or asks if there is none. It passes the packet exactly if
+-- that is covered.
 pub record LooksAtHeads (turn_of : List Visit → ℕ) (covers : List Visit → ℕ → Packet → Bool) (earlier : List Visit) (v : Visit) : Type 0 where
   pub in_turn : v.input ≡ turn_of earlier
   pub fresh : v.fresh ≡ not (is_some (head_at v.input earlier))
   pub looks : MatchOption (head_at v.input earlier) ⊤ (λ p. v.got ≡ Some p)
   pub passes : v.passed ≡ is_covered (covers earlier v.input) v.got
 
--- the visits of a pull end with the first that passed, or else are so many
+-- the visits of a pull end with the first that passed; if none did, there are so many
 abbrev pub EndAtPass : ℕ → List Visit → Type 0
 EndAtPass zero visits = visits ≡ []
 EndAtPass (suc n) [] = ⊥

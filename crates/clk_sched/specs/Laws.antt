@@ -18,13 +18,13 @@ pub mod Deficit
 pub mod Stride
 pub mod Shaper
 
--- The two ways in which a scheduler may treat its inputs. It asks them in an order that follows from its earlier turns, the
--- latest first, and from the moment, until one gives a packet; or it holds heads, by whose turn it is and what is covered.
+-- The two ways in which a scheduler may treat its inputs: it asks them in an order until one gives a packet, or it holds packets back as
+-- heads. Order, turn and cover follow from its earlier turns.
 pub data Manner : Type 0 where
   in_order : (List Turn → ℕ → List ℕ) → Manner
   with_heads : (List Visit → ℕ) → (List Visit → ℕ → Packet → Bool) → Manner
 
--- what a scheduler of this class does with so many inputs
+-- the law of each class, over so many inputs, as a manner
 abbrev pub manner : Class → ℕ → Manner
 manner prio inputs = in_order (λ earlier moment. priority_order inputs)
 manner round_robin inputs = in_order (λ earlier moment. round_robin_order inputs earlier)
@@ -32,17 +32,16 @@ manner (drr quanta) inputs = with_heads (next_input inputs) (deficit_covers quan
 manner (stride tickets) inputs = in_order (λ earlier moment. stride_order tickets earlier)
 manner (shaper rate burst) inputs = in_order (shaper_order rate burst)
 
--- a turn is as this manner has it, after earlier turns, the latest first
+-- A turn keeps to a manner, after earlier turns, the latest first.
 abbrev pub Follows : Manner → ℕ → List Turn → Turn → Type 0
 Follows (in_order order) inputs earlier t = AsksInOrder (order earlier t.moment) t.visits
 Follows (with_heads turn_of covers) inputs earlier t = EachAfter (LooksAtHeads turn_of covers) (visits_before earlier) t.visits × EndAtPass inputs t.visits
 
--- What a scheduler of this class, over so many inputs, may do in one pull after its earlier turns, the latest first: it visits
--- inputs that it has, in its manner.
+-- What a scheduler may do in one pull after its earlier turns, the latest first: it visits inputs that it has, and keeps to its manner.
 pub record AllowsTurn (class : Class) (inputs : ℕ) (earlier : List Turn) (t : Turn) : Type 0 where
   pub within : AllByRecursion (λ (v : Visit). v.input < inputs) t.visits
   pub follows : Follows (manner class inputs) inputs earlier t
 
--- What a scheduler of this class, over so many inputs, may have done in its pulls, one after another.
+-- A scheduler obeys its law: it may do what it did in each of its turns, one after another.
 abbrev pub Obeys : Class → ℕ → List Turn → Type 0
 Obeys class inputs turns = EachAfter (AllowsTurn class inputs) [] turns

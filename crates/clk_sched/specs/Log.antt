@@ -14,13 +14,12 @@ visits_of x visits = filter (λ (v : Visit). v.node == x) visits
 abbrev pub in_pull : ℕ → List Visit → List Visit
 in_pull k log = filter (λ (v : Visit). v.pull == k) log
 
--- The log, pull by pull. The device has one visit in each pull.
+-- The log, pull by pull: the visits numbered k are those of pull k, and there are as many pulls as visits of the device.
 abbrev pub pulls : List Visit → List (List Visit)
 pulls log = map (λ k. in_pull k log) (range_with_len 0 (length (visits_of 0 log)))
 
--- The block of what stands at an input, in a row that stands at the inputs from `first` on and whose schedulers are
--- numbered from `next` on: for each visit of the scheduler in the pull, in order, first the block of what it asked, and
--- then the visit. A queue has no visits.
+-- The block of what stands at an input, in a row whose inputs are numbered from `first` on and whose schedulers are numbered from `next` on.
+-- It has a scheduler's visits in this pull, each behind the block of what it asked; a queue has none.
 abbrev pub block_at : List Visit → ℕ → ℕ → Row → ℕ → List Visit
 block_at pull first next end input = []
 block_at pull first next (leaf q row) input = if first == input then [] else block_at pull (suc first) next row input
@@ -29,30 +28,32 @@ block_at pull first next (node class inputs row) input =
     then flat_map (λ (v : Visit). (if v.fresh then block_at pull 0 (suc next) inputs v.input else []) ++ v ∷ []) (visits_of next pull)
     else block_at pull (suc first) (suc (next + nodes inputs)) row input
 
--- the block of the device: the whole pull
+-- the block of the device: the visits of the whole pull, in their order
 abbrev pub block : Tree → List Visit → List Visit
 block tree pull =
     flat_map (λ (v : Visit). (if v.fresh then block_at pull 0 1 (root tree) v.input else []) ++ v ∷ []) (visits_of 0 pull)
 
--- the counted moment of a pull, which all its visits carry
+-- the counted moment of a pull: that of its first visit
 abbrev pub moment_of : List Visit → ℕ
 moment_of [] = 0
 moment_of (v ∷ visits) = v.moment
 
+-- all visits of a pull have the same moment
 abbrev pub HasOneMoment : List Visit → Type 0
 HasOneMoment pull = AllByRecursion (λ (v : Visit). v.moment ≡ moment_of pull) pull
 
--- no number is below the one before it, nor below the first
+-- no number is below the one before it, and the first is not below `least`
 abbrev pub NeverFalls : ℕ → List ℕ → Type 0
 NeverFalls least [] = ⊤
 NeverFalls least (n ∷ ns) = (least ≤ n) × NeverFalls n ns
 
--- The counted moments of pulls, by the moments that were handed in: each is the greater of the one before it and its own.
+-- The counted moments of pulls, by the moments that were handed in: each is the greater of its own and the one before it. `before` is 0 for
+-- the first.
 abbrev pub counted : ℕ → List ℕ → List ℕ
 counted before [] = []
 counted before (moment ∷ moments) = max before moment ∷ counted (max before moment) moments
 
--- The log is the blocks of its pulls, joined. Each pull has one moment, and moments never fall.
+-- The shape of a log: it is the blocks of its pulls, in order; each pull has one moment; and moments never fall.
 pub record HasLogShape (tree : Tree) (log : List Visit) : Type 0 where
   pub blocks : log ≡ flat_map (block tree) (pulls log)
   pub one_moment : AllByRecursion HasOneMoment (pulls log)
@@ -66,11 +67,11 @@ turn x pull = record { moment = moment_of pull; visits = visits_of x pull }
 abbrev pub asks : ℕ → Visit → Bool
 asks input v = v.fresh && (v.input == input)
 
--- The pulls in which the child at an input of node x is pulled, of those in which x is: x has a fresh visit there.
+-- Of the pulls of node x, those in which the child at an input is pulled: x has a fresh visit there.
 abbrev pub pulls_below : ℕ → ℕ → List (List Visit) → List (List Visit)
 pulls_below x input pulled = filter (λ pull. list_any (asks input) (visits_of x pull)) pulled
 
--- the result of a node in a pull, of its visits there: the packet of the one that passed, or none
+-- what a node returns in a pull, by its visits there: the packet of the one that passed, or none
 abbrev pub result_of : List Visit → Option Packet
 result_of [] = None
 result_of (v ∷ visits) = if v.passed then v.got else result_of visits

@@ -25,30 +25,28 @@ leaf_packets tree q log = filter_map (λ (v : Visit). if asks_queue tree q v the
 abbrev pub up_to : ℕ → List Visit → List Visit
 up_to k visits = filter (λ (v : Visit). nat_le v.pull k) visits
 
--- the input from which a node passed a packet in a pull, of its visits there; none where it passed nothing
+-- the input from which a node passed a packet in a pull, by its visits there; none if it passed none
 abbrev pub passed_input : List Visit → Option ℕ
 passed_input [] = None
 passed_input (v ∷ visits) = if v.passed then Some v.input else passed_input visits
 
--- the pull in which a node asked at an input last, of its visits with the latest first; none where it never asked there
+-- the latest pull in which a node asked at an input, by its visits, the latest first; none if it never asked there
 abbrev pub asked_pull : ℕ → List Visit → Option ℕ
 asked_pull input [] = None
 asked_pull input (v ∷ earlier) = if asks input v then Some v.pull else asked_pull input earlier
 
--- The queue from which came what a node got when it asked at an input last, of its visits with the latest first, by where
--- came what was got there in a pull. What it holds of that input, and what it passes from there, it got then.
+-- The queue that gave what a node got when it last asked at an input, if a queue did. What the node holds of that input, or passes from
+-- there, it got then.
 abbrev pub latest_origin : (ℕ → Option ℕ) → ℕ → List Visit → Option ℕ
 latest_origin origin input latest_first = option_and_then origin (asked_pull input latest_first)
 
--- The queue from which came what a node passed in pull k, of its visits, by where came what was got at an input of it in a
--- pull; none where it passed nothing.
+-- The queue that gave the packet that a node passed in pull k; none if it passed none.
 abbrev pub passed_origin : (ℕ → ℕ → Option ℕ) → ℕ → List Visit → Option ℕ
 passed_origin origin k visits =
     option_and_then (λ input. latest_origin (origin input) input (up_to k (reverse visits))) (passed_input (in_pull k visits))
 
--- The queue from which came what was got in pull k at an input, in a row whose inputs are counted from 0 and whose
--- schedulers are numbered from `next` on: the queue there, whether it gave a packet or not, or that of what the scheduler there
--- passed. None where nothing stands at such an input, and where the scheduler passed nothing.
+-- The queue from which came what was got in pull k at an input of a row, whose schedulers are numbered from `next` on: the queue there, even
+-- if it gave none, or the origin of what the scheduler there passed. None if nothing stands there, or the scheduler passed nothing.
 abbrev pub origin_in : List Visit → ℕ → Row → ℕ → ℕ → Option ℕ
 origin_in log next end input k = None
 origin_in log next (leaf q row) zero k = Some q
@@ -60,6 +58,7 @@ origin_in log next (node class inputs row) (suc input) k = origin_in log (suc (n
 abbrev pub Traced : Type 0
 Traced = Packet × Option ℕ
 
+-- a packet with its origin, as a list, which is empty if there is no packet
 abbrev pub traced : Option Packet → Option ℕ → List Traced
 traced None origin = []
 traced (Some p) origin = (p, origin) ∷ []
@@ -68,12 +67,12 @@ traced (Some p) origin = (p, origin) ∷ []
 abbrev pub traced_emitted : Tree → List Visit → List Traced
 traced_emitted tree log = flat_map (λ (v : Visit). if v.passed then traced v.got (origin_in log 1 (root tree) 0 v.pull) else []) (visits_of 0 log)
 
--- the head held at an input of node x at the end of a log, if there is one: what the last visit there got and didn't pass
+-- the head held at an input of node x at the end of a log, with its origin
 abbrev pub held_at : List Visit → ℕ → Row → ℕ → List Traced
 held_at log x inputs input =
     traced (head_at input (reverse (visits_of x log))) (latest_origin (origin_in log (suc x) inputs input) input (reverse (visits_of x log)))
 
--- the heads held by node x, by input: one in this manner has them, and one that asks in order has none
+-- the heads held by node x, by input: only a scheduler with heads has any
 abbrev pub own_heads : List Visit → ℕ → Row → Manner → List Traced
 own_heads log x inputs (in_order order) = []
 own_heads log x inputs (with_heads turn_of covers) = flat_map (held_at log x inputs) (range_with_len 0 (width inputs))

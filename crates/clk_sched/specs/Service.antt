@@ -16,6 +16,7 @@ abbrev pub arrivals_in : ℕ → List Visit → List Visit → ℕ
 arrivals_in input earlier [] = 0
 arrivals_in input earlier (v ∷ range) = (if v.input == input then arrives earlier else 0) + arrivals_in input (v ∷ earlier) range
 
+-- the bytes passed from an input in a range of visits
 abbrev pub bytes_in : ℕ → List Visit → ℕ
 bytes_in input [] = 0
 bytes_in input (v ∷ range) = (if (v.input == input) && v.passed then bytes_of v.got else 0) + bytes_in input range
@@ -39,6 +40,7 @@ pub record SharesByDeficit (quanta : List ℕ) (inputs : ℕ) (turns : List Turn
   pub bytes_near : (before range after : List Visit) → all_visits turns ≡ before ++ (range ++ after) → (i : ℕ) → i < inputs → AlwaysGets i range
       → Near (quantum_at quanta i + (most_length - 1)) (bytes_in i range) (quantum_at quanta i * arrivals_in i (reverse before) range)
 
+-- the largest stride of some inputs
 abbrev pub largest_stride : List ℕ → ℕ
 largest_stride [] = 0
 largest_stride (t ∷ tickets) = max (stride_of t) (largest_stride tickets)

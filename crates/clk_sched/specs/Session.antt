@@ -21,12 +21,12 @@ abbrev pub latest_moment : List (List Visit) → ℕ
 latest_moment [] = 0
 latest_moment (pull ∷ earlier) = moment_of pull
 
--- what a session is seen as: its tree, and the log of its pulls
+-- what contracts see of a session: its tree, and the log of its pulls, which is a run of the tree
 pub record Progress : Type 0 where
   pub tree : Tree
   pub log : List Visit
 
--- the counted moment of a session
+-- the counted moment of a session: that of its latest pull, and 0 before the first
 abbrev pub counted_moment : Progress → ℕ
 counted_moment s = latest_moment (reverse (pulls s.log))
 
@@ -58,7 +58,7 @@ pub record IsDrained (old new : Progress) (moment made given : ℕ) : Type 0 whe
   pub moments : map moment_of more ≡ range_with_len (moment + 1) made
   pub given_are : length (given_in more) ≡ given
 
--- the last of some pulls gave a packet, if there was one
+-- if there are pulls, the last one gave a packet
 abbrev pub LastGives : List (List Visit) → Type 0
 LastGives [] = ⊤
 LastGives (pull ∷ []) = is_some (result_of (visits_of 0 pull)) ≡ true

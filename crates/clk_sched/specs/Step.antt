@@ -61,7 +61,8 @@ pub record IsPullWith (tree : Tree) (log : List Visit) (moment : ℕ) (answer : 
   pub at_moment : moment_of pull ≡ moment
   pub answered : AllByRecursion (λ (v : Visit). v.fresh ≡ true → IfSome (queue_at tree v.node v.input) (λ q. v.got ≡ answer v.node v.input)) pull
 
--- A run of a sound tree can go on at each moment that is no earlier than its last, whatever the queues answer.
+-- A run of a sound tree can go on at each moment that is no earlier than its last, whatever the queues answer. So nothing in the definition
+-- of a run keeps a scheduler from its next pull.
 abbrev pub CanGoOn : Tree → Type 0
 CanGoOn tree =
     IsSound (root tree) → (log : List Visit) (moment : ℕ) (answer : ℕ → ℕ → Option Packet) → IsRun tree log → NeverFalls 0 (map moment_of (pulls log) ++ moment ∷ [])

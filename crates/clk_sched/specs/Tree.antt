@@ -5,8 +5,8 @@ use Rattle.std.specs.List.{AllByRecursion}
 use Rattle.clk_packet.specs.Lists.{are_distinct}
 use Rattle.clk_packet.specs.Limits.{most_inputs, most_quantum, most_tickets, most_rate, most_burst}
 
--- What a scheduler does with its inputs, and its arguments: the quantum of each input in bytes, the tickets of each input, and
--- the rate in packets a tick with the burst in packets.
+-- A class of scheduler with its arguments: a quantum in bytes for each input, tickets for each input, or a rate in packets a tick and a
+-- burst in packets.
 pub data Class : Type 0 where
   prio : Class
   round_robin : Class
@@ -14,7 +14,7 @@ pub data Class : Type 0 where
   stride : List ℕ → Class
   shaper : ℕ → ℕ → Class
 
--- What stands at inputs that follow one another: a queue, by its number, or a scheduler with inputs of its own.
+-- Inputs in order, and what stands at each: a queue, by its number, or a scheduler with inputs of its own.
 pub data Row : Type 0 where
   end : Row
   leaf : ℕ → Row → Row
@@ -25,7 +25,7 @@ pub data Tree : Type 0 where
   queue : ℕ → Tree
   scheduler : Class → Row → Tree
 
--- the one input of the device
+-- the row of the device, which has one input
 abbrev pub root : Tree → Row
 root (queue q) = leaf q end
 root (scheduler class inputs) = node class inputs end
@@ -43,8 +43,8 @@ nodes end = 0
 nodes (leaf q row) = nodes row
 nodes (node class inputs row) = suc (nodes inputs + nodes row)
 
--- The queue at this input of this node, in a row that stands at the inputs of node `above` from `first` on, and whose
--- own schedulers are numbered from `next` on.
+-- The queue at an input of node `x`, in a row whose inputs are those of node `above` from `first` on. Its schedulers are numbered from
+-- `next` on.
 abbrev pub queue_in : ℕ → ℕ → ℕ → Row → ℕ → ℕ → Option ℕ
 queue_in above first next end x input = None
 queue_in above first next (leaf q row) x input =
@@ -62,7 +62,7 @@ leaves end = []
 leaves (leaf q row) = q ∷ leaves row
 leaves (node class inputs row) = leaves inputs ++ leaves row
 
--- whether there is a number, and it is this one
+-- whether the number is there and is this one
 abbrev pub is_number : ℕ → Option ℕ → Bool
 is_number n None = false
 is_number n (Some other) = other == n
@@ -85,7 +85,7 @@ IsSound end = ⊤
 IsSound (leaf q row) = IsSound row
 IsSound (node class inputs row) = (1 ≤ width inputs) × HasArguments class (width inputs) × IsSound inputs × IsSound row
 
--- The same, where no scheduler has more inputs than are allowed.
+-- Each scheduler of a row has from 1 to `most_inputs` inputs, and arguments within their limits. Every `Tree` of the code is well formed.
 abbrev pub IsWellFormed : Row → Type 0
 IsWellFormed end = ⊤
 IsWellFormed (leaf q row) = IsWellFormed row

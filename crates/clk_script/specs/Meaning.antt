@@ -37,19 +37,22 @@ name_text p = decimal p.sender ++ (codes "#" ++ decimal p.number)
 abbrev pub packet_text : Packet → List ℕ
 packet_text p = name_text p ++ (codes " " ++ decimal p.length)
 
+-- ` accepted`, ` refused`, or ` accepted evicted T#k`
 abbrev pub outcome_text : Offered → List ℕ
 outcome_text Accepted = codes " accepted"
 outcome_text (Refused p) = codes " refused"
 outcome_text (Evicted front) = codes " accepted evicted " ++ name_text front
 
+-- `S#n L`, or `none`
 abbrev pub result_text : Option Packet → List ℕ
 result_text None = codes "none"
 result_text (Some p) = packet_text p
 
--- where there are several devices, a pull's line has the number of its own
+-- the number of the device in a pull's line, if there are several devices
 abbrev pub device_text : Bool → ℕ → List ℕ
 device_text several device = if several then codes " " ++ decimal device else []
 
+-- whether a setup has several devices
 abbrev pub has_several : Setup → Bool
 has_several setup = nat_lt 1 (length setup.trees)
 
@@ -58,19 +61,21 @@ abbrev pub pull_text : Bool → ℕ → ℕ → Option Packet → List ℕ
 pull_text several device moment got =
     codes "pull " ++ (decimal moment ++ (device_text several device ++ (codes ": " ++ (result_text got ++ codes "\n"))))
 
--- the line of an offer, and that of an event
+-- the line of an offer
 abbrev pub offer_text : Packet → Offered → List ℕ
 offer_text p outcome = packet_text p ++ (outcome_text outcome ++ codes "\n")
 
+-- the line of an event
 abbrev pub event_text : Bool → Event → List ℕ
 event_text several (offered p outcome) = offer_text p outcome
 event_text several (pulled device moment visits) = pull_text several device moment (result_of (visits_of 0 visits))
 
--- the line of a closing pull: one that gave none writes nothing
+-- the line of a closing pull with this result; none if it gave no packet
 abbrev pub given_text : Bool → ℕ → ℕ → Option Packet → List ℕ
 given_text several device moment None = []
 given_text several device moment (Some p) = pull_text several device moment (Some p)
 
+-- the line of a closing pull; none if it gave no packet
 abbrev pub closing_text : Bool → Event → List ℕ
 closing_text several (offered p outcome) = []
 closing_text several (pulled device moment visits) = given_text several device moment (result_of (visits_of 0 visits))
@@ -86,6 +91,7 @@ abbrev pub IsClosed : Setup → Option ℕ → List Event → List Event → Typ
 IsClosed setup None events closed = closed ≡ []
 IsClosed setup (Some moment) events closed = CloseFirst setup moment (length setup.trees) events closed
 
+-- the report, if a script has a drain
 abbrev pub ending_text : Setup → Option ℕ → List Event → List ℕ
 ending_text setup None events = []
 ending_text setup (Some moment) events = report_text (flat_map emitted (logs_of setup events)) (map (tally_after events) (sender_numbers setup))
@@ -111,12 +117,12 @@ pub record MeansWith (setup : Setup) (script text : List ℕ) (logs : List (List
   pub sound : script_fault (names_of setup) script ≡ None
   pub written : Writes setup (commands_of script) (closing_moment script) text logs
 
--- the same, with some logs
+-- The text is the meaning of the script over the setup, with some logs.
 abbrev pub IsMeaning : Setup → List ℕ → List ℕ → Type 0
 IsMeaning setup script text = (logs : List (List Visit)) × MeansWith setup script text logs
 
--- Why running a script that may name these is refused with a fault: memory may run out at any growth, the reader and the writer may fail,
--- and otherwise it is what is wrong with the script, where its bytes are known. Its drain never stops short.
+-- Why running a script fails: memory ran out, the reader or the writer failed, or the script has the fault, if its bytes are known. A drain
+-- never stops short.
 abbrev pub Explains : Names → Option (List ℕ) → Fault → Type 0
 Explains names script Memory = ⊤
 Explains names script Read = ⊤
@@ -132,7 +138,7 @@ pub record MeansOverWith (plan : List Planned) (script text : List ℕ) (logs : 
   pub are : AreTreesOf plan trees
   pub means : MeansWith (plan_setup trees plan) script text logs
 
--- the same, with some logs
+-- The text is the meaning of the script over the plan, with some logs.
 abbrev pub MeansOver : List Planned → List ℕ → List ℕ → Type 0
 MeansOver plan script text = (logs : List (List Visit)) × MeansOverWith plan script text logs
 

@@ -44,8 +44,8 @@ pub record HasRoom (lines : ℕ) (moment : Option ℕ) : Type 0 where
   pub few : lines < most_lines
   pub early : IfSome moment (λ m. m ≤ most_moment)
 
--- Events and a drain are within the limits of a script: the moments handed in and that of the drain are in range, and there are no more
--- lines than a script may have.
+-- Moments handed in and that of the drain are in range, and there are no more lines than a script may have. The bytes of a record need no
+-- limit of their own, since a line has at most 25.
 pub record FitsLimits (events : List Event) (drain : Option ℕ) : Type 0 where
   pub moments : AllByRecursion (λ moment. moment ≤ most_moment) (filter_map moment_in events)
   pub last : IfSome drain (λ moment. moment ≤ most_moment)

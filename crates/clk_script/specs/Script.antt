@@ -14,13 +14,15 @@ use Rattle.clk_script.specs.declared.script.Command.TheVariants.{Send, Pull}
 use Rattle.clk_script.specs.declared.script.Line.{Line}
 use Rattle.clk_script.specs.declared.script.Line.TheVariants as line
 
--- how many bytes and lines a script may have, and the greatest moment that it may name, in ticks
+-- how many bytes a script may have
 abbrev pub most_script_bytes : ℕ
 most_script_bytes = MAX_SCRIPT_BYTES
 
+-- how many lines a script may have
 abbrev pub most_lines : ℕ
 most_lines = MAX_LINES
 
+-- the greatest moment that a script may name, in ticks
 abbrev pub most_moment : ℕ
 most_moment = MAX_MOMENT
 
@@ -36,31 +38,35 @@ is_blank byte = (byte == 32) || (byte == 9)
 abbrev pub fields : List ℕ → List (List ℕ)
 fields text = filter has_bytes (slice_split is_blank text)
 
--- what follows the word `send` or another, where it is numbers in range
+-- a `send` of this sender and length, if both are in range
 abbrev pub send_of : Option ℕ → Option ℕ → Line
 send_of None length = line.Malformed
 send_of (Some sender) None = line.Malformed
 send_of (Some sender) (Some length) = line.Command (Send sender length)
 
+-- a `pull` of this moment and device, if both are in range
 abbrev pub pull_of : Option ℕ → Option ℕ → Line
 pull_of None device = line.Malformed
 pull_of (Some moment) None = line.Malformed
 pull_of (Some moment) (Some device) = line.Command (Pull device moment)
 
+-- a `drain` from this moment, if it is in range
 abbrev pub drain_of : Option ℕ → Line
 drain_of None = line.Malformed
 drain_of (Some moment) = line.Drain moment
 
+-- what follows the word `send`: a sender and a length
 abbrev pub sender_and_length : List (List ℕ) → Line
 sender_and_length (sender ∷ length ∷ []) = send_of (number_in 0 most_sender sender) (number_in 1 most_length length)
 sender_and_length arguments = line.Malformed
 
--- a moment, and a device: the first where none is named
+-- what follows the word `pull`: a moment, and a device, which is device 0 if none is named
 abbrev pub moment_and_device : List (List ℕ) → Line
 moment_and_device (moment ∷ []) = pull_of (number_in 0 most_moment moment) (Some 0)
 moment_and_device (moment ∷ device ∷ []) = pull_of (number_in 0 most_moment moment) (number_in 0 most_device device)
 moment_and_device arguments = line.Malformed
 
+-- what follows the word `drain`: a moment
 abbrev pub only_moment : List (List ℕ) → Option ℕ
 only_moment (moment ∷ []) = number_in 0 most_moment moment
 only_moment arguments = None
@@ -74,6 +80,7 @@ line_of_fields (word ∷ arguments) =
     else if bytes_eq word (codes "drain") then drain_of (only_moment arguments)
     else line.Malformed
 
+-- what a line says
 abbrev pub line_of : List ℕ → Line
 line_of text = line_of_fields (fields text)
 
@@ -94,20 +101,23 @@ line_fault names drained number line.Malformed = Some (BadScript number)
 line_fault names drained number (line.Command command) = if drained then Some (BadScript number) else command_fault names number command
 line_fault names drained number (line.Drain moment) = if drained then Some (BadScript number) else None
 
+-- What is wrong with the line of this number: it is one line too many, whatever it says, or it is wrong by itself.
 abbrev pub fault_at : Names → Bool → ℕ → Line → Option Fault
 fault_at names drained number l = if nat_lt most_lines number then Some TooLarge else line_fault names drained number l
 
+-- whether a line is a drain
 abbrev pub is_drain : Line → Bool
 is_drain (line.Drain moment) = true
 is_drain l = false
 
--- What is wrong with the first of some lines that has something wrong. They are counted from a number on, and a drain may have
--- come before them.
+-- The fault of the first of some lines that has one. The lines are counted from `number` on, and `drained` says whether a drain came before
+-- them.
 abbrev pub first_fault : Names → Bool → ℕ → List Line → Option Fault
 first_fault names drained number [] = None
 first_fault names drained number (l ∷ more) =
     option_or (fault_at names drained number l) (first_fault names (drained || is_drain l) (number + 1) more)
 
+-- what each line of a script says: a line ends with a line feed, which the last may lack, and loses one carriage return right before it
 abbrev pub lines_of : List ℕ → List Line
 lines_of script = map line_of (lines script)
 
@@ -115,6 +125,7 @@ lines_of script = map line_of (lines script)
 abbrev pub script_fault : Names → List ℕ → Option Fault
 script_fault names script = if nat_lt most_script_bytes (length script) then Some TooLarge else first_fault names false 1 (lines_of script)
 
+-- the command of a line, if it is one
 abbrev pub command_in : Line → Option Command
 command_in (line.Command command) = Some command
 command_in l = None
@@ -123,6 +134,7 @@ command_in l = None
 abbrev pub commands_of : List ℕ → List Command
 commands_of script = filter_map command_in (lines_of script)
 
+-- the moment of a line, if it is a drain
 abbrev pub drain_in : Line → Option ℕ
 drain_in (line.Drain moment) = Some moment
 drain_in l = None

@@ -14,8 +14,8 @@ use Rattle.clk_syntax.specs.declared.naming.class.Class.TheVariants as kept
 use Rattle.clk_syntax.specs.declared.naming.class.Role.{Role}
 use Rattle.clk_syntax.specs.declared.naming.class.Role.TheVariants as role
 
--- A class with its arguments, defaults filled in: the number of a Sender; kind and capacity of a queue; the quantum of a DRRSched in
--- bytes, one for all inputs or one for each; the tickets of a StrideSched; rate and burst of a Shaper in packets; the word of a ToDevice.
+-- A class with its arguments, defaults filled in. These are the number of a Sender, kind and capacity of a queue, quanta in bytes (one for
+-- all inputs or one for each), tickets for each input, rate and burst of a Shaper in packets, and the word of a ToDevice.
 pub data Class : Type 0 where
   sender : ℕ → Class
   queue : Kind → ℕ → Class
@@ -26,6 +26,7 @@ pub data Class : Type 0 where
   shaper : ℕ → ℕ → Class
   device : List ℕ → Class
 
+-- the class of this name, if there is one
 abbrev pub class_named : List ℕ → Option ClassName
 class_named word =
     if bytes_eq word (codes "Sender") then Some named.Sender
@@ -39,15 +40,17 @@ class_named word =
     else if bytes_eq word (codes "ToDevice") then Some named.ToDevice
     else None
 
--- the numbers that words are, where each is one from 1 to a greatest
+-- a number before others, if all are there
 abbrev pub and_then : Option ℕ → Option (List ℕ) → Option (List ℕ)
 and_then None numbers = None
 and_then (Some n) numbers = option_map (λ ns. n ∷ ns) numbers
 
+-- the numbers that these words are, if each is a number from 1 to `most`
 abbrev pub numbers_to : ℕ → List (List ℕ) → Option (List ℕ)
 numbers_to most [] = Some []
 numbers_to most (word ∷ more) = and_then (number_in 1 most word) (numbers_to most more)
 
+-- a Shaper with this rate and burst, if both are there
 abbrev pub shaper_of : Option ℕ → Option ℕ → Option Class
 shaper_of None burst = None
 shaper_of (Some rate) None = None
@@ -98,6 +101,7 @@ class_view (kept.StrideSched tickets) = stride tickets.items
 class_view (kept.Shaper rate burst) = shaper rate burst
 class_view (kept.ToDevice word) = device word.items
 
+-- a class as definitions see it
 abbrev pub is_class : declared.Class → Option Class
 is_class class = Some (class_view class)
 

@@ -13,8 +13,8 @@ use Rattle.clk_syntax.specs.Ports.{target, inputs_of}
 use Rattle.clk_syntax.specs.Faults.{links_of}
 use Rattle.clk_syntax.specs.Reading.{IsFaultless, elements_of, wires_of}
 
--- An element of a plan: its name, its class, and the elements that are connected to it, by their places among all: of a queue its senders
--- in order of declaration, of any other element the one at each input.
+-- An element of a plan: its name, its class, and the places of the elements that are connected to it. Of a queue these are its senders in
+-- order of declaration, of any other element the one at each input.
 pub record Planned : Type 0 where
   pub name : List ℕ
   pub class : Class
@@ -42,9 +42,11 @@ pub record Known : Type 0 where
 abbrev pub known : Element → Option Known
 known e = option_map (λ class. record { name = e.name.letters; class = class }) (class_of e)
 
+-- the elements whose class is known
 abbrev pub all_known : List Element → List Known
 all_known elements = filter_map known elements
 
+-- an element of a plan, at this place
 abbrev pub planned_at : ℕ → List Link → ℕ → Known → Planned
 planned_at count links i k = record { name = k.name; class = k.class; sources = sources_of count links i (role_of k.class) }
 
@@ -53,6 +55,7 @@ abbrev pub planned_from : ℕ → List Link → ℕ → List Known → List Plan
 planned_from count links i [] = []
 planned_from count links i (k ∷ more) = planned_at count links i k ∷ planned_from count links (i + 1) more
 
+-- the plan of these elements and wires
 abbrev pub plan_of : List Element → List Wire → List Planned
 plan_of elements wires = planned_from (length (all_known elements)) (links_of elements wires) 0 (all_known elements)
 

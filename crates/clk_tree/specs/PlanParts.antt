@@ -17,7 +17,7 @@ queue_fed [] i = 0
 queue_fed (e ∷ more) i =
     if is_queue e.class then (if stands_in i e.sources then 0 else queue_fed more i + 1) else queue_fed more i
 
--- the sender that stands at a place
+-- the sender that stands at a place, if the element there is one
 abbrev pub sender_of : List Planned → ℕ → Class → Option SenderSpec
 sender_of plan i (sender n) = Some (record { number = n; queue = queue_fed plan i })
 sender_of plan i class = None
@@ -27,11 +27,12 @@ abbrev pub senders_from : List Planned → ℕ → List Planned → List SenderS
 senders_from plan i [] = []
 senders_from plan i (e ∷ more) = cons_option (sender_of plan i e.class) (senders_from plan (i + 1) more)
 
--- a sender before the first of a greater number
+-- a sender put into a list before the first of a greater number
 abbrev pub placed : SenderSpec → List SenderSpec → List SenderSpec
 placed s [] = s ∷ []
 placed s (t ∷ more) = if nat_lt s.number t.number then s ∷ t ∷ more else t ∷ placed s more
 
+-- senders by rising number
 abbrev pub by_number : List SenderSpec → List SenderSpec
 by_number [] = []
 by_number (s ∷ more) = placed s (by_number more)
@@ -40,6 +41,7 @@ by_number (s ∷ more) = placed s (by_number more)
 abbrev pub senders_of : List Planned → List SenderSpec
 senders_of plan = by_number (senders_from plan 0 plan)
 
+-- the number of a sender
 abbrev pub number_of : SenderSpec → ℕ
 number_of s = s.number
 
@@ -58,7 +60,7 @@ queued q = record { kind = q.kind; capacity = q.capacity; senders = q.senders.it
 abbrev pub senders_to : List SenderSpec → ℕ → List ℕ
 senders_to senders q = map number_of (filter (λ (s : SenderSpec). s.queue == q) senders)
 
--- the queue that stands at a place
+-- the queue that stands at a place, if the element there is one
 abbrev pub queue_of : List Planned → ℕ → Class → Option Queued
 queue_of plan i (queue kind capacity) = Some (record {
   kind = kind;

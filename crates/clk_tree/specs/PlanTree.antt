@@ -5,10 +5,12 @@ use Rattle.clk_sched.specs.Tree.{Row, end, leaf, node, Tree, root}
 use Rattle.clk_syntax.specs.Classes.{Class, queue, prio, round_robin, drr, stride, shaper, device}
 use Rattle.clk_tree.specs.Plan.{Planned}
 
+-- whether it is the class of a queue
 abbrev pub is_queue : Class → Bool
 is_queue (queue kind capacity) = true
 is_queue class = false
 
+-- whether it is the class of a device
 abbrev pub is_device : Class → Bool
 is_device (device word) = true
 is_device class = false
@@ -18,19 +20,21 @@ abbrev pub queue_count : List Planned → ℕ
 queue_count [] = 0
 queue_count (e ∷ more) = if is_queue e.class then queue_count more + 1 else queue_count more
 
--- The number of the queue that stands at a place: queues are numbered from 0 in order of declaration.
+-- this number, if the element is a queue
 abbrev pub number_if : ℕ → Option Planned → Option ℕ
 number_if n None = None
 number_if n (Some e) = if is_queue e.class then Some n else None
 
+-- The number of the queue that stands at a place: queues are numbered from 0 in order of declaration.
 abbrev pub queue_number : List Planned → ℕ → Option ℕ
 queue_number plan i = number_if (queue_count (take i plan)) (slice_get plan i)
 
--- A scheduler over so many inputs: one quantum is for each of them.
+-- a DRRSched over so many inputs: one quantum is for each of them
 abbrev pub drr_over : List ℕ → ℕ → tree.Class
 drr_over (quantum ∷ []) inputs = tree.drr (replicate inputs quantum)
 drr_over quanta inputs = tree.drr quanta
 
+-- the scheduler of this class over so many inputs, if it is the class of a scheduler
 abbrev pub scheduler_over : Class → ℕ → Option tree.Class
 scheduler_over prio inputs = Some tree.prio
 scheduler_over round_robin inputs = Some tree.round_robin
@@ -44,12 +48,12 @@ abbrev pub IsNode : tree.Class → Option Planned → Type 0
 IsNode class None = ⊥
 IsNode class (Some e) = scheduler_over e.class (length e.sources) ≡ Some class
 
+-- what is connected to an element, if there is one
 abbrev pub sources_at : Option Planned → List ℕ
 sources_at None = []
 sources_at (Some e) = e.sources
 
--- This row stands at inputs to which these elements are connected, one after another: each is a queue, by its number, or a scheduler over
--- its own inputs.
+-- What stands at inputs to which these elements are connected: at each a queue, by its number, or a scheduler over its own inputs.
 abbrev pub IsRowOf : List Planned → List ℕ → Row → Type 0
 IsRowOf plan [] end = ⊤
 IsRowOf plan (s ∷ more) (leaf q row) = (queue_number plan s ≡ Some q) × IsRowOf plan more row
@@ -70,6 +74,6 @@ device_count plan = length (device_sources plan)
 abbrev pub sources_of_device : List Planned → ℕ → List ℕ
 sources_of_device plan d = get_or (device_sources plan) d []
 
--- the tree of a device of a plan stands at its input
+-- the tree of the device of this number in a plan: it stands at the device's input
 abbrev pub IsTreeOf : List Planned → ℕ → Tree → Type 0
 IsTreeOf plan d t = IsRowOf plan (sources_of_device plan d) (root t)

@@ -7,7 +7,7 @@ use Rattle.clk_sched.specs.Tree.{Tree, root, leaves, IsSound}
 use Rattle.clk_router.specs.Events.{Setup, sender_numbers, is_at}
 use Rattle.clk_router.specs.Setups.{IsApart}
 
--- the queues of a device over a setup: the leaves of its tree
+-- The queues of a device over a setup are the leaves of its tree, in which none stands twice.
 pub record AreQueuesOf (setup : Setup) (d : ℕ) (tree : Tree) : Type 0 where
   pub its : slice_get setup.trees d ≡ Some tree
   pub senders : AreRising (sender_numbers setup)
@@ -18,7 +18,8 @@ pub record AreQueuesOf (setup : Setup) (d : ℕ) (tree : Tree) : Type 0 where
 abbrev pub HasLowBound : Tree → Type 0
 HasLowBound tree = (left : ℕ) → left ≤ most_left → closing_bound tree left < 2 ^ 42
 
--- a setup over which each closing comes to its end
+-- A setup over which each closing comes to its end; that of a plan is one. Queues and heads of a device hold what its events leave: what was
+-- accepted there, less what was evicted and emitted.
 pub record IsClosable (setup : Setup) : Type 0 where
   pub apart : IsApart setup
   pub queues : (d : ℕ) (tree : Tree) → slice_get setup.trees d ≡ Some tree → AreQueuesOf setup d tree

@@ -9,21 +9,23 @@ abbrev pub next_input : ℕ → List Visit → ℕ
 next_input inputs [] = 0
 next_input inputs (v ∷ earlier) = if v.passed then v.input else (v.input + 1) % inputs
 
--- a visit after these is an arrival at its input: it is the first of all, or the one before it didn't pass
+-- 1 if a visit after these is an arrival at its input, since it is the first of all or follows one that did not pass; else 0
 abbrev pub arrives : List Visit → ℕ
 arrives [] = 1
 arrives (v ∷ earlier) = if v.passed then 0 else 1
 
--- the arrivals at an input, and the bytes passed from it, since the latest visit to it that got nothing
+-- how many arrivals an input had since the latest visit to it that got nothing
 abbrev pub arrivals : ℕ → List Visit → ℕ
 arrivals input [] = 0
 arrivals input (v ∷ earlier) =
     if v.input == input then (if is_some v.got then arrives earlier + arrivals input earlier else 0) else arrivals input earlier
 
+-- the length of a packet, and 0 if there is none
 abbrev pub bytes_of : Option Packet → ℕ
 bytes_of None = 0
 bytes_of (Some p) = p.length
 
+-- how many bytes passed from an input since the latest visit to it that got nothing
 abbrev pub passed_bytes : ℕ → List Visit → ℕ
 passed_bytes input [] = 0
 passed_bytes input (v ∷ earlier) =
@@ -33,8 +35,8 @@ passed_bytes input (v ∷ earlier) =
 abbrev pub quantum_at : List ℕ → ℕ → ℕ
 quantum_at quanta input = unwrap_or (slice_get quanta input) 0
 
--- the bytes that an input may have passed by a visit to it after these, since the latest visit to it that got nothing: a quantum for each
--- arrival, that of the visit too
+-- The bytes that an input may have passed by a visit to it after these: its quantum for each arrival, that of the visit too. Arrivals count
+-- since the latest visit to it that got nothing.
 abbrev pub allowed_bytes : List ℕ → List Visit → ℕ → ℕ
 allowed_bytes quanta earlier input = quantum_at quanta input * (arrives earlier + arrivals input earlier)
 
@@ -42,6 +44,6 @@ allowed_bytes quanta earlier input = quantum_at quanta input * (arrives earlier 
 abbrev pub IsDeficit : List ℕ → List Visit → ℕ → ℕ → Type 0
 IsDeficit quanta earlier input deficit = passed_bytes input earlier + deficit ≡ allowed_bytes quanta earlier input
 
--- A packet is covered where it is no longer than the deficit: its length and the bytes passed are within what may be passed.
+-- A packet is covered if it is no longer than the deficit: its length and the bytes passed are within the bytes allowed.
 abbrev pub deficit_covers : List ℕ → List Visit → ℕ → Packet → Bool
 deficit_covers quanta earlier input p = nat_le (p.length + passed_bytes input earlier) (allowed_bytes quanta earlier input)

@@ -12,10 +12,11 @@ stride_of tickets = 65536 / tickets
 abbrev pub stride_at : List ℕ → ℕ → ℕ
 stride_at tickets input = stride_of (unwrap_or (slice_get tickets input) 1)
 
--- the pass of an input, of the passes of all
+-- the pass of an input, by the passes of all
 abbrev pub pass_in : List ℕ → ℕ → ℕ
 pass_in passes input = unwrap_or (slice_get passes input) 0
 
+-- whether one of these visits is to this input
 abbrev pub visits_input : ℕ → List Visit → Bool
 visits_input input visits = list_any (λ (v : Visit). v.input == input) visits
 
@@ -34,12 +35,13 @@ abbrev pub passes_of : List ℕ → List Turn → List ℕ
 passes_of tickets [] = map (λ _. 0) tickets
 passes_of tickets (t ∷ earlier) = passes_after tickets (passes_of tickets earlier) t
 
--- inputs with their passes in rising order of (pass, index)
+-- an input put into a list in rising order of (pass, index)
 abbrev pub put_in_order : ℕ × ℕ → List (ℕ × ℕ) → List (ℕ × ℕ)
 put_in_order i [] = i ∷ []
 put_in_order i (j ∷ others) =
     if nat_lt i.1 j.1 || ((i.1 == j.1) && nat_le i.0 j.0) then i ∷ j ∷ others else j ∷ put_in_order i others
 
+-- inputs with their passes, in rising order of (pass, index)
 abbrev pub in_rising_order : List (ℕ × ℕ) → List (ℕ × ℕ)
 in_rising_order [] = []
 in_rising_order (i ∷ others) = put_in_order i (in_rising_order others)

@@ -1,0 +1,299 @@
+"""A router that threads and tasks share: some submit jobs, and others wait for the next one. It stands outside what is proved."""
+from collections import deque
+from collections.abc import AsyncIterator, Iterator
+from dataclasses import dataclass
+from queue import Empty
+from types import TracebackType
+from typing import Generic, TypeVar
+
+from clickpull.carrier import Carrier
+from clickpull.clock import SECOND, Clock
+from clickpull.errors import Ended, Shut, UnknownDevice
+from clickpull.router import Router
+from clickpull.takers import Taker, TaskTaker, ThreadTaker
+from clickpull.values import Packet
+
+T = TypeVar("T")
+
+
+@dataclass(frozen=True, slots=True)
+class Job(Generic[T]):
+    """A value that a sender submitted, its place among all that this sender submitted, from 0, and its size."""
+
+    sender: int
+    number: int
+    size: int
+    value: T
+
+
+@dataclass(frozen=True, slots=True)
+class Submission(Generic[T]):
+    """A job that was submitted, whether its queue accepted it, and the job that the queue evicted for it."""
+
+    job: Job[T]
+    accepted: bool
+    evicted: Job[T] | None
+
+    @property
+    def lost(self) -> Job[T] | None:
+        """The job that will not be done: the submitted one if it was refused, or else the evicted one, if there is one."""
+        return self.evicted if self.accepted else self.job
+
+
+def _job(packet: Packet, value: T) -> Job[T]:
+    return Job(packet.sender, packet.number, packet.length, value)
+
+
+class Dispatcher(Generic[T]):
+    """Takes jobs from senders, and gives them to threads and tasks in the order in which a tree of schedulers pulls them.
+
+    Any thread may call `submit`, `next`, `next_async` and `close` at any time. `submit` never waits. `next` waits until a job is due: until one
+    is submitted, or a Shaper lets one pass. A tick is the time in which a Shaper of rate 1 lets one job pass.
+
+    A dispatcher is a context manager, which closes it, and an iterator of the jobs of device 0: `for job in dispatcher` and, in asyncio,
+    `async for job in dispatcher` end once it is closed and all jobs were given. Each job is given once, also if several iterate.
+
+    An interrupt, as by Ctrl-C, may come at any point of a call:
+
+    - `submit`: the job was submitted or it was not, and `router.accounts()` tells. A value that was refused or evicted is let go of.
+    - `next`, and a loop over jobs: no job is lost. A job that the interrupted call didn't return is the next one that its device gives. (On
+      Python 3.10 a loop may lose the job that it was about to give.)
+    - `close`: calling it again closes the dispatcher.
+
+    Cancelling a task that waits in `next_async` loses no job either. A signal handler calls no dispatcher that the code which it interrupts may
+    be calling.
+    """
+
+    # No wake-up is lost. The takers that wait for a device stand in its line. The first in line watches: it sleeps no longer than to the
+    # moment that `due` told it. The others sleep until they are woken. Whoever wakes a taker takes it out of the line. This holds whenever
+    # the lock is free:
+    #
+    #     If takers stand in the line of a device, and jobs are left for it or the dispatcher is closed, then the first in line watches, or a
+    #     taker that was in the line before is about to look.
+    #
+    # - `submit` and `close` wake the first in line. They do so before they change anything, with the lock held. So no interrupt comes between
+    #   the change and the wake-up, and the woken taker looks after the change.
+    # - A taker that gets a job wakes the next in line if there is something left to do. A taker that ends with an error wakes it, too.
+    # - A taker that gets no job goes to the front of the line and watches. A new one goes to the back, if somebody watches already. A pull
+    #   that gives none brings no job forward: none is due earlier than the first in line was told.
+    #
+    # Nobody tries again and again. A taker looks twice without sleeping only if a job is due and its pull gave none. Then a DRRSched saves up
+    # for a long job, and each pull adds a quantum.
+
+    def __init__(self, tree: str | bytes, *, tick: float = 0.001, clock: Clock | None = None) -> None:
+        """Makes a dispatcher of a tree's text, whose ticks take `tick` seconds and are counted from now.
+
+        Raises `TextFault` if the text makes no router, `ValueError` if a tick is shorter than a nanosecond, and `MemoryError`.
+        """
+        self._tick = round(tick * SECOND)
+        if self._tick < 1:
+            raise ValueError(f"a tick takes a nanosecond or more, and not {tick} seconds")
+        self._carrier = Carrier[T](tree)
+        self._router, self._lock = self._carrier.router, self._carrier._lock
+        self._clock = clock or Clock()
+        self._closed = False
+        queues = self._router.queues()
+        self._devices = {it.sender: queues[it.queue].device for it in self._router.accounts()}
+        self._lines: list[deque[Taker[T]]] = [deque() for _ in range(self._router.devices)]
+        # What was pulled for a taker that left with an error, by sender and number.
+        self._returned: list[dict[tuple[int, int], tuple[Packet, T]]] = [{} for _ in self._lines]
+        self._start = self._clock.now()
+
+    @property
+    def router(self) -> Router:
+        """The router, to ask about its accounts and queues. It is offered to and pulled through the dispatcher alone."""
+        return self._router
+
+    @property
+    def closed(self) -> bool:
+        """Whether it is closed. Jobs may be left inside."""
+        return self._closed
+
+    def left(self, device: int = 0) -> int:
+        """Returns how many jobs are left for the device."""
+        with self._lock:
+            return self._router.left(device) + self._carrier._waits(device) + len(self._returned[device])
+
+    # Submit and close.
+
+    def submit(self, sender: int, value: T, size: int = 1) -> Submission[T]:
+        """Submits the sender's next job, and returns what became of it. It never waits.
+
+        The size is what a DRRSched shares out: 1 to 65,535. Raises `Shut` if the dispatcher is closed, `UnknownSender`, `BadLength`, and
+        `AtEnd` if the sender has submitted 4,294,967,295 jobs. Then nothing was submitted.
+        """
+        with self._lock:
+            if self._closed:
+                raise Shut("the dispatcher is closed")
+            if sender in self._devices:
+                self._wake(self._devices[sender])
+            it = self._carrier.offer(sender, size, value)
+        evicted = _job(it.evicted.packet, it.evicted.value) if it.evicted else None
+        return Submission(_job(it.packet, value), it.accepted, evicted)
+
+    def close(self) -> None:
+        """Ends submitting. Jobs that are inside are still given. After the last one, `next` raises `Ended`, and loops over jobs end."""
+        with self._lock:
+            for device in range(len(self._lines)):
+                self._wake(device)
+            self._closed = True
+
+    def __enter__(self) -> "Dispatcher[T]":
+        return self
+
+    def __exit__(self, kind: type[BaseException] | None, error: BaseException | None, trace: TracebackType | None) -> None:
+        self.close()
+
+    # Take.
+
+    def next(self, timeout: float | None = None, device: int = 0) -> Job[T]:
+        """Waits until a job of the device is due, and returns it.
+
+        Where `timeout` is given and no job is due within so many seconds, it raises `queue.Empty`, as `queue.Queue.get` does. With a timeout
+        of 0 it doesn't wait. Raises `Ended` if the dispatcher is closed and no job is left, `UnknownDevice`, and `AtEnd` after 2^44 ticks.
+        """
+        taker: ThreadTaker[T] = ThreadTaker(self._need_device(device))
+        deadline = self._deadline(timeout)
+        try:
+            while (job := self._look(taker, deadline)) is None:
+                self._clock.wait(taker.woken, taker.sleep)
+        except BaseException:
+            self._leave(taker)
+            raise
+        return job
+
+    async def next_async(self, device: int = 0) -> Job[T]:
+        """Waits as `next` does, in a task of asyncio. To wait for a limited time, use `asyncio.wait_for`."""
+        taker: TaskTaker[T] = TaskTaker(self._need_device(device))
+        try:
+            while (job := self._look(taker, None)) is None:
+                await self._clock.wait_async(taker.woken, taker.sleep)
+                taker.woken.clear()
+        except BaseException:
+            self._leave(taker)
+            raise
+        return job
+
+    def jobs(self, device: int = 0) -> Iterator[Job[T]]:
+        """Gives the jobs of a device as they are due, and ends once the dispatcher is closed and none is left."""
+        while True:
+            try:
+                job = self.next(device=device)
+            except Ended:
+                return
+            yield job
+
+    async def jobs_async(self, device: int = 0) -> AsyncIterator[Job[T]]:
+        """Gives what `jobs` gives, in a task of asyncio."""
+        while True:
+            try:
+                job = await self.next_async(device)
+            except Ended:
+                return
+            yield job
+
+    def __iter__(self) -> Iterator[Job[T]]:
+        return self.jobs()
+
+    def __aiter__(self) -> AsyncIterator[Job[T]]:
+        return self.jobs_async()
+
+    # What takers do.
+
+    def _look(self, taker: Taker[T], deadline: int | None) -> Job[T] | None:
+        """Returns a job that is due. If there is none, puts the taker in line, and sets how long it may sleep."""
+        with self._lock:
+            if not taker.is_new:
+                self._step_out(taker)
+            now = self._clock.now()
+            moment = (now - self._start) // self._tick
+            due = self._due(taker.device)
+            if due is not None and due <= moment:
+                return self._take(taker, moment)
+            if due is None and self._closed:
+                raise Ended("the dispatcher is closed, and all jobs were given")
+            if deadline is not None and deadline <= now:
+                raise Empty
+            watches = self._stand_in_line(taker)
+            ends = [] if deadline is None else [deadline]
+            if due is not None and watches:
+                ends.append(self._start + due * self._tick)
+            taker.sleep = min(ends) - now if ends else None
+            return None
+
+    def _due(self, device: int) -> int | None:
+        """The earliest moment at which a job could be given, or None if none is left. Only then does a taker pull: how often takers look
+        must not change what schedulers do, and a DRRSched that finds an input without a packet takes its deficit away."""
+        if self._returned[device] or self._carrier._waits(device):
+            return 0
+        return self._router.due(device)
+
+    def _take(self, taker: Taker[T], moment: int) -> Job[T] | None:
+        """Returns a job that was pulled for a taker that left with an error, or else what a pull gives at this moment."""
+        returned = self._returned[taker.device]
+        if returned:
+            first = min(returned)
+            taker.pair = returned[first]
+            del returned[first]
+        else:
+            self._carrier._give(taker.device, lambda it: self._router._pull(moment, taker.device, it.packet), taker)
+        if taker.pair is None:
+            taker.sleep = 0
+            return None
+        self._pass_on(taker.device)
+        return _job(*taker.pair)
+
+    def _leave(self, taker: Taker[T]) -> None:
+        """Takes a taker that ends with an error out of the line, keeps what was pulled for it, and wakes the next."""
+        with self._lock:
+            self._step_out(taker)
+            if taker.pair is not None:
+                self._returned[taker.device][taker.pair[0][:2]] = taker.pair
+            self._wake(taker.device)
+
+    # The lines. Their callers hold the lock.
+
+    def _stand_in_line(self, taker: Taker[T]) -> bool:
+        """Puts a taker in line, at the front unless it is new, and returns whether it is the first."""
+        line = self._lines[taker.device]
+        if taker.is_new:
+            line.append(taker)
+        else:
+            line.appendleft(taker)
+        taker.is_new = False
+        return line[0] is taker
+
+    def _step_out(self, taker: Taker[T]) -> None:
+        """Takes a taker out of the line, unless the one who woke it did."""
+        line = self._lines[taker.device]
+        if taker in line:
+            line.remove(taker)
+
+    def _pass_on(self, device: int) -> None:
+        """Wakes the next in line if it has something to do: a job that is left, or to end."""
+        if self._lines[device] and (self._closed or self.left(device)):
+            self._wake(device)
+
+    def _wake(self, device: int) -> None:
+        """Wakes the first in line that can still run, and takes it out. It is woken before, so that an interrupt in between loses nothing."""
+        line = self._lines[device]
+        while line:
+            runs = line[0].wake()
+            line.popleft()
+            if runs:
+                return
+
+    # Numbers that are handed in.
+
+    def _need_device(self, device: int) -> int:
+        if not 0 <= device < len(self._lines):
+            raise UnknownDevice(f"there is no device {device}")
+        return device
+
+    def _deadline(self, timeout: float | None) -> int | None:
+        """When a wait ends, by the clock."""
+        if timeout is None:
+            return None
+        if timeout < 0:
+            raise ValueError(f"a timeout is 0 or more, and not {timeout}")
+        return self._clock.now() + round(timeout * SECOND)
