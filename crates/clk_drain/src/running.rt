@@ -22,7 +22,6 @@ ghost use Rattle.clk_gate.specs.Limits.{most_step, most_limit};
 ghost use Rattle.clk_gate.specs.Known.{senders_in, AreKnown};
 ghost use Rattle.clk_drain.specs.Run.{IsRunOutcome, IsKeptRun, IsFaultOfRun};
 
-use clk_gate::{Gate, check_senders};
 use crate::outcome::{Outcome, PackedOutcome};
 use crate::running::closing::close_devices;
 use crate::running::course::Course;
@@ -30,6 +29,7 @@ use crate::running::devices::{OpenPlan, open_devices};
 use crate::running::handing::hand_out;
 use crate::running::joining::join_devices;
 use crate::running::threads::run_threads;
+use clk_gate::{Gate, check_senders};
 use clk_packet::{Fault, Traces};
 use clk_sched::Keeps;
 use clk_tree::{Plan, SenderSpec};

@@ -6,6 +6,8 @@ mod bench;
 #[cfg(test)]
 mod calling;
 #[cfg(test)]
+mod held;
+#[cfg(test)]
 mod many;
 #[cfg(test)]
 mod memory;

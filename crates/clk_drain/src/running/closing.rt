@@ -7,10 +7,10 @@ ghost use Rattle.clk_drain.specs.inside.Handed.{IsReadyToClose, AreApartDevices,
 
 use crate::closing::{add, close};
 use crate::drained::PackedDrained;
-use clk_gate::Gate;
 use crate::outcome::PackedOutcome;
 use crate::running::course::Course;
 use crate::running::joining::Closing;
+use clk_gate::Gate;
 use clk_packet::Fault;
 use std::alloc::Global;
 use std::sync::Wait;

@@ -1,9 +1,9 @@
 //! A consumer: what pulls a device while producers run.
 
 use crate::device::DeviceSession;
-use clk_gate::Gate;
 use crate::running::course::Course;
 use crate::running::open_lines::OpenLines;
+use clk_gate::Gate;
 use clk_packet::Fault;
 use std::marker::Model;
 use std::sync::Wait;

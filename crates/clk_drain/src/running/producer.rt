@@ -1,7 +1,7 @@
 //! A producer: what offers all packets of a sender to its queue.
 
-use clk_gate::Gate;
 use crate::running::baton::Baton;
+use clk_gate::Gate;
 use clk_packet::Traces;
 use clk_ruled::{ClosedSeat, RuledQueue, Seat};
 use std::marker::Model;

@@ -10,12 +10,12 @@ ghost use Rattle.clk_drain.specs.Closing.{AreOffered};
 ghost use Rattle.clk_drain.specs.inside.Threads.{IsUnused, HaveSentAll, IsUnpulled, IsPulled, ArePulled};
 ghost use Rattle.clk_drain.specs.inside.Handed.{pulled_of, HavePulled};
 
-use clk_gate::Gate;
 use crate::running::consumer::Consumer;
 use crate::running::course::Course;
 use crate::running::handing::Handed;
 use crate::running::joining::Pulled;
 use crate::running::producer::{Producer, send_all};
+use clk_gate::Gate;
 use clk_packet::{Fault, Traces};
 use clk_ruled::{ClosedSeat, Seat};
 use std::alloc::{AllocError, Global};
