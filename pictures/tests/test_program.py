@@ -65,3 +65,18 @@ def test_a_page_needs_no_other_file(example: Example) -> None:
     assert done.out.startswith("<!doctype html>") and done.out.endswith("</html>\n")
     assert not re.search(r"""(?:src|href)=["'](?!data:|#)""", done.out)
     assert set(re.findall(r"https?://[^\s\"'<>)]+", done.out)) <= {"http://www.w3.org/2000/svg", "http://www.w3.org/1999/xlink"}
+
+
+def test_a_recorded_run_is_drawn(tmp_path: Path) -> None:
+    pytest.importorskip("matplotlib", reason="python3-matplotlib is missing")
+    tree, trace = EXAMPLES / "night-backup.click", EXAMPLES / "night-backup.trace"
+    record, visits, again, answer = (tmp_path / it for it in ("run.script", "run.csv", "again.csv", "run.out"))
+    report = clickpull("live", tree, trace, "--limit", 20, "--record", record, "--visits", visits)
+    answer.write_text(clickpull("script", tree, record, "--visits", again))
+    assert answer.read_text().endswith(report) and again.read_text() == visits.read_text()
+    page = draw("page", tree, record, path=PATH)
+    assert (page.status, page.err) == (0, "") and page.out.startswith("<!doctype html>")
+    packets = draw("packets", answer, visits)
+    assert (packets.status, packets.err) == (0, "") and "<svg" in packets.out
+    drawn = draw("tree", tree, answer, path=PATH)
+    assert (drawn.status, drawn.err) == (0, "")

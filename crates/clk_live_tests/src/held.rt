@@ -150,7 +150,11 @@ fn a_run_goes_on_without_its_record(rt: HostRuntime) -> Result<(), Fault> {
             .accounts()
             .last()
             .expect(&rt, "a sender");
-        assert_eq!(rt; account.accepted.packets + account.refused.packets, 2);
+        let offered = account
+            .accepted
+            .packets
+            .checked_add(account.refused.packets);
+        assert_eq!(rt; offered, Some(2));
     }
     Ok(())
 }
