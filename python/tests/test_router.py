@@ -2,8 +2,9 @@
 import copy
 import gc
 import pickle
+import signal
 from _thread import interrupt_main
-from collections.abc import Callable
+from collections.abc import Callable, Iterator
 from concurrent.futures import ThreadPoolExecutor
 from operator import methodcaller
 from typing import Any
@@ -328,6 +329,15 @@ def test_a_fault_leaves_nothing_to_close(shut: list[RouterHandle]) -> None:
     assert shut == []
 
 
+@pytest.fixture
+def heeded() -> Iterator[None]:
+    """Ctrl-C raises `KeyboardInterrupt`. A shell starts programs in the background so that they ignore it."""
+    before = signal.signal(signal.SIGINT, signal.default_int_handler)
+    yield
+    signal.signal(signal.SIGINT, before)
+
+
+@pytest.mark.usefixtures("heeded")
 def test_a_pending_interrupt_comes_after_a_router_is_closed(shut: list[RouterHandle]) -> None:
     """In one call of C the interrupt is set and the router let go of. So it is pending when the router is closed."""
     routers = [Router(ONE)]

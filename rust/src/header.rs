@@ -72,7 +72,7 @@ fn limits_are_those_of_the_header() {
     assert_eq!(after("#define CLK_MOST_ROOM (UINT32_C(1) << ", ")").parse(), Ok(MOST_ROOM.trailing_zeros()));
     assert_eq!(after("#define CLK_MOST_TAKEN ", "\n").parse(), Ok(MOST_TAKEN));
     assert!(END_OF_MOMENTS.is_power_of_two() && MOST_ROOM.is_power_of_two());
-    assert!(FORMATS.contains(&format!("{MOST_HELD} schedulers and Shapers on a path")));
+    assert!(FORMATS.contains(&format!("a path at most {MOST_HELD} schedulers and Shapers")));
 }
 
 #[test]
