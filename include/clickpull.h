@@ -808,7 +808,7 @@ static inline clk_status clk_live_drained(const clk_live *live) {
 
 /* Gives up the router, and fills in the tokens of the packets that are inside it: queue by queue, and in each queue the packet first that
  * would have been emitted first. It fills in `count` tokens at most, and goes on when it is called again. `given` is how many it filled in.
- * After the first call other calls return CLK_RECLAIMED, and only clk_live_close is left. Tokens that wait in the inlets don't come back:
+ * After the first call all calls but this and clk_live_close return CLK_RECLAIMED. Tokens that wait in the inlets don't come back:
  * close and take from these before.
  *
  * CLK_OK    there are no more tokens, and `given` is below `count`.

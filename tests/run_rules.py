@@ -267,7 +267,7 @@ def judge_moments(moments, step, limit, emits_last):
 
 def judge_senders(queue, given, sent, report):
     """What became of the packets of a queue's senders."""
-    accepted_in_all = 0
+    emitted_in_all = 0
     lost = 0
     for sender in queue.senders:
         lengths = sent.get(sender, [])
@@ -282,11 +282,11 @@ def judge_senders(queue, given, sent, report):
             expect(accepted + refused == told["sent"][which], "sender", sender, "isn't shared out:", told)
             expect(accepted - evicted == told["emitted"][which], "of sender", sender, "something is lost or made:", told)
             expect((refused if queue.drops_front else evicted) == 0, "its queue does so to nobody:", told)
-        # Before a packet that was refused so many were accepted that the queue was full.
-        accepted_in_all += told["accepted"][0]
+        emitted_in_all += told["emitted"][0]
         lost += told["refused"][0] + told["evicted"][0]
     expect(all(it.sender in queue.senders for it in given), "queue", queue.number, "gave a packet of another's sender")
-    expect(lost == 0 or accepted_in_all >= queue.capacity, "queue", queue.number, "lost packets though it was never full")
+    # A queue refuses and evicts only while it is full, and is full after that. So what it then holds comes out.
+    expect(lost == 0 or emitted_in_all >= queue.capacity, "queue", queue.number, "lost packets, and emitted fewer than it holds at most")
 
 
 def report_of(text):
