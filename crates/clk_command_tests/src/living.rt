@@ -1,6 +1,7 @@
 //! Traces that run over trees through inlets, their records and their visits.
 
 use crate::answer::{AMPLE, Row, answer, input};
+use crate::command::{Said, assert_said};
 use crate::files::{write, write_all};
 use crate::rows::assert_row;
 use clk_packet::Fault;
@@ -122,6 +123,51 @@ pub const ROWS: [Row; 12] = [
         &[],
     ),
 ];
+
+const SAID: [Said; 10] = [
+    (
+        "run a b --record c",
+        2,
+        "error: ",
+        "unexpected argument '--record' found",
+    ),
+    ("live", 2, "error: ", "<TREE>"),
+    ("live a", 2, "error: ", "<TRACE>"),
+    (
+        "live a b c",
+        2,
+        "error: ",
+        "Usage: clickpull live [OPTIONS] <TREE> <TRACE>",
+    ),
+    ("live a b --record", 2, "error: ", "--record <FILE>"),
+    (
+        "live a b --step 1001",
+        2,
+        "error: ",
+        "1001 is not in 1..=1000",
+    ),
+    (
+        "live a b --limit 0",
+        2,
+        "error: ",
+        "0 is not in 1..=1000000",
+    ),
+    (
+        "live --help",
+        0,
+        "",
+        "Usage: clickpull live [OPTIONS] <TREE> <TRACE>",
+    ),
+    ("help live", 0, "", "drain 0"),
+    ("help", 0, "", "live    Runs a trace"),
+];
+
+#[test]
+fn wrong_words_and_help_of_live_are_told(rt: HostRuntime) {
+    for (words, status, begin, part) in SAID {
+        assert_said(&rt, words, status, begin, part);
+    }
+}
 
 #[test]
 fn runs_through_inlets_are_reported(rt: HostRuntime) -> Result<(), Fail> {
