@@ -212,6 +212,23 @@ typedef struct clk_departed {
     uint64_t token; /* the token that came with it */
 } clk_departed;
 
+/* A record: the script of what a router did (docs/FORMATS.md), in a buffer of the caller's. clk_record record = {buffer, size, 0, 0}; */
+typedef struct clk_record {
+    char *text;     /* the buffer */
+    size_t room;    /* how many bytes it has */
+    size_t used;    /* how many of them are filled, from the front; a caller that has written these to a file sets it to 0 */
+    uint32_t lines; /* how many lines the record has, those that were written to a file among them */
+} clk_record;
+
+/* How many bytes a line of a record has at most. */
+#define CLK_MOST_LINE 25
+
+/* How many lines a record has at most. */
+#define CLK_MOST_LINES 1000000
+
+/* Below which number of ticks a moment of a record is. */
+#define CLK_END_OF_RECORDED_MOMENTS (UINT64_C(1) << 40)
+
 /* ------------------------------------------------------------------------------------------------------------ exports */
 
 /* What the library exports. The functions below them test what they are handed and are what to call. An array is handed over as its
@@ -260,14 +277,23 @@ extern uint32_t clk_raw_live_account(clk_live *live, size_t place, clk_account *
 extern size_t clk_raw_live_queues(clk_live *live);
 extern uint32_t clk_raw_live_queue(clk_live *live, uint16_t number, clk_queue *queue);
 extern size_t clk_raw_live_devices(clk_live *live);
+extern uint32_t clk_raw_record_offered(const clk_offered *offered, size_t offered_length, uint8_t *text, size_t text_length, size_t *used,
+                                       uint32_t *lines);
+extern uint32_t clk_raw_record_taken(const clk_taken *taken, size_t taken_length, uint8_t *text, size_t text_length, size_t *used,
+                                     uint32_t *lines);
+extern uint32_t clk_raw_record_pulls(uint16_t device, uint64_t moment, uint64_t pulls, uint8_t *text, size_t text_length, size_t *used,
+                                     uint32_t *lines);
+extern uint32_t clk_raw_record_drain(uint64_t moment, uint8_t *text, size_t text_length, size_t *used, uint32_t *lines);
 
 /* Casts, which C++ has under names of their own. */
 #ifdef __cplusplus
 #define CLK_STATUS(IT) static_cast<clk_status>(IT)
 #define CLK_BYTES(IT) reinterpret_cast<const uint8_t *>(IT)
+#define CLK_BUFFER(IT) reinterpret_cast<uint8_t *>(IT)
 #else
 #define CLK_STATUS(IT) (clk_status)(IT)
 #define CLK_BYTES(IT) (const uint8_t *)(IT)
+#define CLK_BUFFER(IT) (uint8_t *)(IT)
 #endif
 
 /* ------------------------------------------------------------------------------------------------------------ open and close */
@@ -912,6 +938,77 @@ static inline clk_status clk_live_queue_at(const clk_live *live, uint16_t number
     return CLK_STATUS(clk_raw_live_queue(&same, number, queue));
 }
 
+/* ------------------------------------------------------------------------------------------------------------ records
+ *
+ * A record is the script of what a router did: `clickpull script TREE RECORD` does the same again, packet for packet, on one thread. So a
+ * threaded program that failed once can be looked at as often as one likes. These calls add lines to a record. They need no router, and
+ * serve a clk_router and a clk_live alike.
+ *
+ *     char buffer[8192];
+ *     clk_record record = {buffer, sizeof buffer, 0, 0};
+ *     clk_live_take_in(&live, 16, taken, 64, &given);
+ *     clk_record_taken(&record, taken, given);
+ *     clk_live_pull_many(&live, 0, moment, emitted, 32, &given);
+ *     clk_record_pulls(&record, 0, moment, given < 32 ? given + 1 : given);
+ *     fwrite(record.text, 1, record.used, file);
+ *     record.used = 0;
+ *
+ * A record means what happened if it has
+ *
+ *   - a line for each packet that was offered or taken, a refused one too,
+ *   - and for each pull that was made, one that emitted nothing too, with the moment that was handed in. clk_pull_many and
+ *     clk_live_pull_many made `given` pulls, and one more if `given` is below `count`. clk_drain and clk_live_drain made one pull at each
+ *     moment from one tick after the device's latest on, up to its latest moment then,
+ *   - in the order of the calls on the router.
+ *
+ * If all devices were drained at the end, by rising number and each until nothing was left, one line stands for these pulls:
+ * clk_record_drain(&record, 0). It also has `clickpull script` print the account of each sender.
+ *
+ * Each call adds all of its lines or none. What it returns:
+ *
+ * CLK_OK      the lines were added: `used` and `lines` grew.
+ * CLK_FULL    the buffer has no room for them. Write out what is used, set `used` to 0, and call again; CLK_MOST_LINE bytes for each line
+ *             are always enough. Bytes behind `used` may have changed.
+ * CLK_AT_END  the moment is 2^40 ticks or more, or the record would have more than CLK_MOST_LINES lines. A script may have neither.
+ * CLK_NULL    a pointer is null.
+ *
+ * Unless it is CLK_OK, `used` and `lines` are as before. No call allocates memory. */
+
+/* Adds the lines of `count` packets that were offered, as clk_offer and clk_offer_many filled them in. `offered` may be null where `count` is
+ * 0. */
+static inline clk_status clk_record_offered(clk_record *record, const clk_offered *offered, size_t count) {
+    clk_offered unused = {{0, 0, 0}, {0, 0, 0}, 0};
+    if (!record || !record->text || (count != 0 && !offered))
+        return CLK_NULL;
+    return CLK_STATUS(clk_raw_record_offered(offered ? offered : &unused, count, CLK_BUFFER(record->text), record->room, &record->used,
+                                             &record->lines));
+}
+
+/* Adds the lines of `count` packets that were taken, as clk_live_take, clk_live_take_in and clk_live_take_what_fits filled them in. `taken`
+ * may be null where `count` is 0. */
+static inline clk_status clk_record_taken(clk_record *record, const clk_taken *taken, size_t count) {
+    clk_taken unused = {{0, 0, 0}, 0, {0, 0, 0}, 0, 0};
+    if (!record || !record->text || (count != 0 && !taken))
+        return CLK_NULL;
+    return CLK_STATUS(clk_raw_record_taken(taken ? taken : &unused, count, CLK_BUFFER(record->text), record->room, &record->used,
+                                           &record->lines));
+}
+
+/* Adds the lines of `pulls` pulls of the device, all at this moment, in ticks: the one that was handed in, even if a later one counted. */
+static inline clk_status clk_record_pulls(clk_record *record, uint16_t device, uint64_t moment, uint64_t pulls) {
+    if (!record || !record->text)
+        return CLK_NULL;
+    return CLK_STATUS(clk_raw_record_pulls(device, moment, pulls, CLK_BUFFER(record->text), record->room, &record->used, &record->lines));
+}
+
+/* Adds the line of the drain of all devices that ends a record. Its pulls begin one tick after this moment, in ticks, or after the device's
+ * latest one, whichever is later: 0 stands for drains by clk_drain and clk_live_drain. No line may follow. */
+static inline clk_status clk_record_drain(clk_record *record, uint64_t moment) {
+    if (!record || !record->text)
+        return CLK_NULL;
+    return CLK_STATUS(clk_raw_record_drain(moment, CLK_BUFFER(record->text), record->room, &record->used, &record->lines));
+}
+
 /* ------------------------------------------------------------------------------------------------------------ names */
 
 /* The name of a fault that clk_open can have, as `clickpull` prints it, and "" for any other number. */
@@ -1027,5 +1124,6 @@ CLK_ASSERT(sizeof(clk_departed) == 24, "clk_departed has 24 bytes");
 #undef CLK_ASSERT
 #undef CLK_STATUS
 #undef CLK_BYTES
+#undef CLK_BUFFER
 
 #endif

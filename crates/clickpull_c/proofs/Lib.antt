@@ -9,4 +9,5 @@ mod LiveLoops
 mod LiveTakes
 mod LiveSteps
 mod Batches
+mod Records
 pub mod SoFar

@@ -5,6 +5,7 @@ pub mod Examples
 pub mod Filled
 pub mod Inlets
 pub mod Opens
+pub mod Recording
 pub mod Tells
 pub mod Values
 pub mod inside

@@ -11,6 +11,7 @@ mod offering;
 mod opening;
 mod parts;
 mod pulling;
+mod recording;
 mod statuses;
 mod telling;
 mod values;

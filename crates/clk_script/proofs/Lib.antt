@@ -1,4 +1,5 @@
--- Lemmas that answers cite.
+-- Lemmas that answers cite, of which `Callers` has those that crates above may cite too.
+pub mod Callers
 mod FieldLemmas
 mod NumberLemmas
 mod LineLemmas

@@ -27,4 +27,5 @@ pub use laws::{
 pub use limits::{MAX_DEVICE, MAX_LINES, MAX_MOMENT, MAX_SCRIPT_BYTES};
 pub use run::{run_script, run_script_logged};
 pub use script::{Command, Line};
+pub use text::{LINE, put_command, put_drain};
 pub use writer::ScriptWriter;

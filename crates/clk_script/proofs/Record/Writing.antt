@@ -11,7 +11,7 @@ use Rattle.clk_script.specs.Record.{command_text, drain_text, record_text}
 use Rattle.clk_script.specs.Records.{Records}
 use Rattle.clk_script.specs.inside.Lines.{Passes}
 use Rattle.clk_script.proofs.PassLemmas.{front-after}
-use Rattle.clk_script.proofs.Record.Growth.{command-more, drain-more}
+use Rattle.clk_script.proofs.Callers.Records.{command-more, drain-more}
 
 -- what was recorded, and a text after it
 module _ (start old : Option (List ℕ)) (commands : List Command) (writer : ScriptWriter) (its : Records start old commands writer) where

@@ -1,4 +1,5 @@
-use Rattle.clk_script.proofs.Record.Growth.{command-more, drain-more, limits-more, limits-drain, script-more, script-drain}
+use Rattle.clk_script.proofs.Callers.Records.{command-more, drain-more}
+use Rattle.clk_script.proofs.Record.Growth.{limits-more, limits-drain, script-more, script-drain}
 use Rattle.clk_script.proofs.laws.records_grow.Goals as goal
 
 pub returns-clause-command : goal.returns-clause-command

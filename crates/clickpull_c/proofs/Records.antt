@@ -1,0 +1,70 @@
+-- Bytes that are added to a record, one line after another.
+use Rattle.std.proofs.Common.{◌≡◌, ℕ, ◌+◌, ◌-◌, ◌<◌, ◌≤◌, suc, List, [], ◌∷◌, ◌++◌, length, take, drop, map, replicate, get_or, None, refl, sym, ap, ◌∙◌, arith, append-nil, append-assoc, length-append}
+use Rattle.std.proofs.lemmas.List.{take-append-le, take-append-drop, map-append, length-take-le}
+use Rattle.clk_script.specs.declared.script.Command.{Command}
+use Rattle.clk_script.specs.Record.{command_text, record_text}
+use Rattle.clk_script.proofs.Callers.Records.{command-more, front-shorter}
+use Rattle.clickpull_c.specs.Recording.{IsAdded}
+use Rattle.clickpull_c.proofs.Fills.{front-more}
+
+pub added-none : (text : List ℕ) (used : ℕ) → used ≤ length text → IsAdded [] text text used used
+added-none text used low = record { is = sym (append-nil (take used text)); end_is = omega arith; within = low }
+
+pub added-more : (front back before mid after : List ℕ) (used end end' : ℕ) → length mid ≡ length before → IsAdded front before mid used end → IsAdded back mid after end end' → IsAdded (front ++ back) before after used end'
+added-more front back before mid after used end end' same first next =
+    let both = length-append front back in
+    let a = first.end_is in
+    let b = next.end_is in
+    let w = next.within in
+    record {
+      is = next.is ∙ ap (λ l. l ++ back) first.is ∙ append-assoc (take used before) front back;
+      end_is = omega (arith, both, a, b);
+      within = omega (arith, same, w);
+    }
+
+-- the used bytes are as they were
+pub added-keeps : (bytes before after : List ℕ) (used end : ℕ) → IsAdded bytes before after used end → length after ≡ length before → take used after ≡ take used before
+added-keeps bytes before after used end h same =
+    let e = h.end_is in
+    let w = h.within in
+    let low : used ≤ length before = omega (arith, e, w) in
+    let front : length (take used before) ≡ used = length-take-le used before low in
+    take-take used end after (omega (arith, e)) ∙ ap (take used) h.is ∙ take-append-le used (take used before) bytes (omega (arith, front)) ∙ sym (take-take used used before (omega arith))
+  where
+    take-take : (n m : ℕ) (l : List ℕ) → n ≤ m → take n l ≡ take n (take m l)
+    take-take 0 m l low = refl
+    take-take (suc n) 0 l low = absurd (omega (arith, low))
+    take-take (suc n) (suc m) [] low = refl
+    take-take (suc n) (suc m) (x ∷ l) low = ap (λ r. x ∷ r) (take-take n m l (omega (arith, low)))
+
+-- the line of the next of some items
+pub sends-more : {X : Type 0} (f : X → Command) (xs : List X) (n : ℕ) (x : X) (c : Command) → n < length xs → get_or xs n x ≡ x → c ≡ f x
+    → record_text (map f (take (n + 1) xs)) None ≡ record_text (map f (take n xs)) None ++ command_text c
+sends-more f xs n x c low is its = ap (λ l. record_text l None) (front-more f xs n x c low is its) ∙ command-more (map f (take n xs)) c
+
+pub sends-front : {X : Type 0} (f : X → Command) (xs : List X) (n : ℕ) → length (record_text (map f (take n xs)) None) ≤ length (record_text (map f xs) None)
+sends-front f xs n =
+    let all = ap (λ l. length (record_text (map f l) None)) (sym (take-append-drop n xs)) ∙ ap (λ l. length (record_text l None)) (map-append f (take n xs) (drop n xs)) in
+    let low = front-shorter (map f (take n xs)) (map f (drop n xs)) in
+    omega (arith, all, low)
+
+-- the line of the next of some pulls
+pub pulls-more : (n : ℕ) (c : Command) → record_text (replicate (n + 1) c) None ≡ record_text (replicate n c) None ++ command_text c
+pulls-more n c = ap (λ l. record_text l None) (last n) ∙ command-more (replicate n c) c
+  where
+    last : (n : ℕ) → replicate (n + 1) c ≡ replicate n c ++ c ∷ []
+    last 0 = refl
+    last (suc n) = ap (λ l. c ∷ l) (last n)
+
+pub pulls-front : (n m : ℕ) (c : Command) → n ≤ m → length (record_text (replicate n c) None) ≤ length (record_text (replicate m c) None)
+pulls-front n m c low =
+    let all = ap (λ k. length (record_text (replicate k c) None)) (sum low) ∙ ap (λ l. length (record_text l None)) (both n (m - n)) in
+    let front = front-shorter (replicate n c) (replicate (m - n) c) in
+    omega (arith, all, front)
+  where
+    sum : n ≤ m → m ≡ n + (m - n)
+    sum low = omega (arith, low)
+
+    both : (a b : ℕ) → replicate (a + b) c ≡ replicate a c ++ replicate b c
+    both 0 b = refl
+    both (suc a) b = ap (λ l. c ∷ l) (both a b)

@@ -1,0 +1,32 @@
+-- What is added to a record: the script of what a router did, which stands at the front of a text of the caller's.
+use Rattle.std.specs.Prelude.{◌≡◌, ℕ, ◌+◌, ◌<◌, ◌≤◌, List, ◌++◌, length, take, Option, IfSome}
+use Rattle.clk_script.specs.declared.script.Command.{Command}
+use Rattle.clk_script.specs.declared.script.Command.TheVariants.{Send}
+use Rattle.clk_script.specs.Script.{most_lines, most_moment}
+use Rattle.clickpull_c.specs.declared.values.CPacket.{CPacket}
+use Rattle.clickpull_c.specs.declared.statuses.TheConstants.{OK, FULL, AT_END}
+
+-- the command by which a packet was offered
+abbrev pub send_of : CPacket → Command
+send_of p = Send p.sender p.length
+
+-- A record of so many lines may go on with `count` lines of this moment.
+pub record MayGoOn (lines count : ℕ) (moment : Option ℕ) : Type 0 where
+  pub few : lines + count ≤ most_lines
+  pub early : IfSome moment (λ m. m ≤ most_moment)
+
+-- Bytes were added behind the first `used` bytes of a text, and end at this place.
+pub record IsAdded (bytes before after : List ℕ) (used end : ℕ) : Type 0 where
+  pub is : take end after ≡ take used before ++ bytes
+  pub end_is : end ≡ used + length bytes
+  pub within : end ≤ length before
+
+-- What a call returns that adds `count` lines, which are these bytes, to a record: it added them; or else the text has no room for all of
+-- them; or else the record may not go on with them.
+pub data AddsLines (bytes : List ℕ) (count : ℕ) (moment : Option ℕ) (before after : List ℕ) (used used' lines lines' status : ℕ) : Type 0 where
+  added : status ≡ OK → MayGoOn lines count moment → IsAdded bytes before after used used' → lines' ≡ lines + count
+    → AddsLines bytes count moment before after used used' lines lines' status
+  full : status ≡ FULL → MayGoOn lines count moment → length before < used + length bytes → take used after ≡ take used before → used' ≡ used → lines' ≡ lines
+    → AddsLines bytes count moment before after used used' lines lines' status
+  at_end : status ≡ AT_END → (MayGoOn lines count moment → ⊥) → after ≡ before → used' ≡ used → lines' ≡ lines
+    → AddsLines bytes count moment before after used used' lines lines' status

@@ -1,0 +1,190 @@
+//! Lines are added to a record: the script of what a router did, at the front of a text of the caller's.
+
+ghost use Rattle.std.specs.Prelude.{◌≡◌, ◌<◌, ◌+◌, length, map, replicate, [], true, false, Some, None, IfSome};
+ghost use Rattle.clk_script.specs.Record.{command_text, record_text};
+ghost use Rattle.clk_script.specs.declared.script.Command.TheVariants.{Pull};
+ghost use Rattle.clickpull_c.specs.Recording.{AddsLines, IsAdded, MayGoOn, send_of};
+
+use crate::live::CTaken;
+use crate::statuses::{AT_END, FULL, OK};
+use crate::values::{COffered, CPacket};
+use clk_script::{Command, LINE, MAX_LINES, MAX_MOMENT, put_command, put_drain};
+
+/// What is told of a packet that was offered.
+trait Sent {
+    ghost use Rattle.std.specs.Prelude.{◌≡◌};
+    ghost use Rattle.clickpull_c.specs.declared.values.CPacket.{CPacket};
+
+    // The packet.
+    ghost packet: { Self → CPacket };
+
+    /// The packet.
+    fn packet(&self) -> CPacket
+        ensures { result ≡ packet self.now };
+}
+
+impl Sent for COffered {
+    ghost packet = { λ offered. offered.packet };
+
+    #[inline]
+    fn packet(&self) -> CPacket {
+        self.packet
+    }
+}
+
+impl Sent for CTaken {
+    ghost packet = { λ taken. taken.packet };
+
+    #[inline]
+    fn packet(&self) -> CPacket {
+        self.packet
+    }
+}
+
+/// Adds the lines of packets that were offered to a router, behind the bytes of the text that are used.
+#[unsafe(no_mangle)]
+pub extern "C" fn clk_raw_record_offered(
+    offered: &[COffered],
+    text: &mut [u8],
+    used: &mut usize,
+    lines: &mut u32,
+) -> u32
+    ensures answer { AddsLines (record_text (map (λ o. send_of o.packet) offered.now) None) (length offered.now) None text.old text.new used.old used.new lines.old lines.new result }
+{
+    add_sends(offered, text, used, lines)
+}
+
+/// Adds the lines of packets that were taken from inlets, behind the bytes of the text that are used.
+#[unsafe(no_mangle)]
+pub extern "C" fn clk_raw_record_taken(
+    taken: &[CTaken],
+    text: &mut [u8],
+    used: &mut usize,
+    lines: &mut u32,
+) -> u32
+    ensures answer { AddsLines (record_text (map (λ t. send_of t.packet) taken.now) None) (length taken.now) None text.old text.new used.old used.new lines.old lines.new result }
+{
+    add_sends(taken, text, used, lines)
+}
+
+/// Adds the lines of so many pulls of the device with this number, each at this moment in ticks, behind the bytes of the text that are used.
+#[unsafe(no_mangle)]
+pub extern "C" fn clk_raw_record_pulls(
+    device: u16,
+    moment: u64,
+    pulls: u64,
+    text: &mut [u8],
+    used: &mut usize,
+    lines: &mut u32,
+) -> u32
+    ensures answer { AddsLines (record_text (replicate pulls (Pull device moment)) None) pulls (Some moment) text.old text.new used.old used.new lines.old lines.new result }
+{
+    if !may_go_on(*lines, pulls, Some(moment)) {
+        return AT_END;
+    }
+    if *used > text.len() {
+        return FULL;
+    }
+    let mut line = [0; LINE];
+    let start = put_command(&mut line, Command::Pull { device, moment }, LINE);
+    let mut end = *used;
+    let mut made = 0;
+    while made < pulls {
+        let Some(next) = add_line(text, end, &line[start..]) else {
+            return FULL;
+        };
+        end = next;
+        made += 1;
+    }
+    *used = end;
+    *lines += pulls as u32;
+    OK
+}
+
+/// Adds the line of the drain that ends the record, from this moment on in ticks, behind the bytes of the text that are used.
+#[unsafe(no_mangle)]
+pub extern "C" fn clk_raw_record_drain(
+    moment: u64,
+    text: &mut [u8],
+    used: &mut usize,
+    lines: &mut u32,
+) -> u32
+    ensures answer { AddsLines (record_text [] (Some moment)) 1 (Some moment) text.old text.new used.old used.new lines.old lines.new result }
+{
+    if !may_go_on(*lines, 1, Some(moment)) {
+        return AT_END;
+    }
+    let mut line = [0; LINE];
+    let start = put_drain(&mut line, moment, LINE);
+    let Some(end) = add_line(text, *used, &line[start..]) else {
+        return FULL;
+    };
+    *used = end;
+    *lines += 1;
+    OK
+}
+
+// Adds the lines of packets that were offered.
+fn add_sends<S: Sent>(sent: &[S], text: &mut [u8], used: &mut usize, lines: &mut u32) -> u32
+    ensures { AddsLines (record_text (map (λ s. send_of (S.Sent.packet s)) sent.now) None) (length sent.now) None text.old text.new used.old used.new lines.old lines.new result }
+{
+    if !may_go_on(*lines, sent.len() as u64, None) {
+        return AT_END;
+    }
+    if *used > text.len() {
+        return FULL;
+    }
+    let mut end = *used;
+    let mut done = 0;
+    while done < sent.len() {
+        let Some(next) = add_send(text, end, sent[done].packet()) else {
+            return FULL;
+        };
+        end = next;
+        done += 1;
+    }
+    *used = end;
+    *lines += sent.len() as u32;
+    OK
+}
+
+// Adds the line of a packet that was offered. Returns where it ends, or nothing if there is no room for it.
+fn add_send(text: &mut [u8], used: usize, packet: CPacket) -> Option<usize>
+    ensures added { IfSome result (λ end. IsAdded (command_text (send_of packet)) text.old text.new used end) }
+    ensures full { result ≡ None → (length text.old < used + length (command_text (send_of packet))) × (text.new ≡ text.old) }
+    ensures size { length text.new ≡ length text.old }
+{
+    let command = Command::Send {
+        sender: packet.sender,
+        length: packet.length,
+    };
+    let mut line = [0; LINE];
+    let start = put_command(&mut line, command, LINE);
+    add_line(text, used, &line[start..])
+}
+
+// Adds a line behind the bytes of a text that are used. Returns where it ends, or nothing if there is no room for it.
+fn add_line(text: &mut [u8], used: usize, line: &[u8]) -> Option<usize>
+    ensures added { IfSome result (λ end. IsAdded line.now text.old text.new used end) }
+    ensures full { result ≡ None → (length text.old < used + length line.now) × (text.new ≡ text.old) }
+    ensures size { length text.new ≡ length text.old }
+{
+    if used > text.len() || line.len() > text.len() - used {
+        return None;
+    }
+    let end = used + line.len();
+    text[used..end].copy_from_slice(line);
+    Some(end)
+}
+
+// Whether a record of so many lines may go on with `count` lines of this moment, in ticks.
+fn may_go_on(lines: u32, count: u64, moment: Option<u64>) -> bool
+    ensures yes { result ≡ true → MayGoOn lines count moment }
+    ensures no { result ≡ false → MayGoOn lines count moment → ⊥ }
+{
+    let is_early = match moment {
+        Some(moment) => moment <= MAX_MOMENT,
+        None => true,
+    };
+    is_early && lines <= MAX_LINES && count <= u64::from(MAX_LINES - lines)
+}
