@@ -1,4 +1,4 @@
--- How many pulls the closing of a tree is given (this project's own bound).
+-- How many pulls a drain of a tree makes at most (this project's own bound).
 use Rattle.std.specs.Prelude.{ℕ, ◌+◌, ◌*◌, ◌-◌, ◌/◌, List, [], ◌∷◌, min, Option, Some, None}
 use Rattle.clk_packet.specs.Limits.{most_length}
 use Rattle.clk_sched.specs.Tree.{Class, drr, Row, end, leaf, node, Tree, root, height}
@@ -14,7 +14,7 @@ abbrev pub least : List ℕ → Option ℕ
 least [] = None
 least (n ∷ ns) = lesser (Some n) (least ns)
 
--- the quanta of a scheduler, which a DRRSched alone has
+-- the quanta of a scheduler; only a DRRSched has any
 abbrev pub quanta_of : Class → List ℕ
 quanta_of (drr quanta) = quanta
 quanta_of class = []

@@ -21,7 +21,7 @@ abbrev pub leaves_of : Tree → List ℕ
 leaves_of (queue q) = q ∷ []
 leaves_of (scheduler class inputs) = leaves inputs
 
--- A scheduler over some trees, unless they are too many, or too many schedulers would stand on a path.
+-- A scheduler over some trees, or fault 18 if they are too many or too many schedulers would stand on a path.
 unfoldable pub built : Class → List Tree → Result Tree Fault
 built class children =
     if nat_lt most_inputs (length children) then Err TooLarge else (if nat_lt most_levels (suc (height (row children))) then Err TooLarge else Ok (scheduler class (row children)))

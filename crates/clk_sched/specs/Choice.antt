@@ -1,4 +1,4 @@
--- What a run leaves to choose: nothing but what each queue answers, and the moments.
+-- What a run leaves to choose: nothing but what each queue gives, and the moments.
 use Rattle.std.specs.Prelude.{◌≡◌, ℕ, List, ◌∷◌, ◌++◌, map, filter, Option}
 use Rattle.clk_packet.specs.declared.packet.Packet.{Packet}
 use Rattle.clk_sched.specs.declared.visit.Visit.{Visit}
@@ -7,7 +7,7 @@ use Rattle.clk_sched.specs.Log.{pulls, moment_of}
 use Rattle.clk_sched.specs.Run.{IsRun}
 use Rattle.clk_sched.specs.Results.{asks_queue}
 
--- what a queue answered, one after another
+-- what a queue gave at each visit that asked it, in order
 abbrev pub answers_of : Tree → ℕ → List Visit → List (Option Packet)
 answers_of tree q log = map (λ (v : Visit). v.got) (filter (asks_queue tree q) log)
 
@@ -17,15 +17,14 @@ pub record GoAlike {X : Type 0} (xs ys : List X) : Type 0 where
   pub right : List X
   pub same : xs ++ left ≡ ys ++ right
 
--- Two runs of a tree with pulls at the same counted moments, in which each queue gave the same answers as far as it was asked in
--- both, are the same log.
+-- Two runs of a tree are the same log if their pulls have the same moments and each queue gave the same, as far as it was asked in both.
 abbrev pub LeavesNoChoice : Tree → Type 0
 LeavesNoChoice tree =
     (a b : List Visit) → IsRun tree a → IsRun tree b → map moment_of (pulls a) ≡ map moment_of (pulls b)
     → ((q : ℕ) → GoAlike (answers_of tree q a) (answers_of tree q b)) → a ≡ b
 
--- After the same pulls, two pulls of runs at the same counted moment, in which each queue gave the same answers as far as it was
--- asked in both, are the same.
+-- Two pulls of runs, after the same earlier pulls, are the same if they have the same moment and each queue gave the same, as far as it was
+-- asked in both.
 abbrev pub PullsLeaveNoChoice : Tree → Type 0
 PullsLeaveNoChoice tree =
     (a b : List Visit) (earlier : List (List Visit)) (p q : List Visit) (more rest : List (List Visit)) → IsRun tree a → IsRun tree b → pulls a ≡ earlier ++ p ∷ more → pulls b ≡ earlier ++ q ∷ rest

@@ -26,7 +26,7 @@ abbrev pub given_in_all : Tree → List ℕ → List Visit → ℕ
 given_in_all tree [] log = 0
 given_in_all tree (q ∷ queues) log = length (leaf_packets tree q log) + given_in_all tree queues log
 
--- In every run of a tree, as many packets came out and are held as its queues gave in all.
+-- In every run of a tree, as many packets are emitted or held as its queues gave in all.
 abbrev pub ConservesCounts : Tree → Type 0
 ConservesCounts tree = (log : List Visit) → IsRun tree log → given_in_all tree (leaves (root tree)) log ≡ length (emitted log) + length (heads tree log)
 

@@ -15,7 +15,7 @@ use Rattle.clk_sched.specs.Step.{IsOnePullMore}
 abbrev pub turns_in : List Visit → ℕ → List Turn
 turns_in log x = map (turn x) (reverse (pulls log))
 
--- Whether a scheduler, after some turns, lets a packet through at a moment: a Shaper where it has room, and any other always.
+-- Whether a scheduler, after some turns, lets a packet through at a moment: a Shaper if it has room, and any other always.
 abbrev pub lets_through : Class → List Turn → ℕ → Bool
 lets_through (shaper rate burst) turns moment = has_room rate burst moment turns
 lets_through class turns moment = true
@@ -25,9 +25,8 @@ abbrev pub holds_head : Manner → ℕ → List Turn → Bool
 holds_head (in_order order) inputs turns = false
 holds_head (with_heads turn_of covers) inputs turns = list_any (λ i. is_some (head_at i (visits_before turns))) (range_with_len 0 inputs)
 
--- Whether a pull at a moment could emit a packet from a row whose schedulers are numbered from `next` on, by the turns of each scheduler and
--- by which queues are backlogged: from a queue that is, or from a scheduler that lets packets through, and holds a head or could emit one
--- from below.
+-- Whether a pull at a moment could emit a packet from a row, whose schedulers are numbered from `next` on. It could if a queue of the row
+-- is backlogged, or if a scheduler lets packets through and either holds a head or could emit a packet from below.
 abbrev pub could_emit : (ℕ → List Turn) → (ℕ → Bool) → (moment next : ℕ) → Row → Bool
 could_emit turns backlogged moment next end = false
 could_emit turns backlogged moment next (leaf q row) = backlogged q || could_emit turns backlogged moment next row

@@ -6,7 +6,7 @@ use Rattle.clk_sched.specs.Tree.{Class, drr, Row, end, leaf, node, Tree, root, l
 use Rattle.clk_sched.specs.Results.{traced_heads}
 use Rattle.clk_sched.specs.Conservation.{from_queue}
 
--- how many packets of one queue a scheduler holds as heads at most: one if it is a DRRSched, and none else
+-- how many packets of one queue a scheduler holds as heads at most: one if it is a DRRSched, else none
 abbrev pub most_heads : Class → ℕ
 most_heads (drr quanta) = 1
 most_heads class = 0

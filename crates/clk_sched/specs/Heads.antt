@@ -1,5 +1,5 @@
--- What a scheduler does that holds packets back as heads of its inputs, in the words of its visits across its pulls. The earlier
--- ones are given with the latest first.
+-- How a scheduler that holds packets back as heads of its inputs treats these. It is told by the visits across all its pulls, earlier ones
+-- with the latest first.
 use Rattle.std.specs.Prelude.{◌≡◌, ℕ, zero, suc, ◌==◌, Bool, false, not, List, [], ◌∷◌, is_some, Option, Some, None, MatchOption, MatchBool, ⊤, if◌then◌else◌}
 use Rattle.clk_packet.specs.declared.packet.Packet.{Packet}
 use Rattle.clk_sched.specs.declared.visit.Visit.{Visit}
@@ -22,7 +22,7 @@ pub record LooksAtHeads (turn_of : List Visit → ℕ) (covers : List Visit → 
   pub looks : MatchOption (head_at v.input earlier) ⊤ (λ p. v.got ≡ Some p)
   pub passes : v.passed ≡ is_covered (covers earlier v.input) v.got
 
--- the visits of a pull end with the first that passed; if none did, there are so many
+-- A scheduler's visits in one pull end with the first that passes a packet; if none does, it makes as many as it has inputs (the number).
 abbrev pub EndAtPass : ℕ → List Visit → Type 0
 EndAtPass zero visits = visits ≡ []
 EndAtPass (suc n) [] = ⊥

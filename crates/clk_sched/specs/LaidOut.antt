@@ -6,8 +6,8 @@ use Rattle.clk_packet.specs.Limits.{most_elements}
 use Rattle.clk_sched.specs.Tree.{Tree, root}
 use Rattle.clk_sched.specs.Session.{elements}
 
--- Why a tree is refused a session: it has more than `most_elements` queues and schedulers, the device counted, or memory ran out. A tree
--- that is too large always gets fault 18, and no other tree does.
+-- Why a tree is refused a session: it has more than `most_elements` queues and schedulers, the device counted, or an allocation failed. A
+-- tree that is too large always gets fault 18, and no other tree does.
 abbrev pub IsRefused : Tree → Fault → Type 0
 IsRefused tree Memory = suc (elements (root tree)) ≤ most_elements
 IsRefused tree TooLarge = most_elements < suc (elements (root tree))

@@ -32,7 +32,8 @@ manner (drr quanta) inputs = with_heads (next_input inputs) (deficit_covers quan
 manner (stride tickets) inputs = in_order (λ earlier moment. stride_order tickets earlier)
 manner (shaper rate burst) inputs = in_order (shaper_order rate burst)
 
--- A turn keeps to a manner, after earlier turns, the latest first.
+-- A scheduler's turn follows its manner: it asks inputs in the manner's order, or it looks at heads in turn and ends with the first that
+-- passes. Its earlier turns are given with the latest first.
 abbrev pub Follows : Manner → ℕ → List Turn → Turn → Type 0
 Follows (in_order order) inputs earlier t = AsksInOrder (order earlier t.moment) t.visits
 Follows (with_heads turn_of covers) inputs earlier t = EachAfter (LooksAtHeads turn_of covers) (visits_before earlier) t.visits × EndAtPass inputs t.visits

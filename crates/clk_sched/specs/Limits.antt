@@ -2,10 +2,11 @@
 use Rattle.std.specs.Prelude.{ℕ}
 use Rattle.clk_sched.specs.declared.limits.TheConstants.{END_OF_MOMENTS, END_OF_DRAINS, MAX_LEFT, END_OF_PULLS, END_OF_DRAINED_PULLS}
 
--- below which number of ticks a moment is, and the moment from which a drain begins
+-- the number of ticks below which each moment is
 abbrev pub end_of_moments : ℕ
 end_of_moments = END_OF_MOMENTS
 
+-- the counted moment, in ticks, from which on no drain begins
 abbrev pub end_of_drains : ℕ
 end_of_drains = END_OF_DRAINS
 
@@ -13,9 +14,10 @@ end_of_drains = END_OF_DRAINS
 abbrev pub most_left : ℕ
 most_left = MAX_LEFT
 
--- below which number of pulls a session that keeps no log is pulled once more, and below which it is drained
+-- the number of pulls from which on a session that doesn't hold all its visits is not pulled
 abbrev pub end_of_pulls : ℕ
 end_of_pulls = END_OF_PULLS
 
+-- the number of pulls from which on a session that doesn't hold all its visits is not drained
 abbrev pub end_of_drained_pulls : ℕ
 end_of_drained_pulls = END_OF_DRAINED_PULLS

@@ -76,6 +76,6 @@ abbrev pub result_of : List Visit → Option Packet
 result_of [] = None
 result_of (v ∷ visits) = if v.passed then v.got else result_of visits
 
--- a visit that asked what stands at the input, and whose packet is the result
+-- a visit that asked what stands at the input; its packet, if it got one, is the node's result
 abbrev pub asking : ℕ → ℕ → ℕ → ℕ → Option Packet → Visit
 asking k t x i o = record { pull = k; moment = t; got = o; node = x; input = i; fresh = true; passed = is_some o }

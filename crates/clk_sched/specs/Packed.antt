@@ -13,6 +13,6 @@ unpacked p = record { pull = p.pull; moment = p.moment; got = p.got; node = p.no
 abbrev pub logged : PackedLog → List Visit
 logged log = map unpacked log.packed.items ++ log.rest.items
 
--- Whichever they are, there is room for so many visits more.
+-- There is room for so many more visits, whether they can be packed or not.
 abbrev pub HasRoomFor : ℕ → PackedLog → Type 0
 HasRoomFor n log = (vec_len log.packed + n ≤ vec_capacity log.packed) × (vec_len log.rest + n ≤ vec_capacity log.rest)

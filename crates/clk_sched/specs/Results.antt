@@ -1,4 +1,4 @@
--- What a log says went in and came out: answers of queues, packets emitted, heads held, and where packets came from.
+-- What a log tells: packets that queues gave, packets emitted, heads held, and which queue each packet came from.
 use Rattle.std.specs.Prelude.{Bool, ℕ, zero, suc, ◌+◌, nat_le, List, [], ◌∷◌, ◌++◌, map, filter, reverse, Option, Some, None, option_and_then, if◌then◌else◌}
 use Rattle.std.specs.List.{filter_map, flat_map, range_with_len}
 use Rattle.clk_packet.specs.declared.packet.Packet.{Packet}
@@ -9,7 +9,7 @@ use Rattle.clk_sched.specs.Places.{tree_queue}
 use Rattle.clk_sched.specs.Heads.{head_at}
 use Rattle.clk_sched.specs.Laws.{Manner, in_order, with_heads, manner}
 
--- the packets that came out at the device, in order
+-- the packets emitted at the device, in order
 abbrev pub emitted : List Visit → List Packet
 emitted log = filter_map (λ (v : Visit). if v.passed then v.got else None) (visits_of 0 log)
 
@@ -45,8 +45,8 @@ abbrev pub passed_origin : (ℕ → ℕ → Option ℕ) → ℕ → List Visit �
 passed_origin origin k visits =
     option_and_then (λ input. latest_origin (origin input) input (up_to k (reverse visits))) (passed_input (in_pull k visits))
 
--- The queue from which came what was got in pull k at an input of a row, whose schedulers are numbered from `next` on: the queue there, even
--- if it gave none, or the origin of what the scheduler there passed. None if nothing stands there, or the scheduler passed nothing.
+-- Where what an input of a row gave in pull k came from: the queue there, even if it gave none, or the origin of what the scheduler there
+-- passed. None if nothing stands there, or the scheduler passed nothing. The row's schedulers are numbered from `next` on.
 abbrev pub origin_in : List Visit → ℕ → Row → ℕ → ℕ → Option ℕ
 origin_in log next end input k = None
 origin_in log next (leaf q row) zero k = Some q

@@ -22,7 +22,7 @@ EachObeys above pulled first next (node class inputs row) =
     × EachObeys next (pulls_below above first pulled) 0 (suc next) inputs
     × EachObeys above pulled (suc first) (suc (next + nodes inputs)) row
 
--- A log is a run of a tree: it has a log's shape, and the device and each scheduler obey their laws. What the queues answered is left open.
+-- A log is a run of a tree: it has a log's shape, and the device and each scheduler obey their laws. What the queues gave is left open.
 pub record IsRun (tree : Tree) (log : List Visit) : Type 0 where
   pub shape : HasLogShape tree log
   pub device : AllByRecursion IsDeviceTurn (map (turn 0) (pulls log))

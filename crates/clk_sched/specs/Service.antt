@@ -10,8 +10,7 @@ use Rattle.clk_sched.specs.Turns.{Turn, giver, all_visits}
 use Rattle.clk_sched.specs.Laws.Deficit.{IsDeficit, arrives, bytes_of, quantum_at}
 use Rattle.clk_sched.specs.Laws.Stride.{stride_of, stride_at, pass_in, passes_of}
 
--- the arrivals at an input in a range of visits, and the bytes passed from it there; the visits before are given with the
--- latest first
+-- how many arrivals at an input a range of visits has; the visits before the range are given with the latest first
 abbrev pub arrivals_in : ℕ → List Visit → List Visit → ℕ
 arrivals_in input earlier [] = 0
 arrivals_in input earlier (v ∷ range) = (if v.input == input then arrives earlier else 0) + arrivals_in input (v ∷ earlier) range
@@ -29,9 +28,9 @@ AlwaysGets input range = AllByRecursion (λ (v : Visit). v.input ≡ input → I
 abbrev pub Near : ℕ → ℕ → ℕ → Type 0
 Near bound m n = (m ≤ n + bound) × (n ≤ m + bound)
 
--- DRRSched: in any unbroken range of a node's visits the arrivals of two inputs differ by at most 1; no deficit is below 0, or
--- above the input's quantum plus a byte less than the greatest length; and an input each of whose visits got a packet was given its quantum in bytes for each
--- arrival, within that bound.
+-- A DRRSched shares by bytes: in any unbroken range of its visits, the arrivals of two inputs differ by at most 1. No deficit is below 0,
+-- or above the input's quantum plus a byte less than the greatest length. An input whose visits in the range all got a packet passed its
+-- quantum in bytes for each arrival, within that bound.
 pub record SharesByDeficit (quanta : List ℕ) (inputs : ℕ) (turns : List Turn) : Type 0 where
   pub arrivals_near : (before range after : List Visit) → all_visits turns ≡ before ++ (range ++ after) → (i j : ℕ) → i < inputs → j < inputs
       → Near 1 (arrivals_in i (reverse before) range) (arrivals_in j (reverse before) range)
@@ -54,8 +53,8 @@ packets_given input (t ∷ range) = (if is_number input (giver t.visits) then 1 
 abbrev pub pass_at : List ℕ → List Turn → ℕ → ℕ
 pass_at tickets earlier input = pass_in (passes_of tickets earlier) input
 
--- StrideSched: two passes never differ by more than the largest stride; and in any unbroken range of pulls two inputs that
--- each of whose visits got a packet were served in inverse proportion to their strides, within twice the largest.
+-- A StrideSched shares by packets: two passes never differ by more than the largest stride. In any unbroken range of pulls, take two inputs
+-- whose visits all got a packet: how many packets each gave, times its stride, differs by at most twice the largest stride.
 pub record SharesByStride (tickets : List ℕ) (turns : List Turn) : Type 0 where
   pub passes_near : (before after : List Turn) → turns ≡ before ++ after → (i j : ℕ) → i < length tickets → j < length tickets
       → Near (largest_stride tickets) (pass_at tickets (reverse before) i) (pass_at tickets (reverse before) j)

@@ -1,4 +1,4 @@
--- What a session is seen as, and what a pull and a drain come to.
+-- What contracts see of a session, and what a pull and a drain do to it.
 use Rattle.std.specs.Prelude.{◌≡◌, ℕ, ◌+◌, ◌<◌, ◌≤◌, true, List, [], ◌∷◌, ◌++◌, length, drop, map, reverse, suc, max, is_some, Option, ⊤}
 use Rattle.std.specs.List.{flat_map, filter_map, range_with_len}
 use Rattle.clk_packet.specs.declared.packet.Packet.{Packet}
@@ -16,7 +16,7 @@ elements end = 0
 elements (leaf q row) = suc (elements row)
 elements (node class inputs row) = suc (elements inputs + elements row)
 
--- the counted moment after some pulls
+-- the counted moment after some pulls, which are given with the latest first
 abbrev pub latest_moment : List (List Visit) → ℕ
 latest_moment [] = 0
 latest_moment (pull ∷ earlier) = moment_of pull
@@ -30,7 +30,7 @@ pub record Progress : Type 0 where
 abbrev pub counted_moment : Progress → ℕ
 counted_moment s = latest_moment (reverse (pulls s.log))
 
--- the visits that were logged between two moments of a session
+-- the visits that were logged between two states of a session
 abbrev pub newly : Progress → Progress → List Visit
 newly old new = drop (length old.log) new.log
 
@@ -43,11 +43,11 @@ pub record IsPulledOnce (old new : Progress) (moment : ℕ) (got : Option Packet
   pub at_moment : moment_of (newly old new) ≡ max (counted_moment old) moment
   pub result : got ≡ result_of (visits_of 0 (newly old new))
 
--- the packets that came out in some pulls
+-- the packets that some pulls emitted
 abbrev pub given_in : List (List Visit) → List Packet
 given_in more = filter_map (λ pull. result_of (visits_of 0 pull)) more
 
--- A session was pulled so many times, one tick apart, the first one tick after a moment, and so many packets came out.
+-- A session was pulled `made` times, one tick apart, the first time one tick after a moment, and emitted `given` packets.
 pub record IsDrained (old new : Progress) (moment made given : ℕ) : Type 0 where
   pub more : List (List Visit)
   pub tree : new.tree ≡ old.tree
@@ -58,26 +58,26 @@ pub record IsDrained (old new : Progress) (moment made given : ℕ) : Type 0 whe
   pub moments : map moment_of more ≡ range_with_len (moment + 1) made
   pub given_are : length (given_in more) ≡ given
 
--- if there are pulls, the last one gave a packet
+-- if there are pulls, the last one emitted a packet
 abbrev pub LastGives : List (List Visit) → Type 0
 LastGives [] = ⊤
 LastGives (pull ∷ []) = is_some (result_of (visits_of 0 pull)) ≡ true
 LastGives (pull ∷ next ∷ more) = LastGives (next ∷ more)
 
--- A drain gave all that was left, within the pulls that the closing is given, and stopped as soon as it had.
+-- A drain emitted all that was left, within the closing bound, and stopped as soon as it had.
 pub record GivesAll (old new : Progress) (moment made left : ℕ) : Type 0 where
   pub within : made ≤ closing_bound old.tree left
   pub drained : IsDrained old new moment made left
   pub stops : LastGives drained.more
 
--- A drain stopped before all that was left came out.
+-- A drain stopped, within the closing bound, before it had emitted all that was left.
 pub record StopsShort (old new : Progress) (moment made left : ℕ) : Type 0 where
   pub within : made ≤ closing_bound old.tree left
   pub given : ℕ
   pub fewer : given < left
   pub drained : IsDrained old new moment made given
 
--- why a drain stopped short: memory was refused, or it had made all the pulls that the closing is given
+-- why a drain stopped short: an allocation failed, or it had made as many pulls as the closing bound
 abbrev pub StopsAt : Progress → Progress → ℕ → ℕ → Fault → Type 0
 StopsAt old new moment left Memory = (made : ℕ) × StopsShort old new moment made left
 StopsAt old new moment left (TooManyPulls made) = (made ≡ closing_bound old.tree left) × StopsShort old new moment made left

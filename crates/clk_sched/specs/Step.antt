@@ -9,8 +9,8 @@ use Rattle.clk_sched.specs.Log.{pulls, visits_of, block, moment_of, HasOneMoment
 use Rattle.clk_sched.specs.Laws.Device.{IsDeviceTurn}
 use Rattle.clk_sched.specs.Run.{GetsResult, IsRun}
 
--- Each scheduler of a row, which stands as for EachObeys, has a turn in this pull that is allowed after its earlier ones, if it
--- is pulled, and what was got from it is its result. The pulls before have the latest first.
+-- If a scheduler of a row is pulled, its turn in this pull is allowed after its earlier turns, and what its parent got from it is its
+-- result. The row stands as for `EachObeys`, and earlier pulls have the latest first.
 abbrev pub EachAllows : ℕ → ℕ → ℕ → Row → List (List Visit) → List Visit → Type 0
 EachAllows above first next end earlier pull = ⊤
 EachAllows above first next (leaf q row) earlier pull = EachAllows above (suc first) next row earlier pull
@@ -53,15 +53,15 @@ pub record GoesOn (tree : Tree) : Type 0 where
   pub back : (log pull : List Visit) → IsOnePullMore tree log pull → IsOnePullLess tree log pull
   pub fronts : (log : List Visit) (before after : List (List Visit)) → IsRun tree log → pulls log ≡ before ++ after → IsRunOf tree (flat_map (λ pull. pull) before) before
 
--- A pull that may follow a run, at this counted moment, in which each visit that asks a queue gets what is answered at that input
--- of that node.
+-- A pull that may follow a run, at this counted moment, in which each visit that asks a queue gets what `answer` says for its node and
+-- input.
 pub record IsPullWith (tree : Tree) (log : List Visit) (moment : ℕ) (answer : ℕ → ℕ → Option Packet) : Type 0 where
   pub pull : List Visit
   pub next : IsNextPull tree log pull
   pub at_moment : moment_of pull ≡ moment
   pub answered : AllByRecursion (λ (v : Visit). v.fresh ≡ true → IfSome (queue_at tree v.node v.input) (λ q. v.got ≡ answer v.node v.input)) pull
 
--- A run of a sound tree can go on at each moment that is no earlier than its last, whatever the queues answer. So nothing in the definition
+-- A run of a sound tree can go on at each moment that is no earlier than its last, whatever the queues give. So nothing in the definition
 -- of a run keeps a scheduler from its next pull.
 abbrev pub CanGoOn : Tree → Type 0
 CanGoOn tree =

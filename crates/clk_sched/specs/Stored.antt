@@ -4,7 +4,7 @@ use Rattle.std.proofs.Common.{ap, ◌∙◌}
 use Rattle.std.specs.Coded.{Coded, code_by, coded×, coded_ℕ, coded_list}
 use Rattle.clk_sched.specs.Tree.{Class, prio, round_robin, drr, stride, shaper, Row, end, leaf, node, Tree, queue, scheduler, root}
 
--- what it stands for, and its arguments
+-- a token: what it stands for, and its arguments
 abbrev Token : Type 0
 Token = ℕ × List ℕ
 

@@ -36,8 +36,8 @@ width end = 0
 width (leaf q row) = suc (width row)
 width (node class inputs row) = suc (width row)
 
--- How many schedulers stand in a row. The device is node 0, and the others are numbered from 1, each before its inputs
--- (this project's own choice).
+-- How many schedulers stand in a row. The device is node 0, and schedulers are numbered from 1, each before its inputs (this project's own
+-- choice).
 abbrev pub nodes : Row → ℕ
 nodes end = 0
 nodes (leaf q row) = nodes row

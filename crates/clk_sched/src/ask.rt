@@ -11,10 +11,10 @@ pub trait Ask {
     // Which leaves there are.
     ghost has: { Self → ℕ → Bool };
 
-    // How many packets it holds for each leaf. What says nothing of them may tell 0.
+    // How many packets it holds for each leaf. An implementation that says nothing of them may use 0.
     ghost holds: { Self → ℕ → ℕ };
 
-    // Which answers a call may give for a leaf from a state, and what stands afterwards.
+    // Which results a call may return for a leaf in a state, and which state follows.
     ghost gives: { Self → ℕ → Option Packet → Self → Type 0 };
 
     /// Takes the next packet of the queue at a leaf, if it has one. A leaf that isn't there has none.
@@ -22,8 +22,8 @@ pub trait Ask {
         ensures answer { gives self.old leaf result self.new }
         ensures missing { has self.old leaf ≡ false → result ≡ None };
 
-    /// How many queues from a leaf on, of so many at most and with none left out, are known to have no packet, so that they needn't be
-    /// asked one by one. What knows nothing of that answers 0.
+    /// How many queues from a leaf on are known to be empty, `count` at most and without a gap, so that they needn't be asked one by one.
+    /// An implementation that doesn't know returns 0.
     fn idle_from(&self, leaf: u16, count: u16) -> u16
         ensures within { result ≤ count }
         ensures idle { (k : ℕ) → k < result → gives self.now (leaf + k) None self.now }

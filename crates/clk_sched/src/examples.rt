@@ -1,5 +1,5 @@
-//! What the definitions say of worked examples: which logs are runs and which are none, what went in and came out, and what a
-//! session's pull and its drain are. Each function does nothing.
+//! What the definitions say of worked examples: which logs are runs and which aren't; which packets are given, emitted and held; and what a
+//! pull and a drain of a session are. Each function does nothing.
 
 ghost use Rattle.std.specs.Prelude.{◌≡◌, true, false, [], ◌∷◌, map, reverse, take, Some, None};
 ghost use Rattle.clk_sched.specs.Tree.{root};
@@ -161,8 +161,8 @@ pub fn nested_examples()
     ensures not_last_disobeys { ¬ (IsRun each_holds_tree last_disobeys) }
 {}
 
-/// Which packets were given, emitted and held in worked examples, and where they came from; that these lose nothing, and an
-/// altered log does; and how many pulls their closing is given.
+/// Which packets were given, emitted and held in worked examples, and where they came from. That these lose nothing, and an altered log
+/// does. How large their closing bounds are.
 pub fn result_examples()
     ensures emitted { names (emitted two_deficits) ≡ (1, 0) ∷ (1, 1) ∷ (0, 0) ∷ (0, 1) ∷ [] }
     ensures given { names (leaf_packets two_deficits_tree 0 two_deficits) ≡ (0, 0) ∷ (0, 1) ∷ [] }
@@ -228,7 +228,7 @@ pub fn pull_examples()
     ensures not_other_result { ¬ (IsPulledOnce pulled_twice pulled_again 6 (Some p0_0)) }
 {}
 
-/// Which changes of a worked session are a drain after moment 5, by how many pulls it made and how many packets came out, and which
+/// Which changes of a worked session are a drain after moment 5, by how many pulls it made and how many packets it emitted, and which
 /// aren't.
 pub fn drain_examples()
     ensures is_drained { IsDrained pulled_twice drained 5 2 1 }
@@ -246,7 +246,7 @@ pub fn drain_examples()
     ensures made_follow { CountFollows }
 {}
 
-/// Which drains of a worked session gave all of so many packets that were left, and which didn't.
+/// Which drains of a worked session emitted all of so many packets that were left, and which didn't.
 pub fn full_drain_examples()
     ensures is_drained { GivesAll pulled_twice drained 5 2 1 }
     ensures is_pulled_again { GivesAll pulled_twice pulled_again 5 1 1 }
@@ -257,7 +257,7 @@ pub fn full_drain_examples()
     ensures not_goes_on { ¬ (GivesAll pulled_twice drain_goes_on 5 2 1) }
 {}
 
-/// Why drains of a worked session stopped before as many packets came out as were left, and which didn't stop so.
+/// Why drains of a worked session stopped before they had emitted all that was left, and which didn't stop so.
 pub fn short_drain_examples()
     ensures is_memory { StopsAt pulled_twice stopped_at_first 5 1 Memory }
     ensures is_memory_at_bound { StopsAt pulled_twice stopped_at_bound 5 1 Memory }

@@ -15,21 +15,21 @@ pub fn runs_go_on()
     ensures { (tree : _) → GoesOn tree }
 {}
 
-/// A run of a sound tree can go on by one pull at each moment that is no earlier than its last, whatever the queues answer.
+/// A run of a sound tree can go on by one pull at each moment that is no earlier than its last, whatever the queues give.
 pub fn runs_can_go_on()
     ensures { (tree : _) → CanGoOn tree }
 {}
 
-/// A run of a tree leaves nothing to choose but what each queue answers and the moments of the pulls.
+/// A run of a tree leaves nothing to choose but what each queue gives and the moments of the pulls.
 pub fn runs_leave_no_choice()
     ensures runs { (tree : _) → LeavesNoChoice tree }
     ensures pulls { (tree : _) → PullsLeaveNoChoice tree }
 {}
 
-/// Each run of a tree conserves the packets of each queue, where no queue stands twice in the tree: what the queue gave is what
-/// was emitted of it, in order, and then what is held of it. So as many came out and are held as all queues gave. In any tree, each
-/// packet that is emitted or held is among those that one of its queues gave. Of the packets of one queue, each DRRSched above the queue
-/// holds one at most, and no other scheduler holds any.
+/// If no queue stands twice in a tree, each run of the tree conserves the packets of each queue: what the queue gave is what was emitted of
+/// it, in order, and then what is held of it. So as many packets are emitted or held as all queues gave. Of the packets of one queue, each
+/// DRRSched above the queue holds one at most, and no other scheduler holds any. In any tree, each packet that is emitted or held is among
+/// those that one of its queues gave.
 pub fn runs_conserve_packets()
     ensures loses_nothing { (tree : _) → leaves_distinct tree ≡ true → ConservesPackets tree }
     ensures counts { (tree : _) → leaves_distinct tree ≡ true → ConservesCounts tree }
@@ -42,8 +42,7 @@ pub fn runs_share_out()
     ensures { (tree : _) → SharesOut tree }
 {}
 
-/// Closing pulls, one tick apart, over queues that lose nothing give all that queues and heads hold before there are as many as the
-/// closing bound.
+/// A drain, with pulls one tick apart over queues that lose nothing, emits all that queues and heads hold within the closing bound.
 pub fn closing_bound_is_enough()
     ensures { (tree : _) → IsSound (root tree) → leaves_distinct tree ≡ true → BoundIsEnough tree }
 {}

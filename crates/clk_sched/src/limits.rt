@@ -9,8 +9,8 @@ pub const END_OF_DRAINS: u64 = (1 << 43) - 1;
 /// How many packets are left to a drain at most.
 pub const MAX_LEFT: u64 = 1_000_000;
 
-/// The number of pulls from which on a session that keeps no log is not pulled.
+/// The number of pulls from which on a session that doesn't hold all its visits is not pulled.
 pub const END_OF_PULLS: u64 = 1 << 63;
 
-/// The number of pulls from which on a session that keeps no log is not drained.
+/// The number of pulls from which on a session that doesn't hold all its visits is not drained.
 pub const END_OF_DRAINED_PULLS: u64 = 1 << 62;

@@ -69,7 +69,7 @@ impl Session {
     ///
     /// # Errors
     ///
-    /// Fault 18 for a tree of more than 256 nodes and queues, the device counted; else fault 1 where memory is refused.
+    /// Fault 18 if the tree has more than 256 queues and schedulers, the device counted. Otherwise fault 1 if an allocation fails.
     pub fn new(alloc: Global, tree: Tree) -> Result<Session, Fault>
         requires distinct { leaves_distinct tree ≡ true }
         ensures made { IfOk result (λ session. (session.tree ≡ tree) × (session.log ≡ [])) }
@@ -86,12 +86,12 @@ impl Session {
         Ok(Session { kernel })
     }
 
-    /// Pulls the device once, at this moment in ticks, below 2^44, or, where that is later, at the greatest so far, and answers its
-    /// result.
+    /// Pulls the device once, and returns the packet that it emitted, if any. `moment`, in ticks, is below 2^44. A moment that is earlier
+    /// than the latest so far counts as that.
     ///
     /// # Errors
     ///
-    /// Fault 1 where memory is refused. Then nothing has changed, and nothing was asked.
+    /// Fault 1 if an allocation fails. Then nothing has changed, and no queue was asked.
     pub fn pull<Q: Ask>(&mut self, q: &mut Q, moment: u64) -> Result<Option<Packet>, Fault>
         requires { moment < end_of_moments }
         ensures pulled { IfOk result (IsPulledOnce self.old self.new moment) }
@@ -103,15 +103,15 @@ impl Session {
         self.kernel.pull(q, moment)
     }
 
-    /// Pulls the device, one tick apart and the first time one tick after the later of this moment and the greatest so far, which
-    /// is below 2^43 - 1, until `left` packets came out, 1,000,000 at most, and answers how often. With nothing left it pulls
-    /// nothing.
+    /// Pulls the device until `left` packets, 1,000,000 at most, were emitted, and returns the number of pulls. The pulls are one tick
+    /// apart, the first one tick after the later of `moment` and the latest moment so far. That later moment is below 2^43 - 1. If `left`
+    /// is 0, it makes no pull.
     ///
     /// # Errors
     ///
-    /// Fault 1 where memory is refused, and fault 17 with the number of pulls after `bound(left)` pulls that gave fewer packets. The
-    /// session then holds the pulls that were made. Fault 17 never comes where `q` loses nothing, and its leaves of the tree hold,
-    /// together with the heads, exactly `left` packets.
+    /// Fault 1 if an allocation fails. Fault 17, with the number of pulls, if `bound(left)` pulls emitted fewer packets. The session then
+    /// holds the pulls that were made. Fault 17 never comes if `q` loses nothing, and the heads and the leaves of the tree together hold
+    /// exactly `left` packets.
     pub fn drain<Q: Ask>(&mut self, q: &mut Q, left: u64, moment: u64) -> Result<u64, Fault>
         requires left { left ≤ most_left }
         requires moment { max (counted_moment self.old) moment < end_of_drains }
@@ -124,9 +124,9 @@ impl Session {
         self.kernel.drain(q, left, moment)
     }
 
-    /// How many pulls the closing is given where so many packets, 1,000,000 at most, are left in queues and heads: for each one
-    /// more than the schedulers on the longest path, times the rounds that a DRRSched of the least quantum needs for the longest
-    /// packet.
+    /// How many pulls a drain of `left` packets, 1,000,000 at most, makes at most. For each packet it is one more than the number of
+    /// schedulers on the longest path, times the rounds that the packet may need. These are 1 without a DRRSched. Otherwise they are the
+    /// greatest length over the least quantum, rounded up, plus 1.
     pub fn bound(&self, left: u64) -> u64
         requires { left ≤ most_left }
         ensures value { result ≡ closing_bound self.now.tree left }
@@ -145,7 +145,7 @@ impl Session {
         self.kernel.log()
     }
 
-    /// The counted moment, in ticks: the greatest at which it was pulled, and 0 before the first pull.
+    /// The counted moment, in ticks: the latest at which the session was pulled, and 0 before the first pull.
     pub fn now(&self) -> u64
         ensures moment { result ≡ counted_moment self.now }
         ensures limit { result < end_of_moments }
@@ -153,11 +153,11 @@ impl Session {
         self.kernel.now()
     }
 
-    /// The packets that came out at the device, in order.
+    /// The packets emitted at the device, in order.
     ///
     /// # Errors
     ///
-    /// Fault 1 where memory is refused.
+    /// Fault 1 if an allocation fails.
     pub fn emitted(&self, alloc: Global) -> Result<Vec<Packet>, Fault>
         ensures packets { IfOk result (λ packets. packets.items ≡ emitted self.now.log) }
         ensures fault { IsOkUnless result Fault.Memory }
@@ -165,14 +165,14 @@ impl Session {
         Ok(self.as_emitted().to_vec(alloc)?)
     }
 
-    /// The same packets, where the session keeps them.
+    /// The packets emitted at the device, in order, as the session keeps them.
     pub fn as_emitted(&self) -> &[Packet]
         ensures { result.now ≡ emitted self.now.log }
     {
         self.kernel.as_emitted()
     }
 
-    /// Every visit and the packets that came out at the device, in order, without taking memory.
+    /// Every visit, and the packets emitted at the device, in order. Does not allocate.
     pub fn into_parts(self) -> (Vec<Visit>, Vec<Packet>)
         ensures log { result.0.items ≡ self.log }
         ensures emitted { result.1.items ≡ emitted self.log }
@@ -181,7 +181,7 @@ impl Session {
         kernel.into_parts()
     }
 
-    /// The session as one of any kind, which keeps what this one kept.
+    /// The session as a `Kernel`, a session of any kind. It still keeps every visit, as a list, and every emitted packet.
     pub fn into_kernel(self) -> Kernel
         ensures progress { progress_of result ≡ self }
         ensures kind { result.keeps ≡ keeps_all }
@@ -195,7 +195,7 @@ impl Session {
     ///
     /// # Errors
     ///
-    /// Fault 1 where memory is refused.
+    /// Fault 1 if an allocation fails.
     pub fn held_heads(&self, alloc: Global) -> Result<Vec<Packet>, Fault>
         ensures packets { IfOk result (λ packets. packets.items ≡ heads self.now.tree self.now.log) }
         ensures fault { IsOkUnless result Fault.Memory }

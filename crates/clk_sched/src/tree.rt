@@ -88,7 +88,7 @@ impl Tree {
     ///
     /// # Errors
     ///
-    /// Fault 18 for more than 64 trees, and where more than 64 schedulers stand on a path.
+    /// Fault 18 if there are more than 64 trees, or if more than 64 schedulers would stand on a path.
     pub fn prio(children: Vec<Tree>) -> Result<Tree, Fault>
         requires inputs { 1 ≤ length children.items }
         ensures { result ≡ built prio children.items }
@@ -100,7 +100,7 @@ impl Tree {
     ///
     /// # Errors
     ///
-    /// As `prio`.
+    /// Fault 18 if there are more than 64 trees, or if more than 64 schedulers would stand on a path.
     pub fn round_robin(children: Vec<Tree>) -> Result<Tree, Fault>
         requires inputs { 1 ≤ length children.items }
         ensures { result ≡ built round_robin children.items }
@@ -112,7 +112,7 @@ impl Tree {
     ///
     /// # Errors
     ///
-    /// As `prio`.
+    /// Fault 18 if there are more than 64 trees, or if more than 64 schedulers would stand on a path.
     pub fn drr(quanta: Vec<u32>, children: Vec<Tree>) -> Result<Tree, Fault>
         requires inputs { 1 ≤ length children.items }
         requires one_each { length quanta.items ≡ length children.items }
@@ -126,7 +126,7 @@ impl Tree {
     ///
     /// # Errors
     ///
-    /// As `prio`.
+    /// Fault 18 if there are more than 64 trees, or if more than 64 schedulers would stand on a path.
     pub fn stride(tickets: Vec<u32>, children: Vec<Tree>) -> Result<Tree, Fault>
         requires inputs { 1 ≤ length children.items }
         requires one_each { length tickets.items ≡ length children.items }
@@ -141,7 +141,7 @@ impl Tree {
     ///
     /// # Errors
     ///
-    /// As `prio`, and fault 1.
+    /// Fault 1 if an allocation fails, and fault 18 if more than 64 schedulers would stand on a path.
     pub fn shaper(alloc: Global, rate: u32, burst: u32, child: Tree) -> Result<Tree, Fault>
         requires rate { (1 ≤ rate) × (rate ≤ most_rate) }
         requires burst { (1 ≤ burst) × (burst ≤ most_burst) }

@@ -1,4 +1,4 @@
-//! A session that keeps no log: contracts alone know it, so that it can go on for ever.
+//! A session that keeps no log: contracts alone know its visits, so that it can go on for ever.
 
 use crate::ask::Ask;
 use crate::backlog::Backlog;
@@ -9,9 +9,8 @@ use clk_packet::{Fault, Packet};
 use std::alloc::Global;
 use std::marker::Model;
 
-/// A tree of schedulers with all that its nodes hold. What is said of it is said of every visit that they made, as of a `Session`,
-/// but none of these is kept, nor what came out: it takes the same memory after a pull as before it, and a pull is never refused
-/// any.
+/// A tree of schedulers with all that its nodes hold. It keeps neither visits nor emitted packets: a pull allocates nothing and never
+/// fails. Contracts speak of every visit that its nodes made, as those of a `Session` do.
 #[derive(Drop)]
 pub struct Unlogged {
     kernel: Kernel,
@@ -53,7 +52,7 @@ impl Unlogged {
     ///
     /// # Errors
     ///
-    /// Fault 18 for a tree of more than 256 nodes and queues, the device counted; else fault 1 where memory is refused.
+    /// Fault 18 if the tree has more than 256 queues and schedulers, the device counted. Otherwise fault 1 if an allocation fails.
     pub fn new(alloc: Global, tree: Tree) -> Result<Unlogged, Fault>
         requires distinct { leaves_distinct tree ≡ true }
         ensures made { IfOk result (λ session. (session.tree ≡ tree) × (session.log ≡ [])) }
@@ -70,8 +69,8 @@ impl Unlogged {
         Ok(Unlogged { kernel })
     }
 
-    /// Pulls the device once, at this moment in ticks, below 2^44, or, where that is later, at the greatest so far, and answers its
-    /// result. It can be pulled 2^63 times.
+    /// Pulls the device once, and returns the packet that it emitted, if any. `moment`, in ticks, is below 2^44. A moment that is earlier
+    /// than the latest so far counts as that. A session can be pulled 2^63 times.
     pub fn pull<Q: Ask>(&mut self, q: &mut Q, moment: u64) -> Option<Packet>
         requires moment { moment < end_of_moments }
         requires pulls { pulls_made self.old < end_of_pulls }
@@ -84,14 +83,14 @@ impl Unlogged {
         }
     }
 
-    /// Pulls the device, one tick apart and the first time one tick after the later of this moment and the greatest so far, which
-    /// is below 2^43 - 1, until `left` packets came out, 1,000,000 at most, and answers how often. With nothing left it pulls
-    /// nothing. Fewer than 2^62 pulls were made before.
+    /// Pulls the device until `left` packets, 1,000,000 at most, were emitted, and returns the number of pulls. The pulls are one tick
+    /// apart, the first one tick after the later of `moment` and the latest moment so far. That later moment is below 2^43 - 1, and fewer
+    /// than 2^62 pulls were made before. If `left` is 0, it makes no pull.
     ///
     /// # Errors
     ///
-    /// Fault 17 with the number of pulls after `bound(left)` pulls that gave fewer packets; the session then holds these pulls. It
-    /// never comes where `q` loses nothing, and its leaves of the tree hold, together with the heads, exactly `left` packets.
+    /// Fault 17, with the number of pulls, if `bound(left)` pulls emitted fewer packets. The session then holds these pulls. The fault
+    /// never comes if `q` loses nothing, and the heads and the leaves of the tree together hold exactly `left` packets.
     pub fn drain<Q: Ask>(&mut self, q: &mut Q, left: u64, moment: u64) -> Result<u64, Fault>
         requires left { left ≤ most_left }
         requires moment { max (counted_moment self.old) moment < end_of_drains }
@@ -106,7 +105,7 @@ impl Unlogged {
         self.kernel.drain(q, left, moment)
     }
 
-    /// How many pulls the closing is given where so many packets, 1,000,000 at most, are left in queues and heads.
+    /// How many pulls a drain of `left` packets, 1,000,000 at most, makes at most.
     pub fn bound(&self, left: u64) -> u64
         requires { left ≤ most_left }
         ensures value { result ≡ closing_bound self.now.tree left }
@@ -116,14 +115,14 @@ impl Unlogged {
         self.kernel.bound(left)
     }
 
-    /// The counted moment, in ticks: the greatest at which it was pulled, and 0 before the first pull.
+    /// The counted moment, in ticks: the latest at which the session was pulled, and 0 before the first pull.
     pub fn now(&self) -> u64
         ensures moment { result ≡ counted_moment self.now }
         ensures limit { result < end_of_moments }
         ensures run { IsRun self.now.tree self.now.log }
         ensures distinct { leaves_distinct self.now.tree ≡ true }
     {
-        // That the log is a run is known where it is read.
+        // The contract of `log` says that the log is a run.
         let _ = self.kernel.log();
         self.kernel.now()
     }
@@ -135,15 +134,15 @@ impl Unlogged {
         self.kernel.pulls()
     }
 
-    /// How many packets came out at the device.
+    /// How many packets were emitted at the device.
     pub fn count_emitted(&self) -> u64
         ensures { result ≡ length (emitted self.now.log) }
     {
         self.kernel.count_emitted()
     }
 
-    /// The earliest moment, in ticks, at which a pull could emit a packet, as things stand: the counted moment, or a later one if every packet
-    /// is below a Shaper that has no room for it yet. `None` if no queue of the tree is backlogged and no head is held.
+    /// The earliest moment, in ticks, at which a pull could emit a packet, as things stand. It is the counted moment, or a later one if
+    /// every packet is below a Shaper that has no room for it yet. `None` if no queue of the tree is backlogged and no head is held.
     pub fn due<B: Backlog>(&self, queues: &B) -> Option<u64>
         ensures due { IsDue (tree_could_emit self.now.tree self.now.log (B.backlogged queues.now)) (counted_moment self.now) result }
     {
@@ -154,7 +153,7 @@ impl Unlogged {
     ///
     /// # Errors
     ///
-    /// Fault 1 where memory is refused.
+    /// Fault 1 if an allocation fails.
     pub fn held_heads(&self, alloc: Global) -> Result<Vec<Packet>, Fault>
         ensures packets { IfOk result (λ packets. packets.items ≡ heads self.now.tree self.now.log) }
         ensures fault { IsOkUnless result Fault.Memory }

@@ -2,8 +2,8 @@
 
 use clk_packet::Packet;
 
-/// One look of a node at one of its inputs, as the log records it once its answer is known. The visits of a node's
-/// child stand before the visit that asked it.
+/// One look of a node at one of its inputs, as the log records it once its result is known. The visits of a node's child stand before the
+/// visit that asked it.
 // The fields stand by size, so that a visit takes no more bytes than they need.
 #[derive(Clone, Copy, Debug, PartialEq, Eq)]
 pub struct Visit {
@@ -28,7 +28,8 @@ impl Visit {
     ghost use Rattle.std.specs.Prelude.{◌≡◌};
     ghost use Rattle.clk_sched.specs.Log.{asking};
 
-    /// A visit that asked, and whose packet is the node's result, in a pull counted from 0 at a moment in ticks.
+    /// A visit that asked what stands at an input, in a pull counted from 0 at a moment in ticks. A packet that it got is the node's
+    /// result.
     pub fn asking(pull: u64, moment: u64, node: u16, input: u16, got: Option<Packet>) -> Visit
         ensures { result ≡ asking pull moment node input got }
     {

@@ -8,7 +8,7 @@ use Rattle.clk_packet.specs.Packets.{packet}
 use Rattle.clk_sched.specs.Examples.{look}
 use Rattle.clk_packet.specs.declared.packet.Packet.{Packet}
 
--- the packets of these examples, each named by its sender, its number and, where others share them, its length
+-- packet 0 of sender 0, of 10 bytes. The packets below are named alike: by sender, number and, if others share these, length.
 abbrev pub p0_0_10 : Packet
 p0_0_10 = packet 0 0 10 (lit≤ tt) (lit≤ tt)
 
@@ -163,29 +163,30 @@ own_quanta =
 abbrev pub own_quanta_tree : Tree
 own_quanta_tree = scheduler (drr (500 ∷ 1000 ∷ [])) (leaf 0 (leaf 1 end))
 
--- the first pulls as they were if the first quantum held for both inputs
+-- the first pulls of `own_quanta` as they would be if the first quantum held for both inputs
 abbrev pub first_quantum_for_all : List Visit
 first_quantum_for_all =
     asking 0 0 1 0 (Some p0_0_500) ∷ asking 0 0 0 0 (Some p0_0_500) ∷
     look 1 0 1 0 true (Some p0_1_500) false ∷ asking 1 0 1 1 (Some p1_0_500) ∷ asking 1 0 0 0 (Some p1_0_500) ∷
     look 2 0 1 1 true (Some p1_1_500) false ∷ look 2 0 1 0 false (Some p0_1_500) true ∷ asking 2 0 0 0 (Some p0_1_500) ∷ []
 
--- the first pulls as they were if the quanta were exchanged
+-- the first pulls of `own_quanta` as they would be if the quanta were exchanged
 abbrev pub quanta_exchanged : List Visit
 quanta_exchanged =
     asking 0 0 1 0 (Some p0_0_500) ∷ asking 0 0 0 0 (Some p0_0_500) ∷
     asking 1 0 1 0 (Some p0_1_500) ∷ asking 1 0 0 0 (Some p0_1_500) ∷ []
 
--- the first pulls, of which the third begins at the first input and not where the second passed
+-- the first pulls of `own_quanta`, but the third begins at the first input and not where the second passed
 abbrev pub begins_at_first : List Visit
 begins_at_first =
     asking 0 0 1 0 (Some p0_0_500) ∷ asking 0 0 0 0 (Some p0_0_500) ∷
     look 1 0 1 0 true (Some p0_1_500) false ∷ asking 1 0 1 1 (Some p1_0_500) ∷ asking 1 0 0 0 (Some p1_0_500) ∷
     look 2 0 1 0 false (Some p0_1_500) false ∷ asking 2 0 1 1 (Some p1_1_500) ∷ asking 2 0 0 0 (Some p1_1_500) ∷ []
 
--- DRRScheds whose least quantum is one byte, at the second input and at the first
+-- a DRRSched whose least quantum, one byte, is that of its second input
 abbrev pub least_last_tree : Tree
 least_last_tree = scheduler (drr (500 ∷ 1 ∷ [])) (leaf 0 (leaf 1 end))
 
+-- a DRRSched whose least quantum, one byte, is that of its first input
 abbrev pub least_first_tree : Tree
 least_first_tree = scheduler (drr (1 ∷ 500 ∷ [])) (leaf 0 (leaf 1 end))

@@ -8,7 +8,7 @@ use Rattle.clk_packet.specs.Packets.{packet}
 use Rattle.clk_sched.specs.Examples.{look}
 use Rattle.clk_packet.specs.declared.packet.Packet.{Packet}
 
--- the packets of these examples, each named by its sender, its number and, where others share them, its length
+-- packet 0 of sender 0, of 10 bytes
 abbrev pub p0_0 : Packet
 p0_0 = packet 0 0 10 (lit≤ tt) (lit≤ tt)
 

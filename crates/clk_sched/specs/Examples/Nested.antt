@@ -8,7 +8,7 @@ use Rattle.clk_packet.specs.Packets.{packet}
 use Rattle.clk_sched.specs.Examples.{look}
 use Rattle.clk_packet.specs.declared.packet.Packet.{Packet}
 
--- the packets of these examples, each named by its sender, its number and, where others share them, its length
+-- packet 0 of sender 0, of 5 bytes. The packets below are named alike: by sender, number and, if others share these, length.
 abbrev pub p0_0_5 : Packet
 p0_0_5 = packet 0 0 5 (lit≤ tt) (lit≤ tt)
 
@@ -38,17 +38,17 @@ two_levels =
 abbrev pub two_levels_tree : Tree
 two_levels_tree = scheduler prio (node prio (leaf 0 (leaf 1 end)) end)
 
--- the same where the visits of the inner one stand after the visit that asked it
+-- `two_levels`, but the visits of the inner PrioSched stand after the visit that asked it
 abbrev pub outer_first : List Visit
 outer_first =
     asking 0 0 1 0 (Some p1_0_10) ∷ asking 0 0 2 0 None ∷ asking 0 0 2 1 (Some p1_0_10) ∷ asking 0 0 0 0 (Some p1_0_10) ∷ []
 
--- the same where the inner one doesn't ask its first input
+-- `two_levels`, but the inner PrioSched doesn't ask its first input
 abbrev pub inner_disobeys : List Visit
 inner_disobeys =
     asking 0 0 2 1 (Some p1_0_10) ∷ asking 0 0 1 0 (Some p1_0_10) ∷ asking 0 0 0 0 (Some p1_0_10) ∷ []
 
--- the same where the outer one got a packet though the inner one found none
+-- `two_levels`, but the outer PrioSched got a packet though the inner one found none
 abbrev pub made_from_nothing : List Visit
 made_from_nothing =
     asking 0 0 2 0 None ∷ asking 0 0 2 1 None ∷ asking 0 0 1 0 (Some p1_0_10) ∷ asking 0 0 0 0 (Some p1_0_10) ∷ []
@@ -63,7 +63,7 @@ three_heads =
 abbrev pub three_heads_tree : Tree
 three_heads_tree = scheduler prio (node (drr (5 ∷ [])) (node round_robin (leaf 0 end) end) (node (drr (5 ∷ 5 ∷ [])) (leaf 1 (leaf 2 end)) end))
 
--- the same where the last scheduler is numbered 5, with a gap before it
+-- `three_heads`, but the last scheduler is numbered 5, with a gap before it
 abbrev pub number_skipped : List Visit
 number_skipped =
     asking 0 0 3 0 (Some p0_0_10) ∷ look 0 0 2 0 true (Some p0_0_10) false ∷ asking 0 0 1 0 None ∷
@@ -76,7 +76,7 @@ last_gives =
     asking 0 0 3 0 None ∷ asking 0 0 2 0 None ∷ asking 0 0 1 0 None ∷
     asking 0 0 4 0 None ∷ asking 0 0 4 1 (Some p2_0_5) ∷ asking 0 0 1 1 (Some p2_0_5) ∷ asking 0 0 0 0 (Some p2_0_5) ∷ []
 
--- the same where what the last scheduler passed is lost above it
+-- `last_gives`, but what the last scheduler passed is lost above it
 abbrev pub last_result_lost : List Visit
 last_result_lost =
     asking 0 0 3 0 None ∷ asking 0 0 2 0 None ∷ asking 0 0 1 0 None ∷
@@ -92,8 +92,8 @@ abbrev pub last_of_five_tree : Tree
 last_of_five_tree =
     scheduler prio (node prio (node round_robin (leaf 0 end) (node round_robin (leaf 1 end) end)) (node prio (leaf 2 end) end))
 
--- A PrioSched over two DRRScheds of quanta 3 and 5, the first over another of quantum 5. That one holds the first queue's
--- packet and passes the second's, which the one above holds, and the last one holds the third's.
+-- A PrioSched over two DRRScheds of quanta 3 and 5, the first over another of quantum 5. The innermost holds the first queue's packet and
+-- passes the second's, which the one above it holds. The last holds the third's.
 abbrev pub each_holds : List Visit
 each_holds =
     look 0 0 3 0 true (Some p0_0_10) false ∷ asking 0 0 3 1 (Some p1_0_5) ∷ look 0 0 2 0 true (Some p1_0_5) false ∷
@@ -103,7 +103,7 @@ abbrev pub each_holds_tree : Tree
 each_holds_tree =
     scheduler prio (node (drr (3 ∷ [])) (node (drr (5 ∷ 5 ∷ [])) (leaf 0 (leaf 1 end)) end) (node (drr (5 ∷ [])) (leaf 2 end) end))
 
--- the same where the last one passes the third queue's packet, which is longer than its deficit
+-- `each_holds`, but the last scheduler passes the third queue's packet, which is longer than its deficit
 abbrev pub last_disobeys : List Visit
 last_disobeys =
     look 0 0 3 0 true (Some p0_0_10) false ∷ asking 0 0 3 1 (Some p1_0_5) ∷ look 0 0 2 0 true (Some p1_0_5) false ∷
@@ -128,12 +128,12 @@ passed_later_tree = scheduler (drr (5 ∷ 10 ∷ [])) (node prio (leaf 0 (leaf 1
 abbrev pub side_by_side_tree : Tree
 side_by_side_tree = scheduler prio (node (drr (500 ∷ [])) (leaf 0 end) (node (drr (300 ∷ [])) (leaf 1 end) end))
 
--- the same with another scheduler above the first alone
+-- a RoundRobinSched over two DRRScheds of quanta 500 and 300, the first below a PrioSched
 abbrev pub uneven_tree : Tree
 uneven_tree =
     scheduler round_robin (node prio (node (drr (500 ∷ [])) (leaf 0 end) end) (node (drr (300 ∷ [])) (leaf 1 end) end))
 
--- the same turned round, after a queue
+-- a RoundRobinSched over a queue, a DRRSched of quantum 300, and one of quantum 500 below a PrioSched
 abbrev pub turned_tree : Tree
 turned_tree =
     scheduler round_robin (leaf 2 (node (drr (300 ∷ [])) (leaf 1 end) (node prio (node (drr (500 ∷ [])) (leaf 0 end) end) end)))

@@ -8,7 +8,7 @@ use Rattle.clk_packet.specs.Packets.{packet}
 use Rattle.clk_sched.specs.Examples.{look}
 use Rattle.clk_packet.specs.declared.packet.Packet.{Packet}
 
--- the packets of these examples, each named by its sender, its number and, where others share them, its length
+-- packet 0 of sender 0, of 100 bytes. The packets below are named alike, by sender and number.
 abbrev pub p0_0 : Packet
 p0_0 = packet 0 0 100 (lit≤ tt) (lit≤ tt)
 
@@ -28,28 +28,28 @@ two_queues =
 abbrev pub two_queues_tree : Tree
 two_queues_tree = scheduler prio (leaf 0 (leaf 1 end))
 
--- the same without the visit of the second pull to the first queue, which was empty
+-- `two_queues` without the visit of the second pull to the first queue, which was empty
 abbrev pub visit_left_out : List Visit
 visit_left_out =
     asking 0 0 1 0 (Some p0_0) ∷ asking 0 0 0 0 (Some p0_0) ∷
     asking 1 0 1 1 (Some p1_0) ∷ asking 1 0 0 0 (Some p1_0) ∷
     asking 2 0 1 0 None ∷ asking 2 0 1 1 None ∷ asking 2 0 0 0 None ∷ []
 
--- the same with that visit twice
+-- `two_queues` with the visit of the second pull to the first queue twice
 abbrev pub visit_doubled : List Visit
 visit_doubled =
     asking 0 0 1 0 (Some p0_0) ∷ asking 0 0 0 0 (Some p0_0) ∷
     asking 1 0 1 0 None ∷ asking 1 0 1 0 None ∷ asking 1 0 1 1 (Some p1_0) ∷ asking 1 0 0 0 (Some p1_0) ∷
     asking 2 0 1 0 None ∷ asking 2 0 1 1 None ∷ asking 2 0 0 0 None ∷ []
 
--- the same where the packet of the second queue isn't said to be the result
+-- `two_queues`, but the packet of the second queue isn't marked as the result
 abbrev pub passed_turned : List Visit
 passed_turned =
     asking 0 0 1 0 (Some p0_0) ∷ asking 0 0 0 0 (Some p0_0) ∷
     asking 1 0 1 0 None ∷ look 1 0 1 1 true (Some p1_0) false ∷ asking 1 0 0 0 (Some p1_0) ∷
     asking 2 0 1 0 None ∷ asking 2 0 1 1 None ∷ asking 2 0 0 0 None ∷ []
 
--- the same where the device got another packet than the scheduler's result
+-- `two_queues`, but in the first pull the device got another packet than the scheduler's result
 abbrev pub other_result : List Visit
 other_result =
     asking 0 0 1 0 (Some p0_0) ∷ asking 0 0 0 0 (Some p1_0) ∷
@@ -93,6 +93,6 @@ third_gives =
 abbrev pub third_gives_tree : Tree
 third_gives_tree = scheduler prio (leaf 0 (leaf 1 (leaf 2 end)))
 
--- the same where the third queue isn't asked
+-- `third_gives`, but the third queue isn't asked
 abbrev pub third_left_out : List Visit
 third_left_out = asking 0 0 1 0 None ∷ asking 0 0 1 1 None ∷ asking 0 0 0 0 None ∷ []

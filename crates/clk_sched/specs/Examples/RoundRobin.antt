@@ -7,7 +7,7 @@ use Rattle.clk_sched.specs.Log.{asking}
 use Rattle.clk_packet.specs.Packets.{packet}
 use Rattle.clk_packet.specs.declared.packet.Packet.{Packet}
 
--- the packets of these examples, each named by its sender, its number and, where others share them, its length
+-- packet 0 of sender 0, of 1 byte. The packets below are named alike: by sender, number and, if others share these, length.
 abbrev pub p0_0_1 : Packet
 p0_0_1 = packet 0 0 1 (lit≤ tt) (lit≤ tt)
 
@@ -38,7 +38,7 @@ three_in_turn =
 abbrev pub three_in_turn_tree : Tree
 three_in_turn_tree = scheduler round_robin (leaf 0 (leaf 1 (leaf 2 end)))
 
--- A RoundRobinSched over two queues, which finds nothing in the second pull and begins there again.
+-- A RoundRobinSched over two queues. It finds nothing in the second pull, so that the third begins at the same input.
 abbrev pub none_keeps_beginning : List Visit
 none_keeps_beginning =
     asking 0 0 1 0 (Some p0_0_1) ∷ asking 0 0 0 0 (Some p0_0_1) ∷

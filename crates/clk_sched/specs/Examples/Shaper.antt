@@ -7,7 +7,7 @@ use Rattle.clk_sched.specs.Log.{asking}
 use Rattle.clk_packet.specs.Packets.{packet}
 use Rattle.clk_packet.specs.declared.packet.Packet.{Packet}
 
--- the packets of these examples, each named by its sender, its number and, where others share them, its length
+-- packet 0 of sender 0, of 1 byte. The packets below are named alike: by sender, number and, if others share these, length.
 abbrev pub p0_0_1 : Packet
 p0_0_1 = packet 0 0 1 (lit≤ tt) (lit≤ tt)
 
@@ -129,7 +129,7 @@ fills_without_cap =
     asking 1 10 1 0 (Some p0_1_10) ∷ asking 1 10 0 0 (Some p0_1_10) ∷
     asking 2 10 1 0 (Some p0_2_10) ∷ asking 2 10 0 0 (Some p0_2_10) ∷ []
 
--- Over late_burst_tree: the input is asked where the window is full
+-- Over late_burst_tree: the input is asked though there is no room for a packet
 abbrev pub asks_without_room : List Visit
 asks_without_room =
     asking 0 10 1 0 (Some p0_0_10) ∷ asking 0 10 0 0 (Some p0_0_10) ∷

@@ -8,7 +8,7 @@ use Rattle.clk_packet.specs.Packets.{packet}
 use Rattle.clk_sched.specs.Examples.{look}
 use Rattle.clk_packet.specs.declared.packet.Packet.{Packet}
 
--- the packets of these examples, each named by its sender, its number and, where others share them, its length
+-- packet 0 of sender 0, of 1 byte. The packets below are named alike: by sender, number and, if others share these, length.
 abbrev pub p0_0_1 : Packet
 p0_0_1 = packet 0 0 1 (lit≤ tt) (lit≤ tt)
 
@@ -173,7 +173,7 @@ three_strides =
 abbrev pub three_strides_tree : Tree
 three_strides_tree = scheduler (stride (1 ∷ 2 ∷ 4 ∷ [])) (leaf 0 (leaf 1 (leaf 2 end)))
 
--- the same where the input of the least pass is asked first, and then the others by index
+-- `three_strides`, but the input of the least pass is asked first, and then the others by index
 abbrev pub least_alone_first : List Visit
 least_alone_first =
     asking 0 0 1 0 None ∷ asking 0 0 1 1 (Some p1_0_1) ∷ asking 0 0 0 0 (Some p1_0_1) ∷

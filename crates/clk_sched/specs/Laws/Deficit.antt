@@ -1,5 +1,5 @@
--- What a DRRSched does (Shreedhar and Varghese 1995, pull by pull): whose turn it is, and what is covered. All is over the visits
--- of the node across its pulls, the earlier ones with the latest first.
+-- What a DRRSched does (Shreedhar and Varghese 1995, pull by pull): which input has its turn, and which packet is covered. All is told by
+-- the visits of the node across its pulls, earlier ones with the latest first.
 use Rattle.std.specs.Prelude.{◌≡◌, ℕ, ◌+◌, ◌*◌, ◌%◌, ◌==◌, Bool, nat_le, List, [], ◌∷◌, is_some, Option, Some, None, unwrap_or, slice_get, if◌then◌else◌}
 use Rattle.clk_packet.specs.declared.packet.Packet.{Packet}
 use Rattle.clk_sched.specs.declared.visit.Visit.{Visit}
@@ -35,12 +35,12 @@ passed_bytes input (v ∷ earlier) =
 abbrev pub quantum_at : List ℕ → ℕ → ℕ
 quantum_at quanta input = unwrap_or (slice_get quanta input) 0
 
--- The bytes that an input may have passed by a visit to it after these: its quantum for each arrival, that of the visit too. Arrivals count
--- since the latest visit to it that got nothing.
+-- How many bytes an input may have passed at a visit to it after these: its quantum for each arrival, that of the visit included. Arrivals
+-- count since the latest visit to the input that got nothing.
 abbrev pub allowed_bytes : List ℕ → List Visit → ℕ → ℕ
 allowed_bytes quanta earlier input = quantum_at quanta input * (arrives earlier + arrivals input earlier)
 
--- The deficit of an input at a visit to it after these is what it may pass yet.
+-- The deficit of an input at a visit to it after these: how many bytes it may still pass.
 abbrev pub IsDeficit : List ℕ → List Visit → ℕ → ℕ → Type 0
 IsDeficit quanta earlier input deficit = passed_bytes input earlier + deficit ≡ allowed_bytes quanta earlier input
 

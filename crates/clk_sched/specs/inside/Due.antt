@@ -1,4 +1,4 @@
--- What the walk over nodes finds that tells from which moment on a pull could emit a packet.
+-- What the walk over nodes finds out: from which moment on a pull could emit a packet.
 use Rattle.std.specs.Prelude.{◌≡◌, ℕ, suc, ◌&&◌, ◌||◌, Bool, List, Option, Some, None, min}
 use Rattle.clk_sched.specs.declared.session.inputs.Input.{Input}
 use Rattle.clk_sched.specs.declared.session.nodes.Nodes.{Nodes}

@@ -10,7 +10,7 @@ use Rattle.clk_sched.specs.declared.session.state.State.TheVariants.{Drr}
 abbrev pub heads_in : List Served → List Packet
 heads_in row = filter_map (λ (s : Served). s.head) row
 
--- the heads that a state holds, which that of a DRRSched alone has
+-- the heads that a state holds: only that of a DRRSched has any
 abbrev pub heads_of : State → List Packet
 heads_of (Drr d) = heads_in d.value.row.items
 heads_of s = []

@@ -11,11 +11,12 @@ use Rattle.clk_sched.specs.inside.Places.{inputs_of}
 use Rattle.clk_sched.specs.Session.{elements}
 use Rattle.clk_sched.specs.inside.Holds.OfClass.{Holds}
 
--- how many queues and schedulers a tree has, and how many schedulers
+-- how many queues and schedulers a tree has
 abbrev pub elements_of : Tree → ℕ
 elements_of (queue q) = 1
 elements_of (scheduler class inputs) = suc (elements inputs)
 
+-- how many schedulers a tree has
 abbrev pub nodes_of : Tree → ℕ
 nodes_of (queue q) = 0
 nodes_of (scheduler class inputs) = suc (nodes inputs)
@@ -36,12 +37,13 @@ entry p = (p.each.items, p.edges)
 abbrev pub entry_over : ℕ → Row → Entry
 entry_over next inputs = (inputs_of (suc next) inputs, elements inputs)
 
--- the entries of the schedulers of a row, which are numbered from `next` on, and of a tree
+-- the entries of the schedulers of a row, which are numbered from `next` on
 abbrev pub entries : ℕ → Row → List Entry
 entries next end = []
 entries next (leaf q row) = entries next row
 entries next (node class inputs row) = entry_over next inputs ∷ (entries (suc next) inputs ++ entries (suc (next + nodes inputs)) row)
 
+-- the entries of the schedulers of a tree, which are numbered from `next` on
 abbrev pub entries_of : ℕ → Tree → List Entry
 entries_of next (queue q) = []
 entries_of next (scheduler class inputs) = entry_over next inputs ∷ entries (suc next) inputs
@@ -50,12 +52,13 @@ entries_of next (scheduler class inputs) = entry_over next inputs ∷ entries (s
 abbrev pub Kind : Type 0
 Kind = Class × ℕ
 
--- the kinds of the schedulers of a row, by number, and of a tree
+-- the kinds of the schedulers of a row, by number
 abbrev pub kinds : Row → List Kind
 kinds end = []
 kinds (leaf q row) = kinds row
 kinds (node class inputs row) = (class, width inputs) ∷ (kinds inputs ++ kinds row)
 
+-- the kinds of the schedulers of a tree, by number
 abbrev pub kinds_of : Tree → List Kind
 kinds_of (queue q) = []
 kinds_of (scheduler class inputs) = (class, width inputs) ∷ kinds inputs

@@ -30,7 +30,7 @@ pub record Logs (old new : Nodes) (v : Visit) : Type 0 where
 abbrev pub IsHead : Deficits → Option Packet → Type 0
 IsHead d head = (s : Served) → slice_get d.row.items d.cursor ≡ Some s → s.head ≡ head
 
--- What was got at the input whose turn it is was taken, and passed or not.
+-- A DRRSched took what it got at the input whose turn it is, and passed it or not.
 pub record Settles (old new : Deficits) (got : Option Packet) (passed : Bool) : Type 0 where
   pub length_is : length new.row.items ≡ length old.row.items
   pub moves : passed ≡ false → new.cursor ≡ (old.cursor + 1) % length old.row.items
@@ -49,7 +49,7 @@ pub record Looks (old new : Nodes) (x : ℕ) (before after : Deficits) (got : Op
   pub lawful : (quanta : List ℕ) (inputs : ℕ) (earlier : List Visit) → HoldsDeficits quanta inputs earlier before → LooksAtHeads (next_input inputs) (deficit_covers quanta) earlier visit
   pub holds : (quanta : List ℕ) (inputs : ℕ) (earlier : List Visit) → HoldsDeficits quanta inputs earlier before → HoldsDeficits quanta inputs (visit ∷ earlier) after
 
--- A DRRSched at node x looked at the input whose turn it was: what stays, how the queues answered, and what it made of that.
+-- A DRRSched at node x looked at the input whose turn it was: what stays, what the queues gave, and what it made of that.
 pub record LooksAt {S : Type 0} (gives : S → ℕ → Option Packet → S → Type 0) (old new : Nodes) (before now : S) (x : ℕ) (held holds : Deficits) (got : Option Packet) (passed : Bool) : Type 0 where
   pub keeps : Keeps old new (edges_at old.inputs.items x held.cursor)
   pub answers : Answers gives (queue_asked old.inputs.items) before (added old new) now
@@ -57,7 +57,7 @@ pub record LooksAt {S : Type 0} (gives : S → ℕ → Option Packet → S → T
   pub moves : passed ≡ false → holds.cursor ≡ (held.cursor + 1) % length held.row.items
   pub looks : Looks old new x held holds got passed
 
--- From the one whose turn it is on so many inputs of a DRRSched are idle.
+-- The next `idle` inputs of a DRRSched, from the one whose turn it is on, are idle.
 pub record AreIdleAhead {S : Type 0} (gives : S → ℕ → Option Packet → S → Type 0) (n : Nodes) (q : S) (x : ℕ) (d : Deficits) (idle : ℕ) : Type 0 where
   pub within : d.cursor + idle ≤ length d.row.items
   pub each : (i : ℕ) → i < idle → IsIdle gives n q x (d.cursor + i)

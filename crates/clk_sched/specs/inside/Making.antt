@@ -19,7 +19,7 @@ abbrev pub onto : {X : Type 0} → List X → List X → List X
 onto [] earlier = earlier
 onto (x ∷ xs) earlier = onto xs (x ∷ earlier)
 
--- Input i is so many places after input s, around n inputs, and the place is one from a lowest on.
+-- Input i is j places after input s, wrapping round after n inputs.
 pub record IsPlace (n s j i : ℕ) : Type 0 where
   pub within : i < n
   pub place : (s + j ≡ i) ⊎ (s + j ≡ i + n)
@@ -35,12 +35,13 @@ pub record HasMade {S : Type 0} (gives : S → ℕ → Option Packet → S → T
   pub lawful : (quanta : List ℕ) (inputs : ℕ) (earlier : List Visit) → HoldsDeficits quanta inputs earlier first
       → EachAfter (LooksAtHeads (next_input inputs) (deficit_covers quanta)) earlier own × HoldsDeficits quanta inputs (onto own earlier) last
 
--- So many visits were made of which none passed, to one input after another, around.
+-- A visit went to one of `count` inputs from input s on, wrapping round after n inputs.
 pub record IsAround (n s count : ℕ) (v : Visit) : Type 0 where
   pub places : ℕ
   pub below : places < count
   pub place : IsPlace n s places v.input
 
+-- A DRRSched made `count` visits in its turn, to one input after another, and none passed a packet.
 pub record IsMaking {S : Type 0} (gives : S → ℕ → Option Packet → S → Type 0) (old new : Nodes) (before now : S) (x : ℕ) (first last : Deficits) (count : ℕ) : Type 0 where
   pub own : List Visit
   pub made : HasMade gives old new before now x first last own
@@ -49,11 +50,11 @@ pub record IsMaking {S : Type 0} (gives : S → ℕ → Option Packet → S → 
   pub around : AllByRecursion (IsAround (length first.row.items) first.cursor count) own
   pub next : IsPlace (length first.row.items) first.cursor count last.cursor
 
--- a row of the inputs of a node
+-- the row of a DRRSched has as many inputs as its node
 abbrev pub RowFits : List Inputs → ℕ → Deficits → Type 0
 RowFits table x d = IfSome (slice_get table x) (λ (p : Inputs). length d.row.items ≡ length p.each.items)
 
--- A DRRSched that is in its turn, since these nodes were as they were first, may go on by so many visits.
+-- A DRRSched is in its turn, which began with the nodes `first`, and may go on by `more` visits.
 pub record MayGoOn {S : Type 0} (gives : S → ℕ → Option Packet → S → Type 0) (n : Nodes) (q : S) (x : ℕ) (d : Deficits) (more : ℕ) : Type 0 where
   pub first : Nodes
   pub before : S
@@ -64,7 +65,7 @@ pub record MayGoOn {S : Type 0} (gives : S → ℕ → Option Packet → S → T
   pub making : IsMaking gives first n before q x begun d looks
   pub within : looks + more ≤ length begun.row.items
 
--- However many visits it had made in its turn, it went on by so many that passed none.
+-- A DRRSched in its turn, however many visits it had made, went on by `more` visits that passed none.
 abbrev pub GoesOnInVain : {S : Type 0} → (S → ℕ → Option Packet → S → Type 0) → Nodes → Nodes → S → ℕ → Deficits → Deficits → ℕ → Type 0
 GoesOnInVain gives old new q x held holds more =
     (first : Nodes) (before : _) (begun : Deficits) (looks : ℕ) → IsMaking gives first old before q x begun held looks → looks + more ≤ length begun.row.items → IsMaking gives first new before q x begun holds (looks + more)

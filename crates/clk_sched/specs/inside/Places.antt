@@ -61,10 +61,11 @@ abbrev pub option_edges_to : List Inputs → Option Input → ℕ
 option_edges_to table None = 0
 option_edges_to table (Some input) = edges_to table input
 
--- the edges from a node to some of its inputs, and those below
+-- the edge from a node to what stands at an input, and those below
 abbrev pub edges_at : List Inputs → ℕ → ℕ → ℕ
 edges_at table x i = option_edges_to table (input_at table x i)
 
+-- the edges from a node to some of its inputs, and those below
 abbrev pub edges_in : List Inputs → ℕ → List ℕ → ℕ
 edges_in table x [] = 0
 edges_in table x (i ∷ order) = edges_at table x i + edges_in table x order

@@ -44,16 +44,16 @@ EachHolds states history next (node class inputs row) =
     × EachHolds states history (suc next) inputs
     × EachHolds states history (suc (next + nodes inputs)) row
 
--- and so do a node and those below it
+-- a node and the schedulers of the row below it hold what their histories say
 pub record NodeHolds (states : List State) (history : History) (x : ℕ) (class : Class) (row : Row) : Type 0 where
   pub here : MatchOption (slice_get states x) ⊥ (Holds class (width row) (history x))
   pub below : EachHolds states history (suc x) row
 
--- what a visit asked
+-- the visits that were made below when a visit asked; none if it didn't ask
 abbrev pub asked_of : (ℕ → List Visit) → Visit → List Visit
 asked_of made v = if v.fresh then made v.input else []
 
--- each visit after what it asked
+-- each visit after those that were made below when it asked
 abbrev pub with_asked : (ℕ → List Visit) → List Visit → List Visit
 with_asked made visits = flat_map (λ (v : Visit). asked_of made v ++ v ∷ []) visits
 
@@ -150,7 +150,7 @@ Pulls old new x got =
 abbrev pub SameButBelow : Nodes → Nodes → ℕ → Row → Type 0
 SameButBelow old new x row = (y : ℕ) → (y ≤ x) ⊎ (suc (x + nodes row) ≤ y) → slice_get new.states.items y ≡ slice_get old.states.items y
 
--- A node is being pulled, whose turn this is to have no other history than its own.
+-- A node is in its turn: it stands over this row, no history is after this moment, and it has made these visits of its own so far.
 pub record IsGoing (n : Nodes) (history : History) (x : ℕ) (row : Row) (visits own : List Visit) : Type 0 where
   pub stands : StandsIn n.inputs.items x row
   pub before : (y : ℕ) → AreBefore n.moment (history y)
@@ -182,12 +182,12 @@ AsksAll old new x order more =
 abbrev pub asked_in_vain : Now → ℕ → List ℕ → List Visit
 asked_in_vain now x order = map (λ i. asking now.number now.moment x i None) order
 
--- the visits that ask in an order up to the place at which a packet was given, or all in vain
+-- the visits that ask in an order up to the place at which a packet was given, or to the end if none was
 abbrev pub asked_in_order : Now → ℕ → List ℕ → Option (ℕ × Packet) → List Visit
 asked_in_order now x order None = asked_in_vain now x order
 asked_in_order now x order (Some r) = asked_in_vain now x (take r.0 order) ++ asking now.number now.moment x (slice_index order r.0) (Some r.1) ∷ []
 
--- A scheduler had its turn, but for what it holds itself.
+-- A scheduler had its turn, but this says nothing of what it holds itself.
 pub record HasTurned (old new : Nodes) (history : History) (x : ℕ) (class : Class) (row : Row) (got : Option Packet) : Type 0 where
   pub block : IsBlock (now_of old) history x class row (added old new) got
   pub holds : EachHolds new.states.items (after history old.moment (added old new)) (suc x) row

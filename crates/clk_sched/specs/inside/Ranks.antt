@@ -13,7 +13,7 @@ with_pass taken r = (r.input, r.pass + taken)
 abbrev pub greatest_stride : ℕ
 greatest_stride = 65536
 
--- a rank of one of so many inputs, where this is the least pass of all
+-- a rank of one of so many inputs, with a pass of at most `greatest_stride` above the least
 abbrev pub IsRankOf : ℕ → ℕ → Rank → Type 0
 IsRankOf inputs least r = (r.input < inputs) × (r.pass ≤ least + greatest_stride)
 
@@ -72,22 +72,22 @@ abbrev pub put_all : List Rank → List Rank → List Rank
 put_all [] others = others
 put_all (r ∷ ranks) others = put_rank r (put_all ranks others)
 
--- The ranks after a pull that the one at a place won, by the pass that it had and its stride: it and those before it stand
--- in their new places.
+-- The ranks after a pull that the rank at a place won, with its pass and its stride. It and those before it stand in their new places.
 abbrev pub after_win : ℕ → ℕ → ℕ → List Rank → List Rank
 after_win pass stride place [] = []
 after_win pass stride zero (r ∷ others) = put_rank (at_pass (pass + stride) r) others
 after_win pass stride (suc place) (r ∷ others) = put_rank (at_pass pass r) (after_win pass stride place others)
 
--- the first pass, which is the least where passes rise
+-- the first pass, which is the least if passes rise
 abbrev pub first_pass : List Rank → ℕ
 first_pass [] = 0
 first_pass (r ∷ others) = r.pass
 
+-- a rank whose pass is less by `least`
 abbrev pub less : ℕ → Rank → Rank
 less least r = at_pass (r.pass - least) r
 
--- what is taken from all passes after a pull: the least, once it is far
+-- what is subtracted from all passes after a pull: the least pass once it is `FAR`, else 0
 abbrev pub taken_from : List Rank → ℕ
 taken_from ranks = if nat_lt (first_pass ranks) FAR then 0 else first_pass ranks
 

@@ -31,13 +31,13 @@ pub record GivesBack (old new : Nodes) (x : ℕ) : Type 0 where
   pub fits : (table : List Inputs) → AllFit table old.states.items → AllFit table new.states.items
   pub given : (bucket : Bucket) → slice_get old.states.items x ≡ Some (Shaper bucket) → (left : Bucket) × (new ≡ with_state old x (Shaper left)) × IsGivenBack bucket left
 
--- What a Shaper got was recorded, and its token given back where that is nothing.
+-- What a Shaper got was recorded, and its token was given back if it got nothing.
 pub record AnswersAt (old new : Nodes) (x : ℕ) (got : Option Packet) : Type 0 where
   pub logged : Nodes
   pub logs : Logs old logged (asking old.pull old.moment x 0 got)
   pub back : MatchOption got (GivesBack logged new x) (λ packet. new ≡ logged)
 
--- So did so many, from the one before `last` to lower numbers.
+-- `AnswersAt` holds of so many Shapers, from the one before `last` to lower numbers.
 abbrev pub AnswersUp : Nodes → Nodes → ℕ → ℕ → Option Packet → Type 0
 AnswersUp old new last zero got = new ≡ old
 AnswersUp old new last (suc k) got = (m : Nodes) × AnswersUp old m last k got × AnswersAt m new (last - suc k) got

@@ -1,4 +1,4 @@
--- What it is that a node was pulled, had its turn, and asked its inputs.
+-- What it means that a node was pulled, had its turn, or asked its inputs.
 use Rattle.std.specs.Prelude.{◌≡◌, ℕ, ◌<◌, List, [], ◌∷◌, length, Option, Some, None, IfSome, slice_get}
 use Rattle.std.specs.Vec.{with_item}
 use Rattle.clk_packet.specs.declared.packet.Packet.{Packet}
@@ -23,26 +23,26 @@ abbrev pub with_idle_at : Nodes → ℕ → ℕ → ℕ → Nodes
 with_idle_at a x first count =
     record { inputs = a.inputs; states = a.states; log = with_idle a.log (record { pull = a.pull; moment = a.moment; node = x; first = first; count = count }); pull = a.pull; moment = a.moment }
 
--- A node was pulled: what stays, how the queues answered, and what it made of that.
+-- A node was pulled: what stays, what the queues gave, and what it made of that.
 pub record WasPulled {S : Type 0} (gives : S → ℕ → Option Packet → S → Type 0) (old new : Nodes) (before now : S) (x : ℕ) (got : Option Packet) : Type 0 where
   pub keeps : Keeps old new (edges_of old.inputs.items x)
   pub answers : Answers gives (queue_asked old.inputs.items) before (added old new) now
   pub pulls : Pulls old new x got
 
--- A node had its turn, by one state, and holds another after it, wherever that stands meanwhile.
+-- A node had its turn with one state, and holds another after it, wherever the state stands during the turn.
 pub record HadTurn {S : Type 0} (gives : S → ℕ → Option Packet → S → Type 0) (old new : Nodes) (before now : S) (x : ℕ) (held holds : State) (got : Option Packet) : Type 0 where
   pub keeps : Keeps old new (edges_of old.inputs.items x)
   pub answers : Answers gives (queue_asked old.inputs.items) before (added old new) now
   pub fits : IfSome (slice_get old.inputs.items x) (λ p. Fits holds (length p.each.items))
   pub turn : (class : Class) → TakesTurn old new x class held holds got
 
--- At an input of a node stands a queue that may answer that it has nothing, and then stays as it is.
+-- At an input of a node stands a queue that may give nothing, and then stays as it is.
 pub record IsIdle {S : Type 0} (gives : S → ℕ → Option Packet → S → Type 0) (n : Nodes) (q : S) (x i : ℕ) : Type 0 where
   pub leaf : ℕ
   pub stands : input_at n.inputs.items x i ≡ Some (Queue leaf)
   pub gives_none : gives q leaf None q
 
--- all inputs of a node are such queues
+-- all inputs of a node are idle, as by `IsIdle`
 abbrev pub AreIdle : {S : Type 0} → (S → ℕ → Option Packet → S → Type 0) → Nodes → S → ℕ → Type 0
 AreIdle gives n q x = IfSome (slice_get n.inputs.items x) (λ (p : Inputs). (i : ℕ) → i < length p.each.items → IsIdle gives n q x i)
 

@@ -7,14 +7,14 @@ use crate::session::idle::IdleInputs;
 use crate::visit::Visit;
 use std::marker::Model;
 
-/// Every visit of a session so far, which contracts alone read: it takes no memory.
+/// Every visit of a session so far, as ghost state: it takes no memory.
 #[derive(Drop)]
 pub struct AllVisits {
     /// All of them, in order.
     pub ghost items: { List Visit },
-    /// For how many more there is room.
+    /// For how many more visits there is room.
     pub ghost spare: { ℕ },
-    /// How many of them were let go of.
+    /// How many of them were dropped.
     pub ghost gone: { ℕ },
 }
 
@@ -39,7 +39,7 @@ impl AllVisits {
     {}
 
     /// Adds the visits of inputs that gave nothing.
-    // Nothing is left of the loop when it runs.
+    // The loop compiles to nothing.
     #[inline]
     pub fn push_idle(&mut self, idle: &IdleInputs)
         requires { idle.now.first + idle.now.count < 2 ^ 16 }
@@ -50,12 +50,12 @@ impl AllVisits {
         }
     }
 
-    /// There is room for so many visits more.
+    /// Makes room for so many more visits.
     pub fn make_room(&mut self, visits: &usize)
         ensures { self.new ≡ record { items = self.old.items; spare = visits.now; gone = self.old.gone } }
     {}
 
-    /// All so far are let go of.
+    /// Marks all visits so far as dropped. Contracts still speak of them.
     pub fn let_go(&mut self)
         ensures { self.new ≡ record { items = self.old.items; spare = self.old.spare; gone = length self.old.items } }
     {}

@@ -1,4 +1,4 @@
-//! What came out at the device while it was drained, and when.
+//! The packets emitted at the device while it was drained, and their moments.
 
 ghost use Rattle.std.specs.Prelude.{◌≡◌, [], OnOk, IsOk};
 ghost use Rattle.clk_sched.specs.Departures.{departure_at, HasRoom, IsAddedTo};
@@ -7,16 +7,16 @@ ghost use Rattle.clk_sched.specs.declared.session.departures.Departures.TheVaria
 use clk_packet::Packet;
 use std::alloc::AllocError;
 
-/// A packet that came out at the device.
+/// A packet emitted at the device.
 #[derive(Clone, Copy, Debug, PartialEq, Eq)]
 pub struct Departure {
-    /// The counted moment of the pull that gave it, in ticks.
+    /// The counted moment of the pull that emitted it, in ticks.
     pub moment: u64,
     /// The packet.
     pub packet: Packet,
 }
 
-/// Where what comes out goes.
+/// Where emitted packets go.
 #[derive(Drop)]
 pub enum Departures {
     /// To a list, in order.
@@ -26,11 +26,11 @@ pub enum Departures {
 }
 
 impl Departures {
-    /// Makes room for one.
+    /// Makes room for one more departure.
     ///
     /// # Errors
     ///
-    /// Where memory is refused, which isn't asked for where none are kept.
+    /// If an allocation fails. If departures are dropped, it allocates nothing.
     #[inline]
     pub fn reserve(&mut self) -> Result<(), AllocError>
         ensures room { OnOk result (HasRoom self.new) }
@@ -43,7 +43,7 @@ impl Departures {
         }
     }
 
-    /// Adds what a pull at this moment gave.
+    /// Adds the packet that a pull at this moment emitted, if any.
     #[inline]
     pub fn add(&mut self, moment: u64, got: Option<Packet>)
         requires { HasRoom self.old }

@@ -47,7 +47,8 @@ impl Served {
         }
     }
 
-    // Takes what a visit got, fresh or as the head that is held, and answers whether the deficit covers it. If not, a packet is held.
+    // Takes what a visit got, by asking (fresh) or as the head that is held. Returns whether the deficit covers it. A packet that isn't
+    // covered is held as the head.
     #[inline]
     fn settle(&mut self, got: Option<Packet>, fresh: bool) -> bool
         requires { fresh ≡ false → self.old.head ≡ got }
@@ -67,7 +68,7 @@ impl Served {
                     self.head = None;
                     true
                 } else {
-                    // What is held stays held, and nothing is written.
+                    // A head that is held stays held, and nothing is written.
                     if fresh {
                         self.head = got;
                     }
@@ -138,8 +139,8 @@ impl Deficits {
         Ok(())
     }
 
-    /// Takes what was got at the input whose turn it is, by asking (fresh) or as its head, and answers whether it is passed. If not, the
-    /// turn moves on.
+    /// Takes what was got at the input whose turn it is, by asking (fresh) or as its head. Returns whether it is passed. If not, the turn
+    /// moves on.
     #[inline]
     fn settle(&mut self, got: Option<Packet>, fresh: bool) -> bool
         requires { fresh ≡ false → IsHead self.old got }
@@ -208,7 +209,7 @@ impl Deficits {
         None
     }
 
-    /// Looks at the head that is held at the input whose turn it is, and answers whether it is passed.
+    /// Looks at the head that is held at the input whose turn it is, and returns whether it is passed.
     #[inline]
     fn look_at_head<Q: Ask>(
         &mut self,
@@ -226,7 +227,7 @@ impl Deficits {
         self.visit(nodes, node, head, false)
     }
 
-    /// Looks at the input whose turn it is, where no head is held, by asking. It answers what was got and whether it is passed.
+    /// Asks the input whose turn it is, at which no head is held. Returns what was got, and whether it is passed.
     #[cycle(pull)]
     #[inline]
     fn look_by_asking<Q: Ask>(
@@ -244,9 +245,9 @@ impl Deficits {
         (got, self.visit(nodes, node, got, true))
     }
 
-    /// Passes over inputs from the one whose turn it is on, of so many at most, that are queues of which it is known that they have nothing, up
-    /// to one at which a head is held. It answers how many these are.
-    // It stands outside of the turn, so that heads which are held pay nothing for it.
+    /// Skips inputs, from the one whose turn it is on and `most` at most, that hold no head and whose queues are known to be empty. Records
+    /// a visit to each, and returns how many.
+    // A function of its own, so that a turn that looks at held heads pays nothing for it.
     #[inline(never)]
     fn pass_over_idle<Q: Ask>(&mut self, nodes: &mut Nodes, q: &Q, node: u16, most: u16) -> u16
         requires { MayGoOn Q.gives nodes.old q.now node self.old most }
@@ -262,8 +263,8 @@ impl Deficits {
         passed
     }
 
-    /// How many inputs from the one whose turn it is on, of so many at most and with none left out, are queues of which it is known that they
-    /// have nothing; and 0 where so few are left that they are sooner asked.
+    /// How many inputs, from the one whose turn it is on and `count` at most, are queues known to be empty, without a gap. It is 0 if so
+    /// few inputs are left that asking each is faster.
     #[inline]
     fn idle_ahead<Q: Ask>(&self, nodes: &Nodes, q: &Q, node: u16, count: u16) -> u16
         requires there { node < length nodes.now.inputs.items }
@@ -278,7 +279,7 @@ impl Deficits {
         nodes.idle_from(q, node, self.cursor, left)
     }
 
-    /// Passes over the input whose turn it is, where no head is held and it is known to be a queue that has nothing: it is visited as if it had
+    /// Skips the input whose turn it is, which holds no head and whose queue is known to be empty. Records the visit as if the queue had
     /// been asked.
     #[inline]
     fn pass_over<Q: Ask>(&mut self, nodes: &mut Nodes, q: &Q, node: u16)
@@ -290,7 +291,8 @@ impl Deficits {
         self.visit(nodes, node, None, true);
     }
 
-    // Takes what was got at the input whose turn it is, by asking (fresh) or as its head, records the visit, and answers whether it is passed.
+    // Takes what was got at the input whose turn it is, by asking (fresh) or as its head. Records the visit, and returns whether it is
+    // passed.
     #[inline]
     fn visit(&mut self, nodes: &mut Nodes, node: u16, got: Option<Packet>, fresh: bool) -> bool
         requires room { 1 ≤ nodes.old.log.spare }

@@ -16,7 +16,7 @@ impl Nodes {
     ghost use Rattle.clk_sched.specs.inside.Places.{AreWired, AllFit, IsAfter};
 
     /// The earliest moment, in ticks, from that of these nodes on, at which a pull could emit a packet from a node, as things stand. `None`
-    /// if neither the queues below the node nor its heads have a packet.
+    /// if no queue below the node is backlogged, and neither the node nor one below it holds a head.
     #[cycle(due)]
     fn due_at<B: Backlog>(&self, queues: &B, node: u16) -> Option<u64>
         requires there { node < length self.now.inputs.items }

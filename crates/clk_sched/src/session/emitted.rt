@@ -1,4 +1,4 @@
-//! What came out of a session at the device.
+//! The packets that a session emitted.
 
 ghost use Rattle.std.specs.Prelude.{◌≡◌, ◌+◌, ◌<◌, ◌≤◌, ◌^◌, ◌++◌, true, false, [], length, OnOk, IsOk};
 ghost use Rattle.std.specs.List.{cons_option};
@@ -7,7 +7,7 @@ ghost use Rattle.std.specs.Vec.{vec_len, vec_capacity};
 use clk_packet::Packet;
 use std::alloc::{AllocError, Global};
 
-/// The packets that came out, in order, where they are kept, and how many these are.
+/// The packets emitted, in order, if they are kept, and how many were emitted.
 #[derive(Drop)]
 pub struct Emitted {
     pub packets: Vec<Packet>,
@@ -16,7 +16,7 @@ pub struct Emitted {
 }
 
 impl Emitted {
-    /// Nothing came out so far. What does will be kept, or only counted.
+    /// Nothing was emitted so far. Emitted packets will be kept, or only counted.
     pub fn new(alloc: Global, keeps: bool) -> Emitted
         ensures packets { result.packets.items ≡ [] }
         ensures keeps { result.keeps ≡ keeps }
@@ -29,11 +29,11 @@ impl Emitted {
         }
     }
 
-    /// Makes room for so many packets more.
+    /// Makes room for so many more packets.
     ///
     /// # Errors
     ///
-    /// Where memory is refused, which isn't asked for where packets are only counted.
+    /// If an allocation fails. If packets are only counted, it allocates nothing.
     #[inline]
     pub fn reserve(&mut self, packets: usize) -> Result<(), AllocError>
         ensures room { OnOk result (self.new.keeps ≡ true → vec_len self.new.packets + packets ≤ vec_capacity self.new.packets) }
@@ -48,7 +48,7 @@ impl Emitted {
         Ok(())
     }
 
-    /// Adds what a pull gave.
+    /// Adds the packet that a pull emitted, if any.
     #[inline]
     pub fn add(&mut self, got: Option<Packet>)
         requires room { self.old.keeps ≡ true → vec_len self.old.packets < vec_capacity self.old.packets }

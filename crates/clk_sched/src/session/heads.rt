@@ -1,4 +1,4 @@
-//! What a session holds back.
+//! The packets that a session holds back.
 
 ghost use Rattle.std.specs.Prelude.{◌≡◌, IfOk, IsOkUnless};
 ghost use Rattle.clk_sched.specs.Tree.{Tree};
@@ -14,7 +14,7 @@ use std::alloc::Global;
 ///
 /// # Errors
 ///
-/// Fault 1.
+/// Fault 1 if an allocation fails.
 pub fn held_heads(alloc: Global, nodes: &Nodes) -> Result<Vec<Packet>, Fault>
     ensures packets { IfOk result (λ packets. (tree : Tree) → IsAfterRun tree nodes.now → packets.items ≡ heads tree nodes.now.log.items) }
     ensures fault { IsOkUnless result Fault.Memory }

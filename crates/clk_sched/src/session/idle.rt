@@ -1,19 +1,19 @@
-//! Inputs of a node that have nothing, as their visits are recorded.
+//! Visits to inputs of a node that gave nothing, recorded together.
 
 use crate::visit::Visit;
 
-/// Inputs of a node that follow one another, each of which was asked in a pull and gave nothing.
+/// Consecutive inputs of a node, each of which was visited in a pull and gave nothing.
 #[derive(Clone, Copy)]
 pub struct IdleInputs {
     /// The number of the pull, from 0.
     pub pull: u64,
-    /// Its counted moment, in ticks.
+    /// The counted moment of the pull, in ticks.
     pub moment: u64,
     /// The node.
     pub node: u16,
     /// The first of the inputs.
     pub first: u16,
-    /// How many they are.
+    /// How many inputs these are.
     pub count: u16,
 }
 
@@ -21,7 +21,7 @@ impl IdleInputs {
     ghost use Rattle.std.specs.Prelude.{◌≡◌, ◌<◌, ◌+◌, ◌^◌, None};
     ghost use Rattle.clk_sched.specs.Log.{asking};
 
-    /// The visit to the input at this place of them.
+    /// The visit to one of these inputs, by its place among them.
     #[inline]
     pub fn visit(&self, place: u16) -> Visit
         requires { self.now.first + place < 2 ^ 16 }

@@ -15,7 +15,7 @@ impl Input {
     ghost use Rattle.std.specs.Prelude.{◌↔◌, true};
     ghost use Rattle.clk_sched.specs.declared.session.inputs.Input.TheVariants.{Queue};
 
-    /// Whether it is the queue of this leaf.
+    /// Whether this is the queue of this leaf.
     fn is_queue(self, leaf: usize) -> bool
         ensures { result ≡ true ↔ self ≡ Queue leaf }
     {
@@ -33,13 +33,13 @@ pub struct Inputs {
     pub each: Vec<Input>,
     /// How many inputs the node and the schedulers below it have.
     pub edges: u16,
-    /// The leaf of the first, where all are queues whose leaves follow one another.
+    /// The leaf of the first input, if it is known that all inputs are queues with consecutive leaves.
     queues_from: Option<u16>,
     ghost follow: { IfSome queues_from (λ leaf. AreQueuesFrom leaf each.items) } by { Prim.hlevel props },
 }
 
 impl Inputs {
-    /// These inputs, of a node that has so many edges, those of the schedulers below it counted.
+    /// These inputs of a node. `edges` counts the inputs of the node and of the schedulers below it.
     pub fn new(each: Vec<Input>, edges: u16) -> Inputs
         ensures each { result.each ≡ each }
         ensures edges { result.edges ≡ edges }
@@ -52,7 +52,7 @@ impl Inputs {
         }
     }
 
-    /// The leaf of the first, where all are queues whose leaves follow one another.
+    /// The leaf of the first input, if it is known that all inputs are queues with consecutive leaves.
     #[inline]
     pub fn queues_from(&self) -> Option<u16>
         ensures { IfSome result (λ leaf. AreQueuesFrom leaf self.now.each.items) }
@@ -61,7 +61,7 @@ impl Inputs {
     }
 }
 
-/// The leaf of the first of these inputs, where all are queues whose leaves follow one another.
+/// The leaf of the first of these inputs, if it is known that all are queues with consecutive leaves.
 fn queues_from(each: &[Input]) -> Option<u16>
     ensures { IfSome result (λ leaf. AreQueuesFrom leaf each.now) }
 {

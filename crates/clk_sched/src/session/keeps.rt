@@ -1,12 +1,12 @@
 //! What a session keeps of the past.
 
-/// What a session keeps of the past, which takes memory as it goes on.
+/// What a session keeps of the past. This allocates as the session goes on.
 #[derive(Clone, Copy, Debug, PartialEq, Eq)]
 pub struct Keeps {
     /// Every visit, in a list that can be read at any time.
     pub visits: bool,
-    /// Every visit, packed: in seven tenths of that memory, to be read at the end (`Kernel::into_packed`).
+    /// Every visit, packed. This takes seven tenths of the memory of a list, and is read at the end (`Kernel::into_packed`).
     pub packed: bool,
-    /// Every packet that came out at the device.
+    /// Every packet emitted at the device.
     pub packets: bool,
 }

@@ -1,4 +1,4 @@
-//! What every session is: a tree that is pulled. What it keeps of the past is chosen when it is made.
+//! A session of any kind: a tree that is pulled. What it keeps of the past is chosen when it is made.
 
 use crate::ask::Ask;
 use crate::backlog::Backlog;
@@ -16,13 +16,13 @@ use clk_packet::{Fault, Packet};
 use std::alloc::Global;
 use std::marker::Model;
 
-/// A tree of schedulers with all that its nodes hold, and what is kept of the past. What is said of it is said of every visit that its
-/// nodes made, as of a `Session`, whether these are kept or not.
+/// A tree of schedulers with all that its nodes hold, and what is kept of the past. Contracts speak of every visit that its nodes made, as
+/// those of a `Session` do, whether visits are kept or not.
 #[derive(Drop)]
 pub struct Kernel {
     tree: Tree,
     nodes: Nodes,
-    // The packets that came out at the device: where they are kept nobody has to look for them in the log.
+    // The packets emitted at the device. If they are kept, nobody has to look for them in the log.
     emitted: Emitted,
 }
 
@@ -75,7 +75,7 @@ impl Kernel {
     ///
     /// # Errors
     ///
-    /// Fault 18 for a tree of more than 256 nodes and queues, the device counted; else fault 1 where memory is refused.
+    /// Fault 18 if the tree has more than 256 queues and schedulers, the device counted. Otherwise fault 1 if an allocation fails.
     pub fn new(alloc: Global, tree: Tree, keeps: Keeps) -> Result<Kernel, Fault>
         requires distinct { leaves_distinct tree ≡ true }
         ensures made { IfOk result (λ s. s ≡ record { tree = tree; log = []; keeps = keeps; gone = 0 }) }
@@ -90,11 +90,12 @@ impl Kernel {
         })
     }
 
-    /// Pulls the device once, at this moment in ticks, or, where that is later, at the greatest so far, and answers its result.
+    /// Pulls the device once, and returns the packet that it emitted, if any. A `moment`, in ticks, that is earlier than the latest so far
+    /// counts as that.
     ///
     /// # Errors
     ///
-    /// Fault 1 where memory is refused, which never comes where nothing is kept. Then nothing has changed.
+    /// Fault 1 if an allocation fails. Then nothing has changed. A session that keeps nothing never fails.
     pub fn pull<Q: Ask>(&mut self, q: &mut Q, moment: u64) -> Result<Option<Packet>, Fault>
         requires moment { moment < end_of_moments }
         requires pulls { IsEndless self.old → pulls_made (progress_of self.old) < end_of_pulls }
@@ -117,12 +118,12 @@ impl Kernel {
         Ok(got)
     }
 
-    /// Makes room for so many packets more, where packets are kept, and for as many visits, where these are kept packed: pulls that give
-    /// no more take no memory for packets.
+    /// Makes room for so many more packets, if packets are kept, and for as many visits, if these are kept packed. Pulls that emit no more
+    /// packets then allocate nothing for them.
     ///
     /// # Errors
     ///
-    /// Fault 1 where memory is refused.
+    /// Fault 1 if an allocation fails.
     pub fn reserve(&mut self, packets: usize) -> Result<(), Fault>
         ensures unchanged { self.new ≡ self.old }
         ensures fault { IsOkUnless result Fault.Memory }
@@ -132,14 +133,14 @@ impl Kernel {
         Ok(())
     }
 
-    /// Pulls the device, one tick apart and the first time one tick after the later of this moment and the greatest so far, until
-    /// `left` packets came out, 1,000,000 at most, and answers how often. With nothing left it pulls nothing.
+    /// Pulls the device until `left` packets, 1,000,000 at most, were emitted, and returns the number of pulls. The pulls are one tick
+    /// apart, the first one tick after the later of `moment` and the latest moment so far. If `left` is 0, it makes no pull.
     ///
     /// # Errors
     ///
-    /// Fault 1 where memory is refused, which never comes where nothing is kept, and fault 17 with the number of pulls after
-    /// `bound(left)` pulls that gave fewer packets. It then holds the pulls that were made. Fault 17 never comes where `q` loses
-    /// nothing, and its leaves of the tree hold, together with the heads, exactly `left` packets.
+    /// Fault 1 if an allocation fails, which never happens if nothing is kept. Fault 17, with the number of pulls, if `bound(left)` pulls
+    /// emitted fewer packets. The session then holds the pulls that were made. Fault 17 never comes if `q` loses nothing, and the heads and
+    /// the leaves of the tree together hold exactly `left` packets.
     pub fn drain<Q: Ask>(&mut self, q: &mut Q, left: u64, moment: u64) -> Result<u64, Fault>
         requires left { left ≤ most_left }
         requires moment { max (counted_moment (progress_of self.old)) moment < end_of_drains }
@@ -156,7 +157,7 @@ impl Kernel {
         self.drain_to(q, &mut Departures::Dropped, left, moment)
     }
 
-    // Drains it, and adds what comes out to the departures, where these are kept.
+    // Drains the device as `drain` does, and adds emitted packets to the departures, if these are kept.
     fn drain_to<Q: Ask>(
         &mut self,
         q: &mut Q,
@@ -177,7 +178,7 @@ impl Kernel {
         ensures gone { self.new.gone ≡ self.old.gone }
         ensures answers { Answers Q.gives (tree_queue self.old.tree) q.old (newly (progress_of self.old) (progress_of self.new)) q.new }
     {
-        // That the log is a run is known where a field is read.
+        // Reading a field brings the type invariant into scope: the log is a run.
         let _ = &self.nodes;
         let bound = self.bound(left);
         let start = self.now().max(moment);
@@ -198,13 +199,13 @@ impl Kernel {
         Ok(made)
     }
 
-    /// Drains it as a session is, and answers the packets that came out.
+    /// Drains the device as `drain` does, and returns the packets that it emitted, with their moments.
     ///
     /// # Errors
     ///
-    /// Fault 1 where memory is refused, and fault 17 with the number of pulls after `bound(left)` pulls that gave fewer packets. It then
-    /// holds the pulls that were made. Fault 17 never comes where `q` loses nothing, and its leaves of the tree hold, together with the
-    /// heads, exactly `left` packets.
+    /// Fault 1 if an allocation fails. Fault 17, with the number of pulls, if `bound(left)` pulls emitted fewer packets. The session then
+    /// holds the pulls that were made. Fault 17 never comes if `q` loses nothing, and the heads and the leaves of the tree together hold
+    /// exactly `left` packets.
     pub fn close<Q: Ask>(
         &mut self,
         alloc: Global,
@@ -231,26 +232,26 @@ impl Kernel {
         }
     }
 
-    /// How many pulls the closing is given where so many packets, 1,000,000 at most, are left in queues and heads.
+    /// How many pulls a drain of `left` packets, 1,000,000 at most, makes at most.
     pub fn bound(&self, left: u64) -> u64
         requires { left ≤ most_left }
         ensures value { result ≡ closing_bound self.now.tree left }
         ensures limit { result < 2 ^ 42 }
         ensures sound { IsSound (root self.now.tree) }
     {
-        // A law, which does nothing.
+        // This call does nothing: its contract is a law.
         self.tree.schedulers_are_sound();
         left * self.tree.pulls_per_packet()
     }
 
-    /// Lets go of the visits so far, which whoever needs them has read. Contracts speak of them still.
+    /// Drops the visits so far from memory. Contracts still speak of them.
     pub fn let_go(&mut self)
         ensures { self.new ≡ record { tree = self.old.tree; log = self.old.log; keeps = self.old.keeps; gone = length self.old.log } }
     {
         self.nodes.log.let_go();
     }
 
-    /// The visits that are kept as a list, in order: all but those that were let go of.
+    /// The visits that are kept as a list, in order: all but those that were dropped.
     pub fn log(&self) -> &[Visit]
         ensures visits { self.now.keeps.visits ≡ true → result.now ≡ drop self.now.gone self.now.log }
         ensures run { IsRun self.now.tree self.now.log }
@@ -259,7 +260,7 @@ impl Kernel {
         self.nodes.log.kept()
     }
 
-    /// The counted moment, in ticks: the greatest at which it was pulled, and 0 before the first pull.
+    /// The counted moment, in ticks: the latest at which the session was pulled, and 0 before the first pull.
     pub fn now(&self) -> u64
         ensures moment { result ≡ counted_moment (progress_of self.now) }
         ensures limit { result < end_of_moments }
@@ -274,25 +275,25 @@ impl Kernel {
         self.nodes.pull
     }
 
-    /// The packets that came out at the device, in order, where they are kept.
+    /// The packets emitted at the device, in order, if they are kept.
     pub fn as_emitted(&self) -> &[Packet]
         ensures { self.now.keeps.packets ≡ true → result.now ≡ emitted self.now.log }
     {
-        // That these came out is known where a field is read.
+        // Reading a field brings the type invariant into scope: what is kept is what was emitted.
         let _ = &self.nodes;
         self.emitted.packets.as_slice()
     }
 
-    /// How many packets came out at the device.
+    /// How many packets were emitted at the device.
     pub fn count_emitted(&self) -> u64
         ensures { result ≡ length (emitted self.now.log) }
     {
-        // That so many came out is known where a field is read.
+        // Reading a field brings the type invariant into scope: so many packets were emitted.
         let _ = &self.nodes;
         self.emitted.count
     }
 
-    /// What is kept of the visits, as a list, and of the packets that came out at the device, in order, without taking memory.
+    /// The visits that are kept as a list, and the packets emitted at the device that are kept, in order. Does not allocate.
     pub fn into_parts(self) -> (Vec<Visit>, Vec<Packet>)
         ensures log { self.keeps.visits ≡ true → result.0.items ≡ drop self.gone self.log }
         ensures emitted { self.keeps.packets ≡ true → result.1.items ≡ emitted self.log }
@@ -301,12 +302,12 @@ impl Kernel {
         (nodes.log.into_kept(), emitted.packets)
     }
 
-    /// The visits, where they are kept as a list or packed, and the packets that came out at the device, in order. Those that aren't kept
-    /// are told from the visits, where none of these was let go of.
+    /// The visits, if they are kept as a list or packed, and the packets emitted at the device, in order. Packets that aren't kept are read
+    /// off the visits, if visits are kept and none was dropped.
     ///
     /// # Errors
     ///
-    /// Fault 1 where memory is refused, for which no session asks that keeps the packets.
+    /// Fault 1 if an allocation fails. A session that keeps its packets allocates nothing, and never fails.
     pub fn into_packed(self, alloc: Global) -> Result<(PackedLog, Vec<Packet>), Fault>
         ensures log { IfOk result (λ parts. keeps_visits self.keeps ≡ true → logged parts.0 ≡ drop self.gone self.log) }
         ensures emitted { IfOk result (λ parts. self.keeps.packets ≡ true → parts.1.items ≡ emitted self.log) }
@@ -323,8 +324,8 @@ impl Kernel {
         Ok((log, packets))
     }
 
-    /// The earliest moment, in ticks, at which a pull could emit a packet, as things stand: the counted moment, or a later one if every packet
-    /// is below a Shaper that has no room for it yet. `None` if no queue of the tree is backlogged and no head is held.
+    /// The earliest moment, in ticks, at which a pull could emit a packet, as things stand. It is the counted moment, or a later one if
+    /// every packet is below a Shaper that has no room for it yet. `None` if no queue of the tree is backlogged and no head is held.
     pub fn due<B: Backlog>(&self, queues: &B) -> Option<u64>
         ensures due { IsDue (tree_could_emit self.now.tree self.now.log (B.backlogged queues.now)) (counted_moment (progress_of self.now)) result }
     {
@@ -336,7 +337,7 @@ impl Kernel {
     ///
     /// # Errors
     ///
-    /// Fault 1 where memory is refused.
+    /// Fault 1 if an allocation fails.
     pub fn held_heads(&self, alloc: Global) -> Result<Vec<Packet>, Fault>
         ensures packets { IfOk result (λ packets. packets.items ≡ heads self.now.tree self.now.log) }
         ensures fault { IsOkUnless result Fault.Memory }

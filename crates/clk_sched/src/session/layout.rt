@@ -33,18 +33,18 @@ struct Tables {
     states: Vec<State>,
 }
 
-/// The tables of a tree, before its first pull, with a log that keeps so much.
+/// Lays a tree out in tables, before its first pull, with a log that keeps what `keeps` says.
 ///
 /// # Errors
 ///
-/// Fault 18 where the tree has more than 256 queues and schedulers, the device counted, and fault 1.
+/// Fault 18 if the tree has more than 256 queues and schedulers, the device counted. Otherwise fault 1 if an allocation fails.
 pub fn lay_out(alloc: Global, tree: &Tree, keeps: Keeps) -> Result<Nodes, Fault>
     ensures laid_out { IfOk result (λ n. IsLaidOut tree.now n) }
     ensures kind { IfOk result (λ n. n.log.kind ≡ record { keeps = keeps.visits; packs = keeps.packed; gone = 0 }) }
     ensures fits { IfOk result (λ n. 1 + elements (root tree.now) ≤ most_elements) }
     ensures refused { IfErr result (λ fault. IsRefused tree.now fault) }
 {
-    // That the tree is well formed is known where a field of it is read.
+    // Reading a field of the tree brings the type invariant into scope: the tree is well formed.
     let _ = &tree.node;
     if room_after(tree, MAX_ELEMENTS - 1).is_none() {
         return Err(Fault::TooLarge);
@@ -64,7 +64,7 @@ pub fn lay_out(alloc: Global, tree: &Tree, keeps: Keeps) -> Result<Nodes, Fault>
     })
 }
 
-/// What is left of room for so many queues and schedulers after those of a tree, if they have room.
+/// What is left of room for so many queues and schedulers after those of a tree, or `None` if these are too many.
 #[cycle(room)]
 fn room_after(tree: &Tree, room: u16) -> Option<u16>
     ensures { MatchOption result (room < elements_of tree.now) (λ left. left + elements_of tree.now ≡ room) }
@@ -76,7 +76,7 @@ fn room_after(tree: &Tree, room: u16) -> Option<u16>
     }
 }
 
-/// What is left of room for so many queues and schedulers after those of these trees, if they have room.
+/// What is left of room for so many queues and schedulers after those of these trees, or `None` if these are too many.
 #[cycle(room)]
 fn room_after_each(trees: &[Tree], room: u16) -> Option<u16>
     ensures { MatchOption result (room < elements (row trees.now)) (λ left. left + elements (row trees.now) ≡ room) }
@@ -87,7 +87,7 @@ fn room_after_each(trees: &[Tree], room: u16) -> Option<u16>
     room_after_each(rest, room_after(first, room)?)
 }
 
-/// Lays a tree out, and answers what stands for it at an input, and how many edges there are to it and below.
+/// Lays a tree out. Returns what stands for it at an input, and how many edges there are to it and below.
 #[cycle(lay)]
 fn lay(alloc: Global, tables: &mut Tables, tree: &Tree) -> Result<(Input, u16), AllocError>
     requires room { length tables.old.inputs.items + elements_of tree.now ≤ most_elements }
@@ -120,8 +120,7 @@ fn first_state(alloc: Global, class: &Class) -> Result<State, AllocError>
     }
 }
 
-/// Adds a node that holds this, and stands over these trees, and lays them out after it. It answers how many edges there are
-/// from the node and below.
+/// Adds a node with this state over these trees, and lays the trees out after it. Returns how many edges there are from the node and below.
 #[cycle(lay)]
 fn lay_node(
     alloc: Global,
@@ -143,7 +142,7 @@ fn lay_node(
     Ok(edges)
 }
 
-/// Lays these trees out, and adds what stands for them to the inputs of a node. It answers how many edges there are to them and below.
+/// Lays these trees out, and adds what stands for each to the inputs of a node. Returns how many edges there are to them and below.
 #[cycle(lay)]
 fn lay_inputs(
     alloc: Global,

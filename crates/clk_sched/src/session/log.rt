@@ -13,7 +13,7 @@ use crate::visit::Visit;
 use std::alloc::{AllocError, Global};
 use std::marker::Model;
 
-/// Every visit so far, in order. One that keeps none takes no memory, and its visits stand in contracts alone.
+/// Every visit so far, in order. In a log that keeps no visits they are ghost state and take no memory.
 #[derive(Drop)]
 pub struct Log {
     kept: Vec<Visit>,
@@ -43,7 +43,7 @@ impl Log {
     ghost use Rattle.clk_sched.specs.Packed.{logged};
     ghost use Rattle.clk_sched.specs.inside.Logged.{with_visit, with_idle, with_room, with_none};
 
-    /// No visits so far, of which each will be kept, as a list or packed, or none.
+    /// No visits so far. Visits will be kept as a list, packed, or not at all.
     pub fn new(alloc: Global, keeps: Keeps) -> Log
         ensures { result ≡ record { items = []; spare = 0; kind = record { keeps = keeps.visits; packs = keeps.packed; gone = 0 } } }
     {
@@ -56,11 +56,11 @@ impl Log {
         }
     }
 
-    /// Makes room for so many visits more.
+    /// Makes room for so many more visits.
     ///
     /// # Errors
     ///
-    /// Where memory is refused, which a log that keeps none doesn't ask for.
+    /// If an allocation fails. A log that keeps no visits allocates nothing.
     #[inline]
     pub fn reserve(&mut self, visits: usize) -> Result<(), AllocError>
         ensures ready { OnOk result (self.new ≡ with_room self.old visits) }
@@ -74,11 +74,11 @@ impl Log {
         Ok(())
     }
 
-    /// Takes memory for so many visits more, where they are kept packed. Nothing that is seen changes: room for a pull is made by `reserve`.
+    /// Allocates memory for so many more visits, if they are kept packed. Contracts see no change: `reserve` makes room for a pull.
     ///
     /// # Errors
     ///
-    /// Where memory is refused.
+    /// If an allocation fails.
     pub fn reserve_packed(&mut self, visits: usize) -> Result<(), AllocError>
         ensures { self.new ≡ self.old }
     {
@@ -115,7 +115,7 @@ impl Log {
         self.all.push_idle(idle);
     }
 
-    /// Lets go of the visits so far, and keeps the memory that they took for those to come.
+    /// Drops the visits so far, and keeps their memory for those to come.
     pub fn let_go(&mut self)
         ensures { self.new ≡ with_none self.old }
     {
@@ -124,14 +124,14 @@ impl Log {
         self.all.let_go();
     }
 
-    /// The visits that are kept as a list.
+    /// The visits that are kept as a list, in order.
     pub fn kept(&self) -> &[Visit]
         ensures { self.now.kind.keeps ≡ true → result.now ≡ drop self.now.kind.gone self.now.items }
     {
         self.kept.as_slice()
     }
 
-    /// The same, without taking memory.
+    /// The visits that are kept as a list, in order. Does not allocate.
     pub fn into_kept(self) -> Vec<Visit>
         ensures { self.kind.keeps ≡ true → result.items ≡ drop self.kind.gone self.items }
     {
@@ -139,7 +139,7 @@ impl Log {
         kept
     }
 
-    /// The visits that are kept, packed where they are kept so, without taking memory.
+    /// The visits that are kept, in order, packed if they are kept packed. Does not allocate.
     pub fn into_packed(self, alloc: Global) -> PackedLog
         ensures { self.kind.keeps || self.kind.packs ≡ true → logged result ≡ drop self.kind.gone self.items }
     {
@@ -156,7 +156,7 @@ impl Log {
     }
 }
 
-/// Makes room for so many visits more in a list, where visits are kept so.
+/// Makes room for so many more visits in a list, if visits are kept as a list.
 #[inline]
 fn reserve_kept(kept: &mut Vec<Visit>, keeps: bool, visits: usize) -> Result<(), AllocError>
     ensures room { OnOk result (keeps ≡ true → vec_len kept.new + visits ≤ vec_capacity kept.new) }
@@ -171,7 +171,7 @@ fn reserve_kept(kept: &mut Vec<Visit>, keeps: bool, visits: usize) -> Result<(),
     kept.reserve(visits)
 }
 
-/// The same, where visits are kept packed.
+/// Makes room for so many more visits in a packed log, if visits are kept packed.
 #[inline]
 fn reserve_packed(packed: &mut PackedLog, packs: bool, visits: usize) -> Result<(), AllocError>
     ensures room { OnOk result (packs ≡ true → HasRoomFor visits packed.new) }
@@ -186,7 +186,7 @@ fn reserve_packed(packed: &mut PackedLog, packs: bool, visits: usize) -> Result<
     packed.reserve(visits)
 }
 
-/// Adds a visit to a list, where visits are kept so.
+/// Adds a visit to a list, if visits are kept as a list.
 #[inline]
 fn keep(kept: &mut Vec<Visit>, keeps: bool, visit: Visit)
     requires { keeps ≡ true → vec_len kept.old < vec_capacity kept.old }
@@ -199,7 +199,7 @@ fn keep(kept: &mut Vec<Visit>, keeps: bool, visit: Visit)
     }
 }
 
-/// The same, where visits are kept packed.
+/// Adds a visit to a packed log, if visits are kept packed.
 #[inline]
 fn pack(packed: &mut PackedLog, packs: bool, visit: Visit)
     requires { packs ≡ true → HasRoomFor 1 packed.old }

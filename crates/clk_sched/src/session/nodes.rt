@@ -14,7 +14,7 @@ use crate::visit::Visit;
 use clk_packet::Packet;
 use std::mem::{forget, replace};
 
-/// From how many inputs on it takes less to look for those that have nothing than to ask each. Whether all have nothing is looked for at any
+/// From this number of inputs on, looking for empty ones is faster than asking each. Whether all inputs are empty is looked up for any
 /// number.
 pub const MANY: u16 = 8;
 
@@ -23,13 +23,13 @@ pub const MANY: u16 = 8;
 pub struct Nodes {
     /// The inputs of each node.
     pub inputs: Vec<Inputs>,
-    /// What each node holds from pull to pull. While a node has its turn whose state is taken out, `Prio` stands in its place.
+    /// What each node holds from pull to pull. While a state is taken out for a node's turn, `Prio` stands in its place.
     pub states: Vec<State>,
     /// Every visit so far, in order.
     pub log: Log,
     /// The number of the pull, from 0.
     pub pull: u64,
-    /// Its counted moment, in ticks.
+    /// The counted moment of the pull, in ticks.
     pub moment: u64,
 }
 
@@ -47,7 +47,7 @@ impl Nodes {
     ghost use Rattle.clk_sched.specs.inside.Ranks.{AreInOrder, inputs_in};
     ghost use Rattle.clk_sched.specs.inside.Turning.{with_state, with_idle_at, HasAsked, HasAskedAll, IsIdle, AreIdle, WasPulled};
 
-    /// Pulls a node, as its class does, and answers its result.
+    /// Pulls a node, as its class does, and returns its result.
     #[cycle(pull)]
     #[inline(never)]
     pub fn pull<Q: Ask>(&mut self, q: &mut Q, node: u16) -> Option<Packet>
@@ -79,11 +79,11 @@ impl Nodes {
         requires { node < length self.old.states.items }
         ensures { self.new ≡ with_state self.old node state }
     {
-        // What stands there meanwhile holds nothing to let go of.
+        // What stands there meanwhile owns nothing to drop.
         forget(replace(&mut self.states[node as usize], state));
     }
 
-    /// Asks inputs of a node in this order until one gives a packet, and answers its place in the order and the packet.
+    /// Asks inputs of a node in this order until one gives a packet, and returns its place in the order and the packet.
     #[cycle(pull)]
     #[inline(never)]
     pub fn ask_in_order<Q: Ask>(
@@ -109,9 +109,8 @@ impl Nodes {
         None
     }
 
-    /// Passes over the first of these inputs of a node, as far as they have one pass, their numbers follow one another and they are queues
-    /// of which it is known that they have nothing: each visit is recorded. It answers how many these are, and 0 where they are so few that
-    /// they are sooner asked.
+    /// Skips the longest run of consecutive, equal-pass inputs, from the first of these on, whose queues are known to be empty. Records a
+    /// visit to each, and returns how many. It is 0 if they are so few that asking each is faster.
     #[inline]
     fn pass_idle_of<Q: Ask>(&mut self, q: &Q, node: u16, order: &[Rank]) -> usize
         requires can_pull { CanPull self.old node (edges_in self.old.inputs.items node (inputs_in order.now)) }
@@ -123,7 +122,7 @@ impl Nodes {
         if order.len() < usize::from(MANY) {
             return 0;
         }
-        // Where the last of so many doesn't stand so far behind the first, they don't follow one another.
+        // `MANY` consecutive inputs end `MANY` - 1 behind the first.
         let first = order[0].input;
         let last = order[usize::from(MANY) - 1].input;
         if usize::from(last) != usize::from(first) + usize::from(MANY) - 1 {
@@ -136,7 +135,7 @@ impl Nodes {
         count
     }
 
-    /// Asks so many inputs of a node from the first on until one gives a packet, and answers its place and the packet.
+    /// Asks `count` inputs of a node, from `first` on, until one gives a packet. Returns its place among them and the packet.
     #[cycle(pull)]
     pub fn ask_in_turn<Q: Ask>(
         &mut self,
@@ -162,8 +161,8 @@ impl Nodes {
         None
     }
 
-    /// Passes over inputs of a node from this one on, so many at most, that are queues of which it is known that they have nothing: each
-    /// visit is recorded. It answers how many these are, and 0 where so few are left that they are sooner asked.
+    /// Skips inputs of a node, from `first` on and `count` at most, whose queues are known to be empty. Records a visit to each, and
+    /// returns how many. It is 0 if so few inputs are left that asking each is faster.
     #[inline]
     fn pass_idle<Q: Ask>(&mut self, q: &Q, node: u16, first: u16, count: u16) -> u16
         requires can_pull { CanPull self.old node (edges_in self.old.inputs.items node (range_with_len first count)) }
@@ -178,7 +177,8 @@ impl Nodes {
         self.pass_idle_queues(q, node, first, count)
     }
 
-    /// The same, however few are left.
+    /// Skips inputs of a node, from `first` on and `count` at most, whose queues are known to be empty, however few are left. Records a
+    /// visit to each, and returns how many.
     #[inline(never)]
     fn pass_idle_queues<Q: Ask>(&mut self, q: &Q, node: u16, first: u16, count: u16) -> u16
         requires can_pull { CanPull self.old node (edges_in self.old.inputs.items node (range_with_len first count)) }
@@ -192,8 +192,7 @@ impl Nodes {
         idle
     }
 
-    /// How many inputs of a node from this one on, of so many at most and with none left out, are queues of which it is known that they
-    /// have nothing.
+    /// How many inputs of a node, from `first` on and `count` at most, are queues known to be empty, without a gap.
     #[inline]
     pub fn idle_from<Q: Ask>(&self, q: &Q, node: u16, first: u16, count: u16) -> u16
         requires there { node < length self.now.inputs.items }
@@ -207,7 +206,7 @@ impl Nodes {
         }
     }
 
-    /// Whether all inputs of a node are queues of which it is known that they have nothing.
+    /// Whether all inputs of a node are queues known to be empty.
     #[inline]
     pub fn are_idle<Q: Ask>(&self, q: &Q, node: u16) -> bool
         requires { CanPull self.now node (edges_of self.now.inputs.items node) }
@@ -217,7 +216,7 @@ impl Nodes {
         self.idle_from(q, node, 0, count) == count
     }
 
-    /// Asks what stands at an input of a node, and records the visit.
+    /// Asks what stands at an input of a node, records the visit, and returns what it got.
     #[cycle(pull)]
     #[inline]
     pub fn look<Q: Ask>(&mut self, q: &mut Q, node: u16, input: u16) -> Option<Packet>
@@ -240,7 +239,7 @@ impl Nodes {
             .push(Visit::asking(self.pull, self.moment, node, input, got));
     }
 
-    /// Records that so many inputs of a node from this one on were asked, and gave nothing.
+    /// Records that `count` inputs of a node, from `first` on, were asked and gave nothing.
     #[inline]
     pub fn record_idle(&mut self, node: u16, first: u16, count: u16)
         requires room { count ≤ self.old.log.spare }

@@ -11,7 +11,7 @@ use crate::visit::Visit;
 use clk_packet::{Fault, Packet};
 use std::alloc::{AllocError, Global};
 
-/// A visit whose pull and whose moment are below 2^32: it takes 28 bytes, and a `Visit` takes 40.
+/// A visit whose pull and moment are below 2^32. It takes 28 bytes, and a `Visit` takes 40.
 // The fields stand by size, as a visit's do.
 #[derive(Clone, Copy, Debug, PartialEq, Eq)]
 pub struct PackedVisit {
@@ -44,7 +44,7 @@ impl PackedVisit {
         })
     }
 
-    /// The visit itself.
+    /// The visit, unpacked.
     #[inline]
     pub fn unpack(&self) -> Visit
         ensures { result ≡ unpacked self.now }
@@ -61,8 +61,8 @@ impl PackedVisit {
     }
 }
 
-/// A log of visits, in order: those that are packed, and then the others. One that a session keeps packed has all packed up to the first
-/// whose pull or moment is 2^32 or more; that one and those behind it aren't.
+/// A log of visits, in order: those that are packed, and then the others. In a log that a session keeps packed, all visits are packed up to
+/// the first whose pull or moment is 2^32 or more. That one and those behind it aren't packed.
 #[derive(Drop)]
 pub struct PackedLog {
     packed: Vec<PackedVisit>,
@@ -87,11 +87,11 @@ impl PackedLog {
         }
     }
 
-    /// Makes room for so many visits more, whether they can be packed or not: which of the two lists takes them isn't known yet.
+    /// Makes room for so many more visits, whether they can be packed or not: which of the two lists will take them isn't known yet.
     ///
     /// # Errors
     ///
-    /// Where memory is refused.
+    /// If an allocation fails.
     #[inline]
     pub(crate) fn reserve(&mut self, visits: usize) -> Result<(), AllocError>
         ensures room { OnOk result (HasRoomFor visits self.new) }
@@ -100,15 +100,15 @@ impl PackedLog {
         ensures no_less { (n : ℕ) → HasRoomFor n self.old → HasRoomFor n self.new }
     {
         self.rest.reserve(visits)?;
-        // So that both together can be counted.
+        // So that the length of both lists together can't overflow.
         self.packed.reserve(self.rest.len() + visits)
     }
 
-    /// Makes room for so many visits more, as long as they can be packed.
+    /// Makes room for so many more visits, as long as they can be packed.
     ///
     /// # Errors
     ///
-    /// Where memory is refused.
+    /// If an allocation fails.
     pub(crate) fn reserve_packed(&mut self, visits: usize) -> Result<(), AllocError>
         ensures visits { logged self.new ≡ logged self.old }
         ensures no_less { (n : ℕ) → HasRoomFor n self.old → HasRoomFor n self.new }
@@ -144,7 +144,7 @@ impl PackedLog {
         }
     }
 
-    /// Lets go of all visits, and keeps the memory that they took.
+    /// Drops all visits, and keeps their memory.
     pub(crate) fn clear(&mut self)
         ensures visits { logged self.new ≡ [] }
         ensures room { (n : ℕ) → HasRoomFor n self.old → HasRoomFor n self.new }
@@ -160,11 +160,11 @@ impl PackedLog {
         (self.packed.as_slice(), self.rest.as_slice())
     }
 
-    /// The packets that came out at the device, in order, of the log of a session.
+    /// The packets that a session with this log emitted at the device, in order.
     ///
     /// # Errors
     ///
-    /// Fault 1 where memory is refused.
+    /// Fault 1 if an allocation fails.
     pub fn emitted(&self, alloc: Global) -> Result<Vec<Packet>, Fault>
         ensures packets { IfOk result (λ packets. packets.items ≡ emitted (logged self.now)) }
         ensures fault { IsOkUnless result Fault.Memory }
@@ -179,11 +179,11 @@ impl PackedLog {
         Ok(packets)
     }
 
-    /// The visits as a list. Takes memory where some are packed.
+    /// The visits as a list. Allocates if some are packed.
     ///
     /// # Errors
     ///
-    /// Fault 1 where memory is refused.
+    /// Fault 1 if an allocation fails.
     pub fn into_vec(self, alloc: Global) -> Result<Vec<Visit>, Fault>
         ensures visits { IfOk result (λ visits. visits.items ≡ logged self) }
         ensures fault { IsOkUnless result Fault.Memory }
@@ -201,7 +201,7 @@ impl PackedLog {
     }
 }
 
-/// Adds the packet that came out at the device by this visit, if one did.
+/// Adds the packet that this visit emitted at the device, if any.
 fn add_emitted(packets: &mut Vec<Packet>, visit: &Visit) -> Result<(), Fault>
     ensures added { OnOk result (packets.new.items ≡ packets.old.items ++ emitted (visit.now ∷ [])) }
     ensures fault { IsOkUnless result Fault.Memory }

@@ -39,7 +39,7 @@ impl Beginning {
         got
     }
 
-    // Visits all inputs of a RoundRobinSched, which are queues that have nothing, as if each had been asked.
+    // Records a visit to each input of a RoundRobinSched, as if it had been asked. All are queues known to be empty.
     #[inline]
     fn pass_all<Q: Ask>(nodes: &mut Nodes, q: &Q, node: u16)
         requires can_pull { CanPull nodes.old node (edges_of nodes.old.inputs.items node) }

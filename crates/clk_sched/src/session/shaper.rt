@@ -13,8 +13,9 @@ use clk_packet::Packet;
 /// The bucket of a Shaper: it fills by `rate` tokens a tick, and holds `burst` at most.
 #[derive(Clone, Copy, Debug)]
 pub struct Bucket {
-    // The moment of the last filling, in ticks, and the tokens that it left.
+    // The moment of the last filling, in ticks.
     filled: u64,
+    // How many tokens there were after it.
     tokens: u32,
     rate: u32,
     burst: u32,
@@ -52,7 +53,7 @@ impl Bucket {
         }
     }
 
-    /// Takes one of the tokens at this moment, in ticks, for a packet that is to pass, and answers whether there was one.
+    /// Takes one of the tokens at this moment, in ticks, for a packet that is to pass. Returns whether there was one.
     #[inline]
     pub fn take(&mut self, moment: u64) -> bool
         requires { moment < end_of_moments }
@@ -68,7 +69,7 @@ impl Bucket {
         true
     }
 
-    /// Gives the token back that was taken last, since no packet came.
+    /// Gives back the token that was taken last, since no packet came.
     pub fn give_back(&mut self)
         ensures { IsGivenBack self.old self.new }
     {
@@ -89,7 +90,7 @@ impl Bucket {
         }
     }
 
-    /// The tokens at this moment, in ticks: what doesn't fit is lost. With one at least there is room for a packet.
+    /// The tokens at this moment, in ticks, `burst` at most. There is room for a packet if there is at least one.
     #[inline]
     fn tokens_at(&self, moment: u64) -> u32
         requires { moment < end_of_moments }
@@ -101,9 +102,9 @@ impl Bucket {
         tokens as u32
     }
 
-    /// Pulls a Shaper, which asks for a packet with a token alone.
-    // Its bucket stays in its place: nothing of it is needed while the input is asked. Shapers one below another are gone down and up in
-    // loops: a processor doesn't foresee the returns of as many calls.
+    /// Pulls a Shaper, which asks its input only if it has a token.
+    // The bucket stays in its place, since nothing of it is needed while the input is asked. A chain of Shapers, one below another, is
+    // walked down and up in loops: a processor mispredicts the returns of as many nested calls.
     #[cycle(pull)]
     #[inline(never)]
     pub fn pull<Q: Ask>(nodes: &mut Nodes, q: &mut Q, node: u16) -> Option<Packet>
@@ -122,8 +123,8 @@ impl Bucket {
         got
     }
 
-    // Takes a token of this Shaper and of those one below another from it on, up to the first that has none. Answers the last that was
-    // tried, and whether it had one.
+    // Takes a token of this Shaper and of each below it in a chain, up to the first that has none. Returns the last that was tried, and
+    // whether it had one.
     #[inline]
     fn take_down(nodes: &mut Nodes, node: u16) -> (u16, bool)
         requires can_pull { CanPull nodes.old node (edges_of nodes.old.inputs.items node) }
@@ -132,7 +133,7 @@ impl Bucket {
     {
         let mut last = node;
         let mut token = Bucket::take_at(nodes, last);
-        // The number of the next is counted, so that a processor goes down without waiting for what stands at each.
+        // The number of the next Shaper is counted, so that a processor goes down without waiting to read what stands at each input.
         while token && Bucket::leads_on(nodes, last) {
             last += 1;
             token = Bucket::take_at(nodes, last);
@@ -140,7 +141,7 @@ impl Bucket {
         (last, token)
     }
 
-    // Whether at the input of a node stands a Shaper whose number follows that of the node.
+    // Whether the input of a node is a Shaper whose number follows that of the node.
     #[inline]
     fn leads_on(nodes: &Nodes, node: u16) -> bool
         requires can_pull { CanPull nodes.now node (edges_at nodes.now.inputs.items node 0) }
@@ -157,7 +158,7 @@ impl Bucket {
         }
     }
 
-    // Records what a Shaper got, and gives its token back where that is nothing.
+    // Records what a Shaper got, and gives its token back if it got nothing.
     #[inline]
     fn answer_at(nodes: &mut Nodes, node: u16, got: Option<Packet>)
         requires there { node < length nodes.old.states.items }
@@ -170,7 +171,7 @@ impl Bucket {
         }
     }
 
-    // The same for those from the one before `last` up to the first.
+    // Records what each Shaper from the one before `last` up to `first` got, and gives its token back if it got nothing.
     #[inline]
     fn answer_up(nodes: &mut Nodes, first: u16, last: u16, got: Option<Packet>)
         requires order { first ≤ last }
@@ -184,7 +185,7 @@ impl Bucket {
         }
     }
 
-    // Takes a token out of the bucket of a Shaper, and answers whether there was one.
+    // Takes a token out of the bucket of a Shaper, and returns whether there was one.
     #[inline]
     fn take_at(nodes: &mut Nodes, node: u16) -> bool
         requires there { node < length nodes.old.states.items }
@@ -199,7 +200,7 @@ impl Bucket {
         }
     }
 
-    // Gives the token back that was taken last from the bucket of a Shaper.
+    // Gives back the token that was taken last from the bucket of a Shaper.
     #[inline]
     fn give_back_at(nodes: &mut Nodes, node: u16)
         requires { node < length nodes.old.states.items }

@@ -24,7 +24,7 @@ impl State {
     ghost use Rattle.clk_sched.specs.inside.Due.{OpensAt, HoldsHead};
     ghost use Rattle.clk_sched.specs.declared.session.state.State.TheVariants.{Prio};
 
-    /// Whether it is that of a PrioSched, which holds nothing.
+    /// Whether this is the state of a PrioSched, which holds nothing.
     pub fn is_prio(&self) -> bool
         ensures { result ≡ true ↔ self.now ≡ Prio }
     {

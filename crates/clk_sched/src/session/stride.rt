@@ -17,10 +17,10 @@ use std::alloc::{AllocError, Global};
 /// The stride of one ticket.
 const GREATEST_STRIDE: u32 = 65_536;
 
-/// The pass from which on the least is taken from all.
+/// Once the least pass is this large, it is subtracted from all passes.
 const FAR: u32 = 1_073_741_824;
 
-/// An input with its pass, less what was taken from all.
+/// An input with its pass, less what was subtracted from all passes.
 #[derive(Clone, Copy, Debug, Default, PartialEq, Eq)]
 pub struct Rank {
     pub pass: u32,
@@ -28,7 +28,7 @@ pub struct Rank {
 }
 
 impl Rank {
-    /// Whether this rank stands before another by (pass, index), or is the same.
+    /// Whether this rank stands before another by (pass, index), or is equal to it.
     // The other is looked at where it stands, field by field: a processor waits for a rank that was just written and is read as a whole.
     fn is_up_to(self, other: &Rank) -> bool
         ensures { result ≡ is_up_to self other.now }
@@ -47,8 +47,8 @@ impl Rank {
     }
 }
 
-/// The inputs of a StrideSched in rising order of (pass, index), with the stride of each. No pass is more than 65,536 above the least, which
-/// isn't far between pulls.
+/// The inputs of a StrideSched in rising order of (pass, index), with the stride of each. No pass is more than 65,536 above the least,
+/// which is below `FAR` between pulls.
 #[derive(Drop)]
 pub struct Passes {
     row: SmallVec<Rank, 2>,
@@ -69,7 +69,7 @@ impl Passes {
     ///
     /// # Errors
     ///
-    /// Where the allocator refuses memory.
+    /// If an allocation fails.
     pub fn new(alloc: Global, tickets: &[u32]) -> Result<Passes, AllocError>
         requires inputs { length tickets.now ≤ most_inputs }
         requires tickets { AllByRecursion (λ n. (1 ≤ n) × (n ≤ most_tickets)) tickets.now }
@@ -88,8 +88,8 @@ impl Passes {
         self.row.as_slice()
     }
 
-    /// Gives the input at this place of the row, which gave a packet, its stride, and those before it, which had none, the
-    /// pass that it had.
+    /// Adds its stride to the pass of the input at this place of the row, which gave a packet. The inputs before it, which had none, get
+    /// the pass that it had.
     fn won(&mut self, place: usize)
         requires place { place < length self.old.row.items }
         requires order { AreInOrder self.old.row.items }
@@ -151,7 +151,7 @@ impl Passes {
     }
 }
 
-/// How many of these ranks, which are in order, have one pass and inputs that follow one another, from the first on.
+/// How many of these ranks, from the first on, have one pass and consecutive inputs. The ranks are in order.
 #[inline]
 pub fn following(ranks: &[Rank]) -> usize
     requires { AreInOrder ranks.now }
@@ -165,7 +165,7 @@ pub fn following(ranks: &[Rank]) -> usize
     count_following(ranks)
 }
 
-/// The same, by halves.
+/// How many of these ranks, from the first on, have one pass and consecutive inputs, by binary search. The ranks are in order.
 #[inline(never)]
 fn count_following(ranks: &[Rank]) -> usize
     requires { AreInOrder ranks.now }
@@ -185,7 +185,7 @@ fn count_following(ranks: &[Rank]) -> usize
     count
 }
 
-/// Whether these ranks, which are in order, have one pass and inputs that follow one another: the first and the last tell.
+/// Whether these ranks, which are in order, have one pass and consecutive inputs. The first and the last tell.
 #[inline]
 fn follow_one_another(ranks: &[Rank]) -> bool
     requires { AreInOrder ranks.now }
@@ -237,7 +237,7 @@ fn place_visited(row: &mut [Rank], place: usize, pass: u32, stride: u32)
     if place == 0 {
         return;
     }
-    // Where they had one pass, as mostly, they keep their order.
+    // If they had one pass, as they mostly do, they keep their order.
     if has_one_pass(&row[..place]) {
         give_pass(&mut row[..place], pass);
         merge(row, place);
@@ -317,9 +317,10 @@ fn put(row: &mut [Rank], from: usize, rank: Rank)
     }
 }
 
-/// The same as `put` where this other rank stands after the place. Gives the one that stands at the place then.
-// Most stay where they are: those that had no packet are in order already. The other is handed in: a processor waits for a rank that was
-// just written and is read.
+/// Takes out the rank at a place, and puts this one among those after it, which are in order. `next` is the first of these. Returns the
+/// rank that then stands at the place.
+// Most ranks stay where they are: those that had no packet are in order already. `next` is handed in, since a processor waits for a rank
+// that was just written and is read.
 #[inline]
 fn put_before(row: &mut [Rank], from: usize, rank: Rank, next: Rank) -> Rank
     requires { slice_get row.old (from + 1) ≡ Some next }
@@ -345,7 +346,8 @@ fn is_first(rank: Rank, others: &[Rank]) -> bool
     }
 }
 
-/// The same as `put`: those after it that stand before this one move a place to the front.
+/// Takes out the rank at a place, and puts this one among those after it, which are in order. Those that stand before it move a place to
+/// the front.
 #[inline(never)]
 fn put_behind(row: &mut [Rank], from: usize, rank: Rank)
     requires { from < length row.old }
@@ -369,7 +371,7 @@ fn count_before(rank: Rank, others: &[Rank]) -> usize
     others.len()
 }
 
-/// Takes the first pass, which is the least, from all once it is far, so that no pass grows with the number of pulls.
+/// Subtracts the first pass, which is the least, from all passes once it is `FAR`, so that no pass grows with the number of pulls.
 fn bring_near(row: &mut [Rank])
     requires some { 0 < length row.old }
     requires least { All (λ rank. first_pass row.old ≤ rank.pass) row.old }

@@ -1,4 +1,4 @@
-//! How many pulls the closing of a tree is given.
+//! How many pulls a drain of a tree makes at most.
 
 ghost use Rattle.std.specs.Prelude.{◌≡◌, ◌+◌, ◌*◌, ◌<◌, ◌≤◌, ◌^◌, ℕ};
 ghost use Rattle.clk_sched.specs.Tree.{root, IsSound};
@@ -17,19 +17,19 @@ impl Tree {
     pub fn schedulers_are_sound(&self)
         ensures { IsSound (root self.now) }
     {
-        // That the tree is well formed is known where a field is read.
+        // Reading a field brings the type invariant into scope: the tree is well formed.
         let _ = &self.node;
     }
 
-    /// A law: the closing of a tree is given fewer than 2^42 pulls, where 1,000,000 packets are left at most.
+    /// A law: the closing bound is below 2^42 for 1,000,000 packets at most.
     pub fn closing_bound_is_low(&self)
         ensures { (left : ℕ) → left ≤ most_left → closing_bound self.now left < 2 ^ 42 }
     {
-        // Reading a field brings the invariant into scope, which limits the height and the quanta.
+        // Reading a field brings the type invariant into scope, which limits the height and the quanta.
         let _ = &self.node;
     }
 
-    /// How many pulls the closing gives for each packet that is left.
+    /// How many pulls the closing bound has for each packet that is left.
     pub(crate) fn pulls_per_packet(&self) -> u64
         ensures value { (left : ℕ) → closing_bound self.now left ≡ left * result }
         ensures limit { result ≤ (most_levels + 1) * (most_length + 1) }
@@ -38,12 +38,12 @@ impl Tree {
         (levels + 1) * self.rounds()
     }
 
-    // How many rounds give an input of a DRRSched as much as the longest packet takes, and one more.
+    // The rounds that a packet may need: the greatest length over the least quantum, rounded up, plus 1; and 1 without a DRRSched.
     fn rounds(&self) -> u64
         ensures value { result ≡ rounds (least_quantum (root self.now)) }
         ensures limit { result ≤ most_length + 1 }
     {
-        // That the arguments are within their limits is known where a field is read.
+        // Reading a field brings the type invariant into scope: the arguments are within their limits.
         let _ = &self.node;
         match self.least_quantum() {
             None => 1,
@@ -54,7 +54,7 @@ impl Tree {
         }
     }
 
-    // The least quantum of any input of a DRRSched in this tree.
+    // The least quantum of any input of a DRRSched in this tree, if there is one.
     #[cycle(least_quantum)]
     fn least_quantum(&self) -> Option<u32>
         ensures { result ≡ least_quantum (root self.now) }
@@ -69,7 +69,7 @@ impl Tree {
     }
 }
 
-/// The same of these trees.
+/// The least quantum of any input of a DRRSched in these trees, if there is one.
 #[cycle(least_quantum)]
 fn least_quantum(trees: &[Tree]) -> Option<u32>
     ensures { result ≡ least_quantum (row trees.now) }
@@ -85,7 +85,7 @@ impl Class {
     ghost use Rattle.clk_sched.specs.Bound.{quanta_of};
     ghost use Rattle.clk_sched.specs.inside.Kept.{class_of};
 
-    // The least quantum, which a DRRSched alone has.
+    // The least quantum of a DRRSched; other classes have none.
     fn least_quantum(&self) -> Option<u32>
         ensures { result ≡ least (quanta_of (class_of self.now)) }
     {
@@ -106,7 +106,7 @@ fn least(numbers: &[u32]) -> Option<u32>
     least
 }
 
-// The lesser of two numbers, of those that are there.
+// The lesser of two numbers, or the one that is there.
 fn lesser(one: Option<u32>, other: Option<u32>) -> Option<u32>
     ensures { result ≡ lesser one other }
 {

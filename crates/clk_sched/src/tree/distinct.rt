@@ -14,18 +14,18 @@ const NUMBERS: usize = 65_536;
 impl Tree {
     ghost use Rattle.clk_sched.specs.Tree.{leaves_distinct, root, IsSound};
 
-    /// Whether no queue stands twice in this tree, which is sound, as every tree. It goes over the tree once.
+    /// Whether no queue stands twice in this tree. Walks the tree once. The contract also says that the tree is sound, as every tree is.
     pub fn leaves_distinct(&self) -> bool
         ensures distinct { result ≡ leaves_distinct self.now }
         ensures sound { IsSound (root self.now) }
     {
-        // That the tree is well formed is known where a field is read.
+        // Reading a field brings the type invariant into scope: the tree is well formed.
         let _ = &self.node;
         let mut marks = [false; NUMBERS];
         self.mark(&mut marks)
     }
 
-    // Marks the queues of this tree, up to one that is marked already, and tells whether there is none.
+    // Marks the queues of this tree, up to one that is marked already. Returns whether there is none.
     #[cycle(mark)]
     fn mark(&self, marks: &mut [bool; NUMBERS]) -> bool
         ensures { (before : List ℕ) → are_distinct before ≡ true → Marks marks.old before → AreMarked result marks.new (before ++ leaves_of self.now) }
@@ -42,7 +42,7 @@ impl Tree {
     }
 }
 
-/// The same of the queues of these trees.
+/// Marks the queues of these trees, up to one that is marked already. Returns whether there is none.
 #[cycle(mark)]
 fn mark(trees: &[Tree], marks: &mut [bool; NUMBERS]) -> bool
     ensures { (before : List ℕ) → are_distinct before ≡ true → Marks marks.old before → AreMarked result marks.new (before ++ leaves (row trees.now)) }

@@ -11,19 +11,19 @@ ghost use Rattle.clk_sched.specs.Tree.{root, leaves};
 use clk_packet::Fault;
 use clk_sched::{Ask, Session, runs_conserve_packets};
 
-/// Pulls a device twice at one moment. Whatever the queues answer, the log is a run of the tree with two pulls more, and nothing is lost:
-/// what a queue gave came out, in order, or is held as a head.
+/// Pulls a device twice at one moment. Whatever the queues give, the log is a run of the tree with two pulls more, and nothing is lost:
+/// what a queue gave was emitted, in order, or is held as a head.
 pub fn pull_twice<Q: Ask>(session: &mut Session, queues: &mut Q, moment: u64) -> Result<(), Fault>
     requires { moment < end_of_moments }
     ensures run { OnOk result (IsRun session.new.tree session.new.log) }
     ensures longer { OnOk result (length (pulls session.new.log) ≡ length (pulls session.old.log) + 2) }
     ensures conserved { OnOk result ((q : ℕ) → stands_in q (leaves (root session.new.tree)) ≡ true → IsConserved session.new.tree session.new.log q) }
 {
-    // A law, which does nothing.
+    // This call does nothing: its contract is a law.
     runs_conserve_packets();
     session.pull(queues, moment)?;
     session.pull(queues, moment)?;
-    // That no queue stands twice in the tree is known where the log is read.
+    // The contract of `log` says that no queue stands twice in the tree.
     let _ = session.log();
     Ok(())
 }

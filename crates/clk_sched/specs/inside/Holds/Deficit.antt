@@ -6,8 +6,8 @@ use Rattle.clk_sched.specs.declared.visit.Visit.{Visit}
 use Rattle.clk_sched.specs.Heads.{head_at}
 use Rattle.clk_sched.specs.Laws.Deficit.{next_input, arrives, arrivals, passed_bytes, quantum_at}
 
--- What is held of an input after these visits, the latest first, where so many arrivals at it are counted ahead of a visit: its
--- deficit is what its arrivals gave it and its packets didn't use.
+-- What a DRRSched holds of an input after these visits, the latest first, if `ahead` arrivals at it are counted before their visit. The
+-- deficit is what the arrivals gave and the packets didn't use.
 pub record HoldsInput (quanta : List ℕ) (before : List Visit) (ahead i : ℕ) (s : Served) : Type 0 where
   pub quantum_is : s.quantum ≡ quantum_at quanta i
   pub head_is : s.head ≡ head_at i before

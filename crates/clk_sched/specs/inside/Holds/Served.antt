@@ -8,7 +8,7 @@ use Rattle.clk_sched.specs.declared.session.drr.Served.{Served}
 abbrev pub AreQuantaWithin : List Served → Type 0
 AreQuantaWithin row = (i : ℕ) (s : Served) → slice_get row i ≡ Some s → s.quantum ≤ most_quantum
 
--- what is left over is less than a packet, and at the cursor a quantum was added
+-- each deficit is less than the greatest length, at the cursor plus the quantum
 abbrev pub AreDeficitsWithin : ℕ → List Served → Type 0
 AreDeficitsWithin cursor row = (i : ℕ) (s : Served) → slice_get row i ≡ Some s → s.deficit < most_length + (if i == cursor then s.quantum else 0)
 

@@ -13,7 +13,7 @@ AreBefore moment turns = AllByRecursion (λ (t : Turn). t.moment ≤ moment) tur
 abbrev pub tokens_at : Bucket → ℕ → ℕ
 tokens_at b moment = min (b.tokens + b.rate * (moment - b.filled)) b.burst
 
--- One was taken of the tokens at a moment.
+-- One token was taken from a bucket at a moment.
 pub record IsTaken (old new : Bucket) (moment : ℕ) : Type 0 where
   pub rate_is : new.rate ≡ old.rate
   pub burst_is : new.burst ≡ old.burst
@@ -29,7 +29,7 @@ pub record HoldsBucket (rate burst : ℕ) (turns : List Turn) (b : Bucket) : Typ
   pub room : (moment : ℕ) (later : List Turn) → b.filled ≤ moment → packets_passed later + 1 ≤ burst + rate * (moment - b.filled)
       → keeps_since_each rate burst moment later turns ≡ nat_le (packets_passed later + 1) (b.tokens + rate * (moment - b.filled))
 
--- Whether there is a token at a moment is whether there is room.
+-- There is a token at a moment exactly if there is room for a packet.
 abbrev pub Tells : Bucket → ℕ → Bool → Type 0
 Tells b moment token = (rate burst : ℕ) (turns : List Turn) → HoldsBucket rate burst turns b → AreBefore moment turns → token ≡ has_room rate burst moment turns
 

@@ -6,8 +6,8 @@ use Rattle.clk_sched.specs.declared.session.stride.Passes.{Passes}
 use Rattle.clk_sched.specs.Turns.{Turn}
 use Rattle.clk_sched.specs.Laws.Stride.{stride_of, passes_of, in_rising_order}
 
--- What a StrideSched's row holds after these turns, the latest first: the inputs in rising order of (pass, index), by passes
--- of which the same is taken from each.
+-- What a StrideSched's row holds after these turns, the latest first: the inputs in rising order of (pass, index). `taken` is subtracted
+-- from each pass.
 pub record HoldsPasses (tickets : List ℕ) (turns : List Turn) (p : Passes) : Type 0 where
   pub taken : ℕ
   pub strides_are : p.strides.items ≡ map stride_of tickets
