@@ -1,10 +1,10 @@
--- What is read of a source and written to a sink, where the bytes are known.
+-- What is read from a source and written to a sink, if the bytes are known.
 use Rattle.std.specs.Prelude.{◌≡◌, ℕ, ◌+◌, ◌≤◌, List, ◌++◌, length, ⊤, Option, Some, None, Result, Ok, Err, ◌⊎◌, OnOk, OnErr, IfErr}
 use Rattle.std.specs.Io.KnownBytes.{Appends}
 use Rattle.clk_packet.specs.declared.fault.Fault.{Fault}
 use Rattle.clk_packet.specs.declared.fault.Fault.TheVariants.{Memory, Read, Write}
 
--- This holds of the bytes that a source had, if they are known, and otherwise of some bytes.
+-- A statement holds of the bytes that a source had, if they are known, and otherwise of some bytes.
 abbrev pub OfBytes : Option (List ℕ) → (List ℕ → Type 0) → Type 0
 OfBytes None P = (bytes : List ℕ) × P bytes
 OfBytes (Some bytes) P = P bytes
@@ -15,7 +15,8 @@ Takes most None new = ⊤
 Takes most (Some all) None = ⊥
 Takes most (Some all) (Some rest) = (front : List ℕ) × (all ≡ front ++ rest) × (length front ≤ most)
 
--- A read fails with fault 1 and the source has not failed, or with fault 19 and the source has failed once.
+-- A read that succeeds, or fails with fault 1, leaves the number of failures of the source. One that fails with fault 19 adds 1 to it. No
+-- other fault comes.
 abbrev pub FailsToRead : {T : Type 0} → Result T Fault → ℕ → ℕ → Type 0
 FailsToRead (Ok x) before after = after ≡ before
 FailsToRead (Err fault) before after = ((fault ≡ Memory) × (after ≡ before)) ⊎ ((fault ≡ Read) × (after ≡ before + 1))
@@ -24,7 +25,7 @@ FailsToRead (Err fault) before after = ((fault ≡ Memory) × (after ≡ before)
 abbrev pub AppendsFront : Option (List ℕ) → Option (List ℕ) → List ℕ → Type 0
 AppendsFront old new text = (front : List ℕ) × (rest : List ℕ) × (text ≡ front ++ rest) × Appends old new front
 
--- The text was written, or the sink failed once, after a front of it.
+-- The whole text was written, or the sink failed once, after it had taken a front of the text (fault 20).
 pub record Wrote (old new : Option (List ℕ)) (before after : ℕ) (result : Result (Unit {0}) Fault) (text : List ℕ) : Type 0 where
   pub whole : OnOk result (Appends old new text)
   pub front : OnErr result (AppendsFront old new text)

@@ -1,4 +1,4 @@
--- Lists of packets: their numbers, how they are dealt to two lists, and what became of a sender's packets.
+-- Lists of packets: their numbers, how they are dealt to two lists, and the tally of a sender.
 use Rattle.std.specs.Prelude.{◌≡◌, ◌⊎◌, ℕ, List, [], ◌∷◌, map}
 use Rattle.clk_packet.specs.declared.packet.Packet.{Packet}
 use Rattle.clk_packet.specs.declared.packet.Kind.{Kind}
@@ -15,13 +15,14 @@ IsDealt [] accepted refused = (accepted ≡ []) × (refused ≡ [])
 IsDealt (p ∷ offered) accepted refused =
     ((rest : List Packet) × (accepted ≡ p ∷ rest) × IsDealt offered rest refused) ⊎ ((rest : List Packet) × (refused ≡ p ∷ rest) × IsDealt offered accepted rest)
 
--- What became of all packets that a sender offered to a queue of this kind: the tally has those accepted, refused and evicted, and the
+-- What happened to each packet that a sender offered to a queue of this kind: the tally has those accepted, refused and evicted, and the
 -- device emitted `emitted`.
 pub record IsTallyOf (offered emitted : List Packet) (kind : Kind) (t : Tally) : Type 0 where
   -- each packet offered was accepted or refused, both in order
   pub offered_are : IsDealt offered t.accepted t.refused
   -- each packet accepted was evicted or emitted, both in order
   pub accepted_are : IsDealt t.accepted t.evicted emitted
-  -- only a FrontDropQueue evicts, and only a Queue refuses
+  -- a Queue evicts none
   pub tail_drop : kind ≡ TailDrop → t.evicted ≡ []
+  -- a FrontDropQueue refuses none
   pub front_drop : kind ≡ FrontDrop → t.refused ≡ []

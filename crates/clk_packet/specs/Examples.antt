@@ -11,6 +11,6 @@ first_byte = 65 ∷ []
 abbrev pub second_byte : List ℕ
 second_byte = 66 ∷ []
 
--- the answer of a write that succeeds
+-- the result of a write that succeeds
 abbrev pub success : Result (Unit {0}) Fault
 success = Ok tt

@@ -4,7 +4,7 @@ use Rattle.std.specs.List.{flat_map}
 use Rattle.clk_packet.specs.declared.fault.Fault.{Fault}
 use Rattle.clk_packet.specs.declared.fault.Fault.TheVariants.{Memory, BadText, UnknownClass, BadArgument, NameTwice, UnknownName, BadPort, PortTwice, PortMissing, WrongKind, NoDevice, ManyDevices, NotATree, BadTrace, UnknownSender, BadScript, TooManyPulls, TooLarge, Read, Write, Unsettled}
 
--- its number
+-- the number of a fault
 abbrev pub number_of : Fault → ℕ
 number_of Memory = 1
 number_of (BadText offset) = 2
@@ -28,7 +28,7 @@ number_of Read = 19
 number_of Write = 20
 number_of (Unsettled queue accepted capacity) = 21
 
--- its name
+-- the name of a fault
 abbrev pub name_of : Fault → List ℕ
 name_of Memory = codes "Memory"
 name_of (BadText offset) = codes "BadText"
@@ -52,7 +52,7 @@ name_of Read = codes "Read"
 name_of Write = codes "Write"
 name_of (Unsettled queue accepted capacity) = codes "Unsettled"
 
--- its fields, in the order in which its line tells them
+-- the fields of a fault, in the order in which its line tells them
 abbrev pub fields_of : Fault → List ℕ
 fields_of Memory = []
 fields_of (BadText offset) = offset ∷ []
@@ -76,7 +76,7 @@ fields_of Read = []
 fields_of Write = []
 fields_of (Unsettled queue accepted capacity) = queue ∷ accepted ∷ capacity ∷ []
 
--- its line: `fault N: Name`, a space and a number for each field, and a line feed
+-- the line of a fault: `fault N: Name`, a space and a number for each field, and a line feed
 abbrev pub fault_text : Fault → List ℕ
 fault_text fault =
     codes "fault " ++ (decimal (number_of fault) ++ (codes ": " ++ (name_of fault ++ (flat_map (λ n. codes " " ++ decimal n) (fields_of fault) ++ codes "\n"))))

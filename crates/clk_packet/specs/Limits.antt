@@ -14,7 +14,7 @@ most_length = MAX_LENGTH
 abbrev pub most_capacity : ℕ
 most_capacity = MAX_CAPACITY
 
--- how many inputs a scheduler has at most, and how many schedulers stand on a path
+-- how many inputs a scheduler has at most
 abbrev pub most_inputs : ℕ
 most_inputs = MAX_INPUTS
 
@@ -22,7 +22,7 @@ most_inputs = MAX_INPUTS
 abbrev pub most_levels : ℕ
 most_levels = MAX_LEVELS
 
--- the greatest quantum in bytes, number of tickets, rate in packets a tick, and burst in packets
+-- the greatest quantum, in bytes
 abbrev pub most_quantum : ℕ
 most_quantum = MAX_QUANTUM
 

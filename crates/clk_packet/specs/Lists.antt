@@ -13,7 +13,7 @@ abbrev pub stands_in : ℕ → List ℕ → Bool
 stands_in n [] = false
 stands_in n (m ∷ numbers) = (m == n) || stands_in n numbers
 
--- no number stands twice
+-- no number stands twice in the list
 abbrev pub are_distinct : List ℕ → Bool
 are_distinct [] = true
 are_distinct (n ∷ numbers) = not (stands_in n numbers) && are_distinct numbers

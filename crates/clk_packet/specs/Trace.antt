@@ -10,7 +10,7 @@ use Rattle.clk_packet.specs.declared.packet.Packet.{Packet}
 use Rattle.clk_packet.specs.declared.fault.Fault.{Fault}
 use Rattle.clk_packet.specs.declared.fault.Fault.TheVariants.{Memory, Read, TooLarge, BadTrace}
 
--- how many bytes and records a trace may have
+-- how many bytes a trace may have
 abbrev pub most_trace_bytes : ℕ
 most_trace_bytes = MAX_TRACE_BYTES
 
@@ -18,8 +18,8 @@ most_trace_bytes = MAX_TRACE_BYTES
 abbrev pub most_records : ℕ
 most_records = MAX_RECORDS
 
--- The records of a text, each a list of fields: lines of fields between commas, as the crate csv reads them without a header row. A
--- byte order mark at the front and empty lines are none.
+-- The records of a text, each a list of fields: lines of fields between commas, as the crate csv reads them without a header row. A byte
+-- order mark at the front and empty lines are no records.
 abbrev pub records_of : List ℕ → List (List (List ℕ))
 records_of text = records default_config (strip_bom text)
 
@@ -39,16 +39,16 @@ abbrev pub bad_unless : ℕ → Option (ℕ × ℕ) → Option Fault
 bad_unless row None = Some (BadTrace row)
 bad_unless row (Some pair) = None
 
--- what is wrong with the record of a number: it is one too many, whatever it holds, or it says no sender and length
+-- what is wrong with a record, by its number: it is one too many, whatever it holds, or it doesn't say a sender and a length
 abbrev pub record_fault : ℕ → List (List ℕ) → Option Fault
 record_fault row fields = if nat_lt most_records row then Some TooLarge else bad_unless row (pair_in fields)
 
--- what is wrong with the first of some records that has something wrong, where they are counted from a number on
+-- the fault of the first record that has one, if the records are counted from a number on
 abbrev pub first_fault : ℕ → List (List (List ℕ)) → Option Fault
 first_fault row [] = None
 first_fault row (fields ∷ more) = option_or (record_fault row fields) (first_fault (row + 1) more)
 
--- What is wrong with a trace: it has too many bytes, or else what is wrong with the first record that has something wrong.
+-- What is wrong with a trace: it has too many bytes, or else the fault of the first record that has one.
 abbrev pub trace_fault : List ℕ → Option Fault
 trace_fault text = if nat_lt most_trace_bytes (length text) then Some TooLarge else first_fault 1 (records_of text)
 
@@ -56,8 +56,8 @@ trace_fault text = if nat_lt most_trace_bytes (length text) then Some TooLarge e
 abbrev pub pairs_of : List ℕ → List (ℕ × ℕ)
 pairs_of text = filter_map pair_in (records_of text)
 
--- What a sender sends by some pairs, where its packets are counted from a number on: its own number, the packet's number and its
--- length, for each pair of that sender in order.
+-- What a sender sends by some pairs, with its packets counted from a number on: its own number, the packet's number and its length, for
+-- each pair of that sender in order.
 abbrev pub sent_from : ℕ → ℕ → List (ℕ × ℕ) → List (ℕ × ℕ × ℕ)
 sent_from sender number [] = []
 sent_from sender number (pair ∷ more) =
@@ -67,11 +67,11 @@ sent_from sender number (pair ∷ more) =
 abbrev pub sent : ℕ → List (ℕ × ℕ) → List (ℕ × ℕ × ℕ)
 sent sender pairs = sent_from sender 0 pairs
 
--- the packets that a sender sends, where traces are seen as lists of packets by the sender's number
+-- the packets that a sender sends, by the lists of packets of all senders
 abbrev pub sent_by : List (List Packet) → ℕ → List Packet
 sent_by traces sender = unwrap_or (slice_get traces sender) []
 
--- packets by sender, number and length
+-- the sender, the number and the length of each packet
 abbrev pub shown : List Packet → List (ℕ × ℕ × ℕ)
 shown packets = map (λ p. (p.sender, p.number, p.length)) packets
 
@@ -80,8 +80,8 @@ abbrev pub packets_in : List (List Packet) → ℕ
 packets_in [] = 0
 packets_in (packets ∷ more) = length packets + packets_in more
 
--- Why reading a trace is refused with a fault: memory may run out at any growth, the reader may fail, and otherwise it is what is
--- wrong with the trace, where its bytes are known.
+-- Why reading a trace fails: an allocation may fail, the reader may fail, and any other fault is what is wrong with the trace, if its bytes
+-- are known.
 abbrev pub ExplainsTrace : Option (List ℕ) → Fault → Type 0
 ExplainsTrace trace Memory = ⊤
 ExplainsTrace trace Read = ⊤

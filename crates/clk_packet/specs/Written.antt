@@ -1,4 +1,4 @@
--- What a call has written that writes a text of some meaning.
+-- What a call wrote that writes a text of some meaning.
 use Rattle.std.specs.Prelude.{◌≢◌, ℕ, List, Option, Result, OnOk, IfErr, IsErrOf}
 use Rattle.std.specs.Io.KnownBytes.{Appends, Keeps}
 use Rattle.clk_packet.specs.declared.fault.Fault.{Fault}

@@ -10,11 +10,11 @@ use std::alloc::{AllocError, Global};
 /// How many bytes are read at a time.
 const CHUNK: usize = 16_384;
 
-/// The size of a block after whose freeing the C library keeps freed blocks that are smaller. Of those that a run takes a log alone is
-/// larger, and the text of a trace of more than 16 MiB.
+/// The block size in bytes to which `keep_freed` raises glibc's mmap threshold. Of the blocks that a run allocates, only a log is larger,
+/// and the text of a trace of more than 16 MiB.
 const KEPT: usize = 16 << 20;
 
-/// Reads a source to its end, but no more than `most` bytes. Faults 1, and 19 where the source fails.
+/// Reads a source to its end, but no more than `most` bytes. Fault 1 if an allocation fails, and fault 19 if the source fails.
 pub fn read_up_to<R: Source>(alloc: Global, reader: &mut R, most: usize) -> Result<Vec<u8>, Fault>
     ensures bytes { IfOk result (λ bytes. IfSome (R.Source.remaining reader.old) (λ all. bytes.items ≡ take most all)) }
     ensures taken { Takes most (R.Source.remaining reader.old) (R.Source.remaining reader.new) }
@@ -35,7 +35,7 @@ pub fn read_up_to<R: Source>(alloc: Global, reader: &mut R, most: usize) -> Resu
     Ok(bytes)
 }
 
-/// Writes a whole text. Where the sink fails, it has taken a front of it (fault 20).
+/// Writes a whole text. Fault 20 if the sink fails: it has then taken a front of the text.
 pub fn write_all<W: Sink>(writer: &mut W, text: &[u8]) -> Result<(), Fault>
     ensures { Wrote (W.Sink.taken writer.old) (W.Sink.taken writer.new)
         (W.Sink.failures writer.old) (W.Sink.failures writer.new) result text.now }
@@ -50,18 +50,17 @@ pub fn write_all<W: Sink>(writer: &mut W, text: &[u8]) -> Result<(), Fault>
     Ok(())
 }
 
-/// Has the C library keep blocks that are freed from here on, for those that are taken later: one of this size that is freed is a sign to
-/// it that such blocks come and go. The system gives a block that is taken anew page by page, as it is first written, and what takes and
-/// frees many large blocks spends much of its time on that. Where one grows long after the others, as a log does, it is better left.
+/// Raises glibc's mmap threshold by freeing a 16 MiB block, so that smaller blocks are kept when they are freed, for later allocations. The
+/// system provides a new block page by page, as it is first written: a program that allocates and frees many large blocks spends much of
+/// its time on that. Don't call it if one block grows long after the others, as a log does.
 ///
-/// It changes nothing but speed, for the whole process until it ends, and does nothing where memory is refused.
+/// It changes nothing but speed, for the whole process until it ends. If the allocation fails, it does nothing.
 pub fn keep_freed(alloc: Global) {
     let _block: Result<Vec<u8>, AllocError> = Vec::with_capacity(alloc, KEPT);
 }
 
-/// Gives the memory of a text back. The block is made small before it is freed: the C library takes a large block that is freed as a
-/// sign that such blocks come and go, and from then on grows a log of up to that size by copies. What keeps no log gives it that sign on
-/// purpose (`keep_freed`).
+/// Frees the memory of a text. The block is shrunk first, since freeing a large block raises glibc's mmap threshold, and a log of up to
+/// that size then grows by copies. A program that keeps no log raises the threshold on purpose (`keep_freed`).
 pub fn let_go(text: Vec<u8>) {
     let mut text = text;
     text.clear();

@@ -6,8 +6,8 @@ ghost use Rattle.clk_packet.specs.declared.fault.Fault.TheVariants.{Memory, Writ
 ghost use Rattle.clk_packet.specs.Bytes.{Wrote};
 ghost use Rattle.clk_packet.specs.Examples.{text, first_byte, second_byte, success};
 
-/// Which endings of a write of a text of two bytes are as the definition says, where two failures came before. Where it succeeds, the whole
-/// text was taken and no failure is counted; where it fails, a front was taken, one is counted, and the answer is fault 20.
+/// Which endings of a write of a text of two bytes meet the definition, after two earlier failures. If it succeeds, the whole text was
+/// taken and no failure is counted. If it fails, a front was taken, one failure is counted, and the result is fault 20.
 pub fn writing_examples()
     ensures is_whole { Wrote (Some []) (Some text) 2 2 success text }
     ensures is_cut { Wrote (Some []) (Some first_byte) 2 3 (Err Write) text }

@@ -59,11 +59,11 @@ impl Source for FailingSource {
 
     ghost failures = { λ s. s.failures };
 
-    /// Reads as many bytes as `buf` has room for, and as are left before the end and the failure.
+    /// Reads as many bytes as fit into `buf` and are left before the end and the failure, and returns how many.
     ///
     /// # Errors
     ///
-    /// `Failed` exactly where the source has given as many bytes as it was made to give.
+    /// `Failed` exactly if the source has given `limit` bytes.
     fn read(&mut self, buf: &mut [u8]) -> Result<usize, Failed>
         ensures bound { IfOk result (λ n. n ≤ length buf.new) }
         ensures bytes { ReadConsumes (Some self.old.left) (Some self.new.left) result buf.new }
@@ -133,11 +133,11 @@ impl Sink for FailingSink {
 
     ghost failures = { λ s. s.failures };
 
-    /// Takes as many of `bytes` as there is room for.
+    /// Takes as many of `bytes` as there is room for, and returns how many.
     ///
     /// # Errors
     ///
-    /// `Failed` exactly where there is no room left.
+    /// `Failed` exactly if there is no room left.
     fn write(&mut self, bytes: &[u8]) -> Result<usize, Failed>
         ensures bound { IfOk result (λ n. n ≤ length bytes.now) }
         ensures progress { 0 < length bytes.now → IfOk result (λ n. 0 < n) }
@@ -158,7 +158,7 @@ impl Sink for FailingSink {
     }
 }
 
-// Copies bytes from the front of `from` over those of `to`, and says how many.
+// Copies bytes from the front of `from` over those of `to`, and returns how many.
 fn copy_what_fits(from: &[u8], to: &mut [u8]) -> usize
     ensures count { result ≡ min (length from.now) (length to.old) }
     ensures copied { to.new ≡ take result from.now ++ drop result to.old }

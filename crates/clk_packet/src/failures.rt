@@ -1,10 +1,10 @@
-//! A count of failures that only clauses read.
+//! A count of failures that only contracts read.
 ghost use Rattle.std.specs.Prelude.{◌≡◌, ℕ, ◌+◌};
 ghost use Rattle.std.specs.Borrow.{ftrue};
 
 use std::marker::Model;
 
-/// How many calls have failed, as clauses see it. It takes no memory, so it counts without a bound.
+/// How many calls have failed, as ghost state. It takes no memory, so it counts without a bound.
 #[derive(Drop)]
 pub struct Failures {
     pub ghost count: { ℕ },

@@ -1,15 +1,14 @@
-//! Each refusal, by name and number.
+//! The faults, by name and number.
 
 ghost use Rattle.std.specs.Prelude.{◌≡◌};
 
 use std::alloc::{AllocError, AllocFailed};
 use thiserror::Error;
 
-/// Why a call was refused. `Display` gives its line without the line feed: `fault`, its number, its name and its
-/// fields.
+/// Why a call failed. `Display` writes its line without the line feed: `fault`, its number, its name and its fields.
 #[derive(Clone, Copy, Debug, PartialEq, Eq, Error)]
 pub enum Fault {
-    /// The allocator refused memory.
+    /// An allocation failed.
     #[error("fault 1: Memory")]
     Memory,
     /// A tree text breaks the grammar at this byte.
@@ -60,7 +59,7 @@ pub enum Fault {
     /// No device is declared.
     #[error("fault 11: NoDevice")]
     NoDevice,
-    /// The device at this byte is declared after another. Not answered any more: a text may have several devices.
+    /// The device at this byte is declared after another. No call returns this fault: a text may have several devices.
     #[error("fault 12: ManyDevices {offset}")]
     ManyDevices {
         offset: u32,
@@ -85,7 +84,7 @@ pub enum Fault {
     BadScript {
         line: u32,
     },
-    /// So many pulls were made in a closing drain, and packets are left.
+    /// A drain made so many pulls, and packets are left.
     #[error("fault 17: TooManyPulls {pulls}")]
     TooManyPulls {
         pulls: u64,

@@ -10,18 +10,17 @@ pub struct Failed;
 
 /// What bytes are read from.
 pub trait Source {
-    // The bytes that reads will give from here on, where they are known.
+    // The bytes that reads will give from here on, if they are known.
     ghost remaining: { Self → Option (List ℕ) };
 
     // How many reads have failed.
     ghost failures: { Self → ℕ };
 
-    /// Reads some bytes into the front of `buf`, and says how many: 0 at the end of the source, or
-    /// where `buf` is empty.
+    /// Reads some bytes into the front of `buf`, and returns how many: 0 at the end of the source, or if `buf` is empty.
     ///
     /// # Errors
     ///
-    /// `Failed` where the source cannot be read. It gives no byte then.
+    /// `Failed` if the source can't be read. It gives no byte then.
     fn read(&mut self, buf: &mut [u8]) -> Result<usize, Failed>
         ensures bound { IfOk result (λ n. n ≤ length buf.new) }
         ensures bytes { ReadConsumes (remaining self.old) (remaining self.new) result buf.new }
@@ -30,18 +29,17 @@ pub trait Source {
 
 /// What bytes are written to.
 pub trait Sink {
-    // The bytes that it has taken so far, where they are known.
+    // The bytes that it has taken so far, if they are known.
     ghost taken: { Self → Option (List ℕ) };
 
     // How many writes have failed.
     ghost failures: { Self → ℕ };
 
-    /// Writes bytes from the front of `bytes`, and says how many it took: at least one, unless
-    /// `bytes` is empty.
+    /// Writes bytes from the front of `bytes`, and returns how many it took: at least one, unless `bytes` is empty.
     ///
     /// # Errors
     ///
-    /// `Failed` where the sink takes none of the bytes.
+    /// `Failed` if the sink takes none of the bytes.
     fn write(&mut self, bytes: &[u8]) -> Result<usize, Failed>
         ensures bound { IfOk result (λ n. n ≤ length bytes.now) }
         ensures progress { 0 < length bytes.now → IfOk result (λ n. 0 < n) }

@@ -34,7 +34,7 @@ impl Model for Lengths {
 impl Lengths {
     ghost use Rattle.std.specs.Prelude.{◌≡◌, ◌++◌, ◌∷◌, [], length, slice_get, OnOk, OnErr, IsOkUnless};
 
-    /// No lengths. Takes no memory.
+    /// No lengths. Does not allocate.
     pub fn new(alloc: Global) -> Lengths
         ensures { result ≡ [] }
     {
@@ -43,7 +43,7 @@ impl Lengths {
         }
     }
 
-    /// Adds a length at the end. Fault 1 where memory is refused, and then nothing has changed.
+    /// Adds a length at the end. Fault 1 if an allocation fails, and then nothing has changed.
     pub fn push(&mut self, length: Length) -> Result<(), Fault>
         ensures added { OnOk result (self.new ≡ self.old ++ length ∷ []) }
         ensures unchanged { OnErr result (self.new ≡ self.old) }
@@ -53,7 +53,7 @@ impl Lengths {
         Ok(())
     }
 
-    /// How many there are.
+    /// How many lengths there are.
     pub fn len(&self) -> usize
         ensures { result ≡ length self.now }
     {

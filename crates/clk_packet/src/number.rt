@@ -11,8 +11,8 @@ const ZERO: u64 = 48;
 /// How many bytes at the front of a text are looked at first: enough for any number of seven digits and the byte after it.
 const FIRST_BYTES: usize = 8;
 
-/// The number that these digits are, where it is from `least` to `most`. Any number of zeros may lead it. None where a byte is no
-/// digit, where there is no byte, or where the number isn't in the range.
+/// The number that these digits are, if it is from `least` to `most`. Any number of zeros may lead it. `None` if a byte is no digit, if
+/// there is no byte, or if the number isn't in the range.
 pub fn number_in(digits: &[u8], least: u64, most: u64) -> Option<u64>
     requires { most < 2 ^ 60 }
     ensures { result ≡ number_in least most digits.now }
@@ -24,8 +24,8 @@ pub fn number_in(digits: &[u8], least: u64, most: u64) -> Option<u64>
     Some(number)
 }
 
-/// The number in this range whose digits a text begins with, where this byte, which is no digit, comes right after them, and what
-/// follows the byte. None where the text doesn't begin so.
+/// The number in this range whose digits a text begins with, if the byte `end`, which is no digit, comes right after them; and what follows
+/// that byte. `None` if the text doesn't begin so.
 #[inline(always)]
 pub fn number_before(text: &[u8], end: u8, least: u64, most: u64) -> Option<(u64, &[u8])>
     requires limit { most < 2 ^ 60 }
@@ -39,8 +39,8 @@ pub fn number_before(text: &[u8], end: u8, least: u64, most: u64) -> Option<(u64
     }
 }
 
-/// The same where the number and the byte are within the first `FIRST_BYTES` bytes. These are known to be there, so that none is tested for
-/// the end of the text. None also where the text is shorter, or the number longer.
+/// As `number_before`, for a number and an end byte within the first `FIRST_BYTES` bytes. These are known to be there, so that none is
+/// tested for the end of the text. `None` also if the text is shorter, or the number longer.
 #[inline(always)]
 fn number_in_front(text: &[u8], end: u8, least: u64, most: u64) -> Option<(u64, &[u8])>
     requires limit { most < 2 ^ 60 }
@@ -53,7 +53,7 @@ fn number_in_front(text: &[u8], end: u8, least: u64, most: u64) -> Option<(u64, 
     Some((number, rest))
 }
 
-/// The same of a text of any length, byte by byte.
+/// As `number_before`, for a text of any length, byte by byte.
 #[inline(always)]
 fn number_anywhere(text: &[u8], end: u8, least: u64, most: u64) -> Option<(u64, &[u8])>
     requires limit { most < 2 ^ 60 }
@@ -72,7 +72,7 @@ fn number_anywhere(text: &[u8], end: u8, least: u64, most: u64) -> Option<(u64, 
     Some((number, rest))
 }
 
-/// The number that the digits are with which a text begins, 0 where there is none, and how many they are. None where the number is above
+/// The number whose digits a text begins with, 0 if it begins with none, and how many digits these are. `None` if the number is above
 /// `most`.
 #[inline(always)]
 pub fn leading_number(text: &[u8], most: u64) -> Option<(u64, usize)>

@@ -1,4 +1,4 @@
-//! Packets, kinds of queues, and what becomes of an offer.
+//! Packets, kinds of queues, and results of an offer.
 ghost use Rattle.std.specs.Prelude.{◌≤◌};
 ghost use Rattle.clk_packet.specs.Limits.{most_length};
 
@@ -13,7 +13,7 @@ pub struct Packet {
     /// Its length in bytes, from 1 to 65,535.
     pub length: u16,
     ghost has_length: { 1 ≤ length },
-    // The type says so of any `u16`; here it is said where laws of lengths can cite it.
+    // The type says so of any `u16`. It is stated here for laws of lengths to cite.
     ghost is_within: { length ≤ most_length },
 }
 
@@ -22,17 +22,17 @@ pub struct Packet {
 pub enum Kind {
     /// Click's Queue: the arriving packet is refused.
     TailDrop,
-    /// Click's FrontDropQueue: the arriving packet is taken, and the packet at the front goes out.
+    /// Click's FrontDropQueue: the packet at the front is evicted, and the arriving packet is accepted.
     FrontDrop,
 }
 
-/// What became of a packet that was offered to a queue.
+/// The result of offering a packet to a queue.
 #[derive(Clone, Copy, Debug, PartialEq, Eq)]
 pub enum Offered {
-    /// The queue took it.
+    /// The queue accepted the packet.
     Accepted,
-    /// The queue was full. This is the packet that was offered.
+    /// The queue was full, and refused this packet, which was offered.
     Refused(Packet),
-    /// The queue took it, and the named packet, until then at its front, went out.
+    /// The queue accepted the packet that was offered, and evicted this one, which was at its front.
     Evicted(Packet),
 }

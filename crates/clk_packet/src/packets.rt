@@ -23,7 +23,7 @@ impl Model for Packets {
 impl Packets {
     ghost use Rattle.std.specs.Prelude.{◌≡◌, ◌++◌, ◌∷◌, [], OnOk, OnErr, IsOkUnless};
 
-    /// No packets. Takes no memory.
+    /// No packets. Does not allocate.
     pub fn new(alloc: Global) -> Packets
         ensures { result ≡ [] }
     {
@@ -36,7 +36,7 @@ impl Packets {
     ///
     /// # Errors
     ///
-    /// Fault 1 where memory is refused. Then nothing has changed.
+    /// Fault 1 if an allocation fails. Then nothing has changed.
     pub fn push(&mut self, packet: Packet) -> Result<(), Fault>
         ensures added { OnOk result (self.new ≡ self.old ++ packet ∷ []) }
         ensures unchanged { OnErr result (self.new ≡ self.old) }
@@ -53,7 +53,7 @@ impl Packets {
         self.items.as_slice()
     }
 
-    /// The packets, without taking memory.
+    /// The packets as a `Vec`. Does not allocate.
     pub fn into_vec(self) -> Vec<Packet>
         ensures { result.items ≡ self }
     {

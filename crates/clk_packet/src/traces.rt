@@ -45,8 +45,9 @@ impl Traces {
     ///
     /// # Errors
     ///
-    /// In this order: 1 at any refused growth of memory; 19 where the reader fails; 18 for a trace of more than 33,554,432 bytes; then
-    /// by records, counted from 1, 18 at record 1,000,001 and 14 for one that isn't two such numbers.
+    /// Fault 1 if an allocation fails, at any time. Then, in this order, fault 19 if the reader fails, and fault 18 for a trace of more
+    /// than 33,554,432 bytes. Then comes the fault of the first record that has one, counted from 1: fault 18 for record 1,000,001, and
+    /// fault 14 for a record that isn't two such numbers.
     pub fn read_csv<R: Source>(alloc: Global, reader: &mut R) -> Result<Traces, Fault>
         ensures sound { OnOk result (IfSome (R.Source.remaining reader.old) (λ text. trace_fault text ≡ None)) }
         ensures sent { IfOk result (λ traces. IfSome (R.Source.remaining reader.old) (λ text. (s : _) → shown (sent_by traces s) ≡ sent s (pairs_of text))) }
@@ -65,7 +66,7 @@ impl Traces {
         traces
     }
 
-    /// How many packets a sender sends; all senders together send at most 1,000,000. Takes the same time whatever the trace.
+    /// How many packets a sender sends; all senders together send at most 1,000,000. Takes constant time.
     pub fn count(&self, sender: u16) -> u32
         ensures count { result ≡ length (sent_by self.now sender) }
         ensures within { packets_in self.now ≤ most_records }
@@ -76,8 +77,7 @@ impl Traces {
         }
     }
 
-    /// The packet of this number, from 0, that a sender sends. None where it sends no more than so many. Takes the same time whatever
-    /// the trace.
+    /// The packet of this number, from 0, that a sender sends, or `None` if it sends no packet of that number. Takes constant time.
     pub fn sent(&self, sender: u16, number: u32) -> Option<Packet>
         ensures packet { result ≡ slice_get (sent_by self.now sender) number }
         ensures sender { IfSome result (λ packet. packet.sender ≡ sender) }
@@ -92,7 +92,7 @@ impl Traces {
         })
     }
 
-    /// Nothing is sent. Takes no memory.
+    /// Nothing is sent. Does not allocate.
     fn new(alloc: Global) -> Traces
         ensures { result ≡ [] }
     {
@@ -101,7 +101,7 @@ impl Traces {
         }
     }
 
-    /// Adds the next packet of a sender. Fault 1 where memory is refused.
+    /// Adds the next packet of a sender. Fault 1 if an allocation fails.
     fn add(&mut self, alloc: Global, sender: u16, length: Length) -> Result<(), Fault>
         requires room { packets_in self.old < most_records }
         ensures added { OnOk result (IsAdded self.old sender length.bytes self.new) }
@@ -116,7 +116,7 @@ impl Traces {
 ghost use Rattle.std.specs.Prelude.{◌<◌, length, OnOk, IsOkUnless};
 ghost use Rattle.clk_packet.specs.inside.Lengths.{IsWider};
 
-/// Adds rows without lengths to a table until it has a row at this place. Fault 1 where memory is refused.
+/// Adds rows without lengths to a table until it has a row at this place. Fault 1 if an allocation fails.
 fn widen(alloc: Global, senders: &mut Vec<Lengths>, place: usize) -> Result<(), Fault>
     ensures there { OnOk result (place < length senders.new.items) }
     ensures same { IsWider senders.old.items senders.new.items }

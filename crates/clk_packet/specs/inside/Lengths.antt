@@ -13,11 +13,12 @@ abbrev pub packets_from : ℕ → ℕ → List Length → List Packet
 packets_from sender number [] = []
 packets_from sender number (l ∷ more) = packet_of sender number l ∷ packets_from sender (number + 1) more
 
--- the packets of each sender, where the senders are counted from a number on
+-- the packets of each sender, if the senders are counted from a number on
 abbrev pub packets_by : ℕ → List (List Length) → List (List Packet)
 packets_by sender [] = []
 packets_by sender (lengths ∷ more) = packets_from sender 0 lengths ∷ packets_by (sender + 1) more
 
+-- how many lengths a table has in all
 abbrev pub lengths_in : List (List Length) → ℕ
 lengths_in [] = 0
 lengths_in (lengths ∷ more) = length lengths + lengths_in more

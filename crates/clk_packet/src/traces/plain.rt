@@ -14,8 +14,7 @@ use crate::number::number_before;
 use crate::traces::Traces;
 use std::alloc::Global;
 
-/// Reads the text of a trace by plain lines. None where a line isn't plain, or where there are too many of them. Fault 1 where memory
-/// is refused.
+/// Reads the text of a trace by plain lines. `None` if a line isn't plain, or if there are too many lines. Fault 1 if an allocation fails.
 pub fn read_plain(alloc: Global, text: &[u8]) -> Result<Option<Traces>, Fault>
     ensures { MatchResult result
         (λ found. IfSome found
@@ -37,8 +36,7 @@ pub fn read_plain(alloc: Global, text: &[u8]) -> Result<Option<Traces>, Fault>
     Ok(Some(traces))
 }
 
-/// The sender and the length that a plain line at the front of a text says, and what follows the line. None where no plain line is
-/// there.
+/// The sender and the length that a plain line at the front of a text says, and what follows the line. `None` if no plain line is there.
 fn plain_record(text: &[u8]) -> Option<(u16, Length, &[u8])>
     ensures { IfSome result (λ r. IsPlainLine text.now r.0 r.1.bytes r.2.now) }
 {
@@ -50,7 +48,7 @@ fn plain_record(text: &[u8]) -> Option<(u16, Length, &[u8])>
     Some((sender as u16, length, rest))
 }
 
-/// The number of a sender that a text begins with, before a comma, and what follows the comma. None where the text doesn't begin so.
+/// The number of a sender that a text begins with, before a comma, and what follows the comma. `None` if the text doesn't begin so.
 fn sender_before(text: &[u8]) -> Option<(u64, &[u8])>
     ensures { IfSome result (λ r. BeginsWithNumber text.now 44 0 most_sender r.0 r.1.now) }
 {

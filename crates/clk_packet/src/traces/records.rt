@@ -14,8 +14,8 @@ use crate::traces::plain::read_plain;
 use csv::{ByteRecord, ReaderBuilder};
 use std::alloc::Global;
 
-/// Reads the text of a trace: by plain lines, where all of its lines are plain, and otherwise as `csv` reads it. Fault 1 where memory
-/// is refused, and otherwise what is wrong with the text.
+/// Reads the text of a trace: by plain lines if all of its lines are plain, and otherwise as `csv` reads it. Fault 1 if an allocation
+/// fails, and otherwise what is wrong with the text.
 pub fn read_text(alloc: Global, text: &[u8]) -> Result<Traces, Fault>
     ensures { MatchResult result
         (λ traces. (trace_fault text.now ≡ None) × ((s : _) → shown (sent_by traces s) ≡ sent s (pairs_of text.now)) × (packets_in traces ≤ most_records))
@@ -34,7 +34,7 @@ pub fn read_text(alloc: Global, text: &[u8]) -> Result<Traces, Fault>
     let mut fields = ByteRecord::new(alloc);
     let mut traces = Traces::new(alloc);
     for row in 1..MAX_RECORDS + 2 {
-        // Over bytes in memory, a read fails for want of memory alone.
+        // Over bytes in memory, a read fails only if an allocation fails.
         let Ok(found) = reader.read_byte_record(&mut fields) else {
             return Err(Fault::Memory);
         };
