@@ -13,13 +13,13 @@ use Rattle.clk_ruled.specs.Account.{IsAccount}
 use Rattle.clk_ruled.specs.Queue.{Queue, SeatLists, TapLists, ClosedLists, closed_with, gathering, IsOpened, IsSeatOf, IsOffered, IsPulled}
 use Rattle.clk_ruled.specs.Settle.{AreOpenedTogether, closing}
 
--- The lists of a seat's view are its sender's.
+-- The lists of a seat's view are those of its sender.
 pub record IsSeatIn (setup : Setup) (accepted evicted : ℕ → List Packet) (v : View) : Type 0 where
   pub setup_is : v.setup ≡ setup
   pub accepted_is : v.accepted ≡ accepted v.sender
   pub evicted_is : v.evicted ≡ evicted v.sender
 
--- The tap's view has what was taken, and of each seat that it gathered its sender's lists.
+-- The tap's view has the packets pulled, and the lists of the sender of each seat that it gathered.
 pub record IsTapIn (setup : Setup) (accepted evicted : ℕ → List Packet) (taken : List Packet) (v : View) : Type 0 where
   pub setup_is : v.setup ≡ setup
   pub taken_is : v.taken ≡ taken
@@ -39,8 +39,8 @@ pub record HasAccount (held : List Packet) (views : List View) : Type 0 where
 abbrev pub KeepsAccount : Type 0
 KeepsAccount = (held : List Packet) (views : List View) → Keeps held views → HasAccount held views
 
--- What `open` gives was opened together, and each call keeps it so: an offer of the seat at a place, a pull, the closing of a seat, and
--- the gathering of the closed seat at a place. So each call finds what it asks of the queue, the seat and the tap.
+-- What `open` returns was opened together, and each call keeps it so: an offer of the seat at a place, a pull, the closing of a seat, and
+-- the gathering of the closed seat at a place. So each call finds what it requires of the queue, the seat and the tap.
 pub record KeepsTogether : Type 0 where
   pub opened : (setup : Setup) (queue : Queue) (seats : List SeatLists) (tap : TapLists) → IsOpened setup queue seats tap → AreOpenedTogether queue tap (map closing seats)
   pub seats : (queue : Queue) (tap : TapLists) (seats : List SeatLists) (i : ℕ) (l : SeatLists) → i < length seats → l ≡ get_or seats i l

@@ -13,14 +13,14 @@ use Rattle.clk_packet.specs.Lists.{In, stands_in}
 use Rattle.clk_ruled.specs.Rooms.{rooms_in_all}
 use Rattle.clk_ruled.specs.Rule.{senders_of, gathered_senders, gathered_seat}
 
--- which queue it is, its kind, how many packets it may hold, and how many places it has for them
+-- A shared queue as contracts see it: which queue it is, its kind, how many packets it may hold, and how many places it has for them.
 pub record Queue : Type 0 where
   pub id : TableId
   pub kind : Kind
   pub capacity : ℕ
   pub places : ℕ
 
--- how many places a queue has: no more than its capacity, and no more than packets can be offered
+-- how many places a queue has: no more than its capacity, no more than packets can be offered, and at least one
 abbrev pub places_of : Setup → ℕ
 places_of setup = max 1 (min setup.capacity (rooms_in_all setup.rooms))
 
@@ -28,8 +28,8 @@ places_of setup = max 1 (min setup.capacity (rooms_in_all setup.rooms))
 abbrev pub queue_of : TableId → Setup → Queue
 queue_of id setup = record { id = id; kind = setup.kind; capacity = setup.capacity; places = places_of setup }
 
--- A seat as contracts see it: its queue, its sender, how many packets that may offer and has offered, and what became of them. `evicted` has
--- the packets that were evicted for one of this seat's, of whichever sender.
+-- A seat as contracts see it: its queue, its sender, how many packets that may offer and has offered, and which were accepted and refused.
+-- `evicted` has the packets that were evicted for those of this seat, of whichever sender.
 pub record SeatLists : Type 0 where
   pub id : TableId
   pub setup : Setup
@@ -40,7 +40,7 @@ pub record SeatLists : Type 0 where
   pub refused : List Packet
   pub evicted : List Packet
 
--- The tap: the queue that it was opened with, what it pulled, and the lists of the seats that it gathered, the latest first.
+-- The tap: the queue that it was opened with, the packets that it pulled, and the lists of the seats that it gathered, the latest first.
 pub record TapLists : Type 0 where
   pub id : TableId
   pub setup : Setup
@@ -97,7 +97,7 @@ IsOffered old p (Evicted front) new = (old.setup.kind ≡ FrontDrop) × (new ≡
 abbrev pub taking : TapLists → Packet → TapLists
 taking t p = record { id = t.id; setup = t.setup; taken = t.taken ++ p ∷ []; gathered = t.gathered }
 
--- What a pull does to a tap: the packet goes to the end of those taken, or nothing changes.
+-- What a pull does to a tap: the packet goes to the end of those pulled, or nothing changes.
 abbrev pub IsPulled : TapLists → Option Packet → TapLists → Type 0
 IsPulled old None new = new ≡ old
 IsPulled old (Some p) new = new ≡ taking old p
@@ -132,11 +132,11 @@ empty_seat id setup r = record { id = id; setup = setup; sender = r.0; room = r.
 abbrev pub empty_tap : TableId → Setup → TapLists
 empty_tap id setup = record { id = id; setup = setup; taken = []; gathered = [] }
 
--- A queue was opened so: one seat for each sender, in order, and a tap, none of which has done anything.
+-- A queue was opened with one seat for each sender, in order, and a tap, none of which has done anything.
 abbrev pub IsOpened : Setup → Queue → List SeatLists → TapLists → Type 0
 IsOpened setup queue seats tap = (queue ≡ queue_of queue.id setup) × (seats ≡ map (empty_seat queue.id setup) setup.rooms) × (tap ≡ empty_tap queue.id setup)
 
--- the setup that this is opened with
+-- the setup of a queue of this kind and capacity, for these senders with their rooms
 abbrev pub setup_of : Kind → ℕ → List (ℕ × ℕ) → Setup
 setup_of kind capacity rooms = record { kind = kind; capacity = capacity; rooms = rooms }
 

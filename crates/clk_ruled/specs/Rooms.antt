@@ -5,7 +5,7 @@ use Rattle.std.specs.Prelude.{ℕ, ◌+◌, ◌==◌, List, [], ◌∷◌, map, 
 abbrev pub named_in : List (ℕ × ℕ) → List ℕ
 named_in rooms = map (λ (r : ℕ × ℕ). r.0) rooms
 
--- how many packets the sender may offer: none, where it isn't a sender of the queue
+-- how many packets the sender may offer: none if it isn't a sender of the queue
 abbrev pub room_of : List (ℕ × ℕ) → ℕ → ℕ
 room_of [] s = 0
 room_of (r ∷ rooms) s = if r.0 == s then r.1 else room_of rooms s

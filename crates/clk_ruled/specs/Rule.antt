@@ -11,31 +11,31 @@ use Rattle.clk_packet.specs.Lists.{of_sender, stands_in, AreRising}
 use Rattle.clk_ruled.specs.PacketLists.{packet_numbers}
 use Rattle.clk_ruled.specs.Rooms.{named_in, room_of}
 
--- A packet left the queue at the front: the puller got it, or it was evicted for a packet of this sender.
+-- A packet left the queue at the front: the tap pulled it, or it was evicted for a packet of this sender.
 pub data Out : Type 0 where
   to_puller : Packet → Out
   put_out : ℕ → Packet → Out
 
--- the packets that went out
+-- the packets that left the queue
 abbrev pub went_out : List Out → List Packet
 went_out [] = []
 went_out (to_puller p ∷ gone) = p ∷ went_out gone
 went_out (put_out e p ∷ gone) = p ∷ went_out gone
 
--- those that the puller got
+-- the packets that the tap pulled
 abbrev pub taken_in : List Out → List Packet
 taken_in [] = []
 taken_in (to_puller p ∷ gone) = p ∷ taken_in gone
 taken_in (put_out e p ∷ gone) = taken_in gone
 
--- those that were evicted for packets of one sender
+-- the packets that were evicted for packets of one sender
 abbrev pub evicted_by : ℕ → List Out → List Packet
 evicted_by s [] = []
 evicted_by s (to_puller p ∷ gone) = evicted_by s gone
 evicted_by s (put_out e p ∷ gone) = if e == s then p ∷ evicted_by s gone else evicted_by s gone
 
--- What happened to a queue: what it was opened with, the packets that it took and those that went out, in order, and which
--- pass sits for each sender and which one is the tap's.
+-- What happened to a queue: what it was opened with, the packets that it accepted and those that left it, in order, which pass sits for
+-- each sender, and which pass is the tap's.
 pub record Books : Type 0 where
   pub setup : Setup
   pub all : List Packet
@@ -48,7 +48,8 @@ abbrev pub senders_of : Setup → List ℕ
 senders_of setup = named_in setup.rooms
 
 -- The books are in order while these packets are held: what left and then what is held are what the queue accepted, within its capacity. Of
--- each sender there are no more than it may offer, their numbers rise, and a Queue evicts none.
+-- each sender no more packets were accepted than it may offer, with rising numbers. None was evicted for a stranger, and a Queue evicts
+-- none.
 pub record IsSound (b : Books) (held : List Packet) : Type 0 where
   pub senders_rise : AreRising (senders_of b.setup)
   pub order : b.all ≡ went_out b.gone ++ held
@@ -58,7 +59,7 @@ pub record IsSound (b : Books) (held : List Packet) : Type 0 where
   pub known : (s : ℕ) → stands_in s (senders_of b.setup) ≡ false → evicted_by s b.gone ≡ []
   pub tail_drop : b.setup.kind ≡ TailDrop → (s : ℕ) → evicted_by s b.gone ≡ []
 
--- the sender has had no seat
+-- the sender has had no seat: none sits for it, and no packet was accepted from it or evicted for it
 pub record IsNew (b : Books) (s : ℕ) : Type 0 where
   pub seat : b.seat s ≡ none
   pub accepted : of_sender s b.all ≡ []
@@ -87,7 +88,7 @@ pub record FitsSeat (b : Books) (pass : ℕ) (v : View) : Type 0 where
   pub accepted : v.accepted ≡ of_sender v.sender b.all
   pub evicted : v.evicted ≡ evicted_by v.sender b.gone
 
--- The tap's view is what the books say of the puller, of the senders that have had no seat, and of the seats that it gathered.
+-- The tap's view is what the books say of the packets pulled, of the senders that have had no seat, and of the seats that it gathered.
 pub record FitsTap (b : Books) (pass : ℕ) (v : View) : Type 0 where
   pub tap : pass ≡ b.tap
   pub setup : v.setup ≡ b.setup

@@ -1,4 +1,4 @@
--- What became of all packets of a shared queue, once its seats are closed.
+-- What settling a shared queue tells, once its seats are closed.
 use Rattle.std.specs.Prelude.{◌≡◌, ℕ, ◌+◌, ◌<◌, ◌≤◌, ◌==◌, ◌⊎◌, Bool, true, false, List, [], ◌∷◌, ◌++◌, length, map, filter, ⊤, if◌then◌else◌}
 use Rattle.std.specs.List.{flat_map, AllByRecursion}
 use Rattle.clk_packet.specs.declared.packet.Packet.{Packet}
@@ -34,7 +34,7 @@ accepted_of seats s = of_seat (λ l. l.accepted) seats s
 abbrev pub evicted_of : List SeatLists → ℕ → List Packet
 evicted_of seats s = of_seat (λ l. l.evicted) seats s
 
--- the packets that were put out, for any of the seats
+-- the packets that were evicted for any of the seats
 abbrev pub all_evicted : List SeatLists → List Packet
 all_evicted seats = flat_map (λ (l : SeatLists). l.evicted) seats
 
@@ -51,7 +51,7 @@ abbrev pub lost_count : List SeatLists → ℕ
 lost_count [] = 0
 lost_count (l ∷ seats) = length l.refused + length l.evicted + lost_count seats
 
--- The seat was opened with the tap, and where it was gathered the tap has its lists.
+-- The seat was opened with the tap, and if it was gathered, the tap has its lists.
 pub record IsOfTap (tap : TapLists) (c : ClosedLists) : Type 0 where
   pub id : c.lists.id ≡ tap.id
   pub setup : c.lists.setup ≡ tap.setup
@@ -72,11 +72,11 @@ pub record HasAllSeats (tap : TapLists) (closed : List ClosedLists) : Type 0 whe
   pub together : AreTogether tap closed
   pub gathered : AllByRecursion (λ (c : ClosedLists). c.is_gathered ≡ true) closed
 
--- at most as many packets were taken as were accepted and not evicted
+-- at most as many packets were pulled as were accepted and not evicted
 abbrev pub IsTakenWithin : TapLists → List ClosedLists → Type 0
 IsTakenWithin tap closed = evicted_count (lists_of closed) + length tap.taken ≤ accepted_count (lists_of closed)
 
--- exactly as many packets were taken as were accepted and not evicted
+-- exactly as many packets were pulled as were accepted and not evicted
 abbrev pub IsAllTaken : TapLists → List ClosedLists → Type 0
 IsAllTaken tap closed = accepted_count (lists_of closed) ≡ evicted_count (lists_of closed) + length tap.taken
 
@@ -89,8 +89,8 @@ closing l = record { lists = l; is_gathered = false }
 abbrev pub AreOpenedTogether : Queue → TapLists → List ClosedLists → Type 0
 AreOpenedTogether queue tap closed = IsTapOf queue tap × AreTogether tap closed
 
--- The tally of a seat's sender, if the packets that pass the test were evicted. An evicted packet is told at its own sender, at whichever
--- seat the other one came for which it was evicted.
+-- The tally of a seat's sender, if the packets that pass the test were evicted. An evicted packet counts for its own sender, whichever seat
+-- it was evicted for.
 abbrev pub tally_by : (Packet → Bool) → SeatLists → Tally
 tally_by was_put_out l = record { sender = l.sender; accepted = l.accepted; refused = l.refused; evicted = filter was_put_out l.accepted }
 
@@ -98,26 +98,26 @@ tally_by was_put_out l = record { sender = l.sender; accepted = l.accepted; refu
 abbrev pub tally_of : List Packet → SeatLists → Tally
 tally_of out l = tally_by (has_packet out) l
 
--- What settling a queue tells: what was pulled, and the tallies of its senders.
+-- What settling a queue tells: the packets pulled, and the tallies of its senders.
 pub record IsSettled (tap : TapLists) (closed : List ClosedLists) (pulled : List Packet) (told : List Tally) : Type 0 where
   pub taken : pulled ≡ tap.taken
   pub tallies : told ≡ map (tally_of (all_evicted (lists_of closed))) (lists_of closed)
-  -- there are packets that were held, with which the account is whole
+  -- these packets were held, and with them the account is whole
   pub held : List Packet
   pub account : IsAccount tap.setup.kind tap.setup.capacity (senders_of tap.setup) (accepted_of (lists_of closed)) (evicted_of (lists_of closed)) tap.taken held
-  -- of a sender's packets that weren't put out those that weren't pulled are the last that the queue took
+  -- of a sender's packets that weren't evicted, those that weren't pulled are the last that the queue accepted
   pub left : (s : ℕ) → (before : List Packet) × (accepted_of (lists_of closed) s ≡ before ++ without (without (accepted_of (lists_of closed) s) (all_evicted (lists_of closed))) tap.taken)
-  -- where all that weren't put out were pulled, they were pulled in their sender's order
+  -- if all that weren't evicted were pulled, they were pulled in their sender's order
   pub all_taken : accepted_count (lists_of closed) ≡ evicted_count (lists_of closed) + length tap.taken → (s : ℕ) → without (accepted_of (lists_of closed) s) (all_evicted (lists_of closed)) ≡ of_sender s tap.taken
-  -- never are more pulled than weren't put out
+  -- no more packets were pulled than were accepted and not evicted
   pub within : evicted_count (lists_of closed) + length tap.taken ≤ accepted_count (lists_of closed)
-  -- each seat's packets are shared out to accepted and refused
+  -- each seat's packets are split into accepted and refused
   pub shared : AllByRecursion IsSharedOut (lists_of closed)
-  -- something was refused or put out only where the queue took so many packets as it may hold
+  -- packets were refused or evicted only if the queue accepted as many as it may hold
   pub reached : 0 < lost_count (lists_of closed) → tap.setup.capacity ≤ accepted_count (lists_of closed)
 
 -- A queue of this kind and capacity, shared by these senders, lost packets although it accepted fewer than it may hold. The lists of its
--- seats, the packets taken and some packets held are an account of it.
+-- seats, the packets pulled and some packets held are an account of it.
 pub record HasLostBelow (kind : Kind) (capacity : ℕ) (senders : List ℕ) (seats : List SeatLists) (taken : List Packet) : Type 0 where
   pub held : List Packet
   pub account : IsAccount kind capacity senders (accepted_of seats) (evicted_of seats) taken held

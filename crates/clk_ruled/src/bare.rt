@@ -1,4 +1,4 @@
-//! What pulls packets from a shared queue, and keeps none of them.
+//! A tap that keeps none of the packets that it pulls.
 
 use crate::closed::ClosedSeat;
 use crate::protocol::{Gather, Pull};
@@ -9,7 +9,7 @@ use crossbeam_queue::Pass;
 use std::marker::Model;
 use std::sync::Wait;
 
-/// The bare tap of a shared queue. What it pulled stands in contracts alone: it takes no memory.
+/// The bare tap of a shared queue. The packets that it pulled are ghost state, and take no memory.
 #[derive(Drop)]
 pub struct BareTap {
     pass: Pass<Packet, View>,
@@ -48,38 +48,38 @@ impl BareTap {
         BareTap { pass }
     }
 
-    /// Pulls the packet at the front of the queue that the tap was opened with, or answers none where it found it empty. Takes
-    /// no memory.
+    /// Pulls the packet at the front of the queue that the tap was opened with, or returns `None` if it finds the queue empty. Does not
+    /// allocate.
     pub fn pull(&mut self, queue: &RuledQueue, wait: &impl Wait) -> Option<Packet>
         requires together { IsTapOf queue.now self.old }
         ensures pulled { IsPulled self.old result self.new }
         ensures rises { (s : ℕ) → AreRising (packet_numbers (of_sender s self.new.taken)) }
         ensures known { AreOfSenders self.new.setup self.new.taken }
-        // No more is taken than may be offered.
+        // No more packets are pulled than may be offered.
         ensures room { length self.new.taken ≤ rooms_in_all self.new.setup.rooms }
-        // With every seat gathered, the packets taken are never more than those accepted, less those evicted, and none comes only
-        // where they are as many.
+        // With every seat gathered, no more packets are pulled than were accepted and not evicted. A pull returns `None` only if they are
+        // as many.
         ensures within { AreAllGathered self.new → length self.new.taken + evicted_in_all self.new.gathered ≤ accepted_in_all self.new.gathered }
         ensures none { result ≡ None → AreAllGathered self.new → length self.new.taken + evicted_in_all self.new.gathered ≡ accepted_in_all self.new.gathered }
-        // The same by the closed seats.
+        // If all closed seats are gathered, the same bounds hold of their lists.
         ensures seats_within { (closed : List ClosedLists) → HasAllSeats self.new closed → IsTakenWithin self.new closed }
         ensures seats_none { result ≡ None → (closed : List ClosedLists) → HasAllSeats self.new closed → IsAllTaken self.new closed }
     {
         queue.line.pop_as::<Pull, _>(wait, &mut self.pass)
     }
 
-    /// Takes over the lists of a closed seat that was opened together with the tap. The seat's readers answer as before. A
-    /// second time changes nothing. Takes no memory.
+    /// Takes over the lists of a closed seat that was opened together with the tap. The seat keeps its lists too. Gathering it again
+    /// changes nothing. Does not allocate.
     pub fn gather(&mut self, queue: &RuledQueue, seat: &mut ClosedSeat)
         requires together { IsTapOf queue.now self.old }
         requires seat { (seat.old.lists.id ≡ self.old.id) × (seat.old.lists.setup ≡ self.old.setup) }
         ensures seat { seat.new ≡ record { lists = seat.old.lists; is_gathered = true } }
         ensures gathers { seat.old.is_gathered ≡ false → self.new ≡ gathering self.old seat.old.lists }
         ensures again { seat.old.is_gathered ≡ true → self.new ≡ self.old }
-        // As after a pull.
+        // With every seat gathered, no more packets are pulled than were accepted and not evicted.
         ensures within { AreAllGathered self.new → length self.new.taken + evicted_in_all self.new.gathered ≤ accepted_in_all self.new.gathered }
     {
-        // What it pulled is within what came, also where nothing changes.
+        // Reading a field brings the type invariant into scope, also if the seat was gathered before.
         let _pass = &self.pass;
         if seat.gathered {
             return;
@@ -89,12 +89,12 @@ impl BareTap {
         queue.line.learn_as::<Pull>(&mut self.pass);
     }
 
-    /// Does nothing. What it says is so at any time, as after a pull.
+    /// Does nothing. Its contract says that packets are accounted for, and that no more are pulled than were accepted and not evicted.
     pub fn stays_within(&self)
         ensures accounted { IsAccounted self.now }
         ensures seats_within { (closed : List ClosedLists) → HasAllSeats self.now closed → IsTakenWithin self.now closed }
     {
-        // The invariant is known where a field is read.
+        // Reading a field brings the type invariant into scope.
         let _pass = &self.pass;
     }
 }

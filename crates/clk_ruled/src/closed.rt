@@ -1,4 +1,4 @@
-//! What a seat leaves at a shared queue once it is closed.
+//! Seats of a shared queue that were closed.
 
 use crate::protocol::Retire;
 use crate::queue::Line;
@@ -40,7 +40,7 @@ impl ClosedSeat {
     ghost use Rattle.crossbeam_queue.specs.Passes.{view as known, IsPassOf};
     ghost use Rattle.clk_ruled.specs.Queue.{IsSharedOut};
 
-    // Gives its pass away, to be gathered, and keeps one that neither sits nor taps.
+    // Gives its pass away, for the tap to gather, and keeps one that neither sits nor taps.
     pub(crate) fn give_up(&mut self, line: &Line) -> Pass<Packet, View>
         requires queue { self.old.lists.id ≡ line.now.table.shared.table_id }
         requires seat { self.old.is_gathered ≡ false }
@@ -61,7 +61,7 @@ impl ClosedSeat {
         self.sender
     }
 
-    /// How many packets it offered: the number of its next packet.
+    /// How many packets the seat offered, which is the number that its next packet would have.
     pub fn next(&self) -> u32
         ensures next { result ≡ self.now.lists.next }
         ensures within { result ≤ self.now.lists.room }
@@ -70,14 +70,14 @@ impl ClosedSeat {
         self.next
     }
 
-    /// How many packets it may offer.
+    /// How many packets the sender may offer.
     pub fn room(&self) -> u32
         ensures { result ≡ self.now.lists.room }
     {
         self.room
     }
 
-    /// The packets that the queue took, by rising number.
+    /// The packets that the queue accepted, by rising number.
     pub fn accepted(&self) -> &[Packet]
         ensures accepted { result.now ≡ self.now.lists.accepted }
         ensures shares { IsSharedOut self.now.lists }
@@ -93,7 +93,7 @@ impl ClosedSeat {
         self.refused.as_slice()
     }
 
-    /// The packets that the queue put out for this seat's, in order. They may be of any sender.
+    /// The packets that the queue evicted for this seat's, in order. They may be of any sender.
     pub fn evicted(&self) -> &[Packet]
         ensures { result.now ≡ self.now.lists.evicted }
     {

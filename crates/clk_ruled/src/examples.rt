@@ -1,5 +1,5 @@
-//! What the definitions of a queue's account, of a settled queue and of why one isn't settled say of worked examples: which of them
-//! meet each, and which don't. The functions do nothing.
+//! What the definitions say of worked examples: of a queue's account, of a settled queue, and of why one isn't settled. Some examples meet
+//! them, and others don't. The functions do nothing.
 
 ghost use Rattle.std.specs.Prelude.{[], ◌∷◌};
 ghost use Rattle.clk_packet.specs.declared.packet.Kind.TheVariants.{TailDrop, FrontDrop};

@@ -1,5 +1,4 @@
-//! Bounded queues of packets that many senders and one puller share without a lock, and on which every packet is accounted
-//! for.
+//! Bounded queues of packets that many senders and one consumer share without a lock, and on which every packet is accounted for.
 #![tactic(auto)]
 
 mod bare;

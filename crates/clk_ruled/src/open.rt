@@ -73,7 +73,7 @@ fn room_in_all(senders: &[(u16, u32)]) -> u32
     total
 }
 
-// One seat more, for a sender that has had none.
+// Adds a seat for a sender that has had none. Fault 1 if an allocation fails.
 fn add_seat(
     alloc: Global,
     line: &Line,
@@ -98,7 +98,7 @@ fn add_seat(
     Ok(())
 }
 
-// A seat for each sender, in order.
+// A seat for each sender, in order. Fault 1 if an allocation fails.
 fn seats_for(
     alloc: Global,
     line: &Line,
@@ -149,15 +149,15 @@ pub struct OpenedBare {
 impl RuledQueue {
     ghost use Rattle.clk_ruled.specs.Queue.{IsOpened};
 
-    /// Opens a queue of this kind that holds at most `capacity` packets, from 1 to 1,000,000, for these senders, each with the
-    /// number of packets that it may offer. The lists of all seats and of the tap are reserved here.
+    /// Opens a queue of this kind that holds at most `capacity` packets, from 1 to 1,000,000, for these senders, each with the number of
+    /// packets that it may offer. The lists of all seats and of the tap are allocated here.
     ///
-    /// It has no more places than packets can be offered in all. No packet is refused for that: to fill fewer places than the
-    /// capacity, every sender would have to offer all that it may, and then nobody is left to be refused.
+    /// The queue has no more places than packets can be offered in all. No packet is refused for that: fewer places than the capacity are
+    /// full only once every sender has offered all that it may.
     ///
     /// # Errors
     ///
-    /// Fault 1 where memory is refused.
+    /// Fault 1 if an allocation fails.
     pub fn open(
         alloc: Global,
         kind: Kind,
@@ -182,7 +182,7 @@ impl RuledQueue {
     ///
     /// # Errors
     ///
-    /// Fault 1 where memory is refused.
+    /// Fault 1 if an allocation fails.
     pub fn open_bare(
         alloc: Global,
         kind: Kind,

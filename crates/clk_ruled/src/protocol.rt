@@ -5,7 +5,7 @@ use clk_packet::Packet;
 use crossbeam_queue::protocol::{Join, Lesson, Outcome, Protocol, Split};
 use std::marker::{Brand, PhantomData};
 
-/// The account of a shared queue is kept.
+/// The protocol of a shared queue: every step keeps its account.
 pub struct Account;
 
 impl Protocol<Packet, View> for Account {
@@ -41,7 +41,7 @@ impl Sending for Brand {
     ghost sender = { 0 };
 }
 
-/// The queue is open: the tap's view tells what with.
+/// The step that opens the queue: the tap's view has the setup from then on.
 pub struct Open<O> {
     opening: PhantomData<O>,
 }
@@ -55,7 +55,7 @@ impl<O: Opening> Split<View> for Open<O> {
     ghost right = { λ v. spent_view };
 }
 
-/// A sender is given its seat.
+/// The step that gives a sender its seat.
 pub struct Seated<S> {
     sending: PhantomData<S>,
 }
@@ -69,7 +69,7 @@ impl<S: Sending> Split<View> for Seated<S> {
     ghost right = { λ v. seat_view v.setup S.sender [] [] };
 }
 
-/// The queue takes a packet from a seat.
+/// The step in which the queue accepts a packet from a seat.
 pub struct Accept;
 
 impl Outcome<Packet, View> for Accept {
@@ -85,7 +85,7 @@ impl Lesson<Packet, View> for Accept {
     ghost fact = { Knows };
 }
 
-/// The queue puts the packet at its front out for a seat.
+/// The step in which the queue evicts the packet at its front for a seat.
 pub struct Evict;
 
 impl Outcome<Packet, View> for Evict {
@@ -95,7 +95,7 @@ impl Outcome<Packet, View> for Evict {
     ghost then = { λ v p w. (w ≡ seat_view v.setup v.sender v.accepted (v.evicted ++ p ∷ [])) × KnowsAfter w };
 }
 
-/// The tap gets the packet at the front.
+/// The step in which the tap pulls the packet at the front.
 pub struct Pull;
 
 impl Outcome<Packet, View> for Pull {
@@ -111,7 +111,7 @@ impl Lesson<Packet, View> for Pull {
     ghost fact = { Knows };
 }
 
-/// A closed seat keeps a pass that neither sits nor taps, and still tells what the queue was opened with.
+/// The step that gives a closed seat a pass that neither sits nor taps, and still has the setup.
 pub struct Retire;
 
 impl Split<View> for Retire {
@@ -122,7 +122,7 @@ impl Split<View> for Retire {
     ghost right = { λ v. retired_view v.setup };
 }
 
-/// The tap takes over the lists of a closed seat, whose view is spent then.
+/// The step in which the tap takes over the lists of a closed seat. The seat's view is used no more.
 pub struct Gather;
 
 impl Join<View> for Gather {

@@ -8,8 +8,8 @@ use std::marker::Model;
 
 pub(crate) type Line = RuledArrayQueue<Packet, View, Account>;
 
-/// A queue of packets, first in, first out, that holds no more than its capacity. Seats offer it packets and a tap pulls them,
-/// each from a thread of its own. What becomes of a packet that arrives when it is full is its kind.
+/// A queue of packets, first in, first out, that holds no more than its capacity. Seats offer it packets and a tap pulls them, each from a
+/// thread of its own. Its kind says what it does with a packet that arrives when it is full.
 ///
 /// No lock is taken. A packet takes eight bytes.
 #[derive(Drop)]

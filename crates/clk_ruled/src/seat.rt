@@ -1,4 +1,4 @@
-//! What offers packets to a shared queue: one seat for each sender.
+//! The seats of a shared queue, which offer packets to it: one for each sender.
 
 ghost use Rattle.std.specs.Prelude.{◌≡◌, ◌≤◌, ◌<◌, ◌∷◌, ◌++◌, [], length, vec_capacity};
 
@@ -12,8 +12,8 @@ use std::alloc::Global;
 use std::marker::Model;
 use std::sync::Wait;
 
-/// The seat of one sender at a shared queue. It keeps what became of each packet that it offered, in lists whose room was
-/// reserved when the queue was opened.
+/// The seat of one sender at a shared queue. It lists which of its packets were accepted and refused, and which packets were evicted for
+/// them. The room of the lists was reserved when the queue was opened.
 #[derive(Drop)]
 pub struct Seat {
     pass: Pass<Packet, View>,
@@ -71,15 +71,15 @@ impl Seat {
         })
     }
 
-    /// Offers the sender's next packet to the queue that the seat was opened with. A Queue that is full refuses it; a full
-    /// FrontDropQueue takes it and puts the packet at its front out, whoever's it is. Takes no memory.
+    /// Offers the sender's next packet to the queue that the seat was opened with. A full Queue refuses it. A full FrontDropQueue accepts
+    /// it, and evicts the packet at its front, of whichever sender. Does not allocate.
     pub fn offer(&mut self, queue: &RuledQueue, wait: &impl Wait, packet: Packet) -> Offered
         requires together { IsSeatOf queue.now self.old }
         requires own { packet.sender ≡ self.old.sender }
         requires number { packet.number ≡ self.old.next }
         requires room { self.old.next < self.old.room }
         ensures offered { IsOffered self.old packet result self.new }
-        // A seat that is alone on its queue is refused only where the queue took so many packets from it as it may hold.
+        // A seat that is alone at its queue is refused only if the queue accepted as many packets from it as it may hold.
         ensures lone { self.old.setup.rooms ≡ (self.old.sender, self.old.room) ∷ [] → result ≡ Refused packet → self.old.setup.capacity ≤ length self.new.accepted }
     {
         self.next += 1;
@@ -114,7 +114,7 @@ impl Seat {
         }
     }
 
-    /// Closes the seat, at any time: it offers nothing more, and its lists stay as they are. Takes no memory.
+    /// Closes the seat, at any time: it offers nothing more, and its lists stay as they are. Does not allocate.
     pub fn close(self) -> ClosedSeat
         ensures { result ≡ record { lists = self; is_gathered = false } }
     {
@@ -137,7 +137,7 @@ impl Seat {
         self.sender
     }
 
-    /// How many packets it offered: the number of its next packet.
+    /// How many packets the seat offered, which is the number of its next packet.
     pub fn next(&self) -> u32
         ensures next { result ≡ self.now.next }
         ensures within { result ≤ self.now.room }
@@ -146,14 +146,14 @@ impl Seat {
         self.next
     }
 
-    /// How many packets it may offer.
+    /// How many packets the sender may offer.
     pub fn room(&self) -> u32
         ensures { result ≡ self.now.room }
     {
         self.room
     }
 
-    /// The packets that the queue took, by rising number.
+    /// The packets that the queue accepted, by rising number.
     pub fn accepted(&self) -> &[Packet]
         ensures accepted { result.now ≡ self.now.accepted }
         ensures shares { IsSharedOut self.now }
@@ -169,7 +169,7 @@ impl Seat {
         self.refused.as_slice()
     }
 
-    /// The packets that the queue put out for this seat's, in order. They may be of any sender.
+    /// The packets that the queue evicted for this seat's, in order. They may be of any sender.
     pub fn evicted(&self) -> &[Packet]
         ensures { result.now ≡ self.now.evicted }
     {

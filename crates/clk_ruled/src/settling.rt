@@ -20,7 +20,7 @@ use marks::Marks;
 use reach::check_reached;
 use std::alloc::Global;
 
-/// What became of all packets of a shared queue.
+/// What settling a shared queue returns.
 #[derive(Drop)]
 pub struct Settled {
     /// A tally for each sender, in order.
@@ -29,13 +29,12 @@ pub struct Settled {
     pub taken: Vec<Packet>,
 }
 
-/// Settles a queue whose seats are all closed: a tally for each sender, in order, and what was pulled. What the queue still
-/// holds is dropped. Seats that weren't gathered are gathered. `index` is the queue's number, for the fault.
+/// Settles a queue whose seats are all closed. Returns a tally for each sender, in order, and the packets that were pulled. What the queue
+/// still holds is dropped. Seats that weren't gathered are gathered. `index` is the queue's number, for the fault.
 ///
 /// # Errors
 ///
-/// Fault 1 where memory is refused. Fault 21 where something was refused or evicted though the queue accepted fewer packets
-/// than its capacity.
+/// Fault 1 if an allocation fails. Fault 21 if a packet was refused or evicted though the queue accepted fewer packets than its capacity.
 pub fn settle(
     alloc: Global,
     queue: RuledQueue,
@@ -52,11 +51,12 @@ pub fn settle(
     Ok(Settled { tallies, taken })
 }
 
-/// Settles a queue with a bare tap as `settle` does: a tally for each sender, in order. What was pulled is known to contracts alone.
+/// Settles a queue with a bare tap as `settle` does, and returns a tally for each sender, in order. The packets that were pulled are known
+/// to contracts alone.
 ///
 /// # Errors
 ///
-/// Those of `settle`.
+/// Fault 1 if an allocation fails. Fault 21 if a packet was refused or evicted though the queue accepted fewer packets than its capacity.
 pub fn settle_bare(
     alloc: Global,
     queue: RuledQueue,
@@ -71,7 +71,7 @@ pub fn settle_bare(
     let mut tap = tap;
     let mut closed = closed;
     gather_all(&queue, &mut tap, &mut closed);
-    // It tells that the queue is accounted for.
+    // The contract of this call says that packets are accounted for.
     tap.stays_within();
     check_reached(&closed, queue.capacity, index)?;
     let mut marks = Marks::none(alloc);
@@ -93,7 +93,8 @@ fn gather_all(queue: &RuledQueue, tap: &mut BareTap, closed: &mut Vec<ClosedSeat
     }
 }
 
-// A tally for each seat, which doesn't tell yet what was put out. What was put out is marked, and the lists of it are let go.
+// A tally for each seat, which doesn't list evicted packets yet. Packets that were evicted for the seats are marked, and the lists of them
+// are freed. Fault 1 if an allocation fails.
 fn take_apart(
     alloc: Global,
     closed: Vec<ClosedSeat>,
@@ -111,7 +112,8 @@ fn take_apart(
     Ok(tallies)
 }
 
-// The tally of a seat, which doesn't tell yet what was put out. What was put out for the seat is marked, and the list of it is let go.
+// The tally of a seat, which doesn't list evicted packets yet. Packets that were evicted for the seat are marked, and the list of them is
+// freed. Fault 1 if an allocation fails.
 fn take_seat(alloc: Global, seat: ClosedSeat, marks: &mut Marks) -> Result<Tally, Fault>
     ensures tally { IfOk result (λ tally. tally ≡ untold seat.lists) }
     ensures marked { OnOk result ((p : Packet) → is_marked marks.new p ≡ (has_packet seat.lists.evicted p || is_marked marks.old p)) }
@@ -127,7 +129,7 @@ fn take_seat(alloc: Global, seat: ClosedSeat, marks: &mut Marks) -> Result<Tally
     })
 }
 
-// Lets the tallies tell which of their packets were put out: those that are marked.
+// Lists in each tally those of its accepted packets that are marked, as evicted. Fault 1 if an allocation fails.
 fn tell_evicted(alloc: Global, tallies: &mut Vec<Tally>, marks: &Marks) -> Result<(), Fault>
     ensures told { OnOk result (tallies.new.items ≡ map (telling (is_marked marks.now)) tallies.old.items) }
     ensures fault { IsOkUnless result Fault.Memory }
@@ -139,7 +141,7 @@ fn tell_evicted(alloc: Global, tallies: &mut Vec<Tally>, marks: &Marks) -> Resul
     Ok(())
 }
 
-// Those of a sender's packets that are marked. The sender tells only for how many to make room.
+// Those of a sender's packets that are marked. The sender says only for how many to make room. Fault 1 if an allocation fails.
 fn marked_among(
     alloc: Global,
     sender: u16,

@@ -1,4 +1,4 @@
-//! What pulls packets from a shared queue, and keeps them.
+//! A tap that keeps the packets that it pulls.
 
 ghost use Rattle.std.specs.Prelude.{◌≡◌, ◌≤◌, vec_capacity};
 
@@ -38,7 +38,7 @@ impl Tap {
     ghost use Rattle.clk_ruled.specs.Queue.{ClosedLists, IsTapOf, IsPulled, AreOfSenders, AreAllGathered, accepted_in_all, evicted_in_all, gathering};
     ghost use Rattle.clk_ruled.specs.Settle.{HasAllSeats, IsTakenWithin, IsAllTaken};
 
-    // Keeps what a bare tap will pull, which pulled nothing so far and may pull so many packets.
+    // Keeps what a bare tap will pull, which has pulled nothing so far and may pull so many packets. Fault 1 if an allocation fails.
     pub(crate) fn keeping(alloc: Global, bare: BareTap, room: usize) -> Result<Tap, Fault>
         requires none { bare.taken ≡ [] }
         requires room { rooms_in_all bare.setup.rooms ≤ room }
@@ -51,18 +51,18 @@ impl Tap {
         })
     }
 
-    /// Pulls the packet at the front of the queue that the tap was opened with, or answers none where it found it empty. Takes
-    /// no memory.
+    /// Pulls the packet at the front of the queue that the tap was opened with, or returns `None` if it finds the queue empty. Does not
+    /// allocate.
     pub fn pull(&mut self, queue: &RuledQueue, wait: &impl Wait) -> Option<Packet>
         requires together { IsTapOf queue.now self.old }
         ensures pulled { IsPulled self.old result self.new }
         ensures rises { (s : ℕ) → AreRising (packet_numbers (of_sender s self.new.taken)) }
         ensures known { AreOfSenders self.new.setup self.new.taken }
-        // With every seat gathered, the packets taken are never more than those accepted, less those evicted, and none comes only
-        // where they are as many.
+        // With every seat gathered, no more packets are pulled than were accepted and not evicted. A pull returns `None` only if they are
+        // as many.
         ensures within { AreAllGathered self.new → length self.new.taken + evicted_in_all self.new.gathered ≤ accepted_in_all self.new.gathered }
         ensures none { result ≡ None → AreAllGathered self.new → length self.new.taken + evicted_in_all self.new.gathered ≡ accepted_in_all self.new.gathered }
-        // The same by the closed seats.
+        // If all closed seats are gathered, the same bounds hold of their lists.
         ensures seats_within { (closed : List ClosedLists) → HasAllSeats self.new closed → IsTakenWithin self.new closed }
         ensures seats_none { result ≡ None → (closed : List ClosedLists) → HasAllSeats self.new closed → IsAllTaken self.new closed }
     {
@@ -73,31 +73,31 @@ impl Tap {
         pulled
     }
 
-    /// Takes over the lists of a closed seat that was opened together with the tap. The seat's readers answer as before. A
-    /// second time changes nothing. Takes no memory.
+    /// Takes over the lists of a closed seat that was opened together with the tap. The seat keeps its lists too. Gathering it again
+    /// changes nothing. Does not allocate.
     pub fn gather(&mut self, queue: &RuledQueue, seat: &mut ClosedSeat)
         requires together { IsTapOf queue.now self.old }
         requires seat { (seat.old.lists.id ≡ self.old.id) × (seat.old.lists.setup ≡ self.old.setup) }
         ensures seat { seat.new ≡ record { lists = seat.old.lists; is_gathered = true } }
         ensures gathers { seat.old.is_gathered ≡ false → self.new ≡ gathering self.old seat.old.lists }
         ensures again { seat.old.is_gathered ≡ true → self.new ≡ self.old }
-        // As after a pull.
+        // With every seat gathered, no more packets are pulled than were accepted and not evicted.
         ensures within { AreAllGathered self.new → length self.new.taken + evicted_in_all self.new.gathered ≤ accepted_in_all self.new.gathered }
     {
         self.bare.gather(queue, seat);
     }
 
-    /// The packets that it pulled, in order.
+    /// The packets that the tap pulled, in order.
     pub fn taken(&self) -> &[Packet]
         ensures taken { result.now ≡ self.now.taken }
-        // As after a pull.
+        // With closed seats that are all gathered, no more packets were pulled than their lists have accepted and not evicted.
         ensures seats_within { (closed : List ClosedLists) → HasAllSeats self.now closed → IsTakenWithin self.now closed }
     {
         self.bare.stays_within();
         self.taken.as_slice()
     }
 
-    // The bare tap, and the packets that it pulled, without taking memory.
+    // The bare tap, and the packets that the tap pulled. Does not allocate.
     pub(crate) fn into_parts(self) -> (BareTap, Vec<Packet>)
         ensures tap { result.0 ≡ self }
         ensures taken { result.1.items ≡ self.taken }

@@ -1,4 +1,4 @@
-//! What is known of a shared queue by those who use it. It exists in proofs alone, and no value of it is made.
+//! What those who use a shared queue know of it. It exists in proofs alone, and no value of it is made.
 
 use clk_packet::{Kind, Packet};
 use std::collections::LinkedList;
@@ -11,7 +11,7 @@ pub struct Setup {
     pub rooms: LinkedList<(u16, u32)>,
 }
 
-/// The lists of a closed seat that was gathered: what the queue took from its sender, and what it put out for it.
+/// The lists of a closed seat that was gathered: the packets accepted from its sender, and those evicted for it.
 pub struct Gathered {
     pub sender: u16,
     pub accepted: LinkedList<Packet>,
@@ -20,18 +20,18 @@ pub struct Gathered {
 
 /// What a seat or the tap knows of its queue.
 pub struct View {
-    /// Whether it is a seat's.
+    /// Whether this is the view of a seat.
     pub sits: bool,
-    /// Whether it is the tap's.
+    /// Whether this is the view of the tap.
     pub taps: bool,
     pub setup: Setup,
     /// The seat's sender.
     pub sender: u16,
-    /// What the queue took from the seat, in order.
+    /// The packets that the queue accepted from the seat, in order.
     pub accepted: LinkedList<Packet>,
-    /// What the queue put out for the seat, in order.
+    /// The packets that the queue evicted for the seat, in order.
     pub evicted: LinkedList<Packet>,
-    /// What the tap pulled, in order.
+    /// The packets that the tap pulled, in order.
     pub taken: LinkedList<Packet>,
     /// The senders that were given a seat.
     pub given: LinkedList<u16>,

@@ -1,4 +1,4 @@
--- The packets that were put out, as settling marks them, and the tallies that tell of them.
+-- The packets that were evicted, as settling marks them, and the tallies that list them.
 use Rattle.std.specs.Prelude.{ℕ, ◌/◌, ◌%◌, get_or, Bool, false, List, [], map, filter}
 use Rattle.clk_packet.specs.declared.packet.Packet.{Packet}
 use Rattle.clk_packet.specs.declared.tally.Tally.{Tally}
@@ -22,10 +22,10 @@ numbers_of marks s = get_or (map numbers_on marks.pages.items) (s / 256) (λ _. 
 abbrev pub is_marked : Marks → Packet → Bool
 is_marked marks p = get_or (numbers_of marks p.sender) p.number false
 
--- a seat's tally, before it tells what was put out
+-- a seat's tally before it lists evicted packets
 abbrev pub untold : SeatLists → Tally
 untold l = record { sender = l.sender; accepted = l.accepted; refused = l.refused; evicted = [] }
 
--- the tally that tells that the packets that pass the test were put out
+-- the tally that lists as evicted those of its packets that pass the test
 abbrev pub telling : (Packet → Bool) → Tally → Tally
 telling was_put_out t = record { sender = t.sender; accepted = t.accepted; refused = t.refused; evicted = filter was_put_out t.accepted }

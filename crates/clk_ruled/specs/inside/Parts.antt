@@ -23,17 +23,18 @@ pub record SeatFits (v : View) (sender room next : ℕ) (accepted refused evicte
   pub tail_drop : v.setup.kind ≡ TailDrop → evicted ≡ []
   pub front_drop : v.setup.kind ≡ FrontDrop → refused ≡ []
 
--- the books know of what was taken
+-- What a tap keeps: its view is the tap's, and fits books that are in order.
 pub record TapKeeps (v : View) : Type 0 where
   pub taps : v.taps ≡ true
   pub some : 1 ≤ v.setup.capacity
   pub knows : KnowsAfter v
 
--- none of these senders has had a seat, and each may offer so many packets as is said
+-- none of these senders has had a seat
 abbrev pub AreFree : List ℕ → List (ℕ × ℕ) → Type 0
 AreFree given [] = ⊤
 AreFree given (r ∷ rest) = (stands_in r.0 given ≡ false) × AreFree given rest
 
+-- each of these senders may offer as many packets as is said beside it
 abbrev pub AreRoomed : List (ℕ × ℕ) → List (ℕ × ℕ) → Type 0
 AreRoomed rooms [] = ⊤
 AreRoomed rooms (r ∷ rest) = (room_of rooms r.0 ≡ r.1) × AreRoomed rooms rest

@@ -7,29 +7,34 @@ use Rattle.clk_ruled.specs.declared.view.Gathered.{Gathered}
 use Rattle.clk_ruled.specs.declared.view.View.{View}
 use Rattle.clk_ruled.specs.Rule.{Books, Fits, IsSound}
 
--- what one of those who use the queue knows of the packets that it holds at a moment
+-- what a user of the queue knows while these packets are held: there are books in order, and its view fits them
 abbrev pub Knows : View → List Packet → Type 0
 Knows v held = (b : Books) × (pass : ℕ) × IsSound b held × Fits b pass v
 
--- the views that there are
+-- the setup of no queue, for views without one
 abbrev pub no_setup : Setup
 no_setup = record { kind = TailDrop; capacity = 0; rooms = [] }
 
+-- the view of a pass that is used no more
 abbrev pub spent_view : View
 spent_view = record { sits = false; taps = false; setup = no_setup; sender = 0; accepted = []; evicted = []; taken = []; given = []; gathered = [] }
 
+-- the view of the pass that a closed seat keeps once it is gathered
 abbrev pub retired_view : Setup → View
 retired_view setup = record { sits = false; taps = false; setup = setup; sender = 0; accepted = []; evicted = []; taken = []; given = []; gathered = [] }
 
+-- the view of the tap before the queue is opened
 abbrev pub blank_view : View
 blank_view = record { sits = false; taps = true; setup = no_setup; sender = 0; accepted = []; evicted = []; taken = []; given = []; gathered = [] }
 
+-- the view of a seat
 abbrev pub seat_view : Setup → ℕ → List Packet → List Packet → View
 seat_view setup s accepted evicted = record { sits = true; taps = false; setup = setup; sender = s; accepted = accepted; evicted = evicted; taken = []; given = []; gathered = [] }
 
+-- the view of the tap
 abbrev pub tap_view : Setup → List Packet → List ℕ → List Gathered → View
 tap_view setup taken given gathered = record { sits = false; taps = true; setup = setup; sender = 0; accepted = []; evicted = []; taken = taken; given = given; gathered = gathered }
 
--- at one moment, at which this is its view, it knows so much
+-- what a user with this view knows: at some moment it is true of the packets held
 abbrev pub KnowsAfter : View → Type 0
 KnowsAfter v = (held : List Packet) × Knows v held

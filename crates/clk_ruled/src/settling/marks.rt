@@ -1,4 +1,4 @@
-//! Which packets were put out.
+//! Which packets were evicted.
 
 ghost use Rattle.std.specs.Prelude.{◌≡◌, ◌==◌, ◌||◌, ℕ, get_or, false, OnOk, IsOkUnless};
 ghost use Rattle.std.specs.List.{count_by};
@@ -9,9 +9,9 @@ use std::alloc::Global;
 // How many senders have their marks in one page.
 const PAGE: u16 = 256;
 
-/// A set of packets, which are told apart by sender and number. It takes a byte for each number of a sender, up to the greatest
-/// that is marked.
-// Senders stand in pages, so that a sender of a great number costs no list's head for each smaller one.
+/// A set of packets, which are told apart by sender and number. It takes a byte for each number of a sender, up to the greatest that is
+/// marked.
+// Senders stand in pages, so that a sender with a large number doesn't need an empty list for each smaller one.
 #[derive(Drop)]
 pub struct Marks {
     pages: Vec<Page>,
@@ -24,7 +24,7 @@ impl Marks {
     ghost use Rattle.clk_ruled.specs.PacketLists.{has_packet, is_packet};
     ghost use Rattle.clk_ruled.specs.inside.Marks.{is_marked, numbers_of};
 
-    /// No packets. Takes no memory.
+    /// No packets. Does not allocate.
     pub fn none(alloc: Global) -> Marks
         ensures { (p : Packet) → is_marked result p ≡ false }
     {
@@ -33,7 +33,7 @@ impl Marks {
         }
     }
 
-    /// Marks these packets. Fault 1 where memory is refused.
+    /// Marks these packets. Fault 1 if an allocation fails.
     pub fn mark_all(&mut self, alloc: Global, packets: &[Packet]) -> Result<(), Fault>
         ensures marked { OnOk result ((p : Packet) → is_marked self.new p ≡ (has_packet packets.now p || is_marked self.old p)) }
         ensures fault { IsOkUnless result Fault.Memory }
@@ -44,7 +44,7 @@ impl Marks {
         Ok(())
     }
 
-    // Marks a packet. Fault 1 where memory is refused.
+    // Marks a packet. Fault 1 if an allocation fails.
     #[inline]
     fn mark(&mut self, alloc: Global, packet: Packet) -> Result<(), Fault>
         ensures marked { OnOk result ((p : Packet) → is_marked self.new p ≡ (is_packet p packet || is_marked self.old p)) }
@@ -55,7 +55,7 @@ impl Marks {
         page.mark(alloc, packet.sender % PAGE, packet.number)
     }
 
-    // Makes the pages up to that of a sender. Fault 1 where memory is refused.
+    // Makes the pages up to that of a sender. Fault 1 if an allocation fails.
     #[inline]
     fn reach(&mut self, alloc: Global, sender: u16) -> Result<(), Fault>
         ensures reached { OnOk result (sender / 256 < vec_len self.new.pages) }
@@ -98,10 +98,10 @@ impl Marks {
     }
 }
 
-// The marks of senders that follow one another.
+// The marks of consecutive senders.
 #[derive(Drop)]
 struct Page {
-    // By the sender's place on the page, whether each of its numbers is marked. Those past the last aren't.
+    // By the sender's place on the page, whether each of its numbers is marked. Numbers past the last aren't.
     senders: Vec<Vec<bool>>,
 }
 
@@ -110,7 +110,7 @@ impl Page {
     ghost use Rattle.std.specs.List.{count_by};
     ghost use Rattle.clk_ruled.specs.inside.Marks.{is_on, numbers_on};
 
-    // A page without marks. Takes no memory.
+    // A page without marks. Does not allocate.
     fn blank(alloc: Global) -> Page
         ensures { (p n : ℕ) → is_on result p n ≡ false }
     {
@@ -119,7 +119,7 @@ impl Page {
         }
     }
 
-    // Marks a number of the sender at a place. Fault 1 where memory is refused.
+    // Marks a number of the sender at a place. Fault 1 if an allocation fails.
     #[inline]
     fn mark(&mut self, alloc: Global, place: u16, number: u32) -> Result<(), Fault>
         ensures marked { OnOk result ((p n : ℕ) → is_on self.new p n ≡ (((p == place) && (n == number)) || is_on self.old p n)) }
@@ -129,7 +129,7 @@ impl Page {
         mark_number(&mut self.senders[usize::from(place)], number)
     }
 
-    // Makes the places up to this one. Fault 1 where memory is refused.
+    // Makes the places up to this one. Fault 1 if an allocation fails.
     #[inline]
     fn reach(&mut self, alloc: Global, place: u16) -> Result<(), Fault>
         ensures reached { OnOk result (place < vec_len self.new.senders) }
@@ -164,7 +164,7 @@ impl Page {
     }
 }
 
-// Marks a number of a sender. Fault 1 where memory is refused.
+// Marks a number of a sender. Fault 1 if an allocation fails.
 #[inline]
 fn mark_number(marks: &mut Vec<bool>, number: u32) -> Result<(), Fault>
     ensures marked { OnOk result ((n : ℕ) → get_or marks.new.items n false ≡ ((n == number) || get_or marks.old.items n false)) }

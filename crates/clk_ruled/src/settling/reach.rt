@@ -9,7 +9,7 @@ ghost use Rattle.clk_ruled.specs.Settle.{accepted_count, lost_count, lists_of};
 use crate::closed::ClosedSeat;
 use clk_packet::Fault;
 
-// Fault 21 where something was refused or evicted, and fewer packets were accepted.
+// Fault 21 if a packet was refused or evicted, and fewer packets were accepted than the capacity.
 pub fn check_reached(closed: &[ClosedSeat], capacity: u32, index: u16) -> Result<(), Fault>
     ensures reached { OnOk result (0 < lost_count (lists_of closed.now) → capacity ≤ accepted_count (lists_of closed.now)) }
     ensures fault { IfErr result (λ fault. (fault ≡ Unsettled index (accepted_count (lists_of closed.now)) capacity) × (0 < lost_count (lists_of closed.now)) × (accepted_count (lists_of closed.now) < capacity)) }
@@ -28,7 +28,7 @@ pub fn check_reached(closed: &[ClosedSeat], capacity: u32, index: u16) -> Result
     }
 }
 
-// Whether a packet was refused or put out.
+// Whether a packet was refused or evicted.
 fn lost_some(closed: &[ClosedSeat]) -> bool
     ensures some { result ≡ true → 0 < lost_count (lists_of closed.now) }
     ensures none { result ≡ false → lost_count (lists_of closed.now) ≡ 0 }
@@ -41,7 +41,7 @@ fn lost_some(closed: &[ClosedSeat]) -> bool
     false
 }
 
-// Whether a packet of this seat was refused, or one was put out for it.
+// Whether a packet of this seat was refused, or one was evicted for it.
 fn lost_one(seat: &ClosedSeat) -> bool
     ensures some { result ≡ true → 0 < length seat.now.lists.refused + length seat.now.lists.evicted }
     ensures none { result ≡ false → length seat.now.lists.refused + length seat.now.lists.evicted ≡ 0 }
@@ -53,7 +53,7 @@ fn lost_one(seat: &ClosedSeat) -> bool
     }
 }
 
-// How many packets the queue accepted less than so many, and 0 where it accepted as many.
+// How many packets fewer than `capacity` the queue accepted, and 0 if it accepted as many or more.
 fn missing(closed: &[ClosedSeat], capacity: u32) -> u32
     ensures missing { result ≡ capacity - accepted_count (lists_of closed.now) }
     ensures shared { AllByRecursion IsSharedOut (lists_of closed.now) }
@@ -65,7 +65,7 @@ fn missing(closed: &[ClosedSeat], capacity: u32) -> u32
     missing
 }
 
-// What is left of a number, and 0 where all is taken away.
+// A number less another, and 0 if the other is greater.
 fn less(number: u32, away: usize) -> u32
     ensures { result ≡ number - away }
 {
