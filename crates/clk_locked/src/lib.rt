@@ -1,4 +1,4 @@
-//! A ring that threads share under a lock. It has a crate of its own, since what may wait is linked into no library for C.
+//! A ring that threads share under a lock. It has a crate of its own, since a library for C links nothing that may wait.
 #![tactic(auto)]
 
 ghost use Rattle.std.specs.Prelude.{◌≤◌, IsOkUnless};
@@ -10,19 +10,19 @@ use clk_ring::Ring;
 use std::alloc::Global;
 use std::sync::{Mutex, Wait};
 
-/// A ring under a lock, for any number of threads. Each call does what the ring's does, while it has the lock. What the ring
-/// held before is known to no caller, so a contract says only that a refusal names the packet offered.
+/// A ring under a lock, for any number of threads. Each call does what the ring's does, while it has the lock. No caller knows what the
+/// ring held before, so a contract says only that a refusal names the packet offered.
 #[derive(Drop)]
 pub struct Locked {
     ring: Mutex<Ring>,
 }
 
 impl Locked {
-    /// An empty queue of this kind that holds at most `capacity` packets, from 1 to 1,000,000. Its room is reserved here.
+    /// An empty queue of this kind that holds at most `capacity` packets, from 1 to 1,000,000. Its memory is allocated here.
     ///
     /// # Errors
     ///
-    /// Fault 1 where memory is refused.
+    /// Fault 1 if an allocation fails.
     pub fn new(alloc: Global, kind: Kind, capacity: usize) -> Result<Locked, Fault>
         requires capacity { (1 ≤ capacity) × (capacity ≤ most_capacity) }
         ensures { IsOkUnless result Fault.Memory }
@@ -32,14 +32,14 @@ impl Locked {
         })
     }
 
-    /// Offers a packet, as `Ring::offer` does. It waits for the lock.
+    /// Offers a packet, as `Ring::offer` does. Waits for the lock.
     pub fn offer(&self, wait: &impl Wait, packet: Packet) -> Offered
         ensures { NamesOffer packet result }
     {
         self.ring.lock(wait).offer(packet)
     }
 
-    /// Takes the packet at the front, if there is one. It waits for the lock.
+    /// Takes the packet at the front, if there is one. Waits for the lock.
     pub fn pull(&self, wait: &impl Wait) -> Option<Packet> {
         self.ring.lock(wait).pull()
     }

@@ -18,7 +18,7 @@ third = packet 0 1 60 (lit≤ tt) (lit≤ tt)
 abbrev pub tail_dropped : List QueueEvent
 tail_dropped = accept first ∷ refuse second ∷ give first ∷ empty ∷ []
 
--- A FrontDropQueue of one packet: the second offer puts the first packet out.
+-- A FrontDropQueue of one packet: the second offer evicts the first packet.
 abbrev pub front_dropped : List QueueEvent
 front_dropped = accept first ∷ evict first ∷ accept second ∷ give second ∷ empty ∷ []
 
@@ -26,11 +26,11 @@ front_dropped = accept first ∷ evict first ∷ accept second ∷ give second �
 abbrev pub two_held : List QueueEvent
 two_held = accept first ∷ accept second ∷ give first ∷ give second ∷ []
 
--- the newer packet comes out first
+-- the newer packet is given first
 abbrev pub order_turned : List QueueEvent
 order_turned = accept first ∷ accept second ∷ give second ∷ give first ∷ []
 
--- a packet that was never accepted comes out
+-- a packet that was never accepted is given
 abbrev pub other_given : List QueueEvent
 other_given = accept first ∷ give second ∷ []
 
@@ -38,23 +38,26 @@ other_given = accept first ∷ give second ∷ []
 abbrev pub nothing_given : List QueueEvent
 nothing_given = accept first ∷ empty ∷ []
 
--- a packet is put out, and no packet comes in for it: at the end, or before another event
+-- a packet is evicted at the end, and no packet is accepted for it
 abbrev pub put_out_at_end : List QueueEvent
 put_out_at_end = accept first ∷ evict first ∷ []
 
+-- another packet is given between an eviction and the acceptance that forced it
 abbrev pub given_in_between : List QueueEvent
 given_in_between = accept first ∷ accept second ∷ evict first ∷ give second ∷ accept third ∷ []
 
+-- another event comes between an eviction and the acceptance that forced it
 abbrev pub put_out_before : QueueEvent → List QueueEvent
 put_out_before event = accept first ∷ evict first ∷ event ∷ accept second ∷ []
 
--- the newest packet is put out where the front should be
+-- the newest packet is evicted instead of the front
 abbrev pub newest_put_out : List QueueEvent
 newest_put_out = accept first ∷ accept second ∷ evict second ∷ accept third ∷ []
 
--- the events that may not stand there
+-- an event that may not come between an eviction and an acceptance: a refusal
 abbrev pub refuses_second : QueueEvent
 refuses_second = refuse second
 
+-- an event that may not come between an eviction and an acceptance: another eviction
 abbrev pub puts_out_second : QueueEvent
 puts_out_second = evict second

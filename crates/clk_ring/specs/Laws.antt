@@ -17,8 +17,8 @@ pub record CallsAreHistory : Type 0 where
   pub offered : (events : List QueueEvent) (old new : Queue) (p : Packet) (outcome : Offered) → LeadsTo events old → IsOffered old p outcome new → LeadsTo (events ++ offer_events p outcome) new
   pub pulled : (events : List QueueEvent) (old new : Queue) (got : Option Packet) → LeadsTo events old → IsPulled old got new → LeadsTo (events ++ pull_event got ∷ []) new
 
--- A history leaves nothing to choose: how an offer ends, and what a pull gives, follow from what happened before, whatever
--- happens after.
+-- A history leaves nothing to choose: the outcome of an offer and the result of a pull follow from what happened before, whatever happens
+-- after.
 pub record HistoriesLeaveNoChoice : Type 0 where
   pub outcomes : (kind : Kind) (capacity : ℕ) (events : List QueueEvent) (p : Packet) (one other : Offered) (more rest : List QueueEvent) → NamesOffer p one → NamesOffer p other
       → IsQueueHistory kind capacity (events ++ (offer_events p one ++ more)) → IsQueueHistory kind capacity (events ++ (offer_events p other ++ rest)) → one ≡ other

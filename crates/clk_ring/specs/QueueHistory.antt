@@ -37,7 +37,7 @@ gone (empty ∷ events) = gone events
 abbrev pub held : List QueueEvent → List Packet
 held events = drop (length (gone events)) (accepted events)
 
--- A queue is first in, first out, and holds no more than fits: what it accepted is what left it, and then what it holds.
+-- A queue is first in, first out, and holds no more than its capacity: what it accepted is what left it, and then what it holds.
 pub record IsInOrder (capacity : ℕ) (events : List QueueEvent) : Type 0 where
   pub order : accepted events ≡ gone events ++ held events
   pub fits : length (held events) ≤ capacity
@@ -75,7 +75,7 @@ EachStands kind capacity before (event ∷ after) =
 abbrev pub IsQueueHistory : Kind → ℕ → List QueueEvent → Type 0
 IsQueueHistory kind capacity events = EachStands kind capacity [] events
 
--- the events that an offer with this outcome is to its queue
+-- what an offer with this outcome adds to the history of its queue
 abbrev pub offer_events : Packet → Offered → List QueueEvent
 offer_events p Accepted = accept p ∷ []
 offer_events p (Refused q) = refuse p ∷ []
@@ -87,7 +87,7 @@ NamesOffer p Accepted = ⊤
 NamesOffer p (Refused q) = q ≡ p
 NamesOffer p (Evicted front) = ⊤
 
--- the event that a pull with this result is to its queue
+-- what a pull with this result adds to the history of its queue
 abbrev pub pull_event : Option Packet → QueueEvent
 pull_event None = empty
 pull_event (Some p) = give p

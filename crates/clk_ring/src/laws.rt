@@ -10,15 +10,15 @@ pub fn calls_are_history()
     ensures { CallsAreHistory }
 {}
 
-/// How an offer ends, and what a pull gives, follow from what happened to the queue before.
+/// The outcome of an offer and the result of a pull follow from what happened to the queue before.
 pub fn histories_leave_no_choice()
     ensures { HistoriesLeaveNoChoice }
 {}
 
-/// Which worked examples are histories: a full Queue refuses what arrives, and a full FrontDropQueue puts its front out.
-/// Neither does what the other does, or does it with room left; none holds more than fits, gives a newer packet first, one that
-/// it never took, or nothing while it holds one, puts out another than its front, or puts one out without the packet that
-/// forces it.
+/// Which worked examples are histories. A full Queue refuses what arrives, and a full FrontDropQueue evicts its front. Neither does what
+/// the other does, or does it with room left. No queue holds more than its capacity. None gives a newer packet first, a packet that it
+/// never accepted, or nothing while it holds one. None evicts another packet than its front, or evicts one without accepting the packet
+/// that forces it.
 pub fn history_examples()
     ensures tail_drop { IsQueueHistory TailDrop 1 tail_dropped }
     ensures front_drop { IsQueueHistory FrontDrop 1 front_dropped }

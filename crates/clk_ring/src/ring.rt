@@ -7,11 +7,11 @@ use clk_packet::{Fault, Kind, Offered, Packet};
 use std::alloc::Global;
 use std::marker::Model;
 
-/// A queue of packets, first in, first out, that holds no more than its capacity. What becomes of a packet that arrives
-/// when it is full is its kind.
+/// A queue of packets, first in, first out, that holds no more than its capacity. Its kind says what it does with a packet that arrives
+/// when it is full.
 ///
-/// A packet takes eight bytes. The room for all of them is reserved when the ring is made, and the system gives it as it is
-/// first used. An offer and a pull take the same time at any capacity.
+/// A packet takes eight bytes. The memory for all of them is allocated when the ring is made, and the system provides it as it is first
+/// used. An offer and a pull take the same time at any capacity.
 #[derive(Drop)]
 pub struct Ring {
     kind: Kind,
@@ -34,11 +34,11 @@ impl Ring {
     ghost use Rattle.clk_packet.specs.Limits.{most_capacity};
     ghost use Rattle.clk_ring.specs.Queue.{empty_queue, IsOffered, IsPulled};
 
-    /// An empty queue of this kind that holds at most `capacity` packets, from 1 to 1,000,000. Its room is reserved here.
+    /// An empty queue of this kind that holds at most `capacity` packets, from 1 to 1,000,000. Its memory is allocated here.
     ///
     /// # Errors
     ///
-    /// Fault 1 where memory is refused.
+    /// Fault 1 if an allocation fails.
     pub fn new(alloc: Global, kind: Kind, capacity: usize) -> Result<Ring, Fault>
         requires capacity { (1 ≤ capacity) × (capacity ≤ most_capacity) }
         ensures empty { IfOk result (λ ring. ring ≡ empty_queue kind capacity) }
@@ -50,8 +50,8 @@ impl Ring {
         })
     }
 
-    /// Offers a packet. With room left it goes to the back. A full queue refuses it (Click: Queue), or takes it and lets the
-    /// packet at its front go (Click: FrontDropQueue).
+    /// Offers a packet. With room left it goes to the back. A full queue refuses it (Click: Queue), or evicts the packet at its front and
+    /// accepts it (Click: FrontDropQueue).
     pub fn offer(&mut self, packet: Packet) -> Offered
         ensures { IsOffered self.old packet result self.new }
     {
@@ -82,14 +82,14 @@ impl Ring {
         self.held.len()
     }
 
-    /// Whether it holds none.
+    /// Whether it holds no packet.
     pub fn is_empty(&self) -> bool
         ensures { IsTrue result ↔ self.now.packets ≡ [] }
     {
         self.held.is_empty()
     }
 
-    /// What becomes of a packet that arrives when it is full.
+    /// What it does with a packet that arrives when it is full.
     pub fn kind(&self) -> Kind
         ensures { result ≡ self.now.kind }
     {

@@ -5,7 +5,7 @@ use crate::trees::{
     DRR_1_OVER_ONE, DRR_500_1000, DRR_500_OVER_ONE, DRR_500_OVER_TWO, DRR_OVER_DRR,
 };
 
-/// A head waits for its deficit: 600 bytes for a second quantum, and then 401, since 400 are left, for another.
+/// A head waits for its deficit: one of 600 bytes for a second quantum, and then one of 401, since 400 bytes are left, for another.
 pub const DEFICIT_TWO_QUEUES: Row = Row {
     name: "deficit-two-queues",
     tree: DRR_500_OVER_TWO,
@@ -45,7 +45,7 @@ pub const DEFICIT_HELD: Row = Row {
     1,1,0,0,0,0,1000,1,0\n1,0,0,1,0,0,1000,1,0\n",
 };
 
-/// A head that is held at the closing is drained.
+/// A head that is held when a drain begins is emitted.
 pub const DEFICIT_HELD_AT_CLOSE: Row = Row {
     name: "deficit-held-at-close",
     tree: DRR_500_OVER_ONE,
@@ -70,7 +70,7 @@ pub const NESTED_DEFICIT: Row = Row {
     3,1,0,0,0,0,700,1,0\n3,0,0,1,0,0,700,1,0\n",
 };
 
-/// The packet comes out at the last of 65,535 pulls.
+/// A drain emits the packet at the last of 65,535 pulls.
 pub const LONG_DRAIN: Row = Row {
     name: "long-drain",
     tree: DRR_1_OVER_ONE,

@@ -14,7 +14,7 @@ pub const TWO_DEVICES: Row = Row {
     visits: "",
 };
 
-/// A closing goes from device to device.
+/// A drain goes from device to device.
 pub const TWO_DEVICES_DRAINED: Row = Row {
     name: "two-devices-drained",
     tree: trees::TWO_DEVICES,

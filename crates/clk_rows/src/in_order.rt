@@ -3,7 +3,7 @@
 use crate::Row;
 use crate::trees::{PRIO_OVER_ROOM_FOR_TWO, ROUND_ROBIN_OVER_THREE};
 
-/// A lower input goes first. The tree is the one that the program runs without words.
+/// A lower input goes first. The program runs this tree when it gets no arguments.
 pub const PRIO_TWO_QUEUES: Row = Row {
     name: "prio-two-queues",
     tree: PRIO_OVER_ROOM_FOR_TWO,

@@ -1,8 +1,8 @@
-//! Worked rows, each told once for the tests of all crates that show it.
+//! Worked rows, each written once for the tests of all crates that show it.
 //!
-//! A row that the tests of one crate alone show stands there. The examples in `specs/Examples/` of `clk_sched` tell some rows once more, as
-//! the visits of a definition, and the stored run of the program tells `prio-two-queues` in its files: neither can read a text of Rust. And
-//! the tests of `clk_ruled` tell the rows of full queues as calls of seats, whose answers are lists of packets.
+//! A row that the tests of one crate alone show stands there. Some rows are written again elsewhere, where a text of Rust can't be read.
+//! The examples in `specs/Examples/` of `clk_sched` have some as visits of a definition, and the stored run of the program has
+//! `prio-two-queues` in its files. The tests of `clk_ruled` have the rows of full queues as calls of seats, which return lists of packets.
 #![tactic(auto)]
 
 mod deficit;
@@ -38,7 +38,7 @@ pub struct Row {
     pub script: &'static str,
     /// What the script writes.
     pub answer: &'static str,
-    /// Its visits as CSV, without the header. Empty where it shows none.
+    /// Its visits as CSV, without the header. Empty if it shows none.
     pub visits: &'static str,
 }
 

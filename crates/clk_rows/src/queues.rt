@@ -3,7 +3,7 @@
 use crate::Row;
 use crate::trees::{PRIO_OVER_FRONT_DROP, PRIO_OVER_ROOM_FOR_ONE, SHARED_FRONT_DROP};
 
-/// A full Queue refuses a packet. Nothing is left at the drain, which pulls nothing.
+/// A full Queue refuses a packet. Nothing is left at the drain, which makes no pull.
 pub const TAIL_DROP_FULL: Row = Row {
     name: "tail-drop-full",
     tree: PRIO_OVER_ROOM_FOR_ONE,
@@ -15,7 +15,7 @@ pub const TAIL_DROP_FULL: Row = Row {
     visits: "0,1,0,1,0,0,10,1,0\n0,0,0,1,0,0,10,1,0\n",
 };
 
-/// A full FrontDropQueue puts its front out.
+/// A full FrontDropQueue evicts its front.
 pub const FRONT_DROP_FULL: Row = Row {
     name: "front-drop-full",
     tree: PRIO_OVER_FRONT_DROP,
@@ -28,7 +28,7 @@ pub const FRONT_DROP_FULL: Row = Row {
     2,1,0,1,,,,0,0\n2,0,0,1,,,,0,0\n",
 };
 
-/// A packet may put out another sender's.
+/// A packet may evict another sender's.
 pub const EVICTS_OTHER_SENDER: Row = Row {
     name: "evicts-other-sender",
     tree: SHARED_FRONT_DROP,

@@ -7,7 +7,7 @@ use crate::trees::{self, DRR_1_OVER_ONE, DRR_500_OVER_TWO, EIGHT_SENDERS, FOUR_A
 pub struct Run {
     pub name: &'static str,
     pub tree: &'static str,
-    /// Records, which make the trace by standing in it so many times, one after another.
+    /// Records. The trace has them so many times, one after another.
     pub records: &'static str,
     pub times: usize,
     pub report: &'static str,
@@ -16,7 +16,7 @@ pub struct Run {
 /// A record of 64 bytes of each of eight senders.
 const ONE_OF_EIGHT: &str = "0,64\n1,64\n2,64\n3,64\n4,64\n5,64\n6,64\n7,64\n";
 
-/// The report where each of them sent a hundred packets.
+/// The report if each of eight senders sent a hundred packets of 64 bytes.
 const HUNDRED_OF_EIGHT: &str =
     "sender 0: sent 100 6400, accepted 100 6400, refused 0 0, evicted 0 0, emitted 100 6400\n\
     sender 1: sent 100 6400, accepted 100 6400, refused 0 0, evicted 0 0, emitted 100 6400\n\
@@ -36,7 +36,7 @@ pub const EIGHT_SENDERS_ONE_QUEUE: Run = Run {
     report: HUNDRED_OF_EIGHT,
 };
 
-/// The first four of them share the queue of one device, and the others that of another.
+/// Four of eight senders share the queue of one device, and the other four that of another.
 pub const EIGHT_SENDERS_TWO_DEVICES: Run = Run {
     name: "eight-senders-two-devices",
     tree: FOUR_AT_EACH,
@@ -45,7 +45,7 @@ pub const EIGHT_SENDERS_TWO_DEVICES: Run = Run {
     report: HUNDRED_OF_EIGHT,
 };
 
-/// Each sender of the tree is reported, also where the trace has no record.
+/// Each sender of the tree is reported, even if the trace has no record.
 pub const EMPTY_TRACE_TWO_QUEUES: Run = Run {
     name: "empty-trace-two-queues",
     tree: DRR_500_OVER_TWO,
@@ -55,7 +55,7 @@ pub const EMPTY_TRACE_TWO_QUEUES: Run = Run {
     sender 1: sent 0 0, accepted 0 0, refused 0 0, evicted 0 0, emitted 0 0\n",
 };
 
-/// The longest packet waits for 65,535 quanta of a byte. A closing with one packet left is given 131,072 pulls.
+/// The longest packet waits for 65,535 quanta of a byte. A drain of one packet may make 131,072 pulls.
 pub const LONG_RUN: Run = Run {
     name: "long-run",
     tree: DRR_1_OVER_ONE,

@@ -3,7 +3,7 @@
 use crate::Row;
 use crate::trees::{SHAPER_1_1, SHAPER_1_2};
 
-/// A burst goes first. The last pull names an earlier moment than the one before it, which then counts.
+/// A burst goes first. The last pull names an earlier moment than the pull before it, and counts as one at that.
 pub const SHAPER_BURST_TWO: Row = Row {
     name: "shaper-burst-two",
     tree: SHAPER_1_2,
@@ -20,7 +20,7 @@ pub const SHAPER_BURST_TWO: Row = Row {
     5,1,0,1,0,3,10,1,2\n5,0,0,1,0,3,10,1,2\n",
 };
 
-/// A late moment fills nothing. The first pull is at the last moment that a script can name, and the closing goes on beyond it.
+/// A late moment fills nothing. The first pull is at the last moment that a script can name, and the drain goes on beyond it.
 pub const SHAPER_LATE_MOMENT: Row = Row {
     name: "shaper-late-moment",
     tree: SHAPER_1_1,

@@ -10,7 +10,7 @@ pub struct Text {
     pub canonical: &'static str,
 }
 
-/// A canonical text leaves out comments, and tells arguments and ports that may be left out.
+/// A canonical text leaves out comments, and writes arguments and ports that may be left out.
 pub const CANONICAL_TEXT: Text = Text {
     name: "canonical-text",
     tree: COMMENTED,

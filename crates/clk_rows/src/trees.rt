@@ -1,6 +1,6 @@
 //! The trees of the rows.
 
-/// A PrioSched over two queues of two packets. The program runs it without words.
+/// A PrioSched over two queues of two packets. The program runs it when it gets no arguments.
 pub const PRIO_OVER_ROOM_FOR_TWO: &str = "s0 :: Sender(0); s1 :: Sender(1);
 q0 :: Queue(2); q1 :: Queue(2);
 p :: PrioSched;
@@ -45,7 +45,7 @@ pub const DRR_500_OVER_TWO: &str =
     "s0 :: Sender(0); q0 :: Queue; s1 :: Sender(1); q1 :: Queue; x :: DRRSched(500); d :: ToDevice(link);
 s0 -> q0 -> [0] x; s1 -> q1 -> [1] x; x -> d;";
 
-/// The same with a quantum of 500 for the first, and of 1000 for the second.
+/// A DRRSched over two queues, of quantum 500 for the first and 1000 for the second.
 pub const DRR_500_1000: &str =
     "s0 :: Sender(0); q0 :: Queue; s1 :: Sender(1); q1 :: Queue; x :: DRRSched(500, 1000); d :: ToDevice(link);
 s0 -> q0 -> [0] x; s1 -> q1 -> [1] x; x -> d;";
@@ -64,7 +64,7 @@ s0 -> q0 -> [0] x; s1 -> q1 -> [1] x; x -> d;";
 pub const SHAPER_1_1: &str =
     "s0 :: Sender(0); q0 :: Queue; x :: Shaper(1, 1); d :: ToDevice(link); s0 -> q0 -> [0] x; x -> d;";
 
-/// The same of burst 2.
+/// A Shaper of rate 1 and burst 2 over a queue.
 pub const SHAPER_1_2: &str =
     "s0 :: Sender(0); q0 :: Queue; x :: Shaper(1, 2); d :: ToDevice(link); s0 -> q0 -> [0] x; x -> d;";
 

@@ -6,7 +6,7 @@ use clk_locked::Locked;
 use clk_packet::{Offered, Packet};
 use std::sync::Wait;
 
-/// What a queue that threads share refuses of an offer, if it does: the packet that was offered.
+/// Offers a packet to a queue that threads share, and returns what is refused, if anything is: the packet that was offered.
 pub fn refused_of(wait: &impl Wait, queue: &Locked, packet: Packet) -> Option<Packet>
     ensures { IfSome result (λ refused. refused ≡ packet) }
 {

@@ -6,7 +6,7 @@ use clk_packet::{Fault, Kind, Packet};
 use clk_ring::Ring;
 use std::alloc::Global;
 
-/// What comes out of a FrontDropQueue of one packet that two packets go to: the newer one.
+/// Offers two packets to a FrontDropQueue of one packet, and pulls: the newer one is returned.
 pub fn newest(alloc: Global, older: Packet, newer: Packet) -> Result<Option<Packet>, Fault>
     ensures { IfOk result (λ got. got ≡ Some newer) }
 {
