@@ -39,7 +39,7 @@ popped o = received o.consumer
 abbrev pub taken : Outlet → List Item
 taken o = packets (popped o)
 
--- the items that were seen in the ring and have not come out
+-- the items that were seen in the ring and have not been popped
 abbrev pub seen : Outlet → List Item
 seen o = known_items o.consumer
 

@@ -20,7 +20,7 @@ pub struct Inlet {
     // How many packets are sure to fit.
     free: usize,
     ended: bool,
-    // Keeps what two inlets write on cache lines of their own, wherever they lie, also where a processor fetches lines in pairs.
+    // Keeps what two inlets write on separate cache lines, wherever the inlets lie, even if a processor fetches lines in pairs.
     _padding: [u64; 16],
     ghost counted: { next ≡ length (packets (sent producer)) },
     ghost end_is_put: { ended ≡ has_end (sent producer) },
@@ -199,7 +199,7 @@ impl Drop for Inlet {
     }
 }
 
-// Lets the sender's side of a ring go, in which the end is.
+// Drops the sender's side of a ring, in which the end is.
 fn leave(producer: Producer<Item, Global, ItemOrder>)
     requires ended { has_end (sent producer) ≡ true }
 {

@@ -79,7 +79,7 @@ impl Outlet {
     }
 
     /// Takes packets into the start of `items`, as many as have come and fit there, and returns how many. The rest of `items` stays as it
-    /// is. The end is never given.
+    /// is. The end is never returned.
     pub fn take_many(&mut self, items: &mut [Item]) -> usize
         ensures count { result ≤ length items.old }
         ensures rest { drop result items.new ≡ drop result items.old }

@@ -6,7 +6,7 @@ ghost use Rattle.clk_inlet.specs.Items.{packet_item};
 use clk_inlet::{Item, open};
 use std::alloc::{AllocError, Global};
 
-/// A packet goes through an inlet, and comes out with its length and its token.
+/// A packet goes through an inlet, and is taken with its length and its token.
 pub fn through(alloc: Global, length: u16, token: u64) -> Result<Option<Item>, AllocError>
     requires { 1 ≤ length }
     ensures { IfOk result (λ got. got ≡ Some (packet_item length token)) }

@@ -6,6 +6,7 @@ use Rattle.clk_packet.specs.declared.packet.Kind.TheVariants.{TailDrop, FrontDro
 use Rattle.clk_syntax.specs.Classes.{Class, sender, queue, prio, round_robin, drr, stride, shaper, device}
 use Rattle.clk_tree.specs.Plan.{Planned}
 
+-- the name of a class of queue, by its kind
 abbrev pub queue_text : Kind → List ℕ
 queue_text TailDrop = codes "Queue"
 queue_text FrontDrop = codes "FrontDropQueue"
@@ -21,7 +22,7 @@ class_text (stride tickets) = codes "StrideSched"
 class_text (shaper rate burst) = codes "Shaper"
 class_text (device word) = codes "ToDevice"
 
--- its arguments, all of them
+-- the arguments of a class, all of them
 abbrev pub arguments_of : Class → List (List ℕ)
 arguments_of (sender n) = decimal n ∷ []
 arguments_of (queue kind capacity) = decimal capacity ∷ []
@@ -32,12 +33,12 @@ arguments_of (stride tickets) = map decimal tickets
 arguments_of (shaper rate burst) = decimal rate ∷ decimal burst ∷ []
 arguments_of (device word) = word ∷ []
 
--- `(WORD, WORD, ..)`, or nothing where there are none
+-- `(WORD, WORD, ..)`, or nothing if there are no words
 abbrev pub arguments_text : List (List ℕ) → List ℕ
 arguments_text [] = []
 arguments_text (word ∷ more) = codes "(" ++ (word ++ (flat_map (λ w. codes ", " ++ w) more ++ codes ")"))
 
--- `NAME :: CLASS(WORD, ..);`
+-- the line of an element: `NAME :: CLASS(WORD, ..);`
 abbrev pub element_text : Planned → List ℕ
 element_text e = e.name ++ (codes " :: " ++ (class_text e.class ++ (arguments_text (arguments_of e.class) ++ codes ";\n")))
 
@@ -45,17 +46,17 @@ abbrev pub name_of : Option Planned → List ℕ
 name_of None = []
 name_of (Some e) = e.name
 
--- `NAME [0] -> [INPUT] NAME;`
+-- the line of a connection: `NAME [0] -> [INPUT] NAME;`
 abbrev pub connection_text : List Planned → ℕ → ℕ → List ℕ → List ℕ
 connection_text plan source input name =
     name_of (slice_get plan source) ++ (codes " [0] -> [" ++ (decimal input ++ (codes "] " ++ (name ++ codes ";\n"))))
 
--- the connections to the inputs of an element, from this one on
+-- the lines of the connections to the inputs of an element, from this input on
 abbrev pub inputs_text : List Planned → List ℕ → ℕ → List ℕ → List ℕ
 inputs_text plan name input [] = []
 inputs_text plan name input (s ∷ more) = connection_text plan s input name ++ inputs_text plan name (input + 1) more
 
--- the connections to an element of a class: those of a queue are all to its input 0
+-- the lines of the connections to an element of a class: those of a queue are all to its input 0
 abbrev pub class_inputs_text : List Planned → List ℕ → List ℕ → Class → List ℕ
 class_inputs_text plan name sources (queue kind capacity) = flat_map (λ s. connection_text plan s 0 name) sources
 class_inputs_text plan name sources class = inputs_text plan name 0 sources

@@ -5,8 +5,7 @@ use Rattle.clk_packet.specs.declared.fault.Fault.TheVariants.{Memory}
 use Rattle.clk_syntax.specs.Reading.{HasFault}
 use Rattle.clk_tree.specs.Plan.{Planned, Denotes}
 
--- A text has one meaning: it denotes a plan or has a fault, never both, and no second plan or fault. That memory was refused is never what
--- is wrong with a text.
+-- A text has one meaning: it denotes a plan or has a fault, never both, and no second plan or fault. Its fault is never fault 1 (`Memory`).
 pub record HasOneMeaning (text : List ℕ) : Type 0 where
   pub some : ((plan : List Planned) × Denotes text plan) ⊎ ((fault : Fault) × HasFault text fault)
   pub not_both : (plan : List Planned) (fault : Fault) → Denotes text plan → ¬ (HasFault text fault)

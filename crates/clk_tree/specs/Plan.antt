@@ -20,7 +20,7 @@ pub record Planned : Type 0 where
   pub class : Class
   pub sources : List ℕ
 
--- the element connected to this input of an element
+-- the place of the element connected to this input of an element, or 0 if there is none
 abbrev pub source_at : List Link → ℕ → ℕ → ℕ
 source_at [] i input = 0
 source_at (c ∷ more) i input = if (c.to == i) && (c.input == input) then c.from else source_at more i input
@@ -29,7 +29,7 @@ source_at (c ∷ more) i input = if (c.to == i) && (c.input == input) then c.fro
 abbrev pub is_connected : List Link → ℕ → ℕ → Bool
 is_connected links i j = is_number i (target j links)
 
--- the elements connected to one, of which there are so many in all
+-- the places of the elements connected to an element, of which there are so many in all
 abbrev pub sources_of : ℕ → List Link → ℕ → Role → List ℕ
 sources_of count links i role.Queue = filter (is_connected links i) (range_with_len 0 count)
 sources_of count links i r = map (source_at links i) (range_with_len 0 (inputs_of i r links))

@@ -5,17 +5,17 @@ use Rattle.clk_sched.specs.Tree.{Row, end, leaf, node, Tree, root}
 use Rattle.clk_syntax.specs.Classes.{Class, queue, prio, round_robin, drr, stride, shaper, device}
 use Rattle.clk_tree.specs.Plan.{Planned}
 
--- whether it is the class of a queue
+-- whether this is the class of a queue
 abbrev pub is_queue : Class → Bool
 is_queue (queue kind capacity) = true
 is_queue class = false
 
--- whether it is the class of a device
+-- whether this is the class of a device
 abbrev pub is_device : Class → Bool
 is_device (device word) = true
 is_device class = false
 
--- how many queues there are
+-- how many queues are among these elements
 abbrev pub queue_count : List Planned → ℕ
 queue_count [] = 0
 queue_count (e ∷ more) = if is_queue e.class then queue_count more + 1 else queue_count more
@@ -43,7 +43,7 @@ scheduler_over (stride tickets) inputs = Some (tree.stride tickets)
 scheduler_over (shaper rate burst) inputs = Some (tree.shaper rate burst)
 scheduler_over class inputs = None
 
--- an element is a scheduler of this class over its inputs
+-- The element of a plan that a node of a tree stands for: a scheduler of the node's class, with arguments for as many inputs as it has.
 abbrev pub IsNode : tree.Class → Option Planned → Type 0
 IsNode class None = ⊥
 IsNode class (Some e) = scheduler_over e.class (length e.sources) ≡ Some class
@@ -66,7 +66,7 @@ abbrev pub device_sources : List Planned → List (List ℕ)
 device_sources [] = []
 device_sources (e ∷ more) = if is_device e.class then e.sources ∷ device_sources more else device_sources more
 
--- how many devices there are
+-- how many devices a plan has
 abbrev pub device_count : List Planned → ℕ
 device_count plan = length (device_sources plan)
 

@@ -2,9 +2,8 @@
 
 ghost use Rattle.clk_tree.specs.Laws.{TextsHaveOneMeaning};
 
-/// A text denotes a plan or has a fault, never both, and no second plan or fault; and that memory was refused is no fault of a text. So
-/// `Plan::read`, where it doesn't answer fault 1, answers a plan just where the text denotes one, and then that plan, and else the fault
-/// that the text has.
+/// A text denotes a plan or has a fault, never both, and no second plan or fault. Fault 1 is never the fault of a text. So `Plan::read`,
+/// unless it returns fault 1, returns the plan that the text denotes, or else the fault that the text has.
 pub fn texts_have_one_meaning()
     ensures { TextsHaveOneMeaning }
 {}

@@ -68,14 +68,14 @@ impl Plan {
     ghost use Rattle.clk_tree.specs.Drrs.{AreDrrsAbove};
     ghost use Rattle.clk_tree.specs.Canonical.{canonical_text};
 
-    /// Reads a tree text: the plan that it denotes, where it keeps to the grammar of Click's language, and declares and connects trees of
-    /// schedulers over queues with senders, each of which ends at a device of its own.
+    /// Reads a tree text, and returns the plan that it denotes. The text has to keep to the grammar of Click's language. It has to declare
+    /// and connect trees of schedulers over queues with senders, each of which ends at a device of its own.
     ///
     /// # Errors
     ///
-    /// Fault 1 where memory is refused; else 18 for a text of more than 1,048,576 bytes, 2 for one that breaks the grammar, and then 5, 3, 4,
-    /// 6, 7, 8, 9, 10, 11, 13 and 18, the first in this order that the text has, at its first place. A text may have several devices, so
-    /// fault 12 is never answered.
+    /// Fault 1 if an allocation fails. Otherwise fault 18 for a text of more than 1,048,576 bytes, fault 2 for one that breaks the grammar,
+    /// and then 5, 3, 4, 6, 7, 8, 9, 10, 11, 13 and 18: the first in this order that the text has, at its first place. Fault 12 is never
+    /// returned, since a text may have several devices.
     pub fn read(alloc: Global, text: &[u8]) -> Result<Plan, Fault>
         ensures denotes { IfOk result (Denotes text.now) }
         ensures fault { IfErr result (λ fault. (fault ≡ Memory) ⊎ HasFault text.now fault) }
@@ -97,10 +97,10 @@ impl Plan {
     ///
     /// # Errors
     ///
-    /// Fault 1 where memory is refused.
+    /// Fault 1 if an allocation fails.
     pub fn write(&self, alloc: Global) -> Result<Vec<u8>, Fault>
         ensures text { IfOk result (λ text. text.items ≡ canonical_text self.now) }
-        // Where it is no longer than a text may be, it denotes this plan.
+        // If it is no longer than a text may be, it denotes this plan.
         ensures again { IfOk result (λ text. length text.items ≤ most_tree_bytes → Denotes text.items self.now) }
         ensures fault { IsOkUnless result Memory }
     {
@@ -120,12 +120,12 @@ impl Plan {
     ///
     /// # Errors
     ///
-    /// Fault 1 where memory is refused.
+    /// Fault 1 if an allocation fails.
     pub fn tree(&self, alloc: Global, device: u16) -> Result<Tree, Fault>
         requires device { device < device_count self.now }
         ensures tree { IfOk result (IsTreeOf self.now device) }
         ensures distinct { IfOk result (λ tree. leaves_distinct tree ≡ true) }
-        // A session takes it.
+        // It is small enough for a session.
         ensures fits { IfOk result (λ tree. 1 + elements (root tree) ≤ most_elements) }
         // Its leaves are the queues whose paths end at this device.
         ensures leaves { IfOk result (λ tree. (q : ℕ) → stands_in q (leaves (root tree)) ≡ leads_to device (slice_get (queues_of self.now) q)) }
@@ -154,7 +154,7 @@ impl Plan {
     ///
     /// # Errors
     ///
-    /// Fault 1 where memory is refused.
+    /// Fault 1 if an allocation fails.
     pub fn drrs_above(&self, alloc: Global) -> Result<Vec<u32>, Fault>
         ensures length { IfOk result (λ counts. length counts.items ≡ length (queues_of self.now)) }
         ensures counts { IfOk result (λ counts. (trees : List Tree) → AreTreesOf self.now trees → AreDrrsAbove (queues_of self.now) trees counts.items) }
@@ -187,7 +187,7 @@ impl Plan {
     }
 }
 
-/// The elements of the plan that a text denotes. Faults as those of `Plan::read`.
+/// The elements of the plan that a text denotes. Fails with the faults of `Plan::read`.
 fn read_elements(alloc: Global, text: &[u8]) -> Result<Vec<Element>, Fault>
     ensures denotes { IfOk result (λ elements. Denotes text.now (map planned elements.items)) }
     ensures fault { IfErr result (λ fault. (fault ≡ Memory) ⊎ HasFault text.now fault) }
@@ -207,7 +207,7 @@ fn read_elements(alloc: Global, text: &[u8]) -> Result<Vec<Element>, Fault>
     )
 }
 
-/// The element that is connected to each device, by its place among all. Fault 1 where memory is refused.
+/// The element that is connected to each device, by its place among all. Fault 1 if an allocation fails.
 fn tops_of(alloc: Global, elements: &[Element]) -> Result<Vec<u16>, Fault>
     requires one { AllByRecursion (λ sources. length sources ≡ 1) (device_sources (map planned elements.now)) }
     ensures made { IfOk result (λ tops. device_sources (map planned elements.now) ≡ map (λ top. top ∷ []) tops.items) }

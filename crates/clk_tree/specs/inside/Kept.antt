@@ -9,9 +9,10 @@ use Rattle.clk_tree.specs.Plan.{Known, Planned}
 abbrev pub planned : Element → Planned
 planned e = record { name = e.name.items; class = class_view e.class; sources = e.sources.items }
 
--- elements of one class by these names
+-- an element of this name and class
 abbrev pub known_as : List ℕ → Class → Known
 known_as name class = record { name = name; class = class }
 
+-- elements of one class, with these names
 abbrev pub names_as : List ℕ → Class → List Token → List Known
 names_as text class names = map (λ name. known_as (letters text name) class) names

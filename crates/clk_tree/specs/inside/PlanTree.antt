@@ -10,17 +10,18 @@ use Rattle.clk_syntax.specs.Classes.{Class}
 use Rattle.clk_tree.specs.Plan.{Planned}
 use Rattle.clk_tree.specs.PlanTree.{is_queue, scheduler_over}
 
--- Whether a class can be a scheduler over so many inputs: there is one at least, they are within the limit, and its arguments fit them.
+-- The arguments of a scheduler's class fit so many inputs.
 abbrev pub FitsInputs : ℕ → Option tree.Class → Type 0
 FitsInputs inputs None = ⊥
 FitsInputs inputs (Some class) = HasArguments class inputs
 
+-- A class can be that of a scheduler over so many inputs: there is at least one, they are within the limit, and its arguments fit them.
 pub record IsOver (class : Class) (inputs : ℕ) : Type 0 where
   pub some : 1 ≤ inputs
   pub within : inputs ≤ most_inputs
   pub fits : FitsInputs inputs (scheduler_over class inputs)
 
--- what the constructor of a class makes of these trees
+-- the result of the constructor of a class over these trees
 abbrev pub IsBuilt : Class → List Tree → Result Tree Fault → Type 0
 IsBuilt class children result = MatchOption (scheduler_over class (length children)) ⊥ (λ over. result ≡ built over children)
 

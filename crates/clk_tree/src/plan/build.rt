@@ -19,7 +19,7 @@ use clk_packet::Fault;
 use clk_syntax::{Class, Declaration, Graph, Token, letters};
 use std::alloc::Global;
 
-/// The elements of a plan: those that are declared, with their classes and what is connected to them. Fault 1 where memory is refused.
+/// The elements of a plan: those that are declared, with their classes and what is connected to them. Fault 1 if an allocation fails.
 pub fn elements_of(
     alloc: Global,
     text: &[u8],
@@ -51,7 +51,7 @@ pub fn elements_of(
     Ok(elements)
 }
 
-/// Adds the elements of these names, which are all of one class. Fault 1 where memory is refused.
+/// Adds the elements of these names, which are all of one class. Fault 1 if an allocation fails.
 fn push_declared(
     alloc: Global,
     text: &[u8],
@@ -77,7 +77,7 @@ fn push_declared(
     Ok(())
 }
 
-/// An element of this name and class. Fault 1 where memory is refused.
+/// An element of this name and class. Fault 1 if an allocation fails.
 fn element(
     alloc: Global,
     name: &[u8],

@@ -18,7 +18,7 @@ fn has_output(elements: &[Element], place: u16) -> bool
     !elements[place as usize].is_device()
 }
 
-/// The place of the element to which another is connected, or the end of the elements where there is none.
+/// The place of the element to which another is connected, or the number of elements if there is none.
 fn place_fed(elements: &[Element], place: u16) -> u16
     requires few { length elements.now ≤ most_elements }
     ensures { result ≡ place_fed (map planned elements.now) place }

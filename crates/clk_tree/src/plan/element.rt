@@ -45,7 +45,7 @@ impl Element {
         }
     }
 
-    /// The tree of this scheduler over its inputs. Fault 1 where memory is refused, and what the tree's constructor refuses.
+    /// The tree of this scheduler over its inputs. Fault 1 if an allocation fails, and otherwise the faults of the tree's constructor.
     pub fn over(&self, alloc: Global, children: Vec<Tree>) -> Result<Tree, Fault>
         requires inputs { IsOver (class_view self.now.class) (length children.items) }
         ensures { (result ≡ Err Memory) ⊎ IsBuilt (class_view self.now.class) children.items result }
@@ -64,7 +64,7 @@ impl Element {
     }
 }
 
-/// The quantum of each of so many inputs, where one is for all of them or there is one for each. Fault 1 where memory is refused.
+/// The quantum of each of so many inputs, if one quantum is for all of them or there is one for each. Fault 1 if an allocation fails.
 fn quanta_over(alloc: Global, quanta: &[u32], inputs: usize) -> Result<Vec<u32>, Fault>
     ensures quanta { IfOk result (λ over. tree.drr over.items ≡ drr_over quanta.now inputs) }
     ensures fault { IsOkUnless result Memory }
@@ -75,7 +75,7 @@ fn quanta_over(alloc: Global, quanta: &[u32], inputs: usize) -> Result<Vec<u32>,
     }
 }
 
-/// A Shaper over one tree, as `over`.
+/// A Shaper over one tree. Fails as `over` does.
 fn shaper_over(alloc: Global, rate: u32, burst: u32, mut children: Vec<Tree>) -> Result<Tree, Fault>
     requires one { HasArguments (tree.shaper rate burst) (length children.items) }
     ensures { (result ≡ Err Memory) ⊎ (result ≡ built (tree.shaper rate burst) children.items) }

@@ -16,7 +16,7 @@ use std::alloc::Global;
 /// A queue of a plan.
 #[derive(Drop)]
 pub struct QueueSpec {
-    /// What becomes of a packet that arrives when it is full.
+    /// What it does with a packet that arrives when it is full.
     pub kind: Kind,
     /// How many packets it holds at most, from 1 to 1,000,000.
     pub capacity: u32,
@@ -63,7 +63,7 @@ fn rank(senders: &[SenderSpec], number: u16) -> usize
         .count()
 }
 
-/// Puts a sender before the first of a greater number. Fault 1 where memory is refused.
+/// Puts a sender before the first of a greater number. Fault 1 if an allocation fails.
 fn place(senders: &mut Vec<SenderSpec>, sender: SenderSpec) -> Result<(), Fault>
     ensures placed { OnOk result (senders.new.items ≡ placed sender senders.old.items) }
     ensures fault { IsOkUnless result Memory }
@@ -73,7 +73,7 @@ fn place(senders: &mut Vec<SenderSpec>, sender: SenderSpec) -> Result<(), Fault>
     Ok(())
 }
 
-/// The senders of a plan, by rising number. Fault 1 where memory is refused.
+/// The senders of a plan, by rising number. Fault 1 if an allocation fails.
 pub fn senders_of(alloc: Global, elements: &[Element]) -> Result<Vec<SenderSpec>, Fault>
     requires few { length elements.now ≤ most_elements }
     ensures made { IfOk result (λ senders. senders.items ≡ senders_of (map planned elements.now)) }
@@ -90,7 +90,7 @@ pub fn senders_of(alloc: Global, elements: &[Element]) -> Result<Vec<SenderSpec>
     Ok(senders)
 }
 
-/// The numbers of the senders that send to this queue. Fault 1 where memory is refused.
+/// The numbers of the senders that send to this queue. Fault 1 if an allocation fails.
 fn senders_to(alloc: Global, senders: &[SenderSpec], queue: u16) -> Result<Vec<u16>, Fault>
     ensures made { IfOk result (λ numbers. numbers.items ≡ senders_to senders.now queue) }
     ensures fault { IsOkUnless result Memory }
@@ -104,7 +104,7 @@ fn senders_to(alloc: Global, senders: &[SenderSpec], queue: u16) -> Result<Vec<u
     Ok(numbers)
 }
 
-/// The queues of a plan, whose senders these are. Fault 1 where memory is refused.
+/// The queues of a plan, whose senders these are. Fault 1 if an allocation fails.
 pub fn queues_of(
     alloc: Global,
     elements: &[Element],

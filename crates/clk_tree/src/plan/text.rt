@@ -13,7 +13,7 @@ use clk_syntax::Class;
 use itoa::Buffer;
 use std::alloc::Global;
 
-/// The canonical text of a plan of these elements. Fault 1 where memory is refused.
+/// The canonical text of a plan of these elements. Fault 1 if an allocation fails.
 pub fn canonical_text(alloc: Global, elements: &[Element]) -> Result<Vec<u8>, Fault>
     ensures text { IfOk result (λ text. text.items ≡ canonical_text (map planned elements.now)) }
     ensures fault { IsOkUnless result Memory }
@@ -24,7 +24,7 @@ pub fn canonical_text(alloc: Global, elements: &[Element]) -> Result<Vec<u8>, Fa
     Ok(text)
 }
 
-/// Adds the line of each element. Fault 1 where memory is refused.
+/// Adds the line of each element. Fault 1 if an allocation fails.
 fn push_elements(text: &mut Vec<u8>, elements: &[Element]) -> Result<(), Fault>
     ensures lines { OnOk result (text.new.items ≡ text.old.items ++ flat_map element_text (map planned elements.now)) }
     ensures fault { IsOkUnless result Memory }
@@ -35,7 +35,7 @@ fn push_elements(text: &mut Vec<u8>, elements: &[Element]) -> Result<(), Fault>
     Ok(())
 }
 
-/// Adds the line of an element. Fault 1 where memory is refused.
+/// Adds the line of an element. Fault 1 if an allocation fails.
 fn push_element(text: &mut Vec<u8>, element: &Element) -> Result<(), Fault>
     ensures line { OnOk result (text.new.items ≡ text.old.items ++ element_text (planned element.now)) }
     ensures fault { IsOkUnless result Memory }
@@ -65,7 +65,7 @@ fn class_text(class: &Class) -> &'static [u8]
     }
 }
 
-/// Adds the arguments of a class, all of them. Fault 1 where memory is refused.
+/// Adds the arguments of a class, all of them. Fault 1 if an allocation fails.
 fn push_arguments(text: &mut Vec<u8>, class: &Class) -> Result<(), Fault>
     ensures arguments { OnOk result (text.new.items ≡ text.old.items ++ arguments_text (arguments_of (class_view class.now))) }
     ensures fault { IsOkUnless result Memory }
@@ -81,7 +81,7 @@ fn push_arguments(text: &mut Vec<u8>, class: &Class) -> Result<(), Fault>
     }
 }
 
-/// Adds a word as the one argument. Fault 1 where memory is refused.
+/// Adds a word as the one argument. Fault 1 if an allocation fails.
 fn push_word(text: &mut Vec<u8>, word: &[u8]) -> Result<(), Fault>
     ensures arguments { OnOk result (text.new.items ≡ text.old.items ++ arguments_text (word.now ∷ [])) }
     ensures fault { IsOkUnless result Memory }
@@ -92,7 +92,7 @@ fn push_word(text: &mut Vec<u8>, word: &[u8]) -> Result<(), Fault>
     Ok(())
 }
 
-/// Adds numbers as the arguments. Fault 1 where memory is refused.
+/// Adds numbers as the arguments. Fault 1 if an allocation fails.
 fn push_numbers(text: &mut Vec<u8>, numbers: &[u32]) -> Result<(), Fault>
     ensures arguments { OnOk result (text.new.items ≡ text.old.items ++ arguments_text (map decimal numbers.now)) }
     ensures fault { IsOkUnless result Memory }
@@ -109,7 +109,7 @@ fn push_numbers(text: &mut Vec<u8>, numbers: &[u32]) -> Result<(), Fault>
     }
 }
 
-/// Adds the numbers after the first. Fault 1 where memory is refused.
+/// Adds the numbers after the first. Fault 1 if an allocation fails.
 fn push_more_numbers(text: &mut Vec<u8>, numbers: &[u32]) -> Result<(), Fault>
     ensures words { OnOk result (text.new.items ≡ text.old.items ++ flat_map (λ word. codes ", " ++ word) (map decimal numbers.now)) }
     ensures fault { IsOkUnless result Memory }
@@ -121,7 +121,7 @@ fn push_more_numbers(text: &mut Vec<u8>, numbers: &[u32]) -> Result<(), Fault>
     Ok(())
 }
 
-/// Adds a number. Fault 1 where memory is refused.
+/// Adds a number. Fault 1 if an allocation fails.
 fn push_number(text: &mut Vec<u8>, number: u64) -> Result<(), Fault>
     ensures number { OnOk result (text.new.items ≡ text.old.items ++ decimal number) }
     ensures fault { IsOkUnless result Memory }
@@ -130,7 +130,7 @@ fn push_number(text: &mut Vec<u8>, number: u64) -> Result<(), Fault>
     Ok(())
 }
 
-/// Adds the lines of all connections. Fault 1 where memory is refused.
+/// Adds the lines of all connections. Fault 1 if an allocation fails.
 fn push_all_connections(text: &mut Vec<u8>, elements: &[Element]) -> Result<(), Fault>
     ensures lines { OnOk result (text.new.items ≡ text.old.items
         ++ flat_map (connections_text (map planned elements.now)) (map planned elements.now)) }
@@ -142,7 +142,7 @@ fn push_all_connections(text: &mut Vec<u8>, elements: &[Element]) -> Result<(), 
     Ok(())
 }
 
-/// Adds the lines of the connections to one of these elements. Fault 1 where memory is refused.
+/// Adds the lines of the connections to one of these elements. Fault 1 if an allocation fails.
 fn push_connections(
     text: &mut Vec<u8>,
     elements: &[Element],
@@ -157,7 +157,7 @@ fn push_connections(
     }
 }
 
-/// Adds the lines of the connections to input 0 of a queue of this name. Fault 1 where memory is refused.
+/// Adds the lines of the connections to input 0 of a queue of this name. Fault 1 if an allocation fails.
 fn push_senders(
     text: &mut Vec<u8>,
     elements: &[Element],
@@ -174,7 +174,7 @@ fn push_senders(
     Ok(())
 }
 
-/// Adds the lines of the connections to the inputs of an element of this name, one to each. Fault 1 where memory is refused.
+/// Adds the lines of the connections to the inputs of an element of this name, one to each. Fault 1 if an allocation fails.
 fn push_inputs(
     text: &mut Vec<u8>,
     elements: &[Element],
@@ -190,7 +190,7 @@ fn push_inputs(
     Ok(())
 }
 
-/// Adds the line of a connection from an element to an input of one of this name. Fault 1 where memory is refused.
+/// Adds the line of a connection from an element to an input of one of this name. Fault 1 if an allocation fails.
 fn push_connection(
     text: &mut Vec<u8>,
     elements: &[Element],
@@ -210,7 +210,7 @@ fn push_connection(
     Ok(())
 }
 
-/// The name of the element at a place, or nothing where there is none.
+/// The name of the element at a place, or nothing if there is none.
 fn name_at(elements: &[Element], place: u16) -> &[u8]
     ensures { result.now ≡ name_of (slice_get (map planned elements.now) place) }
 {

@@ -15,7 +15,8 @@ use clk_packet::Fault;
 use clk_sched::Tree;
 use std::alloc::Global;
 
-/// The tree that ends at an element, a queue or a scheduler with so many levels of schedulers at most. Fault 1 where memory is refused.
+/// The tree that ends at an element, which is a queue or a scheduler with so many levels of schedulers at most. Fault 1 if an allocation
+/// fails.
 #[cycle(tree)]
 pub fn tree_at(alloc: Global, elements: &[Element], place: u16, levels: u8) -> Result<Tree, Fault>
     requires levels { levels ≤ most_levels }
@@ -32,7 +33,7 @@ pub fn tree_at(alloc: Global, elements: &[Element], place: u16, levels: u8) -> R
     element.over(alloc, children)
 }
 
-/// The trees that end at elements, as those of `tree_at`.
+/// The trees that end at these elements, each as by `tree_at`. Fault 1 if an allocation fails.
 #[cycle(tree)]
 fn trees_at(
     alloc: Global,

@@ -14,7 +14,7 @@ use clk_syntax::{Graph, Link, Role};
 use std::alloc::Global;
 
 /// The elements connected to one of this role: to a queue its senders in order of declaration, to any other element the one at each
-/// input. Fault 1 where memory is refused.
+/// input. Fault 1 if an allocation fails.
 pub fn sources_of(alloc: Global, graph: &Graph, place: u32, role: Role) -> Result<Vec<u16>, Fault>
     requires tabled { IsTabled graph.now }
     requires few { length graph.now.nodes.now ≤ most_elements }
@@ -31,7 +31,7 @@ pub fn sources_of(alloc: Global, graph: &Graph, place: u32, role: Role) -> Resul
     }
 }
 
-/// The elements that are connected to one, in order. Fault 1 where memory is refused.
+/// The elements that are connected to one, in order. Fault 1 if an allocation fails.
 fn connected_to(alloc: Global, graph: &Graph, place: u32) -> Result<Vec<u16>, Fault>
     requires tabled { IsTabled graph.now }
     requires few { length graph.now.nodes.now ≤ most_elements }
@@ -55,7 +55,7 @@ fn leads(graph: &Graph, from: u32, to: u32) -> bool
     graph.target(from) == Some(to)
 }
 
-/// Adds a source where it is one. Fault 1 where memory is refused.
+/// Adds a source if it is connected. Fault 1 if an allocation fails.
 fn push_if(sources: &mut Vec<u16>, source: u16, is_connected: bool) -> Result<(), Fault>
     ensures added { OnOk result (sources.new.items ≡ (if is_connected then sources.old.items ++ source ∷ [] else sources.old.items)) }
     ensures fault { IsOkUnless result Memory }
@@ -66,7 +66,7 @@ fn push_if(sources: &mut Vec<u16>, source: u16, is_connected: bool) -> Result<()
     Ok(())
 }
 
-/// The element connected to each of so many inputs of one. Fault 1 where memory is refused.
+/// The element connected to each of so many inputs of one. Fault 1 if an allocation fails.
 fn sources_at_inputs(
     alloc: Global,
     place: u32,

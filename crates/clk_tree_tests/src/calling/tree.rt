@@ -10,12 +10,12 @@ use clk_packet::Fault;
 use clk_tree::{Plan, texts_have_one_meaning};
 use std::alloc::Global;
 
-/// The canonical form of a tree text. Where it is no longer than a text may be, it is one of whatever plan the text is of.
+/// The canonical form of a tree text. If it is no longer than a text may be, it denotes the plan that the text denotes.
 pub fn canonical(alloc: Global, text: &[u8]) -> Result<Vec<u8>, Fault>
     ensures same { IfOk result (λ form. length form.items ≤ most_tree_bytes → (plan : List Planned) → Denotes text.now plan → Denotes form.items plan) }
     ensures fault { IfErr result (λ fault. (fault ≡ Memory) ⊎ HasFault text.now fault) }
 {
-    // A law, which does nothing.
+    // This call does nothing: its contract is a law.
     texts_have_one_meaning();
     let plan = Plan::read(alloc, text)?;
     plan.write(alloc)
