@@ -16,7 +16,7 @@ first_after fails earlier (x ∷ more) = option_or (fails earlier x) (first_afte
 abbrev pub first_failure : {A : Type 0} → (List A → A → Option ℕ) → List A → Option ℕ
 first_failure fails xs = first_after fails [] xs
 
--- the place, where it fails
+-- the place, if a check fails there
 abbrev pub fails_at : Bool → ℕ → Option ℕ
 fails_at fails place = if fails then Some place else None
 
@@ -24,7 +24,7 @@ fails_at fails place = if fails then Some place else None
 abbrev pub is_declared : List ℕ → List Element → Bool
 is_declared name elements = list_any (λ (e : Element). bytes_eq e.name.letters name) elements
 
--- 5: a name is declared that an earlier place declared
+-- fault 5: the first place at which a name is declared that was declared before
 abbrev pub name_twice : List Element → Option ℕ
 name_twice elements = first_failure (λ earlier (e : Element). fails_at (is_declared e.name.letters earlier) e.name.place) elements
 
@@ -32,7 +32,7 @@ abbrev pub is_missing : {A : Type 0} → Option A → Bool
 is_missing None = true
 is_missing (Some x) = false
 
--- 3: there is no such class
+-- fault 3: the first place at which a class is named that isn't there
 abbrev pub unknown_class : List Element → Option ℕ
 unknown_class elements = first_failure (λ earlier (e : Element). fails_at (is_missing (class_named e.class.letters)) e.class.place) elements
 
@@ -59,14 +59,15 @@ is_bad_after earlier None = true
 is_bad_after earlier (Some (sender n)) = list_any (λ e. is_sender n (class_of e)) earlier
 is_bad_after earlier (Some class) = false
 
--- 4: the arguments don't fit the class, or a Sender has the number of an earlier one
+-- fault 4: the first place at which arguments don't fit the class, or a Sender has the number of an earlier one
 abbrev pub bad_argument : List Element → Option ℕ
 bad_argument elements = first_failure (λ earlier (e : Element). fails_at (is_bad_after earlier (class_of e)) e.class.place) elements
 
--- 6: a chain names what isn't declared
+-- the place of a name in a chain, if it isn't declared
 abbrev pub unknown_end : List Element → Word → Option ℕ
 unknown_end elements name = fails_at (not (is_declared name.letters elements)) name.place
 
+-- fault 6: the first place at which a chain names what isn't declared
 abbrev pub unknown_name : List Element → List Wire → Option ℕ
 unknown_name elements wires =
     first_failure (λ earlier (c : Wire). option_or (unknown_end elements c.from) (unknown_end elements c.to)) wires

@@ -24,7 +24,7 @@ pub data Place : Type 0 where
   output_number : Place
   output_closed : Place
   leads_to : Place
-  -- the same of an input port, and a name after `->`
+  -- of a chain: a bracket that opens an input port, its number, the bracket that closes it, and a name after `->`
   input_opened : Place
   input_number : Place
   input_closed : Place
@@ -80,8 +80,8 @@ abbrev wrong_or : Option Place → List Token → (Place → Option (List Token)
 wrong_or None tokens more = Some tokens
 wrong_or (Some next) tokens more = more next
 
--- What is left of some tokens from the first on that can't stand where it does, from a place of the diagram on: nothing, where the text
--- ends inside a statement; None where all can stand and the text may end.
+-- What is left of some tokens, read from a place of the diagram on, from the first token on that can't stand there. Nothing is left if the
+-- text ends inside a statement. None if all tokens can stand and the text may end.
 abbrev pub wrong_from : Place → List Token → Option (List Token)
 wrong_from place [] = if may_end place then None else Some []
 wrong_from place (token ∷ more) = wrong_or (after place token.symbol) (token ∷ more) (λ next. wrong_from next more)

@@ -1,4 +1,4 @@
--- Texts of worked examples, of which faults are told, and what the checks of ports and shapes see of one.
+-- Texts of worked examples with their faults, and elements and links for the checks of ports and shapes.
 use Rattle.std.specs.Prelude.{ℕ, List, [], ◌∷◌, replicate, codes}
 use Rattle.clk_syntax.specs.declared.naming.class.Role.TheVariants as role
 use Rattle.clk_syntax.specs.declared.node.Node.{Node}
@@ -16,7 +16,7 @@ question_marks n = replicate n 63
 abbrev pub unknown_names : List ℕ
 unknown_names = codes "a -> b;"
 
--- Texts with two faults that stand next to each other in the order of faults. The one that is told stands behind the other, where
+-- Texts with two faults that stand next to each other in the order of faults. The one that counts stands behind the other in the text, if
 -- both have a place.
 
 -- a name is declared twice, and then the grammar is broken
@@ -59,9 +59,10 @@ wrong_kind_and_no_device = codes "s :: Sender(0); r :: PrioSched; s -> r -> [1] 
 abbrev pub not_a_tree_and_no_device : List ℕ
 not_a_tree_and_no_device = codes "r :: PrioSched; r -> r;"
 
--- A device, and a scheduler that leads to its own input 64: it doesn't lead to a device, and has more inputs than may be.
+-- a device, and a scheduler
 abbrev pub device_and_loop : List Node
 device_and_loop = record { place = 0; role = role.Device } ∷ record { place = 18; role = role.Scheduler } ∷ []
 
+-- the scheduler leads to its own input 64: it doesn't lead to a device, and has more inputs than allowed
 abbrev pub loop_at_64 : List Link
 loop_at_64 = record { from = 1; output = 0; input = 64; to = 1; from_place = 35; to_place = 45 } ∷ []

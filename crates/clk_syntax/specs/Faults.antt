@@ -17,12 +17,12 @@ use Rattle.clk_syntax.specs.Declarations.{class_of, name_twice, unknown_class, b
 use Rattle.clk_syntax.specs.Ports.{bad_port, port_twice, port_missing, wrong_kind, has_device, not_a_tree}
 use Rattle.clk_syntax.specs.Size.{too_large}
 
--- where a text is wrong that ends here, by what is left from the first token on that can't stand where it does
+-- where a text that ends at `end` is wrong, by what is left of its tokens from the first on that can't stand where it does
 abbrev pub offset_of : ℕ → List Token → ℕ
 offset_of end [] = end
 offset_of end (token ∷ more) = token.place
 
--- 2: the text breaks the grammar
+-- fault 2: where the text breaks the grammar
 abbrev pub bad_text : List ℕ → Option ℕ
 bad_text text = option_map (offset_of (length text)) (wrong_from start (tokens_of text))
 
@@ -57,7 +57,7 @@ link_of elements c = record {
 abbrev pub links_of : List Element → List Wire → List Link
 links_of elements wires = map (link_of elements) wires
 
--- 5, 3, 4 and 6: what is wrong with names, classes and arguments
+-- faults 5, 3, 4 and 6: what is wrong with names, classes and arguments
 abbrev pub naming_fault : List Element → List Wire → Option Fault
 naming_fault elements wires =
     option_or (option_map NameTwice (name_twice elements))
@@ -65,8 +65,7 @@ naming_fault elements wires =
     (option_or (option_map BadArgument (bad_argument elements))
     (option_map UnknownName (unknown_name elements wires))))
 
--- 7 to 10, and 11, 13 and 18: what is wrong with ports, and with devices, trees and sizes. Fault 12 was that of a second device, and is
--- not used any more.
+-- faults 7 to 10: what is wrong with ports
 abbrev pub port_fault : List Node → List Link → Option Fault
 port_fault nodes links =
     option_or (option_map BadPort (bad_port nodes links))
@@ -74,12 +73,14 @@ port_fault nodes links =
     (option_or (option_map PortMissing (port_missing nodes links))
     (option_map WrongKind (wrong_kind nodes links))))
 
+-- faults 11, 13 and 18: what is wrong with devices, trees and sizes. No text has fault 12, since it may have several devices.
 abbrev pub shape_fault : List Node → List Link → Option Fault
 shape_fault nodes links =
     option_or (if has_device nodes then None else Some NoDevice)
     (option_or (option_map NotATree (not_a_tree nodes links))
     (if too_large nodes links then Some TooLarge else None))
 
+-- what is wrong with ports, or else with devices, trees and sizes
 abbrev pub nodes_fault : List Node → List Link → Option Fault
 nodes_fault nodes links = option_or (port_fault nodes links) (shape_fault nodes links)
 

@@ -41,12 +41,12 @@ abbrev pub listed : List Token → List Token
 listed [] = []
 listed (word ∷ more) = word ∷ flat_map after_comma more
 
--- `(WORD, WORD, ..)`
+-- `(WORD, WORD, ..)`, or nothing if no arguments are written
 abbrev pub written_arguments : Option (List Token) → List Token
 written_arguments None = []
 written_arguments (Some words) = mark OpenArguments ∷ listed words ++ mark CloseArguments ∷ []
 
--- `[NUMBER]`
+-- `[NUMBER]`, or nothing if no port is written
 abbrev pub written_port : Option Token → List Token
 written_port None = []
 written_port (Some number) = mark OpenPort ∷ number ∷ mark ClosePort ∷ []
@@ -61,7 +61,7 @@ written nothing = []
 written (declaration first more class arguments) = listed (first ∷ more) ++ mark Declares ∷ class ∷ written_arguments arguments
 written (chain first hop more) = first ∷ flat_map written_hop (hop ∷ more)
 
--- statements, each before a semicolon
+-- a statement and the semicolon after it
 abbrev pub ended : Statement → List Token
 ended statement = written statement ++ mark Semicolon ∷ []
 
@@ -77,7 +77,7 @@ IsPort port = IfSome port (λ number. number.symbol ≡ Number)
 abbrev pub IsHop : Hop → Type 0
 IsHop hop = IsPort hop.output × IsPort hop.input × IsName hop.name
 
--- names are names, ports are numbers, and arguments are words
+-- a statement in which names are names, ports are numbers, and arguments are words
 abbrev pub IsStatement : Statement → Type 0
 IsStatement nothing = ⊤
 IsStatement (declaration first more class arguments) =

@@ -20,7 +20,7 @@ RightTokensAreTexts = (tokens : List Token) → wrong_from start tokens ≡ None
 abbrev pub CanGoOn : List Token → Type 0
 CanGoOn before = (more : List Token) × (statements : List Statement) × IsText (before ++ more) statements
 
--- no text begins with these tokens and the first of others; where there are no others, the tokens themselves are no text
+-- no text begins with these tokens and the first of others; if there are no others, the tokens themselves are no text
 abbrev pub CannotGoOn : List Token → List Token → Type 0
 CannotGoOn before [] = (statements : List Statement) → ¬ (IsText before statements)
 CannotGoOn before (token ∷ others) = (more : List Token) (statements : List Statement) → ¬ (IsText (before ++ token ∷ more) statements)

@@ -2,7 +2,7 @@
 use Rattle.std.specs.Prelude.{ℕ}
 use Rattle.clk_syntax.specs.declared.limits.TheConstants.{MAX_TREE_BYTES, MAX_PORT, DEFAULT_CAPACITY, DEFAULT_QUANTUM}
 
--- in bytes
+-- how many bytes a tree text may have
 abbrev pub most_tree_bytes : ℕ
 most_tree_bytes = MAX_TREE_BYTES
 
@@ -10,9 +10,10 @@ most_tree_bytes = MAX_TREE_BYTES
 abbrev pub most_port : ℕ
 most_port = MAX_PORT
 
--- the capacity of a queue, and the quantum of a DRRSched, where a text leaves them out
+-- the capacity of a queue, in packets, if a text leaves it out
 abbrev pub default_capacity : ℕ
 default_capacity = DEFAULT_CAPACITY
 
+-- the quantum of a DRRSched, in bytes, if a text leaves it out
 abbrev pub default_quantum : ℕ
 default_quantum = DEFAULT_QUANTUM

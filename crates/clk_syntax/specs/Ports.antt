@@ -30,12 +30,13 @@ is_scheduler (Some role.Scheduler) = true
 is_scheduler (Some (role.SchedulerOf n)) = true
 is_scheduler r = false
 
--- all but a device have output 0
+-- whether an element of these ports has this output: all but a device have output 0
 abbrev pub has_output : Option Role → ℕ → Bool
 has_output None output = false
 has_output (Some role.Device) output = false
 has_output (Some r) output = output == 0
 
+-- whether an element of these ports has this input
 abbrev pub has_input : Option Role → ℕ → Bool
 has_input None input = false
 has_input (Some role.Source) input = false
@@ -44,19 +45,20 @@ has_input (Some role.Scheduler) input = nat_le input most_port
 has_input (Some (role.SchedulerOf n)) input = nat_lt input n && nat_le input most_port
 has_input (Some role.Device) input = input == 0
 
--- 7: a connection uses a port that the element doesn't have
+-- fault 7: the first place at which a connection uses a port that the element doesn't have
 abbrev pub bad_port : List Node → List Link → Option ℕ
 bad_port nodes links = first_failure (λ earlier (c : Link).
     option_or (fails_at (not (has_output (role_at nodes c.from) c.output)) c.from_place) (fails_at (not (has_input (role_at nodes c.to) c.input)) c.to_place)) links
 
--- whether some connections use the output of an element, and an input of one
+-- whether some connections use the output of an element
 abbrev pub uses_output : ℕ → List Link → Bool
 uses_output i links = list_any (λ (c : Link). c.from == i) links
 
+-- whether some connections use this input of an element
 abbrev pub uses_input : ℕ → ℕ → List Link → Bool
 uses_input i input links = list_any (λ (c : Link). (c.to == i) && (c.input == input)) links
 
--- 8: a connection uses an output, or a pull input, that an earlier one used
+-- fault 8: the first place at which a connection uses an output, or a pull input, that an earlier one used
 abbrev pub port_twice : List Node → List Link → Option ℕ
 port_twice nodes links = first_failure (λ earlier (c : Link).
     option_or (fails_at (uses_output c.from earlier) c.from_place) (fails_at (not (is_queue (role_at nodes c.to)) && uses_input c.to c.input earlier) c.to_place)) links
@@ -83,7 +85,7 @@ abbrev pub output_connected : ℕ → Role → List Link → Bool
 output_connected i role.Device links = true
 output_connected i r links = uses_output i links
 
--- 9: an output, or a pull input, isn't connected
+-- fault 9: the first element, from this one on, whose output or a pull input isn't connected
 abbrev pub port_missing_from : ℕ → List Node → List Link → Option ℕ
 port_missing_from i [] links = None
 port_missing_from i (node ∷ more) links =
@@ -96,12 +98,12 @@ abbrev pub differ : Bool → Bool → Bool
 differ true b = not b
 differ false b = b
 
--- 10: a push output is connected to a pull input, or a pull output to a push input
+-- fault 10: the first place at which a push output is connected to a pull input, or a pull output to a push input
 abbrev pub wrong_kind : List Node → List Link → Option ℕ
 wrong_kind nodes links = first_failure (λ earlier (c : Link).
     fails_at (differ (is_source (role_at nodes c.from)) (is_queue (role_at nodes c.to))) c.from_place) links
 
--- 11: no device is declared
+-- whether a device is declared; if none is, that is fault 11
 abbrev pub has_device : List Node → Bool
 has_device nodes = list_any (λ (n : Node). is_device (Some n.role)) nodes
 
@@ -110,7 +112,7 @@ abbrev pub target : ℕ → List Link → Option ℕ
 target i [] = None
 target i (c ∷ more) = if c.from == i then Some c.to else target i more
 
--- the element to which an element is connected; one that isn't connected stays
+-- the element to which an element is connected, or the element itself if it isn't connected
 abbrev pub next : List Link → ℕ → ℕ
 next links i = unwrap_or (target i links) i
 
@@ -119,12 +121,12 @@ abbrev pub follow : List Link → ℕ → ℕ → ℕ
 follow links zero i = i
 follow links (suc n) i = follow links n (next links i)
 
--- Whether the outputs from an element lead to a device: as many steps on as there are elements there is one, since a longer way would
--- come back to where it was.
+-- Whether the outputs from an element lead to a device: one stands as many steps on as there are elements. A longer way would come back to
+-- where it was.
 abbrev pub leads : List Node → List Link → ℕ → Bool
 leads nodes links i = is_device (role_at nodes (follow links (length nodes) i))
 
--- 13: the outputs from a scheduler or Shaper don't lead to a device
+-- fault 13: the first scheduler or Shaper, from this element on, whose outputs don't lead to a device
 abbrev pub not_a_tree_from : ℕ → List Node → List Node → List Link → Option ℕ
 not_a_tree_from i [] nodes links = None
 not_a_tree_from i (node ∷ more) nodes links =

@@ -13,10 +13,11 @@ use Rattle.clk_syntax.specs.Limits.{most_tree_bytes}
 use Rattle.clk_syntax.specs.Diagram.{start, wrong_from}
 use Rattle.clk_syntax.specs.Faults.{naming_fault, nodes_of, links_of, fault_of, text_fault}
 
--- the elements and wires of statements in a text
+-- the elements that statements of a text declare
 abbrev pub elements_of : List ℕ → List Statement → List Element
 elements_of text statements = elements text (flat_map declared_in statements)
 
+-- the wires that statements of a text connect
 abbrev pub wires_of : List ℕ → List Statement → List Wire
 wires_of text statements = wires text (flat_map connected_in statements)
 

@@ -11,7 +11,7 @@ levels_from nodes links zero i = 0
 levels_from nodes links (suc steps) i =
     (if is_scheduler (role_at nodes i) then 1 else 0) + levels_from nodes links steps (next links i)
 
--- how many stand on its whole way, which has no more elements than there are
+-- how many schedulers and Shapers stand on the whole way from an element on, which has no more elements than there are
 abbrev pub levels : List Node → List Link → ℕ → ℕ
 levels nodes links i = levels_from nodes links (length nodes) i
 
@@ -23,6 +23,6 @@ abbrev pub some_too_large : ℕ → List Node → List Node → List Link → Bo
 some_too_large i [] nodes links = false
 some_too_large i (node ∷ more) nodes links = is_too_large i node nodes links || some_too_large (i + 1) more nodes links
 
--- 18: there are too many elements, or one is too large
+-- fault 18: whether there are too many elements, or one is too large
 abbrev pub too_large : List Node → List Link → Bool
 too_large nodes links = nat_lt most_elements (length nodes) || some_too_large 0 nodes nodes links

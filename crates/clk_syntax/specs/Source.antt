@@ -35,7 +35,7 @@ connected_in nothing = []
 connected_in (declaration first more class arguments) = []
 connected_in (chain first hop more) = hops_from first (hop ∷ more)
 
--- the declarations, as the code keeps them
+-- a declaration of the code, as definitions see it
 abbrev pub kept : Declaration → Declared
 kept d = record { names = d.names.items; class = d.class; arguments = d.arguments.items }
 
@@ -73,7 +73,7 @@ port text (Some number) = number_in 0 most_port (letters text number)
 abbrev pub element : List ℕ → Token → List Token → Token → Element
 element text class arguments name = record { name = word text name; class = word text class; arguments = map (letters text) arguments }
 
--- each name that is declared is an element, of the same class and arguments
+-- the elements of a declaration: one for each name, of the class and arguments that all its names have
 abbrev pub elements_in : List ℕ → Declared → List Element
 elements_in text d = map (element text d.class d.arguments) d.names
 

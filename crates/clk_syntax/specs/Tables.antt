@@ -15,15 +15,16 @@ abbrev pub count_to : ℕ → List Link → ℕ
 count_to i [] = 0
 count_to i (c ∷ more) = if c.to == i then count_to i more + 1 else count_to i more
 
--- what the connections use of the inputs of an element: how many there are, and how many inputs it has that has as many as are connected
+-- what the connections use of the inputs of an element: how many lead to it, and one more than the greatest input that is connected
 abbrev pub inputs_at : ℕ → List Link → Inputs
 inputs_at i links = record { count = count_to i links; end = inputs_used i links }
 
--- a table of what the connections say of each of so many elements
+-- a table of where the first connection from each of `n` elements leads
 pub record IsTargets (n : ℕ) (links : List Link) (table : List (Option ℕ)) : Type 0 where
   pub len : length table ≡ n
   pub each : (i : ℕ) → i < n → get_or table i None ≡ target i links
 
+-- a table of what the connections use of the inputs of each of `n` elements
 pub record IsInputs (n : ℕ) (links : List Link) (table : List Inputs) : Type 0 where
   pub len : length table ≡ n
   pub each : (i : ℕ) → i < n → get_or table i (record { count = 0; end = 0 }) ≡ inputs_at i links

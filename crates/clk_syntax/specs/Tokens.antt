@@ -30,7 +30,7 @@ abbrev pub comment_end : List ℕ → Option ℕ
 comment_end [] = None
 comment_end (byte ∷ rest) = if (byte == 42) && begins_with 47 rest then Some 2 else option_map suc (comment_end rest)
 
--- the rest of a comment that began with `/*`; one that isn't closed is nothing
+-- a comment that began with `/*`; one that isn't closed is a token of symbol `Nothing`
 abbrev pub comment : Option ℕ → Piece
 comment None = piece.Token Nothing 1
 comment (Some n) = piece.Gap (2 + n)
@@ -43,7 +43,7 @@ word_symbol first word = if is_digit first then (if all_ascii_digits word then N
 abbrev pub word : ℕ → List ℕ → ℕ → Piece
 word first text n = piece.Token (word_symbol first (take n text)) n
 
--- the mark that this byte is, or nothing
+-- the symbol of the mark that this byte is, or `Nothing`
 abbrev pub mark_of : ℕ → Symbol
 mark_of byte =
     if byte == 91 then OpenPort
@@ -76,8 +76,8 @@ abbrev pub shown : ℕ → Piece → List Token
 shown place (piece.Gap n) = []
 shown place (piece.Token symbol n) = record { symbol = symbol; place = place; length = n } ∷ []
 
--- The tokens of a text that begins at this place, and of which so many bytes belong to a piece before: at each other byte that
--- belongs to no earlier piece a piece begins.
+-- The tokens of a text that begins at this place, and whose first `inside` bytes belong to an earlier piece. At each byte that belongs to
+-- no earlier piece a piece begins.
 abbrev pub tokens_from : ℕ → ℕ → List ℕ → List Token
 tokens_from place inside [] = []
 tokens_from place (suc inside) (byte ∷ rest) = tokens_from (place + 1) inside rest

@@ -17,8 +17,8 @@ use crate::checks::tables::Graph;
 use clk_packet::Fault;
 use std::alloc::Global;
 
-/// Whether ports are connected as they should be. Faults 7 to 10 where they aren't, the first in this order, and fault 1 where memory is
-/// refused.
+/// Checks that ports are connected as they should be. Faults 7 to 10 if they aren't, the first in this order, and fault 1 if an allocation
+/// fails.
 fn check_ports(alloc: Global, graph: &Graph) -> Result<(), Fault>
     requires { IsTabled graph.now }
     ensures good { OnOk result (port_fault graph.now.nodes.now graph.now.links.now ≡ None) }
@@ -39,8 +39,8 @@ fn check_ports(alloc: Global, graph: &Graph) -> Result<(), Fault>
     Ok(())
 }
 
-/// Whether there is a device, all lead to one, and nothing is too large. Faults 11, 13 and 18 where it isn't so, the first in this order,
-/// and fault 1 where memory is refused.
+/// Checks that there is a device, that all schedulers lead to one, and that nothing is too large. Faults 11, 13 and 18 if not, the first in
+/// this order, and fault 1 if an allocation fails.
 fn check_shape(alloc: Global, graph: &Graph) -> Result<(), Fault>
     requires { IsTabled graph.now }
     ensures good { OnOk result (shape_fault graph.now.nodes.now graph.now.links.now ≡ None) }
@@ -58,8 +58,8 @@ fn check_shape(alloc: Global, graph: &Graph) -> Result<(), Fault>
     Ok(())
 }
 
-/// Whether elements and connections make up trees, one for each device. Faults 7 to 11, 13 and 18 where they don't, the first in this
-/// order, and fault 1 where memory is refused.
+/// Checks that elements and connections make up trees, one for each device. Faults 7 to 11, 13 and 18 if they don't, the first in this
+/// order, and fault 1 if an allocation fails.
 pub fn check_graph(alloc: Global, graph: &Graph) -> Result<(), Fault>
     requires { IsTabled graph.now }
     ensures good { OnOk result (nodes_fault graph.now.nodes.now graph.now.links.now ≡ None) }

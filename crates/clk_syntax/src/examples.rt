@@ -7,8 +7,8 @@ ghost use Rattle.clk_syntax.specs.Faults.{shape_fault};
 ghost use Rattle.clk_syntax.specs.Reading.{HasFault};
 ghost use Rattle.clk_syntax.specs.Examples.{spaces, question_marks, unknown_names, twice_then_broken, unknown_class_then_twice, bad_argument_then_unknown_class, unknown_name_then_bad_argument, bad_port_then_unknown_name, port_twice_then_bad_port, port_missing_then_twice, wrong_kind_then_port_missing, wrong_kind_and_no_device, not_a_tree_and_no_device, device_and_loop, loop_at_64};
 
-/// Which faults texts of worked examples have. Spaces declare no device, but of too many bytes that isn't told; and a text has no fault
-/// of other statements than its own.
+/// Which faults texts of worked examples have. Spaces declare no device, but a text of too many spaces doesn't have that fault. A text has
+/// no fault of other statements than its own.
 pub fn fault_examples()
     ensures is_no_device { (n : ℕ) → n ≤ most_tree_bytes → HasFault (spaces n) NoDevice }
     ensures not_too_long { (n : ℕ) → most_tree_bytes < n → ¬ (HasFault (spaces n) NoDevice) }
@@ -17,7 +17,7 @@ pub fn fault_examples()
     ensures not_of_other_name { ¬ (HasFault unknown_names (UnknownName 5)) }
 {}
 
-/// Which of two faults is told that stand next to each other in the order of faults.
+/// Which fault a text has, of two that stand next to each other in the order of faults.
 pub fn order_examples()
     ensures too_large_first { (n : ℕ) → most_tree_bytes < n → HasFault (question_marks n) TooLarge }
     ensures bad_text { (n : ℕ) → 1 ≤ n → n ≤ most_tree_bytes → HasFault (question_marks n) (BadText 0) }

@@ -36,8 +36,8 @@ pub struct Named {
     pub links: Vec<Link>,
 }
 
-/// What a text declares and connects, by name. Faults 5, 3, 4 and 6, in this order, each at its first place; fault 1 where memory is
-/// refused.
+/// What a text declares and connects, by name. Faults 5, 3, 4 and 6, in this order, each at its first place, and fault 1 if an allocation
+/// fails.
 pub fn name_all(alloc: Global, text: &[u8], statements: &Statements) -> Result<Named, Fault>
     requires declared_within { AllByRecursion (IsDeclaredWithin (length text.now)) (map kept statements.now.declarations.items) }
     requires connected_within { AllByRecursion (IsConnectedWithin (length text.now)) statements.now.connections.items }
@@ -73,7 +73,7 @@ pub fn name_all(alloc: Global, text: &[u8], statements: &Statements) -> Result<N
     })
 }
 
-/// The names that are declared, with their places. Fault 5 at the first that was declared before, and fault 1 where memory is refused.
+/// The names that are declared, with their places. Fault 5 at the first that was declared before, and fault 1 if an allocation fails.
 fn names_of<'a>(
     alloc: Global,
     text: &'a [u8],
@@ -91,7 +91,7 @@ fn names_of<'a>(
     Ok(names)
 }
 
-/// Declares the names of a declaration.
+/// Declares the names of a declaration. Fault 5 at a name that was declared before, and fault 1 if an allocation fails.
 fn declare<'a>(
     names: &mut Names<'a>,
     text: &'a [u8],
@@ -143,7 +143,7 @@ struct Judged {
     senders: Numbers,
 }
 
-/// Classes and nodes of all declarations. Fault 4 at the first whose arguments don't fit, and fault 1 where memory is refused.
+/// Classes and nodes of all declarations. Fault 4 at the first whose arguments don't fit, and fault 1 if an allocation fails.
 fn judge_all(alloc: Global, text: &[u8], declarations: &[Declaration]) -> Result<Judged, Fault>
     requires within { AllByRecursion (IsDeclaredWithin (length text.now)) (map kept declarations.now) }
     requires named { AllByRecursion IsNamed (map kept declarations.now) }
@@ -168,7 +168,7 @@ fn judge_all(alloc: Global, text: &[u8], declarations: &[Declaration]) -> Result
 }
 
 impl Judged {
-    /// Adds the elements of a declaration.
+    /// Adds the elements of a declaration. Fault 4 if its arguments don't fit, and fault 1 if an allocation fails.
     fn judge(&mut self, alloc: Global, text: &[u8], declaration: &Declaration) -> Result<(), Fault>
         requires within { IsDeclaredWithin (length text.now) (kept declaration.now) }
         requires named { IsNamed (kept declaration.now) }
@@ -192,7 +192,7 @@ impl Judged {
     }
 }
 
-/// The class of a declaration with its arguments, if there is such a class and it takes them. Fault 1 where memory is refused.
+/// The class of a declaration with its arguments, if there is such a class and it takes them. Fault 1 if an allocation fails.
 fn class_of(alloc: Global, text: &[u8], declaration: &Declaration) -> Result<Option<Class>, Fault>
     requires { IsDeclaredWithin (length text.now) (kept declaration.now) }
     ensures class { IfOk result (λ class. option_map class_view class ≡ class_in text.now (kept declaration.now)) }
@@ -220,7 +220,7 @@ fn stands(senders: &mut Numbers, class: &Class, names: usize) -> bool
     }
 }
 
-/// Adds an element of these ports for each name. Fault 1 where memory is refused.
+/// Adds an element of these ports for each name. Fault 1 if an allocation fails.
 fn push_nodes(nodes: &mut Vec<Node>, names: &[Token], role: Role) -> Result<(), Fault>
     ensures nodes { OnOk result (nodes.new.items ≡ nodes.old.items ++ map (node_at role) names.now) }
     ensures fault { IsOkUnless result Fault.Memory }
@@ -234,7 +234,7 @@ fn push_nodes(nodes: &mut Vec<Node>, names: &[Token], role: Role) -> Result<(), 
     Ok(())
 }
 
-/// The connections. Fault 6 at the first name that isn't declared, and fault 1 where memory is refused.
+/// The connections. Fault 6 at the first name that isn't declared, and fault 1 if an allocation fails.
 fn links_of<'a>(
     alloc: Global,
     text: &'a [u8],
@@ -278,7 +278,7 @@ fn link_of<'a>(text: &'a [u8], names: &Names<'a>, connection: &Connection) -> Re
     })
 }
 
-/// The place of the element of this name. Fault 6 where it isn't declared.
+/// The place of the element of this name. Fault 6 if it isn't declared.
 fn place_at<'a>(text: &'a [u8], names: &Names<'a>, name: &Token) -> Result<u32, Fault>
     requires { IsWithin (length text.now) name.now }
     ensures { (all : List Element) → IsTable all names.now → MatchResult result
@@ -293,7 +293,7 @@ fn place_at<'a>(text: &'a [u8], names: &Names<'a>, name: &Token) -> Result<u32, 
     }
 }
 
-/// The port that is written, or 0, as it stands in a link: those above 65,535 as one above it.
+/// The port that is written, or 0, as it stands in a link: each above 65,535 as 65,536.
 fn port_at(text: &[u8], written: &Option<Token>) -> u32
     requires within { IfSome written.now (IsWithin (length text.now)) }
     requires number { IfSome written.now (IsNumber text.now) }

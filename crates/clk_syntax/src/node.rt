@@ -17,7 +17,8 @@ pub struct Link {
     pub output: u32,
     pub input: u32,
     pub to: u32,
-    /// Where the names stand in the chain, in bytes of the text.
+    /// Where the name of `from` stands in the chain, in bytes of the text.
     pub from_place: u32,
+    /// Where the name of `to` stands in the chain, in bytes of the text.
     pub to_place: u32,
 }

@@ -19,7 +19,8 @@ use crate::texts::statements::Statements;
 use clk_packet::Fault;
 use std::alloc::Global;
 
-/// What a text declares and connects, by name. Fault 1 where memory is refused; else 18 for a text that is too long, 2, and then 5, 3, 4 and 6.
+/// What a text declares and connects, by name. Fault 1 if an allocation fails. Otherwise fault 18 for a text that is too long, fault 2 for
+/// one that breaks the grammar, and then 5, 3, 4 and 6, the first in this order.
 pub fn named_text(alloc: Global, text: &[u8]) -> Result<(Statements, Named), Fault>
     ensures named { IfOk result (λ r. IsNamedText text.now (tokens_of text.now) (map kept r.0.declarations.items) r.0.connections.items r.1.nodes.items r.1.links.items) }
     ensures classes { IfOk result (λ r. map (class_in text.now) (map kept r.0.declarations.items) ≡ map is_class r.1.classes.items) }

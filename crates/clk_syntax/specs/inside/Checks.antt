@@ -15,10 +15,12 @@ abbrev pub first_of : {A : Type 0} → (A → Option ℕ) → List A → Option 
 first_of fails [] = None
 first_of fails (x ∷ more) = option_or (fails x) (first_of fails more)
 
+-- where a connection uses a port that isn't there
 abbrev pub bad_link : List Node → Link → Option ℕ
 bad_link nodes c =
     option_or (fails_at (not (has_output (role_at nodes c.from) c.output)) c.from_place) (fails_at (not (has_input (role_at nodes c.to) c.input)) c.to_place)
 
+-- where a connection joins push to pull
 abbrev pub mixed_link : List Node → Link → Option ℕ
 mixed_link nodes c = fails_at (differ (is_source (role_at nodes c.from)) (is_queue (role_at nodes c.to))) c.from_place
 
@@ -37,20 +39,22 @@ pub record IsFollowed (n : ℕ) (links : List Link) (steps : ℕ) (table : List 
   pub len : length table ≡ n
   pub each : (i : ℕ) → i < n → get_or table i 0 ≡ follow links steps i
 
--- a table of where one table leads from where another does
+-- a table of where the second table leads from where the first does
 pub record IsComposed (first second table : List ℕ) : Type 0 where
   pub len : length table ≡ length first
   pub each : (i : ℕ) → i < length first → get_or table i 0 ≡ get_or second (get_or first i 0) 0
 
--- whether an element's output is connected, by where it leads, and its pull inputs, by how many are, where none is twice
+-- whether an element's output is connected, if it has one, by where it leads
 abbrev pub leads_on : Role → Option ℕ → Bool
 leads_on role.Device to = true
 leads_on r to = is_some to
 
+-- whether an element's pull inputs are connected, by how many connections lead to them, if none is used twice
 abbrev pub has_inputs : Role → Inputs → Bool
 has_inputs role.Source inputs = true
 has_inputs role.Queue inputs = true
 has_inputs r inputs = inputs.count == inputs_with r inputs.end
 
+-- whether an element's output and its pull inputs are connected
 abbrev pub is_connected : ℕ → Role → List Link → Bool
 is_connected i r links = output_connected i r links && all_connected i (inputs_of i r links) links

@@ -21,16 +21,16 @@ use Rattle.clk_syntax.specs.inside.Numbers.{has_number}
 use Rattle.clk_syntax.specs.Source.{Declared, Element, Wire, elements}
 use Rattle.clk_syntax.specs.Faults.{place_of, nodes_of}
 
--- a number of bytes that come after others of a number: each time it is multiplied by 2^64 by the golden ratio, which spreads names
+-- a hash of some bytes, from that of the bytes before: for each byte it is multiplied by 2^64 over the golden ratio, which spreads names
 abbrev pub mixed_from : ℕ → List ℕ → ℕ
 mixed_from number [] = number
 mixed_from number (byte ∷ rest) = mixed_from ((number * 11400714819323198485 % 2 ^ 64 + byte) % 2 ^ 64) rest
 
--- a number of a name's bytes, or of those at the ends of a long one, by which a table sorts names before it looks at the bytes themselves
+-- a hash of a name's bytes, or of those at the ends of a long one, by which a table sorts names before it looks at the bytes
 unfoldable pub mixed : List ℕ → ℕ
 mixed name = if nat_le (length name) 32 then mixed_from 0 name else mixed_from (mixed_from 0 (take 16 name)) (drop (length name - 16) name)
 
--- the slot that a name's number leads to
+-- the slot that a name's hash leads to
 abbrev pub slot_at : List (Option (Bor (List ℕ) × ℕ)) → List ℕ → Option (Bor (List ℕ) × ℕ)
 slot_at slots name = get_or slots (mixed name % length slots) None
 
@@ -69,14 +69,15 @@ pub record Declares (all rest : List Element) (names : Names) : Type 0 where
   pub places : (name : List ℕ) → place_in names name ≡ latest_place earlier name
   pub twice : name_twice all ≡ first_after (λ before (e : Element). fails_at (is_declared e.name.letters before) e.name.place) earlier rest
 
--- a table has the place of each name among elements
+-- the place of a name among elements, if it is declared
 abbrev pub place_if : List Element → List ℕ → Option ℕ
 place_if elements name = if is_declared name elements then Some (place_of elements name) else None
 
+-- a table has the place of each name among elements
 abbrev pub IsTable : List Element → Names → Type 0
 IsTable elements names = (name : List ℕ) → place_in names name ≡ place_if elements name
 
--- what stops a check: the fault that it finds, or that memory is refused
+-- why a check fails: it finds this fault, or an allocation failed (fault 1)
 abbrev pub Stops : Option Fault → Fault → Type 0
 Stops check fault = (fault ≡ Memory) ⊎ (check ≡ Some fault)
 

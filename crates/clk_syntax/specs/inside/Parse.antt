@@ -50,7 +50,7 @@ pub record Reads (from : Place) (tokens those : List Token) (to : Place) (rest :
 abbrev pub bad : ℕ → Option (List Token) → Option Fault
 bad end left = option_map (λ rest. BadText (offset_of end rest)) left
 
--- a fault that comes of tokens from a place on: memory is refused, or it is where they are wrong
+-- a fault of tokens read from a place on: an allocation failed (fault 1), or it says where they are wrong
 pub record Stops (end : ℕ) (place : Place) (tokens : List Token) (fault : Fault) : Type 0 where
   pub is : fault ≢ Memory → bad end (wrong_from place tokens) ≡ Some fault
 

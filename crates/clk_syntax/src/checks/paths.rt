@@ -8,7 +8,7 @@ use crate::checks::tables::Graph;
 use clk_packet::Fault;
 use std::alloc::Global;
 
-/// Where the second table leads from where the first does. Fault 1 where memory is refused.
+/// Where the second table leads from where the first does. Fault 1 if an allocation fails.
 fn composed(alloc: Global, first: &[u32], second: &[u32]) -> Result<Vec<u32>, Fault>
     requires { (i : ℕ) → i < length first.now → slice_index first.now i < length second.now }
     ensures made { IfOk result (λ table. IsComposed first.now second.now table.items) }
@@ -21,7 +21,7 @@ fn composed(alloc: Global, first: &[u32], second: &[u32]) -> Result<Vec<u32>, Fa
     Ok(table)
 }
 
-/// Each of so many places. Fault 1 where memory is refused.
+/// The places of all elements: the table of no steps. Fault 1 if an allocation fails.
 fn places(alloc: Global, graph: &Graph) -> Result<Vec<u32>, Fault>
     requires { IsTabled graph.now }
     ensures made { IfOk result (λ table. IsFollowed (length graph.now.nodes.now) graph.now.links.now 0 table.items) }
@@ -34,7 +34,7 @@ fn places(alloc: Global, graph: &Graph) -> Result<Vec<u32>, Fault>
     Ok(table)
 }
 
-/// Where each element leads: one that isn't connected stays. Fault 1 where memory is refused.
+/// Where each element leads: one that isn't connected leads to itself. Fault 1 if an allocation fails.
 fn steps(alloc: Global, graph: &Graph) -> Result<Vec<u32>, Fault>
     requires { IsTabled graph.now }
     ensures made { IfOk result (λ table. IsFollowed (length graph.now.nodes.now) graph.now.links.now 1 table.items) }
@@ -47,7 +47,7 @@ fn steps(alloc: Global, graph: &Graph) -> Result<Vec<u32>, Fault>
     Ok(table)
 }
 
-/// Where the way from each element leads, as many steps on as there are elements. Fault 1 where memory is refused.
+/// Where the way from each element leads, as many steps on as there are elements. Fault 1 if an allocation fails.
 pub fn ends_of(alloc: Global, graph: &Graph) -> Result<Vec<u32>, Fault>
     requires { IsTabled graph.now }
     ensures made { IfOk result (λ table. IsFollowed (length graph.now.nodes.now) graph.now.links.now (length graph.now.nodes.now) table.items) }
@@ -60,7 +60,7 @@ pub fn ends_of(alloc: Global, graph: &Graph) -> Result<Vec<u32>, Fault>
     while left > 0 {
         let twice = composed(alloc, &step, &step)?;
         if twice == step {
-            // All ways end within a step, so that those which are left are as one.
+            // All ways end within this step, so that one more step does as well as all that are left.
             return composed(alloc, &ends, &step);
         }
         if left % 2 == 1 {

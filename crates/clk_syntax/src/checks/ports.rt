@@ -51,8 +51,8 @@ pub fn bad_port(nodes: &[Node], links: &[Link]) -> Option<u32>
     None
 }
 
-/// Marks the ports that a connection uses. Where it uses an output, or a pull input, that is marked already, it gives the place, in bytes
-/// of the text. Fault 1 where memory is refused.
+/// Marks the ports that a connection uses. If it uses an output, or a pull input, that is marked already, returns the place, in bytes of
+/// the text. Fault 1 if an allocation fails.
 fn mark_ports(
     outputs: &mut Vec<bool>,
     inputs: &mut UsedInputs,
@@ -83,8 +83,8 @@ fn mark_ports(
     Ok(Some(link.to_place))
 }
 
-/// Where a connection first uses an output, or a pull input, that an earlier one used, in bytes of the text. Fault 1 where memory is
-/// refused.
+/// Where a connection first uses an output, or a pull input, that an earlier one used, in bytes of the text. Fault 1 if an allocation
+/// fails.
 pub fn port_twice(alloc: Global, graph: &Graph) -> Result<Option<u32>, Fault>
     requires { IsTabled graph.now }
     ensures place { IfOk result (λ place. place ≡ port_twice graph.now.nodes.now graph.now.links.now) }
@@ -111,7 +111,7 @@ fn leads_on(role: Role, target: Option<u32>) -> bool
     }
 }
 
-/// Whether all pull inputs of an element are connected, where none is twice.
+/// Whether all pull inputs of an element are connected, if none is used twice.
 fn has_inputs(role: Role, inputs: Inputs) -> bool
     ensures { result ≡ has_inputs role inputs }
 {
@@ -138,7 +138,7 @@ fn is_connected(graph: &Graph, place: u32, role: Role) -> bool
     has_inputs(role, graph.inputs(place))
 }
 
-/// Where an element is declared of which the output, or a pull input, isn't connected, in bytes of the text.
+/// Where an element is declared whose output, or a pull input, isn't connected, in bytes of the text.
 pub fn port_missing(graph: &Graph) -> Option<u32>
     requires tabled { IsTabled graph.now }
     requires there { bad_port graph.now.nodes.now graph.now.links.now ≡ None }

@@ -38,7 +38,7 @@ impl Role {
         }
     }
 
-    /// Whether it is the link.
+    /// Whether it is a device.
     pub fn is_device(self) -> bool
         ensures { result ≡ is_device (Some self) }
     {
@@ -70,7 +70,7 @@ impl Role {
         }
     }
 
-    /// How many pull inputs it has, where one that has as many as are connected has this many.
+    /// How many pull inputs it has. `end` is how many it has if it has as many as are connected.
     pub fn inputs_with(self, end: u32) -> u32
         ensures { result ≡ inputs_with self end }
     {

@@ -20,8 +20,7 @@ pub fn has_device(nodes: &[Node]) -> bool
     nodes.iter().any(|node| node.role.is_device())
 }
 
-/// Where a scheduler or Shaper is declared from which the outputs don't lead to a device, in bytes of the text. Fault 1 where memory is
-/// refused.
+/// Where a scheduler or Shaper is declared whose outputs don't lead to a device, in bytes of the text. Fault 1 if an allocation fails.
 pub fn not_a_tree(alloc: Global, graph: &Graph) -> Result<Option<u32>, Fault>
     requires { IsTabled graph.now }
     ensures place { IfOk result (λ place. place ≡ not_a_tree graph.now.nodes.now graph.now.links.now) }

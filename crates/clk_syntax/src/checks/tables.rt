@@ -33,7 +33,7 @@ pub struct Graph<'a> {
 }
 
 impl<'a> Graph<'a> {
-    /// These elements and connections with their tables. Fault 1 where memory is refused.
+    /// These elements and connections with their tables. Fault 1 if an allocation fails.
     pub fn new(alloc: Global, nodes: &'a [Node], links: &'a [Link]) -> Result<Graph<'a>, Fault>
         requires few_nodes { length nodes.now ≤ most_tree_bytes }
         requires few_links { length links.now ≤ most_tree_bytes }
@@ -71,7 +71,7 @@ impl<'a> Graph<'a> {
         self.targets[place as usize]
     }
 
-    /// Where the element at a place leads: one that isn't connected stays.
+    /// Where the element at a place leads: one that isn't connected leads to itself.
     pub fn next(&self, place: u32) -> u32
         requires tabled { IsTabled self.now }
         requires place { place < length self.now.nodes.now }
@@ -90,7 +90,7 @@ impl<'a> Graph<'a> {
     }
 }
 
-/// Where the first connection from each element leads, if there is one. Fault 1 where memory is refused.
+/// Where the first connection from each element leads, if there is one. Fault 1 if an allocation fails.
 fn targets_of(alloc: Global, nodes: &[Node], links: &[Link]) -> Result<Vec<Option<u32>>, Fault>
     requires { AllByRecursion (IsLinkWithin nodes.now) links.now }
     ensures made { IfOk result (λ targets. IsTargets (length nodes.now) links.now targets.items) }
@@ -105,7 +105,7 @@ fn targets_of(alloc: Global, nodes: &[Node], links: &[Link]) -> Result<Vec<Optio
     Ok(targets)
 }
 
-/// What the connections use of the inputs of each element. Fault 1 where memory is refused.
+/// What the connections use of the inputs of each element. Fault 1 if an allocation fails.
 fn inputs_of(alloc: Global, nodes: &[Node], links: &[Link]) -> Result<Vec<Inputs>, Fault>
     requires few { length links.now ≤ most_tree_bytes }
     requires within { AllByRecursion (IsLinkWithin nodes.now) links.now }

@@ -9,17 +9,17 @@ use clk_packet::Fault;
 use std::alloc::Global;
 use std::collections::BTreeSet;
 
-/// Elements with inputs of theirs. As many inputs of each element as connections lead to it have slots that no other has.
+/// A set of inputs of elements. Each element has as many slots of its own as connections lead to it.
 #[derive(Drop)]
 pub struct UsedInputs {
     /// The slot for the first input of each element; those for its others follow.
     starts: Vec<u32>,
     slots: Vec<Option<(u32, u32)>>,
-    /// Those whose slot isn't there or is another's, which a text has where it is wrong alone.
+    /// Inputs whose slot isn't there or is another's. Only a wrong text has such inputs.
     more: BTreeSet<(u32, u32)>,
 }
 
-/// How many connections lead to the elements before each element. Fault 1 where memory is refused.
+/// How many connections lead to the elements before each element. Fault 1 if an allocation fails.
 fn starts_of(alloc: Global, graph: &Graph) -> Result<Vec<u32>, Fault>
     requires { IsTabled graph.now }
     ensures count { IfOk result (λ starts. length starts.items ≡ length graph.now.nodes.now) }
@@ -35,7 +35,7 @@ fn starts_of(alloc: Global, graph: &Graph) -> Result<Vec<u32>, Fault>
 }
 
 impl UsedInputs {
-    /// No inputs of these elements. Fault 1 where memory is refused.
+    /// No inputs of these elements. Fault 1 if an allocation fails.
     pub fn new(alloc: Global, graph: &Graph) -> Result<UsedInputs, Fault>
         requires { IsTabled graph.now }
         ensures size { IfOk result (λ used. size used ≡ length graph.now.nodes.now) }
@@ -51,7 +51,7 @@ impl UsedInputs {
         })
     }
 
-    /// Adds an input of an element, and says whether it wasn't there. Fault 1 where memory is refused.
+    /// Adds an input of an element, and returns whether it wasn't there. Fault 1 if an allocation fails.
     pub fn insert(&mut self, place: u32, input: u32) -> Result<bool, Fault>
         requires { place < size self.old }
         ensures added { IfOk result (λ added. added ≡ not (is_used self.old place input)) }

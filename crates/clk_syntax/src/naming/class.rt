@@ -28,7 +28,7 @@ pub enum ClassName {
     ToDevice,
 }
 
-/// A class with its arguments, those that a text may leave out too.
+/// A class with all its arguments, also those that a text may leave out.
 #[derive(Drop)]
 pub enum Class {
     /// The push source of this number.
@@ -43,7 +43,7 @@ pub enum Class {
     StrideSched(Vec<u32>),
     /// The rate in packets a tick, and the burst in packets.
     Shaper(u32, u32),
-    /// The link, and the word that tells its device.
+    /// A device, with the word that names it.
     ToDevice(Vec<u8>),
 }
 
@@ -108,7 +108,7 @@ pub fn letters<'a>(text: &'a [u8], token: &Token) -> &'a [u8]
     word
 }
 
-/// The number that a token is, where it is one in this range.
+/// The number that a token is, if it is one in this range.
 fn number_at(text: &[u8], token: &Token, least: u32, most: u32) -> Option<u32>
     requires { IsWithin (length text.now) token.now }
     ensures { result ≡ number_in least most (letters text.now token.now) }
@@ -117,7 +117,7 @@ fn number_at(text: &[u8], token: &Token, least: u32, most: u32) -> Option<u32>
     Some(number as u32)
 }
 
-/// The numbers that tokens are, where each is one from 1 to a greatest. Fault 1 where memory is refused.
+/// The numbers that tokens are, if each is one from 1 to `most`. Fault 1 if an allocation fails.
 fn numbers_at(
     alloc: Global,
     text: &[u8],
@@ -139,7 +139,7 @@ fn numbers_at(
 }
 
 impl Class {
-    /// A class with these arguments, if it takes them. Fault 1 where memory is refused.
+    /// A class with these arguments, if it takes them. Fault 1 if an allocation fails.
     pub fn with(
         alloc: Global,
         text: &[u8],
@@ -163,7 +163,7 @@ impl Class {
         }
     }
 
-    /// The same class. Fault 1 where memory is refused.
+    /// A copy of the class. Fault 1 if an allocation fails.
     pub fn copy(&self, alloc: Global) -> Result<Class, Fault>
         ensures same { IfOk result (λ copy. class_view copy ≡ class_view self.now) }
         ensures fault { IsOkUnless result Fault.Memory }

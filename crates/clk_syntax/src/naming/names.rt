@@ -6,16 +6,16 @@ use clk_packet::Fault;
 use std::alloc::Global;
 use std::collections::BTreeMap;
 
-/// 2^64 by the golden ratio: names that differ in a digit get slots that are apart.
+/// 2^64 over the golden ratio: names that differ in a digit get slots that are apart.
 const SPREAD: u64 = 11_400_714_819_323_198_485;
 
 /// Names as they are declared one after another, each with the number of those before it. The work for each is logarithmic in their
 /// number, whatever they are.
 #[derive(Drop)]
 pub struct Names<'a> {
-    /// A name with its place in the slot that its number leads to. Most names are there, so that they are found at once.
+    /// A name with its place, in the slot that its hash leads to. Most names are there, so that they are found at once.
     slots: Vec<Option<(&'a [u8], u32)>>,
-    /// The names whose slot is another's, in an order, so that no names are slow to find, also where a text chooses them for that.
+    /// The names whose slot is another's, sorted. So no names are slow to find, even if a text chooses them for that.
     more: BTreeMap<(u64, &'a [u8]), u32>,
     count: u32,
     ghost some: { 0 < length slots.items },
@@ -28,7 +28,7 @@ impl<'a> Names<'a> {
     ghost use Rattle.std.specs.Str.{bytes_eq};
     ghost use Rattle.clk_syntax.specs.inside.Naming.{mixed_from, mixed, place_in, IsSlotted};
 
-    /// No names, with room for about so many. Fault 1 where memory is refused.
+    /// No names, with room for about so many. Fault 1 if an allocation fails.
     pub fn new(alloc: Global, room: usize) -> Result<Names<'a>, Fault>
         ensures none { IfOk result (λ names. (name : List ℕ) → place_in names name ≡ None) }
         ensures count { IfOk result (λ names. names.count ≡ 0) }
@@ -43,7 +43,7 @@ impl<'a> Names<'a> {
         })
     }
 
-    /// One more name, which has this latest place from now on. Whether it wasn't declared before. Fault 1 where memory is refused.
+    /// Declares one more name, whose place is now the latest. Returns whether it wasn't declared before. Fault 1 if an allocation fails.
     pub fn declare(&mut self, name: &'a [u8]) -> Result<bool, Fault>
         requires few { self.old.count + 1 < 2 ^ 32 }
         requires slots { IsSlotted self.old }
@@ -89,7 +89,7 @@ impl<'a> Names<'a> {
         self.more.get(&(number, name)).copied()
     }
 
-    /// A number of some bytes that come after others of this number.
+    /// A hash of some bytes, from that of the bytes before.
     fn mixed_from(number: u64, bytes: &[u8]) -> u64
         ensures { result ≡ mixed_from number bytes.now }
     {
@@ -100,8 +100,8 @@ impl<'a> Names<'a> {
         mixed
     }
 
-    /// A number of a name's bytes, or of those at the ends of a long one, by which names are sorted first: numbers are compared faster than
-    /// bytes. Names that have the same one cost time alone.
+    /// A hash of a name's bytes, or of those at the ends of a long one. Names are sorted by it first, since numbers are compared faster
+    /// than bytes. Names with the same hash only cost time.
     fn mixed(name: &[u8]) -> u64
         ensures { result ≡ mixed name.now }
     {

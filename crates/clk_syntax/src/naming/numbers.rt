@@ -17,7 +17,7 @@ impl Numbers {
     ghost use Rattle.std.specs.Prelude.{◌≡◌, ℕ, ◌<◌, ◌==◌, ◌&&◌, ◌||◌, not, length, false, IfOk, IsOkUnless};
     ghost use Rattle.clk_syntax.specs.inside.Numbers.{is_marked, has_number};
 
-    /// No numbers. Fault 1 where memory is refused.
+    /// No numbers. Fault 1 if an allocation fails.
     pub fn new(alloc: Global) -> Result<Numbers, Fault>
         ensures none { IfOk result (λ numbers. (n : ℕ) → has_number numbers n ≡ false) }
         ensures fault { IsOkUnless result Fault.Memory }
@@ -26,7 +26,7 @@ impl Numbers {
         Ok(Numbers { marks })
     }
 
-    /// Adds a number, and says whether it wasn't there.
+    /// Adds a number, and returns whether it wasn't there.
     pub fn insert(&mut self, number: u16) -> bool
         ensures added { result ≡ not (has_number self.old number) }
         ensures there { (n : ℕ) → has_number self.new n ≡ ((number == n) || has_number self.old n) }
@@ -34,7 +34,7 @@ impl Numbers {
         Numbers::mark(&mut self.marks, number / 64, number % 64)
     }
 
-    /// Sets a bit of the number at a place, and says whether it wasn't set.
+    /// Sets a bit of the number at a place, and returns whether it wasn't set.
     fn mark(marks: &mut [u64], place: u16, bit: u16) -> bool
         requires place { place < length marks.old }
         requires bit { bit < 64 }

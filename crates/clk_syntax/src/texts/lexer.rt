@@ -123,7 +123,7 @@ fn word(first: u8, text: &[u8]) -> Piece
     Piece::Token(word_symbol(first, word), len)
 }
 
-/// The comment whose `/*` comes right before a text. Once one isn't closed, none is that follows, and its end isn't sought.
+/// The comment whose `/*` comes right before a text. Once a comment isn't closed, no later one is, and its end isn't looked for.
 fn comment(text: &[u8], unclosed: &mut bool) -> Piece
     requires { unclosed.old ≡ true → comment_end text.now ≡ None }
     ensures piece { result ≡ comment (comment_end text.now) }
@@ -142,7 +142,7 @@ fn comment(text: &[u8], unclosed: &mut bool) -> Piece
     }
 }
 
-/// The mark that a byte is, or nothing.
+/// The symbol of the mark that a byte is, or `Nothing`.
 fn mark_of(byte: u8) -> Symbol
     ensures { result ≡ mark_of byte }
 {
@@ -194,7 +194,7 @@ fn piece_at(byte: u8, rest: &[u8], text: &[u8], unclosed: &mut bool) -> Piece
     Piece::Token(mark_of(byte), 1)
 }
 
-/// Keeps the token that a piece at this place is, if it is one, and gives how many bytes the piece has. Fault 1 where memory is refused.
+/// Keeps the token that a piece at this place is, if it is one, and returns how many bytes the piece has. Fault 1 if an allocation fails.
 fn keep(tokens: &mut Vec<Token>, place: usize, piece: Piece) -> Result<usize, Fault>
     requires fits { place + piece_len piece < 2 ^ 32 }
     ensures kept { IfOk result (λ n. (tokens.new.items ≡ tokens.old.items ++ shown place piece) × (n ≡ piece_len piece)) }
@@ -213,7 +213,7 @@ fn keep(tokens: &mut Vec<Token>, place: usize, piece: Piece) -> Result<usize, Fa
     }
 }
 
-/// The tokens of a text. Fault 1 where memory is refused.
+/// The tokens of a text. Fault 1 if an allocation fails.
 pub fn tokens_of(alloc: Global, text: &[u8]) -> Result<Vec<Token>, Fault>
     requires { length text.now ≤ most_tree_bytes }
     ensures tokens { IfOk result (λ tokens. tokens.items ≡ tokens_of text.now) }

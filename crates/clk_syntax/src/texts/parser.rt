@@ -31,7 +31,7 @@ fn bad(tokens: &[Token], end: u32) -> Fault
     }
 }
 
-/// A token of this symbol, and those after it.
+/// A token of this symbol, and those after it. Fault 2 if the first token isn't of this symbol.
 fn one<'a>(symbol: Symbol, tokens: &'a [Token], end: u32) -> Result<(Token, &'a [Token]), Fault>
     ensures read { IfOk result (λ r. (tokens.now ≡ r.0 ∷ r.1.now) × (r.0.symbol ≡ symbol)) }
     ensures stop { IfErr result (λ fault. (fault ≡ BadText (offset_of end tokens.now)) × ¬ (BeginsWith symbol tokens.now)) }
@@ -63,7 +63,7 @@ fn is_word(symbol: Symbol) -> bool
     matches!(symbol, Symbol::Name | Symbol::Number | Symbol::OtherWord)
 }
 
-/// A word, and the tokens after it.
+/// A word, and the tokens after it. Fault 2 if the first token is no word.
 fn any_word<'a>(tokens: &'a [Token], end: u32) -> Result<(Token, &'a [Token]), Fault>
     ensures read { IfOk result (λ r. (tokens.now ≡ r.0 ∷ r.1.now) × IsWord r.0) }
     ensures stop { IfErr result (λ fault. (fault ≡ BadText (offset_of end tokens.now)) × (begins_word tokens.now ≡ false)) }
@@ -76,7 +76,7 @@ fn any_word<'a>(tokens: &'a [Token], end: u32) -> Result<(Token, &'a [Token]), F
     Err(bad(tokens, end))
 }
 
-/// The number of a port and the bracket that closes it, of what follows the bracket that opens it.
+/// The number of a port and the tokens behind the bracket that closes it. The bracket that opens it comes right before `tokens`.
 fn port_number<'a>(tokens: &'a [Token], end: u32) -> Result<(Token, &'a [Token]), Fault>
     ensures read { IfOk result (λ r. NumberRead tokens.now r.0 r.1.now) }
     ensures output { IfErr result (Stops end output_opened tokens.now) }
@@ -133,7 +133,7 @@ fn input<'a>(tokens: &'a [Token], end: u32) -> Result<(Option<Token>, Token, &'a
     Ok((None, name, rest))
 }
 
-/// Reads a hop from this name, keeps its connection, and gives the name that it leads to.
+/// Reads a hop from this name, and keeps its connection. Returns the name that it leads to, and the tokens after it.
 fn hop<'a>(
     from: Token,
     tokens: &'a [Token],
@@ -155,7 +155,7 @@ fn hop<'a>(
     Ok((to, rest))
 }
 
-/// Reads the hops from this name on, as many as there are, and keeps their connections.
+/// Reads the hops from this name on, as many as there are, and keeps their connections. Returns the tokens after them.
 fn hops<'a>(
     first: Token,
     tokens: &'a [Token],
@@ -229,7 +229,8 @@ fn words<'a>(
     Err(bad(left, end))
 }
 
-/// The arguments of a class, up to the parenthesis that closes them, and what follows it, of what follows the one that opens them.
+/// The arguments of a class up to the parenthesis that closes them, and what follows it. The parenthesis that opens them comes right before
+/// `tokens`.
 fn argument_list<'a>(
     alloc: Global,
     tokens: &'a [Token],
@@ -287,7 +288,7 @@ fn declaration<'a>(
     Ok((declaration, rest))
 }
 
-/// Reads a statement whose first name is given, keeps what it declares and connects, and gives what follows it.
+/// Reads a statement whose first name is given, and keeps what it declares and connects. Returns what follows it.
 fn named<'a>(
     alloc: Global,
     first: Token,
@@ -309,7 +310,7 @@ fn named<'a>(
     Ok(rest)
 }
 
-/// What follows the semicolon at the end of a statement, or nothing where the text ends.
+/// What follows the semicolon at the end of a statement, or nothing if the text ends.
 fn after_end<'a>(tokens: &'a [Token], end: u32) -> Result<&'a [Token], Fault>
     ensures read { IfOk result (λ rest. EndRead tokens.now rest.now) }
     ensures stop { IfErr result (Stops end closed tokens.now) }
@@ -321,7 +322,7 @@ fn after_end<'a>(tokens: &'a [Token], end: u32) -> Result<&'a [Token], Fault>
     Ok(rest)
 }
 
-/// Reads a statement and the semicolon after it, keeps what it declares and connects, and gives what follows it.
+/// Reads a statement and the semicolon after it, and keeps what it declares and connects. Returns what follows it.
 fn statement<'a>(
     alloc: Global,
     tokens: &'a [Token],
@@ -341,7 +342,7 @@ fn statement<'a>(
     Ok(rest)
 }
 
-/// What the statements of a text of so many bytes declare and connect, by all its tokens. Fault 1 where memory is refused; fault 2 at the
+/// What the statements of a text of so many bytes declare and connect, by all its tokens. Fault 1 if an allocation fails. Fault 2 at the
 /// first token that can't stand where it does, or at the end of a text that ends inside a statement.
 pub fn statements_of(alloc: Global, tokens: &[Token], end: u32) -> Result<Statements, Fault>
     requires within { AreWithin end tokens.now }

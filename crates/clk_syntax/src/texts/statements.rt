@@ -3,8 +3,8 @@
 use crate::texts::token::Token;
 use smallvec::SmallVec;
 
-/// A declaration: names, of which there is one at least, their class, and its arguments. Most have one name and one argument
-/// at most, which stand in the value.
+/// A declaration: names, of which there is at least one, their class, and its arguments. Most declarations have one name and at most one
+/// argument, which stand in the value.
 #[derive(Drop)]
 pub struct Declaration {
     pub names: SmallVec<Token, 1>,
@@ -12,7 +12,7 @@ pub struct Declaration {
     pub arguments: SmallVec<Token, 1>,
 }
 
-/// A connection of a chain: the names at its ends, and the ports where they are written.
+/// A connection of a chain: the names at its ends, and the ports that are written.
 #[derive(Clone, Copy, Debug, PartialEq, Eq)]
 pub struct Connection {
     pub from: Token,

@@ -8,8 +8,8 @@ use clk_packet::Fault;
 use clk_syntax::named_text;
 use std::alloc::Global;
 
-/// What is wrong with the grammar, the names and the classes of a tree text, if anything is: its first fault. That its ports and trees
-/// are right isn't looked at.
+/// What is wrong with the grammar, the names and the classes of a tree text, if anything is: its first fault. Ports and trees aren't
+/// checked.
 pub fn fault_of_names(alloc: Global, text: &[u8]) -> Option<Fault>
     ensures { IfSome result (λ fault. (fault ≡ Memory) ⊎ HasFault text.now fault) }
 {
