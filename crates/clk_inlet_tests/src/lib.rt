@@ -1,4 +1,4 @@
-//! Tests of clk_inlet, by its public calls alone: on one thread, with the sender on another, and with memory refused.
+//! Tests of clk_inlet, by its public calls alone: on one thread, with the sender on another, and with an allocation that fails.
 #![tactic(auto)]
 
 #[cfg(test)]

@@ -1,4 +1,4 @@
-//! The memory of an inlet. tests/refuse-memory has each allocation of opening one refused in turn.
+//! The memory of an inlet. tests/refuse-memory makes each allocation of opening one fail in turn.
 
 use clk_inlet::{Item, open};
 use std::mem::size_of;

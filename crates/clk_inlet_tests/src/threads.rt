@@ -23,7 +23,7 @@ fn packet(number: u32) -> Item
     }
 }
 
-// Offers the packet of this number until it is accepted, and says whether it was.
+// Offers the packet of this number until it is accepted, and returns whether it was accepted under its number.
 fn offer(rt: &impl Wait, inlet: &mut Inlet, number: u32) -> bool {
     let item = packet(number);
     for _ in rt.forever() {
@@ -36,7 +36,7 @@ fn offer(rt: &impl Wait, inlet: &mut Inlet, number: u32) -> bool {
     false
 }
 
-// Offers all packets, and drops the inlet. It returns how many were accepted under their numbers.
+// Offers all packets, and drops the inlet. Returns how many were accepted under their numbers.
 fn send_all(rt: &impl Wait, inlet: Inlet) -> u32 {
     let mut inlet = inlet;
     (0..PACKETS)
@@ -86,7 +86,7 @@ fn packets_come_in_order(rt: HostRuntime) -> Result<(), Fail> {
     Ok(())
 }
 
-// Offers three packets and ends. It returns how an offer after that is refused.
+// Offers three packets and ends. Returns how an offer after that is refused.
 fn send_few(rt: &impl Wait, inlet: Inlet) -> Option<Refusal> {
     let mut inlet = inlet;
     for number in 0..3 {

@@ -11,8 +11,7 @@ fn of(sender: u16, number: u32) -> Packet {
     packet(sender, number, 50)
 }
 
-// Fails unless the seat of sender 1 reads so: of three packets that it might offer it offered two, and for the first another
-// sender's went out.
+// Fails unless the seat of sender 1 reads so: it may offer three packets and offered two, and for the first another sender's was evicted.
 fn assert_second(rt: &impl Abort, closed: &Closed) {
     let (accepted, evicted) = ([of(1, 0), of(1, 1)], [of(0, 0)]);
     closed.assert_reads(rt, 1, ((1, 2, 3), &accepted, &[], &evicted));

@@ -1,4 +1,4 @@
-//! Tests of clk_ruled, by its public calls alone: what the calls of a shared queue answer, on one thread and on many.
+//! Tests of clk_ruled, by its public calls alone: what the calls of a shared queue return, on one thread and on many.
 #![tactic(auto)]
 
 #[cfg(test)]

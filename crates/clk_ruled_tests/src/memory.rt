@@ -1,4 +1,4 @@
-//! Calls of a shared queue where memory is refused. tests/refuse-memory has each allocation of the test refused in turn.
+//! Calls of a shared queue in which an allocation fails. tests/refuse-memory makes each allocation of the test fail in turn.
 
 use crate::shared::Call::{Offer, Pull};
 use crate::shared::{Shared, assert_settled, packet};
@@ -9,16 +9,16 @@ use std::alloc::Global;
 use std::process::Abort;
 use std::sync::Wait;
 
-/// What is called, and may be refused. No other call takes memory.
+/// The calls that may fail. No other call allocates.
 #[derive(Clone, Copy, Debug, PartialEq, Eq)]
 enum Call {
     Open,
-    // What the test itself makes of the seats.
+    // The list of closed seats, which the test itself makes.
     Close,
     Settle,
 }
 
-// The first refusal is the only one, since it is one allocation that fails.
+// Only one allocation fails, so only one call does.
 #[test]
 fn a_refused_call_is_made_again(rt: HostRuntime) {
     let front_drop = met_refusal(&rt, rt.alloc(), Kind::FrontDrop);
@@ -27,7 +27,7 @@ fn a_refused_call_is_made_again(rt: HostRuntime) {
     assert_eq!(rt; front_drop.or(tail_drop), None);
 }
 
-// Makes each call, and all again where one was refused, and answers which was.
+// Makes each call, and all again if one failed. Returns which call failed, if one did.
 fn met_refusal<R: Abort + Wait>(rt: &R, alloc: Global, kind: Kind) -> Option<Call> {
     let refused = calls(rt, alloc, kind).err();
     if refused.is_some() {
@@ -36,7 +36,7 @@ fn met_refusal<R: Abort + Wait>(rt: &R, alloc: Global, kind: Kind) -> Option<Cal
     refused
 }
 
-// Makes each call, up to the one that is refused.
+// Makes each call, up to the one that fails.
 fn calls<R: Abort + Wait>(rt: &R, alloc: Global, kind: Kind) -> Result<(), Call> {
     let opened = Shared::open(alloc, kind, 1, &[(0, 6), (1, 1)]);
     let mut shared = answer(rt, Call::Open, opened)?;
@@ -50,7 +50,7 @@ fn calls<R: Abort + Wait>(rt: &R, alloc: Global, kind: Kind) -> Result<(), Call>
     Ok(())
 }
 
-// A call's answer, or the call, where memory was refused.
+// The result of a call, or the call if an allocation failed.
 fn answer<T: Drop>(rt: &impl Abort, call: Call, answer: Result<T, Fault>) -> Result<T, Call> {
     match answer {
         Ok(value) => Ok(value),
@@ -90,7 +90,7 @@ fn refuse<R: Abort + Wait>(rt: &R, shared: &mut Shared) {
     shared.make(rt, &calls);
 }
 
-// Each packet but the first puts out the one before it.
+// Each packet but the first evicts the one before it.
 fn evict<R: Abort + Wait>(rt: &R, shared: &mut Shared) {
     let ([a, b, c, d, e, f], of_second) = packets();
     let calls = [
@@ -106,7 +106,7 @@ fn evict<R: Abort + Wait>(rt: &R, shared: &mut Shared) {
     shared.make(rt, &calls);
 }
 
-// Fails unless the queue of this kind is settled as the calls say.
+// Fails unless a queue of this kind is settled as the calls say.
 fn assert_answers(rt: &impl Abort, kind: Kind, settled: &Settled) {
     let (of_first, of_second) = packets();
     let of_second = [of_second];

@@ -18,7 +18,7 @@ const OFFERS: u16 = 1200;
 
 const CAPACITY: u32 = 3;
 
-/// A plain list of packets, and what became of those that came.
+/// A plain list of packets, and which packets were accepted and refused, and which were evicted or pulled.
 #[derive(Drop)]
 struct Plain {
     kind: Kind,
@@ -77,9 +77,9 @@ impl Plain {
 struct Both {
     shared: Shared,
     plain: Plain,
-    /// The offers that lost a packet, and the answers.
+    /// The offers by which a packet was lost, with their outcomes.
     lost: Vec<(u16, Offered)>,
-    /// The offer after which the first pull gave none.
+    /// The offer after which a pull first returned none.
     none: Option<u16>,
 }
 
@@ -122,7 +122,7 @@ impl Both {
     }
 }
 
-// Fails unless a tally has the packets of its sender on the plain list.
+// Fails unless a tally has the packets of its sender that the plain list has.
 fn assert_theirs(
     rt: &impl Abort,
     alloc: Global,
@@ -161,8 +161,7 @@ fn assert_first_lost(rt: &impl Abort, both: &Both, expected: &[(u16, Offered)]) 
     assert!(rt; both.lost.starts_with(expected));
 }
 
-// Compares all answers of a queue of this kind with those of a plain list, and fails unless these are the first packets that
-// were lost.
+// Compares all results of a queue of this kind with those of a plain list, and fails unless these are the first packets that were lost.
 fn assert_plain<R: Abort + Wait>(
     rt: &R,
     alloc: Global,

@@ -1,4 +1,4 @@
-//! Rows of calls on one thread, with each answer.
+//! Rows of calls on one thread, with the result of each.
 
 use crate::shared::Call::{Offer, Pull};
 use crate::shared::{Call, Expected, Shared, assert_settled, packet};
@@ -8,7 +8,7 @@ use std::alloc::Global;
 use std::process::Abort;
 use std::sync::Wait;
 
-// Makes calls on a queue, and fails unless they are answered as is said and it is settled so.
+// Makes calls on a queue, and fails unless they return these results and the queue is settled with these tallies.
 fn assert_row<R: Abort + Wait>(
     rt: &R,
     alloc: Global,
@@ -76,7 +76,7 @@ fn an_evicted_packet_is_its_own_senders(rt: HostRuntime) -> Result<(), Fault> {
     assert_row(&rt, rt.alloc(), shared, &pull, &tallies, &[second])
 }
 
-// A queue of this kind that could hold all packets takes them all.
+// A queue of this kind that could hold all packets accepts them all.
 fn assert_ample<R: Abort + Wait>(rt: &R, alloc: Global, kind: Kind) -> Result<(), Fault> {
     let shared = Shared::open(alloc, kind, 1_000_000, &[(7, 10)])?;
     let sent = [

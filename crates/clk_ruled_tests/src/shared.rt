@@ -24,7 +24,7 @@ pub fn packet(sender: u16, number: u32, length: u16) -> Packet
     }
 }
 
-/// A call on a shared queue, with its answer.
+/// A call on a shared queue, with its result.
 #[derive(Clone, Copy)]
 pub enum Call {
     /// The seat at this place offers its sender's next packet, of this length.
@@ -86,7 +86,7 @@ impl Shared {
         self.tap.pull(&self.queue, rt)
     }
 
-    /// Makes calls, and fails unless they are answered as is said.
+    /// Makes calls, and fails unless they return these results.
     pub fn make<R: Abort + Wait>(&mut self, rt: &R, calls: &[Call]) {
         for call in calls {
             match *call {
@@ -99,7 +99,7 @@ impl Shared {
         }
     }
 
-    /// Fails unless these packets were put out for the seat at this place.
+    /// Fails unless these packets were evicted for the seat at this place.
     pub fn assert_put_out(&self, rt: &impl Abort, place: usize, packets: &[Packet]) {
         assert!(rt; place < self.seats.len());
         assert_packets(rt, self.seats[place].evicted(), packets);
@@ -150,7 +150,7 @@ impl Closed {
         self.tap.pull(&self.queue, rt)
     }
 
-    /// Pulls, and fails unless that is answered so.
+    /// Pulls, and fails unless the pull returns this.
     pub fn assert_pull<R: Abort + Wait>(&mut self, rt: &R, answer: Option<Packet>) {
         assert_eq!(rt; self.pull(rt), answer);
     }

@@ -77,7 +77,7 @@ fn send_all<R: Wait + Abort>(
     seat
 }
 
-// Pulls once, and says whether a packet came.
+// Pulls once, and returns whether a packet came.
 fn pull_one(wait: &impl Wait, queue: &RuledQueue, tap: &mut Tap) -> bool
     requires together { IsTapOf queue.now tap.old }
     ensures same { (tap.new.id ≡ tap.old.id) × (tap.new.setup ≡ tap.old.setup) }
@@ -88,7 +88,7 @@ fn pull_one(wait: &impl Wait, queue: &RuledQueue, tap: &mut Tap) -> bool
     }
 }
 
-// Pulls until all seats are closed and a last pull gives none.
+// Pulls until all seats are closed and a last pull returns none.
 fn pull_all(wait: &impl Wait, queue: &RuledQueue, meeting: &Meeting, tap: &mut Tap)
     requires together { IsTapOf queue.now tap.old }
     ensures same { (tap.new.id ≡ tap.old.id) × (tap.new.setup ≡ tap.old.setup) }
@@ -101,7 +101,7 @@ fn pull_all(wait: &impl Wait, queue: &RuledQueue, meeting: &Meeting, tap: &mut T
     }
 }
 
-// A thread answers its seat, closed.
+// What a thread returns: its seat, closed.
 #[derive(Drop)]
 struct ClosedOf(Snapshot<Seat>);
 
@@ -130,7 +130,7 @@ fn start<'s, E, R: Threads + Wait + Abort + Sync>(
     Ok(scope.spawn_with(promise, send)?)
 }
 
-// Starts a thread for each seat, pulls here while they send, and gives the closed seats in order.
+// Starts a thread for each seat, pulls here while they send, and returns the closed seats in order.
 fn send_and_pull<'s, E, R: Threads + Wait + Abort + Sync>(
     rt: &'s R,
     scope: &Scope<'s, E>,
@@ -183,7 +183,7 @@ fn run<R: Threads + Wait + Abort + Sync>(
     )
 }
 
-// What the seats and the tap tell of each sender, once all is done.
+// The tallies of all senders, by the lists of the seats and of the tap, once all is done.
 fn tallies<R: Abort>(
     rt: &R,
     alloc: Global,

@@ -11,7 +11,7 @@ use std::io::{self, ErrorKind, Read, Write};
 use std::process::Abort;
 use std::test::Fail;
 
-// Each function below goes through the bound alone.
+// The functions below know a source or a sink by its trait alone.
 fn first_two<S: Source>(source: &mut S) -> ([u8; 2], Result<usize, Failed>) {
     let mut buf = [0; 2];
     let count = source.read(&mut buf);
@@ -22,7 +22,7 @@ fn put<S: Sink>(sink: &mut S, bytes: &[u8]) -> Result<usize, Failed> {
     sink.write(bytes)
 }
 
-// Fails unless reads of two bytes each give these, one after another.
+// Fails unless reads of two bytes each return these, one after another.
 fn assert_gives<S: Source>(
     rt: &impl Abort,
     source: &mut S,
@@ -33,7 +33,7 @@ fn assert_gives<S: Source>(
     }
 }
 
-// Fails unless writes of these bytes, one after another, are answered so.
+// Fails unless writes of these bytes, one after another, return these results.
 fn assert_takes<S: Sink>(
     rt: &impl Abort,
     sink: &mut S,

@@ -26,14 +26,14 @@ fn packet(sender: u16, number: u32, length: u16) -> Packet
     }
 }
 
-/// A call on a queue, with its answer.
+/// A call on a queue, with its result.
 #[derive(Clone, Copy)]
 enum Call {
     Offer(Packet, Offered),
     Pull(Option<Packet>),
 }
 
-// Fails unless this is answered.
+// Fails unless an offer returned this.
 fn assert_offered(rt: &impl Abort, offered: Offered, answer: Offered) {
     assert_eq!(rt; offered, answer);
 }
@@ -42,7 +42,7 @@ fn assert_pulled(rt: &impl Abort, pulled: Option<Packet>, answer: Option<Packet>
     assert_eq!(rt; pulled, answer);
 }
 
-// Makes calls on a ring, and fails unless they are answered so.
+// Makes calls on a ring, and fails unless they return these results.
 fn make(rt: &impl Abort, ring: &mut Ring, calls: &[Call]) {
     for call in calls {
         match *call {
@@ -52,7 +52,7 @@ fn make(rt: &impl Abort, ring: &mut Ring, calls: &[Call]) {
     }
 }
 
-// Fails unless a ring tells this: how many packets it holds, whether it is empty, its kind and its capacity.
+// Fails unless a ring returns these: how many packets it holds, whether it is empty, its kind and its capacity.
 fn assert_tells(rt: &impl Abort, ring: &Ring, expected: (usize, bool, Kind, usize)) {
     assert_eq!(rt;
         (ring.len(), ring.is_empty(), ring.kind(), ring.capacity()),
@@ -60,7 +60,7 @@ fn assert_tells(rt: &impl Abort, ring: &Ring, expected: (usize, bool, Kind, usiz
     );
 }
 
-// The one allocation of each constructor is refused by tests/refuse-memory.
+// tests/refuse-memory makes the one allocation of each constructor fail.
 #[test]
 fn a_ring_takes_memory_once(rt: HostRuntime) {
     let refused = Ring::new(rt.alloc(), Kind::FrontDrop, 3).err();
@@ -194,7 +194,7 @@ fn offer_a_hundred<R: Wait + Abort>(rt: &R, queue: &Locked, sender: u16) {
     }
 }
 
-// Pulls two hundred packets, and fails unless those of each of two senders come by number. Answers each sender's next number.
+// Pulls two hundred packets, and fails unless those of each of two senders come by number. Returns each sender's next number.
 fn pull_two_hundred<R: Wait + Abort>(rt: &R, queue: &Locked) -> [u32; 2] {
     let mut next = [0; 2];
     for _ in 0..200 {

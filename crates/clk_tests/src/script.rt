@@ -12,7 +12,7 @@ pub enum Command {
     Send(u16, u16),
     /// The link pulls at this moment.
     Pull(u64),
-    /// All is emptied from this moment on.
+    /// All is drained from this moment on.
     Drain(u64),
 }
 
@@ -46,7 +46,7 @@ pub fn show_packet(text: &mut String, packet: Packet) -> Result<(), AllocError> 
     write!(text, "{sender}#{number} {length}")
 }
 
-/// The same, or `none`.
+/// A packet as `S#n L`, or `none`.
 pub fn show_got(text: &mut String, got: Option<Packet>) -> Result<(), AllocError> {
     match got {
         Some(packet) => show_packet(text, packet),
@@ -54,7 +54,7 @@ pub fn show_got(text: &mut String, got: Option<Packet>) -> Result<(), AllocError
     }
 }
 
-/// The line of a packet that was sent, and of what became of it.
+/// The line of a packet that was sent, with the outcome of its offer.
 pub fn show_sent(text: &mut String, packet: Packet, offered: Offered) -> Result<(), AllocError> {
     show_packet(text, packet)?;
     match offered {
@@ -73,7 +73,7 @@ pub fn show_pull(text: &mut String, moment: u64, got: Option<Packet>) -> Result<
     text.push_str("\n")
 }
 
-/// Fails unless these lines are the answer of a row, but for a report that may stand at its end.
+/// Fails unless these lines are what the script of a row writes, but for a report that may stand at its end.
 pub fn assert_answered(rt: &impl Abort, row: &Row, lines: &str) {
     match row.answer.strip_prefix(lines) {
         Some(rest) => assert!(rt; rest.is_empty() || rest.starts_with("sender ")),

@@ -1,4 +1,4 @@
-//! Texts that are cut off, and texts in which a byte is another.
+//! Texts that are cut off, and texts in which one byte is replaced.
 
 use crate::parts::told_parts;
 use crate::row::{plan_of, session_of, written_of};
@@ -7,10 +7,10 @@ use clk_tree::Plan;
 use std::alloc::Global;
 use std::process::Abort;
 
-/// The bytes that are put in the place of each byte.
+/// The bytes that replace each byte.
 const OTHERS: [u8; 10] = [b'x', b'1', b';', b',', b'/', b'*', b'[', b'\n', 200, 0];
 
-// The canonical text of a plan denotes the same plan.
+// Fails unless the canonical text of a plan denotes the same plan.
 fn assert_plan(rt: &impl Abort, alloc: Global, plan: &Plan) {
     let written = written_of(rt, alloc, plan);
     let again = plan_of(rt, alloc, &written);
@@ -18,14 +18,14 @@ fn assert_plan(rt: &impl Abort, alloc: Global, plan: &Plan) {
     assert_eq!(rt; told_parts(rt, alloc, &again), told_parts(rt, alloc, plan));
 }
 
-// A session takes each tree of a plan.
+// Fails unless a session takes each tree of a plan.
 fn assert_sessions(rt: &impl Abort, alloc: Global, plan: &Plan) {
     for device in 0..plan.devices() {
         let _session = session_of(rt, alloc, plan, device);
     }
 }
 
-// A text is that of a plan, or has a fault of a text. Fault 12 is none of them.
+// Fails unless a text denotes a plan, or has a fault of a text, which fault 12 is not.
 fn assert_plan_or_fault(rt: &impl Abort, alloc: Global, text: &[u8]) {
     match Plan::read(alloc, text) {
         Ok(plan) => {
@@ -42,7 +42,7 @@ fn assert_plan_or_fault(rt: &impl Abort, alloc: Global, text: &[u8]) {
     }
 }
 
-// A text is answered so whatever the byte at a place is.
+// Fails unless a text, with each of the other bytes at a place, denotes a plan or has a fault of a text.
 fn assert_bytes(rt: &impl Abort, alloc: Global, text: &[u8], place: usize) {
     let mut altered = text.to_vec(alloc).expect(rt, "memory");
     for byte in OTHERS {
@@ -53,7 +53,7 @@ fn assert_bytes(rt: &impl Abort, alloc: Global, text: &[u8], place: usize) {
     }
 }
 
-// Each front of a text is answered so, and the text with any other byte.
+// Fails unless each front of a text, and the text with each other byte at each place, denotes a plan or has a fault of a text.
 fn assert_altered(rt: &impl Abort, alloc: Global, text: &[u8]) {
     for place in 0..=text.len() {
         assert_plan_or_fault(rt, alloc, &text[..place]);

@@ -91,7 +91,7 @@ s1 [0] -> [0] qa;
 s9 [0] -> [0] qf;
 ";
 
-/// The plan that a text denotes has this canonical text, which is that of its own plan.
+/// Fails unless the plan that a text denotes has this canonical text, which is that of its own plan.
 fn assert_written(rt: &impl Abort, alloc: Global, text: &str, canonical: &str) {
     for text in [text, canonical] {
         let written = written_of(rt, alloc, &plan_of(rt, alloc, text.as_bytes()));

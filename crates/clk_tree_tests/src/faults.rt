@@ -3,7 +3,7 @@
 use crate::row::assert_answers;
 use crate::sound::TEXTS;
 
-/// A text of each fault, and those in which more than one place could be told. A second ToDevice is no fault.
+/// A text for each fault, and texts in which more than one place could be named. A second ToDevice is no fault.
 const FAULTS: [(&str, &str); 19] = [
     ("d :: ToDevice(x); /* cut", "fault 2: BadText 18"),
     ("q :: Que;", "fault 3: UnknownClass 5"),
@@ -86,7 +86,7 @@ const BAD_TEXTS: [(&str, &str); 24] = [
     ("a [] -> b", "fault 2: BadText 3"),
 ];
 
-/// Which of several faults is told.
+/// Which of several faults a text has.
 const ORDERS: [(&str, &str); 13] = [
     ("a [70000] -> b", "fault 6: UnknownName 0"),
     ("q :: Queue;", "fault 9: PortMissing 0"),
@@ -123,9 +123,9 @@ const ORDERS: [(&str, &str); 13] = [
     ("// x\r?", "fault 11: NoDevice"),
 ];
 
-/// Texts with two faults that stand next to each other in the order of faults. Of a pair the first row has the fault that is told before
-/// the other, and the second row behind it. A broken grammar is the last fault in a text, since nothing behind it is read; NoDevice and
-/// TooLarge have no place. Too many bytes that break the grammar, too, are among the limits.
+/// Texts with two faults that stand next to each other in the order of faults. In the first row of a pair, the fault that counts stands
+/// before the other in the text, and in the second row behind it. A broken grammar is always the last fault in a text, since nothing behind
+/// it is read. NoDevice and TooLarge have no place. A text of too many bytes that breaks the grammar, too, is among the limits.
 const PAIRS: [(&str, &str); 17] = [
     // A name is declared twice, and the grammar is broken.
     ("q :: Queue; q :: Queue; ?", "fault 2: BadText 24"),

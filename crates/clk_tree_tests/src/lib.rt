@@ -1,4 +1,4 @@
-//! Tests of clk_tree, by its public calls alone: what texts of trees are answered.
+//! Tests of clk_tree, by its public calls alone: which plans and faults texts of trees have.
 #![tactic(auto)]
 
 #[cfg(test)]

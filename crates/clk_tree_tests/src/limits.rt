@@ -3,7 +3,7 @@
 use crate::row::assert_answer;
 use std::alloc::{AllocError, Global};
 
-/// A piece of a text for each number from the first to the one before the second, which stands in it for each `%`.
+/// A piece of a text for each number from the first to the one before the second. The number replaces each `%`.
 type Pieces = (&'static str, u32, u32);
 
 /// A queue with a sender, at the input of its number.
@@ -20,7 +20,7 @@ const MARKS: &str = "???????????????????????????????????????????????????????????
 
 const DEVICE: Pieces = ("; d :: ToDevice(link); x -> d;", 0, 1);
 
-/// Texts in pieces, and their answers.
+/// Texts in pieces, with the lines of their faults; the line is empty if a text has none.
 const TEXTS: [(&[Pieces], &str); 21] = [
     // Inputs are 64 at most.
     (&[("x :: PrioSched", 0, 1), DEVICE, (INPUT, 0, 64)], ""),
@@ -41,7 +41,7 @@ const TEXTS: [(&[Pieces], &str); 21] = [
         &[("x :: DRRSched", 0, 1), DEVICE, (INPUT, 0, 65)],
         "fault 18: TooLarge",
     ),
-    // And so are arguments. An input that isn't connected is told before too many inputs.
+    // Arguments are 64 at most, too. An input that isn't connected counts before too many inputs.
     (
         &[
             ("x :: DRRSched(1", 0, 1),
@@ -140,7 +140,7 @@ const TEXTS: [(&[Pieces], &str); 21] = [
     ),
     (&[(TREE, 0, 128)], ""),
     (&[(TREE, 0, 129)], "fault 18: TooLarge"),
-    // A scheduler that leads to itself is told before too many elements.
+    // A scheduler that leads to itself counts before too many elements.
     (
         &[
             (

@@ -1,4 +1,4 @@
-//! Calls of a plan where memory is refused. tests/refuse-memory has each allocation of the test refused in turn.
+//! Calls of a plan in which an allocation fails. tests/refuse-memory makes each allocation of the test fail in turn.
 
 use clk_packet::Fault;
 use clk_sched::Session;
@@ -19,25 +19,25 @@ q [0] -> [0] x;
 x [0] -> [0] d;
 ";
 
-/// What is called, and may be refused.
+/// The calls that may fail.
 #[derive(Clone, Copy, Debug, PartialEq, Eq)]
 enum Call {
     Read,
     Write,
     Tree,
     DrrsAbove,
-    // What the test itself makes of the tree.
+    // The session that the test makes of the tree.
     Session,
 }
 
-// The first refusal is the only one, since it is one allocation that fails.
+// Only one allocation fails, so only one call does.
 #[test]
 fn a_refused_call_is_made_again(rt: HostRuntime) {
     let refused = met_refusal(&rt, rt.alloc());
     assert_eq!(rt; refused, None);
 }
 
-// Makes each call, and again where it was refused, and answers which was.
+// Makes each call, and makes it again if it failed. Returns which call failed, if one did.
 fn met_refusal(rt: &impl Abort, alloc: Global) -> Option<Call> {
     let mut refused = Refused { call: None };
     let plan = read(rt, alloc, &mut refused);
@@ -47,14 +47,14 @@ fn met_refusal(rt: &impl Abort, alloc: Global) -> Option<Call> {
     refused.call
 }
 
-/// The call that was refused, if one was.
+/// The call that failed, if one did.
 #[derive(Drop)]
 struct Refused {
     call: Option<Call>,
 }
 
 impl Refused {
-    // Notes that a call met the refusal.
+    // Notes that a call failed.
     fn note(&mut self, rt: &impl Abort, call: Call, fault: Fault) {
         assert_eq!(rt; (fault, self.call), (Fault::Memory, None));
         self.call = Some(call);
@@ -83,7 +83,7 @@ fn write(rt: &impl Abort, alloc: Global, plan: &Plan, refused: &mut Refused) {
 }
 
 fn tree(rt: &impl Abort, alloc: Global, plan: &Plan, refused: &mut Refused) {
-    // Counting the devices takes no memory.
+    // Counting the devices doesn't allocate.
     assert_eq!(rt; plan.devices(), 1);
     let tree = match plan.tree(alloc, 0) {
         Ok(tree) => tree,

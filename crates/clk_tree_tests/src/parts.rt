@@ -91,7 +91,7 @@ sender: queue
     ),
 ];
 
-// What becomes of a packet that arrives at a full queue.
+// What a full queue does with a packet that arrives.
 fn kind_name(kind: Kind) -> &'static str {
     match kind {
         Kind::TailDrop => "TailDrop",
@@ -128,7 +128,7 @@ fn add_senders(told: &mut String, senders: &[SenderSpec]) -> Result<(), AllocErr
     Ok(())
 }
 
-/// All of them.
+/// The devices, the queues and the senders of a plan, in lines.
 pub fn told_parts(rt: &impl Abort, alloc: Global, plan: &Plan) -> String {
     let mut told = told_queues(alloc, plan).expect(rt, "memory");
     add_senders(&mut told, plan.senders()).expect(rt, "memory");

@@ -5,14 +5,14 @@ use clk_tree::Plan;
 use std::alloc::Global;
 use std::process::Abort;
 
-/// Each text is answered by its line: that of its fault, without a line feed, or none where it has no fault.
+/// Fails unless each text has the fault with its line, which has no line feed, or no fault if the line is empty.
 pub fn assert_answers(rt: &impl Abort, alloc: Global, rows: &[(&str, &str)]) {
     for (text, line) in rows {
         assert_answer(rt, alloc, text.as_bytes(), line);
     }
 }
 
-/// A text is answered by this line.
+/// Fails unless a text has the fault with this line, or no fault if the line is empty.
 pub fn assert_answer(rt: &impl Abort, alloc: Global, text: &[u8], line: &str) {
     match Plan::read(alloc, text) {
         Ok(_) => assert_eq!(rt; "", line),

@@ -9,10 +9,10 @@ use clk_tree::Plan;
 use std::alloc::Global;
 use std::process::Abort;
 
-/// Three queues that have nothing, and remember the order in which they were asked.
+/// Three empty queues, which remember the order in which they were asked.
 #[derive(Drop)]
 struct Asked {
-    /// Of each queue, by its number, how many had been asked with it when it was asked last.
+    /// For each queue, by its number, how many queues had been asked, itself included, when it was last asked.
     order: [u32; 3],
     count: u32,
 }
@@ -41,7 +41,7 @@ fn quanta_of_a_text_bound_the_closing_pulls(rt: HostRuntime) {
     assert_eq!(rt; session_of(&rt, rt.alloc(), &plan, 0).bound(1), 660);
 }
 
-/// Texts, and when each queue of theirs is asked in a pull of each device, 0 where it isn't.
+/// Texts, and for each device when each of their queues is asked in a pull, or 0 if it isn't asked.
 const ASKED: [(&str, &[[u32; 3]]); 4] = [
     // c, b and a.
     (
@@ -72,7 +72,7 @@ fn asked_first(rt: &impl Abort, session: &mut Session) -> [u32; 3] {
     asked.order
 }
 
-/// Each device of a plan pulls queues in this order.
+/// Fails unless each device of a plan pulls queues in this order.
 fn assert_asked(rt: &impl Abort, alloc: Global, plan: &Plan, orders: &[[u32; 3]]) {
     assert_eq!(rt; usize::from(plan.devices()), orders.len());
     for device in 0..plan.devices() {

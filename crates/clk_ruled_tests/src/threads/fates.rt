@@ -1,4 +1,4 @@
-//! What became of the packets of all senders, found by looking each of them up.
+//! Where the packets of all senders are, found by looking each of them up.
 
 use crate::shared::{assert_packets, of_sender};
 use crate::threads::packet;
@@ -10,7 +10,7 @@ use std::process::Abort;
 // How many packets a sender offers at most.
 pub const ROOM: u32 = 10_000;
 
-// Which packets were put out: a place for each packet of senders 0, 1 and so on.
+// Which packets were evicted: a place for each packet of senders 0, 1 and so on.
 #[derive(Drop)]
 pub struct PutOut {
     places: Vec<bool>,
@@ -23,7 +23,7 @@ fn place_of(packet: Packet) -> usize {
 }
 
 impl PutOut {
-    // The packets that were put out for any of the seats, none of them twice.
+    // The packets that were evicted for any of the seats. Fails if one was evicted twice.
     pub fn of(rt: &impl Abort, alloc: Global, seats: &[ClosedSeat]) -> Result<PutOut, AllocError> {
         let places = seats.len().saturating_mul(ROOM as usize);
         let mut put_out = PutOut {
@@ -58,7 +58,7 @@ impl PutOut {
     }
 }
 
-// What comes after this packet, where it is the first.
+// What comes after this packet, if it is the first.
 fn after(packets: &[Packet], first: Packet) -> Option<&[Packet]> {
     match packets {
         [packet, rest @ ..] if *packet == first => Some(rest),
@@ -66,7 +66,7 @@ fn after(packets: &[Packet], first: Packet) -> Option<&[Packet]> {
     }
 }
 
-// All packets that the sender offered are in the two lists together, in order.
+// Fails unless all packets that the sender offered are in the two lists together, in order.
 pub fn assert_shared(rt: &impl Abort, seat: &ClosedSeat) {
     let mut accepted = seat.accepted();
     let mut refused = seat.refused();
@@ -80,7 +80,7 @@ pub fn assert_shared(rt: &impl Abort, seat: &ClosedSeat) {
     assert!(rt; accepted.is_empty() && refused.is_empty());
 }
 
-// What was accepted and not put out.
+// The packets that were accepted and not evicted.
 fn kept(alloc: Global, accepted: &[Packet], put_out: &PutOut) -> Result<Vec<Packet>, AllocError> {
     let mut kept = Vec::new(alloc);
     for packet in accepted {
@@ -91,7 +91,7 @@ fn kept(alloc: Global, accepted: &[Packet], put_out: &PutOut) -> Result<Vec<Pack
     Ok(kept)
 }
 
-// What was taken of the sender is what was accepted and not put out, in order.
+// Fails unless the packets pulled of the sender are those that were accepted and not evicted, in order.
 pub fn assert_taken(
     rt: &impl Abort,
     alloc: Global,

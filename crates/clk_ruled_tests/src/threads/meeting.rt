@@ -1,4 +1,4 @@
-//! Where the senders of a queue wait for one another, and tell that they are done.
+//! Where the senders of a queue wait for one another, and say that they are done.
 
 use std::process::Abort;
 use std::sync::atomic::{AtomicU64, Ordering};
@@ -24,8 +24,8 @@ impl Meeting {
         }
     }
 
-    // One more has come, and waits until all have. The test fails where they don't come in time, as when each sender runs
-    // only after the one before.
+    // One more has come, and waits until all have. The test fails if they don't come in time, as when each sender runs only after the one
+    // before.
     pub fn wait_for_all(&self, rt: &impl Abort) {
         self.came.fetch_add(1, Ordering::SeqCst);
         assert!(rt; self.have_come(), "a sender waits for the others");

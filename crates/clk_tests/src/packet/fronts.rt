@@ -15,7 +15,7 @@ fn eight_senders(alloc: Global) -> Result<Vec<u8>, AllocError> {
     Ok(trace)
 }
 
-// A record that is cut off before the first digit of its length is none. Without its line feed or the second digit it is one.
+// A record that is cut off before the first digit of its length is bad. Without its line feed or the second digit it is a record.
 fn fault_of_front(bytes: u32) -> Option<Fault> {
     match bytes % 5 {
         1 | 2 => Some(Fault::BadTrace { row: bytes / 5 + 1 }),

@@ -1,4 +1,4 @@
-//! Traces: what is sent, and what they are refused for.
+//! Traces: what is sent, and which faults they have.
 
 use clk_packet::{FailingSource, Fault, FromRead, Traces};
 use std::alloc::{AllocError, Global};
@@ -27,12 +27,12 @@ fn read(alloc: Global, text: &[u8]) -> Result<Traces, Fault> {
     Traces::read_csv(alloc, &mut FromRead::new(text))
 }
 
-// Fails unless a trace is refused so.
+// Fails unless a trace has this fault.
 fn assert_refused(rt: &impl Abort, alloc: Global, text: &[u8], fault: Fault) {
     assert_eq!(rt; read(alloc, text).err(), Some(fault));
 }
 
-// The packet of a number that a sender sends, as a trace tells it.
+// The packet of a number that a sender sends, by a trace.
 fn told(traces: &Traces, sender: u16, number: u32) -> Option<(u16, u32, u16)> {
     let packet = traces.sent(sender, number)?;
     Some((packet.sender, packet.number, packet.length))
@@ -106,7 +106,7 @@ fn each_sender_numbers_its_own_packets(rt: HostRuntime) -> Result<(), Fail> {
     Ok(())
 }
 
-// A byte order mark at the front and empty lines are no records, quotes go, and carriage returns end lines.
+// A byte order mark at the front and empty lines are no records, quotes are removed, and carriage returns end lines.
 #[test]
 fn records_are_as_csv_reads_them(rt: HostRuntime) -> Result<(), Fail> {
     let traces = read(
@@ -117,8 +117,7 @@ fn records_are_as_csv_reads_them(rt: HostRuntime) -> Result<(), Fail> {
     Ok(())
 }
 
-/// Traces that say the same: the lines of the first are two numbers in digits alone, and a line feed, and the second has more to be
-/// read past.
+/// Traces that say the same. The lines of the first are two numbers in digits alone, and a line feed. The second has more to skip.
 const ALIKE: [(&[u8], &[u8]); 10] = [
     (b"1,2\n3,4\n1,5\n", b"\"1\",2\n3,\"4\"\n\"1\",\"5\"\n"),
     (b"1,2\n3,4\n1,5\n", b"1,2\r\n3,4\r\n1,5\r\n"),
@@ -135,7 +134,7 @@ const ALIKE: [(&[u8], &[u8]); 10] = [
     ),
 ];
 
-// Fails unless two traces send the same, of senders below 4, and sender 3 sends something.
+// Fails unless two traces send the same, by senders below 4, and sender 3 sends something.
 fn assert_alike(rt: &impl Abort, one: &Traces, other: &Traces) {
     assert!(rt; one.sent(3, 0).is_some());
     for sender in 0..4 {
@@ -154,7 +153,7 @@ fn plain_lines_say_what_other_lines_do(rt: HostRuntime) -> Result<(), Fail> {
     Ok(())
 }
 
-// Whether a trace was read, or a record of it is bad.
+// Whether a trace was read, or has a bad record.
 fn is_read_or_bad(outcome: Result<Traces, Fault>) -> bool {
     match outcome {
         Ok(_) | Err(Fault::BadTrace { .. }) => true,
@@ -170,10 +169,10 @@ fn a_front_of_a_trace_is_one_or_has_a_bad_record(rt: HostRuntime) {
     }
 }
 
-/// The bytes that are put in the place of each byte of a trace.
+/// The bytes that replace each byte of a trace.
 const OTHERS: [u8; 8] = [b'x', b'9', b',', b'"', b'\n', b'\r', 200, 0];
 
-// A text in which the byte at a place is another.
+// A text in which the byte at a place is replaced.
 fn with_byte(alloc: Global, text: &[u8], place: usize, byte: u8) -> Result<Vec<u8>, AllocError> {
     let mut altered = text.to_vec(alloc)?;
     if let Some(old) = altered.get_mut(place) {
@@ -204,7 +203,7 @@ fn a_failing_reader_is_told(rt: HostRuntime) -> Result<(), Fail> {
     Ok(())
 }
 
-// Each allocation is refused in turn by tests/refuse-memory: by plain lines, and by `csv`.
+// tests/refuse-memory makes each allocation fail in turn: by plain lines, and by `csv`.
 #[test]
 fn reading_takes_memory(rt: HostRuntime) {
     for text in [b"0,1\n3,10\n0,2\n".as_slice(), b"0,1\n3,\"10\"\n0,2\n"] {
@@ -213,7 +212,7 @@ fn reading_takes_memory(rt: HostRuntime) {
     }
 }
 
-// A part, so many times.
+// A part, repeated so many times.
 fn repeated(alloc: Global, part: &[u8], times: u32) -> Result<Vec<u8>, AllocError> {
     let mut text = Vec::new(alloc);
     for _ in 0..times {

@@ -62,7 +62,7 @@ fn long_log(alloc: Global, before: &str, visits: u64) -> Result<(Vec<Visit>, Str
     Ok((log, rows))
 }
 
-// Rows that are put together at once, and one more, where a log is short and where it is long.
+// Rows that are put together at once, and one more, in a short log and in a long one.
 #[test]
 fn long_logs_are_written_in_parts(rt: HostRuntime) -> Result<(), Fail> {
     let alloc = rt.alloc();

@@ -28,7 +28,7 @@ fn logs_of(rt: &impl Abort, alloc: Global, pulls: u64) -> Result<(Vec<Visit>, Pa
     Ok((log, packed))
 }
 
-// What a sink with so much room takes of the CSV of logs, and how writing it ends.
+// What a sink with so much room takes of the CSV of logs, and the result of writing it.
 fn written<L: VisitLog>(
     alloc: Global,
     logs: &[L],
@@ -39,7 +39,7 @@ fn written<L: VisitLog>(
     Ok((sink.taken().to_vec(alloc)?, ended))
 }
 
-// Fails unless the CSV of packed logs is that of the lists, also where the sink takes only some of it.
+// Fails unless the CSV of packed logs is that of the lists, also if the sink takes only some of it.
 fn assert_written_alike(
     rt: &impl Abort,
     alloc: Global,

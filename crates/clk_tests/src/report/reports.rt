@@ -46,8 +46,8 @@ fn counts_of(alloc: Global, tallies: &[Tally]) -> Result<Vec<Counts>, AllocError
     Ok(counts)
 }
 
-// Fails unless this is the report of these tallies, and of what is counted of them, and of what came out at each device, and a writer
-// that fails after fewer bytes has taken them.
+// Fails unless this is the report of these tallies, of what is counted of them, and of the packets emitted at each device, and a writer
+// that fails after fewer bytes has taken these.
 fn assert_reports(
     rt: &impl Abort,
     alloc: Global,
@@ -70,7 +70,7 @@ fn assert_reports(
     assert_takes(rt, alloc, &tallies, &emitted, expected, Ok(()));
 }
 
-// Reports where there is room for so many bytes, and fails unless it ends so and these bytes were written.
+// Reports to a sink with room for so many bytes. Fails unless the result is this, and these bytes were written.
 fn assert_takes(
     rt: &impl Abort,
     alloc: Global,
@@ -89,7 +89,7 @@ fn assert_takes(
     assert!(rt; sink.taken() == bytes);
 }
 
-// The report at the end of the answer of a row.
+// The report at the end of what the script of a row writes.
 fn report_of(rt: &impl Abort, row: &Row) -> &'static [u8] {
     let place = row.answer.find("sender ").expect(rt, "a report");
     row.answer.get(place..).expect(rt, "a report").as_bytes()
@@ -120,7 +120,7 @@ fn no_sender_has_no_line(rt: HostRuntime) {
     assert_reports(&rt, rt.alloc(), &[], &[&[packet(0, 0, 10)]], b"");
 }
 
-// Two of them ask for the larger table.
+// Two of the senders need the larger table.
 #[test]
 fn a_sender_is_beyond_the_small_table(rt: HostRuntime) {
     let [few, next] = [packet(255, 0, 10), packet(256, 0, 20)];
@@ -137,7 +137,7 @@ fn a_sender_is_beyond_the_small_table(rt: HostRuntime) {
     assert_reports(&rt, rt.alloc(), &sent, &[&[last, few, next]], expected);
 }
 
-// It is the least that asks for the larger table.
+// Sender 256 is the least that needs the larger table.
 #[test]
 fn sender_256_is_the_only_one(rt: HostRuntime) {
     let least = packet(256, 0, 20);
@@ -165,7 +165,7 @@ fn packets_of_senders_without_a_tally_are_left_out(rt: HostRuntime) {
     assert_reports(&rt, rt.alloc(), &sent, &[&packets], expected);
 }
 
-// Sender 0's packets came out at the first and at the last device, and none at the one between.
+// Packets of sender 0 were emitted at the first and at the last device, and none at the one between.
 #[test]
 fn packets_are_emitted_at_several_devices(rt: HostRuntime) {
     let [first, second] = [packet(0, 0, 10), packet(0, 1, 20)];
@@ -189,7 +189,7 @@ fn without_a_device_nothing_is_emitted(rt: HostRuntime) {
     assert_reports(&rt, rt.alloc(), &sent, &[], expected);
 }
 
-// Fails unless few are counted.
+// Fails unless few packets and bytes are counted.
 fn assert_few(rt: &impl Abort, total: Total)
     ensures { HasRoom 1 total }
 {
@@ -240,7 +240,7 @@ fn one_accepted(alloc: Global, packet: Packet) -> Result<Tally, AllocError> {
     tally(alloc, (packet.sender, &accepted, &[], &[]))
 }
 
-// The line of each sender there may be, where one packet of it of one byte came out.
+// The line of each sender there may be, if one packet of it, of one byte, was emitted.
 fn line_of_each(alloc: Global) -> Result<String, AllocError> {
     let mut text = String::new(alloc);
     for sender in 0..=u16::MAX {

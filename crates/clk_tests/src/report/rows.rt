@@ -12,15 +12,15 @@ use std::process::Abort;
 /// The first line of the CSV of the log of one device.
 pub const HEADER: &str = "pull,node,input,fresh,sender,number,length,passed,moment\n";
 
-/// Carries out the script of a row over its tree, and fails unless the CSV of the log is its visits, and a writer that fails after fewer
-/// bytes has taken them.
+/// Carries out the script of a row over its tree. Fails unless the CSV of the log has the row's visits, and a writer that fails after fewer
+/// bytes has taken these.
 pub fn assert_row(rt: &impl Abort, alloc: Global, tree: Result<Tree, Fault>, row: &Row) {
     let (log, _) = session_of_row(rt, alloc, tree, row).into_parts();
     let expected = format!(in alloc; "{HEADER}{}", row.visits).expect(rt, "ample memory");
     assert_writes_all(rt, alloc, &[log], &expected);
 }
 
-/// Fails unless the CSV of these logs is what is expected, and a writer that fails after fewer bytes has taken them.
+/// Fails unless this is the CSV of these logs, and a writer that fails after fewer bytes has taken these.
 pub fn assert_writes_all(rt: &impl Abort, alloc: Global, logs: &[Vec<Visit>], expected: &str) {
     let bytes = expected.as_bytes();
     for room in 0..bytes.len() {
@@ -29,7 +29,7 @@ pub fn assert_writes_all(rt: &impl Abort, alloc: Global, logs: &[Vec<Visit>], ex
     assert_takes(rt, alloc, logs, bytes, Ok(()));
 }
 
-// Writes the CSV of logs where there is room for so many bytes, and fails unless it ends so and these bytes were written.
+// Writes the CSV of logs to a sink with room for so many bytes. Fails unless the result is this, and these bytes were written.
 fn assert_takes(
     rt: &impl Abort,
     alloc: Global,

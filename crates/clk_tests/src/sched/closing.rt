@@ -1,12 +1,12 @@
-//! Drains that stop at the bound, since what they pull from hides a packet, or has fewer than are told to be left; and how near others come
-//! to it.
+//! Drains that stop at the bound, since what they pull from hides a packet, or has fewer packets than are said to be left; and how near
+//! other drains come to it.
 
 use super::row::{Step, assert_shows};
 use super::trees::{drr_path, shaped_drr_path};
 use clk_packet::{Fault, Packet};
 use clk_sched::{Ask, Session, Tree};
 
-// It has one packet at leaf 0, and yet gives none when it is asked first.
+// A queue with one packet, which gives none when it is first asked.
 #[derive(Drop)]
 struct Hidden {
     packet: Option<Packet>,

@@ -38,7 +38,7 @@ fn a_path_has_64_schedulers_at_most(rt: HostRuntime) {
     assert_eq!(rt; below(rt.alloc(), 65).err(), Some(Fault::TooLarge));
 }
 
-// Its one allocation is refused by tests/refuse-memory.
+// tests/refuse-memory makes its one allocation fail.
 #[test]
 fn a_shaper_takes_memory_once(rt: HostRuntime) {
     let refused = Tree::shaper(rt.alloc(), 2, 3, Tree::leaf(0)).err();
@@ -98,7 +98,7 @@ impl Ask for OnePacket {
     }
 }
 
-// Through the trait's bound alone, and so by its contract.
+// Asks by the trait's bound alone, and so by its contract.
 fn ask_twice<Q: Ask>(queues: &mut Q, leaf: u16) -> [Option<Packet>; 2] {
     [queues.ask(leaf), queues.ask(leaf)]
 }

@@ -70,7 +70,7 @@ impl Bench {
         got
     }
 
-    // The due moment. There is one exactly where a packet is left, and it is the counted moment or the next.
+    // The due moment. There is one exactly if a packet is left, and it is the counted moment or the next.
     fn due(&self, rt: &impl Abort) -> Option<u64> {
         let due = self.session.due(&self.queues);
         assert_eq!(rt; due.is_some(), self.left > 0);

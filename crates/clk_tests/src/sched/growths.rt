@@ -1,4 +1,4 @@
-//! Sessions that keep what they are told to, where memory is refused. tests/refuse-memory has each allocation of the tests refused in
+//! Sessions that keep what they are told to, in which an allocation fails. tests/refuse-memory makes each allocation of the tests fail in
 //! turn.
 
 use super::queues::Queues;
@@ -8,7 +8,7 @@ use clk_sched::{Departure, Keeps, Kernel, Tree, Unlogged};
 use std::alloc::Global;
 use std::process::Abort;
 
-/// What is called, and may be refused.
+/// The calls that may fail.
 #[derive(Clone, Copy, Debug, PartialEq, Eq)]
 enum Call {
     // What the test itself makes.
@@ -25,7 +25,7 @@ const LENGTHS: [u16; 3] = [100, 600, 200];
 /// How many packets they send in all.
 const SENT: u64 = 6;
 
-/// Each pull by its moment, with the sender, number and length of the packet that it gives, worked out by hand.
+/// Each pull by its moment, with the sender, number and length of the packet that it emits, worked out by hand.
 const PULLS: [(u32, u16, u32, u16); 4] = [
     (0, 0, 0, 100),
     (3, 1, 0, 100),
@@ -33,7 +33,7 @@ const PULLS: [(u32, u16, u32, u16); 4] = [
     (9, 0, 2, 200),
 ];
 
-/// The packet that is held then, and the last to come out.
+/// The packet that is held then, and emitted last.
 const HELD: Packet = Packet {
     number: 1,
     sender: 1,
@@ -56,7 +56,7 @@ const KINDS: [(bool, bool, bool); 6] = [
     (true, true, true),
 ];
 
-/// When it is closed. Three pulls do it.
+/// The moment after which it is drained. Three pulls do it.
 const CLOSED: u64 = 20;
 
 // A tree, and queues with all packets in them.
@@ -68,7 +68,7 @@ fn setup(rt: &impl Abort, alloc: Global) -> Result<(Tree, Queues), Fault> {
     Ok((drr_over_two(alloc, 500, 300)?, queues))
 }
 
-// A call's answer, or the call, where memory was refused.
+// The result of a call, or the call if an allocation failed.
 fn answer<T: Drop>(rt: &impl Abort, call: Call, answer: Result<T, Fault>) -> Result<T, Call> {
     answer.map_err(|fault| {
         assert_eq!(rt; fault, Fault::Memory);
@@ -76,7 +76,7 @@ fn answer<T: Drop>(rt: &impl Abort, call: Call, answer: Result<T, Fault>) -> Res
     })
 }
 
-/// A session that keeps what it is told to, and the call that was refused.
+/// A session that keeps what it is told to, and the call that failed.
 #[derive(Drop)]
 struct Kept {
     kernel: Kernel,
@@ -107,13 +107,13 @@ impl Kept {
         })
     }
 
-    // Notes that a call met the refusal.
+    // Notes that a call failed.
     fn note(&mut self, rt: &impl Abort, call: Call, fault: Fault) {
         assert_eq!(rt; (fault, self.refused), (Fault::Memory, None));
         self.refused = Some(call);
     }
 
-    // A refused pull has changed nothing, and where nothing is kept none is refused.
+    // A pull that failed has changed nothing, and a session that keeps nothing never fails.
     fn pull(&mut self, rt: &impl Abort, moment: u32, expected: Packet, keeps: Keeps) {
         let before = self.state();
         let mut got = self.pull_once(rt, moment);
@@ -131,7 +131,7 @@ impl Kept {
         self.kernel.pull(&mut self.queues, u64::from(moment))
     }
 
-    // How many visits are kept, how many pulls were made, and how many packets came out.
+    // How many visits are kept, how many pulls were made, and how many packets were emitted.
     fn state(&self) -> (usize, u64, u64) {
         let visits = self.kernel.log().len();
         (visits, self.kernel.pulls(), self.kernel.count_emitted())
@@ -146,7 +146,7 @@ impl Kept {
         assert_eq!(rt; heads.expect(rt, "memory").as_slice(), [HELD].as_slice());
     }
 
-    // Three pulls in all do it, also where one was refused, and the last gives the last packet.
+    // Three pulls in all do it, even if one failed, and the last emits the last packet.
     fn close(&mut self, rt: &impl Abort, alloc: Global) {
         let mut departures = self.close_left(rt, alloc);
         if let Err(fault) = departures {
@@ -170,7 +170,7 @@ impl Kept {
     }
 }
 
-// Makes each call, and again where it was refused, and answers which was.
+// Makes each call, and makes it again if it failed. Returns which call failed, if one did.
 fn met_refusal(rt: &impl Abort, alloc: Global, keeps: Keeps) -> Option<Call> {
     let mut kept = Kept::new(rt, alloc, keeps);
     for (moment, sender, number, length) in PULLS {
@@ -187,7 +187,7 @@ fn met_refusal(rt: &impl Abort, alloc: Global, keeps: Keeps) -> Option<Call> {
     kept.refused
 }
 
-// The first refusal is the only one, since it is one allocation that fails.
+// Only one allocation fails, so only one call does.
 #[test]
 fn a_refused_call_is_made_again(rt: HostRuntime) {
     let mut refused = None;
@@ -204,7 +204,7 @@ fn a_refused_call_is_made_again(rt: HostRuntime) {
     assert_eq!(rt; refused, None);
 }
 
-// Makes each call of a session that keeps nothing, up to the one that is refused. Its pulls and drains have no answer for that.
+// Makes each call of a session that keeps nothing, up to the one that fails. Its pulls and drains don't allocate.
 fn unlogged(rt: &impl Abort, alloc: Global) -> Result<(), Call> {
     let (tree, mut queues) = answer(rt, Call::Setup, setup(rt, alloc))?;
     assert!(rt; tree.leaves_distinct());

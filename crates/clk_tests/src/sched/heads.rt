@@ -1,10 +1,10 @@
-//! Heads that are held at inputs of which it is known that their queues have nothing.
+//! Heads that are held at inputs whose queues are known to be empty.
 
 use clk_packet::{Fault, Packet};
 use clk_sched::{Ask, Session, Tree};
 use std::alloc::Global;
 
-// It has one packet, at leaf 5, and once it gave that it knows of every queue that it has nothing.
+// Queues with one packet, at leaf 5. Once they gave that, they know that all of them are empty.
 #[derive(Drop)]
 struct One {
     packet: Option<Packet>,

@@ -1,4 +1,4 @@
-//! A session keeps what it was told to, and what comes out of it doesn't depend on that.
+//! A session keeps what it was told to, and what it emits doesn't depend on that.
 
 use super::queues::Queues;
 use super::trees::prio_over_two;
@@ -8,7 +8,7 @@ use clk_sched::{Departure, Keeps, Kernel};
 use std::alloc::{AllocError, Global};
 use std::process::Abort;
 
-/// A pull of three packets below a PrioSched, and the departures of the closing that follows it from moment 7 on.
+/// A pull of three packets below a PrioSched, and the departures of the drain that follows it from moment 7 on.
 const CAME_OUT: &str = "0#0 100\n8: 0#1 200\n9: 1#0 300\n";
 
 fn show_departures(text: &mut String, departures: &[Departure]) -> Result<(), AllocError> {
@@ -35,7 +35,7 @@ fn three_packets(rt: &impl Abort, alloc: Global) -> Queues {
     queues
 }
 
-// Pulls a session once, and answers what came out.
+// Pulls a session once, and returns the packet that it emitted, if any.
 fn pull(
     rt: &impl Abort,
     session: &mut Kernel,
@@ -45,7 +45,7 @@ fn pull(
     session.pull(queues, 5)
 }
 
-// Closes a session of two packets from moment 7 on, and answers what came out.
+// Drains a session of two packets from moment 7 on, and returns their departures.
 fn close(
     rt: &impl Abort,
     alloc: Global,
@@ -57,7 +57,7 @@ fn close(
     session.close(alloc, queues, 2, 7)
 }
 
-// A session that was pulled once and closed. Fails unless what came out is shown so.
+// A session that was pulled once and drained. Fails unless what it emitted is shown so.
 fn closed(rt: &impl Abort, alloc: Global, keeps: Keeps) -> Kernel {
     let mut session = session_that(rt, alloc, keeps);
     let mut queues = three_packets(rt, alloc);
@@ -66,7 +66,7 @@ fn closed(rt: &impl Abort, alloc: Global, keeps: Keeps) -> Kernel {
     session
 }
 
-// What comes out of a pull and a closing.
+// What a pull and a drain emit.
 fn shown(
     rt: &impl Abort,
     alloc: Global,
@@ -94,7 +94,7 @@ fn assert_kept(rt: &impl Abort, alloc: Global, keeps: Keeps) {
     assert_handed_out(rt, alloc, session, keeps);
 }
 
-// What is kept is handed out, and where visits are kept but no packets, these are told from them.
+// Fails unless what is kept is handed out. If visits are kept but no packets, these are read off the visits.
 fn assert_handed_out(rt: &impl Abort, alloc: Global, session: Kernel, keeps: Keeps) {
     let visits = keeps.visits || keeps.packed;
     let (log, emitted) = session.into_packed(alloc).expect(rt, "ample memory");

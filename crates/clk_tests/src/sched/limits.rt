@@ -15,7 +15,7 @@ fn a_drain_of_nothing_stops_at_the_bound(rt: HostRuntime) {
     assert_shows(&rt, rt.alloc(), tree, &steps, expected);
 }
 
-// Of a quantum of its own for each input the least counts, and of one DRRSched above another both.
+// If each input has a quantum of its own, the least counts. If one DRRSched is above another, both count.
 #[test]
 fn the_least_quantum_and_the_longest_path_bound_the_pulls(rt: HostRuntime) {
     for (tree, expected) in [

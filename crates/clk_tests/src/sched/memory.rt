@@ -1,4 +1,4 @@
-//! Calls of a session where memory is refused. tests/refuse-memory has each allocation of the test refused in turn.
+//! Calls of a session in which an allocation fails. tests/refuse-memory makes each allocation of the test fail in turn.
 
 use super::row::session;
 use super::trees::drr_over_stride;
@@ -10,7 +10,7 @@ use std::process::Abort;
 /// How many packets each queue has at the beginning, by its number.
 const SENT: [u32; 13] = [0, 0, 2, 0, 0, 0, 0, 0, 1, 2, 0, 0, 1];
 
-// The packets in the order in which they come out, worked out by hand.
+// The packets in the order in which they are emitted, worked out by hand.
 fn order() -> [Packet; 6] {
     [
         packet(2, 0),
@@ -31,7 +31,7 @@ fn packet(sender: u16, number: u32) -> Packet {
     }
 }
 
-/// What is called, and may be refused.
+/// The calls that may fail.
 #[derive(Clone, Copy, Debug, PartialEq, Eq)]
 enum Call {
     // What the test itself makes.
@@ -43,14 +43,14 @@ enum Call {
     Emitted,
 }
 
-// The first refusal is the only one, since it is one allocation that fails.
+// Only one allocation fails, so only one call does.
 #[test]
 fn a_refused_call_is_made_again(rt: HostRuntime) {
     let refused = met_refusal(&rt, rt.alloc());
     assert_eq!(rt; refused, None);
 }
 
-// Makes each call, and again where it was refused, and answers which was.
+// Makes each call, and makes it again if it failed. Returns which call failed, if one did.
 fn met_refusal(rt: &impl Abort, alloc: Global) -> Option<Call> {
     let mut run = Run::new(rt, alloc);
     run.pull(rt, 3, None);
@@ -62,7 +62,7 @@ fn met_refusal(rt: &impl Abort, alloc: Global) -> Option<Call> {
     run.refused
 }
 
-/// Queues that take no memory, and count how often they were asked.
+/// Queues that don't allocate, and count how often they were asked.
 #[derive(Drop)]
 struct Stock {
     given: [u32; 13],
@@ -112,7 +112,7 @@ impl Run {
         }
     }
 
-    // Notes that a call met the refusal.
+    // Notes that a call failed.
     fn note(&mut self, rt: &impl Abort, call: Call, fault: Fault) {
         assert_eq!(rt; (fault, self.refused), (Fault::Memory, None));
         self.refused = Some(call);
@@ -147,7 +147,7 @@ impl Run {
         );
     }
 
-    // Drains what is left. Five pulls in all do it, at moments 9 to 13, also where one was refused.
+    // Drains what is left. Five pulls in all do it, at moments 9 to 13, even if one failed.
     fn drain(&mut self, rt: &impl Abort, alloc: Global) {
         if let Err(fault) = self.drain_left(rt, 4) {
             self.note(rt, Call::Drain, fault);
@@ -163,7 +163,7 @@ impl Run {
         self.session.drain(&mut self.stock, left, 7)
     }
 
-    // How many packets are left where those that came out are a front of them all.
+    // How many packets are left. Fails unless those that were emitted are a front of them all.
     fn left(&self, rt: &impl Abort, alloc: Global) -> u64 {
         let emitted = self.session.emitted(alloc).expect(rt, "memory");
         let order = order();
@@ -182,7 +182,7 @@ impl Run {
     }
 }
 
-// A session of the tree, and which call was refused.
+// A session of the tree, and which call failed.
 fn new_session(rt: &impl Abort, alloc: Global) -> (Session, Option<Call>) {
     let Ok(tree) = drr_over_stride(alloc) else {
         return (again(rt, alloc), Some(Call::Tree));

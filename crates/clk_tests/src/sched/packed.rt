@@ -10,7 +10,7 @@ use std::process::Abort;
 /// From this moment on a visit isn't packed.
 const LATE: u64 = 1 << 32;
 
-/// Moments before that, and behind it.
+/// Moments before that, and from it on.
 const MOMENTS: [u64; 7] = [0, 0, 3, 9, LATE - 1, LATE, LATE + 9];
 
 /// A session that was pulled at these moments, over queues that held three packets each.
@@ -89,7 +89,7 @@ fn a_log_may_be_packed(rt: HostRuntime) -> Result<(), Fault> {
     Ok(())
 }
 
-// A session that keeps no packets tells from its visits what came out, and one that keeps them has them.
+// A session that keeps no packets reads them off its visits, and one that keeps them has them.
 #[test]
 fn what_came_out_is_told_from_visits(rt: HostRuntime) -> Result<(), Fault> {
     let alloc = rt.alloc();
@@ -110,7 +110,7 @@ fn what_came_out_is_told_from_visits(rt: HostRuntime) -> Result<(), Fault> {
     Ok(())
 }
 
-// What isn't packed is given as it is.
+// Visits that aren't packed are returned as they are.
 #[test]
 fn a_list_is_given_where_nothing_is_packed(rt: HostRuntime) -> Result<(), Fault> {
     let alloc = rt.alloc();
@@ -129,7 +129,7 @@ fn a_list_is_given_where_nothing_is_packed(rt: HostRuntime) -> Result<(), Fault>
     Ok(())
 }
 
-// The session is pulled once more after it let go of its visits: just those of that pull are kept.
+// The session is pulled once more after it dropped its visits: just those of that pull are kept.
 #[test]
 fn packed_visits_may_be_let_go_of(rt: HostRuntime) -> Result<(), Fault> {
     let alloc = rt.alloc();

@@ -1,4 +1,4 @@
-//! Sessions that let go of their log in pieces of every length: these are together the log of a session that keeps all of it.
+//! Sessions that drop their log in pieces of every length: these are together the log of a session that keeps all of it.
 
 use super::queues::Queues;
 use super::row::Step::{Drain, Pull, Send};
@@ -14,7 +14,7 @@ pub const LENGTHS: [u16; 3] = [100, 600, 200];
 
 const MOMENTS: [u64; 4] = [0, 0, 3, 9];
 
-/// When it is closed.
+/// The moment after which it is drained.
 const CLOSED: u64 = 20;
 
 #[derive(Clone, Copy, Debug)]
@@ -56,7 +56,7 @@ fn log_of(rt: &impl Abort, alloc: Global, shape: Shape, left: u64) -> Vec<Visit>
     log
 }
 
-/// A session that lets go of its log, and the pieces of it so far, in one list.
+/// A session that drops its log, and the pieces of it so far, in one list.
 #[derive(Drop)]
 struct LettingGo {
     kernel: Kernel,
@@ -84,7 +84,7 @@ impl LettingGo {
         })
     }
 
-    // Reads the visits that are kept, and lets go of them.
+    // Reads the visits that are kept, and drops them.
     fn take_piece(&mut self) -> Result<(), Fault> {
         self.pieces.extend_from_slice(self.kernel.log())?;
         self.kernel.let_go();
@@ -107,7 +107,7 @@ impl LettingGo {
     }
 }
 
-// The visits of a session that lets go of them whenever it keeps so many.
+// The visits of a session that drops them whenever it keeps so many.
 fn in_pieces(
     rt: &impl Abort,
     alloc: Global,

@@ -18,7 +18,7 @@ struct Queue {
 }
 
 impl Queues {
-    /// So many queues, with nothing in them.
+    /// So many empty queues.
     pub fn new(alloc: Global, count: u16) -> Result<Queues, AllocError> {
         let mut queues = Vec::new(alloc);
         for _ in 0..count {

@@ -1,5 +1,5 @@
-//! Rows in which a pull or a drain is refused and made again: answers and logs are those of the rows undisturbed. tests/refuse-memory has
-//! each allocation of the tests refused in turn.
+//! Rows in which a pull or a drain fails and is made again: results and logs are those of the rows undisturbed. tests/refuse-memory makes
+//! each allocation of the tests fail in turn.
 
 ghost use Rattle.std.specs.Prelude.{◌≤◌};
 
@@ -12,7 +12,7 @@ use clk_sched::{Ask, Session, Tree, Visit};
 use std::alloc::Global;
 use std::process::Abort;
 
-/// What is called, and may be refused.
+/// The calls that may fail.
 #[derive(Clone, Copy, Debug, PartialEq, Eq)]
 enum Call {
     // What the test itself makes.
@@ -34,8 +34,8 @@ fn packet(sender: u16, number: u32, length: u16) -> Packet
     }
 }
 
-/// Packets in the order in which they were sent, each at the queue of its sender's number, and how many each sender sent. It takes no
-/// memory.
+/// Packets in the order in which they were sent, each at the queue of its sender's number, and how many each sender sent. They aren't
+/// allocated.
 #[derive(Clone, Copy, Debug, Drop, PartialEq, Eq)]
 struct Sent {
     packets: [Option<Packet>; 3],
@@ -96,7 +96,7 @@ struct Row {
 }
 
 impl Row {
-    // Nothing has changed and nothing was asked where a pull is refused. What it gives is what the device got.
+    // A pull that fails has changed nothing and asked nothing. A pull returns what the device got.
     fn pull(&mut self, rt: &impl Abort, sent: &mut Sent, moment: u64) {
         let before = (self.session.log().len(), self.session.now(), *sent);
         assert!(rt; moment < 1 << 44);
@@ -111,7 +111,7 @@ impl Row {
         assert_eq!(rt; got, Ok(last.got));
     }
 
-    // Drains the longest packet from moment 0 on, a pull a tick, and goes on where that is refused.
+    // Drains the longest packet from moment 0 on, a pull a tick, and goes on if that fails.
     fn drain(&mut self, rt: &impl Abort, sent: &mut Sent) {
         let mut before = self.session.now();
         assert_eq!(rt; before, 0);
@@ -125,14 +125,14 @@ impl Row {
         assert_eq!(rt; made, Ok(PULLS - before));
     }
 
-    // Notes that a call met the refusal, which is the only one, since it is one allocation that fails.
+    // Notes that a call failed. It is the only one, since only one allocation fails.
     fn note(&mut self, rt: &impl Abort, call: Call, fault: Fault) {
         assert_eq!(rt; (fault, self.refused), (Fault::Memory, None));
         self.refused = Some(call);
     }
 }
 
-// A session of a tree, or none where the test's own part was refused.
+// A session of a tree, or none if the test's own part failed.
 fn row_of(rt: &impl Abort, alloc: Global, tree: Result<Tree, Fault>) -> Option<Row> {
     let session = session(rt, alloc, tree.ok()?).ok()?;
     Some(Row {
@@ -159,7 +159,7 @@ fn numbers_of(visit: &Visit) -> Numbers {
     ]
 }
 
-// Those in a line of the CSV of visits.
+// The numbers in a line of the CSV of visits.
 fn numbers_in(line: &str) -> Numbers {
     let mut numbers = [None; 9];
     for (number, word) in numbers.iter_mut().zip(line.split(',')) {
@@ -168,7 +168,7 @@ fn numbers_in(line: &str) -> Numbers {
     numbers
 }
 
-// Pulls two queues by their deficits, and answers which call was refused.
+// Pulls two queues by their deficits, and returns which call failed.
 fn pulls_refused(rt: &impl Abort, alloc: Global) -> Option<Call> {
     let Some(mut row) = row_of(rt, alloc, drr_over_two(alloc, 500, 500)) else {
         return Some(Call::Setup);
@@ -198,8 +198,8 @@ fn a_refused_pull_is_made_again(rt: HostRuntime) {
     assert_eq!(rt; refused, None);
 }
 
-// The visit at a place of the log in which it comes out: in each pull a DRRSched looks at it, and then the device at what the
-// DRRSched gave.
+// The visit at a place of the log in which the longest packet is emitted. In each pull a DRRSched looks at it, and then the device at what
+// the DRRSched gave.
 fn visit_of_long(place: usize) -> Visit {
     let long = packet(0, 0, 65_535);
     let pull = (place / 2) as u64;
@@ -218,7 +218,7 @@ fn visit_of_long(place: usize) -> Visit {
     }
 }
 
-// Drains the longest packet at a quantum of a byte, and answers which call was refused.
+// Drains the longest packet at a quantum of a byte, and returns which call failed.
 fn drain_refused(rt: &impl Abort, alloc: Global) -> Option<Call> {
     let Some(mut row) = row_of(rt, alloc, drr_over_one(alloc, 1)) else {
         return Some(Call::Setup);

@@ -17,9 +17,9 @@ const QUEUES: u16 = 250;
 pub enum Step<'a> {
     /// Packets of a sender, of these lengths, go to the queue of the sender's number. That shows nothing.
     Send(u16, &'a [u16]),
-    /// The same of so many packets of one length: sender, length and how many.
+    /// So many packets of a sender, of one length, go to its queue: sender, length and how many. That shows nothing.
     SendMany(u16, u16, u32),
-    /// A pull at each of these moments, each with its line: what came out.
+    /// A pull at each of these moments, each with its line: what it emitted.
     Pull(&'a [u64]),
     /// So many pulls at moment 0, each with its line unless it gave the packet of the same sender next to that of the pull before.
     PullMany(u32),
@@ -52,7 +52,7 @@ pub fn assert_shows(
     assert_eq!(rt; shown.text.as_str(), expected);
 }
 
-/// Fails unless a session of the tree of a row answers its script so, with its visits, and tells all packets that came out.
+/// Fails unless a session of the tree of a row shows the row's lines and visits, and has all packets that were emitted.
 pub fn assert_row(rt: &impl Abort, alloc: Global, tree: Result<Tree, Fault>, row: &Row) {
     let mut shown = Shown::after(rt, alloc, tree, row, usize::MAX);
     assert_answered(rt, row, &shown.text);
@@ -95,7 +95,7 @@ pub fn session_of_row(
     Shown::after(rt, alloc, tree, row, usize::MAX).session
 }
 
-/// Fails unless there is no session of a tree, by this fault.
+/// Fails unless a session of a tree is refused with this fault.
 pub fn assert_refused(rt: &impl Abort, alloc: Global, tree: Tree, expected: Fault) {
     assert_eq!(rt; session(rt, alloc, tree).err(), Some(expected));
 }
@@ -124,7 +124,7 @@ struct Shown {
     session: Session,
     queues: Queues,
     text: String,
-    // What commands of a script sent, and what these brought out.
+    // How many packets the commands of a script sent, and which were emitted.
     sent: u64,
     emitted: Vec<Packet>,
 }
@@ -178,7 +178,7 @@ impl Shown {
         Ok(show_pull(&mut self.text, moment, got)?)
     }
 
-    // Drains what is left, a pull a tick, with a line for each packet that comes out.
+    // Drains what is left, a pull a tick, with a line for each packet that is emitted.
     fn close(&mut self, rt: &impl Abort, moment: u64) -> Result<(), Fault> {
         let left = self.sent.saturating_sub(self.emitted.len() as u64);
         assert!(rt; left <= 1_000_000);

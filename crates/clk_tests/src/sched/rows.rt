@@ -35,7 +35,7 @@ fn rows_are_answered(rt: HostRuntime) {
     }
 }
 
-// A head is held until it comes out.
+// A head is held until it is emitted.
 #[test]
 fn heads_are_held(rt: HostRuntime) {
     let alloc = rt.alloc();

@@ -1,4 +1,4 @@
-//! The turns of a StrideSched over queues of which many have nothing, beside its rule.
+//! The turns of a StrideSched over queues of which many are empty, beside its rule.
 
 use clk_packet::{Fault, Packet};
 use clk_sched::{Ask, Session, Tree};
@@ -72,8 +72,8 @@ impl Rule {
         Ok(Rule { passes, strides })
     }
 
-    // Takes a turn: it is that of the least pass of those that have packets, of the first where several have it. Those with a lower
-    // pass, which have none, get its pass, and it goes on by its stride.
+    // Takes a turn. It is that of the queue with the least pass among those that have packets, of the first if several have it. Queues with
+    // a lower pass, which are empty, get its pass, and it goes on by its stride.
     fn next(&mut self, left: &Left) -> Option<usize> {
         let winner = self.least(left)?;
         let pass = *self.passes.get(winner)?;

@@ -36,7 +36,7 @@ pub fn drr_path(alloc: Global, count: u8, quantum: u32) -> Result<Tree, Fault>
     Ok(tree)
 }
 
-/// The same under a Shaper of one packet each tick.
+/// So many DRRScheds of one quantum, one over another, over queue 0, under a Shaper of one packet each tick.
 pub fn shaped_drr_path(alloc: Global, count: u8, quantum: u32) -> Result<Tree, Fault>
     requires { (1 ≤ quantum) × (quantum ≤ most_quantum) }
 {

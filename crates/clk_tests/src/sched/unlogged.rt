@@ -1,4 +1,4 @@
-//! Sessions that keep no log: what comes out of them is what comes out of a session that does.
+//! Sessions that keep no log emit what a session emits that keeps one.
 
 ghost use Rattle.std.specs.Prelude.{◌≤◌};
 
@@ -85,7 +85,7 @@ impl Both {
         self.unlogged.drain(&mut self.others, left, moment)
     }
 
-    // Whether so much came out of both by now, and they hold the same.
+    // Fails unless both emitted so many packets by now, and hold the same heads.
     fn assert_same(&self, rt: &impl Abort, alloc: Global, emitted: usize) -> Result<(), Fault> {
         assert_eq!(rt; self.unlogged.now(), self.logged.now());
         assert_eq!(rt; self.logged.as_emitted().len(), emitted);
@@ -115,8 +115,8 @@ fn unlogged(rt: &impl Abort, alloc: Global, tree: Result<Tree, Fault>) -> Unlogg
     Unlogged::new(alloc, tree).expect(rt, "ample memory")
 }
 
-// Sends three packets of each sender, pulls six times, after which so many came out, sends one more, and drains the tree of what is
-// left, and of a packet that it hasn't.
+// Sends three packets of each sender, pulls six times, which emits so many packets, and sends one more of each. Then drains the tree of
+// what is left, and of a packet that it hasn't.
 fn assert_alike(
     rt: &impl Abort,
     alloc: Global,
@@ -149,7 +149,7 @@ fn turns_need_no_log(rt: HostRuntime) -> Result<(), Fault> {
     assert_alike(&rt, alloc, &mut both, 6, 6)
 }
 
-// Of 52 packets, five come out in the first six pulls: none in the first, in which all five inputs come to hold a head.
+// Of 52 packets, five are emitted in the first six pulls: none in the first, in which all five inputs come to hold a head.
 #[test]
 fn shares_need_no_log(rt: HostRuntime) -> Result<(), Fault> {
     let alloc = rt.alloc();
