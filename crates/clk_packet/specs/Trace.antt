@@ -56,8 +56,8 @@ trace_fault text = if nat_lt most_trace_bytes (length text) then Some TooLarge e
 abbrev pub pairs_of : List ℕ → List (ℕ × ℕ)
 pairs_of text = filter_map pair_in (records_of text)
 
--- What a sender sends by some pairs, with its packets counted from a number on: its own number, the packet's number and its length, for
--- each pair of that sender in order.
+-- What a sender sends by some pairs, with its packets counted from a number on. For each pair of the sender, in order, it has the sender's
+-- number, the packet's number and its length.
 abbrev pub sent_from : ℕ → ℕ → List (ℕ × ℕ) → List (ℕ × ℕ × ℕ)
 sent_from sender number [] = []
 sent_from sender number (pair ∷ more) =

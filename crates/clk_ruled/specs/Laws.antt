@@ -39,8 +39,8 @@ pub record HasAccount (held : List Packet) (views : List View) : Type 0 where
 abbrev pub KeepsAccount : Type 0
 KeepsAccount = (held : List Packet) (views : List View) → Keeps held views → HasAccount held views
 
--- What `open` returns was opened together, and each call keeps it so: an offer of the seat at a place, a pull, the closing of a seat, and
--- the gathering of the closed seat at a place. So each call finds what it requires of the queue, the seat and the tap.
+-- What `open` returns was opened together, and each call keeps it so: an offer of a seat, a pull, the closing of a seat, and the gathering
+-- of a closed seat. So each call finds what it requires of the queue, the seat and the tap.
 pub record KeepsTogether : Type 0 where
   pub opened : (setup : Setup) (queue : Queue) (seats : List SeatLists) (tap : TapLists) → IsOpened setup queue seats tap → AreOpenedTogether queue tap (map closing seats)
   pub seats : (queue : Queue) (tap : TapLists) (seats : List SeatLists) (i : ℕ) (l : SeatLists) → i < length seats → l ≡ get_or seats i l

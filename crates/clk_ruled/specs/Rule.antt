@@ -34,8 +34,8 @@ evicted_by s [] = []
 evicted_by s (to_puller p ∷ gone) = evicted_by s gone
 evicted_by s (put_out e p ∷ gone) = if e == s then p ∷ evicted_by s gone else evicted_by s gone
 
--- What happened to a queue: what it was opened with, the packets that it accepted and those that left it, in order, which pass sits for
--- each sender, and which pass is the tap's.
+-- What happened to a queue: what it was opened with, and the packets that it accepted and those that left it, in order. Also which pass
+-- sits for each sender, and which pass is the tap's.
 pub record Books : Type 0 where
   pub setup : Setup
   pub all : List Packet

@@ -23,7 +23,7 @@ LeavesNoChoice tree =
     (a b : List Visit) → IsRun tree a → IsRun tree b → map moment_of (pulls a) ≡ map moment_of (pulls b)
     → ((q : ℕ) → GoAlike (answers_of tree q a) (answers_of tree q b)) → a ≡ b
 
--- Two pulls of runs, after the same earlier pulls, are the same if they have the same moment and each queue gave the same, as far as it was
+-- Two pulls of runs, after the same earlier pulls, are the same if they have one moment and each queue gave the same, as far as it was
 -- asked in both.
 abbrev pub PullsLeaveNoChoice : Tree → Type 0
 PullsLeaveNoChoice tree =

@@ -11,7 +11,7 @@ use Rattle.clk_sched.specs.Results.{heads}
 use Rattle.clk_sched.specs.Choice.{answers_of}
 use Rattle.clk_sched.specs.Session.{latest_moment, given_in}
 
--- A queue that loses nothing gives these answers while it goes from `held` packets to `rest`: each packet that it gives leaves one fewer,
+-- A queue that loses nothing gives these answers while it goes from `held` packets to `rest`. Each packet that it gives leaves one fewer,
 -- and it gives none only if it holds none.
 abbrev pub GivesOut : ℕ → List (Option Packet) → ℕ → Type 0
 GivesOut held [] rest = held ≡ rest

@@ -54,7 +54,7 @@ abbrev pub pass_at : List ℕ → List Turn → ℕ → ℕ
 pass_at tickets earlier input = pass_in (passes_of tickets earlier) input
 
 -- A StrideSched shares by packets: two passes never differ by more than the largest stride. In any unbroken range of pulls, take two inputs
--- whose visits all got a packet: how many packets each gave, times its stride, differs by at most twice the largest stride.
+-- whose visits all got a packet. The packets that they gave, each times its stride, differ by at most twice the largest stride.
 pub record SharesByStride (tickets : List ℕ) (turns : List Turn) : Type 0 where
   pub passes_near : (before after : List Turn) → turns ≡ before ++ after → (i j : ℕ) → i < length tickets → j < length tickets
       → Near (largest_stride tickets) (pass_at tickets (reverse before) i) (pass_at tickets (reverse before) j)

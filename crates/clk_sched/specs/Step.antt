@@ -21,8 +21,8 @@ EachAllows above first next (node class inputs row) earlier pull =
     × GetsResult above first next pull
     × EachAllows above (suc first) (suc (next + nodes inputs)) row earlier pull
 
--- A pull may follow a run: it is the device's block of its own visits, which have the next number and one moment, no earlier
--- than those before, and the device and each scheduler that is pulled do what they may.
+-- A pull may follow a run: the device and each scheduler that is pulled do what they may in it. It is the device's block of its own visits.
+-- These have the next number and one moment, which is no earlier than those before.
 pub record IsNextPull (tree : Tree) (log pull : List Visit) : Type 0 where
   pub number : AllByRecursion (λ (v : Visit). v.pull ≡ length (pulls log)) pull
   pub whole : pull ≡ block tree pull

@@ -78,8 +78,8 @@ HasArguments (stride tickets) inputs = (length tickets ≡ inputs) × AllByRecur
 HasArguments (shaper rate burst) inputs = (inputs ≡ 1) × ((1 ≤ rate) × (rate ≤ most_rate)) × ((1 ≤ burst) × (burst ≤ most_burst))
 HasArguments class inputs = ⊤
 
--- Each scheduler of a row has an input at least, and arguments within their limits: a DRRSched has a quantum for each input, a
--- StrideSched has tickets for each, and a Shaper has one input.
+-- Each scheduler of a row has at least one input, and arguments within their limits. A DRRSched has a quantum for each input, a StrideSched
+-- has tickets for each, and a Shaper has one input.
 abbrev pub IsSound : Row → Type 0
 IsSound end = ⊤
 IsSound (leaf q row) = IsSound row

@@ -121,7 +121,7 @@ pub fn shaper_examples()
     ensures not_rate_above { ¬ (IsRun burst_of_two_tree rate_above) }
 {}
 
-/// Whether a pull could emit a packet after worked logs: a Shaper needs room, a head counts as a packet, and what stands beside a Shaper
+/// Whether a pull could emit a packet after worked logs. A Shaper needs room, a head counts as a packet, and what stands beside a Shaper
 /// needs no room of it. Which moments are due moments, and which are none.
 pub fn due_examples()
     ensures burst_left { tree_could_emit burst_of_two_tree (first_pulls 1 burst_of_two) each 0 ≡ true }

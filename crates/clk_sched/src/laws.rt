@@ -26,7 +26,7 @@ pub fn runs_leave_no_choice()
     ensures pulls { (tree : _) → PullsLeaveNoChoice tree }
 {}
 
-/// If no queue stands twice in a tree, each run of the tree conserves the packets of each queue: what the queue gave is what was emitted of
+/// If no queue stands twice in a tree, each run of the tree conserves the packets of each queue. What the queue gave is what was emitted of
 /// it, in order, and then what is held of it. So as many packets are emitted or held as all queues gave. Of the packets of one queue, each
 /// DRRSched above the queue holds one at most, and no other scheduler holds any. In any tree, each packet that is emitted or held is among
 /// those that one of its queues gave.

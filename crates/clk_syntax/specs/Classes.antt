@@ -14,8 +14,9 @@ use Rattle.clk_syntax.specs.declared.naming.class.Class.TheVariants as kept
 use Rattle.clk_syntax.specs.declared.naming.class.Role.{Role}
 use Rattle.clk_syntax.specs.declared.naming.class.Role.TheVariants as role
 
--- A class with its arguments, defaults filled in. These are the number of a Sender, kind and capacity of a queue, quanta in bytes (one for
--- all inputs or one for each), tickets for each input, rate and burst of a Shaper in packets, and the word of a ToDevice.
+-- A class with its arguments, defaults filled in. These are the number of a Sender, the kind and the capacity of a queue, and quanta in
+-- bytes: one for all inputs or one for each. Then come tickets for each input, the rate and the burst of a Shaper in packets, and the word
+-- of a ToDevice.
 pub data Class : Type 0 where
   sender : ℕ → Class
   queue : Kind → ℕ → Class

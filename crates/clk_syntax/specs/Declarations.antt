@@ -7,12 +7,13 @@ use Rattle.clk_syntax.specs.declared.naming.class.ClassName.{ClassName}
 use Rattle.clk_syntax.specs.Classes.{Class, sender, class_named, class_with}
 use Rattle.clk_syntax.specs.Source.{Declared, Word, Element, Wire, letters}
 
--- The first place at which the members of a list fail, one after another: what is asked of each may depend on those before it, of which
--- the latest stands first.
+-- The first place at which the members of a list fail, one after another. Whether a member fails may depend on those before it, which are
+-- given with the latest first.
 abbrev pub first_after : {A : Type 0} → (List A → A → Option ℕ) → List A → List A → Option ℕ
 first_after fails earlier [] = None
 first_after fails earlier (x ∷ more) = option_or (fails earlier x) (first_after fails (x ∷ earlier) more)
 
+-- the first place at which the members of a list fail, one after another
 abbrev pub first_failure : {A : Type 0} → (List A → A → Option ℕ) → List A → Option ℕ
 first_failure fails xs = first_after fails [] xs
 

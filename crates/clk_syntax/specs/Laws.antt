@@ -25,8 +25,8 @@ abbrev pub CannotGoOn : List Token → List Token → Type 0
 CannotGoOn before [] = (statements : List Statement) → ¬ (IsText before statements)
 CannotGoOn before (token ∷ others) = (more : List Token) (statements : List Statement) → ¬ (IsText (before ++ token ∷ more) statements)
 
--- The tokens before the first wrong one begin some text, and no text begins with these and it: a fault stands at the first token such that
--- no text begins with the tokens up to it.
+-- The tokens before the first wrong one begin some text, and no text begins with these and it. So a fault stands at the first token such
+-- that no text begins with the tokens up to it.
 abbrev pub WrongTokensCannotBeMended : Type 0
 WrongTokensCannotBeMended = (tokens wrong : List Token) → wrong_from start tokens ≡ Some wrong
     → (before : List Token) × (tokens ≡ before ++ wrong) × CanGoOn before × CannotGoOn before wrong

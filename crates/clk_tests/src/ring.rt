@@ -73,8 +73,8 @@ fn a_locked_ring_takes_memory_once(rt: HostRuntime) {
     assert_eq!(rt; refused, None);
 }
 
-// The queue of a row, once as a ring and once under a lock, how many packets each of two senders sent to it, and the lines that a script
-// writes of it.
+// The queue of a row, once as a ring and once under a lock. Also how many packets each of two senders sent to it, and the lines that a
+// script writes of it.
 #[derive(Drop)]
 struct Both {
     ring: Ring,

@@ -64,7 +64,7 @@ class_inputs_text plan name sources class = inputs_text plan name 0 sources
 abbrev pub connections_text : List Planned → Planned → List ℕ
 connections_text plan e = class_inputs_text plan e.name e.sources e.class
 
--- A line for each element in order of declaration, then a line for each connection in order of the element that it leads to, the input,
--- and the element that it comes from.
+-- A line for each element in order of declaration, and then a line for each connection. Connections are in order of the element that they
+-- lead to, its input, and the element that they come from.
 abbrev pub canonical_text : List Planned → List ℕ
 canonical_text plan = flat_map element_text plan ++ flat_map (connections_text plan) plan

@@ -45,8 +45,8 @@ senders_of plan = by_number (senders_from plan 0 plan)
 abbrev pub number_of : SenderSpec → ℕ
 number_of s = s.number
 
--- a queue of a plan: its kind, how many packets it holds at most, the numbers of the senders that send to it, and the number of the device
--- at the end of its path
+-- a queue of a plan: its kind, how many packets it holds at most, the numbers of its senders, and the number of the device at the end of
+-- its path
 pub record Queued : Type 0 where
   pub kind : Kind
   pub capacity : ℕ

@@ -73,9 +73,9 @@ impl Plan {
     ///
     /// # Errors
     ///
-    /// Fault 1 if an allocation fails. Otherwise fault 18 for a text of more than 1,048,576 bytes, fault 2 for one that breaks the grammar,
-    /// and then 5, 3, 4, 6, 7, 8, 9, 10, 11, 13 and 18: the first in this order that the text has, at its first place. Fault 12 is never
-    /// returned, since a text may have several devices.
+    /// Fault 1 if an allocation fails. Otherwise fault 18 for a text of more than 1,048,576 bytes, and fault 2 for one that breaks the
+    /// grammar. Then come 5, 3, 4, 6, 7, 8, 9, 10, 11, 13 and 18: the first in this order that the text has, at its first place. Fault 12
+    /// is never returned, since a text may have several devices.
     pub fn read(alloc: Global, text: &[u8]) -> Result<Plan, Fault>
         ensures denotes { IfOk result (Denotes text.now) }
         ensures fault { IfErr result (λ fault. (fault ≡ Memory) ⊎ HasFault text.now fault) }
@@ -92,8 +92,8 @@ impl Plan {
         })
     }
 
-    /// The canonical text of the plan: a line for each element in order of declaration, with all its arguments, and then a line for each
-    /// connection, in order of the element that it leads to, the input, and the element that it comes from.
+    /// The canonical text of the plan. It has a line for each element in order of declaration, with all its arguments, and then a line for
+    /// each connection. Connections are in order of the element that they lead to, its input, and the element that they come from.
     ///
     /// # Errors
     ///

@@ -96,8 +96,8 @@ IsAskedAt now history next (node class inputs row) (suc i) visits got = IsAskedA
 abbrev pub IsBlock : Now → History → ℕ → Class → Row → List Visit → Option Packet → Type 0
 IsBlock now history x class row visits got = IsBlockOf (IsAskedAt now history (suc x) row) now x class (width row) (history x) visits got
 
--- Node x, over a row, is being pulled: it has made its own visits, each after what it asked, and what is below it holds what it
--- is to after those.
+-- Node x, over a row, is being pulled. It has made its own visits, each after what it asked. What is below it holds what it is to hold
+-- after those.
 pub record IsPulling (now : Now) (history : History) (x : ℕ) (row : Row) (states : List State) (visits own : List Visit) : Type 0 where
   pub made : ℕ → List Visit
   pub whole : visits ≡ with_asked made own

@@ -76,8 +76,8 @@ impl Bucket {
         self.tokens = (self.tokens + 1).min(self.burst);
     }
 
-    /// The earliest moment from this one on, in ticks, at which there is room for a packet: this one if the bucket has a token, else the next,
-    /// since at least one token is added each tick.
+    /// The earliest moment from this one on, in ticks, at which there is room for a packet. It is this one if the bucket has a token, and
+    /// else the next: at least one token is added each tick.
     pub fn opens_at(&self, moment: u64) -> u64
         requires { moment < end_of_moments }
         ensures room { (rate burst : ℕ) (turns : List Turn) → HoldsBucket rate burst turns self.now → AreBefore moment turns → IsDue (λ m. has_room rate burst m turns) moment (Some result) }

@@ -46,8 +46,8 @@ fn counts_of(alloc: Global, tallies: &[Tally]) -> Result<Vec<Counts>, AllocError
     Ok(counts)
 }
 
-// Fails unless this is the report of these tallies, of what is counted of them, and of the packets emitted at each device, and a writer
-// that fails after fewer bytes has taken these.
+// Fails unless this is the report of these tallies, of what is counted of them, and of the packets emitted at each device. Fails unless a
+// writer that fails after fewer bytes has taken these.
 fn assert_reports(
     rt: &impl Abort,
     alloc: Global,

@@ -64,8 +64,8 @@ fn more_than_is_left_does_not_come_out(rt: HostRuntime) {
     );
 }
 
-// The longest packet goes past DRRScheds that stand one over another, each of which pulls it once more for each of its quanta: the bound,
-// and the pulls that are made.
+// The longest packet goes past DRRScheds that stand one over another. Each of these pulls it once more for each of its quanta. The rows
+// have the bound, and the pulls that are made.
 #[test]
 fn drains_come_near_the_bound(rt: HostRuntime) {
     let cases = [

@@ -20,8 +20,8 @@ pub record IsTaken (old new : Bucket) (moment : ℕ) : Type 0 where
   pub filled_is : new.filled ≡ moment
   pub tokens_is : new.tokens + 1 ≡ tokens_at old moment
 
--- What a Shaper's bucket holds after these turns, the latest first: from its last filling on it tells whether there is room, also
--- for more packets that are passed at that moment.
+-- What a Shaper's bucket holds after these turns, the latest first. From its last filling on it tells whether there is room, also for more
+-- packets that are passed at that moment.
 pub record HoldsBucket (rate burst : ℕ) (turns : List Turn) (b : Bucket) : Type 0 where
   pub rate_is : b.rate ≡ rate
   pub burst_is : b.burst ≡ burst
