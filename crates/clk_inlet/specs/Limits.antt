@@ -6,6 +6,6 @@ use Rattle.clk_inlet.specs.declared.limits.TheConstants.{MAX_ROOM, MAX_PACKETS}
 abbrev pub most_room : ℕ
 most_room = MAX_ROOM
 
--- how many packets go through an inlet in all
+-- how many packets go through an inlet in all, at most
 abbrev pub most_packets : ℕ
 most_packets = MAX_PACKETS

@@ -9,7 +9,7 @@ abbrev pub has_bytes : List ℕ → Bool
 has_bytes [] = false
 has_bytes (byte ∷ bytes) = true
 
--- The number that these digits are, if there is one digit at least and the number is in this range. Zeros may lead it, and a sign is no
+-- The number that these digits are, if there is at least one digit and the number is in this range. Zeros may lead it, and a sign is no
 -- digit.
 abbrev pub number_in : ℕ → ℕ → List ℕ → Option ℕ
 number_in least most digits =

@@ -7,8 +7,8 @@ use Rattle.clk_packet.specs.declared.packet.Kind.TheVariants.{TailDrop}
 use Rattle.clk_packet.specs.Lists.{of_sender, In, stands_in, AreRising}
 use Rattle.clk_ruled.specs.PacketLists.{packet_numbers, without, IsOnceEach}
 
--- The account of a shared queue: it accepted `accepted s` from each sender s, and evicted `evicted s` for packets of s. It gave `taken` to
--- the tap, and holds `held`, from the front.
+-- The account of a shared queue: what it accepted from each sender, evicted for packets of each, gave to the tap (`taken`), and holds, from
+-- the front.
 pub record IsAccount (kind : Kind) (capacity : ℕ) (senders : List ℕ) (accepted evicted : ℕ → List Packet) (taken held : List Packet) : Type 0 where
   -- the packets accepted from a sender and not evicted are those that the tap pulled, and then those held, in order
   pub balances : (s : ℕ) → without (accepted s) (flat_map evicted senders) ≡ of_sender s taken ++ of_sender s held

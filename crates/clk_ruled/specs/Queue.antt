@@ -28,8 +28,8 @@ places_of setup = max 1 (min setup.capacity (rooms_in_all setup.rooms))
 abbrev pub queue_of : TableId → Setup → Queue
 queue_of id setup = record { id = id; kind = setup.kind; capacity = setup.capacity; places = places_of setup }
 
--- A seat as contracts see it: its queue, its sender, how many packets that may offer and has offered, and which were accepted and refused.
--- `evicted` has the packets that were evicted for those of this seat, of whichever sender.
+-- A seat as contracts see it: its queue, its sender, how many packets the sender may offer and has offered, and which were accepted and
+-- refused. `evicted` has the packets that were evicted for those of this seat, of whichever sender.
 pub record SeatLists : Type 0 where
   pub id : TableId
   pub setup : Setup
@@ -52,7 +52,7 @@ abbrev pub AreNumbered : ℕ → ℕ → List Packet → Type 0
 AreNumbered s n [] = ⊤
 AreNumbered s n (p ∷ offered) = (p.sender ≡ s) × (p.number ≡ n) × AreNumbered s (suc n) offered
 
--- Every packet that was offered, from number 0 on, is in one of accepted and refused, both in rising number.
+-- Every packet that was offered, from number 0 on, is in one of accepted and refused, both by rising number.
 pub record IsShared (sender next : ℕ) (accepted refused : List Packet) : Type 0 where
   pub offered : List Packet
   pub count : length offered ≡ next

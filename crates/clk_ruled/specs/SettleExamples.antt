@@ -56,7 +56,7 @@ front_dropped capacity taken =
 abbrev pub front_tallies : List Tally
 front_tallies = tally 0 (p0_0 ∷ p0_1 ∷ []) [] put_out ∷ tally 1 (p1_0 ∷ p1_1 ∷ []) [] [] ∷ []
 
--- the tallies of `front_dropped`, but the evicted packet is told at the seat for which it was evicted, and not at its sender
+-- the tallies of `front_dropped`, but the evicted packet counts at the seat for which it was evicted, and not at its sender
 abbrev pub told_at_seat : List Tally
 told_at_seat = tally 0 (p0_0 ∷ p0_1 ∷ []) [] [] ∷ tally 1 (p1_0 ∷ p1_1 ∷ []) [] put_out ∷ []
 

@@ -120,7 +120,7 @@ fn seats_for(
     Ok(seats)
 }
 
-// How many places a queue has for its packets: no more than packets can be offered, and one at least.
+// How many places a queue has for its packets: no more than its capacity, no more than packets can be offered, and at least one.
 fn places(capacity: u32, room: u32) -> u32
     ensures { result ≡ max 1 (min capacity room) }
 {

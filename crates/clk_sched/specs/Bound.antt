@@ -30,6 +30,6 @@ abbrev pub rounds : Option ℕ → ℕ
 rounds None = 1
 rounds (Some quantum) = 1 + (most_length + (quantum - 1)) / quantum
 
--- the closing bound: packets left, times schedulers on the longest path plus 1, times rounds
+-- the closing bound, which is how many pulls a drain makes at most: packets left, times schedulers on the longest path plus 1, times rounds
 abbrev pub closing_bound : Tree → ℕ → ℕ
 closing_bound tree packets = packets * (height (root tree) + 1) * rounds (least_quantum (root tree))

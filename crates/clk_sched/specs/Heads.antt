@@ -9,7 +9,7 @@ abbrev pub head_at : ℕ → List Visit → Option Packet
 head_at input [] = None
 head_at input (v ∷ earlier) = if v.input == input then (if v.passed then None else v.got) else head_at input earlier
 
--- there is a packet, and it is covered
+-- whether there is a packet and `covers` holds of it
 abbrev pub is_covered : (Packet → Bool) → Option Packet → Bool
 is_covered covers None = false
 is_covered covers (Some p) = covers p
@@ -22,7 +22,7 @@ pub record LooksAtHeads (turn_of : List Visit → ℕ) (covers : List Visit → 
   pub looks : MatchOption (head_at v.input earlier) ⊤ (λ p. v.got ≡ Some p)
   pub passes : v.passed ≡ is_covered (covers earlier v.input) v.got
 
--- A scheduler's visits in one pull end with the first that passes a packet; if none does, it makes as many as it has inputs (the number).
+-- A scheduler's visits in one pull end with the first that passes a packet; if none does, there are as many as it has inputs.
 abbrev pub EndAtPass : ℕ → List Visit → Type 0
 EndAtPass zero visits = visits ≡ []
 EndAtPass (suc n) [] = ⊥

@@ -1,4 +1,4 @@
--- What each class of scheduler does, in the words of its own turns.
+-- The law of each class of scheduler, stated by its own turns.
 use Rattle.std.specs.Prelude.{ℕ, ◌<◌, Bool, List, []}
 use Rattle.std.specs.List.{AllByRecursion}
 use Rattle.clk_packet.specs.declared.packet.Packet.{Packet}

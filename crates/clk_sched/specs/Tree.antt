@@ -62,7 +62,7 @@ leaves end = []
 leaves (leaf q row) = q ∷ leaves row
 leaves (node class inputs row) = leaves inputs ++ leaves row
 
--- whether the number is there and is this one
+-- whether there is a number and it is this one
 abbrev pub is_number : ℕ → Option ℕ → Bool
 is_number n None = false
 is_number n (Some other) = other == n

@@ -11,8 +11,8 @@ pub record Hop : Type 0 where
   pub input : Option Token
   pub name : Token
 
--- A statement: none at all; names, of which there is one at least, of a class, with arguments in parentheses or none; or a chain from a
--- name through one hop or more.
+-- A statement: none at all; names, at least one, of a class, with arguments in parentheses or none; or a chain from a name through one hop
+-- or more.
 pub data Statement : Type 0 where
   nothing : Statement
   declaration : Token → List Token → Token → Option (List Token) → Statement

@@ -26,7 +26,7 @@ IsConnectedWithin end c = IsWithin end c.from × IfSome c.output (IsWithin end) 
 abbrev pub IsLinkWithin : List Node → Link → Type 0
 IsLinkWithin nodes c = (c.from < length nodes) × (c.to < length nodes)
 
--- a declaration has a name at least
+-- a declaration has at least one name
 abbrev pub IsNamed : Declared → Type 0
 IsNamed d = 0 < length d.names
 
@@ -35,7 +35,7 @@ abbrev pub words_in : List Declared → ℕ
 words_in [] = 0
 words_in (d ∷ more) = length d.names + length d.arguments + words_in more
 
--- a port that is written is a number: digits, of which there is one at least
+-- a port that is written is a number: digits, and at least one
 abbrev pub IsNumber : List ℕ → Token → Type 0
 IsNumber text token = (all_ascii_digits (letters text token) ≡ true) × (has_bytes (letters text token) ≡ true)
 

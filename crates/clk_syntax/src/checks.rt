@@ -39,8 +39,8 @@ fn check_ports(alloc: Global, graph: &Graph) -> Result<(), Fault>
     Ok(())
 }
 
-/// Checks that there is a device, that all schedulers lead to one, and that nothing is too large. Faults 11, 13 and 18 if not, the first in
-/// this order, and fault 1 if an allocation fails.
+/// Checks that there is a device, that all schedulers and Shapers lead to one, and that nothing is too large. Faults 11, 13 and 18 if not,
+/// the first in this order, and fault 1 if an allocation fails.
 fn check_shape(alloc: Global, graph: &Graph) -> Result<(), Fault>
     requires { IsTabled graph.now }
     ensures good { OnOk result (shape_fault graph.now.nodes.now graph.now.links.now ≡ None) }

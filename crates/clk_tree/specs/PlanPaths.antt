@@ -4,7 +4,7 @@ use Rattle.clk_packet.specs.Lists.{stands_in}
 use Rattle.clk_tree.specs.Plan.{Planned}
 use Rattle.clk_tree.specs.PlanTree.{is_device, device_count}
 
--- all elements but devices have an output
+-- whether there is an element and it has an output, as all but devices have
 abbrev pub has_output : Option Planned → Bool
 has_output None = false
 has_output (Some e) = not (is_device e.class)

@@ -34,7 +34,7 @@ abbrev pub AreFree : List ℕ → List (ℕ × ℕ) → Type 0
 AreFree given [] = ⊤
 AreFree given (r ∷ rest) = (stands_in r.0 given ≡ false) × AreFree given rest
 
--- each of these senders may offer as many packets as is said beside it
+-- each of these senders may offer as many packets as stands beside it
 abbrev pub AreRoomed : List (ℕ × ℕ) → List (ℕ × ℕ) → Type 0
 AreRoomed rooms [] = ⊤
 AreRoomed rooms (r ∷ rest) = (room_of rooms r.0 ≡ r.1) × AreRoomed rooms rest

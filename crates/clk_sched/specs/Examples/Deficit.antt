@@ -119,7 +119,7 @@ deficit_outlives_none =
     asking 1 0 1 0 None ∷ asking 1 0 0 0 None ∷
     asking 2 0 1 0 (Some p0_0_700) ∷ asking 2 0 0 0 (Some p0_0_700) ∷ []
 
--- Over held_at_close_tree: the head is said to be asked for once more
+-- Over held_at_close_tree: the visit to the head is recorded as if the input had been asked
 abbrev pub head_asked_anew : List Visit
 head_asked_anew =
     look 0 0 1 0 true (Some p0_0_1000) false ∷ asking 0 0 0 0 None ∷

@@ -4,7 +4,7 @@ use Rattle.std.specs.Prelude.{◌≡◌, ℕ, ◌+◌, ◌*◌, ◌%◌, ◌==�
 use Rattle.clk_packet.specs.declared.packet.Packet.{Packet}
 use Rattle.clk_sched.specs.declared.visit.Visit.{Visit}
 
--- After a visit that passed, the next is to the same input; after any other, to the next input, wrapping round.
+-- The input of the next visit: the same after a visit that passed, and after any other the next input, wrapping round.
 abbrev pub next_input : ℕ → List Visit → ℕ
 next_input inputs [] = 0
 next_input inputs (v ∷ earlier) = if v.passed then v.input else (v.input + 1) % inputs

@@ -20,8 +20,8 @@ pass_in passes input = unwrap_or (slice_get passes input) 0
 abbrev pub visits_input : ℕ → List Visit → Bool
 visits_input input visits = list_any (λ (v : Visit). v.input == input) visits
 
--- The passes after a pull. The pass of the winner, which is the input that gave the packet, grows by its stride. Each input visited before
--- the winner gets the pass that the winner had. A pull without a winner changes none.
+-- The passes after a pull: that of the winner, the input that gave the packet, grows by its stride. Each input visited before the winner
+-- gets the pass that the winner had. A pull without a winner changes none.
 abbrev pub passes_after : List ℕ → List ℕ → Turn → List ℕ
 passes_after tickets passes t = won (giver t.visits)
   where

@@ -71,8 +71,8 @@ pub record IsVisitAt (now : Now) (x : ℕ) (v : Visit) : Type 0 where
   pub moment : v.moment ≡ now.moment
   pub node : v.node ≡ x
 
--- These visits are the block of a scheduler that was pulled, and this its result: its own visits, which its law allows, each
--- after what it asked. What a visit to an input may have asked for, and got, is said by the row below.
+-- These visits are the block of a scheduler that was pulled, and this its result: its own visits, which its law allows, each after what it
+-- asked. `Below` says what a visit to an input may have asked for, and got.
 pub record IsBlockOf (Below : ℕ → List Visit → Option Packet → Type 0) (now : Now) (x : ℕ) (class : Class) (inputs : ℕ) (turns : List Turn) (visits : List Visit) (got : Option Packet) : Type 0 where
   pub own : List Visit
   pub made : ℕ → List Visit

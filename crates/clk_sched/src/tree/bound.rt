@@ -13,7 +13,7 @@ impl Tree {
     ghost use Rattle.clk_packet.specs.Limits.{most_length, most_levels};
     ghost use Rattle.clk_sched.specs.Limits.{most_left};
 
-    /// A law: each scheduler of a tree has an input at least, and arguments within their limits.
+    /// A law: each scheduler of a tree has at least one input, and arguments within their limits.
     pub fn schedulers_are_sound(&self)
         ensures { IsSound (root self.now) }
     {

@@ -5,7 +5,7 @@ use clk_sched::{Ask, Tree};
 use std::alloc::Global;
 use std::test::Fail;
 
-// A PrioSched over queues of these numbers, of which there is one at least. (The branch shows that to the prover.)
+// A PrioSched over queues of these numbers, of which there is at least one. (The branch shows that to the prover.)
 fn over(alloc: Global, queues: &[u16]) -> Result<Tree, Fault> {
     let mut children = Vec::new(alloc);
     for q in queues {
