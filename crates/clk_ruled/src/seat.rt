@@ -79,7 +79,7 @@ impl Seat {
         requires number { packet.number ≡ self.old.next }
         requires room { self.old.next < self.old.room }
         ensures offered { IsOffered self.old packet result self.new }
-        // A seat that is alone at its queue is refused only if the queue accepted as many packets from it as it may hold.
+        // A packet of a seat that is alone at its queue is refused only if the queue accepted as many packets as it may hold.
         ensures lone { self.old.setup.rooms ≡ (self.old.sender, self.old.room) ∷ [] → result ≡ Refused packet → self.old.setup.capacity ≤ length self.new.accepted }
     {
         self.next += 1;
