@@ -1,18 +1,18 @@
 /* Clickpull for C: bounded queues and the tree of schedulers through which a link pulls them.
  *
- * This header stands outside what is proved. Proved are the calls of the library that it declares (clk_router_open and so on); the
- * functions that callers use (clk_open and so on) test pointers and hand on, and are tested by tests/library.
+ * This header stands outside what is proved. The exports of the library are proved (clk_router_open and so on). The functions that callers
+ * use (clk_open and so on) test pointers and call the exports; tests/library tests them.
  *
- * A router is made of a text in Click's language (docs/LIBRARY.md and docs/FORMATS.md have all elements):
+ * A router is opened from a text in Click's language (docs/LIBRARY.md and docs/FORMATS.md have all elements):
  *
  *     lan :: Sender(0); waiting :: Queue(4); pace :: Shaper(1, 3); uplink :: ToDevice(ppp0);
  *     lan -> waiting -> pace -> uplink;
  *
- * Senders offer packets to their queues, and each device pulls through its tree. The library carries of a packet its sender, its number
- * and its length, and no contents; "Packets of your own", below, says how a caller keeps these.
+ * Senders offer packets to their queues, and each device pulls packets through its tree. Of a packet the library carries its sender, its
+ * number and its length, and no contents. "Packets of your own", below, says how a caller keeps the contents.
  *
- * A clk_router takes one call at a time, offers too. A clk_live ("live routers", below) has an inlet for each sender: the sender offers
- * from a thread of its own, without a lock, and each packet travels with a token of the caller's.
+ * A clk_router takes one call at a time, also for offers. A clk_live ("live routers", below) has an inlet for each sender. The sender
+ * offers from a thread of its own, without a lock, and each packet travels with a token of the caller's.
  *
  * Use it so, and link with -lclickpull (pkg-config clickpull):
  *
@@ -27,31 +27,30 @@
  *         transmit(packet.sender, packet.number);
  *     clk_close(&router);
  *
- * That a pull gave none doesn't say that nothing is left: a Shaper has no token at this moment, or a DRRSched wants another turn. Who has
- * nothing else to do pulls again at the next moment for as long as clk_left isn't 0.
+ * A pull that emits nothing doesn't mean that nothing is left: a Shaper may have no token at this moment, or a DRRSched may need another
+ * turn. A caller with nothing else to do pulls again at the next moment while clk_left isn't 0.
  *
- * UNITS. Lengths and totals of lengths are bytes, moments are ticks (whatever the caller takes for a tick: the rate of a Shaper is in
- * packets a tick), capacities and what is left are packets.
+ * UNITS. Lengths and totals of lengths are in bytes. Moments are in ticks; the caller decides how long a tick is. The rate of a Shaper is
+ * in packets a tick. Capacities and what is left are in packets.
  *
- * WHO OWNS WHAT. clk_open makes a router, which the caller holds as a clk_router and gives back with clk_close. It may be copied, as a
- * pointer may: the copies are one router, and only one of them is closed. All else that is handed in stays the caller's; the library
- * reads or fills it while the call runs and keeps no pointer to it. The text isn't needed after clk_open. No call on a router but
- * clk_open takes memory, and none but clk_close gives any back.
+ * WHO OWNS WHAT. clk_open makes a router, which the caller holds as a clk_router and frees with clk_close. It may be copied, as a pointer
+ * may: the copies are one router, and only one of them is closed. The caller keeps all else that it hands in. The library reads or fills it
+ * during the call and keeps no pointer to it, so the text isn't needed after clk_open. Of all calls on a router only clk_open allocates
+ * memory, and only clk_close frees it.
  *
- * WHAT THE CALLER OWES. What a test can find is an answer: a null pointer, a shut router, a number out of range, an unknown sender or
- * device. These no test can find, and they are the caller's to keep:
+ * WHAT THE CALLER OWES. Calls test what they can, and return a status: for a null pointer, a shut router, a number out of range, an unknown
+ * sender or device. What follows no call can test, so the caller has to keep it:
  *
- *   - A router that was closed isn't used again through a copy of its clk_router. (The one that was handed to clk_close is null, and
- *     calls answer CLK_SHUT.)
+ *   - A router that was closed isn't used again through a copy of its clk_router. (clk_close sets the pointer in the one that it gets to
+ *     null, and later calls with it return CLK_SHUT.)
  *   - A clk_router is filled by clk_open or clk_close, or is CLK_NO_ROUTER, before another call gets it.
- *   - A router that is open isn't opened over: its memory would be lost.
- *   - Calls on one router come one after the other. They may come from several threads, as long as each call ends before the next begins
- *     by a lock of the caller's, by the start or the join of a thread, or by a sequentially consistent atomic operation. Two routers have
- *     nothing in common.
- *   - Pointers point to as much as is said: `length` bytes of a text, `count` elements of an array. What a call fills overlaps nothing
- *     else that it is handed.
- *   - No call is made from a signal handler, nor in the forked child of a process with several threads. malloc, realloc and free are
- *     of one allocator, and align as C says.
+ *   - A router that is open isn't opened over: its memory would leak.
+ *   - Calls on one router come one after the other. They may come from several threads, if each call happens before the next: by a lock of
+ *     the caller's, by the start or the join of a thread, or by a sequentially consistent atomic operation. Two routers share nothing.
+ *   - Pointers point to as much as the call says: `length` bytes of a text, `count` elements of an array. What a call fills overlaps
+ *     nothing else that it gets.
+ *   - No call is made from a signal handler, nor in the forked child of a process with several threads. malloc, realloc and free belong to
+ *     one allocator, and align as C requires.
  */
 #ifndef CLICKPULL_H
 #define CLICKPULL_H
@@ -63,77 +62,77 @@
 extern "C" {
 #endif
 
-/* ------------------------------------------------------------------------------------------------------------ answers */
+/* ------------------------------------------------------------------------------------------------------------ statuses */
 
-/* What calls answer. Where a call answers another than those that it names, nothing has changed and nothing was filled, but for the
- * counts `done` and `given` of calls for many, which are always set where the call gets them. */
+/* What calls return. Unless a call says otherwise, a status other than CLK_OK means that nothing has changed and nothing was filled in. The
+ * counts `done` and `given` are set in any case, if the call gets a pointer to them. */
 typedef enum clk_status {
-    CLK_OK = 0,             /* it is done */
-    CLK_NONE = 1,           /* the pull was made and gave no packet; the drain isn't at its end; or what was asked for isn't so yet */
+    CLK_OK = 0,             /* done */
+    CLK_NONE = 1,           /* no packet was taken or emitted; a drain or a reclaim has more to do; or what was asked isn't true yet */
     CLK_SHUT = 2,           /* the router or the inlet is shut: it was closed, or clk_open had a fault */
     CLK_NULL = 3,           /* a pointer is null */
     CLK_UNKNOWN_SENDER = 4, /* the tree has no sender with this number, or at this place */
     CLK_UNKNOWN_DEVICE = 5, /* the tree has no device with this number */
     CLK_BAD_LENGTH = 6,     /* the length of a packet is not from 1 to 65,535 */
-    CLK_AT_END = 7,         /* the sender has offered 4,294,967,295 packets; the moment is 2^44 ticks or more; or the device was pulled
-                             * as often as it may be, 2^63 times */
+    CLK_AT_END = 7,         /* the sender has offered 4,294,967,295 packets; the moment is 2^44 ticks or more; the device was pulled 2^63
+                             * times, the most that it may be; or a limit of records is reached (see there) */
     CLK_UNKNOWN_QUEUE = 8,  /* the tree has no queue with this number */
-    CLK_FAULT = 9,          /* the text makes no router, or memory was refused: see the fault */
-    CLK_FULL = 10,          /* the inlet has no room for the packet now */
+    CLK_FAULT = 9,          /* the text makes no router, or an allocation failed: see the fault */
+    CLK_FULL = 10,          /* the inlet has no room for the packet now, or the buffer of a record has none for its lines */
     CLK_BAD_ROOM = 11,      /* the room of inlets is not from 1 to 16,777,216 */
     CLK_HANDED_OUT = 12,    /* the inlet of this sender was handed out before */
-    CLK_RECLAIMED = 13      /* the tokens of the live router were reclaimed: only clk_live_close and clk_live_reclaim are left */
+    CLK_RECLAIMED = 13      /* the tokens of the live router were reclaimed: call only clk_live_close and clk_live_reclaim */
 } clk_status;
 
-/* What became of a packet that was offered. */
+/* The outcome of an offer. */
 typedef enum clk_outcome {
-    CLK_ACCEPTED = 0, /* its queue took it */
-    CLK_REFUSED = 1,  /* its queue, a Queue, was full, and it is gone */
-    CLK_EVICTED = 2   /* its queue, a FrontDropQueue, was full, took it, and put out the packet at its front */
+    CLK_ACCEPTED = 0, /* its queue accepted it */
+    CLK_REFUSED = 1,  /* its queue, a full Queue, refused it */
+    CLK_EVICTED = 2   /* its queue, a full FrontDropQueue, accepted it and evicted the packet at its front */
 } clk_outcome;
 
-/* Below which number of ticks a moment is. */
+/* Moments are below this number of ticks. */
 #define CLK_END_OF_MOMENTS (UINT64_C(1) << 44)
 
 /* ------------------------------------------------------------------------------------------------------------ values */
 
-/* A router, or none where `at` is null. `at` is the library's; a caller copies it at most. */
+/* A router, or none if `at` is null. `at` belongs to the library; a caller may copy it. */
 typedef struct clk_router {
     void *at;
 } clk_router;
 
-/* What a variable holds that has no router yet: clk_router router = CLK_NO_ROUTER; */
+/* The value of a variable that has no router yet: clk_router router = CLK_NO_ROUTER; */
 #define CLK_NO_ROUTER {NULL}
 
-/* Why a text makes no router. */
+/* Why no router was opened. */
 typedef struct clk_fault {
     uint32_t number; /* the fault's number, as in docs/FORMATS.md; clk_fault_name has its name */
-    uint32_t offset; /* at which byte of the text, from 0; 0 where the fault has no place (1, 11 and 18) */
+    uint32_t offset; /* at which byte of the text, from 0; 0 if the fault has no place (1, 11 and 18) */
 } clk_fault;
 
 /* A packet, 8 bytes. */
 typedef struct clk_packet {
-    uint32_t number; /* its place among all that its sender offered, refused ones too, from 0 */
+    uint32_t number; /* its place among all packets that its sender offered, also refused ones, from 0 */
     uint16_t sender; /* its sender's number, that of Sender(N) */
     uint16_t length; /* its length in bytes, 1 to 65,535 */
 } clk_packet;
 
-/* What became of an offer. */
+/* What an offer returns. */
 typedef struct clk_offered {
     clk_packet packet;  /* the packet, with its number */
-    clk_packet evicted; /* the packet that was put out for it, maybe of another sender; all zero unless the outcome is CLK_EVICTED */
+    clk_packet evicted; /* the packet that was evicted for it, maybe of another sender; all zero unless the outcome is CLK_EVICTED */
     uint32_t outcome;   /* a clk_outcome */
 } clk_offered;
 
-/* An offer, of many. */
+/* One of several offers. */
 typedef struct clk_offer_of {
     uint32_t sender; /* the sender's number */
     uint32_t length; /* the packet's length in bytes, 1 to 65,535 */
 } clk_offer_of;
 
-/* A packet that came out in a drain. */
+/* A packet that a drain emitted. */
 typedef struct clk_departure {
-    uint64_t moment; /* when it came out, in ticks */
+    uint64_t moment; /* when it was emitted, in ticks */
     clk_packet packet;
 } clk_departure;
 
@@ -143,45 +142,45 @@ typedef struct clk_total {
     uint64_t bytes;
 } clk_total;
 
-/* What became of all that a sender offered. Accepted and refused together are what it offered; evicted and emitted are parts of
- * accepted, and what is left of that is still in its queue or held by a scheduler. */
+/* The totals of the packets that a sender offered. Accepted and refused together are what it offered. Evicted and emitted are parts of
+ * accepted; the rest of accepted is in its queue or held by a scheduler. */
 typedef struct clk_account {
     clk_total accepted;
     clk_total refused;
-    clk_total evicted; /* put out for later packets, its own or another sender's */
-    clk_total emitted; /* came out at the device */
+    clk_total evicted; /* evicted for later packets, its own or another sender's */
+    clk_total emitted; /* emitted by the device */
     uint16_t sender;   /* the sender's number */
-    uint16_t queue;    /* the number of the queue that it pushes to */
+    uint16_t queue;    /* the number of the queue to which it offers */
 } clk_account;
 
 /* A queue. */
 typedef struct clk_queue {
     uint64_t capacity;   /* how many packets it holds at most */
-    uint64_t held;       /* how many it holds now, those held by schedulers not among them */
-    uint16_t device;     /* the number of the device that its packets go to */
+    uint64_t held;       /* how many it holds now, without those held by schedulers */
+    uint16_t device;     /* the number of the device that emits its packets */
     uint16_t front_drop; /* 1 for a FrontDropQueue, 0 for a Queue */
 } clk_queue;
 
-/* An inlet, or none where `at` is null. `at` is the library's; a caller copies it at most. */
+/* An inlet, or none if `at` is null. `at` belongs to the library; a caller may copy it. */
 typedef struct clk_inlet {
     void *at;
 } clk_inlet;
 
-/* What a variable holds that has no inlet yet: clk_inlet inlet = CLK_NO_INLET; */
+/* The value of a variable that has no inlet yet: clk_inlet inlet = CLK_NO_INLET; */
 #define CLK_NO_INLET {NULL}
 
-/* A packet for an inlet, of many. */
+/* One of several packets for an inlet. */
 typedef struct clk_item {
     uint64_t token;  /* a value of the caller's, which goes with the packet */
     uint32_t length; /* the packet's length in bytes, 1 to 65,535 */
 } clk_item;
 
-/* A live router, or none where `at` is null. `at` is the library's; a caller copies it at most. */
+/* A live router, or none if `at` is null. `at` belongs to the library; a caller may copy it. */
 typedef struct clk_live {
     void *at;
 } clk_live;
 
-/* What a variable holds that has no live router yet: clk_live live = CLK_NO_LIVE; */
+/* The value of a variable that has no live router yet: clk_live live = CLK_NO_LIVE; */
 #define CLK_NO_LIVE {NULL}
 
 /* The greatest room of an inlet, in packets. */
@@ -190,7 +189,7 @@ typedef struct clk_live {
 /* How many packets one call of clk_live_take, clk_live_take_in or clk_live_take_what_fits takes at most. */
 #define CLK_MOST_TAKEN 64
 
-/* A packet that was taken from its inlet and offered to its queue, and what became of it. */
+/* A packet that was taken from its inlet and offered to its queue, with the outcome. */
 typedef struct clk_taken {
     clk_packet packet;      /* the packet, with its number */
     uint64_t token;         /* the token that came with it */
@@ -231,8 +230,8 @@ typedef struct clk_record {
 
 /* ------------------------------------------------------------------------------------------------------------ exports */
 
-/* What the library exports. The functions below them test what they are handed and are what to call. An array is handed over as its
- * pointer and then its length. Those that only look at a router take it like the others; they change nothing. */
+/* What the library exports. Don't call these: the functions below test pointers and call them. An array is handed over as its pointer and
+ * then its length. The exports that only read a router take it by the same pointer type, and change nothing. */
 extern uint32_t clk_router_open(const uint8_t *text, size_t length, clk_router *router, clk_fault *fault);
 extern void clk_router_close(clk_router router);
 extern uint32_t clk_router_offer(clk_router *router, uint32_t sender, uint32_t length, clk_offered *offered);
@@ -298,13 +297,13 @@ extern uint32_t clk_raw_record_drain(uint64_t moment, uint8_t *text, size_t text
 
 /* ------------------------------------------------------------------------------------------------------------ open and close */
 
-/* Makes a router of the tree in `text`, `length` bytes, 1,048,576 at most. It needn't end with a zero, and may be null where `length` is
- * 0. All memory that the router will ever use is taken here: 8 bytes for each packet that its queues can hold, and tables of its
- * elements. `fault` may be null where it isn't wanted.
+/* Opens a router over the tree in `text`, `length` bytes, 1,048,576 at most. The text needs no zero at its end, and may be null if `length`
+ * is 0. All memory that the router will ever use is allocated here: 8 bytes for each packet that its queues can hold, and tables of its
+ * elements. `fault` may be null if it isn't wanted.
  *
  * CLK_OK     `router` is the router, with empty queues, before its first pull. The caller closes it.
- * CLK_FAULT  `router` is shut, and nothing is to be closed; `fault` says why: 1 where memory was refused, else the first fault of the text.
- * CLK_NULL   `router` is null, or `text` is and `length` isn't 0. Of these `router` is shut where it isn't null. */
+ * CLK_FAULT  `router` is shut, and nothing is to be closed. `fault` says why: 1 if an allocation failed, else the first fault of the text.
+ * CLK_NULL   `router` is null, or `text` is null and `length` isn't 0. In the second case `router` is shut. */
 static inline clk_status clk_open(const char *text, size_t length, clk_router *router, clk_fault *fault) {
     clk_fault unwanted = {0, 0};
     if (!router)
@@ -315,7 +314,7 @@ static inline clk_status clk_open(const char *text, size_t length, clk_router *r
     return CLK_STATUS(clk_router_open(CLK_BYTES(text ? text : ""), length, router, fault ? fault : &unwanted));
 }
 
-/* Gives back all that the router has, packets in its queues too, and leaves `router` shut. A null or a shut router is left as it is. */
+/* Frees all that the router has, with the packets in its queues, and leaves `router` shut. A null or shut router is left as it is. */
 static inline void clk_close(clk_router *router) {
     if (router && router->at) {
         clk_router_close(*router);
@@ -325,16 +324,16 @@ static inline void clk_close(clk_router *router) {
 
 /* ------------------------------------------------------------------------------------------------------------ offers */
 
-/* The sender with this number offers its next packet, of `length` bytes, to its queue. Its packets are numbered from 0 as they are
- * offered, also where they are refused.
+/* The sender with this number offers its next packet, of `length` bytes, to its queue. The packets of a sender are numbered from 0 in the
+ * order of its offers, also those that are refused.
  *
- * CLK_OK              `offered` says what became of it. That it was refused is an outcome, and no failure of the call.
+ * CLK_OK              `offered` has the packet and its outcome. A refusal is an outcome, and no failure of the call.
  * CLK_BAD_LENGTH      `length` is not from 1 to 65,535. This is tested first.
  * CLK_UNKNOWN_SENDER  no sender has this number.
  * CLK_AT_END          the sender has offered 4,294,967,295 packets.
  * CLK_SHUT, CLK_NULL
  *
- * Where it isn't CLK_OK nothing was offered. */
+ * Unless the status is CLK_OK, nothing was offered. */
 static inline clk_status clk_offer(clk_router *router, uint32_t sender, uint32_t length, clk_offered *offered) {
     if (!router || !offered)
         return CLK_NULL;
@@ -343,12 +342,13 @@ static inline clk_status clk_offer(clk_router *router, uint32_t sender, uint32_t
     return CLK_STATUS(clk_router_offer(router, sender, length, offered));
 }
 
-/* Offers `count` packets in the order of `offers`, as so many calls of clk_offer do, up to the first that can't be offered. `offers` and
- * `offered` have `count` elements; both may be null where it is 0. `done` is how many were offered: so many elements of `offered` are
- * filled, and the others are as they were.
+/* Offers `count` packets in the order of `offers`, as `count` calls of clk_offer do, up to the first that can't be offered. `offers` and
+ * `offered` have `count` elements; both may be null if `count` is 0. `done` is how many were offered: the first `*done` elements of
+ * `offered` are filled in, and the others are unchanged.
  *
  * CLK_OK              all were offered.
- * CLK_UNKNOWN_SENDER, CLK_BAD_LENGTH, CLK_AT_END  offers[*done] can't be, and neither it nor one after it was offered.
+ * CLK_UNKNOWN_SENDER, CLK_BAD_LENGTH, CLK_AT_END  offers[*done] can't be offered, for the reason that clk_offer has. Neither it nor one
+ *                     after it was offered.
  * CLK_SHUT, CLK_NULL  none was offered. */
 static inline clk_status clk_offer_many(clk_router *router, const clk_offer_of *offers, size_t count, clk_offered *offered, size_t *done) {
     if (!done)
@@ -365,12 +365,12 @@ static inline clk_status clk_offer_many(clk_router *router, const clk_offer_of *
 
 /* ------------------------------------------------------------------------------------------------------------ pulls */
 
-/* Pulls the device once, at this moment in ticks. Devices are numbered from 0 as they are declared. A moment below the greatest that was
- * handed in at the device so far counts as that one.
+/* Pulls the device once, at this moment in ticks. Devices are numbered from 0 in the order of declaration. The device's latest moment is
+ * the greatest that it was pulled at so far. A pull with an earlier moment counts as one at the latest moment.
  *
- * CLK_OK              `packet` is the packet that came out.
- * CLK_NONE            none came out: nothing is left there, a Shaper has no token, or the DRRSched has to be asked again, which a
- *                     packet longer than its deficit waits for. clk_left tells the first from the others.
+ * CLK_OK              `packet` is the packet that was emitted.
+ * CLK_NONE            none was emitted: nothing is left for the device, a Shaper has no token, or a DRRSched needs another pull, since a
+ *                     packet is longer than its deficit. clk_left tells the first case from the others.
  * CLK_UNKNOWN_DEVICE, CLK_AT_END, CLK_SHUT, CLK_NULL  no pull was made. */
 static inline clk_status clk_pull(clk_router *router, uint16_t device, uint64_t moment, clk_packet *packet) {
     if (!router || !packet)
@@ -380,11 +380,12 @@ static inline clk_status clk_pull(clk_router *router, uint16_t device, uint64_t 
     return CLK_STATUS(clk_router_pull(router, device, moment, packet));
 }
 
-/* Pulls the device at this moment up to `count` times, and no more after a pull that gave none. `packets` has `count` elements, and may be
- * null where it is 0. `given` is how many came out: so many elements of `packets` are filled, in the order in which they came out.
+/* Pulls the device at this moment up to `count` times, and stops after a pull that emits nothing. `packets` has `count` elements, and may
+ * be null if `count` is 0. `given` is how many were emitted: the first `*given` elements of `packets` are filled in, in the order in which
+ * they were emitted.
  *
- * CLK_OK              one came out at least, or `count` is 0.
- * CLK_NONE            the first pull gave none.
+ * CLK_OK              at least one was emitted, or `count` is 0.
+ * CLK_NONE            the first pull emitted none.
  * CLK_UNKNOWN_DEVICE, CLK_AT_END, CLK_SHUT, CLK_NULL  no pull was made. */
 static inline clk_status clk_pull_many(clk_router *router, uint16_t device, uint64_t moment, clk_packet *packets, size_t count,
                                        size_t *given) {
@@ -399,7 +400,7 @@ static inline clk_status clk_pull_many(clk_router *router, uint16_t device, uint
     return CLK_STATUS(clk_router_pull_many(router, device, moment, packets ? packets : &unused, count, given));
 }
 
-/* The greatest moment that was handed in at the device so far, in ticks: the one that counts. 0 before the first pull.
+/* The device's latest moment, in ticks: the greatest that it was pulled at so far. 0 before the first pull.
  *
  * CLK_OK  `moment` is it. CLK_UNKNOWN_DEVICE, CLK_SHUT, CLK_NULL. */
 static inline clk_status clk_moment(const clk_router *router, uint16_t device, uint64_t *moment) {
@@ -411,10 +412,9 @@ static inline clk_status clk_moment(const clk_router *router, uint16_t device, u
     return CLK_STATUS(clk_router_moment(&same, device, moment));
 }
 
-/* The earliest moment, in ticks, at which a pull of the device could emit a packet, as things stand: the greatest moment handed in so far, or
- * a later one if every packet is below a Shaper that has no room for it yet. A pull at an earlier moment emits nothing, so a caller may
- * sleep until then, or until a packet is offered. A pull at that moment may still emit nothing, while a DRRSched saves up for a long packet:
- * pull again.
+/* The earliest moment, in ticks, at which a pull of the device could emit a packet, as things stand: the device's latest moment, or the
+ * next tick if every packet is below a Shaper that has no token for it yet. Pulls emit nothing before, so a caller may sleep until then, or
+ * until a packet is offered. A pull at that moment may still emit nothing, while a DRRSched saves up for a long packet: pull again.
  *
  * CLK_OK    `moment` is it.
  * CLK_NONE  no packet is left for the device.
@@ -428,8 +428,8 @@ static inline clk_status clk_due(const clk_router *router, uint16_t device, uint
     return CLK_STATUS(clk_router_due(&same, device, moment));
 }
 
-/* How many packets are left for the device: accepted by its queues, and neither put out nor come out. They are in its queues or held by
- * its schedulers.
+/* How many packets are left for the device: accepted by its queues, and neither evicted nor emitted. They are in its queues or held by its
+ * schedulers.
  *
  * CLK_OK  `packets` is the number. CLK_UNKNOWN_DEVICE, CLK_SHUT, CLK_NULL. */
 static inline clk_status clk_left(const clk_router *router, uint16_t device, uint64_t *packets) {
@@ -441,13 +441,14 @@ static inline clk_status clk_left(const clk_router *router, uint16_t device, uin
     return CLK_STATUS(clk_router_left(&same, device, packets));
 }
 
-/* Pulls the device one tick apart, the first time one tick after its counted moment, until all packets that are left for it came out,
- * `pulls` pulls were made, or `count` packets came out. Called again it goes on, so that a caller drains in pieces. `departures` has
- * `count` elements, and may be null where it is 0. `given` is how many came out: so many elements are filled.
+/* Drains the device: pulls it one tick apart, the first time one tick after its latest moment. Stops when nothing is left for it, when
+ * `pulls` pulls were made, or when `count` packets were emitted. A further call goes on from there, so a caller can drain in pieces.
+ * `departures` has `count` elements, and may be null if `count` is 0. `given` is how many packets were emitted: the first `*given` elements
+ * are filled in.
  *
- * CLK_OK              all came out, and nothing is left for the device. With nothing left no pull is made.
+ * CLK_OK              nothing is left for the device. If nothing was left before, no pull was made.
  * CLK_NONE            some are left: `pulls` or `count` was reached.
- * CLK_AT_END          the moment of the next pull would be 2^44: `given` packets came out before.
+ * CLK_AT_END          the moment of the next pull would be 2^44, or the device was pulled 2^63 times. `given` packets were emitted before.
  * CLK_UNKNOWN_DEVICE, CLK_SHUT, CLK_NULL  no pull was made. */
 static inline clk_status clk_drain(clk_router *router, uint16_t device, clk_departure *departures, size_t count, uint64_t pulls,
                                    size_t *given) {
@@ -462,9 +463,9 @@ static inline clk_status clk_drain(clk_router *router, uint16_t device, clk_depa
     return CLK_STATUS(clk_router_drain(router, device, departures ? departures : &unused, count, pulls, given));
 }
 
-/* ------------------------------------------------------------------------------------------------------------ what there is */
+/* ------------------------------------------------------------------------------------------------------------ state */
 
-/* How many senders, queues and devices the tree has. 0 for a null and for a shut router; an open one has one device at least. */
+/* How many senders the tree has, or 0 if the router is null or shut. */
 static inline size_t clk_senders(const clk_router *router) {
     clk_router same = CLK_NO_ROUTER;
     if (router)
@@ -472,6 +473,7 @@ static inline size_t clk_senders(const clk_router *router) {
     return same.at ? clk_router_senders(&same) : 0;
 }
 
+/* How many queues the tree has, or 0 if the router is null or shut. */
 static inline size_t clk_queues(const clk_router *router) {
     clk_router same = CLK_NO_ROUTER;
     if (router)
@@ -479,6 +481,7 @@ static inline size_t clk_queues(const clk_router *router) {
     return same.at ? clk_router_queues(&same) : 0;
 }
 
+/* How many devices the tree has, one at least, or 0 if the router is null or shut. */
 static inline size_t clk_devices(const clk_router *router) {
     clk_router same = CLK_NO_ROUTER;
     if (router)
@@ -486,9 +489,10 @@ static inline size_t clk_devices(const clk_router *router) {
     return same.at ? clk_router_devices(&same) : 0;
 }
 
-/* What became of all that the sender at this place offered. Places go from 0 to clk_senders - 1, by rising numbers of senders.
+/* The totals of all packets that the sender at this place offered. Places go from 0 to clk_senders - 1, in the order of the senders'
+ * numbers.
  *
- * CLK_OK  `account` says it. CLK_UNKNOWN_SENDER (no such place), CLK_SHUT, CLK_NULL. */
+ * CLK_OK  `account` has them. CLK_UNKNOWN_SENDER (no such place), CLK_SHUT, CLK_NULL. */
 static inline clk_status clk_account_at(const clk_router *router, size_t place, clk_account *account) {
     if (!router || !account)
         return CLK_NULL;
@@ -498,9 +502,9 @@ static inline clk_status clk_account_at(const clk_router *router, size_t place, 
     return CLK_STATUS(clk_router_account(&same, place, account));
 }
 
-/* The queue with this number, from 0 to clk_queues - 1 in order of declaration.
+/* The queue with this number, from 0 to clk_queues - 1 in the order of declaration.
  *
- * CLK_OK  `queue` is it. CLK_UNKNOWN_QUEUE, CLK_SHUT, CLK_NULL. */
+ * CLK_OK  `queue` is the queue. CLK_UNKNOWN_QUEUE, CLK_SHUT, CLK_NULL. */
 static inline clk_status clk_queue_at(const clk_router *router, uint16_t number, clk_queue *queue) {
     if (!router || !queue)
         return CLK_NULL;
@@ -530,7 +534,7 @@ static inline clk_status clk_queue_at(const clk_router *router, uint16_t number,
  * packet is accepted, what its token points to belongs to the router's side. The sender keeps it if the packet is not accepted. An inlet
  * may outlive its router. Then nobody takes packets: offers return CLK_OK until the ring is full, and CLK_FULL from then on.
  *
- * WHAT THE CALLER OWES. No test can find these:
+ * WHAT THE CALLER OWES. No call can test the following, so the caller has to keep it:
  *
  *   - Calls on one inlet come one after the other. Calls on other inlets, and on the router, may run at the same time.
  *   - An inlet may move to another thread. The hand-over is ordered: by the start or the join of a thread, by a lock of the caller's, or by
@@ -539,7 +543,7 @@ static inline clk_status clk_queue_at(const clk_router *router, uint16_t number,
  *   - Every inlet is closed in the end, even if its sender never offered a packet. The memory of one that is never closed is lost, and the
  *     router never learns that its sender has ended. */
 
-/* Offers the sender's next packet, of `length` bytes, with a token. `number` may be null where it isn't wanted.
+/* Offers the sender's next packet, of `length` bytes, with a token. `number` may be null if it isn't wanted.
  *
  * CLK_OK          the inlet accepted the packet. `number` is its number: how many packets the inlet accepted before it.
  * CLK_FULL        there is no room now. Offer the packet again later.
@@ -639,11 +643,10 @@ static inline clk_status clk_inlet_close(clk_inlet *inlet) {
  *
  * WHEN THE OWNER CLOSES FIRST, nothing tells the senders. Their inlets stay good, fill up, and then return CLK_FULL; each is still closed by
  * its holder. Tokens that wait in the inlets don't come back. So close the inlets first, take what is in them, and then close the router.
- *
  * No call waits, and no call but clk_live_open allocates memory.
  *
- * SLEEPING. The library wakes nobody. An owner that finds nothing may pause, or sleep until a sender wakes it by means of the caller's own.
- * If it sleeps, keep this order, or a wake-up can be lost:
+ * SLEEPING. The library wakes nobody. An owner that finds nothing may pause, or sleep until a sender wakes it; the caller writes that part.
+ * If the owner sleeps, keep this order, or a wake-up can be lost:
  *
  *   - The owner sets an atomic flag of the caller's, executes a sequentially consistent fence, takes from all inlets once more, and asks
  *     clk_live_ended. If nothing came, it sleeps until it is woken.
@@ -651,30 +654,31 @@ static inline clk_status clk_inlet_close(clk_inlet *inlet) {
  *     sender clears it and wakes the owner.
  *
  * So the owner sees the packet, or the sender sees the flag. While packets are left inside (clk_live_drained isn't CLK_OK), an owner sleeps
- * no longer than to its next pull: no sender wakes it for these. clk_live_due tells the earliest moment at which a pull can emit one.
+ * only until its next pull: no sender wakes it for these packets. clk_live_due has the earliest moment at which a pull can emit one.
  *
- * A sender that sleeps while its inlet is full keeps the same order: it sets a flag of its own, offers once more, and then sleeps; the owner
- * takes, and then reads that flag. The repository has this order in examples/threads/waiter.h, with a condition variable and with an eventfd.
+ * A sender that sleeps while its inlet is full keeps an order of the same kind. It sets a flag of its own, offers once more, and then
+ * sleeps; the owner takes, and then reads that flag. The repository has both in examples/threads/waiter.h, with a condition variable and
+ * with an eventfd.
  *
- * WHAT THE CALLER OWES. These no test can find:
+ * WHAT THE CALLER OWES. No call can test the following, so the caller has to keep it:
  *
  *   - Calls on one live router come one after the other. They may come from several threads, if each call happens before the next: by a
  *     lock of the caller's, by the start or the join of a thread, or by a sequentially consistent atomic operation. Calls on its inlets may
  *     run at the same time.
  *   - A live router that was closed isn't used again through a copy of its clk_live.
- *   - A clk_live is filled by clk_live_open or clk_live_close, or is CLK_NO_LIVE, before another call gets it. One that is open isn't opened
- *     over: its memory would be lost. The same holds of the clk_inlet that clk_live_inlet fills. */
+ *   - A clk_live is filled by clk_live_open or clk_live_close, or is CLK_NO_LIVE, before another call gets it. A live router that is open
+ *     isn't opened over: its memory would leak. Likewise clk_live_inlet doesn't get a clk_inlet that is open. */
 
 /* Opens a live router over the tree in `text`, `length` bytes, with an inlet for each sender that has room for `room` packets, from 1 to
- * CLK_MOST_ROOM. All memory that the router and its inlets will ever use is allocated here: 16 bytes for each packet that an inlet has
- * room for, and 16 for each that the queues can hold. `fault` may be null where it isn't wanted.
+ * CLK_MOST_ROOM. All memory that the router and its inlets will ever use is allocated here: 16 bytes for each packet that an inlet has room
+ * for, and 16 for each that the queues can hold. `fault` may be null if it isn't wanted.
  *
  * CLK_OK        `live` is the router. The caller closes it.
  * CLK_BAD_ROOM  `room` is out of range.
- * CLK_FAULT     `fault` says why: 1 where an allocation failed, else the first fault of the text.
- * CLK_NULL      `live` is null, or `text` is and `length` isn't 0.
+ * CLK_FAULT     `fault` says why: 1 if an allocation failed, else the first fault of the text.
+ * CLK_NULL      `live` is null, or `text` is null and `length` isn't 0.
  *
- * Where it isn't CLK_OK, `live` is shut (if it isn't null), and nothing is to be closed. */
+ * Unless the status is CLK_OK, `live` is shut (if it isn't null), and nothing is to be closed. */
 static inline clk_status clk_live_open(const char *text, size_t length, uint32_t room, clk_live *live, clk_fault *fault) {
     clk_fault unwanted = {0, 0};
     if (!live)
@@ -709,11 +713,11 @@ static inline clk_status clk_live_inlet(clk_live *live, uint32_t sender, clk_inl
     return CLK_STATUS(clk_raw_live_inlet(live, sender, inlet));
 }
 
-/* Takes packets from the inlet of the sender with this number, as many as wait there and find a place, and offers each to the sender's
- * queue, in order. `taken` has `count` elements, and may be null where it is 0. One call takes CLK_MOST_TAKEN packets at most. `given` is
- * how many were taken: so many elements are filled. If fewer were taken than `count` and CLK_MOST_TAKEN, no more were seen in the inlet.
+/* Takes packets that wait in the inlet of the sender with this number, and offers each to the sender's queue, in order. `taken` has `count`
+ * elements, and may be null if `count` is 0. One call takes at most `count` packets, and at most CLK_MOST_TAKEN. `given` is how many were
+ * taken: the first `*given` elements are filled in. If `given` is below both, the call saw no more in the inlet.
  *
- * CLK_OK    one was taken at least, or `count` is 0.
+ * CLK_OK    at least one was taken, or `count` is 0.
  * CLK_NONE  none waits there.
  * CLK_UNKNOWN_SENDER, CLK_RECLAIMED, CLK_SHUT, CLK_NULL  none was taken. */
 static inline clk_status clk_live_take(clk_live *live, uint32_t sender, clk_taken *taken, size_t count, size_t *given) {
@@ -728,10 +732,11 @@ static inline clk_status clk_live_take(clk_live *live, uint32_t sender, clk_take
     return CLK_STATUS(clk_raw_live_take(live, sender, taken ? taken : &unused, count, given));
 }
 
-/* Takes packets in one round over all senders, at most `each` from each, and offers each to its sender's queue. Otherwise as clk_live_take.
- * If the call takes as many as it can, the round ends early, and the next one starts at the next sender: so each sender has its turn.
+/* Takes packets in one round over all senders, at most `each` from each, and offers each packet to its sender's queue. Its arguments are as
+ * for clk_live_take, and so is the most that one call takes. If the call takes that many, the round ends early, and the next one starts at
+ * the next sender: so each sender has its turn.
  *
- * CLK_OK    one was taken at least, or `count` is 0.
+ * CLK_OK    at least one was taken, or `count` is 0.
  * CLK_NONE  none was taken.
  * CLK_RECLAIMED, CLK_SHUT, CLK_NULL  none was taken. */
 static inline clk_status clk_live_take_in(clk_live *live, size_t each, clk_taken *taken, size_t count, size_t *given) {
@@ -787,8 +792,8 @@ static inline clk_status clk_live_pull_many(clk_live *live, uint16_t device, uin
     return CLK_STATUS(clk_raw_live_pull_many(live, device, moment, packets ? packets : &unused, count, given));
 }
 
-/* Pulls the device one tick apart while packets are left for it, as clk_drain does, with tokens. What waits in the inlets is not drained:
- * take it before. */
+/* Drains the device as clk_drain does, with tokens: pulls it one tick apart while packets are left for it. Packets that wait in the inlets
+ * are not drained: take them first. */
 static inline clk_status clk_live_drain(clk_live *live, uint16_t device, clk_departed *departures, size_t count, uint64_t pulls,
                                         size_t *given) {
     clk_departed unused = {0, {0, 0, 0}, 0};
@@ -805,8 +810,8 @@ static inline clk_status clk_live_drain(clk_live *live, uint16_t device, clk_dep
 /* Whether every inlet was closed, and every packet that was ever accepted by one was taken. A take finds out that an inlet was closed: take
  * before asking. (clk_live_take_what_fits finds it out once the sender's queue has room.)
  *
- * CLK_OK    it is so, and stays so: no more packets come.
- * CLK_NONE  it isn't so yet.
+ * CLK_OK    yes. It stays so: no more packets come.
+ * CLK_NONE  not yet.
  * CLK_RECLAIMED, CLK_SHUT, CLK_NULL. */
 static inline clk_status clk_live_ended(const clk_live *live) {
     if (!live)
@@ -820,7 +825,7 @@ static inline clk_status clk_live_ended(const clk_live *live) {
 /* Whether no packet is left inside: not in a queue, and not held by a scheduler. Then each packet that was taken was refused, evicted or
  * emitted, once.
  *
- * CLK_OK    it is so.
+ * CLK_OK    yes.
  * CLK_NONE  packets are left.
  * CLK_RECLAIMED, CLK_SHUT, CLK_NULL. */
 static inline clk_status clk_live_drained(const clk_live *live) {
@@ -852,7 +857,7 @@ static inline clk_status clk_live_reclaim(clk_live *live, uint64_t *tokens, size
     return CLK_STATUS(clk_raw_live_reclaim(live, tokens ? tokens : &unused, count, given));
 }
 
-/* The latest moment that was handed in at the device so far, in ticks. 0 before the first pull.
+/* The device's latest moment, in ticks: the greatest that it was pulled at so far. 0 before the first pull.
  *
  * CLK_OK  `moment` is it. CLK_UNKNOWN_DEVICE, CLK_RECLAIMED, CLK_SHUT, CLK_NULL. */
 static inline clk_status clk_live_moment(const clk_live *live, uint16_t device, uint64_t *moment) {
@@ -864,8 +869,8 @@ static inline clk_status clk_live_moment(const clk_live *live, uint16_t device, 
     return CLK_STATUS(clk_raw_live_moment(&same, device, moment));
 }
 
-/* The earliest moment, in ticks, at which a pull of the device could emit a packet, as clk_due has it. What waits in the inlets is not looked
- * at: take first.
+/* The earliest moment, in ticks, at which a pull of the device could emit a packet, as clk_due has it. Packets that wait in the inlets
+ * don't count: take them first.
  *
  * CLK_OK    `moment` is it.
  * CLK_NONE  no packet is left for the device inside the router.
@@ -879,7 +884,7 @@ static inline clk_status clk_live_due(const clk_live *live, uint16_t device, uin
     return CLK_STATUS(clk_raw_live_due(&same, device, moment));
 }
 
-/* How many packets are left for the device inside the router. What waits in the inlets is not among them.
+/* How many packets are left for the device inside the router. Packets that wait in the inlets don't count.
  *
  * CLK_OK  `packets` is the number. CLK_UNKNOWN_DEVICE, CLK_RECLAIMED, CLK_SHUT, CLK_NULL. */
 static inline clk_status clk_live_left(const clk_live *live, uint16_t device, uint64_t *packets) {
@@ -891,7 +896,7 @@ static inline clk_status clk_live_left(const clk_live *live, uint16_t device, ui
     return CLK_STATUS(clk_raw_live_left(&same, device, packets));
 }
 
-/* How many senders, queues and devices the tree has. 0 for a null, a shut and a reclaimed router. */
+/* How many senders the tree has, or 0 if the router is null, shut or reclaimed. */
 static inline size_t clk_live_senders(const clk_live *live) {
     clk_live same = CLK_NO_LIVE;
     if (live)
@@ -899,6 +904,7 @@ static inline size_t clk_live_senders(const clk_live *live) {
     return same.at ? clk_raw_live_senders(&same) : 0;
 }
 
+/* How many queues the tree has, or 0 if the router is null, shut or reclaimed. */
 static inline size_t clk_live_queues(const clk_live *live) {
     clk_live same = CLK_NO_LIVE;
     if (live)
@@ -906,6 +912,7 @@ static inline size_t clk_live_queues(const clk_live *live) {
     return same.at ? clk_raw_live_queues(&same) : 0;
 }
 
+/* How many devices the tree has, or 0 if the router is null, shut or reclaimed. */
 static inline size_t clk_live_devices(const clk_live *live) {
     clk_live same = CLK_NO_LIVE;
     if (live)
@@ -913,10 +920,10 @@ static inline size_t clk_live_devices(const clk_live *live) {
     return same.at ? clk_raw_live_devices(&same) : 0;
 }
 
-/* What became of all packets that were taken from the sender at this place. Places go from 0 to clk_live_senders - 1, by rising numbers of
- * senders.
+/* The totals of all packets that were taken from the sender at this place. Places go from 0 to clk_live_senders - 1, in the order of the
+ * senders' numbers.
  *
- * CLK_OK  `account` says it. CLK_UNKNOWN_SENDER (no such place), CLK_RECLAIMED, CLK_SHUT, CLK_NULL. */
+ * CLK_OK  `account` has them. CLK_UNKNOWN_SENDER (no such place), CLK_RECLAIMED, CLK_SHUT, CLK_NULL. */
 static inline clk_status clk_live_account_at(const clk_live *live, size_t place, clk_account *account) {
     if (!live || !account)
         return CLK_NULL;
@@ -926,9 +933,9 @@ static inline clk_status clk_live_account_at(const clk_live *live, size_t place,
     return CLK_STATUS(clk_raw_live_account(&same, place, account));
 }
 
-/* The queue with this number, from 0 to clk_live_queues - 1 in order of declaration.
+/* The queue with this number, from 0 to clk_live_queues - 1 in the order of declaration.
  *
- * CLK_OK  `queue` is it. CLK_UNKNOWN_QUEUE, CLK_RECLAIMED, CLK_SHUT, CLK_NULL. */
+ * CLK_OK  `queue` is the queue. CLK_UNKNOWN_QUEUE, CLK_RECLAIMED, CLK_SHUT, CLK_NULL. */
 static inline clk_status clk_live_queue_at(const clk_live *live, uint16_t number, clk_queue *queue) {
     if (!live || !queue)
         return CLK_NULL;
@@ -1011,7 +1018,7 @@ static inline clk_status clk_record_drain(clk_record *record, uint64_t moment) {
 
 /* ------------------------------------------------------------------------------------------------------------ names */
 
-/* The name of a fault that clk_open can have, as `clickpull` prints it, and "" for any other number. */
+/* The name of a fault that clk_open and clk_live_open can have, as `clickpull` prints it, and "" for any other number. */
 static inline const char *clk_fault_name(uint32_t number) {
     switch (number) {
     case 1:
@@ -1045,7 +1052,7 @@ static inline const char *clk_fault_name(uint32_t number) {
     }
 }
 
-/* What an answer means, in a few words of English. */
+/* What a status means, in a few words of English. */
 static inline const char *clk_status_text(clk_status status) {
     switch (status) {
     case CLK_OK:
@@ -1082,19 +1089,19 @@ static inline const char *clk_status_text(clk_status status) {
 
 /* ------------------------------------------------------------------------------------------------------------ packets of your own
  *
- * The library carries sender, number and length, and the caller keeps the rest (a buffer, a request, a job) in a list for each sender,
- * of which these three facts hold:
+ * Of a packet the library carries sender, number and length. The caller keeps the rest (a buffer, a request, a job) in a list for each
+ * sender, by these three rules:
  *
- *   - Packets of one sender come out in the order in which it offered them. So what is pulled with sender S belongs to the front of S's
- *     list: take it from there. No search, and no table by number.
- *   - An offer that is refused never goes into the list; one that is accepted, or accepted with another evicted, goes to its back.
- *   - A packet that is evicted is the first that its queue holds. It stands at the front of its sender's list, or behind those packets
- *     of that sender which schedulers hold: they came from the queue before it, and will still come out. A DRRSched holds one packet
- *     for each of its inputs at most, so that it stands as many places behind the front at most as DRRScheds are on the path from the
- *     queue to the device. Compare numbers from the front on, and take out the one that fits.
+ *   - Packets of one sender are emitted in the order in which it offered them. So the packet that a pull emits of sender S stands at the
+ *   - A packet that is evicted is the first that its queue holds. In its sender's list only packets that schedulers hold stand before
+ *     it: they left the queue earlier, and will still be emitted. A DRRSched holds at most one packet for each of its inputs. So at most
+ *     as many packets stand before it as there are DRRScheds on the path from the queue to the device. Compare numbers from the front,
+ *     and take out the one that matches.
+ *     packets stand before it as there are DRRScheds on the path from the queue to the device. Compare numbers from the front, and take out
+ *     the one that matches.
  *
- * In the order of one offer: first take out `offered.evicted` where the outcome is CLK_EVICTED, then put the new one at the back. The
- * two may be of different senders.
+ * In one offer, first take out `offered.evicted` if the outcome is CLK_EVICTED, then put the new packet at the back. The two may be of
+ * different senders.
  *
  * clickpull.hpp (clickpull::Carrier) and the Python module (clickpull.Carrier) do this: callers offer and pull values of their own. */
 
@@ -1105,7 +1112,7 @@ static inline const char *clk_status_text(clk_status status) {
 #define CLK_ASSERT _Static_assert
 #endif
 
-/* The library lays these out so. */
+/* The sizes that the library uses. */
 CLK_ASSERT(sizeof(clk_router) == sizeof(void *), "clk_router is a pointer");
 CLK_ASSERT(sizeof(clk_fault) == 8, "clk_fault has 8 bytes");
 CLK_ASSERT(sizeof(clk_packet) == 8, "clk_packet has 8 bytes");
