@@ -641,8 +641,10 @@ static inline clk_status clk_inlet_close(clk_inlet *inlet) {
  *
  * WHEN AN INLET IS NEVER CLOSED, or was never asked for, clk_live_ended never returns CLK_OK. All other calls go on.
  *
- * WHEN THE OWNER CLOSES FIRST, nothing tells the senders. Their inlets stay good, fill up, and then return CLK_FULL; each is still closed by
- * its holder. Tokens that wait in the inlets don't come back. So close the inlets first, take what is in them, and then close the router.
+ * WHEN THE OWNER CLOSES FIRST, nothing tells the senders. Their inlets stay usable until they are full, and then return CLK_FULL. The
+ * holder of each still closes it. Tokens that wait in the inlets don't come back. So close the inlets first, take what is in them, and then
+ * close the router.
+ *
  * No call waits, and no call but clk_live_open allocates memory.
  *
  * SLEEPING. The library wakes nobody. An owner that finds nothing may pause, or sleep until a sender wakes it; the caller writes that part.
